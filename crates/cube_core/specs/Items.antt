@@ -1,0 +1,146 @@
+-- The items of a feed: what its records say, one after another, after the header (this project's choice of a change feed).
+use Rattle.std.specs.Prelude.{◌≡◌, ◌==◌, ◌||◌, ◌&&◌, ◌+◌, nat_lt, ℕ, ℤ, Bool, true, false, not, pos, negsuc, ◌^◌, ◌*◌, List, [], ◌∷◌, ◌++◌, length, map, take, drop, get_or, codes, Option, Some, None, is_some, is_none, option_map, Result, Ok, Err, if◌then◌else◌}
+use Rattle.std.specs.Str.{bytes_eq, is_utf8, all_ascii_digits}
+use Rattle.std.specs.Str.Parse.{without_leading_sign, signed_digits_value}
+use Rattle.std.specs.List.{list_all, filter_map}
+use Rattle.cube_core.specs.Layout.{Layout}
+use Rattle.cube_core.specs.Takes.{null_text}
+use Rattle.cube_core.specs.declared.fact.Fact.{Fact}
+use Rattle.cube_core.specs.declared.change.Change.{Change}
+use Rattle.cube_core.specs.declared.change.Change.TheVariants.{Insert, Update, Delete}
+use Rattle.cube_core.specs.declared.change.LineFault.{LineFault}
+use Rattle.cube_core.specs.declared.change.LineFault.TheVariants as fault
+use Rattle.cube_core.specs.declared.change.Item.{Item}
+
+-- the fields of a record with a fact: the operation, the id, a value for each dimension and one for each measure
+abbrev pub width_of : Layout → ℕ
+width_of s = 2 + length s.dimensions + length s.measures
+
+-- the field at a place of a record
+abbrev pub field_at : List (List ℕ) → ℕ → List ℕ
+field_at fields place = get_or fields place []
+
+-- whether two records have the same fields
+abbrev pub same_fields : List (List ℕ) → List (List ℕ) → Bool
+same_fields [] [] = true
+same_fields [] (_ ∷ _) = false
+same_fields (_ ∷ _) [] = false
+same_fields (a ∷ as') (b ∷ bs) = bytes_eq a b && same_fields as' bs
+
+-- the byte order mark U+FEFF in UTF-8
+abbrev pub byte_order_mark : List ℕ
+byte_order_mark = 0xEF ∷ 0xBB ∷ 0xBF ∷ []
+
+-- the names of a feed's columns after the first, in the order of the schema
+abbrev pub column_names : Layout → List (List ℕ)
+column_names s = codes "id" ∷ s.dimensions ++ s.measures
+
+-- whether a record is the header: `op`, which one byte order mark may precede, and then the names of the other columns
+abbrev pub is_header : Layout → List (List ℕ) → Bool
+is_header s fields =
+    same_fields fields (codes "op" ∷ column_names s)
+    || same_fields fields ((byte_order_mark ++ codes "op") ∷ column_names s)
+
+-- whether a whole number fits 64 bits with its sign
+abbrev pub fits_i64 : ℤ → Bool
+fits_i64 (pos n) = nat_lt n (2 ^ 63)
+fits_i64 (negsuc n) = nat_lt n (2 ^ 63)
+
+-- whether a text is a number: a sign or none, then one ASCII digit or more, with a value that fits 64 bits
+abbrev pub is_number : List ℕ → Bool
+is_number text =
+    nat_lt 0 (length (without_leading_sign text))
+    && all_ascii_digits (without_leading_sign text)
+    && fits_i64 (signed_digits_value 10 text)
+
+-- the number that a text spells, if it is one
+abbrev pub number_of : List ℕ → Option ℤ
+number_of text = if is_number text then Some (signed_digits_value 10 text) else None
+
+-- whether a field is null
+abbrev pub is_null : List ℕ → Bool
+is_null field = bytes_eq field null_text
+
+-- the value of a dimension that a field spells
+abbrev pub dimension_of : List ℕ → Option (List ℕ)
+dimension_of field = if is_null field then None else Some field
+
+-- the value of a measure that a field spells: null, a number, or nothing lawful
+abbrev pub measure_of : List ℕ → Option (Option ℤ)
+measure_of field = if is_null field then Some None else option_map Some (number_of field)
+
+-- the fields of a record's dimensions, and those of its measures
+abbrev pub dimension_fields : Layout → List (List ℕ) → List (List ℕ)
+dimension_fields s fields = take (length s.dimensions) (drop 2 fields)
+
+abbrev pub measure_fields : Layout → List (List ℕ) → List (List ℕ)
+measure_fields s fields = drop (2 + length s.dimensions) fields
+
+-- the fact that a record spells, where its measures are lawful
+abbrev pub fact_of : Layout → List (List ℕ) → Fact
+fact_of s fields = record {
+  dims = map dimension_of (dimension_fields s fields);
+  measures = filter_map measure_of (measure_fields s fields);
+}
+
+-- whether a field spells a lawful value of a measure
+abbrev pub is_measure : List ℕ → Bool
+is_measure field = is_some (measure_of field)
+
+-- the change of a record that puts a fact under an id, or the first fault that holds
+abbrev pub put_of : (List ℕ → Fact → Change) → Layout → List (List ℕ) → Result Change LineFault
+put_of put s fields =
+    if not (length fields == width_of s) then Err fault.Fields
+    else if not (list_all is_utf8 (drop 1 fields)) then Err fault.Text
+    else if length (field_at fields 1) == 0 then Err fault.Id
+    else if not (list_all is_measure (measure_fields s fields)) then Err fault.Measure
+    else Ok (put (field_at fields 1) (fact_of s fields))
+
+-- the change of a record that takes an id away, or the first fault that holds; fields after the id aren't looked at
+abbrev pub delete_of : Layout → List (List ℕ) → Result Change LineFault
+delete_of s fields =
+    if not ((length fields == 2) || (length fields == width_of s)) then Err fault.Fields
+    else if not (is_utf8 (field_at fields 1)) then Err fault.Text
+    else if length (field_at fields 1) == 0 then Err fault.Id
+    else Ok (Delete (field_at fields 1))
+
+-- the change that a data record spells, or its first fault: the operation is `I`, `U` or `D`
+abbrev pub change_of : Layout → List (List ℕ) → Result Change LineFault
+change_of s fields =
+    if bytes_eq (field_at fields 0) (codes "I") then put_of Insert s fields
+    else if bytes_eq (field_at fields 0) (codes "U") then put_of Update s fields
+    else if bytes_eq (field_at fields 0) (codes "D") then delete_of s fields
+    else Err fault.Op
+
+-- how a feed ends: well, at a first record that isn't the header, or at a data record too many
+pub data FeedEnd : Type 0 where
+  Good : FeedEnd
+  WrongHeader : FeedEnd
+  TooManyRecords : FeedEnd
+
+-- what a feed gives: its items, and how it ends
+pub record Coming : Type 0 where
+  pub items : List Item
+  pub end : FeedEnd
+
+-- an item before what comes after it
+abbrev pub coming_after : Item → Coming → Coming
+coming_after item rest = record { items = item ∷ rest.items; end = rest.end }
+
+-- what data records give after so many of them: an item each, up to the schema's number of records
+abbrev pub items_after : Layout → ℕ → List (List (List ℕ)) → Coming
+items_after s number [] = record { items = []; end = Good }
+items_after s number (fields ∷ records) =
+    if nat_lt number s.max_records
+    then coming_after (record { number = number + 1; what = change_of s fields }) (items_after s (number + 1) records)
+    else record { items = []; end = TooManyRecords }
+
+-- what the records of a feed give: nothing where there is none, and only after a right header an item for each data record
+abbrev pub items_of : Layout → List (List (List ℕ)) → Coming
+items_of s [] = record { items = []; end = Good }
+items_of s (header ∷ records) =
+    if is_header s header then items_after s 0 records else record { items = []; end = WrongHeader }
+
+-- a good feed has no record, or the right header and at most the schema's number of data records
+abbrev pub IsGoodFeed : Layout → List (List (List ℕ)) → Type 0
+IsGoodFeed s records = (items_of s records).end ≡ Good

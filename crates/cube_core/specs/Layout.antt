@@ -1,0 +1,82 @@
+-- The schema of a cube: what its feeds hold and which aggregates it shows (this project's choice).
+use Rattle.std.specs.Prelude.{◌≡◌, ◌<◌, ◌≤◌, ◌&&◌, nat_lt, ℕ, Bool, true, not, List, [], ◌∷◌, ◌++◌, ◌^◌, length, map, codes, get_or}
+use Rattle.std.specs.Str.{bytes_eq}
+use Rattle.std.specs.List.{list_any, list_all}
+use Rattle.cube_core.specs.declared.aggregate.Agg.{Agg}
+use Rattle.cube_core.specs.declared.aggregate.Agg.TheVariants.{CountAll, Count, Sum, Min, Max, Avg}
+
+-- a schema: the names of the dimensions and of the measures, the aggregates, each with its spelling, and how many data records a feed may have
+pub record Layout : Type 0 where
+  pub dimensions : List (List ℕ)
+  pub measures : List (List ℕ)
+  pub aggregates : List Agg
+  pub aggregate_texts : List (List ℕ)
+  pub max_records : ℕ
+
+-- whether a text stands in a list of texts
+abbrev pub is_listed : List ℕ → List (List ℕ) → Bool
+is_listed text texts = list_any (bytes_eq text) texts
+
+-- whether no text stands twice in a list
+abbrev pub are_distinct : List (List ℕ) → Bool
+are_distinct [] = true
+are_distinct (text ∷ texts) = not (is_listed text texts) && are_distinct texts
+
+-- the names that no dimension and no measure may have
+abbrev pub reserved_names : List (List ℕ)
+reserved_names = [] ∷ codes "op" ∷ codes "id" ∷ codes "*" ∷ []
+
+-- whether a dimension or a measure may have this name
+abbrev pub is_lawful_name : List ℕ → Bool
+is_lawful_name name = not (is_listed name reserved_names)
+
+-- all names of a schema: the dimensions, then the measures
+abbrev pub names_of : Layout → List (List ℕ)
+names_of s = s.dimensions ++ s.measures
+
+-- whether an aggregate is of one of so many measures
+abbrev pub is_aggregate_of : ℕ → Agg → Bool
+is_aggregate_of measures CountAll = true
+is_aggregate_of measures (Count m) = nat_lt m measures
+is_aggregate_of measures (Sum m) = nat_lt m measures
+is_aggregate_of measures (Min m) = nat_lt m measures
+is_aggregate_of measures (Max m) = nat_lt m measures
+is_aggregate_of measures (Avg m) = nat_lt m measures
+
+-- an aggregate of a measure, as a schema spells it
+abbrev pub spelled_with : List ℕ → List (List ℕ) → ℕ → List ℕ
+spelled_with function measures m = function ++ codes "(" ++ get_or measures m [] ++ codes ")"
+
+-- how a schema spells an aggregate
+abbrev pub spelling_of : List (List ℕ) → Agg → List ℕ
+spelling_of measures CountAll = codes "count(*)"
+spelling_of measures (Count m) = spelled_with (codes "count") measures m
+spelling_of measures (Sum m) = spelled_with (codes "sum") measures m
+spelling_of measures (Min m) = spelled_with (codes "min") measures m
+spelling_of measures (Max m) = spelled_with (codes "max") measures m
+spelling_of measures (Avg m) = spelled_with (codes "avg") measures m
+
+-- what is true of every schema: the numbers of its parts, lawful names that differ, and aggregates of its measures in their spelling
+pub record IsSchema (s : Layout) : Type 0 where
+  pub some_dimension : 1 ≤ length s.dimensions
+  pub dimensions_at_most : length s.dimensions ≤ 8
+  pub some_measure : 1 ≤ length s.measures
+  pub measures_at_most : length s.measures ≤ 4
+  pub some_aggregate : 1 ≤ length s.aggregates
+  pub aggregates_at_most : length s.aggregates ≤ 16
+  pub names_are_lawful : list_all is_lawful_name (names_of s) ≡ true
+  pub names_are_distinct : are_distinct (names_of s) ≡ true
+  pub aggregates_are_of_measures : list_all (is_aggregate_of (length s.measures)) s.aggregates ≡ true
+  pub aggregates_are_spelled : s.aggregate_texts ≡ map (spelling_of s.measures) s.aggregates
+  pub some_record : 1 ≤ s.max_records
+  pub records_at_most : s.max_records < 2 ^ 32
+
+-- the sample schema: regions and kinds, an amount, and all aggregates of it
+abbrev pub sample_layout : Layout
+sample_layout = record {
+  dimensions = codes "region" ∷ codes "kind" ∷ [];
+  measures = codes "amount" ∷ [];
+  aggregates = CountAll ∷ Sum 0 ∷ Min 0 ∷ Max 0 ∷ Avg 0 ∷ [];
+  aggregate_texts = codes "count(*)" ∷ codes "sum(amount)" ∷ codes "min(amount)" ∷ codes "max(amount)" ∷ codes "avg(amount)" ∷ [];
+  max_records = 4294967295;
+}

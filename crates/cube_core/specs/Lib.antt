@@ -1,0 +1,16 @@
+pub mod Layout
+pub mod Records
+pub mod Takes
+pub mod Items
+pub mod Life
+pub mod Surviving
+pub mod Refusals
+pub mod Covers
+pub mod Group
+pub mod Fraction
+pub mod Answer
+pub mod Order
+pub mod GroupingSet
+pub mod Cube
+pub mod Text
+pub mod Printed

@@ -1,0 +1,60 @@
+-- The life of an id in a list of changes: absent, or present with a fact (an update is a delete and an insert: Gray et al. 1997, section 6).
+use Rattle.std.specs.Prelude.{ℕ, Bool, true, false, List, [], ◌∷◌, Option, Some, None, Result, Ok, Err, if◌then◌else◌, filter}
+use Rattle.std.specs.Str.{bytes_eq}
+use Rattle.std.specs.List.{list_any, filter_map}
+use Rattle.cube_core.specs.Layout.{Layout}
+use Rattle.cube_core.specs.Takes.{takes}
+use Rattle.cube_core.specs.declared.fact.Fact.{Fact}
+use Rattle.cube_core.specs.declared.change.Change.{Change}
+use Rattle.cube_core.specs.declared.change.Change.TheVariants.{Insert, Update, Delete}
+use Rattle.cube_core.specs.declared.change.LineFault.{LineFault}
+use Rattle.cube_core.specs.declared.change.Item.{Item}
+
+-- the id that a change names
+abbrev pub id_of : Change → List ℕ
+id_of (Insert id fact) = id
+id_of (Update id fact) = id
+id_of (Delete id) = id
+
+-- the changes that name an id, in their order
+abbrev pub naming : List ℕ → List Change → List Change
+naming id changes = filter (λ change. bytes_eq id (id_of change)) changes
+
+-- whether a change is a delete
+abbrev pub is_delete : Change → Bool
+is_delete (Insert id fact) = false
+is_delete (Update id fact) = false
+is_delete (Delete id) = true
+
+-- the changes after the last delete; all of them, where there is none
+abbrev pub since_delete : List Change → List Change
+since_delete [] = []
+since_delete (change ∷ changes) =
+    if list_any is_delete (change ∷ changes) then since_delete changes else change ∷ changes
+
+-- the fact of the last update, or else the given one
+abbrev pub last_update : Fact → List Change → Fact
+last_update fact [] = fact
+last_update fact (Insert id other ∷ changes) = last_update fact changes
+last_update fact (Update id other ∷ changes) = last_update other changes
+last_update fact (Delete id ∷ changes) = last_update fact changes
+
+-- the fact of the last update after the first insert, or of that insert; nothing, where there is no insert
+abbrev pub from_insert : List Change → Option Fact
+from_insert [] = None
+from_insert (Insert id fact ∷ changes) = Some (last_update fact changes)
+from_insert (Update id fact ∷ changes) = from_insert changes
+from_insert (Delete id ∷ changes) = from_insert changes
+
+-- the life of an id: the fact that it has in the end, if it is present then
+abbrev pub life_of : List ℕ → List Change → Option Fact
+life_of id changes = from_insert (since_delete (naming id changes))
+
+-- the change of an item, if the item has one that the schema takes
+abbrev pub taken_change : Layout → Result Change LineFault → Option Change
+taken_change s (Ok change) = if takes s change then Some change else None
+taken_change s (Err fault) = None
+
+-- the changes of items that the schema takes, in their order
+abbrev pub changes_of : Layout → List Item → List Change
+changes_of s items = filter_map (λ (item : Item). taken_change s item.what) items

@@ -1,0 +1,34 @@
+-- What a schema takes: the facts that have its shape, and the changes of such facts (this project's choice).
+use Rattle.std.specs.Prelude.{◌≡◌, ◌==◌, ◌&&◌, ℕ, Bool, true, false, not, List, [], ◌∷◌, length, codes, Option, Some, None}
+use Rattle.std.specs.Str.{bytes_eq}
+use Rattle.std.specs.List.{list_all}
+use Rattle.cube_core.specs.Layout.{Layout}
+use Rattle.cube_core.specs.declared.fact.Fact.{Fact}
+use Rattle.cube_core.specs.declared.change.Change.{Change}
+use Rattle.cube_core.specs.declared.change.Change.TheVariants.{Insert, Update, Delete}
+
+-- how a feed writes null, and a report null and ALL: a backslash and a capital N
+abbrev pub null_text : List ℕ
+null_text = 92 ∷ 78 ∷ []
+
+-- whether a dimension may have this value: any text but the one that stands for null
+abbrev pub is_dimension_value : Option (List ℕ) → Bool
+is_dimension_value None = true
+is_dimension_value (Some text) = not (bytes_eq text null_text)
+
+-- whether a fact has a lawful value or null for each dimension, and a value or null for each measure
+abbrev pub fits : Layout → Fact → Bool
+fits s fact =
+    (length fact.dims == length s.dimensions)
+    && (length fact.measures == length s.measures)
+    && list_all is_dimension_value fact.dims
+
+-- whether an id may be given to a fact: any text but the empty one
+abbrev pub is_id : List ℕ → Bool
+is_id id = not (length id == 0)
+
+-- whether a schema takes a change: its id is lawful, and its fact, where there is one, fits
+abbrev pub takes : Layout → Change → Bool
+takes s (Insert id fact) = is_id id && fits s fact
+takes s (Update id fact) = is_id id && fits s fact
+takes s (Delete id) = is_id id

@@ -1,0 +1,55 @@
+-- The text of rows: a header line, then a line for each row, as CSV (RFC 4180 with line ends of one LF; GROUPING columns as in SQL:1999).
+use Rattle.std.specs.Prelude.{ℕ, ℤ, List, [], ◌∷◌, ◌++◌, map, codes, decimal}
+use Rattle.std.specs.Fmt.{signed_decimal}
+use Rattle.std.specs.List.{flat_map}
+use Rattle.csv.specs.Writing.{row_text, default_writer}
+use Rattle.cube_core.specs.Layout.{Layout}
+use Rattle.cube_core.specs.Takes.{null_text}
+use Rattle.cube_core.specs.declared.aggregate.Answer.{Answer}
+use Rattle.cube_core.specs.declared.aggregate.Answer.TheVariants as answer
+use Rattle.cube_core.specs.declared.key.Coord.{Coord}
+use Rattle.cube_core.specs.declared.key.Coord.TheVariants as coord
+use Rattle.cube_core.specs.declared.key.Row.{Row}
+
+-- a line of fields: joined by commas, ended by LF, a field quoted where it holds a comma, a quote, CR or LF, its quotes doubled
+abbrev pub line : List (List ℕ) → List ℕ
+line fields = row_text default_writer fields
+
+-- the name of a dimension's GROUPING column
+abbrev pub grouping_name : List ℕ → List ℕ
+grouping_name dimension = codes "grouping(" ++ dimension ++ codes ")"
+
+-- the fields of the header line: the dimensions, their GROUPING columns, the aggregates as spelled
+abbrev pub header_fields : Layout → List (List ℕ)
+header_fields s = s.dimensions ++ map grouping_name s.dimensions ++ s.aggregate_texts
+
+-- what a row shows in a dimension: the text, or the null text for null and for ALL
+abbrev pub coord_text : Coord → List ℕ
+coord_text (coord.Text name) = name
+coord_text coord.Null = null_text
+coord_text coord.All = null_text
+
+-- what a row shows in a GROUPING column: 1 where the dimension is ALL, else 0
+abbrev pub grouping_text : Coord → List ℕ
+grouping_text (coord.Text name) = codes "0"
+grouping_text coord.Null = codes "0"
+grouping_text coord.All = codes "1"
+
+-- what a row shows of an answer: the null text, a decimal number, or a fraction p/q
+abbrev pub answer_text : Answer → List ℕ
+answer_text answer.Null = null_text
+answer_text (answer.Count n) = decimal n
+answer_text (answer.Whole z) = signed_decimal z
+answer_text (answer.Ratio p q) = signed_decimal p ++ codes "/" ++ decimal q
+
+-- the fields of a row's line: its dimensions, their GROUPING columns, its answers
+abbrev pub row_fields : Row → List (List ℕ)
+row_fields row = map coord_text row.key.coords ++ map grouping_text row.key.coords ++ map answer_text row.answers
+
+-- the line of a row
+abbrev pub row_line : Row → List ℕ
+row_line row = line (row_fields row)
+
+-- the text of rows under a schema: the header line, and the line of each row
+abbrev pub text_of_rows : Layout → List Row → List ℕ
+text_of_rows s rows = line (header_fields s) ++ flat_map row_line rows

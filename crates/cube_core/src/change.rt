@@ -1,0 +1,49 @@
+//! What a feed says: changes of facts, and the faults of its lines.
+use crate::fact::Fact;
+use crate::text::Text;
+use thiserror::Error;
+
+/// A change of the facts of one source, each known by an id of the source's own.
+#[derive(Debug, Drop)]
+pub enum Change {
+    /// Puts a fact under an id that is absent.
+    Insert { id: Text, fact: Fact },
+    /// Puts a fact in place of the one under an id that is present.
+    Update { id: Text, fact: Fact },
+    /// Takes the fact of an id that is present away.
+    Delete { id: Text },
+}
+
+/// Why a record of a feed spells no change. The text of each is its code.
+#[derive(Clone, Copy, Debug, PartialEq, Eq, Error)]
+pub enum LineFault {
+    /// The first field is none of the operations.
+    #[error("L1")]
+    Op,
+    /// The number of fields is wrong.
+    #[error("L2")]
+    Fields,
+    /// A field that is used isn't UTF-8.
+    #[error("L3")]
+    Text,
+    /// The id is empty.
+    #[error("L4")]
+    Id,
+    /// A measure is neither null nor a number.
+    #[error("L5")]
+    Measure,
+}
+
+/// An item of a feed: the number of its record, from 1, and the change that the record spells.
+#[derive(Debug, Drop)]
+pub struct Item {
+    pub number: u32,
+    pub what: Result<Change, LineFault>,
+}
+
+/// A refused item: the number of its record and the code of the refusal.
+#[derive(Clone, Copy, Debug, PartialEq, Eq)]
+pub struct Refusal {
+    pub number: u32,
+    pub code: u8,
+}

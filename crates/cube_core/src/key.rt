@@ -1,0 +1,118 @@
+//! Keys of cells, their order, and the rows of a cube.
+ghost use Rattle.std.specs.Prelude.{◌≡◌, IfOk, slice_get, Some};
+ghost use Rattle.std.specs.declared.cmp.Ordering.{Ordering};
+ghost use Rattle.cube_core.specs.Covers.{covers, all_stand_for, stands_for};
+ghost use Rattle.cube_core.specs.GroupingSet.{is_all_at};
+ghost use Rattle.cube_core.specs.Order.{key_cmp};
+
+use crate::aggregate::Answer;
+use crate::fact::Fact;
+use crate::sequence::Sequence;
+use crate::text::Text;
+use std::alloc::{AllocError, Global};
+use std::cmp::Ordering;
+
+/// What a key says of one dimension. The variants stand in the order of printed rows: texts, null, ALL.
+#[derive(Debug, Drop, PartialEq, Eq, PartialOrd, Ord)]
+pub enum Coord {
+    /// A value of the dimension.
+    Text(Text),
+    /// The dimension's null, a group of its own.
+    Null,
+    /// The dimension was aggregated over.
+    All,
+}
+
+/// The key of a cell: a coordinate for each dimension, ordered dimension by dimension.
+#[derive(Debug, Drop, PartialEq, Eq, PartialOrd, Ord)]
+pub struct Key {
+    pub coords: Sequence<Coord>,
+}
+
+/// A row of a cube: the key of a cell and its answers in the order of the schema's aggregates.
+#[derive(Debug, Drop)]
+pub struct Row {
+    pub key: Key,
+    pub answers: Sequence<Answer>,
+}
+
+impl Key {
+    /// A copy; the only error is want of memory.
+    pub fn copy(&self, alloc: Global) -> Result<Key, AllocError>
+        ensures { IfOk result (λ copy. copy ≡ self.now) }
+    {
+        let coords = copy_coords(alloc, self.coords.as_slice())?;
+        Ok(Key {
+            coords: Sequence::from_vec(coords),
+        })
+    }
+
+    /// Whether the key is ALL in a dimension, counted from 0; false past the last one.
+    pub fn is_all(&self, dim: usize) -> bool
+        ensures { result ≡ is_all_at self.now dim }
+    {
+        matches!(self.coords.as_slice().get(dim), Some(Coord::All))
+    }
+
+    /// How this key stands to another in the order of printed rows: dimension by dimension, texts by their
+    /// bytes, then null, then ALL.
+    pub fn compare(&self, other: &Key) -> Ordering
+        ensures { result ≡ key_cmp self.now other.now }
+    {
+        self.cmp(other)
+    }
+}
+
+/// Whether a key covers a fact: it has a coordinate for each dimension of the fact, and each is ALL or equals
+/// the fact's value, where null equals null alone.
+pub fn covers(key: &Key, fact: &Fact) -> bool
+    ensures { result ≡ covers key.now fact.now }
+{
+    all_stand_for(key.coords.as_slice(), fact.dims.as_slice())
+}
+
+fn all_stand_for(coords: &[Coord], values: &[Option<Text>]) -> bool
+    ensures { result ≡ all_stand_for coords.now values.now }
+{
+    let Some((coord, other_coords)) = coords.split_first() else {
+        return values.is_empty();
+    };
+    let Some((value, other_values)) = values.split_first() else {
+        return false;
+    };
+    stands_for(coord, value) && all_stand_for(other_coords, other_values)
+}
+
+fn stands_for(coord: &Coord, value: &Option<Text>) -> bool
+    ensures { result ≡ stands_for coord.now value.now }
+{
+    match (coord, value) {
+        (Coord::All, _) => true,
+        (Coord::Null, value) => value.is_none(),
+        (Coord::Text(_), None) => false,
+        (Coord::Text(name), Some(text)) => name == text,
+    }
+}
+
+fn copy_coords(alloc: Global, coords: &[Coord]) -> Result<Vec<Coord>, AllocError>
+    ensures { IfOk result (λ copies. copies.items ≡ coords.now) }
+{
+    let mut copies = Vec::with_capacity(alloc, coords.len())?;
+    for coord in coords {
+        copies.push(copy_coord(alloc, coord)?)?;
+    }
+    Ok(copies)
+}
+
+fn copy_coord(alloc: Global, coord: &Coord) -> Result<Coord, AllocError>
+    ensures { IfOk result (λ copy. copy ≡ coord.now) }
+{
+    match coord {
+        Coord::Text(text) => {
+            let copy = text.copy(alloc)?;
+            Ok(Coord::Text(copy))
+        }
+        Coord::Null => Ok(Coord::Null),
+        Coord::All => Ok(Coord::All),
+    }
+}

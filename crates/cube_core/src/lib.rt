@@ -1,0 +1,21 @@
+//! The values of a data cube, its schema, and every definition that the project's promises are made of.
+//!
+//! A [`Schema`] names the dimensions, the measures and the aggregates of a cube. A [`Fact`] is one row of
+//! input, a [`Key`] names a cell of the cube, a [`Row`] is a printed cell. The definitions stand in `specs/`.
+#![tactic(auto)]
+
+mod aggregate;
+mod change;
+mod fact;
+mod key;
+mod schema;
+mod sequence;
+mod text;
+
+pub use aggregate::{Agg, Answer};
+pub use change::{Change, Item, LineFault, Refusal};
+pub use fact::Fact;
+pub use key::{Coord, Key, Row, covers};
+pub use schema::Schema;
+pub use sequence::Sequence;
+pub use text::Text;

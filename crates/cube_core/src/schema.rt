@@ -1,0 +1,189 @@
+//! The schema of a cube.
+ghost use Rattle.std.specs.Prelude.{◌≡◌, IfOk};
+ghost use Rattle.std.specs.List.{list_all};
+ghost use Rattle.cube_core.specs.Layout.{IsSchema, sample_layout};
+ghost use Rattle.cube_core.specs.Takes.{fits, takes, is_id, is_dimension_value};
+
+use crate::aggregate::Agg;
+use crate::change::Change;
+use crate::fact::Fact;
+use crate::text::{Text, copy_texts};
+use std::alloc::{AllocError, Global};
+use std::marker::Model;
+
+/// The schema of a cube: 1 to 8 dimensions, 1 to 4 measures, 1 to 16 aggregates of these measures, and the
+/// number of data records that a feed may have, 1 to 4294967295.
+///
+/// All names differ, and none is empty, `op`, `id` or `*`.
+#[derive(Debug, Drop)]
+pub struct Schema {
+    dimensions: Vec<Text>,
+    measures: Vec<Text>,
+    aggregates: Vec<Agg>,
+    aggregate_texts: Vec<Text>,
+    max_records: u32,
+}
+
+impl Model for Schema {
+    ghost use Rattle.cube_core.specs.Layout.{Layout, IsSchema};
+
+    ghost Value = { Layout };
+
+    ghost view = { λ s. record {
+      dimensions = s.dimensions.items;
+      measures = s.measures.items;
+      aggregates = s.aggregates.items;
+      aggregate_texts = s.aggregate_texts.items;
+      max_records = s.max_records;
+    } };
+
+    ghost invariant = { λ s. IsSchema (record {
+      dimensions = s.dimensions.items;
+      measures = s.measures.items;
+      aggregates = s.aggregates.items;
+      aggregate_texts = s.aggregate_texts.items;
+      max_records = s.max_records;
+    }) };
+}
+
+impl Schema {
+    /// The sample schema: the dimensions `region` and `kind`, the measure `amount`, and `count(*)` with the sum,
+    /// the least, the greatest and the mean amount. The only error is want of memory.
+    pub fn sample(alloc: Global) -> Result<Schema, AllocError>
+        ensures { IfOk result (λ schema. schema ≡ sample_layout) }
+    {
+        let dimensions = vec![in alloc;
+            Text::from_str(alloc, "region")?,
+            Text::from_str(alloc, "kind")?,
+        ]?;
+        let measures = vec![in alloc; Text::from_str(alloc, "amount")?]?;
+        Ok(Schema {
+            dimensions,
+            measures,
+            aggregates: sample_aggregates(alloc)?,
+            aggregate_texts: sample_aggregate_texts(alloc)?,
+            max_records: u32::MAX,
+        })
+    }
+
+    /// A copy; the only error is want of memory.
+    pub fn copy(&self, alloc: Global) -> Result<Schema, AllocError>
+        ensures { IfOk result (λ copy. copy ≡ self.now) }
+    {
+        Ok(Schema {
+            dimensions: copy_texts(alloc, &self.dimensions)?,
+            measures: copy_texts(alloc, &self.measures)?,
+            aggregates: Vec::from_slice(alloc, &self.aggregates)?,
+            aggregate_texts: copy_texts(alloc, &self.aggregate_texts)?,
+            max_records: self.max_records,
+        })
+    }
+
+    /// The names of the dimensions, in order; 1 to 8.
+    pub fn dimensions(&self) -> &[Text]
+        ensures value { result.now ≡ self.now.dimensions }
+        ensures schema { IsSchema self.now }
+    {
+        self.dimensions.as_slice()
+    }
+
+    /// The names of the measures, in order; 1 to 4.
+    pub fn measures(&self) -> &[Text]
+        ensures value { result.now ≡ self.now.measures }
+        ensures schema { IsSchema self.now }
+    {
+        self.measures.as_slice()
+    }
+
+    /// The aggregates in order, each of a measure of this schema; 1 to 16.
+    pub fn aggregates(&self) -> &[Agg]
+        ensures value { result.now ≡ self.now.aggregates }
+        ensures schema { IsSchema self.now }
+    {
+        self.aggregates.as_slice()
+    }
+
+    /// The aggregates as the schema spells them, in order.
+    pub fn aggregate_texts(&self) -> &[Text]
+        ensures value { result.now ≡ self.now.aggregate_texts }
+        ensures schema { IsSchema self.now }
+    {
+        self.aggregate_texts.as_slice()
+    }
+
+    /// How many data records a feed may have, from 1.
+    pub fn max_records(&self) -> u32
+        ensures value { result ≡ self.now.max_records }
+        ensures schema { IsSchema self.now }
+    {
+        self.max_records
+    }
+
+    /// Whether a fact has this schema's numbers of dimensions and measures, and no dimension text `\N`, which
+    /// would read as null.
+    pub fn fits(&self, fact: &Fact) -> bool
+        ensures { result ≡ fits self.now fact.now }
+    {
+        fact.dims.len() == self.dimensions.len()
+            && fact.measures.len() == self.measures.len()
+            && are_dimension_values(fact.dims.as_slice())
+    }
+
+    /// Whether a change has an id that isn't empty and, where it has a fact, one that fits.
+    pub fn takes(&self, change: &Change) -> bool
+        ensures { result ≡ takes self.now change.now }
+    {
+        match change {
+            Change::Insert { id, fact } => is_id(id) && self.fits(fact),
+            Change::Update { id, fact } => is_id(id) && self.fits(fact),
+            Change::Delete { id } => is_id(id),
+        }
+    }
+}
+
+fn is_id(id: &Text) -> bool
+    ensures { result ≡ is_id id.now }
+{
+    !id.as_str().is_empty()
+}
+
+fn are_dimension_values(values: &[Option<Text>]) -> bool
+    ensures { result ≡ list_all is_dimension_value values.now }
+{
+    values.iter().all(|value| is_dimension_value(value))
+}
+
+fn is_dimension_value(value: &Option<Text>) -> bool
+    ensures { result ≡ is_dimension_value value.now }
+{
+    match value {
+        None => true,
+        Some(text) => text.as_str() != "\\N",
+    }
+}
+
+fn sample_aggregates(alloc: Global) -> Result<Vec<Agg>, AllocError>
+    ensures { IfOk result (λ aggregates. aggregates.items ≡ sample_layout.aggregates) }
+{
+    let aggregates = vec![in alloc;
+        Agg::CountAll,
+        Agg::Sum(0),
+        Agg::Min(0),
+        Agg::Max(0),
+        Agg::Avg(0),
+    ]?;
+    Ok(aggregates)
+}
+
+fn sample_aggregate_texts(alloc: Global) -> Result<Vec<Text>, AllocError>
+    ensures { IfOk result (λ texts. texts.items ≡ sample_layout.aggregate_texts) }
+{
+    let texts = vec![in alloc;
+        Text::from_str(alloc, "count(*)")?,
+        Text::from_str(alloc, "sum(amount)")?,
+        Text::from_str(alloc, "min(amount)")?,
+        Text::from_str(alloc, "max(amount)")?,
+        Text::from_str(alloc, "avg(amount)")?,
+    ]?;
+    Ok(texts)
+}
