@@ -7,7 +7,9 @@
 mod aggregate;
 mod change;
 mod fact;
+pub mod fraction;
 mod key;
+pub mod laws;
 mod schema;
 mod sequence;
 mod text;

@@ -1,0 +1,3 @@
+mod CommonDivisors
+pub mod FractionLemmas
+mod ReducedFraction

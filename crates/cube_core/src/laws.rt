@@ -1,0 +1,4 @@
+//! Laws of the definitions: what anyone in the field knows to be true of them, proved of the definitions alone.
+//!
+//! Each law is the contract of a function that does nothing.
+pub mod fraction;
