@@ -1,0 +1,135 @@
+-- The life of an id, change by change: what one more change at the end of a list does to it.
+use Rattle.std.specs.Prelude.{◌≡◌, ℕ, Bool, true, false, ◌||◌, List, [], ◌∷◌, ◌++◌, Option, Some, None, filter, if◌then◌else◌}
+use Rattle.std.specs.Str.{bytes_eq}
+use Rattle.std.specs.List.{list_any}
+use Rattle.std.proofs.Common.{refl, sym, ap, ◌∙◌, inl, inr}
+use Rattle.std.proofs.lemmas.List.{append-nil}
+use Rattle.std.proofs.lemmas.List.Elements.{filter-append}
+use Rattle.std.proofs.lemmas.List.Folds.{list_any-append}
+use Rattle.std.proofs.lemmas.Bool.{cases_Bool, or_right}
+use Rattle.std.proofs.lemmas.Slice.Eq.{bytes_eq-Decides}
+use Rattle.cube_core.specs.Life.{id_of, naming, is_delete, since_delete, last_update, from_insert, life_of}
+use Rattle.cube_core.specs.declared.fact.Fact.{Fact}
+use Rattle.cube_core.specs.declared.change.Change.{Change}
+use Rattle.cube_core.specs.declared.change.Change.TheVariants.{Insert, Update, Delete}
+
+-- the life of an id after a change that names it, given its life before
+abbrev pub life_after : Change → Option Fact → Option Fact
+life_after (Insert id fact) None = Some fact
+life_after (Insert id fact) (Some present) = Some present
+life_after (Update id fact) None = None
+life_after (Update id fact) (Some present) = Some fact
+life_after (Delete id) None = None
+life_after (Delete id) (Some present) = None
+
+-- a change that names the id is the last of those that name it
+pub naming_more : (id : List ℕ) (changes : List Change) (change : Change) → bytes_eq id (id_of change) ≡ true
+    → naming id (changes ++ change ∷ []) ≡ naming id changes ++ change ∷ []
+naming_more id changes change same = filter-append (λ (c : Change). bytes_eq id (id_of c)) changes (change ∷ []) ∙ rw same refl
+
+-- a change that names another id isn't among them
+pub naming_other : (id : List ℕ) (changes : List Change) (change : Change) → bytes_eq id (id_of change) ≡ false
+    → naming id (changes ++ change ∷ []) ≡ naming id changes
+naming_other id changes change other = filter-append (λ (c : Change). bytes_eq id (id_of c)) changes (change ∷ []) ∙ rw other (append-nil _)
+
+-- a list that ends with a delete has one
+ends_with_delete : (changes : List Change) (id : List ℕ) → list_any is_delete (changes ++ Delete id ∷ []) ≡ true
+ends_with_delete changes id = list_any-append is_delete changes (Delete id ∷ []) ∙ or_right _ true refl
+
+-- after a delete at the end nothing is left
+pub since_delete_done : (changes : List Change) (id : List ℕ) → since_delete (changes ++ Delete id ∷ []) ≡ []
+since_delete_done [] id = refl
+since_delete_done (change ∷ changes) id = rw (ends_with_delete (change ∷ changes) id) (since_delete_done changes id)
+
+-- a change at the end that is no delete leaves the question open
+same_deletes : (changes : List Change) (change : Change) → is_delete change ≡ false
+    → list_any is_delete (changes ++ change ∷ []) ≡ list_any is_delete changes
+same_deletes changes change stays = list_any-append is_delete changes (change ∷ []) ∙ rw stays (or-false-at _)
+  where
+  or-false-at : (b : Bool) → (b || false) ≡ b
+  or-false-at true = refl
+  or-false-at false = refl
+
+-- a change at the end that is no delete is left after the last delete
+pub since_delete_more : (changes : List Change) (change : Change) → is_delete change ≡ false
+    → since_delete (changes ++ change ∷ []) ≡ since_delete changes ++ change ∷ []
+since_delete_more [] change stays = rw stays refl
+since_delete_more (first ∷ changes) change stays = elim (cases_Bool (list_any is_delete (first ∷ changes))) [
+  | inl has ↦ rw (same_deletes (first ∷ changes) change stays, has) (since_delete_more changes change stays)
+  | inr hasnt ↦ rw (same_deletes (first ∷ changes) change stays, hasnt) refl
+]
+
+-- an insert at the end updates nothing
+last_update_insert : (fact : Fact) (changes : List Change) (id : List ℕ) (other : Fact)
+    → last_update fact (changes ++ Insert id other ∷ []) ≡ last_update fact changes
+last_update_insert fact [] id other = refl
+last_update_insert fact (Insert _ _ ∷ changes) id other = last_update_insert fact changes id other
+last_update_insert fact (Update _ newer ∷ changes) id other = last_update_insert newer changes id other
+last_update_insert fact (Delete _ ∷ changes) id other = last_update_insert fact changes id other
+
+-- an update at the end is the last one
+last_update_update : (fact : Fact) (changes : List Change) (id : List ℕ) (other : Fact)
+    → last_update fact (changes ++ Update id other ∷ []) ≡ other
+last_update_update fact [] id other = refl
+last_update_update fact (Insert _ _ ∷ changes) id other = last_update_update fact changes id other
+last_update_update fact (Update _ newer ∷ changes) id other = last_update_update newer changes id other
+last_update_update fact (Delete _ ∷ changes) id other = last_update_update fact changes id other
+
+-- an insert at the end puts its fact where there is none
+from_insert_insert : (changes : List Change) (id : List ℕ) (fact : Fact)
+    → from_insert (changes ++ Insert id fact ∷ []) ≡ life_after (Insert id fact) (from_insert changes)
+from_insert_insert [] id fact = refl
+from_insert_insert (Insert _ first ∷ changes) id fact = ap Some (last_update_insert first changes id fact)
+from_insert_insert (Update _ _ ∷ changes) id fact = from_insert_insert changes id fact
+from_insert_insert (Delete _ ∷ changes) id fact = from_insert_insert changes id fact
+
+-- an update at the end puts its fact where there is one
+from_insert_update : (changes : List Change) (id : List ℕ) (fact : Fact)
+    → from_insert (changes ++ Update id fact ∷ []) ≡ life_after (Update id fact) (from_insert changes)
+from_insert_update [] id fact = refl
+from_insert_update (Insert _ first ∷ changes) id fact = ap Some (last_update_update first changes id fact)
+from_insert_update (Update _ _ ∷ changes) id fact = from_insert_update changes id fact
+from_insert_update (Delete _ ∷ changes) id fact = from_insert_update changes id fact
+
+-- nothing is there after a delete
+nothing_after_delete : (id : List ℕ) (life : Option Fact) → None ≡ life_after (Delete id) life
+nothing_after_delete id None = refl
+nothing_after_delete id (Some fact) = refl
+
+-- before any change no id is there
+pub life_none : (id : List ℕ) → life_of id [] ≡ None
+life_none id = refl
+
+-- the life of an id after one more change that names it
+pub life_more : (id : List ℕ) (changes : List Change) (change : Change) → bytes_eq id (id_of change) ≡ true
+    → life_of id (changes ++ change ∷ []) ≡ life_after change (life_of id changes)
+life_more id changes (Insert named fact) same =
+    ap (λ (cs : List Change). from_insert (since_delete cs)) (naming_more id changes (Insert named fact) same)
+    ∙ ap from_insert (since_delete_more (naming id changes) (Insert named fact) refl)
+    ∙ from_insert_insert (since_delete (naming id changes)) named fact
+life_more id changes (Update named fact) same =
+    ap (λ (cs : List Change). from_insert (since_delete cs)) (naming_more id changes (Update named fact) same)
+    ∙ ap from_insert (since_delete_more (naming id changes) (Update named fact) refl)
+    ∙ from_insert_update (since_delete (naming id changes)) named fact
+life_more id changes (Delete named) same =
+    ap (λ (cs : List Change). from_insert (since_delete cs)) (naming_more id changes (Delete named) same)
+    ∙ ap from_insert (since_delete_done (naming id changes) named)
+    ∙ nothing_after_delete named (life_of id changes)
+
+-- a change that names another id leaves the life of an id as it was
+pub life_other : (id : List ℕ) (changes : List Change) (change : Change) → bytes_eq id (id_of change) ≡ false
+    → life_of id (changes ++ change ∷ []) ≡ life_of id changes
+life_other id changes change other =
+    ap (λ (cs : List Change). from_insert (since_delete cs)) (naming_other id changes change other)
+
+-- both at once: the life of an id after one more change
+pub life_step : (id : List ℕ) (changes : List Change) (change : Change)
+    → life_of id (changes ++ change ∷ []) ≡ (if bytes_eq id (id_of change) then life_after change (life_of id changes) else life_of id changes)
+life_step id changes change = elim (cases_Bool (bytes_eq id (id_of change))) [
+  | inl same ↦ rw same (life_more id changes change same)
+  | inr other ↦ rw other (life_other id changes change other)
+]
+
+-- a text is its own
+pub same_text : (text : List ℕ) → bytes_eq text text ≡ true
+same_text text = (bytes_eq-Decides text text).1 refl

@@ -1,0 +1,71 @@
+-- The fields of a record, one by one and in parts.
+use Rattle.std.proofs.Common.{◌≡◌, ◌<◌, ◌≤◌, ◌+◌, ◌-◌, ℕ, Bool, true, false, List, [], ◌∷◌, ◌++◌, append_assoc, ℤ, length, get_or, take, drop, map, Option, Some, None, refl, sym, ap, ◌∙◌, arith, rules, add-one, drop-cons}
+use Rattle.std.specs.Prelude.{◌&&◌, zero, suc, option_map, slice_range, IsUtf8}
+use Rattle.std.specs.Str.{is_utf8}
+use Rattle.std.specs.List.{list_all, filter_map}
+use Rattle.cube_core.specs.Items.{dimension_of, measure_of}
+use Rattle.cube_feed.specs.Lines.{is_sound_measure}
+use Rattle.std.proofs.lemmas.Str.{IsUtf8-from_is_utf8, is_utf8-from_IsUtf8}
+use Rattle.csv.specs.Records as csv
+
+-- a text that isn't UTF-8, as a test
+pub not_utf8 : (bs : List ℕ) → (IsUtf8 bs → ⊥) → is_utf8 bs ≡ false
+not_utf8 bs h = by (is_utf8 bs) refl
+  where
+    by : (b : Bool) → is_utf8 bs ≡ b → is_utf8 bs ≡ false
+    by true e = absurd (h (IsUtf8-from_is_utf8 bs e))
+    by false e = e
+
+-- csv's field at a place, and the list's
+pub field_some : (fields : List (List ℕ)) (place : ℕ) (field : List ℕ) → Some field ≡ csv.field_at fields place → field ≡ get_or fields place []
+unfolding csv.field_at
+field_some [] place field h = cc h
+field_some (f ∷ fs) zero field h = cc h
+field_some (f ∷ fs) (suc place) field h = field_some fs place field h
+
+pub field_none : (fields : List (List ℕ)) (place : ℕ) → None ≡ csv.field_at fields place → get_or fields place [] ≡ []
+unfolding csv.field_at
+field_none [] place h = refl
+field_none (f ∷ fs) zero h = cc h
+field_none (f ∷ fs) (suc place) h = field_none fs place h
+
+-- a part of a record begins with the field at its first place
+pub part_cons : (fields : List (List ℕ)) (place end : ℕ) → place < end → end ≤ length fields
+    → slice_range fields place end ≡ get_or fields place [] ∷ slice_range fields (place + 1) end
+part_cons fields place end h k =
+    let first : place < length fields = omega arith in
+    let count : end - place ≡ suc (end - (place + 1)) = omega arith in
+    rw (count, drop-cons fields place [] first, add-one place) refl
+
+-- a part that ends where it begins is empty
+pub part_nil : (fields : List (List ℕ)) (place end : ℕ) → end ≤ place → slice_range fields place end ≡ []
+part_nil fields place end h = let none : end - place ≡ 0 = omega arith in rw none refl
+
+-- one more value of a dimension
+pub dimension_more : (fields : List (List ℕ)) (place end : ℕ) (field : List ℕ) (value : Option (List ℕ)) (values whole : List (Option (List ℕ))) (texts : Bool)
+    → place < end → end ≤ length fields → field ≡ get_or fields place [] → (is_utf8 field ≡ true) × (value ≡ dimension_of field)
+    → list_all is_utf8 (slice_range fields place end) ≡ texts → values ++ map dimension_of (slice_range fields place end) ≡ whole
+    → (list_all is_utf8 (slice_range fields (place + 1) end) ≡ texts) × ((values ++ value ∷ []) ++ map dimension_of (slice_range fields (place + 1) end) ≡ whole)
+dimension_more fields place end field value values whole texts h k is v t w =
+    let sound = rw is at v.0 in
+    let next = rw (part_cons fields place end h k, sound) at t in
+    let more = rw (part_cons fields place end h k) at w in
+    (next, rw (v.1, is, append_assoc values (dimension_of (get_or fields place []) ∷ []) (map dimension_of (slice_range fields (place + 1) end))) more)
+
+-- a part with a field that isn't UTF-8
+pub text_fails : (fields : List (List ℕ)) (place end : ℕ) (field : List ℕ) (test : List ℕ → Bool) (all : Bool)
+    → place < end → end ≤ length fields → field ≡ get_or fields place [] → test field ≡ false
+    → list_all test (slice_range fields place end) ≡ all → all ≡ false
+text_fails fields place end field test all h k is fails t = sym (rw (part_cons fields place end h k, rw is at fails) at t)
+
+-- one more value of a measure
+pub measure_more : (fields : List (List ℕ)) (place end : ℕ) (field : List ℕ) (value : Option ℤ) (values whole : List (Option ℤ)) (sound : Bool)
+    → place < end → end ≤ length fields → field ≡ get_or fields place [] → (is_utf8 field ≡ true) × (measure_of field ≡ Some value)
+    → list_all is_sound_measure (slice_range fields place end) ≡ sound → values ++ filter_map measure_of (slice_range fields place end) ≡ whole
+    → (list_all is_sound_measure (slice_range fields (place + 1) end) ≡ sound) × ((values ++ value ∷ []) ++ filter_map measure_of (slice_range fields (place + 1) end) ≡ whole)
+measure_more fields place end field value values whole sound h k is v t w =
+    let text = rw is at v.0 in
+    let lawful = rw is at v.1 in
+    let next = rw (part_cons fields place end h k, text, lawful) at t in
+    let more = rw (part_cons fields place end h k, lawful) at w in
+    (next, rw (append_assoc values (value ∷ []) (filter_map measure_of (slice_range fields (place + 1) end))) more)

@@ -1,0 +1,44 @@
+-- What std's `parse` reads is the definition's number.
+use Rattle.std.proofs.Common.{◌≡◌, ◌<◌, ◌+◌, ◌^◌, ℕ, ℤ, Bool, true, false, List, [], length, Option, Some, None, refl, sym, ap, arith, rules}
+use Rattle.std.specs.Prelude.{◌&&◌, ◌||◌, nat_lt, if◌then◌else◌, pos, negsuc, Result, Ok, Err, FitsSigned, zero, suc}
+use Rattle.std.specs.Result.{OkIff, result_ok}
+use Rattle.std.specs.Str.{all_ascii_digits}
+use Rattle.std.specs.Str.Parse.{IsNumeral, AllDigits, digits_value, without_leading_sign, signed_digits_value, ParsesSigned}
+use Rattle.std.proofs.lemmas.Bool.{and_from, and_parts, lt-ltb, ltb-true}
+use Rattle.std.proofs.lemmas.Str.Parse.{IsNumeralModel, numerals_by_value, tells_all_ascii_digits}
+use Rattle.cube_core.specs.Items.{is_number, number_of, fits_i64}
+use mir.Syntax.{w64}
+
+-- the words of std and of the definition on digits
+digits_model : IsNumeralModel (λ ds. all_ascii_digits ds ≡ true) (digits_value 10)
+digits_model = numerals_by_value _ tells_all_ascii_digits
+
+-- the range of i64 as a test
+fits_from : (z : ℤ) → FitsSigned w64 z → fits_i64 z ≡ true
+fits_from (pos n) h = search rules
+fits_from (negsuc n) h = search rules
+
+fits_to : (z : ℤ) → fits_i64 z ≡ true → FitsSigned w64 z
+fits_to (pos n) h = record { sfits = search rules }
+fits_to (negsuc n) h = record { sfits = search rules }
+
+-- a numeral in the range is a number of the definition
+number_from : (bs : List ℕ) → IsNumeral 10 (without_leading_sign bs) → FitsSigned w64 (signed_digits_value 10 bs) → is_number bs ≡ true
+number_from bs h f = and_from _ _ (and_from _ _ (lt-ltb 0 _ h.0) (digits_model.from _ h.1)) (fits_from _ f)
+
+-- and a number of the definition is a numeral in the range
+number_to : (bs : List ℕ) → is_number bs ≡ true
+    → IsNumeral 10 (without_leading_sign bs) × FitsSigned w64 (signed_digits_value 10 bs)
+number_to bs h =
+    let both = and_parts _ _ h in
+    let first = and_parts _ _ both.0 in
+    ((ltb-true 0 _ first.0, digits_model.to _ first.1), fits_to _ both.1)
+
+-- what `parse` gives, without its error
+pub parsed : {E : Type 0} (bs : List ℕ) (r : Result ℤ E) → ParsesSigned w64 10 bs r → result_ok r ≡ number_of bs
+parsed bs (Ok x) h = rw (number_from bs h.0.0 h.0.1) (ap Some h.1)
+parsed bs (Err e) h = by (is_number bs) refl
+  where
+    by : (b : Bool) → is_number bs ≡ b → None ≡ number_of bs
+    by true q = absurd (h (number_to bs q))
+    by false q = rw q refl

@@ -1,0 +1,19 @@
+//! Why a feed gives no more items.
+use thiserror::Error;
+
+/// Why a feed gives no more items. The text of each is its code.
+#[derive(Clone, Copy, Debug, PartialEq, Eq, Error)]
+pub enum FeedFault {
+    /// A growth was refused.
+    #[error("F1")]
+    Memory,
+    /// The reader failed.
+    #[error("F2")]
+    Read,
+    /// The first record isn't the schema's header.
+    #[error("F3")]
+    Header,
+    /// A record follows the last one that the schema takes.
+    #[error("F4")]
+    TooMany,
+}

@@ -1,0 +1,167 @@
+//! A feed: the items that its bytes say, one after the other.
+ghost use Rattle.std.specs.Prelude.{◌≡◌, ◌≤◌, ◌+◌, ℕ, None, Some, IfOk, IfErr, IfSome, IfNone, option_map};
+ghost use Rattle.cube_core.specs.Records.{records_of};
+ghost use Rattle.cube_core.specs.Items.{items_of};
+ghost use Rattle.cube_feed.specs.Feed.{HasEnded, Gives, Numbers, TakesHeader, IsFeed, after_header, ended_of, end_answer, to_come, to_come_of};
+
+use crate::fault::FeedFault;
+use crate::header::is_header;
+use crate::line::change;
+use crate::records::Records;
+use cube_core::{Item, Schema};
+use std::alloc::Global;
+use std::io::Read;
+use std::marker::Model;
+
+/// How far a feed has come.
+#[derive(Clone, Copy, Debug)]
+enum Stage {
+    /// Nothing was read.
+    Start,
+    /// The header was read.
+    Records,
+    /// Nothing is to come: the feed ended well, or by a fault.
+    Ended(Option<FeedFault>),
+}
+
+/// A feed: the changes of one source, read from its bytes as they are asked for.
+#[derive(Drop)]
+pub struct Feed<'s, R: Read> {
+    alloc: Global,
+    schema: &'s Schema,
+    records: Records<R>,
+    number: u32,
+    stage: Stage,
+}
+
+impl<'s, R: Read> Model for Feed<'s, R> {
+    ghost use Rattle.std.specs.Prelude.{◌≤◌};
+    ghost use Rattle.cube_feed.specs.Feed.{FeedView, IsFeed, ended_of, to_come_of};
+
+    ghost Value = { FeedView };
+
+    ghost view = { λ f. record {
+      schema = f.schema.now;
+      number = f.number;
+      ended = ended_of f.stage;
+      to_come = to_come_of f.schema.now f.number f.stage f.records.left;
+    } };
+
+    ghost invariant = { λ f. IsFeed f.schema.now f.number f.stage };
+}
+
+// Reads the header; the answer is whether there is any record.
+fn take_header<R: Read>(schema: &Schema, records: &mut Records<R>) -> Result<bool, FeedFault>
+    ensures { TakesHeader schema.now records.old.left result records.new.left }
+{
+    if !records.advance()? {
+        return Ok(false);
+    }
+    if is_header(schema, records.record()) {
+        Ok(true)
+    } else {
+        Err(FeedFault::Header)
+    }
+}
+
+// Reads the record after so many, and gives its item.
+fn take_item<R: Read>(
+    alloc: Global,
+    schema: &Schema,
+    records: &mut Records<R>,
+    number: u32,
+) -> Result<Option<Item>, FeedFault>
+    requires { number ≤ schema.now.max_records }
+    ensures gives { Gives (after_header schema.now number records.old.left) result (after_header schema.now (number + 1) records.new.left) }
+    ensures item { IfOk result (λ next. IfSome next (λ item. (item.number ≡ number + 1) × (number + 1 ≤ schema.now.max_records))) }
+{
+    if !records.advance()? {
+        return Ok(None);
+    }
+    if number == schema.max_records() {
+        return Err(FeedFault::TooMany);
+    }
+    match change(alloc, schema, records.record()) {
+        Ok(what) => Ok(Some(Item {
+            number: number + 1,
+            what,
+        })),
+        Err(_) => Err(FeedFault::Memory),
+    }
+}
+
+// Reads the next item, after the header where that wasn't read.
+fn take_next<R: Read>(
+    alloc: Global,
+    schema: &Schema,
+    records: &mut Records<R>,
+    number: u32,
+    stage: Stage,
+) -> Result<Option<Item>, FeedFault>
+    requires feed { IsFeed schema.now number stage }
+    requires open { ended_of stage ≡ None }
+    ensures gives { Gives (to_come_of schema.now number stage records.old.left) result (after_header schema.now (number + 1) records.new.left) }
+    ensures item { IfOk result (λ next. IfSome next (λ item. (item.number ≡ number + 1) × (number + 1 ≤ schema.now.max_records))) }
+{
+    if let Stage::Start = stage {
+        if !take_header(schema, records)? {
+            return Ok(None);
+        }
+    }
+    take_item(alloc, schema, records, number)
+}
+
+impl<'s, R: Read> Feed<'s, R> {
+    /// A feed of a schema, from what a reader gives; takes no memory and reads nothing.
+    ///
+    /// What is to come are the items of the reader's bytes and how they end, where the reader tells its bytes.
+    pub fn new(alloc: Global, schema: &'s Schema, reader: R) -> Feed<'s, R>
+        ensures schema { result.schema ≡ schema.now }
+        ensures number { result.number ≡ 0 }
+        ensures open { result.ended ≡ None }
+        ensures to_come { result.to_come ≡ option_map (λ bytes. to_come (items_of schema.now (records_of bytes))) (R.remaining reader) }
+    {
+        Feed {
+            alloc,
+            schema,
+            records: Records::new(alloc, reader),
+            number: 0,
+            stage: Stage::Start,
+        }
+    }
+
+    /// The next item, or `None` after the last one of a good feed.
+    ///
+    /// A fault is the feed's last word, and so is `None`: each later call answers it again.
+    pub fn next(&mut self) -> Result<Option<Item>, FeedFault>
+        ensures gives { Gives self.old.to_come result self.new.to_come }
+        ensures numbers { Numbers self.old result self.new }
+        ensures done { IfOk result (λ next. IfNone next (HasEnded self.new None)) }
+        ensures failed { IfErr result (λ fault. HasEnded self.new (Some fault)) }
+        ensures lasting { IfSome self.old.ended (λ end. (result ≡ end_answer end) × (self.new ≡ self.old)) }
+        ensures schema { self.new.schema ≡ self.old.schema }
+    {
+        if let Stage::Ended(end) = self.stage {
+            return match end {
+                None => Ok(None),
+                Some(fault) => Err(fault),
+            };
+        }
+        let next = take_next(
+            self.alloc,
+            self.schema,
+            &mut self.records,
+            self.number,
+            self.stage,
+        );
+        match &next {
+            Ok(Some(item)) => {
+                self.number = item.number;
+                self.stage = Stage::Records;
+            }
+            Ok(None) => self.stage = Stage::Ended(None),
+            Err(fault) => self.stage = Stage::Ended(Some(*fault)),
+        }
+        next
+    }
+}

@@ -1,0 +1,39 @@
+//! A text into a writer, whole or by a counted part.
+
+ghost use Rattle.std.specs.Prelude.{◌≤◌, length, take, OnOk, IfErr};
+ghost use Rattle.std.specs.Io.KnownBytes.{Appends};
+
+use std::io::Write;
+use thiserror::Error;
+
+/// A text that did not go out whole, or was not flushed.
+#[derive(Clone, Copy, PartialEq, Eq, Debug, Error)]
+#[error("WriteFault")]
+pub struct WriteFault {
+    /// How many of the first bytes the writer took: all, where only the flush failed.
+    pub sent: usize,
+}
+
+/// Writes the bytes, and flushes the writer once at their end.
+///
+/// Each `write` is offered all that is left, so there is at most one for each byte. Any error of
+/// `write` or `flush`, an interruption too, and a `write` that takes no byte end the work at once:
+/// nothing is tried a second time.
+pub fn write_whole<W: Write>(w: &mut W, bytes: &[u8]) -> Result<(), WriteFault>
+    ensures whole { OnOk result (Appends (W.contents w.old) (W.contents w.new) bytes.now) }
+    ensures within { IfErr result (λ fault. fault.sent ≤ length bytes.now) }
+    ensures part { IfErr result (λ fault.
+        Appends (W.contents w.old) (W.contents w.new) (take fault.sent bytes.now)) }
+{
+    let mut sent = 0;
+    while sent < bytes.len() {
+        match w.write(&bytes[sent..]) {
+            Ok(taken) if taken > 0 => sent += taken,
+            _ => return Err(WriteFault { sent }),
+        }
+    }
+    w.flush().map_err(|_| WriteFault { sent })
+}
+
+#[cfg(test)]
+mod tests;
