@@ -65,7 +65,7 @@ impl<T: PartialEq> PartialEq for Sequence<T> {
     ghost laws = { lists_per T.laws };
 
     fn eq(&self, other: &Sequence<T>) -> bool {
-        self.items.as_slice() == other.items.as_slice()
+        self.as_slice() == other.as_slice()
     }
 }
 
@@ -79,7 +79,7 @@ impl<T: PartialOrd> PartialOrd for Sequence<T> {
     ghost laws = { lists_po T.PartialOrd.laws };
 
     fn partial_cmp(&self, other: &Sequence<T>) -> Option<Ordering> {
-        self.items.as_slice().partial_cmp(other.items.as_slice())
+        self.as_slice().partial_cmp(other.as_slice())
     }
 }
 
@@ -93,6 +93,6 @@ impl<T: Ord> Ord for Sequence<T> {
     ghost matches_eq = { λ x y. lists_ties T.cmp T.matches_eq x y };
 
     fn cmp(&self, other: &Sequence<T>) -> Ordering {
-        self.items.as_slice().cmp(other.items.as_slice())
+        self.as_slice().cmp(other.as_slice())
     }
 }

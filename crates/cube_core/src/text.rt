@@ -73,7 +73,7 @@ impl PartialEq for Text {
     ghost laws = { Prim.search (comparing, rules) };
 
     fn eq(&self, other: &Text) -> bool {
-        self.string.as_str() == other.string.as_str()
+        self.as_str() == other.as_str()
     }
 }
 
@@ -101,7 +101,7 @@ impl Ord for Text {
     ghost matches_eq = { Prim.search (comparing, rules) };
 
     fn cmp(&self, other: &Text) -> Ordering {
-        self.string.as_str().cmp(other.string.as_str())
+        self.as_str().cmp(other.as_str())
     }
 }
 

@@ -1,0 +1,127 @@
+//! Runs whose reader or writer fails: nothing is written, or just what the fault tells.
+use crate::sample::feed_of;
+use cube_core::Schema;
+use cube_feed::FeedFault;
+use cube_tool::{RunFault, run_plain};
+use std::alloc::Global;
+use std::io::{self, Read, Write};
+use std::test::Fail;
+
+/// A writer that takes `room` bytes in all, and then fails.
+#[derive(Drop)]
+struct Full {
+    taken: Vec<u8>,
+    room: usize,
+}
+
+impl Write for Full {
+    fn write(&mut self, bytes: &[u8]) -> io::Result<usize> {
+        let left = self.room.saturating_sub(self.taken.len());
+        if left == 0 {
+            return Err(io::Error::from(io::ErrorKind::BrokenPipe));
+        }
+        let count = bytes.len().min(left);
+        self.taken.extend_from_slice(&bytes[..count])?;
+        Ok(count)
+    }
+
+    fn flush(&mut self) -> io::Result<()> {
+        Ok(())
+    }
+}
+
+/// A reader that gives its bytes, and then fails.
+#[derive(Drop)]
+struct Cut<'a> {
+    bytes: &'a [u8],
+}
+
+impl<'a> Read for Cut<'a> {
+    fn read(&mut self, buf: &mut [u8]) -> io::Result<usize> {
+        if self.bytes.is_empty() {
+            return Err(io::Error::from(io::ErrorKind::BrokenPipe));
+        }
+        let count = buf.len().min(self.bytes.len());
+        let (piece, rest) = self.bytes.split_at(count);
+        buf[..count].copy_from_slice(piece);
+        self.bytes = rest;
+        Ok(count)
+    }
+}
+
+fn outcome_over<R: Read + Drop>(
+    alloc: Global,
+    reader: R,
+    out: &mut Full,
+) -> Result<Option<RunFault>, Fail> {
+    let schema = Schema::sample(alloc)?;
+    Ok(run_plain(alloc, &schema, vec![in alloc; reader]?, out).err())
+}
+
+#[test]
+fn a_writer_that_fails_after_ten_bytes_is_told_by_their_number(
+    rt: HostRuntime,
+) -> Result<(), Fail> {
+    let alloc = rt.alloc();
+    let feed = feed_of(alloc, "I,1,west,a,5\n")?;
+    let mut out = Full {
+        taken: Vec::new(alloc),
+        room: 10,
+    };
+    let fault = outcome_over(alloc, feed.as_bytes(), &mut out)?.ok_or("the run went well")?;
+    assert_eq!(rt; fault, RunFault::Write { sent: 10 });
+    assert_eq!(rt; fault.to_string(alloc)?.as_str(), "G6");
+    assert_eq!(rt; out.taken.as_slice(), b"region,kin".as_slice());
+    Ok(())
+}
+
+#[test]
+fn a_reader_that_fails_inside_a_record_is_the_fault_of_its_source(
+    rt: HostRuntime,
+) -> Result<(), Fail> {
+    let alloc = rt.alloc();
+    let feed = feed_of(alloc, "I,1,west,a,5\nI,2,west,a,5\nI,3,we")?;
+    let mut out = Full {
+        taken: Vec::new(alloc),
+        room: 1000,
+    };
+    let fault = outcome_over(
+        alloc,
+        Cut {
+            bytes: feed.as_bytes(),
+        },
+        &mut out,
+    )?
+    .ok_or("the run went well")?;
+    assert_eq!(rt;
+        fault,
+        RunFault::Feed {
+            source: 1,
+            fault: FeedFault::Read
+        }
+    );
+    assert!(rt; out.taken.is_empty());
+    Ok(())
+}
+
+#[test]
+fn each_fault_of_a_run_shows_its_code(rt: HostRuntime) -> Result<(), Fail> {
+    let faults = [
+        (RunFault::Memory, "G1"),
+        (RunFault::NoThread, "G2"),
+        (
+            RunFault::Feed {
+                source: 2,
+                fault: FeedFault::TooMany,
+            },
+            "G3",
+        ),
+        (RunFault::Full, "G4"),
+        (RunFault::Unsealed { source: 3 }, "G5"),
+        (RunFault::Write { sent: 7 }, "G6"),
+    ];
+    for (fault, code) in faults {
+        assert_eq!(rt; fault.to_string(rt.alloc())?.as_str(), code);
+    }
+    Ok(())
+}

@@ -1,0 +1,8 @@
+//! Tests that cross crates: whole runs, from the bytes of a feed to the bytes of the printed cube.
+#![tactic(auto)]
+
+#[cfg(test)]
+mod failures;
+#[cfg(test)]
+mod runs;
+pub mod sample;
