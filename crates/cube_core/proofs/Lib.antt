@@ -1,6 +1,6 @@
 mod CommonDivisors
-pub mod FractionLemmas
 mod ReducedFraction
+pub mod FractionLemmas
 pub mod LifeLaws
 pub mod RefusalLaws
 pub mod PlainAnswers
@@ -8,3 +8,14 @@ pub mod PlainCells
 pub mod PlainKeys
 pub mod PlainOrder
 pub mod PlainRows
+pub mod LawRows
+pub mod LawRowsOrder
+pub mod LawCounts
+pub mod LawCountsGroups
+pub mod LawCountsCells
+pub mod LawRollup
+pub mod LawRollupKeys
+pub mod LawRollupBest
+pub mod LawSets
+pub mod LawKeys
+pub mod LawText

@@ -1,0 +1,23 @@
+//! The printed text, read back (RFC 4180).
+ghost use Rattle.std.specs.Prelude.{◌≡◌, ℕ, ◌≤◌, List, ◌∷◌, length, map};
+ghost use Rattle.std.specs.List.{AllByRecursion, flat_map};
+ghost use Rattle.csv.specs.Reading.{records, default_config};
+ghost use Rattle.cube_core.specs.Layout.{Layout, IsSchema};
+ghost use Rattle.cube_core.specs.Cube.{AreRows};
+ghost use Rattle.cube_core.specs.Text.{line, header_fields, row_fields, text_of_rows};
+ghost use Rattle.cube_core.specs.declared.fact.Fact.{Fact};
+ghost use Rattle.cube_core.specs.declared.key.Row.{Row};
+
+/// The records of printed lines are the very fields that were printed, whatever bytes they hold, where each line
+/// has a field (RFC 4180; a line of no field would read as one empty field).
+pub fn lines_read_back()
+    ensures { (lines : List (List (List ℕ))) → AllByRecursion (λ fields. 1 ≤ length fields) lines → records default_config (flat_map line lines) ≡ lines }
+{}
+
+/// The records of a printed cube are the fields of its header and of each of its rows (RFC 4180).
+///
+/// No byte order mark is taken off the start: the text may begin with one, as part of the first dimension's name,
+/// and a reader that took it off would lose it.
+pub fn cube_reads_back()
+    ensures { (s : Layout) (facts : List Fact) (rows : List Row) → IsSchema s → AreRows s facts rows → records default_config (text_of_rows s rows) ≡ header_fields s ∷ map row_fields rows }
+{}
