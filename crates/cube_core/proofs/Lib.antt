@@ -1,6 +1,9 @@
 mod CommonDivisors
 mod ReducedFraction
 pub mod FractionLemmas
+pub mod SchemaReading
+pub mod SchemaSpelling
+pub mod SchemaLaws
 pub mod LifeLaws
 pub mod RefusalLaws
 pub mod PlainAnswers

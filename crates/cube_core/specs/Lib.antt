@@ -1,4 +1,5 @@
 pub mod Layout
+pub mod SchemaDocument
 pub mod Records
 pub mod Takes
 pub mod Items

@@ -12,6 +12,8 @@ mod key;
 pub mod laws;
 mod plain;
 mod schema;
+mod schema_fault;
+mod schema_toml;
 mod sequence;
 mod text;
 
@@ -22,5 +24,6 @@ pub use fraction::reduced;
 pub use key::{Coord, Key, Row, covers};
 pub use plain::plain_rows;
 pub use schema::Schema;
+pub use schema_fault::SchemaFault;
 pub use sequence::Sequence;
 pub use text::Text;

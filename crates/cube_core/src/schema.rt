@@ -66,6 +66,38 @@ impl Schema {
         })
     }
 
+    /// The schema of parts that make one.
+    pub(crate) fn from_parts(
+        dimensions: Vec<Text>,
+        measures: Vec<Text>,
+        aggregates: Vec<Agg>,
+        aggregate_texts: Vec<Text>,
+        max_records: u32,
+    ) -> Schema
+        requires { IsSchema (record {
+          dimensions = dimensions.items;
+          measures = measures.items;
+          aggregates = aggregates.items;
+          aggregate_texts = aggregate_texts.items;
+          max_records = max_records;
+        }) }
+        ensures { result ≡ record {
+          dimensions = dimensions.items;
+          measures = measures.items;
+          aggregates = aggregates.items;
+          aggregate_texts = aggregate_texts.items;
+          max_records = max_records;
+        } }
+    {
+        Schema {
+            dimensions,
+            measures,
+            aggregates,
+            aggregate_texts,
+            max_records,
+        }
+    }
+
     /// A copy; the only error is want of memory.
     pub fn copy(&self, alloc: Global) -> Result<Schema, AllocError>
         ensures { IfOk result (λ copy. copy ≡ self.now) }

@@ -1,0 +1,141 @@
+-- A document that has no fault writes a schema.
+use Rattle.std.proofs.Common.{◌≡◌, ℕ, ◌+◌, ◌<◌, ◌≤◌, ◌^◌, pos, negsuc, zero, suc, Bool, true, false, cond, not, ◌&&◌, is_some, nat_le, nat_lt, codes, List, [], ◌∷◌, ◌++◌, length, map, find, Option, Some, None, refl, ap, ◌∙◌, sym, inl, inr, arith, rules, subst}
+use Rattle.std.specs.Str.{bytes_eq}
+use Rattle.std.specs.List.{list_all, range_with_len, filter_map, cons_option}
+use Rattle.std.specs.Option.{option_map_or}
+use Rattle.std.proofs.lemmas.Slice.Eq.{bytes_eq-Decides}
+use Rattle.std.proofs.lemmas.Bool.{and_parts, cases_Bool}
+use Rattle.std.proofs.lemmas.Bool.Decides.{nat_tests}
+use Rattle.std.proofs.lemmas.List.Folds.{list_all-append, list_all-map}
+use Rattle.std.proofs.lemmas.Option.{same_Some, cond_some}
+use Rattle.toml.specs.Data.{Data, integer, get_member, Members}
+use Rattle.cube_core.specs.Layout.{Layout, IsSchema, spelling_of, is_aggregate_of, is_lawful_name, are_distinct}
+use Rattle.cube_core.specs.SchemaDocument.{is_some_up_to, are_lawful_names, aggregates_over, aggregate_spelled, are_spellings, record_limit, max_records_in, default_max_records, dimensions_in, measures_in, spellings_in}
+use Rattle.cube_core.specs.declared.aggregate.Agg.{Agg}
+use Rattle.cube_core.specs.declared.aggregate.Agg.TheVariants.{CountAll, Count, Sum, Min, Max, Avg}
+
+-- what is found passes the test, and has what each element has
+find-passes : {X : Type 0} (test : X → Bool) (xs : List X) (x : X) → find test xs ≡ Some x → test x ≡ true
+find-passes test [] x is = cc
+find-passes test (y ∷ ys) x is =
+    elim (cases_Bool (test y)) [
+      | inl passes ↦ ap test (sym (same_Some y x (rw passes at is))) ∙ passes
+      | inr fails ↦ find-passes test ys x (rw fails at is)
+    ]
+
+find-has : {X : Type 0} (test has : X → Bool) (xs : List X) (x : X) → list_all has xs ≡ true → find test xs ≡ Some x → has x ≡ true
+find-has test has [] x all is = cc
+find-has test has (y ∷ ys) x all is =
+    let (here, others) = and_parts (has y) (list_all has ys) all in
+    elim (cases_Bool (test y)) [
+      | inl passes ↦ ap has (sym (same_Some y x (rw passes at is))) ∙ here
+      | inr fails ↦ find-has test has ys x others (rw fails at is)
+    ]
+
+-- so many numbers from k on are below the number after them
+numbers_below : (k n after : ℕ) → k + n ≡ after → list_all (λ m. nat_lt m after) (range_with_len k n) ≡ true
+numbers_below k zero after is = refl
+numbers_below k (suc n) after is =
+    let here : nat_lt k after ≡ true = grind (arith, nat_tests) in
+    rw here (numbers_below (k + 1) n after (omega arith))
+
+-- the aggregates of one function, and others, are of so many measures
+function_of : (measures : ℕ) (make : ℕ → Agg) (others : List Agg) → ((m : ℕ) → is_aggregate_of measures (make m) ≡ nat_lt m measures) → list_all (is_aggregate_of measures) others ≡ true
+    → list_all (is_aggregate_of measures) (map make (range_with_len 0 measures) ++ others) ≡ true
+function_of measures make others of rest =
+    let numbers : list_all (λ m. is_aggregate_of measures (make m)) (range_with_len 0 measures) ≡ true =
+    ap (λ test. list_all test (range_with_len 0 measures)) (λ i m. of m i) ∙ numbers_below 0 measures measures (omega arith) in
+    rw (list_all-append (is_aggregate_of measures) (map make (range_with_len 0 measures)) others, list_all-map (is_aggregate_of measures) make (range_with_len 0 measures), numbers) rest
+
+-- every aggregate over so many measures is of them
+aggregates_over-of : (measures : ℕ) → list_all (is_aggregate_of measures) (aggregates_over measures) ≡ true
+aggregates_over-of measures =
+    let over : (ℕ → Agg) → List Agg = λ make. map make (range_with_len 0 measures) in
+    let last : list_all (is_aggregate_of measures) (over Avg) ≡ true = list_all-map (is_aggregate_of measures) Avg (range_with_len 0 measures) ∙ numbers_below 0 measures measures (omega arith) in
+    function_of measures Count (over Sum ++ (over Min ++ (over Max ++ over Avg))) (λ m. refl)
+    (function_of measures Sum (over Min ++ (over Max ++ over Avg)) (λ m. refl)
+    (function_of measures Min (over Max ++ over Avg) (λ m. refl)
+    (function_of measures Max (over Avg) (λ m. refl) last)))
+
+-- the aggregate that a text spells is of the measures, and the text is its spelling
+spelled_of : (measures : List (List ℕ)) (text : List ℕ) (agg : Agg) → aggregate_spelled measures text ≡ Some agg → (is_aggregate_of (length measures) agg ≡ true) × (text ≡ spelling_of measures agg)
+unfolding aggregate_spelled
+spelled_of measures text agg is = (
+  find-has (λ a. bytes_eq text (spelling_of measures a)) (is_aggregate_of (length measures)) (aggregates_over (length measures)) agg (aggregates_over-of (length measures)) is,
+  (bytes_eq-Decides text (spelling_of measures agg)).0 (find-passes (λ a. bytes_eq text (spelling_of measures a)) (aggregates_over (length measures)) agg is),
+)
+
+-- texts that each spell an aggregate: as many aggregates, of the measures, in their spelling
+pub record AreSpelled (measures texts : List (List ℕ)) (aggregates : List Agg) : Type 0 where
+  pub as_many : length aggregates ≡ length texts
+  pub of_measures : list_all (is_aggregate_of (length measures)) aggregates ≡ true
+  pub spelled : texts ≡ map (spelling_of measures) aggregates
+
+one_more : (measures texts : List (List ℕ)) (text : List ℕ) (aggregates : List Agg) (found : Option Agg) → aggregate_spelled measures text ≡ found → is_some found ≡ true
+    → AreSpelled measures texts aggregates → AreSpelled measures (text ∷ texts) (cons_option found aggregates)
+one_more measures texts text aggregates None is some rest = cc
+one_more measures texts text aggregates (Some agg) is some rest =
+    let (of, spelling) = spelled_of measures text agg is in
+    record {
+      as_many = ap (λ n. suc n) rest.as_many;
+      of_measures = rw of rest.of_measures;
+      spelled = rw (← spelling) (ap (λ others. text ∷ others) rest.spelled);
+    }
+
+all_spelled : (measures texts : List (List ℕ)) → are_spellings measures texts ≡ true → AreSpelled measures texts (filter_map (aggregate_spelled measures) texts)
+all_spelled measures [] all = record { as_many = refl; of_measures = refl; spelled = refl }
+all_spelled measures (text ∷ texts) all =
+    let (here, others) = and_parts (is_some (aggregate_spelled measures text)) (are_spellings measures texts) all in
+    one_more measures texts text _ (aggregate_spelled measures text) refl here (all_spelled measures texts others)
+
+-- a limit that is read is in its range
+record_limit_range : (value : Data) (n : ℕ) → record_limit value ≡ Some n → (1 ≤ n) × (n < 2 ^ 32)
+record_limit_range (integer (pos m)) n is =
+    let (inside, same) = cond_some (nat_le 1 m && nat_lt m (2 ^ 32)) m n is in
+    let (least, most) = and_parts (nat_le 1 m) (nat_lt m (2 ^ 32)) inside in
+    grind (arith, nat_tests)
+record_limit_range _ n is = cc
+
+max_records_range-at : (value : Option Data) (n : ℕ) → option_map_or record_limit value (Some default_max_records) ≡ Some n → (1 ≤ n) × (n < 2 ^ 32)
+max_records_range-at None n is = let same : default_max_records ≡ n = same_Some _ _ is in (omega arith, omega arith)
+max_records_range-at (Some value) n is = record_limit_range value n is
+
+pub max_records_range : (document : Members) (n : ℕ) → max_records_in document ≡ Some n → (1 ≤ n) × (n < 2 ^ 32)
+max_records_range document n is = max_records_range-at (get_member (codes "max_records") document) n is
+
+-- a number of texts in its bounds
+some_up_to : (most : ℕ) (texts : List (List ℕ)) → is_some_up_to most texts ≡ true → (1 ≤ length texts) × (length texts ≤ most)
+some_up_to most texts is =
+    let (least, above) = and_parts (nat_le 1 (length texts)) (nat_le (length texts) most) is in
+    (grind (arith, nat_tests), grind (arith, nat_tests))
+
+-- parts read off a document that has none of the faults make a schema
+pub makes_schema : (document : Members) (dimensions measures texts : List (List ℕ)) (aggregates : List Agg) (limit : ℕ)
+    → (dimensions ≡ dimensions_in document) × (is_some_up_to 8 (dimensions_in document) ≡ true)
+    → (measures ≡ measures_in document) × (is_some_up_to 4 (measures_in document) ≡ true)
+    → are_lawful_names (dimensions ++ measures) ≡ true
+    → (texts ≡ spellings_in document) × (is_some_up_to 16 (spellings_in document) ≡ true)
+    → (aggregates ≡ filter_map (aggregate_spelled measures) texts) × (are_spellings measures texts ≡ true)
+    → Some limit ≡ max_records_in document
+    → IsSchema (record { dimensions = dimensions; measures = measures; aggregates = aggregates; aggregate_texts = texts; max_records = limit })
+makes_schema document dimensions measures texts aggregates limit d m names t spellings limit_is =
+    let ds = some_up_to 8 dimensions (rw d.0 d.1) in
+    let ms = some_up_to 4 measures (rw m.0 m.1) in
+    let ts = some_up_to 16 texts (rw t.0 t.1) in
+    let range = max_records_range document limit (sym limit_is) in
+    let (lawful, distinct) = and_parts (list_all is_lawful_name (dimensions ++ measures)) (are_distinct (dimensions ++ measures)) names in
+    let all = all_spelled measures texts spellings.1 in
+    rw spellings.0 (record {
+      some_dimension = ds.0;
+      dimensions_at_most = ds.1;
+      some_measure = ms.0;
+      measures_at_most = ms.1;
+      some_aggregate = rw all.as_many ts.0;
+      aggregates_at_most = rw all.as_many ts.1;
+      names_are_lawful = lawful;
+      names_are_distinct = distinct;
+      aggregates_are_of_measures = all.of_measures;
+      aggregates_are_spelled = all.spelled;
+      some_record = range.0;
+      records_at_most = range.1;
+    })

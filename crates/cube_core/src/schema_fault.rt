@@ -1,0 +1,43 @@
+//! Why a schema is refused.
+use std::alloc::{AllocError, AllocFailed};
+use thiserror::Error;
+
+/// Why a schema file is refused; where several faults hold, the first. The text of each is its code.
+#[derive(Clone, Copy, Debug, PartialEq, Eq, Error)]
+pub enum SchemaFault {
+    /// Memory ran out, which says nothing of the file.
+    #[error("S1")]
+    Memory,
+    /// The file is no UTF-8 or no TOML document.
+    #[error("S2")]
+    Toml,
+    /// A key is none that a schema has.
+    #[error("S3")]
+    UnknownKey,
+    /// There is no array of 1 to 8 texts for the dimensions.
+    #[error("S4")]
+    Dimensions,
+    /// There is no array of 1 to 4 texts for the measures.
+    #[error("S5")]
+    Measures,
+    /// A dimension or a measure is empty, `op`, `id` or `*`, or two of them have one name.
+    #[error("S6")]
+    Name,
+    /// There is no array of 1 to 16 aggregates, each spelled with the name of a measure.
+    #[error("S7")]
+    Aggregates,
+    /// The number of data records is no whole number from 1 to 4294967295.
+    #[error("S8")]
+    MaxRecords,
+}
+
+impl From<AllocError> for SchemaFault {
+    ghost use Rattle.cube_core.specs.declared.schema_fault.SchemaFault.TheVariants.{Memory};
+    ghost use Rattle.std.specs.Prelude.{◌≡◌};
+
+    ghost from_gives = { λ _ fault. fault ≡ Memory };
+
+    fn from(_: AllocError) -> SchemaFault {
+        SchemaFault::Memory
+    }
+}

@@ -1,0 +1,260 @@
+//! Reads a schema from a TOML document.
+ghost use Rattle.std.specs.Prelude.{◌≡◌, ◌≢◌, ℕ, List, ◌++◌, codes, false, true, IfOk, MatchOption, option_map, position};
+ghost use Rattle.std.specs.Str.{bytes_eq};
+ghost use Rattle.std.specs.List.{list_all, filter_map};
+ghost use Rattle.toml.specs.Data.{get_member};
+ghost use Rattle.toml.specs.View.{view, table_view, items_view};
+ghost use Rattle.cube_core.specs.Layout.{is_listed, are_distinct, is_lawful_name};
+ghost use Rattle.cube_core.specs.SchemaDocument.{AnswersBytes, AnswersDocument, known_keys, has_known_keys, texts_of, texts_at, texts_in, is_some_up_to, are_lawful_names, aggregate_spelled, are_spellings, record_limit, max_records_in};
+
+#[cfg(test)]
+mod tests;
+
+use crate::aggregate::Agg;
+use crate::schema::Schema;
+use crate::schema_fault::SchemaFault;
+use crate::text::Text;
+use std::alloc::{AllocError, Global};
+use toml::{Table, Value};
+
+impl Schema {
+    /// The schema that a TOML document writes: the arrays of texts `dimensions`, `measures` and `aggregates`, and
+    /// the whole number `max_records`, which is 4294967295 where the document doesn't give it.
+    ///
+    /// The error is the first fault of the document, or want of memory, which says nothing of the document.
+    pub fn from_toml(alloc: Global, bytes: &[u8]) -> Result<Schema, SchemaFault>
+        ensures { AnswersBytes bytes.now result }
+    {
+        match toml::table_from_slice(alloc, bytes) {
+            Ok(document) => schema_of(alloc, &document),
+            Err(error) if error.is_memory() => Err(SchemaFault::Memory),
+            Err(_) => Err(SchemaFault::Toml),
+        }
+    }
+}
+
+/// The schema that a document writes, or its first fault.
+fn schema_of(alloc: Global, document: &Table) -> Result<Schema, SchemaFault>
+    ensures { AnswersDocument (table_view document.now) result }
+{
+    if !has_known_keys(document) {
+        return Err(SchemaFault::UnknownKey);
+    }
+    let Some(dimensions) = some_texts_at(alloc, document, "dimensions", 8)? else {
+        return Err(SchemaFault::Dimensions);
+    };
+    let Some(measures) = some_texts_at(alloc, document, "measures", 4)? else {
+        return Err(SchemaFault::Measures);
+    };
+    if !are_lawful_names(&dimensions, &measures) {
+        return Err(SchemaFault::Name);
+    }
+    let Some(aggregate_texts) = some_texts_at(alloc, document, "aggregates", 16)? else {
+        return Err(SchemaFault::Aggregates);
+    };
+    let Some(aggregates) = aggregates_of(alloc, &measures, &aggregate_texts)? else {
+        return Err(SchemaFault::Aggregates);
+    };
+    let Some(max_records) = max_records_in(document) else {
+        return Err(SchemaFault::MaxRecords);
+    };
+    Ok(Schema::from_parts(
+        dimensions,
+        measures,
+        aggregates,
+        aggregate_texts,
+        max_records,
+    ))
+}
+
+/// Whether a document has only keys that a schema has.
+fn has_known_keys(document: &Table) -> bool
+    ensures { result ≡ has_known_keys (table_view document.now) }
+{
+    for key in document.keys() {
+        if !is_known_key(key.as_str()) {
+            return false;
+        }
+    }
+    true
+}
+
+fn is_known_key(key: &str) -> bool
+    ensures { result ≡ is_listed key.now known_keys }
+{
+    matches!(
+        key,
+        "dimensions" | "measures" | "aggregates" | "max_records"
+    )
+}
+
+/// The texts of the array at a key, where there is at least one and at most `most`.
+fn some_texts_at(
+    alloc: Global,
+    document: &Table,
+    key: &str,
+    most: usize,
+) -> Result<Option<Vec<Text>>, AllocError>
+    ensures { IfOk result (λ found. let texts = texts_in key.now (table_view document.now) in
+        MatchOption found (is_some_up_to most texts ≡ false)
+        (λ read. (read.items ≡ texts) × (is_some_up_to most texts ≡ true))) }
+{
+    let Some(texts) = texts_at(alloc, document, key)? else {
+        return Ok(None);
+    };
+    if texts.is_empty() || most < texts.len() {
+        return Ok(None);
+    }
+    Ok(Some(texts))
+}
+
+/// The texts of the array at a key, where there is an array of texts.
+fn texts_at(alloc: Global, document: &Table, key: &str) -> Result<Option<Vec<Text>>, AllocError>
+    ensures { IfOk result (λ found.
+        option_map (λ texts. texts.items) found ≡ texts_at key.now (table_view document.now)) }
+{
+    match value_at(document, key) {
+        Some(Value::Array(values)) => texts_of(alloc, values),
+        _ => Ok(None),
+    }
+}
+
+fn value_at<'d>(document: &'d Table, key: &str) -> Option<&'d Value>
+    ensures { option_map (λ value. view value.now) result
+        ≡ get_member key.now (table_view document.now) }
+{
+    document.get(key)
+}
+
+/// The texts of an array, where it has nothing else.
+fn texts_of(alloc: Global, values: &[Value]) -> Result<Option<Vec<Text>>, AllocError>
+    ensures { IfOk result (λ found.
+        option_map (λ texts. texts.items) found ≡ texts_of (items_view values.now)) }
+{
+    let mut texts = Vec::with_capacity(alloc, values.len())?;
+    for value in values {
+        let Some(text) = value.as_str() else {
+            return Ok(None);
+        };
+        texts.push(Text::from_str(alloc, text)?)?;
+    }
+    Ok(Some(texts))
+}
+
+/// Whether the names of dimensions and of measures may stand in one schema.
+fn are_lawful_names(dimensions: &[Text], measures: &[Text]) -> bool
+    ensures { result ≡ are_lawful_names (dimensions.now ++ measures.now) }
+{
+    are_each_lawful(dimensions) && are_each_lawful(measures) && are_distinct(dimensions, measures)
+}
+
+fn are_each_lawful(names: &[Text]) -> bool
+    ensures { result ≡ list_all is_lawful_name names.now }
+{
+    names.iter().all(|name| is_lawful_name(name))
+}
+
+fn is_lawful_name(name: &Text) -> bool
+    ensures { result ≡ is_lawful_name name.now }
+{
+    !matches!(name.as_str(), "" | "op" | "id" | "*")
+}
+
+/// Whether no name stands twice in the names followed by the others.
+fn are_distinct(names: &[Text], others: &[Text]) -> bool
+    ensures { result ≡ are_distinct (names.now ++ others.now) }
+{
+    let Some((name, rest)) = names.split_first() else {
+        return others.is_empty() || are_distinct(others, &[]);
+    };
+    !is_listed(name, rest) && !is_listed(name, others) && are_distinct(rest, others)
+}
+
+fn is_listed(name: &Text, names: &[Text]) -> bool
+    ensures { result ≡ is_listed name.now names.now }
+{
+    names.iter().any(|other| name == other)
+}
+
+/// The aggregates that texts spell, where each spells one of these measures.
+fn aggregates_of(
+    alloc: Global,
+    measures: &[Text],
+    texts: &[Text],
+) -> Result<Option<Vec<Agg>>, AllocError>
+    ensures { IfOk result (λ found.
+        MatchOption found (are_spellings measures.now texts.now ≡ false)
+        (λ read. (read.items ≡ filter_map (aggregate_spelled measures.now) texts.now)
+        × (are_spellings measures.now texts.now ≡ true))) }
+{
+    let mut aggregates = Vec::with_capacity(alloc, texts.len())?;
+    for text in texts {
+        let Some(aggregate) = aggregate_spelled(measures, text.as_str()) else {
+            return Ok(None);
+        };
+        aggregates.push(aggregate)?;
+    }
+    Ok(Some(aggregates))
+}
+
+/// The aggregate that a text spells.
+#[tactic(auto, using(crate::proofs::SchemaSpelling::spelled_is))]
+fn aggregate_spelled(measures: &[Text], text: &str) -> Option<Agg>
+    ensures { result ≡ aggregate_spelled measures.now text.now }
+{
+    if text == "count(*)" {
+        return Some(Agg::CountAll);
+    }
+    if let Some(measure) = measure_spelled(measures, "count(", text) {
+        return Some(Agg::Count(measure));
+    }
+    if let Some(measure) = measure_spelled(measures, "sum(", text) {
+        return Some(Agg::Sum(measure));
+    }
+    if let Some(measure) = measure_spelled(measures, "min(", text) {
+        return Some(Agg::Min(measure));
+    }
+    if let Some(measure) = measure_spelled(measures, "max(", text) {
+        return Some(Agg::Max(measure));
+    }
+    measure_spelled(measures, "avg(", text).map(|measure| Agg::Avg(measure))
+}
+
+/// The measure whose name stands between the opening and a last `)` in a text.
+fn measure_spelled(measures: &[Text], opening: &str, text: &str) -> Option<usize>
+    ensures { result
+        ≡ position (λ name. bytes_eq text.now (opening.now ++ name ++ codes ")")) measures.now }
+{
+    position_of(measures, argument_of(opening, text)?)
+}
+
+/// What stands between an opening and a last `)` in a text.
+fn argument_of<'t>(opening: &str, text: &'t str) -> Option<&'t str>
+    ensures { MatchOption result ((name : List ℕ) → opening.now ++ name ++ codes ")" ≢ text.now)
+        (λ name. opening.now ++ name.now ++ codes ")" ≡ text.now) }
+{
+    text.strip_prefix(opening)?.strip_suffix(')')
+}
+
+fn position_of(names: &[Text], name: &str) -> Option<usize>
+    ensures { result ≡ position (λ other. bytes_eq other name.now) names.now }
+{
+    names.iter().position(|other| other.as_str() == name)
+}
+
+/// How many data records a document allows; None where what it says of them is wrong.
+fn max_records_in(document: &Table) -> Option<u32>
+    ensures { result ≡ max_records_in (table_view document.now) }
+{
+    match value_at(document, "max_records") {
+        Some(value) => record_limit(value),
+        None => Some(u32::MAX),
+    }
+}
+
+fn record_limit(value: &Value) -> Option<u32>
+    ensures { result ≡ record_limit (view value.now) }
+{
+    let limit = u32::try_from(value.as_integer()?).ok()?;
+    if limit == 0 { None } else { Some(limit) }
+}
