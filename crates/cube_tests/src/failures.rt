@@ -3,7 +3,7 @@ use crate::sample::feed_of;
 use cube_core::Schema;
 use cube_feed::FeedFault;
 use cube_tool::{RunFault, run_plain};
-use std::alloc::Global;
+use std::alloc::{AllocError, Global};
 use std::io::{self, Read, Write};
 use std::test::Fail;
 
@@ -55,7 +55,9 @@ fn outcome_over<R: Read + Drop>(
     out: &mut Full,
 ) -> Result<Option<RunFault>, Fail> {
     let schema = Schema::sample(alloc)?;
-    Ok(run_plain(alloc, &schema, vec![in alloc; reader]?, out).err())
+    let mut readers = Vec::with_capacity(alloc, 1)?;
+    readers.push(reader).map_err(|_| AllocError)?;
+    Ok(run_plain(alloc, &schema, readers, out).err())
 }
 
 #[test]
