@@ -4,6 +4,8 @@ pub mod FractionLemmas
 pub mod SchemaReading
 pub mod SchemaSpelling
 pub mod SchemaLaws
+pub mod SchemaSpelledOnce
+pub mod SchemaWritten
 pub mod LifeLaws
 pub mod RefusalLaws
 pub mod PlainAnswers

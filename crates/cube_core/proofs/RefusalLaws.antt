@@ -1,5 +1,5 @@
 -- How the refusals of a list grow with one more item.
-use Rattle.std.proofs.Common.{◌≡◌, ℕ, zero, suc, ◌+◌, ◌<◌, ◌≤◌, List, [], ◌∷◌, ◌++◌, length, take, refl, sym, ap, ◌∙◌, subst, arith, length-append, add-zero, zero-add, add-one, add_assoc}
+use Rattle.std.proofs.Common.{◌≡◌, ℕ, zero, suc, ◌+◌, ◌<◌, List, [], ◌∷◌, ◌++◌, length, take, refl, sym, ap, ◌∙◌, arith, length-append, add-zero, zero-add}
 use Rattle.std.specs.Prelude.{Option, Some, None, slice_get, option_and_then}
 use Rattle.std.specs.Option.{option_to_list}
 use Rattle.std.specs.List.{filter_map, cons_option, range_with_len}
@@ -9,7 +9,6 @@ use Rattle.std.proofs.lemmas.List.Elements.{filter_map-append}
 use Rattle.cube_core.specs.Layout.{Layout}
 use Rattle.cube_core.specs.Refusals.{refusal_of, refusal_at, refusals_of}
 use Rattle.cube_core.specs.declared.change.Item.{Item}
-use Rattle.cube_core.specs.declared.change.Refusal.{Refusal}
 
 -- one more number at the end of a range
 range_with_len-more : (a n : ℕ) → range_with_len a (suc n) ≡ range_with_len a n ++ (a + n) ∷ []
@@ -23,7 +22,7 @@ filter_map-same_in_range f g a zero same = refl
 filter_map-same_in_range f g a (suc n) same =
     let first : f a ≡ g a = same a (omega arith) in
     let rest : filter_map f (range_with_len (a + 1) n) ≡ filter_map g (range_with_len (a + 1) n) =
-        filter_map-same_in_range f g (a + 1) n (λ k below. same k (omega arith)) in
+    filter_map-same_in_range f g (a + 1) n (λ k below. same k (omega arith)) in
     λ i. cons_option (first i) (rest i)
 
 -- what stands in a longer list at a place of its front
@@ -65,5 +64,5 @@ refusals_of-more s items item =
     ∙ ap (filter_map (refusal_at s all)) (range_with_len-more 0 n)
     ∙ filter_map-append (refusal_at s all) (range_with_len 0 n) ((0 + n) ∷ [])
     ∙ (λ i. filter_map-same_in_range (refusal_at s all) (refusal_at s items) 0 n (λ k below. refusal_at-front s items item k (omega arith)) i
-        ++ cons_option ((ap (refusal_at s all) (zero-add n) ∙ refusal_at-last s items item) i) [])
+    ++ cons_option ((ap (refusal_at s all) (zero-add n) ∙ refusal_at-last s items item) i) [])
     ∙ ap (λ os. refusals_of s items ++ os) (cons_option-is (refusal_of s items item))

@@ -1,5 +1,5 @@
 -- A document that has no fault writes a schema.
-use Rattle.std.proofs.Common.{◌≡◌, ℕ, ◌+◌, ◌<◌, ◌≤◌, ◌^◌, pos, negsuc, zero, suc, Bool, true, false, cond, not, ◌&&◌, is_some, nat_le, nat_lt, codes, List, [], ◌∷◌, ◌++◌, length, map, find, Option, Some, None, refl, ap, ◌∙◌, sym, inl, inr, arith, rules, subst}
+use Rattle.std.proofs.Common.{◌≡◌, ℕ, ◌+◌, ◌<◌, ◌≤◌, ◌^◌, pos, zero, suc, Bool, true, ◌&&◌, is_some, nat_le, nat_lt, codes, List, [], ◌∷◌, ◌++◌, length, map, find, Option, Some, None, refl, ap, ◌∙◌, sym, inl, inr, arith}
 use Rattle.std.specs.Str.{bytes_eq}
 use Rattle.std.specs.List.{list_all, range_with_len, filter_map, cons_option}
 use Rattle.std.specs.Option.{option_map_or}
@@ -9,10 +9,10 @@ use Rattle.std.proofs.lemmas.Bool.Decides.{nat_tests}
 use Rattle.std.proofs.lemmas.List.Folds.{list_all-append, list_all-map}
 use Rattle.std.proofs.lemmas.Option.{same_Some, cond_some}
 use Rattle.toml.specs.Data.{Data, integer, get_member, Members}
-use Rattle.cube_core.specs.Layout.{Layout, IsSchema, spelling_of, is_aggregate_of, is_lawful_name, are_distinct}
+use Rattle.cube_core.specs.Layout.{IsSchema, spelling_of, is_aggregate_of, is_lawful_name, are_distinct}
 use Rattle.cube_core.specs.SchemaDocument.{is_some_up_to, are_lawful_names, aggregates_over, aggregate_spelled, are_spellings, record_limit, max_records_in, default_max_records, dimensions_in, measures_in, spellings_in}
 use Rattle.cube_core.specs.declared.aggregate.Agg.{Agg}
-use Rattle.cube_core.specs.declared.aggregate.Agg.TheVariants.{CountAll, Count, Sum, Min, Max, Avg}
+use Rattle.cube_core.specs.declared.aggregate.Agg.TheVariants.{Count, Sum, Min, Max, Avg}
 
 -- what is found passes the test, and has what each element has
 find-passes : {X : Type 0} (test : X → Bool) (xs : List X) (x : X) → find test xs ≡ Some x → test x ≡ true

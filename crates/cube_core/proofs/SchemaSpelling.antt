@@ -1,5 +1,5 @@
 -- The aggregate that a text spells, found function by function among the names of the measures.
-use Rattle.std.proofs.Common.{◌≡◌, ◌≢◌, ℕ, ◌+◌, Bool, true, false, cond, zero, suc, Bor, MatchOption, List, [], ◌∷◌, ◌++◌, length, get_or, map, find, codes, position, Option, Some, None, option_map, zero-add, arith, refl, ap, ◌∙◌, sym, append_assoc}
+use Rattle.std.proofs.Common.{◌≡◌, ◌≢◌, ℕ, ◌+◌, Bool, true, false, cond, suc, Bor, MatchOption, List, [], ◌∷◌, ◌++◌, length, get_or, map, find, codes, position, Option, Some, None, option_map, zero-add, arith, refl, ap, ◌∙◌, sym, append_assoc}
 use Rattle.std.specs.Str.{bytes_eq}
 use Rattle.std.specs.Option.{option_or}
 use Rattle.std.proofs.lemmas.List.Folds.{find-append}
@@ -8,8 +8,8 @@ use Rattle.std.proofs.lemmas.Slice.Eq.{bytes_eq-Decides}
 use Rattle.std.proofs.lemmas.Bool.{false_from_ne_true}
 use Rattle.std.proofs.lemmas.List.{append_cancel_left, append_cancel_right}
 use Rattle.std.proofs.lemmas.Iterator.Adapters.{position_from-zero}
-use Rattle.cube_core.specs.Layout.{spelling_of, spelled_with}
-use Rattle.cube_core.specs.SchemaDocument.{aggregate_spelled, aggregates_over}
+use Rattle.cube_core.specs.Layout.{spelling_of}
+use Rattle.cube_core.specs.SchemaDocument.{aggregate_spelled}
 use Rattle.cube_core.specs.declared.aggregate.Agg.{Agg}
 use Rattle.cube_core.specs.declared.aggregate.Agg.TheVariants.{CountAll, Count, Sum, Min, Max, Avg}
 
@@ -21,7 +21,7 @@ same_tests false true there back = back refl
 same_tests false false there back = refl
 
 -- a text is a name between an opening and a closing exactly where it's that name
-bytes_eq-between : (opening closing name text argument : List ℕ) → (opening ++ argument) ++ closing ≡ text → bytes_eq text ((opening ++ name) ++ closing) ≡ bytes_eq name argument
+pub bytes_eq-between : (opening closing name text argument : List ℕ) → (opening ++ argument) ++ closing ≡ text → bytes_eq text ((opening ++ name) ++ closing) ≡ bytes_eq name argument
 bytes_eq-between opening closing name text argument is =
     same_tests _ _
     (λ yes. (bytes_eq-Decides name argument).1 (append_cancel_left opening name argument (append_cancel_right _ _ closing (sym ((bytes_eq-Decides text ((opening ++ name) ++ closing)).0 yes) ∙ sym is))))

@@ -1,5 +1,5 @@
 -- CUBE: the cells of all grouping sets of a list of facts, each with its answers (Gray et al. 1997, section 3; the grand total over no facts is this project's choice).
-use Rattle.std.specs.Prelude.{◌≡◌, ◌==◌, ◌&&◌, ◌||◌, ◌↔◌, ℕ, Bool, IsTrue, List, length, map, Contains}
+use Rattle.std.specs.Prelude.{◌==◌, ◌&&◌, ◌||◌, ◌↔◌, ℕ, Bool, IsTrue, List, length, map, Contains}
 use Rattle.std.specs.List.{AllByRecursion, list_any, list_all}
 use Rattle.std.specs.List.Sorted.{IsStrictlySortedBy}
 use Rattle.cube_core.specs.Layout.{Layout}

@@ -20,3 +20,4 @@ pub mod LawsSets
 pub mod LawsKeys
 pub mod LawsCells
 pub mod LawsRollup
+pub mod LawsSchema

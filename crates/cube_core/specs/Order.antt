@@ -1,5 +1,4 @@
 -- Key order: coordinate by coordinate, texts by their bytes, then null, then ALL (this project's choice).
-use Rattle.std.specs.Prelude.{ℕ, List}
 use Rattle.std.specs.declared.cmp.Ordering.{Ordering}
 use Rattle.std.specs.declared.cmp.Ordering.TheVariants.{Less, Equal, Greater}
 use Rattle.std.specs.Ordering.{nat_cmp}

@@ -1,5 +1,5 @@
 -- The schema that a TOML document writes, and the faults of one that writes none (TOML 1.1; the keys, the limits and the order of the faults are this project's choice).
-use Rattle.std.specs.Prelude.{◌≡◌, ◌+◌, ◌<◌, ◌&&◌, ◌^◌, ℕ, pos, Bool, false, true, not, nat_lt, nat_le, is_some, if◌then◌else◌, List, [], ◌∷◌, ◌++◌, length, map, find, codes, Option, Some, None, option_and_then, option_map, unwrap_or, Result, Ok, Err, IsUtf8, ⊤}
+use Rattle.std.specs.Prelude.{◌≡◌, ◌&&◌, ◌^◌, ℕ, pos, Bool, false, true, not, nat_lt, nat_le, is_some, if◌then◌else◌, List, [], ◌∷◌, ◌++◌, length, map, find, codes, Option, Some, None, option_and_then, option_map, unwrap_or, Result, Ok, Err, IsUtf8, ⊤}
 use Rattle.std.specs.Str.{bytes_eq}
 use Rattle.std.specs.Option.{option_map_or}
 use Rattle.std.specs.List.{list_all, filter_map, range_with_len}

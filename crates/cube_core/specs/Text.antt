@@ -1,5 +1,5 @@
 -- The text of rows: a header line, then a line for each row, as CSV (RFC 4180 with line ends of one LF; GROUPING columns as in SQL:1999).
-use Rattle.std.specs.Prelude.{ℕ, ℤ, List, [], ◌∷◌, ◌++◌, map, codes, decimal}
+use Rattle.std.specs.Prelude.{ℕ, List, ◌++◌, map, codes, decimal}
 use Rattle.std.specs.Fmt.{signed_decimal}
 use Rattle.std.specs.List.{flat_map}
 use Rattle.csv.specs.Writing.{row_text, default_writer}

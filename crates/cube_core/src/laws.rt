@@ -7,5 +7,6 @@ pub mod keys;
 pub mod life;
 pub mod rollup;
 pub mod rows;
+pub mod schema;
 pub mod sets;
 pub mod text_back;

@@ -1,4 +1,4 @@
-use Rattle.std.proofs.Common.{◌≡◌, ◌++◌, rules, true, Some}
+use Rattle.std.proofs.Common.{◌≡◌, ◌++◌, rules, true}
 use Rattle.std.specs.List.{filter_map}
 use Rattle.toml.specs.View.{table_view}
 use Rattle.cube_core.specs.SchemaDocument.{is_some_up_to, are_lawful_names, dimensions_in, measures_in, spellings_in, aggregate_spelled, are_spellings}

@@ -1,0 +1,13 @@
+-- What the laws of the schema document speak of (this project's choice).
+use Rattle.std.specs.Prelude.{◌≡◌, true, codes, Some}
+use Rattle.toml.specs.Data.{Members}
+use Rattle.cube_core.specs.Layout.{Layout}
+use Rattle.cube_core.specs.SchemaDocument.{has_known_keys, texts_at, max_records_in}
+
+-- the document has no other keys than a schema's, and under each what the schema has there
+pub record Writes (document : Members) (s : Layout) : Type 0 where
+  pub known_keys : has_known_keys document ≡ true
+  pub dimensions : texts_at (codes "dimensions") document ≡ Some s.dimensions
+  pub measures : texts_at (codes "measures") document ≡ Some s.measures
+  pub aggregates : texts_at (codes "aggregates") document ≡ Some s.aggregate_texts
+  pub max_records : max_records_in document ≡ Some s.max_records
