@@ -7,3 +7,4 @@ pub mod StandSteps
 pub mod RowShapes
 pub mod Survival
 pub mod RunSteps
+mod CommandLineFacts

@@ -20,8 +20,8 @@ lives_of changes ids = map (λ id. life_of id changes) ids
 pub bytes_eq-flip : (a b : List ℕ) → bytes_eq a b ≡ false → bytes_eq b a ≡ false
 bytes_eq-flip a b apart = elim (cases_Bool (bytes_eq b a)) [
   | inl same ↦
-    let equal : b ≡ a = (bytes_eq-Decides b a).0 same in
-    absurd (true≢false (sym ((bytes_eq-Decides a b).1 (sym equal)) ∙ apart))
+      let equal : b ≡ a = (bytes_eq-Decides b a).0 same in
+      absurd (true≢false (sym ((bytes_eq-Decides a b).1 (sym equal)) ∙ apart))
   | inr other ↦ other
 ]
 
@@ -50,15 +50,16 @@ lives_of-other changes id fact (first ∷ ids) absent =
     let apart : bytes_eq first id ≡ false = bytes_eq-flip id first (or-first (bytes_eq id first) (list_any (bytes_eq id) ids) absent) in
     let here : life_of first (changes ++ Insert id fact ∷ []) ≡ life_of first changes = life_other first changes (Insert id fact) apart in
     let rest : lives_of (changes ++ Insert id fact ∷ []) ids ≡ lives_of changes ids =
-        lives_of-other changes id fact ids (or-second (bytes_eq id first) (list_any (bytes_eq id) ids) absent) in
+    lives_of-other changes id fact ids (or-second (bytes_eq id first) (list_any (bytes_eq id) ids) absent) in
     λ i. here i ∷ rest i
 
 -- an id that is in none of a list's places is apart from each
 pub all_apart : (id : List ℕ) (ids : List (List ℕ)) → list_any (bytes_eq id) ids ≡ false → AllByRecursion (λ other. bytes_eq other id ≡ false) ids
 all_apart id [] absent = tt
-all_apart id (first ∷ ids) absent =
-    (bytes_eq-flip id first (or-first (bytes_eq id first) (list_any (bytes_eq id) ids) absent)
-    , all_apart id ids (or-second (bytes_eq id first) (list_any (bytes_eq id) ids) absent))
+all_apart id (first ∷ ids) absent = (
+  bytes_eq-flip id first (or-first (bytes_eq id first) (list_any (bytes_eq id) ids) absent),
+  all_apart id ids (or-second (bytes_eq id first) (list_any (bytes_eq id) ids) absent),
+)
 
 AllByRecursion-push : {X : Type 0} (P : X → Type 0) (xs : List X) (x : X) → AllByRecursion P xs → P x → AllByRecursion P (xs ++ x ∷ [])
 AllByRecursion-push P [] x all last = (last, tt)
@@ -77,14 +78,14 @@ pub life_of-present : (changes : List Change) (id : List ℕ) (fact : Fact) → 
     → (other : List ℕ) → life_of other (changes ++ Insert id fact ∷ []) ≡ life_of other changes
 life_of-present changes id fact there other = elim (cases_Bool (bytes_eq other id)) [
   | inl same ↦
-    let equal : other ≡ id = (bytes_eq-Decides other id).0 same in
-    life_more other changes (Insert id fact) same ∙ stays (life_of other changes) (ap (λ r. is_some (life_of r changes)) equal ∙ there)
+      let equal : other ≡ id = (bytes_eq-Decides other id).0 same in
+      life_more other changes (Insert id fact) same ∙ stays (life_of other changes) (ap (λ r. is_some (life_of r changes)) equal ∙ there)
   | inr apart ↦ life_other other changes (Insert id fact) apart
 ]
   where
-  stays : (life : Option Fact) → is_some life ≡ true → life_after (Insert id fact) life ≡ life
-  stays None there' = absurd (true≢false (sym there'))
-  stays (Some present) there' = refl
+    stays : (life : Option Fact) → is_some life ≡ true → life_after (Insert id fact) life ≡ life
+    stays None there' = absurd (true≢false (sym there'))
+    stays (Some present) there' = refl
 
 -- after an insert of an id that was absent, that id is present beside those that were
 pub is_some-life_of-put : (changes : List Change) (id : List ℕ) (fact : Fact) (ids : List (List ℕ))
@@ -92,22 +93,22 @@ pub is_some-life_of-put : (changes : List Change) (id : List ℕ) (fact : Fact) 
     → (other : List ℕ) → is_some (life_of other (changes ++ Insert id fact ∷ [])) ≡ list_any (bytes_eq other) (ids ++ id ∷ [])
 is_some-life_of-put changes id fact ids present other = elim (cases_Bool (bytes_eq other id)) [
   | inl same ↦
-    ap is_some (life_more other changes (Insert id fact) same) ∙ put (life_of other changes)
-    ∙ sym (list_any-append (bytes_eq other) ids (id ∷ []) ∙ ap (λ b. list_any (bytes_eq other) ids || (b || false)) same ∙ or-true (list_any (bytes_eq other) ids))
+      ap is_some (life_more other changes (Insert id fact) same) ∙ put (life_of other changes)
+      ∙ sym (list_any-append (bytes_eq other) ids (id ∷ []) ∙ ap (λ b. list_any (bytes_eq other) ids || (b || false)) same ∙ or-true (list_any (bytes_eq other) ids))
   | inr apart ↦
-    ap is_some (life_other other changes (Insert id fact) apart) ∙ present other
-    ∙ sym (list_any-append (bytes_eq other) ids (id ∷ []) ∙ ap (λ b. list_any (bytes_eq other) ids || (b || false)) apart ∙ or-false (list_any (bytes_eq other) ids))
+      ap is_some (life_other other changes (Insert id fact) apart) ∙ present other
+      ∙ sym (list_any-append (bytes_eq other) ids (id ∷ []) ∙ ap (λ b. list_any (bytes_eq other) ids || (b || false)) apart ∙ or-false (list_any (bytes_eq other) ids))
 ]
   where
-  put : (life : Option Fact) → is_some (life_after (Insert id fact) life) ≡ true
-  put None = refl
-  put (Some fact') = refl
+    put : (life : Option Fact) → is_some (life_after (Insert id fact) life) ≡ true
+    put None = refl
+    put (Some fact') = refl
 
 -- after an insert of an id that was absent, its life is its fact
 pub life_of-put : (changes : List Change) (id : List ℕ) (fact : Fact) → is_some (life_of id changes) ≡ false
     → life_of id (changes ++ Insert id fact ∷ []) ≡ Some fact
 life_of-put changes id fact absent = life_more id changes (Insert id fact) (same_text id) ∙ put (life_of id changes) absent
   where
-  put : (life : Option Fact) → is_some life ≡ false → life_after (Insert id fact) life ≡ Some fact
-  put None absent' = refl
-  put (Some fact') absent' = absurd (true≢false absent')
+    put : (life : Option Fact) → is_some life ≡ false → life_after (Insert id fact) life ≡ Some fact
+    put None absent' = refl
+    put (Some fact') absent' = absurd (true≢false absent')

@@ -32,11 +32,11 @@ length-covering : (s : Layout) (key : Key) (facts : List Fact) → list_all (fit
 length-covering s key [] fit some = absurd (true≢false (sym some))
 length-covering s key (fact ∷ facts) fit some = elim (or_either (covers key fact) (list_any (covers key) facts) some) [
   | inl here ↦
-    length-all_stand_for key.coords fact.dims here
-    ∙ eqb-true (length fact.dims) (length s.dimensions)
-        (and_first (length fact.dims == length s.dimensions) (length fact.measures == length s.measures)
-            (and_first ((length fact.dims == length s.dimensions) && (length fact.measures == length s.measures)) (list_all is_dimension_value fact.dims)
-                (and_first (fits s fact) (list_all (fits s) facts) fit)))
+      length-all_stand_for key.coords fact.dims here
+      ∙ eqb-true (length fact.dims) (length s.dimensions)
+      (and_first (length fact.dims == length s.dimensions) (length fact.measures == length s.measures)
+      (and_first ((length fact.dims == length s.dimensions) && (length fact.measures == length s.measures)) (list_all is_dimension_value fact.dims)
+      (and_first (fits s fact) (list_all (fits s) facts) fit)))
   | inr later ↦ length-covering s key facts (and_second (fits s fact) (list_all (fits s) facts) fit) later
 ]
 
@@ -69,7 +69,7 @@ shapes s facts (row ∷ rows) keys answers =
 pub rows_have_shape : (s : Layout) (facts : List Fact) (rows : List Row) → list_all (fits s) facts ≡ true → AreRows s facts rows → All (HasShapeOf s) rows
 rows_have_shape s facts rows fit are =
     All-from_recursion (HasShapeOf s) rows
-        (shapes s facts rows
-            (AllByRecursion-from_Contains (λ (key : Key). length key.coords ≡ length s.dimensions) (map key_of rows)
-                (λ key among. length-cell s (all_sets (length s.dimensions)) facts key fit ((are.cells key).0 among)))
-            are.answers)
+    (shapes s facts rows
+    (AllByRecursion-from_Contains (λ (key : Key). length key.coords ≡ length s.dimensions) (map key_of rows)
+    (λ key among. length-cell s (all_sets (length s.dimensions)) facts key fit ((are.cells key).0 among)))
+    are.answers)

@@ -45,7 +45,7 @@ taken_none s start feed kept comes schema stands = record {
   done = [];
   schema = schema;
   stands = stands;
-  left = subst (λ (now : Option ToCome). LeftOf start [] now) (sym comes) (left-start start)
+  left = subst (λ (now : Option ToCome). LeftOf start [] now) (sym comes) (left-start start);
 }
 
 -- one item more
@@ -53,11 +53,12 @@ left-more : (start now next : Option ToCome) (done : List Item) (item : Item) �
     → LeftOf start (done ++ item ∷ []) next
 left-more None now next done item left gives = tt
 left-more (Some all) now next done item left gives =
-    let given : Gives (Some left.0) (Ok (Some item)) next = subst (λ (n : Option ToCome). Gives n (Ok (Some item)) next) left.1 gives in
-    ( given.0
-    , given.2
-    , left.2 ∙ ap (λ (t : ToCome). done ++ t.items) given.1 ∙ sym (append_assoc done (item ∷ []) given.0.items)
-    , left.3 ∙ ap (λ (t : ToCome). t.end) given.1)
+    let given : Gives (Some left.0) (Ok (Some item)) next = subst (λ (n : Option ToCome). Gives n (Ok (Some item)) next) left.1 gives in (
+      given.0,
+      given.2,
+      left.2 ∙ ap (λ (t : ToCome). done ++ t.items) given.1 ∙ sym (append_assoc done (item ∷ []) given.0.items),
+      left.3 ∙ ap (λ (t : ToCome). t.end) given.1,
+    )
 
 pub taken_more : (s : Layout) (start : Option ToCome) (feed next : FeedView) (kept new : Kept) (item : Item)
     → Gives feed.to_come (Ok (Some item)) next.to_come → new.schema ≡ kept.schema
@@ -67,7 +68,7 @@ taken_more s start feed next kept new item gives schema stands taken = record {
   done = taken.done ++ item ∷ [];
   schema = schema ∙ taken.schema;
   stands = subst (λ (items : List Item). StandsAt new items) (sym (map-append as_insert taken.done (item ∷ []))) (stands (inserts_only taken.done) taken.stands);
-  left = left-more start feed.to_come next.to_come taken.done item taken.left gives
+  left = left-more start feed.to_come next.to_come taken.done item taken.left gives;
 }
 
 -- a feed with no fault at its end is good
@@ -81,9 +82,10 @@ items-all : (s : Layout) (bytes : Option (List ℕ)) (now : Option ToCome) (done
     → AreItemsOf s bytes done
 items-all s None now done next left gives = tt
 items-all s (Some bytes) now done next left gives =
-    let ended : left.0 ≡ nothing_but None = subst (λ (n : Option ToCome). Gives n (Ok None) next) left.1 gives in
-    ( sym (left.2 ∙ ap (λ (t : ToCome). done ++ t.items) ended ∙ append-nil done)
-    , good_from_none (items_of s (records_of bytes)).end (left.3 ∙ ap (λ (t : ToCome). t.end) ended))
+    let ended : left.0 ≡ nothing_but None = subst (λ (n : Option ToCome). Gives n (Ok None) next) left.1 gives in (
+      sym (left.2 ∙ ap (λ (t : ToCome). done ++ t.items) ended ∙ append-nil done),
+      good_from_none (items_of s (records_of bytes)).end (left.3 ∙ ap (λ (t : ToCome). t.end) ended),
+    )
 
 pub taken_all : (s : Layout) (bytes : Option (List ℕ)) (feed next : FeedView) (kept : Kept) → Gives feed.to_come (Ok None) next.to_come
     → HasTaken s (start_of s bytes) feed kept → BuildsFeed s bytes kept
@@ -91,7 +93,7 @@ taken_all s bytes feed next kept gives taken = record {
   items = taken.done;
   are_items = items-all s bytes feed.to_come taken.done next.to_come taken.left gives;
   schema = taken.schema;
-  stands = taken.stands
+  stands = taken.stands;
 }
 
 -- the end of a feed tells the fault that it answers
@@ -139,7 +141,7 @@ runs_feed s bytes kept text old new built printed written = record {
   are_items = built.are_items;
   schema = built.schema;
   stands = built.stands;
-  prints = record { facts = kept.facts; survive = survive s bytes kept built; text = text; printed = printed; written = written }
+  prints = record { facts = kept.facts; survive = survive s bytes kept built; text = text; printed = printed; written = written };
 }
 
 -- a run that wrote the first bytes of the text
@@ -148,5 +150,5 @@ pub writes_part : (s : Layout) (bytes : Option (List ℕ)) (kept : Kept) (text :
 writes_part s bytes kept text sent old new built printed within written = record {
   items = built.items;
   are_items = built.are_items;
-  prints = record { facts = kept.facts; survive = survive s bytes kept built; text = text; printed = printed; within = within; written = written }
+  prints = record { facts = kept.facts; survive = survive s bytes kept built; text = text; printed = printed; within = within; written = written };
 }

@@ -49,13 +49,13 @@ pub stands_refused : (kept : Kept) (items : List Item) (number code : ℕ) (what
 stands_refused kept items number code what untaken is stands =
     let s : Layout = kept.schema in
     let same : changes_of s (items ++ item_of number what ∷ []) ≡ changes_of s items =
-        changes_of-more s items (item_of number what) ∙ ap (λ (o : Option Change). changes_of s items ++ cons_option o []) untaken ∙ append-nil (changes_of s items) in
+    changes_of-more s items (item_of number what) ∙ ap (λ (o : Option Change). changes_of s items ++ cons_option o []) untaken ∙ append-nil (changes_of s items) in
     record {
       each_once = stands.each_once;
       present = λ id. ap (λ (cs : List Change). is_some (life_of id cs)) same ∙ stands.present id;
       facts_are_theirs = stands.facts_are_theirs ∙ ap (λ (cs : List Change). lives_of cs kept.ids) (sym same);
       all_fit = stands.all_fit;
-      refused = ap (λ (rs : List Refusal). rs ++ refusal number code ∷ []) stands.refused ∙ sym (refusals-refused s items number code what is)
+      refused = ap (λ (rs : List Refusal). rs ++ refusal number code ∷ []) stands.refused ∙ sym (refusals-refused s items number code what is);
     }
 
 -- the code of an insert that is taken is that of its presence
@@ -81,19 +81,19 @@ stands_present kept items number id fact taken there stands =
     let more : changes_of s (items ++ item_of number (Ok (Insert id fact)) ∷ []) ≡ before ++ Insert id fact ∷ [] = changes-taken s items number id fact taken in
     let lives : is_some (life_of id before) ≡ true = stands.present id ∙ there in
     let same : (other : List ℕ) → life_of other (changes_of s (items ++ item_of number (Ok (Insert id fact)) ∷ [])) ≡ life_of other before =
-        λ other. ap (λ (cs : List Change). life_of other cs) more ∙ life_of-present before id fact lives other in
+    λ other. ap (λ (cs : List Change). life_of other cs) more ∙ life_of-present before id fact lives other in
     record {
       each_once = stands.each_once;
       present = λ other. ap is_some (same other) ∙ stands.present other;
       facts_are_theirs = stands.facts_are_theirs ∙ map-same (λ other. sym (same other)) kept.ids;
       all_fit = stands.all_fit;
       refused = ap (λ (rs : List Refusal). rs ++ refusal number present_code ∷ []) stands.refused
-        ∙ sym (refusals-refused s items number present_code (Ok (Insert id fact)) (code_of-taken s items id fact taken ∙ ap (λ b. if b then Some present_code else None) lives))
+          ∙ sym (refusals-refused s items number present_code (Ok (Insert id fact)) (code_of-taken s items id fact taken ∙ ap (λ b. if b then Some present_code else None) lives));
     }
   where
-  map-same : {f g : List ℕ → Option Fact} → ((id' : List ℕ) → f id' ≡ g id') → (ids : List (List ℕ)) → map f ids ≡ map g ids
-  map-same same [] = refl
-  map-same same (id' ∷ ids) = λ i. same id' i ∷ map-same same ids i
+    map-same : {f g : List ℕ → Option Fact} → ((id' : List ℕ) → f id' ≡ g id') → (ids : List (List ℕ)) → map f ids ≡ map g ids
+    map-same same [] = refl
+    map-same same (id' ∷ ids) = λ i. same id' i ∷ map-same same ids i
 
 -- an insert of an id that is absent puts its fact
 pub stands_put : (kept : Kept) (items : List Item) (number : ℕ) (id : List ℕ) (fact : Fact)
@@ -109,13 +109,13 @@ stands_put kept items number id fact taken absent stands =
       each_once = IsDistinct-push kept.ids id stands.each_once (all_apart id kept.ids absent);
       present = λ other. ap (λ (cs : List Change). is_some (life_of other cs)) more ∙ is_some-life_of-put before id fact kept.ids stands.present other;
       facts_are_theirs =
-        map-append Some kept.facts (fact ∷ [])
-        ∙ (λ i. (stands.facts_are_theirs ∙ sym (lives_of-other before id fact kept.ids absent)) i ++ sym (life_of-put before id fact lifeless) i ∷ [])
-        ∙ sym (map-append (λ other. life_of other after) kept.ids (id ∷ []))
-        ∙ ap (λ (cs : List Change). lives_of cs (kept.ids ++ id ∷ [])) (sym more);
+          map-append Some kept.facts (fact ∷ [])
+          ∙ (λ i. (stands.facts_are_theirs ∙ sym (lives_of-other before id fact kept.ids absent)) i ++ sym (life_of-put before id fact lifeless) i ∷ [])
+          ∙ sym (map-append (λ other. life_of other after) kept.ids (id ∷ []))
+          ∙ ap (λ (cs : List Change). lives_of cs (kept.ids ++ id ∷ [])) (sym more);
       all_fit = list_all-append (fits s) kept.facts (fact ∷ []) ∙ (λ i. stands.all_fit i && (and_second (is_id id) (fits s fact) taken i && true));
       refused = stands.refused
-        ∙ sym (refusals-taken s items number (Ok (Insert id fact)) (code_of-taken s items id fact taken ∙ ap (λ b. if b then Some present_code else None) lifeless))
+          ∙ sym (refusals-taken s items number (Ok (Insert id fact)) (code_of-taken s items id fact taken ∙ ap (λ b. if b then Some present_code else None) lifeless));
     }
 
 -- a builder that has taken nothing stands at no item
@@ -128,8 +128,8 @@ pub stands_shape : (kept : Kept) (items : List Item) (number : ℕ) (id : List �
     → StandsAt kept items → StandsAt (with_refusal kept number shape_code) (items ++ item_of number (Ok (Insert id fact)) ∷ [])
 stands_shape kept items number id fact untaken =
     stands_refused kept items number shape_code (Ok (Insert id fact))
-        (ap (λ b. if b then Some (Insert id fact) else None) untaken)
-        (ap (λ b. if not b then Some shape_code else code_by_presence (Insert id fact) (is_some (life_of id (changes_of kept.schema items)))) untaken)
+    (ap (λ b. if b then Some (Insert id fact) else None) untaken)
+    (ap (λ b. if not b then Some shape_code else code_by_presence (Insert id fact) (is_some (life_of id (changes_of kept.schema items)))) untaken)
 
 -- a record that spells no change is refused with the code of its fault
 pub stands_fault : (kept : Kept) (items : List Item) (number : ℕ) (fault : LineFault)
@@ -149,8 +149,8 @@ stands_noted kept new items item fault code is coded noted stands =
     let kept_is : with_refusal kept item.number (code_of_fault fault) ≡ new = sym (is ∙ ap (with_refusal kept item.number) coded) in
     let item_is : item_of item.number (Err fault) ≡ as_insert item = ap (item_of item.number) (sym noted) in
     subst (λ (k : Kept). StandsAt k (items ++ as_insert item ∷ [])) kept_is
-        (subst (λ (x : Item). StandsAt (with_refusal kept item.number (code_of_fault fault)) (items ++ x ∷ [])) item_is
-            (stands_fault kept items item.number fault stands))
+    (subst (λ (x : Item). StandsAt (with_refusal kept item.number (code_of_fault fault)) (items ++ x ∷ [])) item_is
+    (stands_fault kept items item.number fault stands))
 
 -- a builder whose parts are empty stands at no item
 pub stands_empty : (kept : Kept) → kept.ids ≡ [] → kept.facts ≡ [] → kept.refusals ≡ [] → StandsAt kept []

@@ -17,8 +17,9 @@ pub survive_from_stands : (kept : Kept) (items : List Item) → StandsAt kept it
 survive_from_stands kept items stands = record {
   ids = kept.ids;
   each_once = stands.each_once;
-  present = λ id.
-    ( λ there. Contains-from_any (λ x y same. (bytes_eq-Decides x y).0 same) id kept.ids (sym (stands.present id) ∙ there)
-    , λ among. stands.present id ∙ list_any-from_Contains nat_list_eq_equiv id kept.ids among);
-  facts_are_theirs = stands.facts_are_theirs
+  present = λ id. (
+    λ there. Contains-from_any (λ x y same. (bytes_eq-Decides x y).0 same) id kept.ids (sym (stands.present id) ∙ there),
+    λ among. stands.present id ∙ list_any-from_Contains nat_list_eq_equiv id kept.ids among,
+  );
+  facts_are_theirs = stands.facts_are_theirs;
 }

@@ -3,3 +3,5 @@ pub mod Shape
 pub mod InsertsOnly
 pub mod Kept
 pub mod Run
+pub mod CommandLine
+pub mod Command

@@ -37,10 +37,10 @@ impl Model for Builder {
     ghost Value = { Kept };
 
     ghost view = { λ b. record {
-        schema = b.schema;
-        ids = map string_bytes b.ids.keys;
-        facts = b.facts.items;
-        refusals = b.refusals.items
+      schema = b.schema;
+      ids = map string_bytes b.ids.keys;
+      facts = b.facts.items;
+      refusals = b.refusals.items;
     } };
 }
 

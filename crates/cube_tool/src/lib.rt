@@ -2,6 +2,7 @@
 #![tactic(auto)]
 
 mod builder;
+pub mod command;
 mod fault;
 mod lines;
 mod print;

@@ -12,6 +12,6 @@ returns-in-Ok-None-clause-ok g c =
 pub loop-item-preserved : goal.loop-item-preserved
 loop-item-preserved g c =
     taken_more _ _ _ c.next.new.self _ _ c.in-Ok-Some.item (rw c.in-Ok-Some.field-0-is at c.in-Ok-Some.ensures.gives)
-        c.apply.ensures.schema
-        (on_ok_holds c.apply.result _ (sym c.is_err.ensures.value ∙ c.if-is_err.false) c.apply.ensures.stands)
-        c.loop-item.invariant
+    c.apply.ensures.schema
+    (on_ok_holds c.apply.result _ (sym c.is_err.ensures.value ∙ c.if-is_err.false) c.apply.ensures.stands)
+    c.loop-item.invariant

@@ -11,8 +11,8 @@ use Rattle.cube_tool.proofs.builder.Builder.insert.Goals as goal
 pub returns-then-not-takes-clause-stands : goal.returns-then-not-takes-clause-stands
 returns-then-not-takes-clause-stands c =
     on_ok_weaker c.refuse.result
-        (λ same items stands. rw same (stands_shape _ items _ _ _ (sym c.takes.ensures ∙ c.if-not-takes.true) stands))
-        c.refuse.ensures.ok
+    (λ same items stands. rw same (stands_shape _ items _ _ _ (sym c.takes.ensures ∙ c.if-not-takes.true) stands))
+    c.refuse.ensures.ok
 
 pub returns-then-branch-clause-stands : goal.returns-then-branch-clause-stands
 returns-then-branch-clause-stands c = λ items stands.
@@ -25,8 +25,8 @@ returns-else-branch-clause-stands c =
     let stayed : c.put.new.self ≡ c.args.self.now = rw c.if-branch.false at c.in_ok-put.ensures.ok in
     let there : list_any (bytes_eq c.args.id) c.args.self.now.ids ≡ true = not_flips _ _ c.in_ok-put.ensures.answer ∙ ap not c.if-branch.false in
     on_ok_weaker c.refuse-else-branch.result
-        (λ same items stands.
-            subst (λ (kept : Kept). StandsAt kept (items ++ item_of c.args.number (Ok (Insert c.args.id c.args.fact)) ∷ []))
-                (sym (same ∙ ap (λ (kept : Kept). with_refusal kept c.args.number present_code) stayed))
-                (stands_present _ items _ _ _ (sym c.takes.ensures ∙ c.if-not-takes.false) there stands))
-        c.refuse-else-branch.ensures.ok
+    (λ same items stands.
+    subst (λ (kept : Kept). StandsAt kept (items ++ item_of c.args.number (Ok (Insert c.args.id c.args.fact)) ∷ []))
+    (sym (same ∙ ap (λ (kept : Kept). with_refusal kept c.args.number present_code) stayed))
+    (stands_present _ items _ _ _ (sym c.takes.ensures ∙ c.if-not-takes.false) there stands))
+    c.refuse-else-branch.ensures.ok

@@ -1,0 +1,17 @@
+//! What the program does, as calls over words, readers and writers.
+//!
+//! [`read_words`] tells what the words of a command line ask for. Each command is one call, which gives the
+//! [`Status`] to end with, or a [`Failure`], whose text is the line for standard error.
+
+mod failure;
+mod sample;
+mod status;
+mod words;
+
+pub use failure::Failure;
+pub use sample::run_sample;
+pub use status::Status;
+pub use words::{Request, answer_words, read_words, unreadable_words};
+
+#[cfg(test)]
+mod tests;

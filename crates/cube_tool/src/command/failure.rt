@@ -1,0 +1,48 @@
+//! Why a command failed.
+ghost use Rattle.std.specs.Prelude.{◌≡◌};
+ghost use Rattle.cube_tool.specs.Command.{status_of};
+
+use crate::command::status::Status;
+use crate::fault::RunFault;
+use std::fmt;
+
+/// Why a command failed. Its text is the line for standard error, without the line end.
+#[derive(Clone, Copy, Debug, PartialEq, Eq)]
+pub enum Failure {
+    /// Memory ran out before the sample schema was made.
+    NoSchema,
+    /// The run failed, or its text couldn't be written.
+    Run(RunFault),
+}
+
+impl Failure {
+    /// The status that the program ends with.
+    pub fn status(self) -> Status
+        ensures { result ≡ status_of self }
+    {
+        match self {
+            Failure::NoSchema => Status::WrongSchema,
+            Failure::Run(_) => Status::Failed,
+        }
+    }
+}
+
+impl fmt::Display for Failure {
+    fn fmt<W: fmt::Write>(&self, f: &mut fmt::Formatter<W>) -> fmt::Result {
+        f.write_str("datacube: ")?;
+        match self {
+            Failure::NoSchema => f.write_str("S1"),
+            Failure::Run(fault) => write_run_fault(*fault, f),
+        }
+    }
+}
+
+/// Writes a fault's code, and behind it what tells where: a source with its feed's code, or a number of bytes.
+fn write_run_fault<W: fmt::Write>(fault: RunFault, f: &mut fmt::Formatter<W>) -> fmt::Result {
+    match fault {
+        RunFault::Feed { source, fault: why } => write!(f, "{fault} {source} {why}"),
+        RunFault::Unsealed { source } => write!(f, "{fault} {source}"),
+        RunFault::Write { sent } => write!(f, "{fault} {sent}"),
+        RunFault::Memory | RunFault::NoThread | RunFault::Full => write!(f, "{fault}"),
+    }
+}

@@ -1,0 +1,254 @@
+//! What each command ends with and prints, by its library call.
+
+use super::*;
+use crate::fault::RunFault;
+use cube_feed::FeedFault;
+use std::alloc::Global;
+use std::io;
+use std::io::{Read, Write};
+use std::test::Fail;
+
+// The sample feed of one insert.
+const FEED: &[u8] = b"op,id,region,kind,amount\nI,1,west,a,5\n";
+
+// Its printed cube.
+const CUBE: &str = "\
+region,kind,grouping(region),grouping(kind),count(*),sum(amount),min(amount),max(amount),avg(amount)
+west,a,0,0,1,5,5,5,5/1
+west,\\N,0,1,1,5,5,5,5/1
+\\N,a,1,0,1,5,5,5,5/1
+\\N,\\N,1,1,1,5,5,5,5/1
+";
+
+// A writer that takes some bytes and then fails.
+#[derive(Drop)]
+struct Narrow {
+    taken: Vec<u8>,
+    room: usize,
+}
+
+impl Write for Narrow {
+    fn write(&mut self, bytes: &[u8]) -> io::Result<usize> {
+        let room = self.room.saturating_sub(self.taken.len());
+        if room == 0 {
+            return Err(io::Error::from(io::ErrorKind::BrokenPipe));
+        }
+        let count = bytes.len().min(room);
+        self.taken.extend_from_slice(&bytes[..count])?;
+        Ok(count)
+    }
+
+    fn flush(&mut self) -> io::Result<()> {
+        Ok(())
+    }
+}
+
+fn writer_of(alloc: Global, room: usize) -> Narrow {
+    Narrow {
+        taken: Vec::new(alloc),
+        room,
+    }
+}
+
+// A reader that always fails.
+#[derive(Drop)]
+struct Broken;
+
+impl Read for Broken {
+    fn read(&mut self, _bytes: &mut [u8]) -> io::Result<usize> {
+        Err(io::Error::from(io::ErrorKind::PermissionDenied))
+    }
+}
+
+// The text of a failure.
+fn line(alloc: Global, failure: Failure) -> Result<String, Fail> {
+    Ok(failure.to_string(alloc)?)
+}
+
+#[test]
+fn the_sample_run_prints_the_cube(rt: HostRuntime) -> Result<(), Fail> {
+    let mut out = Vec::new(rt.alloc());
+    assert_eq!(rt; run_sample(rt.alloc(), FEED, &mut out), Ok(Status::Done));
+    assert_eq!(rt; out.as_slice(), CUBE.as_bytes());
+    Ok(())
+}
+
+#[test]
+fn a_refused_line_is_told_by_the_status_alone(rt: HostRuntime) -> Result<(), Fail> {
+    let feed = b"op,id,region,kind,amount\nI,1,west,a,5\nI,1,east,b,7\n".as_slice();
+    let mut out = Vec::new(rt.alloc());
+    assert_eq!(rt;
+        run_sample(rt.alloc(), feed, &mut out),
+        Ok(Status::LinesRefused)
+    );
+    assert_eq!(rt; out.as_slice(), CUBE.as_bytes());
+    Ok(())
+}
+
+#[test]
+fn a_wrong_header_fails_with_nothing_written(rt: HostRuntime) -> Result<(), Fail> {
+    let mut out = Vec::new(rt.alloc());
+    let fault = RunFault::Feed {
+        source: 1,
+        fault: FeedFault::Header,
+    };
+    assert_eq!(rt;
+        run_sample(rt.alloc(), b"id,op\n".as_slice(), &mut out),
+        Err(Failure::Run(fault))
+    );
+    assert_eq!(rt; out.as_slice().len(), 0);
+    assert_eq!(rt;
+        line(rt.alloc(), Failure::Run(fault))?.as_str(),
+        "datacube: G3 1 F3"
+    );
+    Ok(())
+}
+
+#[test]
+fn a_broken_reader_fails_with_nothing_written(rt: HostRuntime) -> Result<(), Fail> {
+    let mut out = Vec::new(rt.alloc());
+    let fault = RunFault::Feed {
+        source: 1,
+        fault: FeedFault::Read,
+    };
+    assert_eq!(rt;
+        run_sample(rt.alloc(), Broken, &mut out),
+        Err(Failure::Run(fault))
+    );
+    assert_eq!(rt; out.as_slice().len(), 0);
+    assert_eq!(rt;
+        line(rt.alloc(), Failure::Run(fault))?.as_str(),
+        "datacube: G3 1 F2"
+    );
+    Ok(())
+}
+
+#[test]
+fn a_full_writer_fails_with_the_number_of_bytes(rt: HostRuntime) -> Result<(), Fail> {
+    let mut out = writer_of(rt.alloc(), 10);
+    let fault = RunFault::Write { sent: 10 };
+    assert_eq!(rt;
+        run_sample(rt.alloc(), FEED, &mut out),
+        Err(Failure::Run(fault))
+    );
+    assert_eq!(rt; out.taken.as_slice(), b"region,kin".as_slice());
+    assert_eq!(rt;
+        line(rt.alloc(), Failure::Run(fault))?.as_str(),
+        "datacube: G6 10"
+    );
+    Ok(())
+}
+
+#[test]
+fn each_failure_has_its_line_and_status(rt: HostRuntime) -> Result<(), Fail> {
+    let feed = RunFault::Feed {
+        source: 1,
+        fault: FeedFault::TooMany,
+    };
+    let table = [
+        (Failure::NoSchema, "datacube: S1", 3),
+        (Failure::Run(RunFault::Memory), "datacube: G1", 1),
+        (Failure::Run(RunFault::NoThread), "datacube: G2", 1),
+        (Failure::Run(feed), "datacube: G3 1 F4", 1),
+        (Failure::Run(RunFault::Full), "datacube: G4", 1),
+        (
+            Failure::Run(RunFault::Unsealed { source: 2 }),
+            "datacube: G5 2",
+            1,
+        ),
+        (
+            Failure::Run(RunFault::Write { sent: 0 }),
+            "datacube: G6 0",
+            1,
+        ),
+    ];
+    for (failure, text, code) in table {
+        assert_eq!(rt; line(rt.alloc(), failure)?.as_str(), text);
+        assert_eq!(rt; failure.status().code(), code, "{text}");
+    }
+    Ok(())
+}
+
+#[test]
+fn each_status_has_its_number(rt: HostRuntime) {
+    assert_eq!(rt; Status::Done.code(), 0);
+    assert_eq!(rt; Status::Failed.code(), 1);
+    assert_eq!(rt; Status::WrongWords.code(), 2);
+    assert_eq!(rt; Status::WrongSchema.code(), 3);
+    assert_eq!(rt; Status::LinesRefused.code(), 4);
+}
+
+#[test]
+fn no_words_ask_for_the_sample_run(rt: HostRuntime) -> Result<(), Fail> {
+    assert_eq!(rt; read_words(rt.alloc(), &["datacube"])?, Request::Sample);
+    assert_eq!(rt; read_words(rt.alloc(), &[""])?, Request::Sample);
+    let none: [&str; 0] = [];
+    assert_eq!(rt; read_words(rt.alloc(), &none)?, Request::Sample);
+    Ok(())
+}
+
+// What a command line is answered with: the status, and the texts on the two outputs.
+fn answer(alloc: Global, words: &[&str]) -> Result<(Status, String, String), Fail> {
+    let Err(error) = read_words(alloc, words) else {
+        return Err(Fail::from("the words were taken"));
+    };
+    let mut out = Vec::new(alloc);
+    let mut err = Vec::new(alloc);
+    let status = answer_words(alloc, &error, &mut out, &mut err)?;
+    Ok((status, String::from_utf8(out)?, String::from_utf8(err)?))
+}
+
+#[test]
+fn an_unknown_word_is_refused_on_standard_error(rt: HostRuntime) -> Result<(), Fail> {
+    for word in ["chek", "help", "--version", "-V", ""] {
+        let (status, out, err) = answer(rt.alloc(), &["datacube", word])?;
+        assert_eq!(rt; status, Status::WrongWords, "{word}");
+        assert_eq!(rt; out.as_str(), "", "{word}");
+        assert!(rt; err.as_str().starts_with("error: "), "{word}: {err}");
+        assert!(rt; err.as_str().contains("Usage: datacube"), "{word}: {err}");
+    }
+    Ok(())
+}
+
+#[test]
+fn help_goes_to_standard_output(rt: HostRuntime) -> Result<(), Fail> {
+    for word in ["--help", "-h"] {
+        let (status, out, err) = answer(rt.alloc(), &["datacube", word])?;
+        assert_eq!(rt; status, Status::Done);
+        assert_eq!(rt; err.as_str(), "");
+        assert!(rt; out.as_str().starts_with("Prints the data cube"), "{out}");
+        assert!(rt; out.as_str().contains("docs/FORMATS.md"), "{out}");
+        assert!(rt; !out.as_str().contains("help subcommand"), "{out}");
+    }
+    Ok(())
+}
+
+#[test]
+fn help_that_cannot_be_written_fails(rt: HostRuntime) -> Result<(), Fail> {
+    let Err(error) = read_words(rt.alloc(), &["datacube", "--help"]) else {
+        return Err(Fail::from("the words were taken"));
+    };
+    let mut out = writer_of(rt.alloc(), 6);
+    let mut err = Vec::new(rt.alloc());
+    assert_eq!(rt;
+        answer_words(rt.alloc(), &error, &mut out, &mut err),
+        Err(Failure::Run(RunFault::Write { sent: 6 }))
+    );
+    assert_eq!(rt; out.taken.as_slice(), b"Prints".as_slice());
+    Ok(())
+}
+
+#[test]
+fn words_that_are_not_text_are_refused(rt: HostRuntime) -> Result<(), Fail> {
+    let error = unreadable_words(rt.alloc(), &io::Error::from(io::ErrorKind::InvalidData));
+    let mut out = Vec::new(rt.alloc());
+    let mut err = Vec::new(rt.alloc());
+    assert_eq!(rt;
+        answer_words(rt.alloc(), &error, &mut out, &mut err),
+        Ok(Status::WrongWords)
+    );
+    assert_eq!(rt; out.as_slice().len(), 0);
+    let text = String::from_utf8(err)?;
+    assert!(rt; text.as_str().starts_with("error: invalid UTF-8"), "{text}");
+    Ok(())
+}
