@@ -106,6 +106,59 @@ fn a_reader_that_fails_inside_a_record_is_the_fault_of_its_source(
     Ok(())
 }
 
+/// A reader that gives one byte a call, and fails in place of the call numbered `failing` from 0.
+#[derive(Drop)]
+struct Dripping<'a> {
+    bytes: &'a [u8],
+    calls: usize,
+    failing: usize,
+}
+
+impl<'a> Read for Dripping<'a> {
+    fn read(&mut self, buf: &mut [u8]) -> io::Result<usize> {
+        let call = self.calls;
+        self.calls = call.saturating_add(1);
+        if call == self.failing {
+            return Err(io::Error::from(io::ErrorKind::BrokenPipe));
+        }
+        let count = buf.len().min(self.bytes.len()).min(1);
+        let (piece, rest) = self.bytes.split_at(count);
+        buf[..count].copy_from_slice(piece);
+        self.bytes = rest;
+        Ok(count)
+    }
+}
+
+#[test]
+fn each_read_that_fails_is_the_fault_of_its_source_and_writes_nothing(
+    rt: HostRuntime,
+) -> Result<(), Fail> {
+    let alloc = rt.alloc();
+    let feed = feed_of(alloc, "D,1\nI,2,w,a,1\nI,2,w,a,3\nU,9,w,a,1\n")?;
+    for failing in 0..feed.len() {
+        let mut out = Full {
+            taken: Vec::new(alloc),
+            room: 1000,
+        };
+        let reader = Dripping {
+            bytes: feed.as_bytes(),
+            calls: 0,
+            failing,
+        };
+        let fault = outcome_over(alloc, reader, &mut out)?.ok_or("the run went well")?;
+        assert_eq!(rt;
+            fault,
+            RunFault::Feed {
+                source: 1,
+                fault: FeedFault::Read
+            },
+            "of call {failing}"
+        );
+        assert!(rt; out.taken.is_empty(), "of call {failing}");
+    }
+    Ok(())
+}
+
 #[test]
 fn each_fault_of_a_run_shows_its_code(rt: HostRuntime) -> Result<(), Fail> {
     let faults = [

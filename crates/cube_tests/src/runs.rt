@@ -152,7 +152,7 @@ fn each_line_fault_is_refused_with_its_own_code(rt: HostRuntime) -> Result<(), F
         rt.alloc(),
         b"op,id,region,kind,amount\nX,1,w,a\nI,1,w,a\nI,1,w,\xFF,1\n",
     )?;
-    feed.extend_from_slice(b"I,,w,a,1.5\nI,1,w,a,1.5\ni,1,w,a,1\nD,1,w\nI,1,w,a,+\n")?;
+    feed.extend_from_slice(b"I,,w,a,1.5\nI,1,w,a,1.5\ni,1,w,a,1\nD,1,w\nD,9,x,y,z\nI,1,w,a,+\n")?;
     let (rows, refusals) = rows_over(rt.alloc(), &feed)?;
     assert_eq!(rt;
         refusals.as_slice(),
@@ -164,7 +164,9 @@ fn each_line_fault_is_refused_with_its_own_code(rt: HostRuntime) -> Result<(), F
             (5, 5),
             (6, 1),
             (7, 2),
-            (8, 5)
+            // a delete, which counts as the fault of its operation until there are books
+            (8, 1),
+            (9, 5)
         ]
         .as_slice()
     );
@@ -222,5 +224,43 @@ fn a_feed_cut_anywhere_is_refused_or_read_as_far_as_it_goes(rt: HostRuntime) -> 
             "of {length}"
         );
     }
+    Ok(())
+}
+
+#[test]
+fn a_record_too_many_is_the_fault_of_the_feed(rt: HostRuntime) -> Result<(), Fail> {
+    let alloc = rt.alloc();
+    let document =
+        b"dimensions = [\"region\", \"kind\"]\nmeasures = [\"amount\"]\naggregates = [\"count(*)\"]\nmax_records = 2\n";
+    let schema = Schema::from_toml(alloc, document)?;
+    let feed = feed_of(alloc, "I,1,w,a,1\nI,2,w,a,1\nI,3,w,a,1\n")?;
+    let mut out = Vec::new(alloc);
+    let outcome = run_plain(alloc, &schema, vec![in alloc; feed.as_bytes()]?, &mut out);
+    assert_eq!(rt;
+        outcome.err(),
+        Some(RunFault::Feed {
+            source: 1,
+            fault: FeedFault::TooMany
+        })
+    );
+    assert!(rt; out.is_empty());
+    let feed = feed_of(alloc, "I,1,w,a,1\nI,2,w,a,1\n\n\n")?;
+    let builder = run_plain(alloc, &schema, vec![in alloc; feed.as_bytes()]?, &mut out)?;
+    assert_eq!(rt; builder.facts(), 2);
+    Ok(())
+}
+
+#[test]
+fn bytes_that_are_no_feed_are_refused_in_their_own_way(rt: HostRuntime) -> Result<(), Fail> {
+    let fault = fault_over(rt.alloc(), b"\xFF")?;
+    assert_eq!(rt;
+        fault,
+        RunFault::Feed {
+            source: 1,
+            fault: FeedFault::Header
+        }
+    );
+    let (_, refusals) = rows_of(rt.alloc(), "I,1,\"w,a,5\n")?;
+    assert_eq!(rt; refusals.as_slice(), [(1, 2)].as_slice());
     Ok(())
 }
