@@ -1,11 +1,12 @@
 -- The fields of a record, one by one and in parts.
-use Rattle.std.proofs.Common.{◌≡◌, ◌<◌, ◌≤◌, ◌+◌, ◌-◌, ℕ, Bool, true, false, List, [], ◌∷◌, ◌++◌, append_assoc, ℤ, length, get_or, take, drop, map, Option, Some, None, refl, sym, ap, ◌∙◌, arith, rules, add-one, drop-cons}
-use Rattle.std.specs.Prelude.{◌&&◌, zero, suc, option_map, slice_range, IsUtf8}
-use Rattle.std.specs.Str.{is_utf8}
+use Rattle.std.proofs.Common.{◌≡◌, ◌<◌, ◌≤◌, ◌+◌, ◌-◌, ℕ, Bool, true, false, List, [], ◌∷◌, ◌++◌, append_assoc, ℤ, length, get_or, drop, map, Option, Some, None, refl, sym, arith, add-one, drop-cons}
+use Rattle.std.specs.Prelude.{zero, suc, slice_range, IsUtf8}
+use Rattle.std.specs.Str.{is_utf8, IsAscii}
 use Rattle.std.specs.List.{list_all, filter_map}
 use Rattle.cube_core.specs.Items.{dimension_of, measure_of}
 use Rattle.cube_feed.specs.Lines.{is_sound_measure}
-use Rattle.std.proofs.lemmas.Str.{IsUtf8-from_is_utf8, is_utf8-from_IsUtf8}
+use Rattle.std.proofs.lemmas.Str.{IsUtf8-from_is_utf8, IsUtf8-from_ascii, IsAscii-take, IsAscii-drop}
+use Rattle.std.proofs.lemmas.Bool.{and_left, and_right}
 use Rattle.csv.specs.Records as csv
 
 -- a text that isn't UTF-8, as a test
@@ -42,15 +43,14 @@ pub part_nil : (fields : List (List ℕ)) (place end : ℕ) → end ≤ place �
 part_nil fields place end h = let none : end - place ≡ 0 = omega arith in rw none refl
 
 -- one more value of a dimension
-pub dimension_more : (fields : List (List ℕ)) (place end : ℕ) (field : List ℕ) (value : Option (List ℕ)) (values whole : List (Option (List ℕ))) (texts : Bool)
-    → place < end → end ≤ length fields → field ≡ get_or fields place [] → (is_utf8 field ≡ true) × (value ≡ dimension_of field)
+pub dimension_more : (fields : List (List ℕ)) (place end : ℕ) (text : List ℕ) (value : Option (List ℕ)) (values whole : List (Option (List ℕ))) (texts : Bool)
+    → place < end → end ≤ length fields → text ≡ get_or fields place [] → is_utf8 (get_or fields place []) ≡ true → value ≡ dimension_of text
     → list_all is_utf8 (slice_range fields place end) ≡ texts → values ++ map dimension_of (slice_range fields place end) ≡ whole
     → (list_all is_utf8 (slice_range fields (place + 1) end) ≡ texts) × ((values ++ value ∷ []) ++ map dimension_of (slice_range fields (place + 1) end) ≡ whole)
-dimension_more fields place end field value values whole texts h k is v t w =
-    let sound = rw is at v.0 in
+dimension_more fields place end text value values whole texts h k is sound v t w =
     let next = rw (part_cons fields place end h k, sound) at t in
     let more = rw (part_cons fields place end h k) at w in
-    (next, rw (v.1, is, append_assoc values (dimension_of (get_or fields place []) ∷ []) (map dimension_of (slice_range fields (place + 1) end))) more)
+    (next, rw (v, is, append_assoc values (dimension_of (get_or fields place []) ∷ []) (map dimension_of (slice_range fields (place + 1) end))) more)
 
 -- a part with a field that isn't UTF-8
 pub text_fails : (fields : List (List ℕ)) (place end : ℕ) (field : List ℕ) (test : List ℕ → Bool) (all : Bool)
@@ -59,13 +59,30 @@ pub text_fails : (fields : List (List ℕ)) (place end : ℕ) (field : List ℕ)
 text_fails fields place end field test all h k is fails t = sym (rw (part_cons fields place end h k, rw is at fails) at t)
 
 -- one more value of a measure
-pub measure_more : (fields : List (List ℕ)) (place end : ℕ) (field : List ℕ) (value : Option ℤ) (values whole : List (Option ℤ)) (sound : Bool)
-    → place < end → end ≤ length fields → field ≡ get_or fields place [] → (is_utf8 field ≡ true) × (measure_of field ≡ Some value)
-    → list_all is_sound_measure (slice_range fields place end) ≡ sound → values ++ filter_map measure_of (slice_range fields place end) ≡ whole
-    → (list_all is_sound_measure (slice_range fields (place + 1) end) ≡ sound) × ((values ++ value ∷ []) ++ filter_map measure_of (slice_range fields (place + 1) end) ≡ whole)
-measure_more fields place end field value values whole sound h k is v t w =
-    let text = rw is at v.0 in
-    let lawful = rw is at v.1 in
-    let next = rw (part_cons fields place end h k, text, lawful) at t in
+pub measure_more : (fields : List (List ℕ)) (place end : ℕ) (text : List ℕ) (value : Option ℤ) (values whole : List (Option ℤ)) (all : Bool)
+    → place < end → end ≤ length fields → text ≡ get_or fields place [] → is_utf8 (get_or fields place []) ≡ true → Some value ≡ measure_of text
+    → list_all is_sound_measure (slice_range fields place end) ≡ all → values ++ filter_map measure_of (slice_range fields place end) ≡ whole
+    → (list_all is_sound_measure (slice_range fields (place + 1) end) ≡ all) × ((values ++ value ∷ []) ++ filter_map measure_of (slice_range fields (place + 1) end) ≡ whole)
+measure_more fields place end text value values whole all h k is sound v t w =
+    let lawful = rw is at (sym v) in
+    let next = rw (part_cons fields place end h k, sound, lawful) at t in
     let more = rw (part_cons fields place end h k, lawful) at w in
     (next, rw (append_assoc values (value ∷ []) (filter_map measure_of (slice_range fields (place + 1) end))) more)
+
+-- a field that isn't UTF-8 is no sound measure, and neither is a text that is no measure
+pub unsound_text : (field : List ℕ) → is_utf8 field ≡ false → is_sound_measure field ≡ false
+unsound_text field h = and_left _ _ h
+
+pub unsound_number : (field text : List ℕ) → text ≡ field → None ≡ measure_of text → is_sound_measure field ≡ false
+unsound_number field text is h = let none = rw is at (sym h) in rw none (and_right _ _ refl)
+
+-- each field of a record of ASCII is ASCII
+ascii_fields : (start : ℕ) (ends bytes : List ℕ) (place : ℕ) → IsAscii bytes → IsAscii (get_or (csv.cut_from start ends bytes) place [])
+unfolding csv.cut_from
+ascii_fields start [] bytes place h = λ i. omega arith
+ascii_fields start (end ∷ ends) bytes zero h = IsAscii-take (drop start bytes) (end - start) (IsAscii-drop bytes start h)
+ascii_fields start (end ∷ ends) bytes (suc place) h = ascii_fields end ends bytes place h
+
+-- so it is UTF-8
+pub ascii_field : (row : csv.Row) (place : ℕ) → IsAscii (csv.text_of row) → IsUtf8 (get_or (csv.fields_of row) place [])
+ascii_field row place h = IsUtf8-from_ascii (get_or (csv.fields_of row) place []) (ascii_fields 0 row.ends row.bytes place h)

@@ -1,12 +1,12 @@
 -- The names of a header, one by one and in parts.
-use Rattle.std.proofs.Common.{◌≡◌, ◌<◌, ◌≤◌, ◌+◌, ◌-◌, ℕ, Bool, true, false, List, [], ◌∷◌, ◌++◌, length, get_or, take, drop, map, refl, sym, ap, ◌∙◌, arith, rules, add-one, drop-cons, append_assoc, length-append, length-drop}
+use Rattle.std.proofs.Common.{◌≡◌, ◌<◌, ◌≤◌, ◌+◌, ◌-◌, ℕ, Bool, true, false, List, [], ◌∷◌, ◌++◌, length, get_or, drop, refl, sym, ap, ◌∙◌, arith, add-one, drop-cons, length-append, length-drop}
 use Rattle.std.proofs.lemmas.List.{length-take}
-use Rattle.std.specs.Prelude.{◌&&◌, ◌||◌, ◌==◌, zero, suc, not, codes, slice_range}
+use Rattle.std.specs.Prelude.{◌&&◌, ◌||◌, zero, suc, codes, slice_range}
 use Rattle.std.specs.Str.{bytes_eq}
-use Rattle.std.proofs.lemmas.Bool.{and_left, and_right, and_parts}
+use Rattle.std.proofs.lemmas.Bool.{and_parts}
 use Rattle.cube_core.specs.Layout.{Layout}
 use Rattle.cube_core.specs.Items.{width_of, field_at, same_fields, byte_order_mark, column_names, is_header}
-use Rattle.cube_feed.proofs.FieldLaws.{part_cons, part_nil}
+use Rattle.cube_feed.proofs.FieldLaws.{part_cons}
 use Rattle.cube_feed.proofs.LineLaws.{parts_of, part_to_end}
 
 -- the default of `get_or` makes no difference at a place that is there
@@ -50,7 +50,7 @@ same_long (x ∷ xs) [] h = cc h
 same_long (x ∷ xs) (y ∷ ys) h = ap (λ n. suc n) (same_long xs ys (and_parts _ _ h).1)
 
 -- records of other lengths differ
-pub other_long : (xs ys : List (List ℕ)) → (length xs ≡ length ys → ⊥) → same_fields xs ys ≡ false
+other_long : (xs ys : List (List ℕ)) → (length xs ≡ length ys → ⊥) → same_fields xs ys ≡ false
 other_long xs ys h = by (same_fields xs ys) refl
   where
     by : (b : Bool) → same_fields xs ys ≡ b → same_fields xs ys ≡ false
@@ -112,7 +112,7 @@ header_parts s fields first second dims measures h a b c d =
     let last : measures ≡ same_fields (drop first_measure fields) s.measures = d ∙ rw (end, part_to_end fields first_measure) refl in
     let parts = same_parts part (drop first_measure fields) s.dimensions s.measures long in
     let fits : (names : List ℕ) → same_fields fields (names ∷ column_names s) ≡ (bytes_eq (field_at fields 0) names && (second && (dims && measures)))
-            = λ names. ap (λ (all : List (List ℕ)). same_fields all (names ∷ column_names s)) (whole_of fields first_measure (omega arith) (omega arith))
-              ∙ rw (parts, b, c, last) refl in
+    = λ names. ap (λ (all : List (List ℕ)). same_fields all (names ∷ column_names s)) (whole_of fields first_measure (omega arith) (omega arith))
+    ∙ rw (parts, b, c, last) refl in
     rw (fits (codes "op"), fits (byte_order_mark ++ codes "op"), a)
     (sym (shuffled (bytes_eq (field_at fields 0) (codes "op")) (bytes_eq (field_at fields 0) (byte_order_mark ++ codes "op")) second dims measures))

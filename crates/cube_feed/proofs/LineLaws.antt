@@ -1,13 +1,13 @@
 -- What a record of the right width spells, by its parts.
-use Rattle.std.proofs.Common.{◌≡◌, ◌<◌, ◌≤◌, ◌+◌, ◌-◌, ℕ, Bool, true, false, List, [], ◌∷◌, ◌++◌, length, get_or, take, drop, map, refl, sym, ap, ◌∙◌, arith, rules, drop-cons, append_assoc}
-use Rattle.std.specs.Prelude.{◌&&◌, ◌==◌, not, codes, slice_range, Result, Ok, Err}
+use Rattle.std.proofs.Common.{◌≡◌, ◌<◌, ◌≤◌, ◌+◌, ◌-◌, ℕ, Bool, true, false, List, [], ◌∷◌, ◌++◌, length, get_or, drop, refl, sym, ap, ◌∙◌, arith, drop-cons}
+use Rattle.std.specs.Prelude.{◌&&◌, ◌==◌, not, codes, slice_range, Result}
 use Rattle.std.specs.Str.{bytes_eq, is_utf8}
 use Rattle.std.specs.List.{list_all}
 use Rattle.std.proofs.lemmas.List.{take-append-drop, drop-drop, take_all, length-drop}
 use Rattle.std.proofs.lemmas.Bool.{and_left, and_right}
 use Rattle.std.proofs.lemmas.List.Folds.{list_all-append}
 use Rattle.cube_core.specs.Layout.{Layout}
-use Rattle.cube_core.specs.Items.{width_of, field_at, is_measure, measure_fields, put_of, change_of}
+use Rattle.cube_core.specs.Items.{width_of, field_at, is_measure, put_of, change_of}
 use Rattle.cube_core.specs.declared.change.Change.{Change}
 use Rattle.cube_core.specs.declared.change.Change.TheVariants.{Insert, Update}
 use Rattle.cube_core.specs.declared.change.LineFault.{LineFault}
@@ -59,9 +59,9 @@ pub part_to_end : (fields : List (List ℕ)) (start : ℕ) → slice_range field
 part_to_end fields start = take_all (length fields - start) (drop start fields) (omega (arith, length-drop start fields))
 
 -- the test of all fields, by their parts
-pub sound_parts : (s : Layout) (fields : List (List ℕ)) → length fields ≡ width_of s
+sound_parts : (s : Layout) (fields : List (List ℕ)) → length fields ≡ width_of s
     → is_sound s fields ≡ ((is_sound_id (field_at fields 1) && list_all is_utf8 (slice_range fields 2 (2 + length s.dimensions)))
-      && list_all is_sound_measure (slice_range fields (2 + length s.dimensions) (length fields)))
+    && list_all is_sound_measure (slice_range fields (2 + length s.dimensions) (length fields)))
 sound_parts s fields h =
     let first_measure = 2 + length s.dimensions in
     let dims = slice_range fields 2 first_measure in
@@ -89,11 +89,10 @@ unsound_measures s fields names fields_end h is end bad =
     rw (sound_parts s fields h, measures) (and_right _ _ refl)
 
 -- a record whose parts are all sound
-pub sound_whole : (s : Layout) (fields : List (List ℕ)) (names : List (List ℕ)) (fields_end : ℕ) (id : List ℕ) → length fields ≡ width_of s → names ≡ s.dimensions → fields_end ≡ length fields
-    → id ≡ field_at fields 1 → is_sound_id id ≡ true → list_all is_utf8 (slice_range fields 2 (2 + length names)) ≡ true
+pub sound_whole : (s : Layout) (fields : List (List ℕ)) (names : List (List ℕ)) (fields_end : ℕ) → length fields ≡ width_of s → names ≡ s.dimensions → fields_end ≡ length fields
+    → is_sound_id (field_at fields 1) ≡ true → list_all is_utf8 (slice_range fields 2 (2 + length names)) ≡ true
     → list_all is_sound_measure (slice_range fields (2 + length names) fields_end) ≡ true → is_sound s fields ≡ true
-sound_whole s fields names fields_end id h is end first a b c =
-    let one = rw first at a in
+sound_whole s fields names fields_end h is end a b c =
     let dims = rw is at b in
     let measures = rw (is, end) at c in
-    rw (sound_parts s fields h, one, dims, measures) refl
+    rw (sound_parts s fields h, a, dims, measures) refl

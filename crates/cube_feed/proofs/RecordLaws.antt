@@ -2,7 +2,7 @@
 use Rattle.std.proofs.Common.{◌≡◌, ◌<◌, ◌+◌, ◌⊎◌, inl, inr, ℕ, Bool, true, false, List, [], ◌∷◌, ◌++◌, length, Option, Some, None, refl, sym, ap, arith, add-one}
 use Rattle.std.specs.Prelude.{zero, suc, option_map, if◌then◌else◌}
 use Rattle.csv.specs.Machine.{Read, next_record, ends_at_end, is_end, step, fields_after, field_after}
-use Rattle.csv.specs.Reading.{records_from, records_next, default_config, source_of, pending_of, reader_trim, reader_config, reader_state, has_failed, Ready, ReadRecord, NextIs, ReadsNext}
+use Rattle.csv.specs.Reading.{records_from, records_next, default_config, source_of, pending_of, reader_trim, reader_state, has_failed, Ready, ReadRecord, NextIs, ReadsNext}
 use Rattle.csv.specs.declared.reader.Reader.{Reader}
 use Rattle.csv.specs.declared.reader.Trim.TheVariants as trim
 use Rattle.cube_feed.specs.Reading.{Advances, ReadsPlainly, left_of, records_at}
@@ -17,7 +17,7 @@ pub record Shrinks (before : List ℕ) (state : State) (left : List ℕ) : Type 
 longer : (c : ℕ) (rest : List ℕ) (state : State) (left : List ℕ) → Shrinks rest state left → Shrinks (c ∷ rest) state left
 longer c rest state left h = elim h.is [ inl a ↦ record { is = inl (omega arith) } | inr b ↦ record { is = inr b } ]
 
-pub shrinks : (cfg : Config) (s : State) (fields : List (List ℕ)) (field xs : List ℕ) (r : Read)
+shrinks : (cfg : Config) (s : State) (fields : List (List ℕ)) (field xs : List ℕ) (r : Read)
     → next_record cfg s fields field xs ≡ Some r → Shrinks xs r.1 r.2
 unfolding next_record
 shrinks cfg s fields field [] r h = by (ends_at_end s) h
@@ -30,20 +30,20 @@ shrinks cfg s fields field (c ∷ rest) r h =
   where
     by : (b : Bool)
         → (if b then Some (fields_after (step cfg s c).1 fields field, (step cfg s c).0, rest)
-            else next_record cfg (step cfg s c).0 (fields_after (step cfg s c).1 fields field) (field_after (step cfg s c).1 c field) rest) ≡ Some r
+        else next_record cfg (step cfg s c).0 (fields_after (step cfg s c).1 fields field) (field_after (step cfg s c).1 c field) rest) ≡ Some r
         → (next_record cfg (step cfg s c).0 (fields_after (step cfg s c).1 fields field) (field_after (step cfg s c).1 c field) rest ≡ Some r → Shrinks rest r.1 r.2)
         → Shrinks (c ∷ rest) r.1 r.2
     by true e more = let left : rest ≡ r.2 = cc in record { is = inl (omega (arith, ap length left)) }
     by false e more = longer c rest r.1 r.2 (more e)
 
 -- no record follows the end
-pub at_end : (cfg : Config) (n : ℕ) → records_from cfg n st.StartRecord [] ≡ []
+at_end : (cfg : Config) (n : ℕ) → records_from cfg n st.StartRecord [] ≡ []
 unfolding records_from next_record
 at_end cfg zero = refl
 at_end cfg (suc n) = refl
 
 -- any number above the length of the text serves
-pub fuel : (cfg : Config) (n m : ℕ) (s : State) (xs : List ℕ) → length xs < n → length xs < m
+fuel : (cfg : Config) (n m : ℕ) (s : State) (xs : List ℕ) → length xs < n → length xs < m
     → records_from cfg n s xs ≡ records_from cfg m s xs
 unfolding records_from
 fuel cfg zero m s xs h k = absurd (omega arith)
@@ -55,24 +55,24 @@ fuel cfg (suc n) (suc m) s xs h k = by (next_record cfg s [] [] xs) refl (fuel c
         → records_next (records_from cfg n) o ≡ records_next (records_from cfg m) o
     by None e more = refl
     by (Some r) e more = elim (shrinks cfg s [] [] xs r e).is [
-        inl a ↦ ap (λ (rs : List (List (List ℕ))). r.0 ∷ rs) (more r.1 r.2 (omega arith) (omega arith))
+      | inl a ↦ ap (λ (rs : List (List (List ℕ))). r.0 ∷ rs) (more r.1 r.2 (omega arith) (omega arith))
       | inr b ↦ rw (b.0, b.1, at_end cfg n, at_end cfg m) refl
     ]
 
 -- where no record follows, there is none
-pub records_at_none : (s : State) (xs : List ℕ) → next_record default_config s [] [] xs ≡ None → records_at s xs ≡ []
+records_at_none : (s : State) (xs : List ℕ) → next_record default_config s [] [] xs ≡ None → records_at s xs ≡ []
 unfolding records_from
 records_at_none s xs h = rw (add-one (length xs), h) refl
 
 -- where a record follows, it is the first, and the others are those of the bytes that it leaves
-pub records_at_some : (s : State) (xs : List ℕ) (r : Read) → next_record default_config s [] [] xs ≡ Some r
+records_at_some : (s : State) (xs : List ℕ) (r : Read) → next_record default_config s [] [] xs ≡ Some r
     → records_at s xs ≡ r.0 ∷ records_at r.1 r.2
 unfolding records_from
 records_at_some s xs r h = rw (add-one (length xs), h) (ap (λ (rs : List (List (List ℕ))). r.0 ∷ rs) same)
   where
     same : records_from default_config (length xs) r.1 r.2 ≡ records_from default_config (length r.2 + 1) r.1 r.2
     same = elim (shrinks default_config s [] [] xs r h).is [
-        inl a ↦ fuel default_config (length xs) (length r.2 + 1) r.1 r.2 (omega arith) (omega arith)
+      | inl a ↦ fuel default_config (length xs) (length r.2 + 1) r.1 r.2 (omega arith) (omega arith)
       | inr b ↦ rw (b.0, b.1, at_end default_config (length xs)) (sym (at_end default_config 1))
     ]
 
@@ -107,6 +107,7 @@ record_taken {R} remaining old new found fields plain reads = by (has_failed old
         let read = reads (plain.trims e) (plain.ready e) in
         let next = rw (plain.config e, q) at read.0 in
         rw read.1 (taken old.state xs (pending_of (remaining new.rdr) new) found fields new.state next)
+
     by : (failed : Bool) → has_failed old ≡ failed → Advances (left_of remaining old) found (record { left = left_of remaining new; fields = fields })
     by true e = rw e tt
     by false e = known e (source_of remaining old) refl

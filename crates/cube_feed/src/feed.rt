@@ -1,5 +1,5 @@
 //! A feed: the items that its bytes say, one after the other.
-ghost use Rattle.std.specs.Prelude.{◌≡◌, ◌≤◌, ◌+◌, ℕ, None, Some, IfOk, IfErr, IfSome, IfNone, option_map};
+ghost use Rattle.std.specs.Prelude.{◌≡◌, ◌≤◌, ◌+◌, None, Some, IfOk, IfErr, IfSome, IfNone, option_map};
 ghost use Rattle.cube_core.specs.Records.{records_of};
 ghost use Rattle.cube_core.specs.Items.{items_of};
 ghost use Rattle.cube_feed.specs.Feed.{HasEnded, Gives, Numbers, TakesHeader, IsFeed, after_header, ended_of, end_answer, to_come, to_come_of};
@@ -35,7 +35,6 @@ pub struct Feed<'s, R: Read> {
 }
 
 impl<'s, R: Read> Model for Feed<'s, R> {
-    ghost use Rattle.std.specs.Prelude.{◌≤◌};
     ghost use Rattle.cube_feed.specs.Feed.{FeedView, IsFeed, ended_of, to_come_of};
 
     ghost Value = { FeedView };
@@ -57,7 +56,7 @@ fn take_header<R: Read>(schema: &Schema, records: &mut Records<R>) -> Result<boo
     if !records.advance()? {
         return Ok(false);
     }
-    if is_header(schema, records.record()) {
+    if is_header(schema, &records.fields()) {
         Ok(true)
     } else {
         Err(FeedFault::Header)
@@ -81,7 +80,7 @@ fn take_item<R: Read>(
     if number == schema.max_records() {
         return Err(FeedFault::TooMany);
     }
-    match change(alloc, schema, records.record()) {
+    match change(alloc, schema, &records.fields()) {
         Ok(what) => Ok(Some(Item {
             number: number + 1,
             what,

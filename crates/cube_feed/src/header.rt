@@ -1,12 +1,10 @@
 //! The first record of a feed: the names of its columns.
 ghost use Rattle.std.specs.Prelude.{◌≡◌, ◌≤◌, ◌+◌, ◌||◌, ◌++◌, length, codes, slice_range};
 ghost use Rattle.std.specs.Str.{bytes_eq};
-ghost use Rattle.csv.specs.Records.{fields_of};
 ghost use Rattle.cube_core.specs.Items.{byte_order_mark, is_header, same_fields};
 
-use crate::field::field_at;
+use crate::field::Fields;
 use crate::line::width;
-use csv::ByteRecord;
 use cube_core::{Schema, Text};
 
 // Whether a field is `op`, which a byte order mark may precede.
@@ -23,13 +21,13 @@ fn is_name(field: &[u8], name: &str) -> bool
 }
 
 // Whether the fields from a place on are these names.
-fn are_names(row: &ByteRecord, start: usize, names: &[Text]) -> bool
+fn are_names(fields: &Fields<'_>, start: usize, names: &[Text]) -> bool
     requires few { start + length names.now ≤ 16 }
-    requires in_record { start + length names.now ≤ length (fields_of row.now) }
-    ensures { result ≡ same_fields (slice_range (fields_of row.now) start (start + length names.now)) names.now }
+    requires in_record { start + length names.now ≤ length fields.now }
+    ensures { result ≡ same_fields (slice_range fields.now start (start + length names.now)) names.now }
 {
     for (i, name) in names.iter().enumerate() {
-        if !is_name(field_at(row, start + i), name.as_str()) {
+        if !is_name(fields.bytes_at(start + i), name.as_str()) {
             return false;
         }
     }
@@ -37,16 +35,16 @@ fn are_names(row: &ByteRecord, start: usize, names: &[Text]) -> bool
 }
 
 /// Whether a record is the header of a schema's feeds.
-pub(crate) fn is_header(schema: &Schema, row: &ByteRecord) -> bool
-    ensures { result ≡ is_header schema.now (fields_of row.now) }
+pub(crate) fn is_header(schema: &Schema, fields: &Fields<'_>) -> bool
+    ensures { result ≡ is_header schema.now fields.now }
 {
-    if row.len() != width(schema) {
+    if fields.len() != width(schema) {
         return false;
     }
-    let first = is_first_name(field_at(row, 0));
-    let second = is_name(field_at(row, 1), "id");
+    let first = is_first_name(fields.bytes_at(0));
+    let second = is_name(fields.bytes_at(1), "id");
     let names = schema.dimensions();
-    let dimensions = are_names(row, 2, names);
-    let measures = are_names(row, 2 + names.len(), schema.measures());
+    let dimensions = are_names(fields, 2, names);
+    let measures = are_names(fields, 2 + names.len(), schema.measures());
     first & second & dimensions & measures
 }

@@ -1,10 +1,10 @@
 //! The records of a text, one after the other, in one buffer.
-ghost use Rattle.std.specs.Prelude.{◌≡◌, List, ℕ, IfOk, IfErr, option_map};
+ghost use Rattle.std.specs.Prelude.{◌≡◌, IfOk, IfErr, option_map};
 ghost use Rattle.cube_core.specs.Records.{records_of};
 ghost use Rattle.cube_feed.specs.Reading.{Advances, IsReadingFault};
-ghost use Rattle.csv.specs.Records.{fields_of};
 
 use crate::fault::FeedFault;
+use crate::field::Fields;
 use csv::{ByteRecord, ErrorKind, Reader, ReaderBuilder};
 use std::alloc::Global;
 use std::io::Read;
@@ -57,10 +57,10 @@ impl<R: Read> Records<R> {
         }
     }
 
-    /// The record that was taken last.
-    pub(crate) fn record(&self) -> &ByteRecord
-        ensures { fields_of result.now ≡ self.now.fields }
+    /// The fields of the record that was taken last.
+    pub(crate) fn fields(&self) -> Fields<'_>
+        ensures { result ≡ self.now.fields }
     {
-        &self.row
+        Fields::of(&self.row)
     }
 }

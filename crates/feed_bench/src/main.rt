@@ -1,0 +1,142 @@
+//! Reads a generated feed of inserts through `Feed::next`, and beside it by the bare `csv` reader.
+//!
+//! Without an argument it reads three inserts and prints what it counted. With a number of inserts it prints the
+//! processor time of the best of five rounds of each, in records and bytes a second.
+#![tactic(auto)]
+
+use anyhow::{Context, Result, anyhow};
+use csv::{ByteRecord, ReaderBuilder};
+use cube_core::Schema;
+use cube_feed::Feed;
+use std::alloc::{AllocError, Global};
+use std::env;
+use std::time::CpuClock;
+
+const ROUNDS: u32 = 5;
+
+// A feed of so many inserts, of seven regions and a thousand kinds.
+fn feed_of(alloc: Global, inserts: u32) -> Result<String, AllocError> {
+    let mut text = String::from_str(alloc, "op,id,region,kind,amount\n")?;
+    for i in 0..inserts {
+        let region = i % 7;
+        let kind = i % 1000;
+        let line = format!(in alloc; "I,order-{i},region-{region},kind-of-goods-{kind},{i}\n")?;
+        text.push_str(line.as_str())?;
+    }
+    Ok(text)
+}
+
+fn count_records(alloc: Global, bytes: &[u8]) -> Result<u64> {
+    let mut reader = ReaderBuilder::new()
+        .has_headers(false)
+        .flexible(true)
+        .from_reader(alloc, bytes);
+    let mut record = ByteRecord::new(alloc);
+    for count in 0..u64::MAX {
+        match reader.read_byte_record(&mut record) {
+            Ok(true) => {}
+            Ok(false) => return Ok(count),
+            Err(_) => return Err(anyhow!("csv failed")),
+        }
+    }
+    Err(anyhow!("more records than any feed has"))
+}
+
+fn count_items(alloc: Global, schema: &Schema, bytes: &[u8]) -> Result<u64> {
+    let mut feed = Feed::new(alloc, schema, bytes);
+    let mut good = 0u64;
+    while let Some(item) = feed.next()? {
+        if item.what.is_ok() {
+            good = good.saturating_add(1);
+        }
+    }
+    Ok(good)
+}
+
+// What was counted, and the processor time of the best round in nanoseconds.
+#[derive(Clone, Copy)]
+struct Measured {
+    count: u64,
+    nanos: u64,
+}
+
+fn nanos_now(clock: &impl CpuClock) -> Result<u64> {
+    let now = clock.process_cpu_time()?;
+    Ok(u64::try_from(now.as_nanos())?)
+}
+
+fn measure_csv(rt: &(impl CpuClock + AllocGlobal), bytes: &[u8]) -> Result<Measured> {
+    let mut best = Measured {
+        count: 0,
+        nanos: u64::MAX,
+    };
+    for _ in 0..ROUNDS {
+        let start = nanos_now(rt)?;
+        best.count = count_records(rt.alloc(), bytes)?;
+        best.nanos = best.nanos.min(nanos_now(rt)?.saturating_sub(start));
+    }
+    Ok(best)
+}
+
+fn measure_feed(
+    rt: &(impl CpuClock + AllocGlobal),
+    schema: &Schema,
+    bytes: &[u8],
+) -> Result<Measured> {
+    let mut best = Measured {
+        count: 0,
+        nanos: u64::MAX,
+    };
+    for _ in 0..ROUNDS {
+        let start = nanos_now(rt)?;
+        best.count = count_items(rt.alloc(), schema, bytes)?;
+        best.nanos = best.nanos.min(nanos_now(rt)?.saturating_sub(start));
+    }
+    Ok(best)
+}
+
+// So many a second, where it took so long.
+fn per_second(count: u64, nanos: u64) -> u64 {
+    let nanos = nanos.max(1);
+    count.saturating_mul(1_000_000_000) / nanos
+}
+
+fn report(rt: &impl Print, name: &str, measured: &Measured, bytes: usize) -> Result<()> {
+    let records = per_second(measured.count, measured.nanos);
+    let bytes = per_second(bytes as u64, measured.nanos);
+    let nanos = measured.nanos;
+    println!(rt; "{name}: {nanos} ns, {records} records a second, {bytes} bytes a second")?;
+    Ok(())
+}
+
+fn run(rt: &(impl CpuClock + AllocGlobal + Print), inserts: u32, is_timed: bool) -> Result<()> {
+    let schema = Schema::sample(rt.alloc())?;
+    let text = feed_of(rt.alloc(), inserts)?;
+    let bytes = text.as_bytes();
+    let bare = measure_csv(rt, bytes)?;
+    let feed = measure_feed(rt, &schema, bytes)?;
+    let (length, records, items) = (bytes.len(), bare.count, feed.count);
+    println!(rt; "{length} bytes: {records} records, {items} items")?;
+    if is_timed {
+        report(rt, "csv alone", &bare, length)?;
+        report(rt, "Feed::next", &feed, length)?;
+        let ratio = feed.nanos.saturating_mul(100) / bare.nanos.max(1);
+        println!(rt; "Feed::next takes {ratio} hundredths of the time of csv alone")?;
+    }
+    Ok(())
+}
+
+fn main(rt: HostRuntime) -> Result<()> {
+    let mut args = env::args(&rt)?;
+    let _program = args.next();
+    match args.next() {
+        None => run(&rt, 3, false),
+        Some(word) => {
+            let inserts = word
+                .as_str()
+                .parse::<u32>()
+                .context("the number of inserts")?;
+            run(&rt, inserts, true)
+        }
+    }
+}
