@@ -1,0 +1,5 @@
+pub mod Bags
+pub mod Sums
+pub mod Tallies
+pub mod Rows
+pub mod FactLaws

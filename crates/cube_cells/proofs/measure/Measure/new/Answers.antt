@@ -1,0 +1,5 @@
+use Rattle.cube_cells.proofs.Sums.{sum_of_nothing}
+use Rattle.cube_cells.proofs.measure.Measure.new.Goals as goal
+
+pub invariant_of-result : goal.invariant_of-result
+invariant_of-result c = sum_of_nothing c.new.result c.new.ensures.held

@@ -1,0 +1,4 @@
+pub mod Bag
+pub mod Sum
+pub mod Tally
+pub mod Values

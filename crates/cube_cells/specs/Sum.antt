@@ -1,0 +1,14 @@
+-- The sum of the numbers of a bag (SQL:1999, SUM), and what a kept sum is.
+use Rattle.std.specs.Prelude.{◌≡◌, ◌<◌, ◌-ℤ◌, ℤ, pos, FitsSigned}
+use Rattle.std.specs.Int.{w64}
+use borrow.Author.Differences.{up, down}
+use Rattle.cube_cells.specs.Bag.{Bag, weight_of, held_of}
+
+-- the sum of the numbers, each as often as it is held: of those above 0, less that of those below
+abbrev pub sum_of : Bag → ℤ
+sum_of bag = pos (weight_of up bag) -ℤ pos (weight_of down bag)
+
+-- this is the sum of the bag, whose numbers are measures: they fit 64 bits
+pub record IsSumOf (bag : Bag) (sum : ℤ) : Type 0 where
+  pub is_sum : sum ≡ sum_of bag
+  pub fits : (x : ℤ) → 0 < held_of bag x → FitsSigned w64 x

@@ -1,0 +1,10 @@
+-- The bag that the values of a `Counted` hold.
+use Rattle.cube_cells.specs.Bag.{Bag}
+use Rattle.cube_cells.specs.declared.counted.Values.{Values}
+use Rattle.cube_cells.specs.declared.counted.Values.TheVariants.{One, Few, Many}
+
+-- the bag of each representation
+abbrev pub bag_of : Values → Bag
+bag_of (One single) = single
+bag_of (Few short) = short.value
+bag_of (Many table) = table.value

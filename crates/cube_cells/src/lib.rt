@@ -1,0 +1,20 @@
+//! Counted values, and the cells of a data cube.
+//!
+//! [`Counted`] is a multiset of numbers, which makes the least and the greatest value right under deletes.
+//! [`Cell`] is the tally of a group of facts, which answers every aggregate of them.
+#![tactic(auto)]
+
+mod cell;
+mod counted;
+pub mod laws;
+mod measure;
+mod short;
+mod single;
+mod table;
+
+pub use cell::Cell;
+pub use counted::Counted;
+pub use cube_core::reduced;
+
+#[cfg(test)]
+mod tests;

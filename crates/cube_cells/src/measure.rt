@@ -1,0 +1,146 @@
+//! The values of one measure in a cell.
+ghost use Rattle.std.specs.Prelude.{◌≡◌, ◌<◌, ◌+◌, ◌+ℤ◌, ◌-ℤ◌, ◌^◌, List, IfNone, IfSome, OnOk, OnErr, ℤ, FitsSigned};
+ghost use Rattle.std.specs.Int.{w128};
+ghost use Rattle.std.specs.Option.{ForSome};
+ghost use Rattle.cube_core.specs.Answer.{IsSum, IsLeast, IsGreatest, IsMean};
+ghost use Rattle.cube_core.specs.declared.aggregate.Answer.TheVariants.{Null, Whole};
+ghost use Rattle.cube_cells.specs.Bag.{size_of, held_of};
+ghost use Rattle.cube_cells.specs.Tally.{AddsValue, IsBagOf, holds_value};
+
+use crate::counted::Counted;
+use cube_core::{Answer, reduced};
+use std::alloc::{AllocError, Global};
+use std::marker::Model;
+
+/// The values of one measure, nulls left out, with their sum.
+#[derive(Drop)]
+pub struct Measure {
+    sum: i128,
+    values: Counted,
+}
+
+impl Model for Measure {
+    ghost use Rattle.cube_cells.specs.Bag.{Bag};
+    ghost use Rattle.cube_cells.specs.Sum.{IsSumOf};
+
+    ghost Value = { Bag };
+
+    ghost view = { λ m. m.values };
+
+    ghost invariant = { λ m. IsSumOf m.values m.sum };
+}
+
+impl Measure {
+    /// No value; it takes no memory.
+    pub fn new(alloc: Global) -> Measure
+        ensures held { (x : ℤ) → held_of result x ≡ 0 }
+        ensures size { size_of result ≡ 0 }
+    {
+        Measure {
+            sum: 0,
+            values: Counted::new(alloc),
+        }
+    }
+
+    /// Adds a value; a null changes nothing.
+    pub fn plus(&mut self, value: Option<i64>) -> Result<(), AllocError>
+        requires { size_of self.old + 1 < 2 ^ 64 }
+        ensures added { OnOk result (AddsValue self.old self.new value) }
+        ensures err { OnErr result (self.new ≡ self.old) }
+    {
+        if let Some(value) = value {
+            self.values.add(value)?;
+            self.sum = sum_with(self.sum, value);
+        }
+        Ok(())
+    }
+
+    /// Takes a value away; a null changes nothing. It takes no memory.
+    pub fn minus(&mut self, value: Option<i64>)
+        requires { ForSome value (λ v. 0 < held_of self.old v) }
+        ensures { AddsValue self.new self.old value }
+    {
+        if let Some(value) = value {
+            if self.values.remove(value) {
+                self.sum = sum_without(self.sum, value);
+            }
+        }
+    }
+
+    /// Whether the value is held; a null is, where there are more rows than values.
+    pub fn holds(&self, value: Option<i64>, rows: u64) -> bool
+        ensures { result ≡ holds_value rows self.now value }
+    {
+        match value {
+            Some(value) => self.values.holds(value),
+            None => self.values.len() < rows,
+        }
+    }
+
+    /// How many values there are.
+    pub fn count(&self) -> u64
+        ensures { result ≡ size_of self.now }
+    {
+        self.values.len()
+    }
+
+    /// The sum of the values, null where there is none.
+    pub fn sum(&self) -> Answer
+        ensures { (values : List ℤ) → IsBagOf values self.now → IsSum values result }
+    {
+        if self.values.is_empty() {
+            Answer::Null
+        } else {
+            Answer::Whole(self.sum)
+        }
+    }
+
+    /// The least value, null where there is none.
+    pub fn least(&self) -> Answer
+        ensures { (values : List ℤ) → IsBagOf values self.now → IsLeast values result }
+    {
+        answer_of(self.values.least())
+    }
+
+    /// The greatest value, null where there is none.
+    pub fn greatest(&self) -> Answer
+        ensures { (values : List ℤ) → IsBagOf values self.now → IsGreatest values result }
+    {
+        answer_of(self.values.greatest())
+    }
+
+    /// The mean of the values in lowest terms, null where there is no value.
+    pub fn mean(&self) -> Answer
+        ensures { (values : List ℤ) → IsBagOf values self.now → IsMean values result }
+    {
+        if self.values.is_empty() {
+            return Answer::Null;
+        }
+        let (p, q) = reduced(self.sum, self.values.len());
+        Answer::Ratio { p, q }
+    }
+}
+
+fn answer_of(number: Option<i64>) -> Answer
+    ensures none { IfNone number (result ≡ Null) }
+    ensures some { IfSome number (λ n. result ≡ Whole n) }
+{
+    match number {
+        None => Answer::Null,
+        Some(number) => Answer::Whole(i128::from(number)),
+    }
+}
+
+fn sum_with(sum: i128, value: i64) -> i128
+    requires { FitsSigned w128 (sum +ℤ value) }
+    ensures { result ≡ sum +ℤ value }
+{
+    sum + i128::from(value)
+}
+
+fn sum_without(sum: i128, value: i64) -> i128
+    requires { FitsSigned w128 (sum -ℤ value) }
+    ensures { result ≡ sum -ℤ value }
+{
+    sum - i128::from(value)
+}
