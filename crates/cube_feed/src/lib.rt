@@ -1,4 +1,6 @@
-//! The reader of a feed: from bytes to the items that they say.
+//! The reader of a feed: from the bytes that any reader gives to the items that they say, one at a time.
+//!
+//! [`Feed::next`] gives the items in order, then `None`; a [`FeedFault`] is its last word.
 #![tactic(auto)]
 
 mod fault;
