@@ -7,4 +7,5 @@ pub mod StandSteps
 pub mod RowShapes
 pub mod Survival
 pub mod RunSteps
+mod CommandFacts
 mod CommandLineFacts

@@ -1,13 +1,17 @@
 -- How the program ends: its statuses, and what a command leaves written (this project's choice).
-use Rattle.std.specs.Prelude.{◌≡◌, ℕ, List, [], ◌∷◌, Option}
+use Rattle.std.specs.Prelude.{◌≡◌, ◌≤◌, ⊤, ℕ, List, [], ◌∷◌, ◌++◌, length, take, codes, Option, IfSome, Result, Ok, Err}
+use Rattle.std.specs.Io.KnownBytes.{Appends}
 use Rattle.cube_core.specs.Layout.{Layout}
+use Rattle.cube_core.specs.SchemaDocument.{AnswersBytes}
 use Rattle.cube_core.specs.declared.change.Refusal.{Refusal}
+use Rattle.cube_core.specs.declared.schema_fault.SchemaFault.TheVariants as schema_fault
 use Rattle.cube_tool.specs.Kept.{Kept}
 use Rattle.cube_tool.specs.Run.{RunsFeed, FaultLeaves}
 use Rattle.cube_tool.specs.declared.command.status.Status.{Status}
 use Rattle.cube_tool.specs.declared.command.status.Status.TheVariants.{Done, Failed, WrongWords, WrongSchema, LinesRefused}
 use Rattle.cube_tool.specs.declared.command.failure.Failure.{Failure}
-use Rattle.cube_tool.specs.declared.command.failure.Failure.TheVariants.{NoSchema, Run}
+use Rattle.cube_tool.specs.declared.command.failure.Failure.TheVariants.{Unreadable, Schema, Run}
+use Rattle.cube_tool.specs.declared.fault.RunFault.TheVariants as run_fault
 
 -- the number of a status
 abbrev pub code_of : Status → ℕ
@@ -19,7 +23,8 @@ code_of LinesRefused = 4
 
 -- the status that a failure ends with
 abbrev pub status_of : Failure → Status
-status_of NoSchema = WrongSchema
+status_of Unreadable = WrongSchema
+status_of (Schema fault) = WrongSchema
 status_of (Run fault) = Failed
 
 -- the status of a run that was written whole, by the lines that it refused
@@ -32,7 +37,47 @@ abbrev pub EndsRun : Layout → Option (List ℕ) → Status → Option (List �
 EndsRun s bytes status old new =
     (kept : Kept) × RunsFeed s bytes kept old new × (status ≡ status_after kept.refusals)
 
--- what a failure of a run over a feed of these bytes leaves written
+-- what a failure of a run over a feed of these bytes leaves written; of the sample schema nothing but memory can fail
 abbrev pub FailureLeaves : Layout → Option (List ℕ) → Failure → Option (List ℕ) → Option (List ℕ) → Type 0
-FailureLeaves s bytes NoSchema old new = new ≡ old
+FailureLeaves s bytes Unreadable old new = ⊥
+FailureLeaves s bytes (Schema fault) old new = (fault ≡ schema_fault.Memory) × (new ≡ old)
 FailureLeaves s bytes (Run fault) old new = FaultLeaves s bytes fault old new
+
+-- the most bytes that a schema file may have
+abbrev pub schema_limit : ℕ
+schema_limit = 1048576
+
+-- what may be answered to a schema file: what its bytes say where they aren't too many, that it couldn't be read, or that memory ran out
+abbrev pub AnswersFile : List ℕ → Result Layout Failure → Type 0
+AnswersFile bytes (Ok schema) = (length bytes ≤ schema_limit) × AnswersBytes bytes (Ok schema)
+AnswersFile bytes (Err Unreadable) = ⊤
+AnswersFile bytes (Err (Schema schema_fault.Memory)) = ⊤
+AnswersFile bytes (Err (Schema fault)) = (length bytes ≤ schema_limit) × AnswersBytes bytes (Err fault)
+AnswersFile bytes (Err (Run fault)) = ⊥
+
+-- a schema file is right: it writes a schema
+abbrev pub IsRightFile : List ℕ → Type 0
+IsRightFile bytes = (schema : Layout) × AnswersFile bytes (Ok schema)
+
+-- reading the bytes of a file fails by the reader, by the limit or by memory
+abbrev pub IsReadFailure : Failure → Type 0
+IsReadFailure Unreadable = ⊤
+IsReadFailure (Schema fault) = fault ≡ schema_fault.Memory
+IsReadFailure (Run fault) = ⊥
+
+-- a schema isn't had for a cause of its own: no run failed, and nothing was written
+abbrev pub IsSchemaFailure : Failure → Type 0
+IsSchemaFailure Unreadable = ⊤
+IsSchemaFailure (Schema fault) = ⊤
+IsSchemaFailure (Run fault) = ⊥
+
+-- the line that tells that a schema is right
+abbrev pub ok_line : List ℕ
+ok_line = codes "ok" ++ 10 ∷ []
+
+-- what a failed check of a schema file leaves: nothing was written, but of a right file the first bytes of the line
+abbrev pub CheckLeaves : Option (List ℕ) → Failure → Option (List ℕ) → Option (List ℕ) → Type 0
+CheckLeaves file Unreadable old new = new ≡ old
+CheckLeaves file (Schema fault) old new = (new ≡ old) × IfSome file (λ bytes. AnswersFile bytes (Err (Schema fault)))
+CheckLeaves file (Run (run_fault.Write sent)) old new = (sent ≤ length ok_line) × Appends old new (take sent ok_line) × IfSome file IsRightFile
+CheckLeaves file (Run fault) old new = ⊥

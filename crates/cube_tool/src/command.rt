@@ -5,11 +5,13 @@
 
 mod failure;
 mod sample;
+mod schema_file;
 mod status;
 mod words;
 
 pub use failure::Failure;
 pub use sample::run_sample;
+pub use schema_file::{check, read_schema};
 pub use status::Status;
 pub use words::{Request, answer_words, read_words, unreadable_words};
 

@@ -3,8 +3,9 @@
 #![tactic(auto)]
 
 use cube_tool::command::{
-    Failure, Request, Status, answer_words, read_words, run_sample, unreadable_words,
+    Failure, Request, Status, answer_words, check, read_words, run_sample, unreadable_words,
 };
+use std::fs::File;
 use std::process::ExitCode;
 use std::{env, io};
 
@@ -30,6 +31,10 @@ fn run(rt: &HostRuntime) -> Result<Status, Failure> {
     };
     match read_words(alloc, words.as_slice()) {
         Ok(Request::Sample) => run_sample(alloc, rt.stdin(), &mut rt.stdout()),
+        Ok(Request::Check { schema }) => match File::open(rt, schema) {
+            Ok(file) => check(alloc, file, &mut rt.stdout()),
+            Err(_) => Err(Failure::Unreadable),
+        },
         Err(answer) => answer_words(alloc, &answer, &mut rt.stdout(), &mut rt.stderr()),
     }
 }

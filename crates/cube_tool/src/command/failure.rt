@@ -4,13 +4,16 @@ ghost use Rattle.cube_tool.specs.Command.{status_of};
 
 use crate::command::status::Status;
 use crate::fault::RunFault;
+use cube_core::SchemaFault;
 use std::fmt;
 
 /// Why a command failed. Its text is the line for standard error, without the line end.
 #[derive(Clone, Copy, Debug, PartialEq, Eq)]
 pub enum Failure {
-    /// Memory ran out before the sample schema was made.
-    NoSchema,
+    /// The schema file couldn't be read, or is longer than its limit.
+    Unreadable,
+    /// The schema is refused, or there was no memory for it.
+    Schema(SchemaFault),
     /// The run failed, or its text couldn't be written.
     Run(RunFault),
 }
@@ -21,7 +24,7 @@ impl Failure {
         ensures { result ≡ status_of self }
     {
         match self {
-            Failure::NoSchema => Status::WrongSchema,
+            Failure::Unreadable | Failure::Schema(_) => Status::WrongSchema,
             Failure::Run(_) => Status::Failed,
         }
     }
@@ -31,7 +34,8 @@ impl fmt::Display for Failure {
     fn fmt<W: fmt::Write>(&self, f: &mut fmt::Formatter<W>) -> fmt::Result {
         f.write_str("datacube: ")?;
         match self {
-            Failure::NoSchema => f.write_str("S1"),
+            Failure::Unreadable => f.write_str("schema unreadable"),
+            Failure::Schema(fault) => write!(f, "{fault}"),
             Failure::Run(fault) => write_run_fault(*fault, f),
         }
     }

@@ -8,7 +8,7 @@ use crate::command::failure::Failure;
 use crate::command::status::Status;
 use crate::fault::RunFault;
 use crate::run::run_plain;
-use cube_core::Schema;
+use cube_core::{Schema, SchemaFault};
 use std::alloc::Global;
 use std::io::{Read, Write};
 
@@ -27,7 +27,7 @@ pub fn run_sample<R: Read + Drop, W: Write>(
         FailureLeaves sample_layout (R.Read.remaining feed) failure (W.contents out.old) (W.contents out.new)) }
 {
     let Ok(schema) = Schema::sample(alloc) else {
-        return Err(Failure::NoSchema);
+        return Err(Failure::Schema(SchemaFault::Memory));
     };
     let mut readers = Vec::new(alloc);
     if readers.push(feed).is_err() {

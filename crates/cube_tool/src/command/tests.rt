@@ -2,6 +2,7 @@
 
 use super::*;
 use crate::fault::RunFault;
+use cube_core::SchemaFault;
 use cube_feed::FeedFault;
 use std::alloc::Global;
 use std::io;
@@ -146,7 +147,10 @@ fn each_failure_has_its_line_and_status(rt: HostRuntime) -> Result<(), Fail> {
         fault: FeedFault::TooMany,
     };
     let table = [
-        (Failure::NoSchema, "datacube: S1", 3),
+        (Failure::Unreadable, "datacube: schema unreadable", 3),
+        (Failure::Schema(SchemaFault::Memory), "datacube: S1", 3),
+        (Failure::Schema(SchemaFault::Dimensions), "datacube: S4", 3),
+        (Failure::Schema(SchemaFault::MaxRecords), "datacube: S8", 3),
         (Failure::Run(RunFault::Memory), "datacube: G1", 1),
         (Failure::Run(RunFault::NoThread), "datacube: G2", 1),
         (Failure::Run(feed), "datacube: G3 1 F4", 1),
@@ -250,5 +254,126 @@ fn words_that_are_not_text_are_refused(rt: HostRuntime) -> Result<(), Fail> {
     assert_eq!(rt; out.as_slice().len(), 0);
     let text = String::from_utf8(err)?;
     assert!(rt; text.as_str().starts_with("error: invalid UTF-8"), "{text}");
+    Ok(())
+}
+
+// The sample schema as a file.
+const SCHEMA: &[u8] = b"\
+dimensions = [\"region\", \"kind\"]
+measures = [\"amount\"]
+aggregates = [\"count(*)\", \"sum(amount)\", \"min(amount)\", \"max(amount)\", \"avg(amount)\"]
+";
+
+// The sample schema with a comment behind it, so that the file has this many bytes.
+fn schema_of_length(length: u64) -> io::Chain<&'static [u8], io::Take<io::Repeat>> {
+    SCHEMA.chain(io::repeat(b'#').take(length.saturating_sub(SCHEMA.len() as u64)))
+}
+
+#[test]
+fn check_is_asked_with_its_file(rt: HostRuntime) -> Result<(), Fail> {
+    for schema in ["shop.toml", "", "a b", "check"] {
+        let words = ["datacube", "check", schema];
+        let request = read_words(rt.alloc(), &words)?;
+        assert!(rt; request == Request::Check { schema }, "{schema}");
+    }
+    Ok(())
+}
+
+#[test]
+fn check_without_or_with_two_files_is_refused(rt: HostRuntime) -> Result<(), Fail> {
+    let table: [&[&str]; 4] = [
+        &["datacube", "check"],
+        &["datacube", "check", "a", "b"],
+        &["datacube", "check", "--quick", "a"],
+        &["datacube", "check", "--quick"],
+    ];
+    for words in table {
+        let (status, out, err) = answer(rt.alloc(), words)?;
+        assert_eq!(rt; status, Status::WrongWords);
+        assert_eq!(rt; out.as_str(), "");
+        assert!(rt; err.as_str().starts_with("error: "), "{err}");
+        assert!(rt; err.as_str().contains("Usage: datacube"), "{err}");
+    }
+    Ok(())
+}
+
+#[test]
+fn help_names_each_command_with_its_words(rt: HostRuntime) -> Result<(), Fail> {
+    let (_, out, _) = answer(rt.alloc(), &["datacube", "--help"])?;
+    assert!(rt; out.as_str().contains("datacube check SCHEMA"), "{out}");
+    let (status, out, _) = answer(rt.alloc(), &["datacube", "check", "--help"])?;
+    assert_eq!(rt; status, Status::Done);
+    assert!(rt;
+        out.as_str().contains("Usage: datacube check <SCHEMA>"),
+        "{out}"
+    );
+    Ok(())
+}
+
+#[test]
+fn a_right_schema_is_told_by_one_line(rt: HostRuntime) -> Result<(), Fail> {
+    let mut out = Vec::new(rt.alloc());
+    assert_eq!(rt; check(rt.alloc(), SCHEMA, &mut out), Ok(Status::Done));
+    assert_eq!(rt; out.as_slice(), b"ok\n".as_slice());
+    Ok(())
+}
+
+#[test]
+fn a_schema_fault_is_told_with_nothing_written(rt: HostRuntime) -> Result<(), Fail> {
+    let table = [
+        (b"".as_slice(), SchemaFault::Dimensions),
+        (b"dimensions = [".as_slice(), SchemaFault::Toml),
+        (b"title = \"x\"\n".as_slice(), SchemaFault::UnknownKey),
+        (b"dimensions = [\"a\"]\n".as_slice(), SchemaFault::Measures),
+    ];
+    for (file, fault) in table {
+        let mut out = Vec::new(rt.alloc());
+        assert_eq!(rt;
+            check(rt.alloc(), file, &mut out),
+            Err(Failure::Schema(fault))
+        );
+        assert_eq!(rt; out.as_slice().len(), 0);
+    }
+    Ok(())
+}
+
+#[test]
+fn a_schema_file_may_have_1048576_bytes_and_no_more(rt: HostRuntime) -> Result<(), Fail> {
+    let mut out = Vec::new(rt.alloc());
+    let longest = schema_of_length(1048576);
+    assert_eq!(rt; check(rt.alloc(), longest, &mut out), Ok(Status::Done));
+    assert_eq!(rt; out.as_slice(), b"ok\n".as_slice());
+    let longer = schema_of_length(1048577);
+    assert_eq!(rt;
+        check(rt.alloc(), longer, &mut out),
+        Err(Failure::Unreadable)
+    );
+    assert_eq!(rt; out.as_slice(), b"ok\n".as_slice());
+    Ok(())
+}
+
+#[test]
+fn a_schema_that_cannot_be_read_is_unreadable(rt: HostRuntime) -> Result<(), Fail> {
+    let mut out = Vec::new(rt.alloc());
+    assert_eq!(rt;
+        check(rt.alloc(), Broken, &mut out),
+        Err(Failure::Unreadable)
+    );
+    let half = SCHEMA.chain(Broken);
+    assert_eq!(rt; check(rt.alloc(), half, &mut out), Err(Failure::Unreadable));
+    assert_eq!(rt; out.as_slice().len(), 0);
+    Ok(())
+}
+
+#[test]
+fn a_line_that_cannot_be_written_is_told_with_the_bytes(rt: HostRuntime) -> Result<(), Fail> {
+    for room in [0, 1, 2] {
+        let mut out = writer_of(rt.alloc(), room);
+        assert_eq!(rt;
+            check(rt.alloc(), SCHEMA, &mut out),
+            Err(Failure::Run(RunFault::Write { sent: room }))
+        );
+        assert_eq!(rt; out.taken.as_slice().len(), room);
+    }
     Ok(())
 }
