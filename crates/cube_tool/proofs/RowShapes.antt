@@ -1,17 +1,14 @@
 -- The rows of a cube over facts that fit have the shape of their schema.
-use Rattle.std.proofs.Common.{◌≡◌, ℕ, suc, Bool, true, false, ◌&&◌, ◌||◌, List, [], ◌∷◌, length, map, refl, sym, ap, ◌∙◌, arith, inl, inr, true≢false}
-use Rattle.std.specs.Prelude.{◌⊎◌, ◌==◌, All, Contains, Option, Some, None}
+use Rattle.std.proofs.Common.{◌≡◌, ℕ, suc, true, ◌&&◌, List, [], ◌∷◌, length, map, refl, sym, ap, ◌∙◌, arith, inl, inr, true≢false}
+use Rattle.std.specs.Prelude.{◌==◌, All, Contains, Option}
 use Rattle.std.specs.List.{AllByRecursion, AllZip, list_any, list_all}
 use Rattle.std.proofs.lemmas.Bool.{eqb-true}
 use Rattle.std.proofs.lemmas.List.Elements.{All-from_recursion}
 use Rattle.cube_core.specs.Layout.{Layout}
 use Rattle.cube_core.specs.Takes.{fits, is_dimension_value}
 use Rattle.cube_core.specs.Covers.{covers, all_stand_for, stands_for}
-use Rattle.cube_core.specs.Answer.{AreAnswers, IsAnswer}
 use Rattle.cube_core.specs.GroupingSet.{all_sets, is_among, mask_of, is_all_coord}
 use Rattle.cube_core.specs.Cube.{AreRows, HasAnswers, is_cell, is_total, key_of}
-use Rattle.cube_core.specs.declared.aggregate.Agg.{Agg}
-use Rattle.cube_core.specs.declared.aggregate.Answer.{Answer}
 use Rattle.cube_core.specs.declared.key.Coord.{Coord}
 use Rattle.cube_core.specs.declared.key.Key.{Key}
 use Rattle.cube_core.specs.declared.key.Row.{Row}

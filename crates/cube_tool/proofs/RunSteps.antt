@@ -1,14 +1,14 @@
 -- A run over a feed, item by item: what was taken, and what is to come.
-use Rattle.std.proofs.Common.{◌≡◌, ◌≤◌, ℕ, false, List, [], ◌∷◌, ◌++◌, length, take, map, refl, sym, ap, ◌∙◌, subst, append_assoc}
+use Rattle.std.proofs.Common.{◌≡◌, ◌≤◌, ℕ, false, List, [], ◌∷◌, ◌++◌, length, take, refl, sym, ap, ◌∙◌, subst, append_assoc}
 use Rattle.std.specs.Prelude.{⊤, Option, Some, None, option_map, Result, Ok, Err, is_err, OnOk, IfSome}
 use Rattle.std.proofs.lemmas.List.{append-nil, map-append}
 use Rattle.cube_core.specs.Layout.{Layout}
 use Rattle.cube_core.specs.Records.{records_of}
-use Rattle.cube_core.specs.Items.{FeedEnd, Good, WrongHeader, TooManyRecords, items_of, IsGoodFeed}
+use Rattle.cube_core.specs.Items.{FeedEnd, Good, WrongHeader, TooManyRecords, items_of}
 use Rattle.cube_core.specs.Surviving.{AreSurviving}
 use Rattle.cube_core.specs.Printed.{IsPrinted}
 use Rattle.cube_core.specs.declared.change.Item.{Item}
-use Rattle.cube_feed.specs.Feed.{ToCome, FeedView, Gives, to_come, fault_of, first_then, nothing_but}
+use Rattle.cube_feed.specs.Feed.{ToCome, FeedView, Gives, to_come, fault_of, nothing_but}
 use Rattle.cube_feed.specs.declared.fault.FeedFault.{FeedFault}
 use Rattle.cube_feed.specs.declared.fault.FeedFault.TheVariants.{Memory, Read, Header, TooMany}
 use Rattle.cube_tool.specs.InsertsOnly.{as_insert, inserts_only}

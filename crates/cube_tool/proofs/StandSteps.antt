@@ -1,9 +1,9 @@
 -- How a builder that stands at a list of items comes to stand at the list with one more item.
 use Rattle.std.proofs.Common.{◌≡◌, ℕ, Bool, true, false, ◌&&◌, List, [], ◌∷◌, ◌++◌, map, refl, sym, ap, ◌∙◌, subst}
-use Rattle.std.specs.Prelude.{Option, Some, None, is_some, Result, Ok, Err, if◌then◌else◌, not, option_map, map as list_map}
+use Rattle.std.specs.Prelude.{Option, Some, None, is_some, Result, Ok, Err, if◌then◌else◌, not, option_map}
 use Rattle.std.specs.Option.{option_to_list}
 use Rattle.std.specs.Str.{bytes_eq}
-use Rattle.std.specs.List.{list_any, filter_map, cons_option, IsDistinct}
+use Rattle.std.specs.List.{list_any, cons_option, IsDistinct}
 use Rattle.std.proofs.lemmas.List.{append-nil, map-append}
 use Rattle.std.proofs.lemmas.List.Elements.{filter_map-append}
 use Rattle.std.proofs.lemmas.List.Folds.{list_all-append}
@@ -11,7 +11,7 @@ use Rattle.cube_tool.proofs.Tests.{and_second}
 use Rattle.cube_core.specs.Layout.{Layout}
 use Rattle.cube_core.specs.Takes.{takes, fits, is_id}
 use Rattle.cube_core.specs.Life.{life_of, changes_of, taken_change}
-use Rattle.cube_core.specs.Refusals.{code_of_fault, code_of, refusal_of, refusals_of, code_by_presence, present_code, shape_code}
+use Rattle.cube_core.specs.Refusals.{code_of_fault, code_of, refusals_of, code_by_presence, present_code, shape_code}
 use Rattle.cube_core.proofs.RefusalLaws.{refusals_of-more}
 use Rattle.cube_core.specs.declared.fact.Fact.{Fact}
 use Rattle.cube_core.specs.declared.change.Change.{Change}

@@ -1,14 +1,9 @@
 -- What a builder keeps in the end are the surviving facts.
-use Rattle.std.proofs.Common.{◌≡◌, ℕ, Bool, true, List, refl, sym, ◌∙◌}
-use Rattle.std.specs.Prelude.{Option, Some, None, is_some, IsSome, Contains}
-use Rattle.std.specs.Str.{bytes_eq}
-use Rattle.std.specs.List.{list_any}
+use Rattle.std.proofs.Common.{List, sym, ◌∙◌}
 use Rattle.std.proofs.lemmas.Slice.Eq.{bytes_eq-Decides}
 use Rattle.std.proofs.lemmas.Map.Views.{Contains-from_any, list_any-from_Contains}
 use Rattle.std.specs.Cmp.Lexicographic.{nat_list_eq_equiv}
-use Rattle.cube_core.specs.Life.{life_of, changes_of}
 use Rattle.cube_core.specs.Surviving.{AreSurviving}
-use Rattle.cube_core.specs.declared.fact.Fact.{Fact}
 use Rattle.cube_core.specs.declared.change.Item.{Item}
 use Rattle.cube_tool.specs.Kept.{Kept, StandsAt}
 

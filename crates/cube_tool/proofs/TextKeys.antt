@@ -1,5 +1,5 @@
 -- A set of texts, seen through their bytes.
-use Rattle.std.proofs.Common.{◌≡◌, ℕ, Bool, ◌||◌, List, [], ◌∷◌, ◌++◌, map, refl, ap, ◌∙◌}
+use Rattle.std.proofs.Common.{◌≡◌, ◌||◌, List, [], ◌∷◌, map, refl, ap}
 use Rattle.std.specs.Prelude.{String}
 use Rattle.std.proofs.Common.{Global}
 use Rattle.std.specs.Str.{bytes_eq}

@@ -1,4 +1,4 @@
-use Rattle.std.proofs.Common.{◌≡◌, List, ℕ, subst, sym, ap}
+use Rattle.std.proofs.Common.{List, ℕ, subst, sym}
 use Rattle.cube_core.specs.Printed.{IsPrinted}
 use Rattle.cube_tool.proofs.RunSteps.{runs_feed, writes_part}
 use Rattle.cube_tool.proofs.run.run_feed.Goals as goal
