@@ -1,6 +1,7 @@
 //! Each public call of the values and of the schema, once with ample memory.
 use cube_core::{
-    Agg, Answer, Change, Coord, Fact, Key, Schema, Sequence, Text, covers, plain_rows, reduced,
+    Agg, Answer, Change, Coord, Fact, Key, LineFault, Schema, Sequence, Text, covers, plain_rows,
+    reduced,
 };
 use cube_tool::{Builder, print_rows, write_whole};
 use std::alloc::{AllocError, Global};
@@ -125,6 +126,21 @@ fn a_fact_with_the_null_text_does_not_fit(rt: HostRuntime) -> Result<(), Fail> {
             id: text(alloc, "")?
         })
     );
+    Ok(())
+}
+
+#[test]
+fn each_line_fault_shows_its_code(rt: HostRuntime) -> Result<(), Fail> {
+    let faults = [
+        (LineFault::Op, "L1"),
+        (LineFault::Fields, "L2"),
+        (LineFault::Text, "L3"),
+        (LineFault::Id, "L4"),
+        (LineFault::Measure, "L5"),
+    ];
+    for (fault, code) in faults {
+        assert_eq!(rt; fault.to_string(rt.alloc())?.as_str(), code);
+    }
     Ok(())
 }
 
