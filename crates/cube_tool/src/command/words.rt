@@ -1,5 +1,5 @@
 //! The command line.
-ghost use Rattle.std.specs.Prelude.{◌≡◌, ◌≢◌, ◌≤◌, ◌∷◌, [], ℕ, List, codes, false, true, length, map, Ok, IfOk, IfErr, IfSome, MatchResult};
+ghost use Rattle.std.specs.Prelude.{◌≡◌, ◌≢◌, ◌≤◌, ◌⊎◌, ◌∷◌, [], ℕ, List, codes, false, true, length, map, Ok, IfOk, IfErr, IfSome, MatchResult};
 ghost use Rattle.clap.specs.Words.{HasMatchesOf, app_of, kind_of, subcommand_rows_of, takes};
 ghost use Rattle.clap.specs.declared.builder.command.Command.TheViews.{out-Command as fields_of};
 ghost use Rattle.clap.specs.declared.error.kind.ErrorKind.TheVariants as kind;
@@ -123,7 +123,9 @@ fn complete<'a>(alloc: Global, request: Option<Request<'a>>) -> Result<Request<'
 }
 
 /// What there is to say of a command that lacks a word. `clap` itself answers so.
-fn incomplete_words(alloc: Global) -> Result<Error, AllocError> {
+fn incomplete_words(alloc: Global) -> Result<Error, AllocError>
+    ensures { IfOk result (λ error. kind_of error ≡ kind.MissingRequiredArgument) }
+{
     let mut command = program(alloc)?;
     command.error(
         ErrorKind::MissingRequiredArgument,
@@ -132,7 +134,9 @@ fn incomplete_words(alloc: Global) -> Result<Error, AllocError> {
 }
 
 /// What there is to say of words that the system couldn't give as text.
-pub fn unreadable_words(alloc: Global, error: &io::Error) -> Error {
+pub fn unreadable_words(alloc: Global, error: &io::Error) -> Error
+    ensures { (kind_of result ≡ kind.InvalidValue) ⊎ (kind_of result ≡ kind.OutOfMemory) }
+{
     if error.kind() == io::ErrorKind::OutOfMemory {
         return Error::from(AllocError);
     }
@@ -142,7 +146,9 @@ pub fn unreadable_words(alloc: Global, error: &io::Error) -> Error {
     }
 }
 
-fn words_not_text(alloc: Global) -> Result<Error, AllocError> {
+fn words_not_text(alloc: Global) -> Result<Error, AllocError>
+    ensures { IfOk result (λ error. kind_of error ≡ kind.InvalidValue) }
+{
     let mut command = program(alloc)?;
     command.error(
         ErrorKind::InvalidValue,
