@@ -14,6 +14,9 @@ use indexmap::IndexSet;
 use std::alloc::{AllocError, Global};
 use std::marker::Model;
 
+/// How many sources there are, until each has a book.
+const SOURCES: u32 = 1;
+
 /// The code of an insert of an id that is present.
 const PRESENT: u8 = 6;
 
@@ -80,7 +83,7 @@ impl Builder {
     pub fn sources(&self) -> u32
         ensures { result ≡ 1 }
     {
-        1
+        SOURCES
     }
 
     /// How many facts are present.
