@@ -15,9 +15,3 @@ pub mod GroupingSet
 pub mod Cube
 pub mod Text
 pub mod Printed
-pub mod LawsLife
-pub mod LawsSets
-pub mod LawsKeys
-pub mod LawsCells
-pub mod LawsRollup
-pub mod LawsSchema

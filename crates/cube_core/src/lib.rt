@@ -9,7 +9,6 @@ mod change;
 mod fact;
 mod fraction;
 mod key;
-pub mod laws;
 mod plain;
 mod schema;
 mod schema_fault;
