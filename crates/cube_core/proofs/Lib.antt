@@ -10,3 +10,4 @@ pub mod PlainCells
 pub mod PlainKeys
 pub mod PlainOrder
 pub mod PlainRows
+pub mod SetLaws

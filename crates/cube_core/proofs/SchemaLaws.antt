@@ -9,6 +9,10 @@ use Rattle.std.proofs.lemmas.Bool.Decides.{nat_tests}
 use Rattle.std.proofs.lemmas.List.Folds.{list_all-append, list_all-map}
 use Rattle.std.proofs.lemmas.Option.{same_Some, cond_some}
 use Rattle.toml.specs.Data.{Data, integer, get_member, Members}
+use Rattle.std.proofs.lemmas.List.FromFn.{length-range_with_len}
+use Rattle.std.proofs.lemmas.Nat.{pow_pos}
+use Rattle.cube_core.specs.GroupingSet.{all_sets}
+use Rattle.cube_core.proofs.SetLaws.{all_sets-IsStrictlyIncreasing, all_sets-All}
 use Rattle.cube_core.specs.Layout.{IsSchema, spelling_of, is_aggregate_of, is_lawful_name, are_distinct}
 use Rattle.cube_core.specs.SchemaDocument.{is_some_up_to, are_lawful_names, aggregates_over, aggregate_spelled, are_spellings, record_limit, max_records_in, default_max_records, dimensions_in, measures_in, spellings_in}
 use Rattle.cube_core.specs.declared.aggregate.Agg.{Agg}
@@ -110,22 +114,22 @@ some_up_to most texts is =
     (grind (arith, nat_tests), grind (arith, nat_tests))
 
 -- parts read off a document that has none of the faults make a schema
-pub makes_schema : (document : Members) (dimensions measures texts : List (List ℕ)) (aggregates : List Agg) (limit : ℕ)
+pub makes_schema : (document : Members) (dimensions measures texts : List (List ℕ)) (aggregates : List Agg) (limit : ℕ) (sets : List ℕ)
     → (dimensions ≡ dimensions_in document) × (is_some_up_to 8 (dimensions_in document) ≡ true)
     → (measures ≡ measures_in document) × (is_some_up_to 4 (measures_in document) ≡ true)
     → are_lawful_names (dimensions ++ measures) ≡ true
     → (texts ≡ spellings_in document) × (is_some_up_to 16 (spellings_in document) ≡ true)
     → (aggregates ≡ filter_map (aggregate_spelled measures) texts) × (are_spellings measures texts ≡ true)
-    → Some limit ≡ max_records_in document
-    → IsSchema (record { dimensions = dimensions; measures = measures; aggregates = aggregates; aggregate_texts = texts; max_records = limit })
-makes_schema document dimensions measures texts aggregates limit d m names t spellings limit_is =
+    → Some limit ≡ max_records_in document → sets ≡ all_sets (length dimensions)
+    → IsSchema (record { dimensions = dimensions; measures = measures; aggregates = aggregates; aggregate_texts = texts; max_records = limit; grouping_sets = sets; version = 1 })
+makes_schema document dimensions measures texts aggregates limit sets d m names t spellings limit_is sets_are =
     let ds = some_up_to 8 dimensions (rw d.0 d.1) in
     let ms = some_up_to 4 measures (rw m.0 m.1) in
     let ts = some_up_to 16 texts (rw t.0 t.1) in
     let range = max_records_range document limit (sym limit_is) in
     let (lawful, distinct) = and_parts (list_all is_lawful_name (dimensions ++ measures)) (are_distinct (dimensions ++ measures)) names in
     let all = all_spelled measures texts spellings.1 in
-    rw spellings.0 (record {
+    rw (spellings.0, sets_are) (record {
       some_dimension = ds.0;
       dimensions_at_most = ds.1;
       some_measure = ms.0;
@@ -138,4 +142,9 @@ makes_schema document dimensions measures texts aggregates limit d m names t spe
       aggregates_are_spelled = all.spelled;
       some_record = range.0;
       records_at_most = range.1;
+      some_set = rw (length-range_with_len 0 (2 ^ length dimensions)) (pow_pos (length dimensions));
+      sets_are_ascending = all_sets-IsStrictlyIncreasing (length dimensions);
+      sets_are_of_dimensions = all_sets-All (length dimensions);
+      version_at_least = omega arith;
+      version_at_most = omega arith;
     })

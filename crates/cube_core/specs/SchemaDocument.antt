@@ -6,6 +6,7 @@ use Rattle.std.specs.List.{list_all, filter_map, range_with_len}
 use Rattle.toml.specs.Data.{Data, string, integer, as_array, Items, no_items, item, Members, no_members, member, get_member}
 use Rattle.toml.specs.Parse.{parse_document}
 use Rattle.cube_core.specs.Layout.{Layout, is_listed, are_distinct, is_lawful_name, spelling_of}
+use Rattle.cube_core.specs.GroupingSet.{all_sets}
 use Rattle.cube_core.specs.declared.aggregate.Agg.{Agg}
 use Rattle.cube_core.specs.declared.aggregate.Agg.TheVariants.{CountAll, Count, Sum, Min, Max, Avg}
 use Rattle.cube_core.specs.declared.schema_fault.SchemaFault.{SchemaFault}
@@ -109,6 +110,8 @@ layout_of document = record {
   aggregates = filter_map (aggregate_spelled (measures_in document)) (spellings_in document);
   aggregate_texts = spellings_in document;
   max_records = unwrap_or (max_records_in document) default_max_records;
+  grouping_sets = all_sets (length (dimensions_in document));
+  version = 1;
 }
 
 -- what a document says: its first fault, or its schema

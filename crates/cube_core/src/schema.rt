@@ -22,6 +22,8 @@ pub struct Schema {
     aggregates: Vec<Agg>,
     aggregate_texts: Vec<Text>,
     max_records: u32,
+    grouping_sets: Vec<u8>,
+    version: u32,
 }
 
 impl Model for Schema {
@@ -35,6 +37,8 @@ impl Model for Schema {
       aggregates = s.aggregates.items;
       aggregate_texts = s.aggregate_texts.items;
       max_records = s.max_records;
+      grouping_sets = s.grouping_sets.items;
+      version = s.version;
     } };
 
     ghost invariant = { λ s. IsSchema (record {
@@ -43,6 +47,8 @@ impl Model for Schema {
       aggregates = s.aggregates.items;
       aggregate_texts = s.aggregate_texts.items;
       max_records = s.max_records;
+      grouping_sets = s.grouping_sets.items;
+      version = s.version;
     }) };
 }
 
@@ -63,6 +69,8 @@ impl Schema {
             aggregates: sample_aggregates(alloc)?,
             aggregate_texts: sample_aggregate_texts(alloc)?,
             max_records: u32::MAX,
+            grouping_sets: sample_sets(alloc)?,
+            version: 1,
         })
     }
 
@@ -73,6 +81,8 @@ impl Schema {
         aggregates: Vec<Agg>,
         aggregate_texts: Vec<Text>,
         max_records: u32,
+        grouping_sets: Vec<u8>,
+        version: u32,
     ) -> Schema
         requires { IsSchema (record {
           dimensions = dimensions.items;
@@ -80,6 +90,8 @@ impl Schema {
           aggregates = aggregates.items;
           aggregate_texts = aggregate_texts.items;
           max_records = max_records;
+          grouping_sets = grouping_sets.items;
+          version = version;
         }) }
         ensures { result ≡ record {
           dimensions = dimensions.items;
@@ -87,6 +99,8 @@ impl Schema {
           aggregates = aggregates.items;
           aggregate_texts = aggregate_texts.items;
           max_records = max_records;
+          grouping_sets = grouping_sets.items;
+          version = version;
         } }
     {
         Schema {
@@ -95,6 +109,8 @@ impl Schema {
             aggregates,
             aggregate_texts,
             max_records,
+            grouping_sets,
+            version,
         }
     }
 
@@ -108,6 +124,8 @@ impl Schema {
             aggregates: Vec::from_slice(alloc, &self.aggregates)?,
             aggregate_texts: copy_texts(alloc, &self.aggregate_texts)?,
             max_records: self.max_records,
+            grouping_sets: Vec::from_slice(alloc, &self.grouping_sets)?,
+            version: self.version,
         })
     }
 
@@ -149,6 +167,23 @@ impl Schema {
         ensures schema { IsSchema self.now }
     {
         self.max_records
+    }
+
+    /// The masks of the grouping sets that are kept, in ascending order, each once; at least one. The mask of a set
+    /// is the sum of 2 to the power d over its dimensions d, from 0.
+    pub fn grouping_sets(&self) -> &[u8]
+        ensures value { result.now ≡ self.now.grouping_sets }
+        ensures schema { IsSchema self.now }
+    {
+        self.grouping_sets.as_slice()
+    }
+
+    /// The version of the schema's feeds, 1 or 2.
+    pub fn version(&self) -> u32
+        ensures value { result ≡ self.now.version }
+        ensures schema { IsSchema self.now }
+    {
+        self.version
     }
 
     /// Whether a fact has this schema's numbers of dimensions and measures, and no dimension text `\N`, which
@@ -205,6 +240,13 @@ fn sample_aggregates(alloc: Global) -> Result<Vec<Agg>, AllocError>
         Agg::Avg(0),
     ]?;
     Ok(aggregates)
+}
+
+fn sample_sets(alloc: Global) -> Result<Vec<u8>, AllocError>
+    ensures { IfOk result (λ sets. sets.items ≡ sample_layout.grouping_sets) }
+{
+    let sets = vec![in alloc; 0, 1, 2, 3]?;
+    Ok(sets)
 }
 
 fn sample_aggregate_texts(alloc: Global) -> Result<Vec<Text>, AllocError>

@@ -1,9 +1,10 @@
 //! Reads a schema from a TOML document.
-ghost use Rattle.std.specs.Prelude.{◌≡◌, ◌≢◌, ℕ, List, ◌++◌, codes, false, true, IfOk, MatchOption, option_map, position};
+ghost use Rattle.std.specs.Prelude.{◌≡◌, ◌≢◌, ◌≤◌, ℕ, List, ◌++◌, codes, false, true, IfOk, MatchOption, option_map, position};
 ghost use Rattle.std.specs.Str.{bytes_eq};
 ghost use Rattle.std.specs.List.{list_all, filter_map};
 ghost use Rattle.toml.specs.Data.{get_member};
 ghost use Rattle.toml.specs.View.{view, table_view, items_view};
+ghost use Rattle.cube_core.specs.GroupingSet.{all_sets};
 ghost use Rattle.cube_core.specs.Layout.{is_listed, are_distinct, is_lawful_name};
 ghost use Rattle.cube_core.specs.SchemaDocument.{AnswersBytes, AnswersDocument, known_keys, has_known_keys, texts_of, texts_at, texts_in, is_some_up_to, are_lawful_names, aggregate_spelled, are_spellings, record_limit, max_records_in};
 
@@ -58,12 +59,15 @@ fn schema_of(alloc: Global, document: &Table) -> Result<Schema, SchemaFault>
     let Some(max_records) = max_records_in(document) else {
         return Err(SchemaFault::MaxRecords);
     };
+    let grouping_sets = all_sets(alloc, dimensions.len())?;
     Ok(Schema::from_parts(
         dimensions,
         measures,
         aggregates,
         aggregate_texts,
         max_records,
+        grouping_sets,
+        1,
     ))
 }
 
@@ -250,6 +254,19 @@ fn max_records_in(document: &Table) -> Option<u32>
         Some(value) => record_limit(value),
         None => Some(u32::MAX),
     }
+}
+
+/// The masks of all grouping sets of so many dimensions.
+fn all_sets(alloc: Global, dimensions: usize) -> Result<Vec<u8>, AllocError>
+    requires { dimensions ≤ 8 }
+    ensures { IfOk result (λ sets. sets.items ≡ all_sets dimensions) }
+{
+    let count = 1u32 << dimensions;
+    let mut sets = Vec::with_capacity(alloc, count as usize)?;
+    for set in 0..count {
+        sets.push(set as u8)?;
+    }
+    Ok(sets)
 }
 
 fn record_limit(value: &Value) -> Option<u32>

@@ -1,4 +1,5 @@
-use Rattle.std.proofs.Common.{◌≡◌, ◌++◌, rules, true}
+use Rattle.std.proofs.Common.{◌≡◌, ◌++◌, length, rules, true}
+use Rattle.cube_core.specs.GroupingSet.{all_sets}
 use Rattle.std.specs.List.{filter_map}
 use Rattle.toml.specs.View.{table_view}
 use Rattle.cube_core.specs.SchemaDocument.{is_some_up_to, are_lawful_names, dimensions_in, measures_in, spellings_in, aggregate_spelled, are_spellings}
@@ -13,4 +14,5 @@ from_parts-requires c =
     let names : are_lawful_names (c.in-Some.dimensions.items ++ c.in-Some-2.measures.items) ≡ true = search rules in
     let texts : (c.in-Some-3.aggregate_texts.items ≡ spellings_in document) × (is_some_up_to 16 (spellings_in document) ≡ true) = search rules in
     let spelled : (c.in-Some-4.aggregates.items ≡ filter_map (aggregate_spelled c.in-Some-2.measures.items) c.in-Some-3.aggregate_texts.items) × (are_spellings c.in-Some-2.measures.items c.in-Some-3.aggregate_texts.items ≡ true) = search rules in
-    makes_schema document _ _ _ _ _ dimensions measures names texts spelled (c.in-Some-max_records_in.ensures {u = tt})
+    let sets : c.in_ok-grouping_sets.grouping_sets.items ≡ all_sets (length c.in-Some.dimensions.items) = search rules in
+    makes_schema document _ _ _ _ _ _ dimensions measures names texts spelled (c.in-Some-max_records_in.ensures {u = tt}) sets
