@@ -19,12 +19,13 @@ use Rattle.cube_core.specs.declared.key.Coord.{Coord}
 use Rattle.cube_core.specs.declared.key.Coord.TheVariants as coord
 use Rattle.cube_core.specs.declared.key.Key.{Key}
 use Rattle.cube_core.specs.declared.key.Row.{Row}
-use Rattle.cube_laws.proofs.RowLaws.{same_key}
 use Rattle.cube_laws.proofs.RowOrderLaws.{Reordered}
-use Rattle.cube_laws.proofs.CountLaws.{dimensions_of, each_contained, was_in, stays_in, key_is_cell, map_filtered}
-use Rattle.cube_laws.proofs.GroupCountLaws.{count_of_one, count_of_none, SharedOut, joined_groups, groups_join}
+use Rattle.cube_laws.proofs.CountLaws.{dimensions_of, key_is_cell}
+use Rattle.cube_laws.proofs.GroupCountLaws.{count_of_one, SharedOut, joined_groups, groups_join}
 use Rattle.cube_core.proofs.PlainKeys.{coord_of, coord_of_is, mask_below, length_standing}
 use Rattle.cube_core.proofs.PlainOrder.{key_cmp_total, exact_keys}
+use Rattle.cube_core.proofs.ListLaws.{Contains-AllByRecursion, Contains-filter, count_by-none, filter-Contains, map-filter}
+use Rattle.cube_core.proofs.PlainCells.{same_key}
 
 -- a value or null stands for itself
 stands_itself : (value : Option (List ℕ)) → stands_for (coord_of value true) value ≡ true
@@ -142,19 +143,19 @@ module _ (s : Layout) (facts : List Fact) (rows : List Row) (are : AreRows s fac
       let is_cell : Contains (map key_of rows) one = key_is_cell s facts rows are one fact among drilled_covers is_set in
       count_of_one key_cmp_total (λ key. covers key fact) one keys_below
       (IsStrictlySortedBy-filter key_cmp (drills_down dimension above) (map key_of rows) are.ordered)
-      (stays_in (drills_down dimension above) (map key_of rows) one is_cell (drilled_key_drills fact))
+      (filter-Contains (drills_down dimension above) (map key_of rows) one is_cell (drilled_key_drills fact))
       drilled_covers
       (λ key key_among key_covers.
-      let rolled = rolled_to dimension above key (was_in (drills_down dimension above) (map key_of rows) key key_among).1 in
+      let rolled = rolled_to dimension above key (Contains-filter (drills_down dimension above) (map key_of rows) key key_among).1 in
       same_key key one
       (sym (drilled_back key.coords dimension fact.dims key_covers rolled.0)
       ∙ ap (λ (key : Key). drilled key.coords dimension fact.dims) rolled.1))
 
   -- no key below covers another fact
   none_below : (fact : Fact) → covers above fact ≡ false → count_by (λ key. covers key fact) keys_below ≡ 0
-  none_below fact other = count_of_none (λ key. covers key fact) keys_below (λ key key_among.
+  none_below fact other = count_by-none (λ key. covers key fact) keys_below (λ key key_among.
       false_from_ne_true (covers key fact) (λ key_covers.
-      let rolled = rolled_to dimension above key (was_in (drills_down dimension above) (map key_of rows) key key_among).1 in
+      let rolled = rolled_to dimension above key (Contains-filter (drills_down dimension above) (map key_of rows) key key_among).1 in
       let covered : covers above fact ≡ true = subst (λ (key : Key). covers key fact ≡ true) rolled.1 (rolled_stands key.coords dimension fact.dims key_covers) in
       absurd (let both : true ≡ false = sym covered ∙ other in cc)))
 
@@ -162,8 +163,8 @@ module _ (s : Layout) (facts : List Fact) (rows : List Row) (are : AreRows s fac
   pub below_join : HaveDimensions (length s.dimensions) facts →
       Reordered (joined_groups (map key_of (rows_below dimension above rows)) facts) (group_of above facts)
   below_join dims =
-      subst (λ keys. Reordered (joined_groups keys facts) (group_of above facts)) (sym (map_filtered key_of (drills_down dimension above) rows))
-      (groups_join keys_below (covers above) facts (each_contained (SharedOut keys_below (covers above)) facts (λ fact among. record {
+      subst (λ keys. Reordered (joined_groups keys facts) (group_of above facts)) (sym (map-filter key_of (drills_down dimension above) rows))
+      (groups_join keys_below (covers above) facts (Contains-AllByRecursion (SharedOut keys_below (covers above)) facts (λ fact among. record {
         one = one_below fact among (dimensions_of (length s.dimensions) facts fact dims among);
         no_other = none_below fact;
       })))
