@@ -15,3 +15,4 @@ pub mod GroupingSet
 pub mod Cube
 pub mod Text
 pub mod Printed
+pub mod Sources
