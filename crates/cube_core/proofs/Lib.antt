@@ -1,3 +1,4 @@
+pub mod ListLaws
 pub mod CommonDivisors
 mod ReducedFraction
 pub mod SchemaReading
