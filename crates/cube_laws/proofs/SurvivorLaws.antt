@@ -13,7 +13,7 @@ use Rattle.cube_core.specs.Surviving.{Survive, AreSurviving}
 use Rattle.cube_core.specs.declared.fact.Fact.{Fact}
 use Rattle.cube_core.specs.declared.change.Change.{Change}
 use Rattle.cube_core.specs.declared.change.Item.{Item}
-use Rattle.cube_laws.specs.Survivors.{SurviveTogether, IsPrintedOf}
+use Rattle.cube_core.specs.Sources.{SurviveTogether, IsPrintedOf}
 use Rattle.cube_core.proofs.LifeLaws.{same_text}
 use Rattle.cube_laws.proofs.RowLaws.{same_text as printed-same}
 use Rattle.cube_laws.proofs.RowOrderLaws.{Reordered, none, next, both, back, reordered, permutation, filter_map_reordered, text_stays}

@@ -4,4 +4,3 @@ pub mod Keys
 pub mod Cells
 pub mod Rollup
 pub mod Written
-pub mod Survivors

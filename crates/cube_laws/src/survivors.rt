@@ -2,7 +2,7 @@
 ghost use Rattle.std.specs.Prelude.{◌≡◌, ◌↔◌, ℕ, List, [], ◌∷◌, IsPermutation};
 ghost use Rattle.cube_core.specs.Layout.{Layout};
 ghost use Rattle.cube_core.specs.Surviving.{Survive, AreSurviving};
-ghost use Rattle.cube_laws.specs.Survivors.{SurviveTogether, IsPrintedOf};
+ghost use Rattle.cube_core.specs.Sources.{SurviveTogether, IsPrintedOf};
 ghost use Rattle.cube_core.specs.declared.fact.Fact.{Fact};
 ghost use Rattle.cube_core.specs.declared.change.Change.{Change};
 ghost use Rattle.cube_core.specs.declared.change.Item.{Item};
