@@ -8,7 +8,7 @@ use Rattle.cube_core.specs.Life.{life_of}
 use Rattle.cube_core.proofs.LifeLaws.{life_after, life_more, life_other, nothing_after_delete, same_text}
 use Rattle.cube_core.specs.declared.fact.Fact.{Fact}
 use Rattle.cube_core.specs.declared.change.Change.{Change}
-use Rattle.cube_core.specs.declared.change.Change.TheVariants.{Insert, Update, Delete}
+use Rattle.cube_core.specs.declared.change.Change.TheVariants.{Insert, Update, Amend, Delete}
 use Rattle.cube_laws.specs.Life.{is_insert_of, inserts}
 
 -- after a delete an id is absent
@@ -22,6 +22,10 @@ life_none_more id changes (Insert named fact) absent uninserted = life_other id 
 life_none_more id changes (Update named fact) absent uninserted = elim (cases_Bool (bytes_eq id named)) [
   | inl same ↦ life_more id changes (Update named fact) same ∙ ap (life_after (Update named fact)) absent
   | inr other ↦ life_other id changes (Update named fact) other ∙ absent
+]
+life_none_more id changes (Amend named part) absent uninserted = elim (cases_Bool (bytes_eq id named)) [
+  | inl same ↦ life_more id changes (Amend named part) same ∙ ap (life_after (Amend named part)) absent
+  | inr other ↦ life_other id changes (Amend named part) other ∙ absent
 ]
 life_none_more id changes (Delete named) absent uninserted = elim (cases_Bool (bytes_eq id named)) [
   | inl same ↦ life_more id changes (Delete named) same ∙ ap (life_after (Delete named)) absent

@@ -5,12 +5,13 @@ use Rattle.std.specs.List.{list_any}
 use Rattle.cube_core.specs.Life.{life_of}
 use Rattle.cube_core.specs.declared.fact.Fact.{Fact}
 use Rattle.cube_core.specs.declared.change.Change.{Change}
-use Rattle.cube_core.specs.declared.change.Change.TheVariants.{Insert, Update, Delete}
+use Rattle.cube_core.specs.declared.change.Change.TheVariants.{Insert, Update, Amend, Delete}
 
 -- whether a change inserts an id
 abbrev pub is_insert_of : List ℕ → Change → Bool
 is_insert_of id (Insert named fact) = bytes_eq id named
 is_insert_of id (Update named fact) = false
+is_insert_of id (Amend named part) = false
 is_insert_of id (Delete named) = false
 
 -- whether a list of changes inserts an id
