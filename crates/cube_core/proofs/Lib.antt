@@ -1,6 +1,8 @@
 pub mod CommonDivisors
 mod ReducedFraction
 pub mod SchemaReading
+pub mod GroupingReading
+pub mod GroupingLaws
 pub mod SchemaSpelling
 pub mod SchemaLaws
 pub mod LifeLaws
