@@ -11,3 +11,4 @@ pub mod PlainKeys
 pub mod PlainOrder
 pub mod PlainRows
 pub mod SetLaws
+pub mod QueryLaws

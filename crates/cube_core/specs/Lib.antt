@@ -13,5 +13,6 @@ pub mod Answer
 pub mod Order
 pub mod GroupingSet
 pub mod Cube
+pub mod Query
 pub mod Text
 pub mod Printed
