@@ -15,3 +15,4 @@ pub mod PlainKeys
 pub mod PlainOrder
 pub mod PlainRows
 pub mod SetLaws
+pub mod QueryLaws
