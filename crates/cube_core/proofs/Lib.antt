@@ -7,6 +7,7 @@ pub mod GroupingLaws
 pub mod SchemaSpelling
 pub mod SchemaLaws
 pub mod AmendmentLaws
+pub mod ItemLaws
 pub mod LifeLaws
 pub mod RefusalLaws
 pub mod PlainAnswers
