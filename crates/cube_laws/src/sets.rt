@@ -3,7 +3,8 @@ ghost use Rattle.std.specs.Prelude.{◌≡◌, ℕ, ◌≤◌, IsTrue, List, len
 ghost use Rattle.cube_core.specs.Layout.{Layout};
 ghost use Rattle.cube_core.specs.Cube.{AreRows, AreRowsOver, is_cell};
 ghost use Rattle.cube_core.specs.GroupingSet.{is_among, sets_of_part};
-ghost use Rattle.cube_laws.specs.Sets.{AreGroupingSets, rows_in, IsTrueOfOne};
+ghost use Rattle.cube_core.specs.GroupingSet.{AreGroupingSets};
+ghost use Rattle.cube_laws.specs.Sets.{rows_in, IsTrueOfOne};
 ghost use Rattle.cube_core.specs.declared.fact.Fact.{Fact};
 ghost use Rattle.cube_core.specs.declared.key.Key.{Key};
 ghost use Rattle.cube_core.specs.declared.key.Row.{Row};
