@@ -3,7 +3,8 @@ ghost use Rattle.std.specs.Prelude.{◌≡◌, length};
 
 use cube_cells::{Cell, Counted};
 use cube_core::{Agg, Answer};
-use std::alloc::AllocError;
+use std::alloc::{AllocError, Global};
+use std::process::Abort;
 use std::test::Fail;
 
 fn add(values: &mut Counted, value: i64) -> Result<(), AllocError> {
@@ -17,43 +18,41 @@ fn ends_of(values: &Counted) -> (Option<i64>, Option<i64>) {
     (values.least(), values.greatest())
 }
 
+// Checks a number at an end of the range beside the numbers from 0 on, so many of them, of which `last` is the last.
+fn check_end(
+    rt: &impl Abort,
+    alloc: Global,
+    end: i64,
+    others: i64,
+    last: Option<i64>,
+) -> Result<(), AllocError> {
+    let mut values = Counted::new(alloc);
+    for value in 0..others {
+        add(&mut values, value)?;
+    }
+    add(&mut values, end)?;
+    add(&mut values, end)?;
+    let both = match last {
+        None => (Some(end), Some(end)),
+        Some(_) if end < 0 => (Some(end), last),
+        Some(_) => (Some(0), Some(end)),
+    };
+    assert_eq!(rt; ends_of(&values), both, "beside {others}");
+    assert!(rt; values.remove(end), "beside {others}");
+    assert_eq!(rt; ends_of(&values), both, "beside {others}");
+    assert!(rt; values.remove(end), "beside {others}");
+    assert!(rt; !values.remove(end), "beside {others}");
+    assert_eq!(rt; ends_of(&values), (last.map(|_| 0), last), "beside {others}");
+    Ok(())
+}
+
 // One number alone, a few, and hundreds are kept in three different forms.
 #[test]
 fn the_ends_of_64_bits_are_held_in_every_form(rt: HostRuntime) -> Result<(), Fail> {
-    for others in [0, 1, 3, 300] {
-        for end in [i64::MIN, i64::MAX] {
-            let mut values = Counted::new(rt.alloc());
-            for value in 0..others {
-                add(&mut values, value)?;
-            }
-            add(&mut values, end)?;
-            add(&mut values, end)?;
-            let least = if end < 0 || others == 0 { end } else { 0 };
-            let greatest = if end > 0 || others == 0 {
-                end
-            } else {
-                others - 1
-            };
-            assert_eq!(rt;
-                ends_of(&values),
-                (Some(least), Some(greatest)),
-                "beside {others}"
-            );
-            assert!(rt; values.remove(end), "beside {others}");
-            assert_eq!(rt;
-                ends_of(&values),
-                (Some(least), Some(greatest)),
-                "beside {others}"
-            );
-            assert!(rt; values.remove(end), "beside {others}");
-            assert!(rt; !values.remove(end), "beside {others}");
-            let left = if others == 0 {
-                (None, None)
-            } else {
-                (Some(0), Some(others - 1))
-            };
-            assert_eq!(rt; ends_of(&values), left, "beside {others}");
-        }
+    let beside = [(0, None), (1, Some(0)), (3, Some(2)), (300, Some(299))];
+    for (others, last) in beside {
+        check_end(&rt, rt.alloc(), i64::MIN, others, last)?;
+        check_end(&rt, rt.alloc(), i64::MAX, others, last)?;
     }
     Ok(())
 }
