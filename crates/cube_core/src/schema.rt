@@ -20,13 +20,13 @@ use std::marker::Model;
 /// All names differ, and none is empty, `op`, `id` or `*`.
 #[derive(Debug, Drop)]
 pub struct Schema {
-    dimensions: Vec<Text>,
-    measures: Vec<Text>,
-    aggregates: Vec<Agg>,
-    aggregate_texts: Vec<Text>,
-    max_records: u32,
-    grouping_sets: Vec<u8>,
-    version: u32,
+    pub(crate) dimensions: Vec<Text>,
+    pub(crate) measures: Vec<Text>,
+    pub(crate) aggregates: Vec<Agg>,
+    pub(crate) aggregate_texts: Vec<Text>,
+    pub(crate) max_records: u32,
+    pub(crate) grouping_sets: Vec<u8>,
+    pub(crate) version: u32,
 }
 
 impl Model for Schema {
@@ -75,46 +75,6 @@ impl Schema {
             grouping_sets: sample_sets(alloc)?,
             version: 1,
         })
-    }
-
-    /// The schema of parts that make one.
-    pub(crate) fn from_parts(
-        dimensions: Vec<Text>,
-        measures: Vec<Text>,
-        aggregates: Vec<Agg>,
-        aggregate_texts: Vec<Text>,
-        max_records: u32,
-        grouping_sets: Vec<u8>,
-        version: u32,
-    ) -> Schema
-        requires { IsSchema (record {
-          dimensions = dimensions.items;
-          measures = measures.items;
-          aggregates = aggregates.items;
-          aggregate_texts = aggregate_texts.items;
-          max_records = max_records;
-          grouping_sets = grouping_sets.items;
-          version = version;
-        }) }
-        ensures { result ≡ record {
-          dimensions = dimensions.items;
-          measures = measures.items;
-          aggregates = aggregates.items;
-          aggregate_texts = aggregate_texts.items;
-          max_records = max_records;
-          grouping_sets = grouping_sets.items;
-          version = version;
-        } }
-    {
-        Schema {
-            dimensions,
-            measures,
-            aggregates,
-            aggregate_texts,
-            max_records,
-            grouping_sets,
-            version,
-        }
     }
 
     /// A copy; the only error is want of memory.

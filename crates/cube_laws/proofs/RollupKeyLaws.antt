@@ -12,7 +12,7 @@ use Rattle.cube_core.specs.Cube.{key_of}
 use Rattle.cube_core.specs.Group.{group_of}
 use Rattle.cube_core.specs.GroupingSet.{is_all_coord, is_all_at, mask_of}
 use Rattle.cube_laws.specs.Cells.{AreRowsOfCube, HaveDimensions}
-use Rattle.cube_laws.specs.Rollup.{rolled_up, drills_down, rows_below}
+use Rattle.cube_core.specs.Query.{rolled_up, drills_down, rows_below}
 use Rattle.cube_core.specs.Order.{key_cmp}
 use Rattle.cube_core.specs.declared.fact.Fact.{Fact}
 use Rattle.cube_core.specs.declared.key.Coord.{Coord}

@@ -9,7 +9,8 @@ use Rattle.cube_core.specs.Answer.{IsSum, IsBest, IsLeast, IsGreatest, IsAnswer}
 use Rattle.cube_core.specs.Cube.{key_of}
 use Rattle.cube_core.specs.Group.{group_of, values_of, value_of}
 use Rattle.cube_laws.specs.Cells.{group_size, answer_at, count_at, count_of_answer}
-use Rattle.cube_laws.specs.Rollup.{IsRolledUp, drills_down, rows_below, numbers_at, gives_numbers}
+use Rattle.cube_core.specs.Query.{drills_down, rows_below}
+use Rattle.cube_laws.specs.Rollup.{IsRolledUp, numbers_at, gives_numbers}
 use Rattle.cube_core.specs.declared.aggregate.Agg.{Agg}
 use Rattle.cube_core.specs.declared.aggregate.Agg.TheVariants as agg
 use Rattle.cube_core.specs.declared.aggregate.Answer.{Answer}

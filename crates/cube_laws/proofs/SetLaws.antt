@@ -8,7 +8,8 @@ use Rattle.std.proofs.lemmas.Bool.{cases_Bool, or_cases, or_left, or_right, and_
 use Rattle.cube_core.specs.Cube.{is_cell, key_of, HasAnswers, AreRowsOver}
 use Rattle.cube_core.specs.Order.{key_cmp}
 use Rattle.cube_core.specs.GroupingSet.{mask_of, all_sets, is_among, sets_of_part}
-use Rattle.cube_laws.specs.Sets.{AreGroupingSets, rows_in, IsTrueOfOne}
+use Rattle.cube_core.specs.GroupingSet.{AreGroupingSets}
+use Rattle.cube_laws.specs.Sets.{rows_in, IsTrueOfOne}
 use Rattle.cube_core.specs.declared.aggregate.Agg.{Agg}
 use Rattle.cube_core.specs.declared.fact.Fact.{Fact}
 use Rattle.cube_core.specs.declared.key.Key.{Key}

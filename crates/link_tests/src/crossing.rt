@@ -16,7 +16,8 @@ struct Sends {
 }
 
 impl Promise<Option<Receipt<u64>>> for Sends {
-    ghost kept_by = { λ p r. IfSome r (λ receipt. (receipt.link ≡ p.outlet.value.link) × (receipt.sent ≡ p.outlet.value.sent ++ p.numbers.value.items)) };
+    ghost kept_by = { λ p r. IfSome r (λ receipt. (receipt.link ≡ p.outlet.value.link)
+        × (receipt.sent ≡ p.outlet.value.sent ++ p.numbers.value.items)) };
 }
 
 /// Sends numbers through a link from a thread of its own, and receives them on this one. None where memory or a
@@ -68,7 +69,8 @@ fn receive<'s, 'e: 's, R: Threads + Wait + Sync + 'e>(
             promise,
             move || -> Option<Receipt<u64>>
                 ensures link { IfSome result (λ receipt. receipt.link ≡ outlet.link) }
-                ensures sent { IfSome result (λ receipt. receipt.sent ≡ outlet.sent ++ numbers.items) }
+                ensures sent { IfSome result (λ receipt.
+                    receipt.sent ≡ outlet.sent ++ numbers.items) }
             { send_all(rt, outlet, numbers) },
         )
         .ok()?;
