@@ -12,9 +12,9 @@ use Rattle.std.proofs.lemmas.Map.Keys.{IsDistinct-from_sorted}
 use Rattle.std.proofs.lemmas.Map.Made.{length-le_from_is_member}
 use Rattle.cube_core.specs.Layout.{Layout}
 use Rattle.cube_core.specs.Covers.{covers, all_stand_for, stands_for}
-use Rattle.cube_core.specs.Cube.{key_of, is_total}
+use Rattle.cube_core.specs.Cube.{AreRows, key_of, is_total}
 use Rattle.cube_core.specs.GroupingSet.{is_all_coord, is_among, mask_of, all_sets}
-use Rattle.cube_laws.specs.Cells.{AreRowsOfCube, CoveringKeys, HaveValuesAmong, most_cells}
+use Rattle.cube_laws.specs.Cells.{CoveringKeys, HaveValuesAmong, most_cells}
 use Rattle.cube_core.specs.Order.{key_cmp}
 use Rattle.cube_core.specs.declared.fact.Fact.{Fact}
 use Rattle.cube_core.specs.declared.key.Coord.{Coord}
@@ -158,7 +158,7 @@ total_among (values ∷ other_values) (coord.Text name ∷ coords) long all = cc
 
 -- the cells are no more than the product
 pub cells_at_most : (s : Layout) (facts : List Fact) (rows : List Row) (values : List (List (Option (List ℕ)))) →
-    AreRowsOfCube s facts rows → length values ≡ length s.dimensions → HaveValuesAmong values facts →
+    AreRows s facts rows → length values ≡ length s.dimensions → HaveValuesAmong values facts →
     length rows ≤ most_cells values
 cells_at_most s facts rows values are long among =
     let at_most : length (map key_of rows) ≤ length (map key_with (coords_over values))

@@ -7,10 +7,10 @@ use Rattle.std.proofs.lemmas.List.Kept.{IsStrictlySortedBy-filter}
 use Rattle.cube_core.specs.Layout.{Layout}
 use Rattle.cube_core.specs.Answer.{IsAnswer, AreAnswers}
 use Rattle.cube_core.specs.Covers.{covers, all_stand_for}
-use Rattle.cube_core.specs.Cube.{HasAnswers, key_of, is_total}
+use Rattle.cube_core.specs.Cube.{AreRows, HasAnswers, key_of, is_total}
 use Rattle.cube_core.specs.Group.{group_of}
 use Rattle.cube_core.specs.GroupingSet.{is_all_coord, is_among, mask_of, all_sets}
-use Rattle.cube_laws.specs.Cells.{AreRowsOfCube, HaveDimensions, rows_in_set, group_size, answer_at, count_at, count_of_answer}
+use Rattle.cube_laws.specs.Cells.{HaveDimensions, rows_in_set, group_size, answer_at, count_at, count_of_answer}
 use Rattle.cube_core.specs.Order.{key_cmp}
 use Rattle.cube_core.specs.declared.aggregate.Agg.{Agg}
 use Rattle.cube_core.specs.declared.aggregate.Agg.TheVariants as agg
@@ -42,7 +42,7 @@ is_in_set set key = mask_of key == set
 abbrev pub key_in_set : ℕ → Fact → Key
 key_in_set set fact = record { coords = ancestor_of fact.dims set }
 
-module _ (s : Layout) (facts : List Fact) (rows : List Row) (are : AreRowsOfCube s facts rows) where
+module _ (s : Layout) (facts : List Fact) (rows : List Row) (are : AreRows s facts rows) where
   -- the key of each fact's grouping set is a cell
   pub key_is_cell : (key : Key) (fact : Fact) → Contains facts fact → covers key fact ≡ true →
       mask_of key < 2 ^ length s.dimensions → Contains (map key_of rows) key
@@ -104,7 +104,7 @@ answer_at_place group (a ∷ aggregates) (x ∷ answers) (suc place) aggregate h
     answer_at_place group aggregates answers place aggregate h.1 at_place
 
 -- the answers of a row of the cube
-pub row_answer : (s : Layout) (facts : List Fact) (rows : List Row) → AreRowsOfCube s facts rows → (row : Row) →
+pub row_answer : (s : Layout) (facts : List Fact) (rows : List Row) → AreRows s facts rows → (row : Row) →
     Contains rows row → (place : ℕ) (aggregate : Agg) → slice_get s.aggregates place ≡ Some aggregate →
     IsAnswer (group_of row.key facts) aggregate (answer_at place row)
 row_answer s facts rows are row among place aggregate at_place =
@@ -112,7 +112,7 @@ row_answer s facts rows are row among place aggregate at_place =
     (AllByRecursion-Contains (HasAnswers s.aggregates facts) rows row are.answers among) at_place
 
 -- the counts of the rows of a grouping set add up to the number of facts
-pub set_answers : (s : Layout) (facts : List Fact) (rows : List Row) (set place : ℕ) → AreRowsOfCube s facts rows →
+pub set_answers : (s : Layout) (facts : List Fact) (rows : List Row) (set place : ℕ) → AreRows s facts rows →
     HaveDimensions (length s.dimensions) facts → set < 2 ^ length s.dimensions →
     slice_get s.aggregates place ≡ Some agg.CountAll → sum_by (count_at place) (rows_in_set set rows) ≡ length facts
 set_answers s facts rows set place are dims below at_place =
@@ -142,7 +142,7 @@ total_group dimensions facts key dims total =
     all_stand key.coords fact.dims parts.1 (long ∙ sym (dimensions_of dimensions facts fact dims among))))
 
 -- the count of the grand total is the number of facts
-pub total_counts : (s : Layout) (facts : List Fact) (rows : List Row) (row : Row) (place : ℕ) → AreRowsOfCube s facts rows →
+pub total_counts : (s : Layout) (facts : List Fact) (rows : List Row) (row : Row) (place : ℕ) → AreRows s facts rows →
     HaveDimensions (length s.dimensions) facts → Contains rows row → is_total (length s.dimensions) row.key ≡ true →
     slice_get s.aggregates place ≡ Some agg.CountAll → answer_at place row ≡ answer.Count (length facts)
 total_counts s facts rows row place are dims among total at_place =

@@ -8,10 +8,10 @@ use Rattle.std.proofs.lemmas.List.Kept.{IsStrictlySortedBy-filter}
 use Rattle.std.proofs.lemmas.Slice.Eq.{bytes_eq-Decides}
 use Rattle.cube_core.specs.Layout.{Layout}
 use Rattle.cube_core.specs.Covers.{covers, all_stand_for, stands_for}
-use Rattle.cube_core.specs.Cube.{key_of}
+use Rattle.cube_core.specs.Cube.{AreRows, key_of}
 use Rattle.cube_core.specs.Group.{group_of}
 use Rattle.cube_core.specs.GroupingSet.{is_all_coord, is_all_at, mask_of}
-use Rattle.cube_laws.specs.Cells.{AreRowsOfCube, HaveDimensions}
+use Rattle.cube_laws.specs.Cells.{HaveDimensions}
 use Rattle.cube_core.specs.Query.{rolled_up, drills_down, rows_below}
 use Rattle.cube_core.specs.Order.{key_cmp}
 use Rattle.cube_core.specs.declared.fact.Fact.{Fact}
@@ -112,7 +112,7 @@ rolled_to dimension above key h =
 equals_itself : (key : Key) → eq_by_cmp key_cmp key key ≡ true
 equals_itself key = ap (λ o. eq_by_cmp (λ (x y : ℕ). o) 0 0) (tied_itself key_cmp_total key)
 
-module _ (s : Layout) (facts : List Fact) (rows : List Row) (are : AreRowsOfCube s facts rows) (above : Key) (dimension : ℕ)
+module _ (s : Layout) (facts : List Fact) (rows : List Row) (are : AreRows s facts rows) (above : Key) (dimension : ℕ)
     (all : is_all_at above dimension ≡ true) where
   -- the key that drills down to a fact
   abbrev drilled_key : Fact → Key

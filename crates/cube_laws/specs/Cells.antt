@@ -1,8 +1,6 @@
 -- What the laws of counts speak of: the rows of a grouping set, the answers of a row, the keys that cover a fact (Gray et al. 1997; grouping sets as in SQL:1999).
 use Rattle.std.specs.Prelude.{◌≡◌, ◌==◌, ◌↔◌, ◌+◌, ◌*◌, ◌^◌, ℕ, IsTrue, List, [], ◌∷◌, length, map, get_or, filter, Contains, Option}
 use Rattle.std.specs.List.{AllByRecursion, AllZip}
-use Rattle.cube_core.specs.Layout.{Layout}
-use Rattle.cube_core.specs.Cube.{AreRowsOver}
 use Rattle.cube_core.specs.Covers.{covers}
 use Rattle.cube_core.specs.Group.{group_of}
 use Rattle.cube_core.specs.GroupingSet.{mask_of, all_sets}
@@ -11,10 +9,6 @@ use Rattle.cube_core.specs.declared.aggregate.Answer.TheVariants as answer
 use Rattle.cube_core.specs.declared.fact.Fact.{Fact}
 use Rattle.cube_core.specs.declared.key.Key.{Key}
 use Rattle.cube_core.specs.declared.key.Row.{Row}
-
--- these are the rows of CUBE over a schema's dimensions, whichever grouping sets the schema keeps: the cells of all sets
-abbrev pub AreRowsOfCube : Layout → List Fact → List Row → Type 0
-AreRowsOfCube s facts rows = AreRowsOver (all_sets (length s.dimensions)) (length s.dimensions) s.aggregates facts rows
 
 -- each fact has a value or null for each of so many dimensions
 abbrev pub HaveDimensions : ℕ → List Fact → Type 0

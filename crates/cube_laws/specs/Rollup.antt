@@ -2,8 +2,9 @@
 use Rattle.std.specs.Prelude.{◌≡◌, ℕ, ℤ, Bool, true, false, List, length, Contains, Option, Some, None}
 use Rattle.std.specs.List.{AllByRecursion, filter_map}
 use Rattle.cube_core.specs.Layout.{Layout}
+use Rattle.cube_core.specs.Cube.{AreRows}
 use Rattle.cube_core.specs.GroupingSet.{is_all_at}
-use Rattle.cube_laws.specs.Cells.{AreRowsOfCube, HaveDimensions, answer_at}
+use Rattle.cube_laws.specs.Cells.{HaveDimensions, answer_at}
 use Rattle.cube_core.specs.declared.aggregate.Agg.{Agg}
 use Rattle.cube_core.specs.declared.aggregate.Agg.TheVariants as agg
 use Rattle.cube_core.specs.declared.aggregate.Answer.{Answer}
@@ -37,7 +38,7 @@ gives_numbers (agg.Avg m) = false
 
 -- this row is one of the cube over these facts, and its key is ALL in this dimension
 pub record IsRolledUp (s : Layout) (facts : List Fact) (rows : List Row) (row : Row) (dimension : ℕ) : Type 0 where
-  pub are_rows : AreRowsOfCube s facts rows
+  pub are_rows : AreRows s facts rows
   pub dimensions : HaveDimensions (length s.dimensions) facts
   pub row_of_cube : Contains rows row
   pub is_all : is_all_at row.key dimension ≡ true

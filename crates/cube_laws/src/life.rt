@@ -14,34 +14,27 @@ pub fn is_absent_at_first()
 
 /// An insert of an absent id puts its fact (this project's choice).
 pub fn insert_of_absent_puts()
-    ensures { (id : List ℕ) (changes : List Change) (fact : Fact) → IsAbsent id changes →
-        IsPresentWith id (changes ++ Insert id fact ∷ []) fact }
+    ensures { (id : List ℕ) (changes : List Change) (fact : Fact) → IsAbsent id changes → IsPresentWith id (changes ++ Insert id fact ∷ []) fact }
 {}
 
 /// A second insert of an id that is present changes nothing (this project's choice).
 pub fn second_insert_changes_nothing()
-    ensures { (id : List ℕ) (changes : List Change) (fact other : Fact) →
-        IsPresentWith id changes fact → IsPresentWith id (changes ++ Insert id other ∷ []) fact }
+    ensures { (id : List ℕ) (changes : List Change) (fact other : Fact) → IsPresentWith id changes fact → IsPresentWith id (changes ++ Insert id other ∷ []) fact }
 {}
 
 /// An update of a present id puts its fact in place of the other (this project's choice).
 pub fn update_of_present_puts()
-    ensures { (id : List ℕ) (changes : List Change) (fact other : Fact) →
-        IsPresentWith id changes fact → IsPresentWith id (changes ++ Update id other ∷ []) other }
+    ensures { (id : List ℕ) (changes : List Change) (fact other : Fact) → IsPresentWith id changes fact → IsPresentWith id (changes ++ Update id other ∷ []) other }
 {}
 
 /// An update of a present id does what a delete and an insert do (Gray et al. 1997).
 pub fn update_is_delete_and_insert()
-    ensures { (id : List ℕ) (changes : List Change) (fact other : Fact) →
-        IsPresentWith id changes fact →
-        life_of id (changes ++ Update id other ∷ [])
-        ≡ life_of id (changes ++ Delete id ∷ Insert id other ∷ []) }
+    ensures { (id : List ℕ) (changes : List Change) (fact other : Fact) → IsPresentWith id changes fact → life_of id (changes ++ Update id other ∷ []) ≡ life_of id (changes ++ Delete id ∷ Insert id other ∷ []) }
 {}
 
 /// An update of an absent id changes nothing (this project's choice).
 pub fn update_of_absent_changes_nothing()
-    ensures { (id : List ℕ) (changes : List Change) (fact : Fact) → IsAbsent id changes →
-        IsAbsent id (changes ++ Update id fact ∷ []) }
+    ensures { (id : List ℕ) (changes : List Change) (fact : Fact) → IsAbsent id changes → IsAbsent id (changes ++ Update id fact ∷ []) }
 {}
 
 /// After a delete an id is absent, whether or not it was present (this project's choice).
@@ -51,12 +44,10 @@ pub fn is_absent_after_delete()
 
 /// An absent id stays absent until it is inserted, whatever else happens (this project's choice).
 pub fn stays_absent_until_insert()
-    ensures { (id : List ℕ) (changes later : List Change) → IsAbsent id changes →
-        inserts id later ≡ false → IsAbsent id (changes ++ later) }
+    ensures { (id : List ℕ) (changes later : List Change) → IsAbsent id changes → inserts id later ≡ false → IsAbsent id (changes ++ later) }
 {}
 
 /// What happens to other ids changes nothing of an id (this project's choice).
 pub fn others_change_nothing()
-    ensures { (id : List ℕ) (changes : List Change) (change : Change) → id_of change ≢ id →
-        life_of id (changes ++ change ∷ []) ≡ life_of id changes }
+    ensures { (id : List ℕ) (changes : List Change) (change : Change) → id_of change ≢ id → life_of id (changes ++ change ∷ []) ≡ life_of id changes }
 {}
