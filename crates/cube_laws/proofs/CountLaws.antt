@@ -103,23 +103,6 @@ same_sums f g [] same = refl
 same_sums f g (x ∷ xs) same =
     sum_by-cons f x xs ∙ ap₂ (λ m n. m + n) same.0 (same_sums f g xs same.1) ∙ sym (sum_by-cons g x xs)
 
--- a number from a on and below a + n is in the range
-in_range : (a n set : ℕ) → a ≤ set → set < a + n → list_any (λ other. other == set) (range_with_len a n) ≡ true
-in_range a zero set from below = absurd (omega arith)
-in_range a (suc n) set from below = elim (cases_Bool (a == set)) [
-  | inl here ↦ or_left (a == set) (list_any (λ other. other == set) (range_with_len (a + 1) n)) here
-  | inr after ↦
-      or_right (a == set) (list_any (λ other. other == set) (range_with_len (a + 1) n))
-      (in_range (a + 1) n set (later after) (omega arith))
-]
-  where
-    later : (a == set) ≡ false → a + 1 ≤ set
-    later other = grind (arith, nat_tests)
-
--- each mask below 2 to the power of the dimensions is a grouping set
-pub is_a_set : (set dimensions : ℕ) → set < 2 ^ dimensions → is_among set (all_sets dimensions) ≡ true
-is_a_set set dimensions below = in_range 0 (2 ^ dimensions) set (omega arith) (omega arith)
-
 -- a test that passes all keeps all
 pub all_kept : {X : Type 0} (xs : List X) → filter (λ _. true) xs ≡ xs
 all_kept [] = refl
@@ -141,13 +124,12 @@ key_in_set set fact = record { coords = ancestor_of fact.dims set }
 module _ (s : Layout) (facts : List Fact) (rows : List Row) (are : AreRows s facts rows) where
   -- the key of each fact's grouping set is a cell
   pub key_is_cell : (key : Key) (fact : Fact) → Contains facts fact → covers key fact ≡ true →
-      mask_of key < 2 ^ length s.dimensions → Contains (map key_of rows) key
-  key_is_cell key fact among covered below =
+      is_among (mask_of key) s.grouping_sets ≡ true → Contains (map key_of rows) key
+  key_is_cell key fact among covered kept =
       let dimensions = length s.dimensions in
       let has_fact : list_any (covers key) facts ≡ true = any_passes (covers key) facts fact among covered in
       (are.cells key).1
-      (and_from (is_among (mask_of key) (all_sets dimensions)) (is_total dimensions key || list_any (covers key) facts)
-      (is_a_set (mask_of key) dimensions below)
+      (and_from (is_among (mask_of key) s.grouping_sets) (is_total dimensions key || list_any (covers key) facts) kept
       (or_right (is_total dimensions key) (list_any (covers key) facts) has_fact))
 
   -- the keys of the rows of a grouping set
@@ -155,30 +137,30 @@ module _ (s : Layout) (facts : List Fact) (rows : List Row) (are : AreRows s fac
   keys_in_set set = filter (is_in_set set) (map key_of rows)
 
   -- one key of a grouping set covers a fact
-  pub one_in_set : (set : ℕ) (fact : Fact) → set < 2 ^ length s.dimensions → Contains facts fact →
+  pub one_in_set : (set : ℕ) (fact : Fact) → set < 2 ^ length s.dimensions → is_among set s.grouping_sets ≡ true → Contains facts fact →
       length fact.dims ≡ length s.dimensions →
       count_by (λ key. covers key fact) (keys_in_set set) ≡ 1
-  one_in_set set fact below among dims =
+  one_in_set set fact below kept among dims =
       let one : Key = key_in_set set fact in
       let mask : mask_of one ≡ set = mask_of_ancestor fact.dims set (subst (λ n. set < 2 ^ n) (sym dims) below) in
       let covered : covers one fact ≡ true = ancestor_of_covers fact.dims set in
-      let is_set : mask_of one < 2 ^ length s.dimensions = subst (λ n. n < 2 ^ length s.dimensions) (sym mask) below in
+      let is_kept : is_among (mask_of one) s.grouping_sets ≡ true = ap (λ n. is_among n s.grouping_sets) mask ∙ kept in
       count_of_one key_cmp_total (λ key. covers key fact) one (keys_in_set set)
       (IsStrictlySortedBy-filter key_cmp (is_in_set set) (map key_of rows) are.ordered)
-      (stays_in (is_in_set set) (map key_of rows) one (key_is_cell one fact among covered is_set) (eq-eqb (mask_of one) set mask))
+      (stays_in (is_in_set set) (map key_of rows) one (key_is_cell one fact among covered is_kept) (eq-eqb (mask_of one) set mask))
       covered
       (λ key key_among key_covers.
       let in_set : mask_of key ≡ set = eqb-true (mask_of key) set (was_in (is_in_set set) (map key_of rows) key key_among).1 in
       same_key key one (same_from_mask key.coords one.coords fact.dims key_covers covered (in_set ∙ sym mask)))
 
   -- the groups of the rows of a grouping set have each fact once
-  pub set_counts : (set : ℕ) → HaveDimensions (length s.dimensions) facts → set < 2 ^ length s.dimensions →
+  pub set_counts : (set : ℕ) → HaveDimensions (length s.dimensions) facts → set < 2 ^ length s.dimensions → is_among set s.grouping_sets ≡ true →
       sum_by (group_size facts) (rows_in_set set rows) ≡ length facts
-  set_counts set dims below =
+  set_counts set dims below kept =
       let keys : List Key = keys_in_set set in
       let shared : AllByRecursion (SharedOut keys (λ _. true)) facts
       = each_contained (SharedOut keys (λ _. true)) facts (λ fact among. record {
-        one = λ _. one_in_set set fact below among (dimensions_of (length s.dimensions) facts fact dims among);
+        one = λ _. one_in_set set fact below kept among (dimensions_of (length s.dimensions) facts fact dims among);
         no_other = λ never. cc;
       }) in
       sym (sum_by_mapped key_of (λ key. length (group_of key facts)) (rows_in_set set rows))
@@ -209,14 +191,14 @@ row_answer s facts rows are row among place aggregate at_place =
 
 -- the counts of the rows of a grouping set add up to the number of facts
 pub set_answers : (s : Layout) (facts : List Fact) (rows : List Row) (set place : ℕ) → AreRows s facts rows →
-    HaveDimensions (length s.dimensions) facts → set < 2 ^ length s.dimensions →
+    HaveDimensions (length s.dimensions) facts → set < 2 ^ length s.dimensions → is_among set s.grouping_sets ≡ true →
     slice_get s.aggregates place ≡ Some agg.CountAll → sum_by (count_at place) (rows_in_set set rows) ≡ length facts
-set_answers s facts rows set place are dims below at_place =
+set_answers s facts rows set place are dims below kept at_place =
     same_sums (count_at place) (group_size facts) (rows_in_set set rows)
     (each_contained (λ row. count_at place row ≡ group_size facts row) (rows_in_set set rows) (λ row among.
     let row_of_cube = (was_in (λ (row : Row). mask_of row.key == set) rows row among).0 in
     ap count_of_answer (row_answer s facts rows are row row_of_cube place agg.CountAll at_place)))
-    ∙ set_counts s facts rows are set dims below
+    ∙ set_counts s facts rows are set dims below kept
 
 -- ALL stands for each value
 all_stand : (coords : List Coord) (values : List (Option (List ℕ))) → list_all is_all_coord coords ≡ true →
