@@ -100,7 +100,7 @@ rows_in_sets dimensions aggregates facts rows others sets are whole =
     }
 
 -- a schema's sets are among all
-each_among : (dimensions : ℕ) (sets : List ℕ) → AllByRecursion (λ set. set < 2 ^ dimensions) sets → AreAmong sets (all_sets dimensions)
+pub each_among : (dimensions : ℕ) (sets : List ℕ) → AllByRecursion (λ set. set < 2 ^ dimensions) sets → AreAmong sets (all_sets dimensions)
 each_among dimensions [] below = tt
 each_among dimensions (set ∷ sets) below =
     (set_is_among set dimensions (λ other. other == set) below.0 (eq-eqb set set refl), each_among dimensions sets below.1)

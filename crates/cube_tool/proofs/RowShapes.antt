@@ -7,7 +7,7 @@ use Rattle.std.proofs.lemmas.List.Elements.{All-from_recursion}
 use Rattle.cube_core.specs.Layout.{Layout}
 use Rattle.cube_core.specs.Takes.{fits, is_dimension_value}
 use Rattle.cube_core.specs.Covers.{covers, all_stand_for, stands_for}
-use Rattle.cube_core.specs.GroupingSet.{all_sets, is_among, mask_of, is_all_coord}
+use Rattle.cube_core.specs.GroupingSet.{is_among, mask_of, is_all_coord}
 use Rattle.cube_core.specs.Cube.{AreRows, HasAnswers, is_cell, is_total, key_of}
 use Rattle.cube_core.specs.declared.key.Coord.{Coord}
 use Rattle.cube_core.specs.declared.key.Key.{Key}
@@ -68,5 +68,5 @@ rows_have_shape s facts rows fit are =
     All-from_recursion (HasShapeOf s) rows
     (shapes s facts rows
     (AllByRecursion-from_Contains (λ (key : Key). length key.coords ≡ length s.dimensions) (map key_of rows)
-    (λ key among. length-cell s (all_sets (length s.dimensions)) facts key fit ((are.cells key).0 among)))
+    (λ key among. length-cell s s.grouping_sets facts key fit ((are.cells key).0 among)))
     are.answers)
