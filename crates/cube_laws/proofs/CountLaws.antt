@@ -1,8 +1,7 @@
 -- Each fact is in the group of one cell of each grouping set.
-use Rattle.std.proofs.Common.{◌≡◌, ℕ, zero, suc, ◌+◌, ◌^◌, ◌<◌, ◌≤◌, ◌==◌, ◌||◌, Bool, true, false, cond, List, [], ◌∷◌, length, map, get_or, filter, sum_by, count_by, slice_get, Contains, Option, Some, refl, sym, ap, ap₂, ◌∙◌, subst, inl, inr, arith, eqb-true, eq-eqb}
-use Rattle.std.specs.List.{AllByRecursion, list_any, list_all, range_with_len}
+use Rattle.std.proofs.Common.{◌≡◌, ℕ, zero, suc, ◌+◌, ◌^◌, ◌<◌, ◌==◌, ◌||◌, Bool, true, false, cond, List, [], ◌∷◌, length, map, get_or, filter, sum_by, count_by, slice_get, Contains, Option, Some, refl, sym, ap, ap₂, ◌∙◌, subst, inl, inr, arith, eqb-true, eq-eqb}
+use Rattle.std.specs.List.{AllByRecursion, list_any, list_all}
 use Rattle.std.proofs.lemmas.Bool.{cases_Bool, and_parts, and_from, or_right, or_left, or_cases}
-use Rattle.std.proofs.lemmas.Bool.Decides.{nat_tests}
 use Rattle.std.proofs.lemmas.List.Concat.{length-flat_map}
 use Rattle.std.proofs.lemmas.List.Elements.{Contains-get_or, recursion_from_All, All-filter, All-contains_itself, All-contains, filter_passes}
 use Rattle.std.proofs.lemmas.List.Kept.{IsStrictlySortedBy-filter}
@@ -12,7 +11,7 @@ use Rattle.cube_core.specs.Answer.{IsAnswer, AreAnswers}
 use Rattle.cube_core.specs.Covers.{covers, all_stand_for}
 use Rattle.cube_core.specs.Cube.{AreRows, HasAnswers, key_of, is_total}
 use Rattle.cube_core.specs.Group.{group_of}
-use Rattle.cube_core.specs.GroupingSet.{is_all_coord, is_among, mask_of, all_sets}
+use Rattle.cube_core.specs.GroupingSet.{is_all_coord, is_among, mask_of}
 use Rattle.cube_laws.specs.Cells.{HaveDimensions, rows_in_set, group_size, answer_at, count_at, count_of_answer}
 use Rattle.cube_core.specs.Order.{key_cmp}
 use Rattle.cube_core.specs.declared.aggregate.Agg.{Agg}

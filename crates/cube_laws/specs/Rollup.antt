@@ -1,5 +1,5 @@
 -- Drill-down and roll-up along one dimension (Gray et al. 1997: rolling up replaces the values of a dimension by ALL).
-use Rattle.std.specs.Prelude.{◌≡◌, ◌&&◌, ◌+◌, ◌^◌, ℕ, ℤ, Bool, true, false, not, List, length, Contains, filter, Option, Some, None, slice_set}
+use Rattle.std.specs.Prelude.{◌≡◌, ◌&&◌, ◌+◌, ◌^◌, ℕ, ℤ, Bool, true, false, not, List, Contains, filter, Option, Some, None, slice_set}
 use Rattle.std.specs.List.{AllByRecursion, filter_map}
 use Rattle.std.specs.Ordering.{eq_by_cmp}
 use Rattle.cube_core.specs.Layout.{Layout}
