@@ -37,6 +37,10 @@ sets_of_part j n sets = filter (λ set. set % n == j) sets
 abbrev pub is_among : ℕ → List ℕ → Bool
 is_among set sets = list_any (λ other. other == set) sets
 
+-- each of these sets is among others
+abbrev pub AreAmong : List ℕ → List ℕ → Type 0
+AreAmong sets others = AllByRecursion (λ set. IsTrue (is_among set others)) sets
+
 -- each of these is a grouping set of so many dimensions
 abbrev pub AreGroupingSets : ℕ → List ℕ → Type 0
-AreGroupingSets dimensions sets = AllByRecursion (λ set. IsTrue (is_among set (all_sets dimensions))) sets
+AreGroupingSets dimensions sets = AreAmong sets (all_sets dimensions)

@@ -172,7 +172,7 @@ cells_at_most s facts rows values are long among =
     in_cells : (key : Key) → Contains (map key_of rows) key → StandAmong values key.coords
     in_cells key key_among =
         let dimensions = length s.dimensions in
-        let is_in_set = is_among (mask_of key) (all_sets dimensions) in
+        let is_in_set = is_among (mask_of key) s.grouping_sets in
         let cell = and_parts is_in_set (is_total dimensions key || list_any (covers key) facts) ((are.cells key).0 key_among) in
         elim (or_cases (is_total dimensions key) (list_any (covers key) facts) cell.1) [
           | inl total ↦

@@ -1,7 +1,7 @@
 -- Each fact is in the group of one cell of each grouping set.
-use Rattle.std.proofs.Common.{◌≡◌, ℕ, zero, suc, ◌^◌, ◌<◌, ◌==◌, ◌||◌, Bool, true, List, [], ◌∷◌, length, map, get_or, filter, sum_by, count_by, slice_get, Contains, Option, Some, refl, sym, ap, ◌∙◌, subst, arith, eqb-true, eq-eqb}
+use Rattle.std.proofs.Common.{◌≡◌, ℕ, zero, suc, ◌^◌, ◌<◌, ◌==◌, ◌||◌, Bool, true, List, [], ◌∷◌, length, map, get_or, filter, sum_by, count_by, slice_get, Contains, Option, Some, refl, sym, ap, ◌∙◌, subst, arith, eqb-true, eq-eqb, ◌+◌, false, cond, ap₂, inl, inr}
 use Rattle.std.specs.List.{AllByRecursion, list_any, list_all}
-use Rattle.std.proofs.lemmas.Bool.{and_parts, and_from, or_right}
+use Rattle.std.proofs.lemmas.Bool.{and_parts, and_from, or_right, cases_Bool, or_left, or_cases}
 use Rattle.std.proofs.lemmas.List.Concat.{length-flat_map}
 use Rattle.std.proofs.lemmas.List.Kept.{IsStrictlySortedBy-filter}
 use Rattle.cube_core.specs.Layout.{Layout}
@@ -9,7 +9,7 @@ use Rattle.cube_core.specs.Answer.{IsAnswer, AreAnswers}
 use Rattle.cube_core.specs.Covers.{covers, all_stand_for}
 use Rattle.cube_core.specs.Cube.{AreRows, HasAnswers, key_of, is_total}
 use Rattle.cube_core.specs.Group.{group_of}
-use Rattle.cube_core.specs.GroupingSet.{is_all_coord, is_among, mask_of, all_sets}
+use Rattle.cube_core.specs.GroupingSet.{is_all_coord, is_among, mask_of}
 use Rattle.cube_laws.specs.Cells.{HaveDimensions, rows_in_set, group_size, answer_at, count_at, count_of_answer}
 use Rattle.cube_core.specs.Order.{key_cmp}
 use Rattle.cube_core.specs.declared.aggregate.Agg.{Agg}
@@ -45,13 +45,12 @@ key_in_set set fact = record { coords = ancestor_of fact.dims set }
 module _ (s : Layout) (facts : List Fact) (rows : List Row) (are : AreRows s facts rows) where
   -- the key of each fact's grouping set is a cell
   pub key_is_cell : (key : Key) (fact : Fact) → Contains facts fact → covers key fact ≡ true →
-      mask_of key < 2 ^ length s.dimensions → Contains (map key_of rows) key
-  key_is_cell key fact among covered below =
+      is_among (mask_of key) s.grouping_sets ≡ true → Contains (map key_of rows) key
+  key_is_cell key fact among covered kept =
       let dimensions = length s.dimensions in
       let has_fact : list_any (covers key) facts ≡ true = Contains-list_any (covers key) facts fact among covered in
       (are.cells key).1
-      (and_from (is_among (mask_of key) (all_sets dimensions)) (is_total dimensions key || list_any (covers key) facts)
-      (is_among-all_sets (mask_of key) dimensions below)
+      (and_from (is_among (mask_of key) s.grouping_sets) (is_total dimensions key || list_any (covers key) facts) kept
       (or_right (is_total dimensions key) (list_any (covers key) facts) has_fact))
 
   -- the keys of the rows of a grouping set
@@ -59,30 +58,30 @@ module _ (s : Layout) (facts : List Fact) (rows : List Row) (are : AreRows s fac
   keys_in_set set = filter (is_in_set set) (map key_of rows)
 
   -- one key of a grouping set covers a fact
-  pub one_in_set : (set : ℕ) (fact : Fact) → set < 2 ^ length s.dimensions → Contains facts fact →
+  pub one_in_set : (set : ℕ) (fact : Fact) → set < 2 ^ length s.dimensions → is_among set s.grouping_sets ≡ true → Contains facts fact →
       length fact.dims ≡ length s.dimensions →
       count_by (λ key. covers key fact) (keys_in_set set) ≡ 1
-  one_in_set set fact below among dims =
+  one_in_set set fact below kept among dims =
       let one : Key = key_in_set set fact in
       let mask : mask_of one ≡ set = mask_of_ancestor fact.dims set (subst (λ n. set < 2 ^ n) (sym dims) below) in
       let covered : covers one fact ≡ true = ancestor_of_covers fact.dims set in
-      let is_set : mask_of one < 2 ^ length s.dimensions = subst (λ n. n < 2 ^ length s.dimensions) (sym mask) below in
+      let is_kept : is_among (mask_of one) s.grouping_sets ≡ true = ap (λ n. is_among n s.grouping_sets) mask ∙ kept in
       count_of_one key_cmp_total (λ key. covers key fact) one (keys_in_set set)
       (IsStrictlySortedBy-filter key_cmp (is_in_set set) (map key_of rows) are.ordered)
-      (filter-Contains (is_in_set set) (map key_of rows) one (key_is_cell one fact among covered is_set) (eq-eqb (mask_of one) set mask))
+      (filter-Contains (is_in_set set) (map key_of rows) one (key_is_cell one fact among covered is_kept) (eq-eqb (mask_of one) set mask))
       covered
       (λ key key_among key_covers.
       let in_set : mask_of key ≡ set = eqb-true (mask_of key) set (Contains-filter (is_in_set set) (map key_of rows) key key_among).1 in
       same_key key one (same_from_mask key.coords one.coords fact.dims key_covers covered (in_set ∙ sym mask)))
 
   -- the groups of the rows of a grouping set have each fact once
-  pub set_counts : (set : ℕ) → HaveDimensions (length s.dimensions) facts → set < 2 ^ length s.dimensions →
+  pub set_counts : (set : ℕ) → HaveDimensions (length s.dimensions) facts → set < 2 ^ length s.dimensions → is_among set s.grouping_sets ≡ true →
       sum_by (group_size facts) (rows_in_set set rows) ≡ length facts
-  set_counts set dims below =
+  set_counts set dims below kept =
       let keys : List Key = keys_in_set set in
       let shared : AllByRecursion (SharedOut keys (λ _. true)) facts
       = Contains-AllByRecursion (SharedOut keys (λ _. true)) facts (λ fact among. record {
-        one = λ _. one_in_set set fact below among (dimensions_of (length s.dimensions) facts fact dims among);
+        one = λ _. one_in_set set fact below kept among (dimensions_of (length s.dimensions) facts fact dims among);
         no_other = λ never. cc;
       }) in
       sym (sum_by-map key_of (λ key. length (group_of key facts)) (rows_in_set set rows))
@@ -113,14 +112,14 @@ row_answer s facts rows are row among place aggregate at_place =
 
 -- the counts of the rows of a grouping set add up to the number of facts
 pub set_answers : (s : Layout) (facts : List Fact) (rows : List Row) (set place : ℕ) → AreRows s facts rows →
-    HaveDimensions (length s.dimensions) facts → set < 2 ^ length s.dimensions →
+    HaveDimensions (length s.dimensions) facts → set < 2 ^ length s.dimensions → is_among set s.grouping_sets ≡ true →
     slice_get s.aggregates place ≡ Some agg.CountAll → sum_by (count_at place) (rows_in_set set rows) ≡ length facts
-set_answers s facts rows set place are dims below at_place =
+set_answers s facts rows set place are dims below kept at_place =
     sum_by-same (count_at place) (group_size facts) (rows_in_set set rows)
     (Contains-AllByRecursion (λ row. count_at place row ≡ group_size facts row) (rows_in_set set rows) (λ row among.
     let row_of_cube = (Contains-filter (λ (row : Row). mask_of row.key == set) rows row among).0 in
     ap count_of_answer (row_answer s facts rows are row row_of_cube place agg.CountAll at_place)))
-    ∙ set_counts s facts rows are set dims below
+    ∙ set_counts s facts rows are set dims below kept
 
 -- ALL stands for each value
 all_stand : (coords : List Coord) (values : List (Option (List ℕ))) → list_all is_all_coord coords ≡ true →

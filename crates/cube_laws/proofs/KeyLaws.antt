@@ -12,6 +12,7 @@ use Rattle.cube_core.specs.Takes.{null_text, fits, is_dimension_value}
 use Rattle.cube_core.specs.Covers.{stands_for, all_stand_for, covers}
 use Rattle.cube_core.specs.GroupingSet.{is_all_coord, all_sets}
 use Rattle.cube_core.specs.Cube.{is_total, is_cell, HasAnswers, key_of, AreRows}
+use Rattle.cube_core.specs.Order.{coord_cmp, key_cmp}
 use Rattle.cube_core.specs.Text.{coord_text, grouping_text, answer_text}
 use Rattle.cube_laws.specs.Keys.{is_no_null_text, has_no_null_text, LookAlike, key_columns}
 use Rattle.cube_core.specs.declared.fact.Fact.{Fact}
@@ -147,8 +148,8 @@ shown_alike a b lengths same =
 row_key_told : (s : Layout) (facts : List Fact) (rows : List Row) (a b : Row) → list_all (fits s) facts ≡ true → AreRows s facts rows
     → Contains rows a → Contains rows b → key_columns s a ≡ key_columns s b → a.key ≡ b.key
 row_key_told s facts rows a b fit whole in_a in_b same =
-    let told_a = cell_told s (all_sets (length s.dimensions)) facts a.key fit ((whole.cells a.key).0 (map-Contains key_of rows a in_a)) in
-    let told_b = cell_told s (all_sets (length s.dimensions)) facts b.key fit ((whole.cells b.key).0 (map-Contains key_of rows b in_b)) in
+    let told_a = cell_told s s.grouping_sets facts a.key fit ((whole.cells a.key).0 (map-Contains key_of rows a in_a)) in
+    let told_b = cell_told s s.grouping_sets facts b.key fit ((whole.cells b.key).0 (map-Contains key_of rows b in_b)) in
     key_told a.key b.key told_a.0 told_b.0
     (shown_alike a.key b.key (told_a.1 ∙ sym told_b.1) (sym (shown_in_row s a told_a.1) ∙ same ∙ shown_in_row s b told_b.1))
 

@@ -2,6 +2,7 @@ mod FractionLaws
 mod LifeLaws
 mod SpellingLaws
 mod WrittenLaws
+mod GroupingLaws
 mod RowLaws
 mod RowOrderLaws
 mod GroupCountLaws

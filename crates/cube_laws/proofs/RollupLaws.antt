@@ -75,7 +75,7 @@ module _ (s : Layout) (facts : List Fact) (rows : List Row) (row : Row) (dimensi
 
   -- the facts of the group, and its values, are those of the groups below
   groups_under : Reordered (group_of row.key facts) (joined_groups (map key_of under) facts)
-  groups_under = back (below_join s facts rows is.are_rows row.key dimension is.is_all is.dimensions)
+  groups_under = back (below_join s facts rows is.are_rows row.key dimension is.is_all is.is_kept)
 
   values_move : (m : ℕ) → Reordered (values_in m row) (flat_map (values_in m) under)
   values_move m = subst (Reordered (values_in m row)) (values_joined m under facts) (values_reordered m groups_under)

@@ -1,10 +1,10 @@
 -- What the laws of drill-down and roll-up speak of (Gray et al. 1997: rolling up replaces the values of a dimension by ALL).
-use Rattle.std.specs.Prelude.{◌≡◌, ℕ, ℤ, Bool, true, false, List, length, Contains, Option, Some, None}
+use Rattle.std.specs.Prelude.{◌≡◌, ℕ, ℤ, Bool, true, false, List, length, Contains, Option, Some, None, ◌&&◌, ◌+◌, ◌^◌, not, filter, slice_set}
 use Rattle.std.specs.List.{AllByRecursion, filter_map}
 use Rattle.cube_core.specs.Layout.{Layout}
 use Rattle.cube_core.specs.Cube.{AreRows}
-use Rattle.cube_core.specs.GroupingSet.{is_all_at}
-use Rattle.cube_laws.specs.Cells.{HaveDimensions, answer_at}
+use Rattle.cube_core.specs.GroupingSet.{is_all_at, is_among, mask_of}
+use Rattle.cube_laws.specs.Cells.{answer_at}
 use Rattle.cube_core.specs.declared.aggregate.Agg.{Agg}
 use Rattle.cube_core.specs.declared.aggregate.Agg.TheVariants as agg
 use Rattle.cube_core.specs.declared.aggregate.Answer.{Answer}
@@ -36,9 +36,9 @@ gives_numbers (agg.Min m) = true
 gives_numbers (agg.Max m) = true
 gives_numbers (agg.Avg m) = false
 
--- this row is one of the cube over these facts, and its key is ALL in this dimension
+-- this row is one of the cube over these facts, its key is ALL in this dimension, and the set of the key with the dimension is kept too
 pub record IsRolledUp (s : Layout) (facts : List Fact) (rows : List Row) (row : Row) (dimension : ℕ) : Type 0 where
   pub are_rows : AreRows s facts rows
-  pub dimensions : HaveDimensions (length s.dimensions) facts
   pub row_of_cube : Contains rows row
   pub is_all : is_all_at row.key dimension ≡ true
+  pub is_kept : is_among (mask_of row.key + 2 ^ dimension) s.grouping_sets ≡ true
