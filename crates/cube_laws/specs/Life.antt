@@ -1,16 +1,19 @@
 -- The words of the laws on the life of an id (Gray et al. 1997, section 6; an id is present from an insert to a delete: this project's choice).
-use Rattle.std.specs.Prelude.{◌≡◌, ℕ, Bool, false, List, Some, None}
+use Rattle.std.specs.Prelude.{◌≡◌, ℕ, Bool, false, List, map, Some, None}
 use Rattle.std.specs.Str.{bytes_eq}
 use Rattle.std.specs.List.{list_any}
 use Rattle.cube_core.specs.Life.{life_of}
 use Rattle.cube_core.specs.declared.fact.Fact.{Fact}
 use Rattle.cube_core.specs.declared.change.Change.{Change}
-use Rattle.cube_core.specs.declared.change.Change.TheVariants.{Insert, Update, Delete}
+use Rattle.cube_core.specs.declared.change.Change.TheVariants.{Insert, Update, Amend, Delete}
+use Rattle.cube_core.specs.declared.partial.Field.TheVariants.{Keep, Put}
+use Rattle.cube_core.specs.declared.partial.Partial.{Partial}
 
 -- whether a change inserts an id
 abbrev pub is_insert_of : List ℕ → Change → Bool
 is_insert_of id (Insert named fact) = bytes_eq id named
 is_insert_of id (Update named fact) = false
+is_insert_of id (Amend named part) = false
 is_insert_of id (Delete named) = false
 
 -- whether a list of changes inserts an id
@@ -24,3 +27,11 @@ IsAbsent id changes = life_of id changes ≡ None
 -- an id is present with this fact after a list of changes
 abbrev pub IsPresentWith : List ℕ → List Change → Fact → Type 0
 IsPresentWith id changes fact = life_of id changes ≡ Some fact
+
+-- the amendment that keeps every field of a fact
+abbrev pub keeping : Fact → Partial
+keeping fact = record { dims = map (λ value. Keep) fact.dims; measures = map (λ value. Keep) fact.measures }
+
+-- the amendment that puts every field of a fact
+abbrev pub putting : Fact → Partial
+putting fact = record { dims = map Put fact.dims; measures = map Put fact.measures }
