@@ -1,9 +1,12 @@
 //! The life of an id, change by change (Gray et al. 1997 take an update for a delete and an insert; that an id
 //! lives from an insert to a delete, and that what can't happen to it changes nothing, is this project's choice).
-ghost use Rattle.std.specs.Prelude.{◌≡◌, ◌≢◌, ℕ, List, [], ◌∷◌, ◌++◌, false, length, Option, Some, slice_get, ℤ};
+ghost use Rattle.std.specs.Prelude.{◌≡◌, ◌≢◌, ℕ, List, [], ◌∷◌, ◌++◌, false, true, length, ◌<◌, Option, Some, slice_get, ℤ};
 ghost use Rattle.cube_core.specs.Amendment.{over};
-ghost use Rattle.cube_core.specs.Life.{id_of, life_of};
-ghost use Rattle.cube_laws.specs.Life.{inserts, IsAbsent, IsPresentWith, keeping, putting};
+ghost use Rattle.cube_core.specs.Life.{id_of, naming, since_delete, life_of};
+ghost use Rattle.cube_core.specs.Layout.{Layout};
+ghost use Rattle.cube_core.specs.Takes.{takes};
+ghost use Rattle.std.specs.List.{list_all};
+ghost use Rattle.cube_laws.specs.Life.{inserts, IsAbsent, IsPresentWith, keeping, putting, dimension_puts, measure_puts, last_of};
 ghost use Rattle.cube_core.specs.declared.fact.Fact.{Fact};
 ghost use Rattle.cube_core.specs.declared.change.Change.{Change};
 ghost use Rattle.cube_core.specs.declared.change.Change.TheVariants.{Insert, Update, Amend, Delete};
@@ -79,6 +82,17 @@ pub fn amendment_that_puts_all_is_the_update()
 /// (this project's choice).
 pub fn nothing_from_before_a_delete_is_seen()
     ensures { (id : List ℕ) (before after : List Change) → life_of id (before ++ Delete id ∷ after) ≡ life_of id after }
+{}
+
+/// Each field of the fact of a present id is the one that was put last since the last delete, by a change from the
+/// first insert on, later inserts excepted (this project's choice).
+pub fn each_field_is_the_one_put_last()
+    ensures dimensions { (s : Layout) (id : List ℕ) (changes : List Change) (fact : Fact) (place : ℕ)
+        → list_all (takes s) changes ≡ true → IsPresentWith id changes fact → place < length s.dimensions
+        → slice_get fact.dims place ≡ last_of (dimension_puts place (since_delete (naming id changes))) }
+    ensures measures { (s : Layout) (id : List ℕ) (changes : List Change) (fact : Fact) (place : ℕ)
+        → list_all (takes s) changes ≡ true → IsPresentWith id changes fact → place < length s.measures
+        → slice_get fact.measures place ≡ last_of (measure_puts place (since_delete (naming id changes))) }
 {}
 
 /// After a delete an id is absent, whether or not it was present (this project's choice).
