@@ -99,7 +99,7 @@ fits_part-part_of s fields right lawful =
     and_from _ _ (and_from _ _ (eq-eqb _ _ dims) (eq-eqb _ _ measures)) (dimension_field_of-values s (dimension_fields s fields))
 
 -- only feeds that may amend keep a field
-may_amend-keeps : (s : Layout) (fields : List (List ℕ)) → list_any (is_keep s) fields ≡ true → may_amend s ≡ true
+pub may_amend-keeps : (s : Layout) (fields : List (List ℕ)) → list_any (is_keep s) fields ≡ true → may_amend s ≡ true
 may_amend-keeps s fields keeps = by (may_amend s) refl
   where
     none : (fs : List (List ℕ)) → may_amend s ≡ false → list_any (is_keep s) fs ≡ false

@@ -21,7 +21,7 @@ use Rattle.cube_core.specs.declared.fact.Fact.{Fact}
 use Rattle.cube_core.specs.declared.key.Row.{Row}
 use Rattle.cube_core.specs.declared.schema_fault.SchemaFault.{SchemaFault}
 use Rattle.cube_core.proofs.SetLaws.{all_sets-All}
-use Rattle.cube_laws.proofs.CountLaws.{each_kept}
+use Rattle.cube_core.proofs.ListLaws.{filter-all}
 use Rattle.cube_laws.proofs.SetLaws.{each_among}
 
 -- the schema that is answered is the document's
@@ -35,7 +35,7 @@ layout_read document s is = layout_is (first_fault document) (layout_of document
 -- where all sets are named, all are kept
 all_kept_sets : (dimensions : ℕ) → kept_sets dimensions (all_sets dimensions) ≡ all_sets dimensions
 all_kept_sets dimensions =
-    each_kept (λ set. is_among set (all_sets dimensions)) (all_sets dimensions)
+    filter-all (λ set. is_among set (all_sets dimensions)) (all_sets dimensions)
     (each_among dimensions (all_sets dimensions) (recursion_from_All _ (all_sets dimensions) (all_sets-All dimensions)))
 
 -- without a grouping all are kept

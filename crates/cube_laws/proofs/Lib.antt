@@ -1,5 +1,6 @@
 mod FractionLaws
 mod LifeLaws
+mod FieldLaws
 mod SpellingLaws
 mod WrittenLaws
 mod GroupingLaws

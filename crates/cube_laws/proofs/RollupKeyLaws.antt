@@ -22,7 +22,7 @@ use Rattle.cube_core.specs.declared.key.Key.{Key}
 use Rattle.cube_core.specs.declared.key.Row.{Row}
 use Rattle.cube_laws.proofs.RowOrderLaws.{Reordered}
 use Rattle.cube_laws.proofs.CountLaws.{dimensions_of, key_is_cell}
-use Rattle.cube_laws.proofs.GroupCountLaws.{count_of_one, SharedOut, joined_groups, groups_join, count_of_none}
+use Rattle.cube_laws.proofs.GroupCountLaws.{count_of_one, SharedOut, joined_groups, groups_join}
 use Rattle.cube_core.proofs.PlainKeys.{coord_of, coord_of_is, mask_below, length_standing}
 use Rattle.cube_core.proofs.PlainOrder.{key_cmp_total, exact_keys}
 use Rattle.cube_core.proofs.ListLaws.{Contains-AllByRecursion, Contains-filter, count_by-none, filter-Contains, map-filter}
