@@ -123,7 +123,6 @@ mask_of_eight coords few =
     let bound : 2 ^ length coords ≤ 2 ^ 8 = pow-le-pow_right two few in
     omega (arith, mask_below coords, bound)
 
-
 -- coordinates that stand for values are as many
 pub length_standing : (coords : List Coord) (values : List (Option (List ℕ))) → all_stand_for coords values ≡ true → length coords ≡ length values
 length_standing [] [] s = refl

@@ -9,8 +9,8 @@ ghost use Rattle.cube_core.specs.declared.aggregate.Answer.TheVariants as answer
 ghost use Rattle.cube_core.specs.declared.fact.Fact.{Fact};
 ghost use Rattle.cube_core.specs.declared.key.Row.{Row};
 
-/// Each fact is in one group of each grouping set that is kept (SQL:1999: a grouping set parts the facts into groups): the sizes
-/// of the groups of a set add up to the number of facts.
+/// Each fact is in one group of each grouping set that is kept (SQL:1999: a grouping set parts the facts into
+/// groups): the sizes of the groups of a set add up to the number of facts.
 pub fn groups_part_facts()
     ensures { (s : Layout) (facts : List Fact) (rows : List Row) (set : ℕ) →
         AreRows s facts rows → HaveDimensions (length s.dimensions) facts →
@@ -18,8 +18,8 @@ pub fn groups_part_facts()
         sum_by (group_size facts) (rows_in_set set rows) ≡ length facts }
 {}
 
-/// The answers to `count(*)` of the rows of a grouping set that is kept add up to the number of facts (SQL:1999: COUNT(*) counts
-/// the rows of each group).
+/// The answers to `count(*)` of the rows of a grouping set that is kept add up to the number of facts (SQL:1999:
+/// COUNT(*) counts the rows of each group).
 pub fn counts_add_up()
     ensures { (s : Layout) (facts : List Fact) (rows : List Row) (set place : ℕ) →
         AreRows s facts rows → HaveDimensions (length s.dimensions) facts →

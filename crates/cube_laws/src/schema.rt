@@ -33,14 +33,17 @@ pub fn no_grouping_is_cube()
         schema_of document ≡ Ok s → get_member (codes "grouping") document ≡ None →
         s.grouping_sets ≡ all_sets (length s.dimensions) }
     ensures rows { (document : Members) (s : Layout) (facts : List Fact) (rows : List Row) →
-        schema_of document ≡ Ok s → get_member (codes "grouping") document ≡ None → AreRows s facts rows →
+        schema_of document ≡ Ok s → get_member (codes "grouping") document ≡ None →
+        AreRows s facts rows →
         AreRowsOver (all_sets (length s.dimensions)) (length s.dimensions) s.aggregates facts rows }
 {}
 
-/// A schema of a document whose grouping is `rollup` keeps the sets of the first dimensions, from none of them to all:
-/// one more than there are dimensions (SQL:1999: ROLLUP). The mask of the first i dimensions is 2 to the power i, less 1.
+/// A schema of a document whose grouping is `rollup` keeps the sets of the first dimensions, from none of them to
+/// all: one more than there are dimensions (SQL:1999: ROLLUP). The mask of the first i dimensions is 2 to the
+/// power i, less 1.
 pub fn rollup_keeps_first_dimensions()
     ensures { (document : Members) (s : Layout) → IsSchema s → schema_of document ≡ Ok s →
         get_member (codes "grouping") document ≡ Some (string (codes "rollup")) →
-        s.grouping_sets ≡ map (λ first. 2 ^ first - 1) (range_with_len 0 (length s.dimensions + 1)) }
+        s.grouping_sets
+        ≡ map (λ first. 2 ^ first - 1) (range_with_len 0 (length s.dimensions + 1)) }
 {}

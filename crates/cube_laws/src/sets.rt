@@ -11,21 +11,26 @@ ghost use Rattle.cube_core.specs.declared.key.Row.{Row};
 /// The rows of a cube limited to some of its grouping sets are its rows in those sets (SQL:1999: a cube is the union
 /// of its grouping sets).
 pub fn limited_rows_are_those_in_the_sets()
-    ensures { (s : Layout) (facts : List Fact) (rows : List Row) (sets : List ℕ) → AreAmong sets s.grouping_sets → AreRows s facts rows → AreRowsOver sets (length s.dimensions) s.aggregates facts (rows_in sets rows) }
+    ensures { (s : Layout) (facts : List Fact) (rows : List Row) (sets : List ℕ) →
+        AreAmong sets s.grouping_sets → AreRows s facts rows →
+        AreRowsOver sets (length s.dimensions) s.aggregates facts (rows_in sets rows) }
 {}
 
 /// Rows of a cube limited to some of its grouping sets are no others than its rows in those sets (SQL:1999: a cube is
 /// the union of its grouping sets).
 pub fn no_others_are_the_limited_rows()
-    ensures { (s : Layout) (facts : List Fact) (rows limited : List Row) (sets : List ℕ) → AreAmong sets s.grouping_sets → AreRows s facts rows → AreRowsOver sets (length s.dimensions) s.aggregates facts limited → limited ≡ rows_in sets rows }
+    ensures { (s : Layout) (facts : List Fact) (rows limited : List Row) (sets : List ℕ) →
+        AreAmong sets s.grouping_sets → AreRows s facts rows →
+        AreRowsOver sets (length s.dimensions) s.aggregates facts limited →
+        limited ≡ rows_in sets rows }
 {}
 
 /// The rows of a schema's cube are those of the whole cube in the grouping sets that the schema keeps (SQL:1999: CUBE
 /// is the union of all grouping sets).
 pub fn rows_are_those_of_the_whole_cube()
     ensures { (s : Layout) (facts : List Fact) (rows whole : List Row) →
-        IsSchema s → AreRows s facts rows →
-        AreRowsOver (all_sets (length s.dimensions)) (length s.dimensions) s.aggregates facts whole →
+        IsSchema s → AreRows s facts rows → AreRowsOver (all_sets (length s.dimensions))
+        (length s.dimensions) s.aggregates facts whole →
         rows ≡ rows_in s.grouping_sets whole }
 {}
 

@@ -140,11 +140,7 @@ fn sets_of_items(
 }
 
 /// The mask of the set that an item of an array writes, where it is an array of the names of dimensions.
-fn set_of_item(
-    alloc: Global,
-    dimensions: &[Text],
-    value: &Value,
-) -> Result<Option<u8>, AllocError>
+fn set_of_item(alloc: Global, dimensions: &[Text], value: &Value) -> Result<Option<u8>, AllocError>
     requires { length dimensions.now ≤ 8 }
     ensures { IfOk result (λ found. found ≡ set_of_item dimensions.now (view value.now)) }
 {

@@ -390,7 +390,10 @@ fn the_version_is_1_or_2(rt: HostRuntime) -> Result<(), Fail> {
         assert_eq!(rt; fault, Some(SchemaFault::Version), "at {version}");
     }
     let two = "version = 2\ndimensions = ['d']\nmeasures = ['m']\naggregates = ['count(m)']";
-    assert_eq!(rt; Schema::from_toml(rt.alloc(), SAMPLE.as_bytes())?.version(), 1);
+    assert_eq!(rt;
+        Schema::from_toml(rt.alloc(), SAMPLE.as_bytes())?.version(),
+        1
+    );
     assert_eq!(rt; Schema::from_toml(rt.alloc(), two.as_bytes())?.version(), 2);
     Ok(())
 }
