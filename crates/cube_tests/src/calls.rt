@@ -1,7 +1,7 @@
 //! Each public call of the values and of the schema, once with ample memory.
 use cube_core::{
-    Agg, Answer, Change, Coord, Fact, Field, Key, LineFault, Partial, Schema, Sequence, Text, covers, plain_rows,
-    reduced,
+    Agg, Answer, Change, Coord, Fact, Field, Key, LineFault, Partial, Schema, Sequence, Text,
+    covers, plain_rows, reduced,
 };
 use cube_tool::{Builder, print_rows, write_whole};
 use std::alloc::{AllocError, Global};
