@@ -1,10 +1,9 @@
 -- A grouping that is right keeps at least one set, each a set of the dimensions.
-use Rattle.std.proofs.Common.{◌≡◌, ℕ, ◌+◌, ◌<◌, ◌≤◌, ◌^◌, ◌==◌, zero, suc, Bool, true, List, [], ◌∷◌, length, map, filter, get_or, take, Option, Some, None, option_map, option_and_then, if◌then◌else◌, All, refl, ap, ◌∙◌, sym, subst, inl, inr, arith, eq-eqb, zero-add, codes}
+use Rattle.std.proofs.Common.{◌≡◌, ℕ, ◌+◌, ◌<◌, ◌≤◌, ◌^◌, ◌==◌, suc, Bool, true, List, [], ◌∷◌, length, map, filter, take, Option, Some, None, option_map, option_and_then, if◌then◌else◌, All, refl, ap, ◌∙◌, subst, inl, inr, arith, eq-eqb, zero-add, codes}
 use Rattle.std.specs.Str.{bytes_eq}
 use Rattle.std.specs.List.{list_any, range_with_len}
 use Rattle.std.specs.List.Sorted.{IsStrictlyIncreasing}
-use Rattle.std.proofs.lemmas.Bool.{and_parts, cases_Bool, or_left}
-use Rattle.std.proofs.lemmas.Bool.Decides.{nat_tests}
+use Rattle.std.proofs.lemmas.Bool.{cases_Bool, or_left}
 use Rattle.std.proofs.lemmas.List.Elements.{All-filter}
 use Rattle.std.proofs.lemmas.List.Folds.{list_any_at}
 use Rattle.std.proofs.lemmas.List.FromFn.{length-range_with_len, get_or-range_with_len}
@@ -13,7 +12,7 @@ use Rattle.std.proofs.lemmas.Nat.{pow_pos}
 use Rattle.std.proofs.lemmas.Option.{same_Some, cond_some, option_and_then_some}
 use Rattle.toml.specs.Data.{Data, string, integer, float, boolean, datetime, array, table, as_array, Items, no_items, item}
 use Rattle.cube_core.specs.GroupingSet.{all_sets, is_among}
-use Rattle.cube_core.specs.SchemaDocument.{texts_of, set_of_names, set_of_item, sets_of_items, is_set_of, mask_of_names, are_lawful_sets, are_distinct_sets, rollup_sets, sets_of_word, named_sets, kept_sets, sets_of_grouping}
+use Rattle.cube_core.specs.SchemaDocument.{texts_of, set_of_names, set_of_item, sets_of_items, is_set_of, mask_of_names, are_lawful_sets, rollup_sets, sets_of_word, named_sets, kept_sets, sets_of_grouping}
 use Rattle.cube_core.proofs.GroupingReading.{mask_of_names-below}
 use Rattle.cube_core.proofs.SetLaws.{all_sets-IsStrictlyIncreasing, all_sets-All}
 

@@ -1,5 +1,5 @@
 -- What two reads of a word show of its records, and what the fields of a record spell, one by one.
-use Rattle.std.proofs.Common.{◌≡◌, ◌+◌, ◌&&◌, ℕ, Bool, true, false, not, List, [], ◌∷◌, ◌++◌, length, drop, Option, Some, None, Result, Ok, Err, refl, sym, ap, ◌∙◌, rules, append_assoc, add-one}
+use Rattle.std.proofs.Common.{◌≡◌, ◌+◌, ◌&&◌, ℕ, Bool, true, false, not, List, [], ◌∷◌, ◌++◌, length, drop, Option, Some, None, Result, Ok, Err, refl, sym, ap, append_assoc, add-one}
 use Rattle.std.specs.Prelude.{if◌then◌else◌, zero, suc, is_some, IsUtf8}
 use Rattle.std.specs.Option.{ok_or, option_map}
 use Rattle.std.proofs.lemmas.List.{append-nil}
@@ -8,11 +8,10 @@ use Rattle.std.specs.List.{list_all, filter_map}
 use Rattle.std.specs.Ordering.{eq_by_cmp}
 use Rattle.std.proofs.lemmas.Str.{IsUtf8-from_is_utf8, is_utf8-from_IsUtf8}
 use Rattle.std.specs.Cmp.Lexicographic.{texts_ties}
-use Rattle.csv.specs.Machine.{Read, next_record, ends_at_end}
-use Rattle.csv.specs.Reading.{NextIs, ReadsNext, ReadRecord, Ready, records, records_from, records_next, default_config, source_of, pending_of, reader_trim, reader_config, reader_state, has_failed, strip_bom}
+use Rattle.csv.specs.Machine.{Read, next_record}
+use Rattle.csv.specs.Reading.{NextIs, ReadsNext, ReadRecord, records, records_from, records_next, default_config, source_of, pending_of, reader_config, reader_state, strip_bom}
 use Rattle.csv.specs.Records as csv
 use Rattle.csv.specs.declared.reader.Reader.{Reader}
-use Rattle.csv.specs.declared.reader.Trim.TheVariants as trim
 use Rattle.csv.specs.declared.parser.State.{State}
 use Rattle.csv.specs.declared.parser.State.TheVariants as st
 use Rattle.cube_core.specs.Records.{records_of}

@@ -1,7 +1,7 @@
 -- Each fact is in the group of one cell of each grouping set.
-use Rattle.std.proofs.Common.{◌≡◌, ℕ, zero, suc, ◌^◌, ◌<◌, ◌==◌, ◌||◌, Bool, true, List, [], ◌∷◌, length, map, get_or, filter, sum_by, count_by, slice_get, Contains, Option, Some, refl, sym, ap, ◌∙◌, subst, arith, eqb-true, eq-eqb, ◌+◌, false, cond, ap₂, inl, inr}
+use Rattle.std.proofs.Common.{◌≡◌, ℕ, zero, suc, ◌^◌, ◌<◌, ◌==◌, ◌||◌, Bool, true, List, [], ◌∷◌, length, map, get_or, filter, sum_by, count_by, slice_get, Contains, Option, Some, refl, sym, ap, ◌∙◌, subst, arith, eqb-true, eq-eqb}
 use Rattle.std.specs.List.{AllByRecursion, list_any, list_all}
-use Rattle.std.proofs.lemmas.Bool.{and_parts, and_from, or_right, cases_Bool, or_left, or_cases}
+use Rattle.std.proofs.lemmas.Bool.{and_parts, and_from, or_right}
 use Rattle.std.proofs.lemmas.List.Concat.{length-flat_map}
 use Rattle.std.proofs.lemmas.List.Kept.{IsStrictlySortedBy-filter}
 use Rattle.cube_core.specs.Layout.{Layout}
@@ -27,7 +27,6 @@ use Rattle.cube_core.proofs.PlainOrder.{key_cmp_total}
 use Rattle.cube_core.proofs.PlainKeys.{ancestor_of, ancestor_of_covers, mask_of_ancestor, same_from_mask}
 use Rattle.cube_core.proofs.ListLaws.{AllByRecursion-Contains, Contains-AllByRecursion, Contains-filter, Contains-list_any, filter-Contains, filter-all, map-filter, sum_by-map, sum_by-same}
 use Rattle.cube_core.proofs.PlainCells.{same_key}
-use Rattle.cube_core.proofs.PlainRows.{is_among-all_sets}
 
 -- a fact has as many values and nulls as there are dimensions
 pub dimensions_of : (dimensions : ℕ) (facts : List Fact) (fact : Fact) → HaveDimensions dimensions facts →

@@ -10,9 +10,8 @@ use Rattle.std.proofs.lemmas.Slice.Eq.{bytes_eq-Decides}
 use Rattle.cube_core.specs.Layout.{Layout}
 use Rattle.cube_core.specs.Takes.{null_text, fits, is_dimension_value}
 use Rattle.cube_core.specs.Covers.{stands_for, all_stand_for, covers}
-use Rattle.cube_core.specs.GroupingSet.{is_all_coord, all_sets}
+use Rattle.cube_core.specs.GroupingSet.{is_all_coord}
 use Rattle.cube_core.specs.Cube.{is_total, is_cell, HasAnswers, key_of, AreRows}
-use Rattle.cube_core.specs.Order.{coord_cmp, key_cmp}
 use Rattle.cube_core.specs.Text.{coord_text, grouping_text, answer_text}
 use Rattle.cube_laws.specs.Keys.{is_no_null_text, has_no_null_text, LookAlike, key_columns}
 use Rattle.cube_core.specs.declared.fact.Fact.{Fact}

@@ -1,13 +1,12 @@
 -- The life of an id, change by change.
-use Rattle.std.specs.Prelude.{◌≡◌, ℕ, zero, suc, Bool, true, false, ◌||◌, List, [], ◌∷◌, ◌++◌, length, map, slice_get, Some, None}
+use Rattle.std.specs.Prelude.{◌≡◌, ℕ, zero, suc, true, false, List, [], ◌∷◌, ◌++◌, length, map, slice_get, Some, None}
 use Rattle.std.specs.Str.{bytes_eq}
 use Rattle.std.proofs.Common.{refl, sym, ap, ◌∙◌, inl, inr, append_assoc, arith}
-use Rattle.std.specs.List.{list_any}
 use Rattle.std.proofs.lemmas.List.Elements.{filter-append}
 use Rattle.std.proofs.lemmas.List.Folds.{list_any-append}
 use Rattle.std.proofs.lemmas.List.{append-nil}
 use Rattle.std.proofs.lemmas.Bool.{cases_Bool, or_parts, or_right}
-use Rattle.cube_core.specs.Amendment.{fields_over, over}
+use Rattle.cube_core.specs.Amendment.{fields_over}
 use Rattle.cube_core.specs.Life.{id_of, naming, is_delete, since_delete, from_insert, life_of}
 use Rattle.cube_core.proofs.LifeLaws.{life_after, life_more, life_other, nothing_after_delete, same_text}
 use Rattle.cube_core.specs.declared.fact.Fact.{Fact}

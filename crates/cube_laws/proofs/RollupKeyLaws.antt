@@ -12,7 +12,6 @@ use Rattle.cube_core.specs.Covers.{covers, all_stand_for, stands_for}
 use Rattle.cube_core.specs.Cube.{AreRows, key_of}
 use Rattle.cube_core.specs.Group.{group_of}
 use Rattle.cube_core.specs.GroupingSet.{is_all_coord, is_all_at, mask_of, is_among, mask_of_coords}
-use Rattle.cube_laws.specs.Cells.{HaveDimensions}
 use Rattle.cube_core.specs.Query.{rolled_up, drills_down, rows_below}
 use Rattle.cube_core.specs.Order.{key_cmp}
 use Rattle.cube_core.specs.declared.fact.Fact.{Fact}
@@ -21,9 +20,9 @@ use Rattle.cube_core.specs.declared.key.Coord.TheVariants as coord
 use Rattle.cube_core.specs.declared.key.Key.{Key}
 use Rattle.cube_core.specs.declared.key.Row.{Row}
 use Rattle.cube_laws.proofs.RowOrderLaws.{Reordered}
-use Rattle.cube_laws.proofs.CountLaws.{dimensions_of, key_is_cell}
+use Rattle.cube_laws.proofs.CountLaws.{key_is_cell}
 use Rattle.cube_laws.proofs.GroupCountLaws.{count_of_one, SharedOut, joined_groups, groups_join}
-use Rattle.cube_core.proofs.PlainKeys.{coord_of, coord_of_is, mask_below, length_standing}
+use Rattle.cube_core.proofs.PlainKeys.{coord_of, coord_of_is}
 use Rattle.cube_core.proofs.PlainOrder.{key_cmp_total, exact_keys}
 use Rattle.cube_core.proofs.ListLaws.{Contains-AllByRecursion, Contains-filter, count_by-none, filter-Contains, map-filter}
 use Rattle.cube_core.proofs.PlainCells.{same_key}

@@ -1,5 +1,5 @@
 -- What the laws of drill-down and roll-up speak of (Gray et al. 1997: rolling up replaces the values of a dimension by ALL).
-use Rattle.std.specs.Prelude.{◌≡◌, ℕ, ℤ, Bool, true, false, List, length, Contains, Option, Some, None, ◌&&◌, ◌+◌, ◌^◌, not, filter, slice_set}
+use Rattle.std.specs.Prelude.{◌≡◌, ℕ, ℤ, Bool, true, false, List, Contains, Option, Some, None, ◌+◌, ◌^◌}
 use Rattle.std.specs.List.{AllByRecursion, filter_map}
 use Rattle.cube_core.specs.Layout.{Layout}
 use Rattle.cube_core.specs.Cube.{AreRows}

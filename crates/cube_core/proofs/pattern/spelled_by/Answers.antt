@@ -1,7 +1,7 @@
 use Rattle.std.proofs.Common.{◌≡◌, ◌∙◌, ◌∷◌, ◌+◌, ◌++◌, [], rules, Some, None, Ok, Err}
 use Rattle.std.specs.Option.{ok_or}
 use Rattle.csv.specs.Records.{fields_of, field_at}
-use Rattle.cube_core.specs.Query.{Says, wanted_by, spelled_by}
+use Rattle.cube_core.specs.Query.{wanted_by, spelled_by}
 use Rattle.cube_core.specs.declared.query.QueryFault.TheVariants as fault
 use Rattle.cube_core.proofs.QueryLaws.{Says-through, wanted_more, wanted_stop, wanted_all}
 use Rattle.cube_core.proofs.pattern.spelled_by.Goals as goal
