@@ -1,5 +1,5 @@
-pub mod Bags
-pub mod Sums
-pub mod Tallies
-pub mod Rows
+pub mod BagLaws
+pub mod SumLaws
+pub mod TallyLaws
+pub mod ValueLaws
 pub mod FactLaws

@@ -8,7 +8,7 @@ use Rattle.std.proofs.lemmas.Int.{ints}
 use borrow.Author.Differences.{up, down}
 use Rattle.cube_cells.specs.Bag.{Bag, weight_of, held_of, size_of, one_at, AddsOne}
 use Rattle.cube_cells.specs.Sum.{IsSumOf}
-use Rattle.cube_cells.proofs.Bags.{weight_of-cons, weight_of-one, weight_of-nothing, one_at_itself, one_at_apart, same_number}
+use Rattle.cube_cells.proofs.BagLaws.{weight_of-cons, weight_of-one, weight_of-nothing, one_at_itself, one_at_apart, same_number}
 
 -- where each number that is held counts m at most
 weight_bound : (f : ℤ → ℕ) (m : ℕ) (bag : Bag) → ((x : ℤ) → 0 < held_of bag x → f x ≤ m) → weight_of f bag ≤ size_of bag * m

@@ -13,7 +13,7 @@ use Rattle.cube_core.specs.declared.aggregate.Answer.TheVariants as answer
 use Rattle.cube_cells.specs.Bag.{Bag, weight_of, size_of, one_at, HasLeast, HasGreatest}
 use Rattle.cube_cells.specs.Sum.{IsSumOf}
 use Rattle.cube_cells.specs.Tally.{IsBagOf}
-use Rattle.cube_cells.proofs.Bags.{weight_of-nothing, one_less, one_at_itself, one_at_apart, same_number}
+use Rattle.cube_cells.proofs.BagLaws.{weight_of-nothing, one_less, one_at_itself, one_at_apart, same_number}
 use borrow.Author.Differences.{up, down}
 
 -- how often a number stands in a list of values
