@@ -1,5 +1,5 @@
 -- The cells as they are kept: by codes in place of keys (this project's choice).
-use Rattle.std.specs.Prelude.{◌≡◌, ◌<◌, ◌||◌, ◌==◌, ℕ, Bool, true, nat_lt, nat_eq, List, [], ◌∷◌, length, map, IsTrue, IsSome, All}
+use Rattle.std.specs.Prelude.{◌≡◌, ◌<◌, ◌||◌, ◌==◌, ℕ, Bool, true, nat_lt, nat_eq, List, [], ◌∷◌, length, map, Option, IsTrue, All}
 use Rattle.std.specs.List.{AllByRecursion, IsDistinct, list_all}
 use Rattle.std.specs.Cmp.Lexicographic.{pointwise}
 use Rattle.std.specs.Map.{lookup, keys_of}
@@ -51,5 +51,5 @@ pub record IsCoded (schema : Layout) (sets : List ℕ) (facts : ℕ) (dictionari
   pub lattice : IsLattice (lattice_of schema sets facts dictionaries cells)
   pub texts : AllByRecursion IsDictionary dictionaries
   pub distinct : IsDistinct same_codes (keys_of cells)
-  pub cells : All (IsCodedCell dictionaries (length schema.measures)) cells
+  pub each : All (IsCodedCell dictionaries (length schema.measures)) cells
   pub counts : (set : ℕ) → IsTrue (is_among set sets) → count_in set (decoded dictionaries cells) ≡ facts

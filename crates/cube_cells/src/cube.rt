@@ -1,5 +1,5 @@
 //! A data cube: the cells of the kept grouping sets, kept right under adds and removes.
-ghost use Rattle.std.specs.Prelude.{◌≡◌, ◌+◌, ◌<◌, ◌≤◌, ◌^◌, ◌↔◌, [], ◌∷◌, ℕ, List, IsTrue, IfOk, OnOk, OnErr, false, length, get_or, position};
+ghost use Rattle.std.specs.Prelude.{◌≡◌, ◌+◌, ◌<◌, ◌≤◌, ◌^◌, ◌↔◌, [], ◌∷◌, ℕ, List, IsTrue, IfOk, IfSome, OnOk, OnErr, true, false, length, get_or, position};
 ghost use Rattle.std.specs.Option.{option_map};
 ghost use Rattle.std.specs.Str.{bytes_eq};
 ghost use Rattle.cube_core.specs.GroupingSet.{all_sets, sets_of_part, is_among};
@@ -126,7 +126,12 @@ impl Cube {
         ensures cube { (facts : List Fact) → IsCubeOf self.old (fact.now ∷ facts) → IsCubeOf self.new facts }
     {
         let codes = codes_of_values(&self.dictionaries, fact.dims.as_slice());
-        take_from_sets(&mut self.cells, &codes, &self.sets, fact.measures.as_slice());
+        take_from_sets(
+            &mut self.cells,
+            &codes,
+            &self.sets,
+            fact.measures.as_slice(),
+        );
         self.facts -= 1;
     }
 
@@ -149,7 +154,8 @@ impl Cube {
 
     /// The cell of a key, `None` where it is none. It takes no memory.
     pub fn get(&self, key: &Key) -> Option<&Cell>
-        ensures { option_map (λ cell. cell.now) result ≡ cell_at self.now.cells key.now }
+        ensures cell { option_map (λ cell. cell.now) result ≡ cell_at self.now.cells key.now }
+        ensures width { IfSome result (λ cell. length cell.now.bags ≡ length self.now.schema.measures) }
     {
         if key.coords.len() != self.dictionaries.len() {
             return None;
@@ -252,3 +258,6 @@ fn codes_of_coords(dictionaries: &[Dictionary], coords: &[Coord]) -> Codes
     }
     Codes { codes }
 }
+
+#[cfg(test)]
+mod tests;
