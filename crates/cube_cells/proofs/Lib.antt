@@ -3,3 +3,5 @@ pub mod SumLaws
 pub mod TallyLaws
 pub mod ValueLaws
 pub mod FactLaws
+pub mod DictionaryLaws
+pub mod CodeLaws

@@ -1,6 +1,6 @@
 -- The cells as they are kept: by codes in place of keys (this project's choice).
 use Rattle.std.specs.Prelude.{◌≡◌, ◌<◌, ◌||◌, ◌==◌, ℕ, Bool, true, nat_lt, nat_eq, List, [], ◌∷◌, length, map, Option, IsTrue, All}
-use Rattle.std.specs.List.{AllByRecursion, IsDistinct, list_all}
+use Rattle.std.specs.List.{IsDistinct, list_all}
 use Rattle.std.specs.Cmp.Lexicographic.{pointwise}
 use Rattle.std.specs.Map.{lookup, keys_of}
 use Rattle.cube_core.specs.GroupingSet.{is_among}
@@ -49,7 +49,7 @@ lattice_of schema sets facts dictionaries cells = record {
 -- what is true of the cells as they are kept
 pub record IsCoded (schema : Layout) (sets : List ℕ) (facts : ℕ) (dictionaries : Dictionaries) (cells : CodedCells) : Type 0 where
   pub lattice : IsLattice (lattice_of schema sets facts dictionaries cells)
-  pub texts : AllByRecursion IsDictionary dictionaries
+  pub texts : All IsDictionary dictionaries
   pub distinct : IsDistinct same_codes (keys_of cells)
   pub each : All (IsCodedCell dictionaries (length schema.measures)) cells
   pub counts : (set : ℕ) → IsTrue (is_among set sets) → count_in set (decoded dictionaries cells) ≡ facts

@@ -1,11 +1,12 @@
 //! A data cube: the cells of the kept grouping sets, kept right under adds and removes.
-ghost use Rattle.std.specs.Prelude.{◌≡◌, ◌+◌, ◌<◌, ◌≤◌, ◌^◌, ◌↔◌, [], ◌∷◌, ℕ, List, IsTrue, IfOk, IfSome, OnOk, OnErr, true, false, length, get_or, position};
+ghost use Rattle.std.specs.Prelude.{◌≡◌, ◌+◌, ◌<◌, ◌≤◌, ◌^◌, ◌↔◌, [], ◌∷◌, ℕ, List, IsTrue, IfOk, IfSome, OnOk, OnErr, true, false, length, map, get_or, position, All};
 ghost use Rattle.std.specs.Option.{option_map};
 ghost use Rattle.std.specs.Str.{bytes_eq};
 ghost use Rattle.cube_core.specs.GroupingSet.{all_sets, sets_of_part, is_among};
 ghost use Rattle.cube_core.specs.Takes.{fits};
 ghost use Rattle.cube_core.specs.declared.fact.Fact.{Fact};
 ghost use Rattle.cube_core.specs.declared.key.Key.{Key};
+ghost use Rattle.cube_cells.specs.Codes.{IsDictionary, AreCodesOf, are_codes, coord_of_value};
 ghost use Rattle.cube_cells.specs.Cube.{Lattice, IsLattice, IsCubeOf, HoldsFact, AddsFact, TakesFact, AddsTexts, MayAddTexts, SameCells, cell_at, count_in, IsNewLattice};
 
 mod codes;
@@ -226,6 +227,12 @@ fn add_codes(
 ) -> Result<Codes, AllocError>
     requires places { length dictionaries.old ≤ 8 }
     requires width { length fact.now.dims ≡ length dictionaries.old }
+    ensures codes { IfOk result (λ codes.
+        AreCodesOf dictionaries.new (map coord_of_value fact.now.dims) codes.codes) }
+    ensures valid { IfOk result (λ codes. are_codes dictionaries.new codes.codes ≡ true) }
+    ensures texts { OnOk result (AddsTexts fact.now.dims dictionaries.old dictionaries.new) }
+    ensures err { OnErr result (MayAddTexts fact.now.dims dictionaries.old dictionaries.new) }
+    ensures dictionaries { All IsDictionary dictionaries.old → All IsDictionary dictionaries.new }
 {
     let mut codes = [ALL; 8];
     for (place, value) in fact.dims.as_slice().iter().enumerate() {
@@ -239,6 +246,7 @@ fn add_codes(
 fn codes_of_values(dictionaries: &[Dictionary], values: &[Option<Text>]) -> Codes
     requires places { length dictionaries.now ≤ 8 }
     requires width { length values.now ≡ length dictionaries.now }
+    ensures { AreCodesOf dictionaries.now (map coord_of_value values.now) result.codes }
 {
     let mut codes = [ALL; 8];
     for (place, value) in values.iter().enumerate() {
@@ -251,6 +259,7 @@ fn codes_of_values(dictionaries: &[Dictionary], values: &[Option<Text>]) -> Code
 fn codes_of_coords(dictionaries: &[Dictionary], coords: &[Coord]) -> Codes
     requires places { length dictionaries.now ≤ 8 }
     requires width { length coords.now ≡ length dictionaries.now }
+    ensures { AreCodesOf dictionaries.now coords.now result.codes }
 {
     let mut codes = [ALL; 8];
     for (place, coord) in coords.iter().enumerate() {

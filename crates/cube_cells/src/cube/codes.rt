@@ -1,10 +1,10 @@
 //! The codes of a key: what the cells of a cube are found by.
-ghost use Rattle.std.specs.Prelude.{◌≡◌, ◌+◌, ◌*◌, ◌++◌, slice_index_or, true};
+ghost use Rattle.std.specs.Prelude.{◌≡◌, ◌+◌, ◌*◌, ◌++◌, ◌%◌, ◌==◌, slice_index_or, true, if◌then◌else◌};
 ghost use Rattle.cube_cells.specs.Coded.{is_total_code};
 ghost use Rattle.std.specs.Hash as fed;
 ghost use Rattle.std.specs.Cmp.Rules.{comparing, hashing};
 ghost use Rattle.std.proofs.Common.{rules};
-ghost use Rattle.cube_cells.specs.Codes.{kept_codes};
+ghost use Rattle.cube_cells.specs.Codes.{all_code, kept_codes};
 
 use std::hash::{Hash, Hasher};
 
@@ -45,13 +45,18 @@ impl Codes {
         let mut codes = self.codes;
         let mut rest = set;
         for code in codes.iter_mut() {
-            if rest % 2 == 0 {
-                *code = ALL;
-            }
+            *code = kept_code(rest, *code);
             rest /= 2;
         }
         Codes { codes }
     }
+}
+
+// The code where the lowest bit of the set is there, else ALL.
+fn kept_code(set: u8, code: u32) -> u32
+    ensures { result ≡ (if set % 2 == 1 then code else all_code) }
+{
+    if set % 2 == 1 { code } else { ALL }
 }
 
 // Two codes in one number, so that fewer numbers are hashed.

@@ -1,10 +1,10 @@
 //! The texts of a dimension, each with its place as its code.
-ghost use Rattle.std.specs.Prelude.{◌≡◌, ◌<◌, ◌≤◌, ◌++◌, ◌∷◌, [], IfOk, IfSome, IfNone, OnOk, OnErr, length, position, slice_get, Some, None, nat_lt, true, false, if◌then◌else◌};
+ghost use Rattle.std.specs.Prelude.{◌≡◌, ◌<◌, ◌≤◌, ◌==◌, not, ◌++◌, ◌∷◌, [], IfOk, IfSome, IfNone, OnOk, OnErr, length, position, slice_get, Some, None, nat_lt, true, false, if◌then◌else◌};
 ghost use Rattle.std.specs.Str.{bytes_eq};
 ghost use Rattle.cube_core.specs.declared.key.Coord.TheVariants as coord;
 ghost use Rattle.std.specs.String.{string_bytes};
 ghost use Rattle.cube_core.specs.Layout.{is_listed};
-ghost use Rattle.cube_cells.specs.Codes.{texts_with, is_code, IsCodeOf, coord_of_value};
+ghost use Rattle.cube_cells.specs.Codes.{IsDictionary, texts_with, is_code, no_code, IsCodeOf, coord_of_value};
 
 use super::codes::{ALL, NONE, NULL};
 use cube_core::{Coord, Text};
@@ -48,9 +48,11 @@ impl Dictionary {
     }
 
     /// The code of a value or of null.
+    #[tactic(auto, using(crate::proofs::DictionaryLaws::code_of_null))]
     pub fn code_of_value(&self, value: &Option<Text>) -> u32
         ensures { IsCodeOf self.now (coord_of_value value.now) result }
     {
+        let _ = &self.texts;
         match value {
             None => NULL,
             Some(text) => self.code_of_text(text),
@@ -58,9 +60,11 @@ impl Dictionary {
     }
 
     /// The code of a coordinate.
+    #[tactic(auto, using(crate::proofs::DictionaryLaws::code_of_null, crate::proofs::DictionaryLaws::code_of_all))]
     pub fn code_of_coord(&self, coord: &Coord) -> u32
         ensures { IsCodeOf self.now coord.now result }
     {
+        let _ = &self.texts;
         match coord {
             Coord::All => ALL,
             Coord::Null => NULL,
@@ -73,8 +77,10 @@ impl Dictionary {
         ensures texts { OnOk result (self.new ≡ texts_with value.now self.old) }
         ensures code { IfOk result (IsCodeOf self.new (coord_of_value value.now)) }
         ensures valid { IfOk result (λ code. is_code self.new code ≡ true) }
+        ensures dictionary { IsDictionary self.new }
         ensures err { OnErr result (self.new ≡ self.old) }
     {
+        let _ = &self.texts;
         let Some(text) = value else {
             return Ok(NULL);
         };
@@ -88,7 +94,9 @@ impl Dictionary {
     // The place of a text, as a number of 32 bits.
     fn code_of_text(&self, text: &Text) -> u32
         ensures code { IsCodeOf self.now (coord.Text text.now) result }
+        ensures listed { is_listed text.now self.now ≡ not (result == no_code) }
     {
+        let _ = &self.texts;
         match self.code_of(text.as_str()) {
             None => NONE,
             Some(place) => place as u32,
@@ -100,6 +108,7 @@ impl Dictionary {
         requires { is_listed text.now self.old ≡ false }
         ensures texts { OnOk result (self.new ≡ self.old ++ text.now ∷ []) }
         ensures code { IfOk result (λ code. code ≡ length self.old) }
+        ensures dictionary { IsDictionary self.new }
         ensures err { OnErr result (self.new ≡ self.old) }
     {
         let Some(code) = next_code(self.texts.len()) else {
