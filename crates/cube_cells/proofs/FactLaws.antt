@@ -10,9 +10,10 @@ use Rattle.std.proofs.lemmas.List.Sums.{sum_by-cons}
 use Rattle.cube_core.specs.Group.{value_of, values_of}
 use Rattle.cube_core.specs.declared.fact.Fact.{Fact}
 use Rattle.cube_cells.specs.Bag.{Bag, held_of, size_of, one_at}
-use Rattle.cube_cells.specs.Tally.{Tally, bag_at, value_at, one_of, IsTallyOf, PlusFact, SameTally, holds_value, hold_values, holds_fact}
-use Rattle.cube_cells.proofs.BagLaws.{one_at_itself}
+use Rattle.cube_cells.specs.Tally.{Tally, bag_at, value_at, one_of, IsTallyOf, AddsValues, PlusFact, SameTally, holds_value, hold_values, holds_fact}
+use Rattle.cube_cells.proofs.BagLaws.{one_at_itself, size_of_same}
 use Rattle.cube_cells.proofs.TallyLaws.{size_of_values}
+use Rattle.cube_cells.proofs.ValueLaws.{AreWithin}
 
 -- what a fact adds to the count of a value
 value_more : (x : ℤ) (m : ℕ) (fact : Fact) (facts : List Fact) → count_by (int_eq x) (values_of m (fact ∷ facts)) ≡ one_of x (value_of m fact) + count_by (int_eq x) (values_of m facts)
@@ -87,3 +88,17 @@ tally_holds facts fact t is width = both_true (lt-ltb 0 t.facts (omega (arith, i
     by_value : (value : Option ℤ) → value_at fact.measures m ≡ value → holds_value t.facts (bag_at t.bags m) (value_at fact.measures m) ≡ true
     by_value None null = rw null (lt-ltb (size_of (bag_at t.bags m)) t.facts (few null))
     by_value (Some v) some = rw some (lt-ltb 0 (held_of (bag_at t.bags m) v) (omega (arith, (is.bags m inside).held v, value_more v m fact facts, ap (one_of v) some, one_at_itself v)))
+
+-- a fact that was added is held, where no bag was larger than there were facts
+pub added_holds : (facts : ℕ) (old new : List Bag) (values : List (Option ℤ)) → AreWithin facts old → AddsValues old new values → length values ≡ length old → holds_fact (record { facts = facts + 1; bags = new }) values ≡ true
+added_holds facts old new values within adds width = both_true (lt-ltb 0 (facts + 1) (omega arith)) (hold_from (facts + 1) new values (omega (arith, width, adds.same_length)) each) where
+  each : (m : ℕ) → m < length new → holds_value (facts + 1) (bag_at new m) (value_at values m) ≡ true
+  each m inside = by_value (value_at values m) refl where
+    few : value_at values m ≡ None → size_of (bag_at new m) < facts + 1
+    few null =
+        let same = size_of_same (bag_at new m) (bag_at old m) (record { held = λ x. omega (arith, (adds.each m).held x, ap (one_of x) null) }) in
+        omega (arith, same, within m [] (omega (arith, adds.same_length)))
+
+    by_value : (value : Option ℤ) → value_at values m ≡ value → holds_value (facts + 1) (bag_at new m) (value_at values m) ≡ true
+    by_value None null = rw null (lt-ltb (size_of (bag_at new m)) (facts + 1) (few null))
+    by_value (Some v) some = rw some (lt-ltb 0 (held_of (bag_at new m) v) (omega (arith, (adds.each m).held v, ap (one_of v) some, one_at_itself v)))

@@ -5,3 +5,4 @@ pub mod ValueLaws
 pub mod FactLaws
 pub mod DictionaryLaws
 pub mod CodeLaws
+pub mod WalkLaws

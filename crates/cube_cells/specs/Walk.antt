@@ -1,16 +1,20 @@
 -- What adding and taking a fact does to cells that are kept by codes, at the keys of a list (this project's choice).
-use Rattle.std.specs.Prelude.{◌≡◌, ◌+◌, ◌*◌, ◌<◌, ◌||◌, ◌^◌, ℕ, ℤ, Bool, true, false, nat_lt, List, length, map, sum_by, Option, IsTrue, IsSome, IfSome}
+use Rattle.std.specs.Prelude.{◌≡◌, ◌+◌, ◌*◌, ◌<◌, ◌||◌, ◌^◌, ℕ, ℤ, Bool, true, false, nat_lt, List, length, map, sum_by, Option, Some, IsTrue, IsSome, IfSome}
 use Rattle.std.specs.List.{list_any, IsDistinct}
-use Rattle.std.specs.Map.{keys_of}
+use Rattle.std.specs.Map.{keys_of, set_value}
 use Rattle.cube_cells.specs.Codes.{kept_codes}
 use Rattle.cube_cells.specs.Coded.{CodedCells, same_codes, coded_at, is_total_code}
 use Rattle.cube_cells.specs.Cube.{AddsAt, TakesAt, SameCell, cell_holds}
-use Rattle.cube_cells.specs.Tally.{Tally}
+use Rattle.cube_cells.specs.Tally.{Tally, PlusFact}
 use Rattle.cube_cells.specs.declared.cube.codes.Codes.{Codes}
 
--- the codes in the dimensions of each grouping set, and ALL in the others
+-- the codes in the dimensions of a grouping set, and ALL in the others
+abbrev pub key_in : Codes → ℕ → Codes
+key_in codes set = record { codes = kept_codes set codes.codes }
+
+-- the same for each of some grouping sets
 abbrev pub codes_in : List ℕ → Codes → List Codes
-codes_in sets codes = map (λ set. record { codes = kept_codes set codes.codes }) sets
+codes_in sets codes = map (key_in codes) sets
 
 -- whether codes are among those of a list
 abbrev pub is_in : List Codes → Codes → Bool
@@ -40,10 +44,20 @@ pub record TakesIn (keys : List Codes) (values : List (Option ℤ)) (old new : C
   pub others : (codes : Codes) → is_in keys codes ≡ false → coded_at new codes ≡ coded_at old codes
   pub weight : (weight : Codes → ℕ) → weight_of_cells weight old ≡ weight_of_cells weight new + sum_by weight keys
 
--- the cells count the same
-pub record SameCoded (old new : CodedCells) : Type 0 where
+-- at each of the codes a cell counts the same, and every other cell stays as it was
+pub record SameCoded (keys : List Codes) (old new : CodedCells) : Type 0 where
   pub cells : (codes : Codes) → SameCell (coded_at old codes) (coded_at new codes)
+  pub others : (codes : Codes) → is_in keys codes ≡ false → coded_at new codes ≡ coded_at old codes
   pub weight : (weight : Codes → ℕ) → weight_of_cells weight new ≡ weight_of_cells weight old
+
+-- the cell at codes has a fact less, and as many are left as the number says
+pub record LosesFact (codes : Codes) (values : List (Option ℤ)) (old new : CodedCells) (count : ℕ) : Type 0 where
+  pub tally : Tally
+  pub left : Tally
+  pub was_cell : coded_at old codes ≡ Some tally
+  pub minus : PlusFact values left tally
+  pub is_left : new ≡ set_value (same_codes codes) old left
+  pub counts : count ≡ left.facts
 
 -- the codes of the cells differ
 abbrev pub AreApart : CodedCells → Type 0

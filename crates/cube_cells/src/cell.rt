@@ -58,6 +58,7 @@ impl Cell {
         requires width { length values.now ≡ length self.old.bags }
         requires fits { self.old.facts + 1 < 2 ^ 64 }
         ensures added { OnOk result (PlusFact values.now self.old self.new) }
+        ensures held { OnOk result (IsTrue (holds_fact self.new values.now)) }
         ensures err { OnErr result (SameTally self.old self.new) }
     {
         add_values(&mut self.measures, values)?;

@@ -4,7 +4,8 @@ ghost use Rattle.cube_cells.specs.Coded.{is_total_code};
 ghost use Rattle.std.specs.Hash as fed;
 ghost use Rattle.std.specs.Cmp.Rules.{comparing, hashing};
 ghost use Rattle.std.proofs.Common.{rules};
-ghost use Rattle.cube_cells.specs.Codes.{all_code, kept_codes};
+ghost use Rattle.cube_cells.specs.Codes.{all_code};
+ghost use Rattle.cube_cells.specs.Walk.{key_in};
 
 use std::hash::{Hash, Hasher};
 
@@ -40,7 +41,7 @@ impl Codes {
 
     /// These codes in the dimensions of a grouping set, and ALL in the others.
     pub fn kept(&self, set: u8) -> Codes
-        ensures { result.codes ≡ kept_codes set self.now.codes }
+        ensures { result ≡ key_in self.now set }
     {
         let mut codes = self.codes;
         let mut rest = set;

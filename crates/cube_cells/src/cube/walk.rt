@@ -4,7 +4,7 @@ ghost use Rattle.std.specs.List.{list_all, IsDistinct};
 ghost use Rattle.std.specs.Option.{ForSome};
 ghost use Rattle.cube_cells.specs.Coded.{coded_at, same_codes};
 ghost use Rattle.cube_cells.specs.Cube.{cell_holds};
-ghost use Rattle.cube_cells.specs.Walk.{codes_in, is_in, HasRoom, AddsIn, TakesIn, SameCoded, AreApart};
+ghost use Rattle.cube_cells.specs.Walk.{key_in, codes_in, is_in, LosesFact, HasRoom, AddsIn, TakesIn, SameCoded, AreApart};
 ghost use Rattle.cube_cells.specs.declared.cube.codes.Codes.{Codes};
 
 use super::codes::Codes;
@@ -25,7 +25,8 @@ pub fn add_to_sets(
         HasRoom values.now key (coded_at cells.old.entries key) }
     ensures added { OnOk result
         (AddsIn (codes_in sets.now codes.now) values.now cells.old.entries cells.new.entries) }
-    ensures err { OnErr result (SameCoded cells.old.entries cells.new.entries) }
+    ensures err { OnErr result
+        (SameCoded (codes_in sets.now codes.now) cells.old.entries cells.new.entries) }
     ensures apart { AreApart cells.old.entries → AreApart cells.new.entries }
 {
     for (place, set) in sets.iter().enumerate() {
@@ -64,8 +65,8 @@ pub fn hold_in_sets(
     sets: &[u8],
     values: &[Option<i64>],
 ) -> bool
-    ensures { result ≡ list_all (λ key. cell_holds values.now (coded_at cells.now.entries key))
-        (codes_in sets.now codes.now) }
+    ensures { result ≡ list_all
+        (λ set. cell_holds values.now (coded_at cells.now.entries (key_in codes.now set))) sets.now }
 {
     sets.iter()
         .all(|set| holds_at(cells, &codes.kept(*set), values))
@@ -89,7 +90,7 @@ fn add_to_cell(
 ) -> Result<(), AllocError>
     requires { HasRoom values.now codes (coded_at cells.old.entries codes) }
     ensures added { OnOk result (AddsIn (codes ∷ []) values.now cells.old.entries cells.new.entries) }
-    ensures err { OnErr result (SameCoded cells.old.entries cells.new.entries) }
+    ensures err { OnErr result (SameCoded (codes ∷ []) cells.old.entries cells.new.entries) }
     ensures apart { AreApart cells.old.entries → AreApart cells.new.entries }
 {
     if let Some(cell) = cells.get_mut(&codes) {
@@ -115,6 +116,8 @@ fn take_from_cell(cells: &mut HashMap<Codes, Cell>, codes: Codes, values: &[Opti
 // Takes from the cell of a key, and answers how many facts it has left.
 fn minus_at(cells: &mut HashMap<Codes, Cell>, codes: &Codes, values: &[Option<i64>]) -> u64
     requires { IsTrue (cell_holds values.now (coded_at cells.old.entries codes.now)) }
+    ensures taken { LosesFact codes.now values.now cells.old.entries cells.new.entries result }
+    ensures apart { AreApart cells.old.entries → AreApart cells.new.entries }
 {
     let Some(cell) = cells.get_mut(codes) else {
         return 0;
