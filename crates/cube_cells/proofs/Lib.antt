@@ -8,3 +8,6 @@ pub mod CodeLaws
 pub mod WalkLaws
 pub mod KeyLaws
 pub mod GrowthLaws
+pub mod CubeLaws
+pub mod CodedLaws
+pub mod KeptLaws
