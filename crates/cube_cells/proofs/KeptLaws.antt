@@ -9,7 +9,7 @@ use Rattle.std.proofs.lemmas.Bool.{cases_Bool, or_cases, or_left, or_right, and_
 use Rattle.std.proofs.lemmas.List.{length-replicate}
 use Rattle.std.proofs.lemmas.List.Elements.{Contains-get_or}
 use Rattle.std.proofs.lemmas.Map.Views.{lookup-from_Contains}
-use Rattle.std.proofs.Math.Nat.{pow-pos}
+use Rattle.std.proofs.Math.Nat.{pow-succ'}
 use Rattle.cube_core.specs.GroupingSet.{is_among}
 use Rattle.cube_core.specs.Layout.{Layout}
 use Rattle.cube_core.specs.declared.fact.Fact.{Fact}
@@ -148,7 +148,11 @@ total_set sets dictionaries fact codes set of among total =
     let eight = key_eight sets dictionaries fact codes set of in
     let zero_eight = key_eight sets dictionaries fact codes 0 of in
     let same : kept_codes set codes.codes ≡ kept_codes 0 codes.codes = all_alls (kept_codes set codes.codes) (kept_codes 0 codes.codes) total (no_dimension codes.codes) (omega (arith, eight, zero_eight)) in
-    sets_apart dictionaries fact.dims codes.codes set 0 of.has.are (of.below set among) (pow-pos 2 (length fact.dims) (omega arith)) same where
+    sets_apart dictionaries fact.dims codes.codes set 0 of.has.are (of.below set among) (two_power (length fact.dims)) same where
+      two_power : (n : ℕ) → 0 < 2 ^ n
+      two_power zero = omega arith
+      two_power (suc n) = omega (arith, pow-succ' 2 n, two_power n)
+
       no_dimension : (xs : List ℕ) → list_all (λ code. code == all_code) (kept_codes 0 xs) ≡ true
       no_dimension [] = refl
       no_dimension (x ∷ xs) = no_dimension xs

@@ -11,3 +11,4 @@ pub mod GrowthLaws
 pub mod CubeLaws
 pub mod CodedLaws
 pub mod KeptLaws
+pub mod StepLaws
