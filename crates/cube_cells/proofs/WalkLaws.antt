@@ -1,6 +1,6 @@
 -- Laws of cells kept by codes: what one cell's change says of each look-up and of each weight, and what many changes say.
 use Rattle.std.proofs.Common.{◌≡◌, ℕ, zero, suc, ◌+◌, ◌*◌, ◌<◌, ◌≤◌, ◌==◌, List, [], ◌∷◌, ◌++◌, Bool, true, false, not, cond, ◌&&◌, ◌||◌, refl, sym, ap, ◌∙◌, subst, arith, inl, inr, length, map, take, get_or, replicate, Option, Some, None, ◌⊎◌, nat_lt, IsTrue, if◌then◌else◌}
-use Rattle.std.specs.Prelude.{ℤ, sum_by, All, IsSome, IfSome, Result, Ok, Err, OnOk}
+use Rattle.std.specs.Prelude.{ℤ, sum_by, All, IsSome, IfSome, Result, Ok, Err, OnOk, OnErr}
 use Rattle.std.specs.Cmp.{IsEquivalence}
 use Rattle.std.specs.List.{list_any, list_all, IsDistinct, AllByRecursion}
 use Rattle.std.specs.List.Sorted.{IsPermutation}
@@ -399,3 +399,8 @@ undone_before sets i codes values old mid then_ new distinct inside room adds re
       false_from_ne_true (is_in (key ∷ []) q) (λ here. both_ways (is_in (codes_in sets codes) q) outside (ap (is_in (codes_in sets codes)) (in_one key q here) ∙ at_inside sets i codes inside)),
     ))
     adds refused takes
+
+-- what holds whatever a call answers
+pub on_err_from : {T E P : Type 0} (r : Result T E) → P → OnErr r P
+on_err_from (Ok x) p = tt
+on_err_from (Err e) p = p
