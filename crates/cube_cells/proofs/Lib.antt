@@ -12,3 +12,4 @@ pub mod CubeLaws
 pub mod CodedLaws
 pub mod KeptLaws
 pub mod StepLaws
+pub mod NewLaws
