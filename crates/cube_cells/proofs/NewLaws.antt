@@ -28,7 +28,7 @@ use Rattle.cube_cells.specs.Coded.{CodedCells, IsCodedCell, IsCoded, AreNewCells
 use Rattle.cube_cells.specs.Cube.{IsLattice, IsCubeOf, IsNewLattice, cell_at, count_in}
 use Rattle.cube_cells.specs.Tally.{Tally, IsTallyOf}
 use Rattle.cube_cells.specs.declared.cube.codes.Codes.{Codes}
-use Rattle.cube_cells.proofs.WalkLaws.{codes_equiv}
+use Rattle.cube_cells.proofs.WalkLaws.{codes_equiv, codes_is}
 
 -- ---- the kept sets
 -- one set more of a walk over all
@@ -186,3 +186,52 @@ new_lattice schema sets cells = record {
     | inr past ↦ get_or_past (replicate (length schema.dimensions) []) d [] (omega (arith, past, length-replicate {A = List (List ℕ)} (length schema.dimensions) []))
   ];
 }
+
+-- ---- the new cells
+-- none where the grand total isn't kept
+pub none_new : (has_total : Bool) (measures : ℕ) (cells : CodedCells) → has_total ≡ false → cells ≡ [] → AreNewCells has_total measures cells
+none_new has_total measures cells none empty = record { none = λ _. empty; total = λ kept. absurd (both_ways has_total none kept) }
+
+-- where it is kept, the one
+pub total_new : (has_total : Bool) (measures : ℕ) (cells : CodedCells) → has_total ≡ true → AreNewCells true measures cells → AreNewCells has_total measures cells
+total_new has_total measures cells kept new = subst (λ (b : Bool). AreNewCells b measures cells) (sym kept) new
+
+-- a cell alone
+pub one_new : (measures : ℕ) (cells : CodedCells) (codes : Codes) (t : Tally) → codes ≡ total_codes → length cells ≡ 1 → coded_at cells codes ≡ Some t → IsTallyOf [] t → length t.bags ≡ measures → AreNewCells true measures cells
+one_new measures cells codes t total one found empty width = record {
+  none = λ never. cc never;
+  total = λ _. (t, alone cells one (subst (λ (k : Codes). coded_at cells k ≡ Some t) total found), empty, width);
+} where
+  alone : (es : CodedCells) → length es ≡ 1 → coded_at es total_codes ≡ Some t → es ≡ (total_codes, t) ∷ []
+  alone [] len at = cc at
+  alone (e ∷ []) len at = elim (cases_Bool (same_codes total_codes e.0)) [
+    | inl same ↦
+        let tally : e.1 ≡ t = cc (rw same at at) in
+        let make : Codes → Tally → CodedCells = λ k s. (k, s) ∷ [] in
+        ap (λ (k : Codes). make k e.1) (sym (codes_is total_codes e.0 same)) ∙ ap (make total_codes) tally
+    | inr apart ↦ cc (rw apart at at)
+  ]
+  alone (e ∷ f ∷ es) len at = absurd (omega (arith, len))
+
+-- ---- the whole
+pub new_all : (schema copy : Layout) (part of : ℕ) (sets : List ℕ) (dictionaries : Dictionaries) (total : Bool) (cells : CodedCells) → IsSchema copy → copy ≡ schema → sets ≡ sets_of_part part of (all_sets (length copy.dimensions)) → dictionaries ≡ replicate (length copy.dimensions) [] → total ≡ is_among 0 sets → AreNewCells total (length copy.measures) cells → IsCoded copy sets 0 dictionaries cells × IsCubeOf (lattice_of copy sets 0 dictionaries cells) [] × IsNewLattice schema (sets_of_part part of (all_sets (length schema.dimensions))) (lattice_of copy sets 0 dictionaries cells)
+new_all schema copy part of sets dictionaries total cells is same sets_are texts_are total_is new =
+    let kept = sets_of_part part of (all_sets (length copy.dimensions)) in
+    let as_kept = subst (λ (b : Bool). AreNewCells b (length copy.measures) cells) (total_is ∙ ap (λ (xs : List ℕ). is_among 0 xs) sets_are) new in
+    (
+      rw (sets_are, texts_are) (new_coded copy part of cells is as_kept),
+      rw (sets_are, texts_are) (new_cube copy kept cells is.dimensions_at_most as_kept),
+      record {
+        schema_is = same;
+        sets_are = sets_are ∙ ap (λ (s : Layout). sets_of_part part of (all_sets (length s.dimensions))) same;
+        no_facts = refl;
+        no_texts = λ d. ap (λ (ds : Dictionaries). get_or ds d []) texts_are ∙ (new_lattice copy kept cells).no_texts d;
+      },
+    )
+
+-- the only part of one is the whole
+pub part_of_one : (sets : List ℕ) → sets_of_part 0 1 sets ≡ sets
+part_of_one [] = refl
+part_of_one (set ∷ sets) =
+    let whole : (set % 1 == 0) ≡ true = eq-eqb (set % 1) 0 (omega arith) in
+    rw whole (ap (λ (xs : List ℕ). set ∷ xs) (part_of_one sets))

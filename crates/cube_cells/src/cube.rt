@@ -223,7 +223,7 @@ fn new_dictionaries(alloc: Global, dimensions: usize) -> Result<Vec<Dictionary>,
     ensures { IfOk result (λ dictionaries. dictionaries.items ≡ replicate dimensions []) }
 {
     let mut dictionaries = Vec::with_capacity(alloc, dimensions)?;
-    for _place in 0..dimensions {
+    for place in 0..dimensions {
         dictionaries.push(Dictionary::new(alloc))?;
     }
     Ok(dictionaries)
@@ -237,10 +237,19 @@ fn new_cells(
 ) -> Result<HashMap<Codes, Cell>, AllocError>
     ensures { IfOk result (λ cells. AreNewCells has_total measures cells.entries) }
 {
-    let mut cells = HashMap::new(alloc);
     if has_total {
-        cells.insert(Codes::total(), Cell::new(alloc, measures)?)?;
+        total_cells(alloc, measures)
+    } else {
+        Ok(HashMap::new(alloc))
     }
+}
+
+// The cell of the grand total over no facts.
+fn total_cells(alloc: Global, measures: usize) -> Result<HashMap<Codes, Cell>, AllocError>
+    ensures { IfOk result (λ cells. AreNewCells true measures cells.entries) }
+{
+    let mut cells = HashMap::new(alloc);
+    cells.insert(Codes::total(), Cell::new(alloc, measures)?)?;
     Ok(cells)
 }
 
