@@ -98,9 +98,9 @@ impl Subject for OneMeasure {
     }
 
     fn take(&mut self, value: i64) -> Result<(), AllocError> {
-        let row = [Some(value)];
-        if self.cell.holds(&row) {
-            self.cell.minus(&row);
+        let values = [Some(value)];
+        if self.cell.holds(&values) {
+            self.cell.minus(&values);
         }
         Ok(())
     }

@@ -7,16 +7,16 @@ use Rattle.cube_cells.specs.Bag.{Bag, held_of, size_of, one_at, SameHeld}
 
 -- how many facts a group has, and the bag of its values of each measure
 pub record Tally : Type 0 where
-  pub rows : ℕ
+  pub facts : ℕ
   pub bags : List Bag
 
 -- the bag of a measure
 abbrev pub bag_at : List Bag → ℕ → Bag
 bag_at bags m = get_or bags m []
 
--- what a row has of a measure: a value or null
+-- what a fact has of a measure: a value or null
 abbrev pub value_at : List (Option ℤ) → ℕ → Option ℤ
-value_at row m = get_or row m None
+value_at values m = get_or values m None
 
 -- the bag holds each number as often as it stands in the list
 pub record IsBagOf (values : List ℤ) (bag : Bag) : Type 0 where
@@ -24,7 +24,7 @@ pub record IsBagOf (values : List ℤ) (bag : Bag) : Type 0 where
 
 -- this is the tally of these facts
 pub record IsTallyOf (facts : List Fact) (t : Tally) : Type 0 where
-  pub rows : t.rows ≡ length facts
+  pub count : t.facts ≡ length facts
   pub bags : (m : ℕ) → m < length t.bags → IsBagOf (values_of m facts) (bag_at t.bags m)
 
 -- 1 where the value is the number x, else 0; a null is no number
@@ -36,15 +36,15 @@ one_of x (Some v) = one_at x v
 pub record AddsValue (old new : Bag) (value : Option ℤ) : Type 0 where
   pub held : (x : ℤ) → held_of new x ≡ held_of old x + one_of x value
 
--- the new bags hold the values of a row once more, measure by measure
-pub record AddsRow (old new : List Bag) (row : List (Option ℤ)) : Type 0 where
+-- the new bags hold the values of a fact once more, measure by measure
+pub record AddsValues (old new : List Bag) (values : List (Option ℤ)) : Type 0 where
   pub same_length : length new ≡ length old
-  pub values : (m : ℕ) → AddsValue (bag_at old m) (bag_at new m) (value_at row m)
+  pub each : (m : ℕ) → AddsValue (bag_at old m) (bag_at new m) (value_at values m)
 
--- the new tally has one row more, with these values
-pub record PlusRow (row : List (Option ℤ)) (old new : Tally) : Type 0 where
-  pub rows : new.rows ≡ old.rows + 1
-  pub bags : AddsRow old.bags new.bags row
+-- the new tally has one fact more, with these values
+pub record PlusFact (values : List (Option ℤ)) (old new : Tally) : Type 0 where
+  pub facts : new.facts ≡ old.facts + 1
+  pub bags : AddsValues old.bags new.bags values
 
 -- the two lists have the same bags, whatever stands how inside
 pub record SameBags (a b : List Bag) : Type 0 where
@@ -53,21 +53,21 @@ pub record SameBags (a b : List Bag) : Type 0 where
 
 -- the two tallies count the same: they are tallies of the same lists of facts
 pub record SameTally (a b : Tally) : Type 0 where
-  pub rows : a.rows ≡ b.rows
+  pub facts : a.facts ≡ b.facts
   pub bags : SameBags a.bags b.bags
 
--- whether a bag of so many rows holds a value; a null is held where there are more rows than values
+-- whether a bag of so many facts holds a value; a null is held where there are more facts than values
 abbrev pub holds_value : ℕ → Bag → Option ℤ → Bool
-holds_value rows bag None = nat_lt (size_of bag) rows
-holds_value rows bag (Some v) = nat_lt 0 (held_of bag v)
+holds_value facts bag None = nat_lt (size_of bag) facts
+holds_value facts bag (Some v) = nat_lt 0 (held_of bag v)
 
--- whether the bags of so many rows hold the values of a row, measure by measure
+-- whether the bags of so many facts hold the values of a fact, measure by measure
 abbrev pub hold_values : ℕ → List Bag → List (Option ℤ) → Bool
-hold_values rows [] [] = true
-hold_values rows [] (_ ∷ _) = false
-hold_values rows (_ ∷ _) [] = false
-hold_values rows (bag ∷ bags) (value ∷ row) = holds_value rows bag value && hold_values rows bags row
+hold_values facts [] [] = true
+hold_values facts [] (_ ∷ _) = false
+hold_values facts (_ ∷ _) [] = false
+hold_values facts (bag ∷ bags) (value ∷ values) = holds_value facts bag value && hold_values facts bags values
 
--- whether a tally has a row, and holds the values of this one
-abbrev pub holds_row : Tally → List (Option ℤ) → Bool
-holds_row t row = nat_lt 0 t.rows && hold_values t.rows t.bags row
+-- whether a tally has a fact, and holds these values of one
+abbrev pub holds_fact : Tally → List (Option ℤ) → Bool
+holds_fact t values = nat_lt 0 t.facts && hold_values t.facts t.bags values

@@ -5,7 +5,7 @@ ghost use Rattle.cube_core.specs.Answer.{IsAnswer};
 ghost use Rattle.cube_core.specs.Layout.{is_aggregate_of};
 ghost use Rattle.cube_core.specs.declared.fact.Fact.{Fact};
 ghost use Rattle.cube_cells.specs.Bag.{size_of, held_of};
-ghost use Rattle.cube_cells.specs.Tally.{IsTallyOf, AddsRow, PlusRow, SameBags, SameTally, bag_at, value_at, hold_values, holds_row};
+ghost use Rattle.cube_cells.specs.Tally.{IsTallyOf, AddsValues, PlusFact, SameBags, SameTally, bag_at, value_at, hold_values, holds_fact};
 
 use crate::measure::Measure;
 use cube_core::{Agg, Answer};
@@ -14,10 +14,10 @@ use std::marker::Model;
 
 /// The tally of a group of facts: how many they are, and for each measure its values with their sum.
 ///
-/// A null is no value: it counts as a row alone.
+/// A null is no value: it counts as a fact alone.
 #[derive(Drop)]
 pub struct Cell {
-    rows: u64,
+    facts: u64,
     measures: Vec<Measure>,
 }
 
@@ -28,9 +28,9 @@ impl Model for Cell {
 
     ghost Value = { Tally };
 
-    ghost view = { λ c. record { rows = c.rows; bags = c.measures.items } };
+    ghost view = { λ c. record { facts = c.facts; bags = c.measures.items } };
 
-    ghost invariant = { λ c. All (λ bag. size_of bag ≤ c.rows) c.measures.items };
+    ghost invariant = { λ c. All (λ bag. size_of bag ≤ c.facts) c.measures.items };
 }
 
 impl Cell {
@@ -40,45 +40,47 @@ impl Cell {
         ensures measures { IfOk result (λ cell. length cell.bags ≡ measures) }
     {
         Ok(Cell {
-            rows: 0,
+            facts: 0,
             measures: empty_measures(alloc, measures)?,
         })
     }
 
-    /// How many rows the cell has.
+    /// How many facts the cell has.
     pub fn count(&self) -> u64
-        ensures { result ≡ self.now.rows }
+        ensures { result ≡ self.now.facts }
     {
-        self.rows
+        self.facts
     }
 
-    /// Adds a row, a value or null for each measure. Where memory is wanting, the tally stays as it was.
-    pub fn plus(&mut self, row: &[Option<i64>]) -> Result<(), AllocError>
-        requires width { length row.now ≡ length self.old.bags }
-        requires fits { self.old.rows + 1 < 2 ^ 64 }
-        ensures added { OnOk result (PlusRow row.now self.old self.new) }
+    /// Adds a fact by its values, a value or null for each measure. Where memory is wanting, the cell counts what
+    /// it counted.
+    pub fn plus(&mut self, values: &[Option<i64>]) -> Result<(), AllocError>
+        requires width { length values.now ≡ length self.old.bags }
+        requires fits { self.old.facts + 1 < 2 ^ 64 }
+        ensures added { OnOk result (PlusFact values.now self.old self.new) }
+        ensures held { OnOk result (IsTrue (holds_fact self.new values.now)) }
         ensures err { OnErr result (SameTally self.old self.new) }
     {
-        add_row(&mut self.measures, row)?;
-        self.rows += 1;
+        add_values(&mut self.measures, values)?;
+        self.facts += 1;
         Ok(())
     }
 
-    /// Whether the cell has a row, and for each measure holds the row's value; a null is held where some row
-    /// of the cell has no value of the measure.
-    pub fn holds(&self, row: &[Option<i64>]) -> bool
-        ensures { result ≡ holds_row self.now row.now }
+    /// Whether the cell has a fact, and for each measure holds the value given; a null is held where some fact of
+    /// the cell has no value of the measure.
+    pub fn holds(&self, values: &[Option<i64>]) -> bool
+        ensures { result ≡ holds_fact self.now values.now }
     {
-        self.rows > 0 && hold_values(&self.measures, row, self.rows)
+        self.facts > 0 && hold_values(&self.measures, values, self.facts)
     }
 
-    /// Takes a row away that the cell holds. It takes no memory.
-    pub fn minus(&mut self, row: &[Option<i64>])
-        requires { IsTrue (holds_row self.old row.now) }
-        ensures { PlusRow row.now self.new self.old }
+    /// Takes a fact away whose values the cell holds. It takes no memory.
+    pub fn minus(&mut self, values: &[Option<i64>])
+        requires { IsTrue (holds_fact self.old values.now) }
+        ensures { PlusFact values.now self.new self.old }
     {
-        take_row(&mut self.measures, row);
-        self.rows -= 1;
+        take_values(&mut self.measures, values);
+        self.facts -= 1;
     }
 
     /// The answer of an aggregate over any facts that this is the tally of. `count`, `sum` and `avg` are kept;
@@ -88,7 +90,7 @@ impl Cell {
         ensures { (facts : List Fact) → IsTallyOf facts self.now → IsAnswer facts agg.now result }
     {
         match agg {
-            Agg::CountAll => Answer::Count(self.rows),
+            Agg::CountAll => Answer::Count(self.facts),
             Agg::Count(measure) => Answer::Count(self.measures[*measure].count()),
             Agg::Sum(measure) => self.measures[*measure].sum(),
             Agg::Min(measure) => self.measures[*measure].least(),
@@ -109,43 +111,43 @@ fn empty_measures(alloc: Global, count: usize) -> Result<Vec<Measure>, AllocErro
     Ok(measures)
 }
 
-// Adds the values of a row, or none of them.
-fn add_row(measures: &mut [Measure], row: &[Option<i64>]) -> Result<(), AllocError>
-    requires width { length row.now ≡ length measures.old }
+// Adds the values of a fact, or none of them.
+fn add_values(measures: &mut [Measure], values: &[Option<i64>]) -> Result<(), AllocError>
+    requires width { length values.now ≡ length measures.old }
     requires fits { All (λ bag. size_of bag + 1 < 2 ^ 64) measures.old }
-    ensures added { OnOk result (AddsRow measures.old measures.new row.now) }
+    ensures added { OnOk result (AddsValues measures.old measures.new values.now) }
     ensures err { OnErr result (SameBags measures.old measures.new) }
 {
-    for (place, value) in row.iter().enumerate() {
+    for (place, value) in values.iter().enumerate() {
         let measure = &mut measures[place];
         if let Err(error) = measure.plus(*value) {
-            take_row(measures, &row[..place]);
+            take_values(measures, &values[..place]);
             return Err(error);
         }
     }
     Ok(())
 }
 
-// Takes the values of a row away.
-fn take_row(measures: &mut [Measure], row: &[Option<i64>])
-    requires width { length row.now ≤ length measures.old }
-    requires held { (m : ℕ) → ForSome (value_at row.now m) (λ v. 0 < held_of (bag_at measures.old m) v) }
-    ensures { AddsRow measures.new measures.old row.now }
+// Takes the values of a fact away.
+fn take_values(measures: &mut [Measure], values: &[Option<i64>])
+    requires width { length values.now ≤ length measures.old }
+    requires held { (m : ℕ) → ForSome (value_at values.now m) (λ v. 0 < held_of (bag_at measures.old m) v) }
+    ensures { AddsValues measures.new measures.old values.now }
 {
-    for (place, value) in row.iter().enumerate() {
+    for (place, value) in values.iter().enumerate() {
         let measure = &mut measures[place];
         measure.minus(*value);
     }
 }
 
-fn hold_values(measures: &[Measure], row: &[Option<i64>], rows: u64) -> bool
-    ensures { result ≡ hold_values rows measures.now row.now }
+fn hold_values(measures: &[Measure], values: &[Option<i64>], facts: u64) -> bool
+    ensures { result ≡ hold_values facts measures.now values.now }
 {
     let Some((measure, other_measures)) = measures.split_first() else {
-        return row.is_empty();
+        return values.is_empty();
     };
-    let Some((value, other_values)) = row.split_first() else {
+    let Some((value, other_values)) = values.split_first() else {
         return false;
     };
-    measure.holds(*value, rows) && hold_values(other_measures, other_values, rows)
+    measure.holds(*value, facts) && hold_values(other_measures, other_values, facts)
 }

@@ -55,7 +55,7 @@ impl Counted {
     }
 
     /// Adds one `value`. Where memory is wanting, the multiset stays as it was.
-    #[tactic(auto, using(crate::proofs::Bags::size_of_one))]
+    #[tactic(auto, using(crate::proofs::BagLaws::size_of_one))]
     pub fn add(&mut self, value: i64) -> Result<(), AllocError>
         requires { size_of self.old + 1 < 2 ^ 64 }
         ensures added { OnOk result (AddsOne self.old self.new value) }
@@ -67,7 +67,7 @@ impl Counted {
     }
 
     /// Takes one `value` away; answers whether there was one. It takes no memory.
-    #[tactic(auto, using(crate::proofs::Bags::size_of_one, crate::proofs::Bags::held_before))]
+    #[tactic(auto, using(crate::proofs::BagLaws::size_of_one, crate::proofs::BagLaws::held_before))]
     pub fn remove(&mut self, value: i64) -> bool
         ensures found { IsTrue result ↔ (0 < held_of self.old value) }
         ensures taken { OnTrue result (AddsOne self.new self.old value) }
@@ -117,7 +117,7 @@ impl Counted {
     }
 
     /// How many numbers are held, each counted as often as it is held.
-    #[tactic(auto, using(crate::proofs::Bags::held_le_size))]
+    #[tactic(auto, using(crate::proofs::BagLaws::held_le_size))]
     pub fn len(&self) -> u64
         ensures len { result ≡ size_of self.now }
         ensures held { (v : ℤ) → held_of self.now v ≤ result }
@@ -168,7 +168,7 @@ fn short_of(alloc: Global, single: &Single, value: i64) -> Result<Box<Short>, Al
 }
 
 // A table of the numbers of a list and one more.
-#[tactic(auto, using(crate::proofs::Bags::size_of_same, crate::proofs::Bags::adds_to_same))]
+#[tactic(auto, using(crate::proofs::BagLaws::size_of_same, crate::proofs::BagLaws::adds_to_same))]
 fn table_of(alloc: Global, short: &Short, value: i64) -> Result<Box<Table>, AllocError>
     requires { size_of short.now + 1 < 2 ^ 64 }
     ensures { IfOk result (λ table. AddsOne short.now table.value value) }

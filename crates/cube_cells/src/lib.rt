@@ -2,10 +2,12 @@
 //!
 //! [`Counted`] is a multiset of numbers, which makes the least and the greatest value right under deletes.
 //! [`Cell`] is the tally of a group of facts, which answers every aggregate of them.
+//! [`Cube`] is the cells of all kept grouping sets, kept right under adds and removes.
 #![tactic(auto)]
 
 mod cell;
 mod counted;
+mod cube;
 pub mod laws;
 mod measure;
 mod short;
@@ -14,6 +16,7 @@ mod table;
 
 pub use cell::Cell;
 pub use counted::Counted;
+pub use cube::Cube;
 pub use cube_core::reduced;
 
 #[cfg(test)]

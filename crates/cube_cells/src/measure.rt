@@ -67,13 +67,13 @@ impl Measure {
         }
     }
 
-    /// Whether the value is held; a null is, where there are more rows than values.
-    pub fn holds(&self, value: Option<i64>, rows: u64) -> bool
-        ensures { result ≡ holds_value rows self.now value }
+    /// Whether the value is held; a null is, where there are more facts than values.
+    pub fn holds(&self, value: Option<i64>, facts: u64) -> bool
+        ensures { result ≡ holds_value facts self.now value }
     {
         match value {
             Some(value) => self.values.holds(value),
-            None => self.values.len() < rows,
+            None => self.values.len() < facts,
         }
     }
 

@@ -30,7 +30,7 @@ impl Model for Short {
 
 impl Short {
     /// Two numbers, the first held so often and the second once.
-    #[tactic(auto, using(crate::proofs::Bags::adds_pair))]
+    #[tactic(auto, using(crate::proofs::BagLaws::adds_pair))]
     pub fn of_two(alloc: Global, first: (i64, u64), second: i64) -> Result<Short, AllocError>
         requires { 0 < first.1 }
         ensures { IfOk result (λ short. AddsOne (first ∷ []) short second) }
@@ -50,7 +50,7 @@ impl Short {
     }
 
     /// Adds one `value` where it is held already, or where there is place for it; answers whether it did.
-    #[tactic(auto, using(crate::proofs::Bags::adds_at, crate::proofs::Bags::adds_pair, crate::proofs::Bags::count_at))]
+    #[tactic(auto, using(crate::proofs::BagLaws::adds_at, crate::proofs::BagLaws::adds_pair, crate::proofs::BagLaws::count_at))]
     pub fn add(&mut self, value: i64) -> Result<bool, AllocError>
         requires { size_of self.old + 1 < 2 ^ 64 }
         ensures added { result ≡ Ok true → AddsOne self.old self.new value }
@@ -70,7 +70,7 @@ impl Short {
     }
 
     /// Takes one `value` away; answers whether there was one.
-    #[tactic(auto, using(crate::proofs::Bags::takes_at, crate::proofs::Bags::takes_pair))]
+    #[tactic(auto, using(crate::proofs::BagLaws::takes_at, crate::proofs::BagLaws::takes_pair))]
     pub fn remove(&mut self, value: i64) -> bool
         ensures taken { OnTrue result (AddsOne self.new self.old value) }
         ensures absent { OnFalse result (held_of self.old value ≡ 0) }
@@ -88,7 +88,7 @@ impl Short {
     }
 
     /// Whether `value` is held.
-    #[tactic(auto, using(crate::proofs::Bags::held_by_place, crate::proofs::Bags::absent_by_place))]
+    #[tactic(auto, using(crate::proofs::BagLaws::held_by_place, crate::proofs::BagLaws::absent_by_place))]
     pub fn holds(&self, value: i64) -> bool
         ensures held { OnTrue result (0 < held_of self.now value) }
         ensures absent { OnFalse result (held_of self.now value ≡ 0) }
@@ -97,7 +97,7 @@ impl Short {
     }
 
     /// The least number held; it looks at each pair.
-    #[tactic(auto, using(crate::proofs::Bags::least_of_pairs, crate::proofs::Bags::no_pairs))]
+    #[tactic(auto, using(crate::proofs::BagLaws::least_of_pairs, crate::proofs::BagLaws::no_pairs))]
     pub fn least(&self) -> Option<i64>
         ensures none { IsNone result ↔ (size_of self.now ≡ 0) }
         ensures least { IfSome result (HasLeast self.now) }
@@ -106,7 +106,7 @@ impl Short {
     }
 
     /// The greatest number held; it looks at each pair.
-    #[tactic(auto, using(crate::proofs::Bags::greatest_of_pairs, crate::proofs::Bags::no_pairs))]
+    #[tactic(auto, using(crate::proofs::BagLaws::greatest_of_pairs, crate::proofs::BagLaws::no_pairs))]
     pub fn greatest(&self) -> Option<i64>
         ensures none { IsNone result ↔ (size_of self.now ≡ 0) }
         ensures greatest { IfSome result (HasGreatest self.now) }

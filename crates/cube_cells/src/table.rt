@@ -49,7 +49,7 @@ impl Table {
     }
 
     /// Adds `value` `times` times.
-    #[tactic(auto, using(crate::proofs::Bags::count_found, crate::proofs::Bags::adds_found, crate::proofs::Bags::adds_entry, crate::proofs::Bags::some_put, crate::proofs::Bags::some_set))]
+    #[tactic(auto, using(crate::proofs::BagLaws::count_found, crate::proofs::BagLaws::adds_found, crate::proofs::BagLaws::adds_entry, crate::proofs::BagLaws::some_put, crate::proofs::BagLaws::some_set))]
     pub fn add(&mut self, value: i64, times: u64) -> Result<(), AllocError>
         requires some { 0 < times }
         requires fits { size_of self.old + times < 2 ^ 64 }
@@ -64,7 +64,7 @@ impl Table {
     }
 
     /// Takes one `value` away; answers whether there was one.
-    #[tactic(auto, using(crate::proofs::Bags::held_of_none, crate::proofs::Bags::takes_found, crate::proofs::Bags::takes_entry, crate::proofs::Bags::some_set, crate::proofs::Bags::some_left))]
+    #[tactic(auto, using(crate::proofs::BagLaws::held_of_none, crate::proofs::BagLaws::takes_found, crate::proofs::BagLaws::takes_entry, crate::proofs::BagLaws::some_set, crate::proofs::BagLaws::some_left))]
     pub fn remove(&mut self, value: i64) -> bool
         ensures taken { OnTrue result (AddsOne self.new self.old value) }
         ensures absent { OnFalse result (held_of self.old value ≡ 0) }
@@ -82,7 +82,7 @@ impl Table {
     }
 
     /// Whether `value` is held.
-    #[tactic(auto, using(crate::proofs::Bags::held_of_none, crate::proofs::Bags::held_found))]
+    #[tactic(auto, using(crate::proofs::BagLaws::held_of_none, crate::proofs::BagLaws::held_found))]
     pub fn holds(&self, value: i64) -> bool
         ensures held { OnTrue result (0 < held_of self.now value) }
         ensures absent { OnFalse result (held_of self.now value ≡ 0) }
@@ -91,7 +91,7 @@ impl Table {
     }
 
     /// The least number held; it looks at each number.
-    #[tactic(auto, using(crate::proofs::Bags::least_of_table, crate::proofs::Bags::no_entries))]
+    #[tactic(auto, using(crate::proofs::BagLaws::least_of_table, crate::proofs::BagLaws::no_entries))]
     pub fn least(&self) -> Option<i64>
         ensures none { IsNone result ↔ (size_of self.now ≡ 0) }
         ensures least { IfSome result (HasLeast self.now) }
@@ -100,7 +100,7 @@ impl Table {
     }
 
     /// The greatest number held; it looks at each number.
-    #[tactic(auto, using(crate::proofs::Bags::greatest_of_table, crate::proofs::Bags::no_entries))]
+    #[tactic(auto, using(crate::proofs::BagLaws::greatest_of_table, crate::proofs::BagLaws::no_entries))]
     pub fn greatest(&self) -> Option<i64>
         ensures none { IsNone result ↔ (size_of self.now ≡ 0) }
         ensures greatest { IfSome result (HasGreatest self.now) }

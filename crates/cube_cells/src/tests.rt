@@ -36,10 +36,10 @@ fn removing_takes_one_occurrence(rt: HostRuntime) -> Result<(), Fail> {
 }
 
 #[test]
-fn a_null_is_a_row_and_no_value(rt: HostRuntime) -> Result<(), Fail> {
+fn a_null_is_a_fact_and_no_value(rt: HostRuntime) -> Result<(), Fail> {
     let mut cell = Cell::new(rt.alloc(), 1)?;
-    add_row(&mut cell, &[Some(5)])?;
-    add_row(&mut cell, &[None])?;
+    add_values(&mut cell, &[Some(5)])?;
+    add_values(&mut cell, &[None])?;
     assert_eq!(rt; cell.count(), 2);
     assert_eq!(rt; cell.answer(&Agg::CountAll), Answer::Count(2));
     assert_eq!(rt; cell.answer(&Agg::Count(0)), Answer::Count(1));
@@ -89,24 +89,24 @@ fn a_long_run_agrees_with_a_tree(rt: HostRuntime) -> Result<(), Fail> {
     Ok(())
 }
 
-// A row is added again where memory was wanting, and until then nothing may have changed. To refuse each growth
+// A fact is added again where memory was wanting, and until then nothing may have changed. To refuse each growth
 // in turn, run it as `rt try --test --fail-alloc N` for each N from 1.
 #[test]
 fn a_refused_growth_leaves_the_cell_as_it_was(rt: HostRuntime) -> Result<(), Fail> {
     let Ok(mut cell) = Cell::new(rt.alloc(), 4) else {
         return Ok(());
     };
-    let rows = [
+    let facts = [
         [Some(1), None, Some(-1), Some(7)],
         [Some(2), Some(2), Some(2), Some(2)],
         [Some(3), Some(3), Some(3), Some(3)],
         [Some(1), None, None, None],
     ];
-    for row in rows {
+    for fact in facts {
         let before = answers_of(&cell);
-        if add_row(&mut cell, &row).is_err() {
+        if add_values(&mut cell, &fact).is_err() {
             assert_eq!(rt; answers_of(&cell), before);
-            add_row(&mut cell, &row)?;
+            add_values(&mut cell, &fact)?;
         }
     }
     assert_eq!(rt; cell.answer(&Agg::CountAll), Answer::Count(4));
@@ -125,12 +125,12 @@ fn add(values: &mut Counted, value: i64) -> Result<(), AllocError> {
     Ok(())
 }
 
-fn add_row(cell: &mut Cell, row: &[Option<i64>]) -> Result<(), AllocError>
-    requires { length row.now ≡ length cell.old.bags }
+fn add_values(cell: &mut Cell, values: &[Option<i64>]) -> Result<(), AllocError>
+    requires { length values.now ≡ length cell.old.bags }
     ensures { length cell.new.bags ≡ length cell.old.bags }
 {
     if cell.count() < u64::MAX {
-        cell.plus(row)?;
+        cell.plus(values)?;
     }
     Ok(())
 }

@@ -1,6 +1,6 @@
 use Rattle.std.proofs.Common.{◌≡◌, rules}
 use Rattle.cube_cells.specs.Bag.{SameHeld, AddsTimes}
-use Rattle.cube_cells.proofs.Bags.{adds_to_same}
+use Rattle.cube_cells.proofs.BagLaws.{adds_to_same}
 use Rattle.cube_cells.proofs.counted.table_of.Goals as goal
 
 pub returns : goal.returns

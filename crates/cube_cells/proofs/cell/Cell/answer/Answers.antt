@@ -3,7 +3,7 @@ use Rattle.std.proofs.lemmas.List.{get_or_default}
 use Rattle.cube_core.specs.Group.{values_of}
 use Rattle.cube_cells.specs.Bag.{size_of}
 use Rattle.cube_cells.specs.Tally.{bag_at}
-use Rattle.cube_cells.proofs.Tallies.{size_of_values}
+use Rattle.cube_cells.proofs.TallyLaws.{size_of_values}
 use Rattle.cube_cells.proofs.cell.Cell.answer.Goals as goal
 
 pub returns-in-Count : goal.returns-in-Count

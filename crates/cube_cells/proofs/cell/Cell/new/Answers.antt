@@ -1,4 +1,4 @@
-use Rattle.cube_cells.proofs.Rows.{tally_of_nothing}
+use Rattle.cube_cells.proofs.ValueLaws.{tally_of_nothing}
 use Rattle.cube_cells.proofs.cell.Cell.new.Goals as goal
 
 pub returns-clause-tally : goal.returns-clause-tally

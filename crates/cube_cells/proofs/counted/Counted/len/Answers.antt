@@ -1,6 +1,6 @@
 use Rattle.std.proofs.Common.{arith, ap}
 use Rattle.cube_cells.specs.Bag.{size_of}
-use Rattle.cube_cells.proofs.Bags.{held_le_size}
+use Rattle.cube_cells.proofs.BagLaws.{held_le_size}
 use Rattle.cube_cells.proofs.counted.Counted.len.Goals as goal
 
 pub returns-clause-held : goal.returns-clause-held

@@ -1,4 +1,4 @@
-use Rattle.cube_cells.proofs.Tallies.{greatest_of_number}
+use Rattle.cube_cells.proofs.TallyLaws.{greatest_of_number}
 use Rattle.cube_cells.proofs.measure.Measure.greatest.Goals as goal
 
 pub returns : goal.returns

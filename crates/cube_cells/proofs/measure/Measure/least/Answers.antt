@@ -1,4 +1,4 @@
-use Rattle.cube_cells.proofs.Tallies.{least_of_number}
+use Rattle.cube_cells.proofs.TallyLaws.{least_of_number}
 use Rattle.cube_cells.proofs.measure.Measure.least.Goals as goal
 
 pub returns : goal.returns

@@ -3,7 +3,7 @@ use Rattle.std.specs.Int.{w128}
 use Rattle.std.proofs.lemmas.Bool.Decides.{nat_tests}
 use Rattle.std.proofs.lemmas.Int.{to_z-of_z}
 use Rattle.cube_cells.specs.Bag.{size_of}
-use Rattle.cube_cells.proofs.Tallies.{mean_of_none, mean_of_some}
+use Rattle.cube_cells.proofs.TallyLaws.{mean_of_none, mean_of_some}
 use Rattle.cube_cells.proofs.measure.Measure.mean.Goals as goal
 
 pub returns-then-is_empty : goal.returns-then-is_empty

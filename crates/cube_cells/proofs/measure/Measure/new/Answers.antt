@@ -1,4 +1,4 @@
-use Rattle.cube_cells.proofs.Sums.{sum_of_nothing}
+use Rattle.cube_cells.proofs.SumLaws.{sum_of_nothing}
 use Rattle.cube_cells.proofs.measure.Measure.new.Goals as goal
 
 pub invariant_of-result : goal.invariant_of-result

@@ -3,8 +3,8 @@ use Rattle.std.specs.Prelude.{◌+ℤ◌}
 use Rattle.std.specs.Int.{w64, w128}
 use Rattle.std.proofs.lemmas.Int.{to_z-of_z}
 use Rattle.cube_cells.specs.Bag.{AddsOne, size_of}
-use Rattle.cube_cells.proofs.Bags.{size_of_one}
-use Rattle.cube_cells.proofs.Sums.{sum_fits, sum_added}
+use Rattle.cube_cells.proofs.BagLaws.{size_of_one}
+use Rattle.cube_cells.proofs.SumLaws.{sum_fits, sum_added}
 use Rattle.cube_cells.proofs.measure.Measure.plus.Goals as goal
 
 pub sum_with-self-inside-requires : goal.sum_with-self-inside-requires

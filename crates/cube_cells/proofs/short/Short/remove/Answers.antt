@@ -1,7 +1,7 @@
 use Rattle.std.proofs.Common.{◌≡◌, ◌<◌, All, false, length, rules}
 use Rattle.std.specs.List.{HoldsAt}
 use Rattle.std.specs.Ordering.{int_eq}
-use Rattle.cube_cells.proofs.Bags.{held_of_absent, takes_pair}
+use Rattle.cube_cells.proofs.BagLaws.{held_of_absent, takes_pair}
 use Rattle.cube_cells.proofs.short.Short.remove.Goals as goal
 
 pub returns-in_default-clause-absent : goal.returns-in_default-clause-absent

@@ -1,7 +1,7 @@
 use Rattle.std.proofs.Common.{◌≡◌, ◌+◌, rules, Some}
 use Rattle.std.specs.Map.{lookup, set_value}
 use Rattle.std.specs.Ordering.{int_eq}
-use Rattle.cube_cells.proofs.Bags.{adds_found}
+use Rattle.cube_cells.proofs.BagLaws.{adds_found}
 use Rattle.cube_cells.proofs.table.Table.add.Goals as goal
 
 pub returns-in-Some-clause-added : goal.returns-in-Some-clause-added

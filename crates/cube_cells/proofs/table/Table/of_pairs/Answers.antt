@@ -1,6 +1,6 @@
 use Rattle.std.proofs.Common.{arith, rules, pos, get_or, FitsSigned, w64}
 use Rattle.std.proofs.lemmas.Int.{to_z-of_z}
-use Rattle.cube_cells.proofs.Bags.{split_fits, split_more, split_end}
+use Rattle.cube_cells.proofs.BagLaws.{split_fits, split_more, split_end}
 use Rattle.cube_cells.proofs.table.Table.of_pairs.Goals as goal
 
 pub add-requires-clause-fits : goal.add-requires-clause-fits

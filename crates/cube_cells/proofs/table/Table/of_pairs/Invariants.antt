@@ -1,4 +1,4 @@
-use Rattle.cube_cells.proofs.Bags.{IsSplit}
+use Rattle.cube_cells.proofs.BagLaws.{IsSplit}
 use Rattle.cube_cells.proofs.table.Table.of_pairs.Given as goal
 
 abbrev pub invariant-loop-value : goal.invariant-loop-value

@@ -1,0 +1,301 @@
+//! A data cube: the cells of the kept grouping sets, kept right under adds and removes.
+ghost use Rattle.std.specs.Prelude.{◌≡◌, ◌+◌, ◌<◌, ◌≤◌, ◌^◌, ◌↔◌, [], ◌∷◌, ◌++◌, replicate, if◌then◌else◌, ℕ, List, IsTrue, IfOk, IfSome, OnOk, OnErr, true, false, length, map, get_or, position, All};
+ghost use Rattle.std.specs.Option.{option_map};
+ghost use Rattle.std.specs.Str.{bytes_eq};
+ghost use Rattle.cube_core.specs.GroupingSet.{sets_of_part, is_among};
+ghost use Rattle.cube_core.specs.Takes.{fits};
+ghost use Rattle.cube_core.specs.declared.fact.Fact.{Fact};
+ghost use Rattle.cube_core.specs.declared.key.Key.{Key};
+ghost use Rattle.cube_cells.specs.Codes.{IsDictionary, AreCodesOf, are_codes, coord_of_value};
+ghost use Rattle.cube_cells.specs.Coded.{AreNewCells};
+ghost use Rattle.cube_cells.specs.Cube.{Lattice, IsLattice, IsCubeOf, HoldsFact, AddsFact, TakesFact, AddsTexts, MayAddTexts, SameCells, cell_at, count_in, IsNewLattice};
+
+mod codes;
+mod dictionary;
+mod walk;
+
+use crate::cell::Cell;
+use codes::{ALL, Codes};
+use cube_core::{Coord, Fact, Key, Schema, Text};
+use dictionary::Dictionary;
+use std::alloc::{AllocError, Global};
+use std::collections::HashMap;
+use std::marker::Model;
+use walk::{add_to_sets, hold_in_sets, take_from_sets};
+
+/// A cube over facts: for each kept grouping set, the cells of its keys that cover a fact (Gray et al. 1997), and
+/// the grand total where its set is kept.
+///
+/// Each cell is found in one hashed look-up. A text gets a code at the first `add` of a fact that has it, and
+/// keeps it. Where an `add` finds no memory, the cells count what they counted.
+#[derive(Drop)]
+pub struct Cube {
+    schema: Schema,
+    sets: Vec<u8>,
+    facts: u64,
+    dictionaries: Vec<Dictionary>,
+    cells: HashMap<Codes, Cell>,
+    alloc: Global,
+}
+
+impl Model for Cube {
+    ghost use Rattle.cube_cells.specs.Cube.{Lattice};
+    ghost use Rattle.cube_cells.specs.Coded.{IsCoded, decoded, lattice_of};
+
+    ghost Value = { Lattice };
+
+    ghost view = { λ c. lattice_of c.schema c.sets.items c.facts c.dictionaries.items c.cells.entries };
+
+    ghost invariant = { λ c. IsCoded c.schema c.sets.items c.facts c.dictionaries.items c.cells.entries };
+}
+
+impl Cube {
+    /// The cube of no fact over all grouping sets of the schema: the grand total alone. The only error is want of
+    /// memory.
+    pub fn new(alloc: Global, schema: &Schema) -> Result<Cube, AllocError>
+        ensures new { IfOk result (IsNewLattice schema.now schema.now.grouping_sets) }
+        ensures cube { IfOk result (λ cube. IsCubeOf cube []) }
+    {
+        Cube::new_part(alloc, schema, 0, 1)
+    }
+
+    /// The cube of no fact over the grouping sets of a part of the schema's: those whose mask leaves `part` when
+    /// it is divided by `of` (this project's choice). The grand total is in part 0.
+    pub fn new_part(alloc: Global, schema: &Schema, part: u32, of: u32) -> Result<Cube, AllocError>
+        requires parts { of ≤ 8 }
+        requires part { part < of }
+        ensures new { IfOk result
+            (IsNewLattice schema.now (sets_of_part part of schema.now.grouping_sets)) }
+        ensures cube { IfOk result (λ cube. IsCubeOf cube []) }
+    {
+        let schema = schema.copy(alloc)?;
+        let sets = kept_sets(alloc, &schema, part, of)?;
+        let dictionaries = new_dictionaries(alloc, schema.dimensions().len())?;
+        let cells = new_cells(alloc, schema.measures().len(), has_total(&sets))?;
+        Ok(Cube {
+            schema,
+            sets,
+            facts: 0,
+            dictionaries,
+            cells,
+            alloc,
+        })
+    }
+
+    /// Adds a fact that fits, to each cell of a kept set that covers it.
+    ///
+    /// Where memory is wanting, the cells count what they counted, and `facts` is the same; only texts of the fact
+    /// may have got codes.
+    pub fn add(&mut self, fact: &Fact) -> Result<(), AllocError>
+        requires fits { fits self.old.schema fact.now ≡ true }
+        requires room { self.old.facts + 1 < 2 ^ 64 }
+        ensures added { OnOk result (AddsFact fact.now self.old self.new) }
+        ensures texts { OnOk result (AddsTexts fact.now.dims self.old.dictionaries self.new.dictionaries) }
+        ensures cube { OnOk result
+            ((facts : List Fact) → IsCubeOf self.old facts → IsCubeOf self.new (fact.now ∷ facts)) }
+        ensures err { OnErr result (SameCells self.old self.new) }
+        ensures err_texts { OnErr result
+            (MayAddTexts fact.now.dims self.old.dictionaries self.new.dictionaries) }
+        ensures err_cube { OnErr result
+            ((facts : List Fact) → IsCubeOf self.old facts → IsCubeOf self.new facts) }
+    {
+        let codes = add_codes(self.alloc, &mut self.dictionaries, fact)?;
+        let values = fact.measures.as_slice();
+        add_to_sets(self.alloc, &mut self.cells, &codes, &self.sets, values)?;
+        self.facts += 1;
+        Ok(())
+    }
+
+    /// Whether the fact can be removed: it fits, there is a fact, and each key that covers it in a kept set is a
+    /// cell that holds its measures. It takes no memory.
+    pub fn holds(&self, fact: &Fact) -> bool
+        ensures held { IsTrue result ↔ HoldsFact self.now fact.now }
+        ensures cube { (facts : List Fact) → fits self.now.schema fact.now ≡ true →
+            IsCubeOf self.now (fact.now ∷ facts) → 0 < self.now.facts → IsTrue result }
+    {
+        if self.facts == 0 || !self.schema.fits(fact) {
+            return false;
+        }
+        let codes = codes_of_values(&self.dictionaries, fact.dims.as_slice());
+        hold_in_sets(&self.cells, &codes, &self.sets, fact.measures.as_slice())
+    }
+
+    /// Takes a fact away that the cube holds: its measures from each cell of a kept set that covers it. A cell left
+    /// with no fact goes, the grand total excepted. It takes no memory.
+    pub fn remove(&mut self, fact: &Fact)
+        requires { HoldsFact self.old fact.now }
+        ensures taken { TakesFact fact.now self.old self.new }
+        ensures cube { (facts : List Fact) → IsCubeOf self.old (fact.now ∷ facts) → IsCubeOf self.new facts }
+    {
+        let codes = codes_of_values(&self.dictionaries, fact.dims.as_slice());
+        take_from_sets(
+            &mut self.cells,
+            &codes,
+            &self.sets,
+            fact.measures.as_slice(),
+        );
+        self.facts -= 1;
+    }
+
+    /// How many facts there are: those added, less those removed. The counts of the cells of each kept set add up
+    /// to it.
+    pub fn facts(&self) -> u64
+        ensures facts { result ≡ self.now.facts }
+        ensures counts { (set : ℕ) → IsTrue (is_among set self.now.sets) → count_in set self.now.cells ≡ result }
+        ensures lattice { IsLattice self.now }
+    {
+        self.facts
+    }
+
+    /// Whether a refused growth has spoilt the cube: never.
+    pub fn is_spent(&self) -> bool
+        ensures { result ≡ false }
+    {
+        false
+    }
+
+    /// The cell of a key, `None` where it is none. It takes no memory.
+    pub fn get(&self, key: &Key) -> Option<&Cell>
+        ensures cell { option_map (λ cell. cell.now) result ≡ cell_at self.now.cells key.now }
+        ensures width { IfSome result (λ cell. length cell.now.bags ≡ length self.now.schema.measures) }
+    {
+        if key.coords.len() != self.dictionaries.len() {
+            return None;
+        }
+        let codes = codes_of_coords(&self.dictionaries, key.coords.as_slice());
+        self.cells.get(&codes)
+    }
+
+    /// The code of a text in a dimension, counted from 0 in the order in which the texts came; `None` for a text
+    /// that no fact added had there. It takes no memory.
+    pub fn code_of(&self, dim: usize, text: &str) -> Option<usize>
+        requires { dim < length self.now.schema.dimensions }
+        ensures { result ≡ position (bytes_eq text.now) (get_or self.now.dictionaries dim []) }
+    {
+        self.dictionaries[dim].code_of(text)
+    }
+}
+
+// The grouping sets of a part of a schema's, in their order.
+fn kept_sets(
+    alloc: Global,
+    schema: &Schema,
+    part: u32,
+    of: u32,
+) -> Result<Vec<u8>, AllocError>
+    requires { part < of }
+    ensures { IfOk result (λ sets. sets.items ≡ sets_of_part part of schema.now.grouping_sets) }
+{
+    let chosen = schema.grouping_sets();
+    let mut sets = Vec::with_capacity(alloc, chosen.len())?;
+    for set in chosen {
+        push_kept(&mut sets, *set, u32::from(*set) % of == part)?;
+    }
+    Ok(sets)
+}
+
+fn push_kept(sets: &mut Vec<u8>, set: u8, is_kept: bool) -> Result<(), AllocError>
+    ensures { OnOk result
+        (sets.new.items ≡ sets.old.items ++ (if is_kept then set ∷ [] else [])) }
+{
+    if is_kept {
+        sets.push(set)?;
+    }
+    Ok(())
+}
+
+// Whether the grand total's set is among these.
+fn has_total(sets: &[u8]) -> bool
+    ensures { result ≡ is_among 0 sets.now }
+{
+    sets.iter().any(|set| *set == 0)
+}
+
+fn new_dictionaries(alloc: Global, dimensions: usize) -> Result<Vec<Dictionary>, AllocError>
+    ensures { IfOk result (λ dictionaries. dictionaries.items ≡ replicate dimensions []) }
+{
+    let mut dictionaries = Vec::with_capacity(alloc, dimensions)?;
+    for place in 0..dimensions {
+        dictionaries.push(Dictionary::new(alloc))?;
+    }
+    Ok(dictionaries)
+}
+
+// The cells of no fact: the grand total, where its set is kept.
+fn new_cells(
+    alloc: Global,
+    measures: usize,
+    has_total: bool,
+) -> Result<HashMap<Codes, Cell>, AllocError>
+    ensures { IfOk result (λ cells. AreNewCells has_total measures cells.entries) }
+{
+    if has_total {
+        total_cells(alloc, measures)
+    } else {
+        Ok(HashMap::new(alloc))
+    }
+}
+
+// The cell of the grand total over no facts.
+fn total_cells(alloc: Global, measures: usize) -> Result<HashMap<Codes, Cell>, AllocError>
+    ensures { IfOk result (λ cells. AreNewCells true measures cells.entries) }
+{
+    let mut cells = HashMap::new(alloc);
+    cells.insert(Codes::total(), Cell::new(alloc, measures)?)?;
+    Ok(cells)
+}
+
+// The codes of the values of a fact, each new text with a code of its own.
+fn add_codes(
+    alloc: Global,
+    dictionaries: &mut [Dictionary],
+    fact: &Fact,
+) -> Result<Codes, AllocError>
+    requires places { length dictionaries.old ≤ 8 }
+    requires width { length fact.now.dims ≡ length dictionaries.old }
+    ensures codes { IfOk result (λ codes.
+        AreCodesOf dictionaries.new (map coord_of_value fact.now.dims) codes.codes) }
+    ensures valid { IfOk result (λ codes. are_codes dictionaries.new codes.codes ≡ true) }
+    ensures eight { IfOk result (λ codes. length codes.codes ≡ 8) }
+    ensures texts { OnOk result (AddsTexts fact.now.dims dictionaries.old dictionaries.new) }
+    ensures err { OnErr result (MayAddTexts fact.now.dims dictionaries.old dictionaries.new) }
+    ensures dictionaries { All IsDictionary dictionaries.old → All IsDictionary dictionaries.new }
+{
+    let mut codes = [ALL; 8];
+    for (place, value) in fact.dims.as_slice().iter().enumerate() {
+        let dictionary = &mut dictionaries[place];
+        codes[place] = dictionary.code_with(alloc, value)?;
+    }
+    Ok(Codes { codes })
+}
+
+// The codes of values.
+fn codes_of_values(dictionaries: &[Dictionary], values: &[Option<Text>]) -> Codes
+    requires places { length dictionaries.now ≤ 8 }
+    requires width { length values.now ≡ length dictionaries.now }
+    ensures codes { AreCodesOf dictionaries.now (map coord_of_value values.now) result.codes }
+    ensures eight { length result.codes ≡ 8 }
+{
+    let mut codes = [ALL; 8];
+    for (place, value) in values.iter().enumerate() {
+        codes[place] = dictionaries[place].code_of_value(value);
+    }
+    Codes { codes }
+}
+
+// The codes of the coordinates of a key, which are as many as the dictionaries.
+fn codes_of_coords(dictionaries: &[Dictionary], coords: &[Coord]) -> Codes
+    requires places { length dictionaries.now ≤ 8 }
+    requires width { length coords.now ≡ length dictionaries.now }
+    ensures codes { AreCodesOf dictionaries.now coords.now result.codes }
+    ensures eight { length result.codes ≡ 8 }
+{
+    let mut codes = [ALL; 8];
+    for (place, coord) in coords.iter().enumerate() {
+        codes[place] = dictionaries[place].code_of_coord(coord);
+    }
+    Codes { codes }
+}
+
+#[cfg(test)]
+mod tests;

@@ -1,0 +1,132 @@
+//! The texts of a dimension, each with its place as its code.
+ghost use Rattle.std.specs.Prelude.{◌≡◌, ◌<◌, ◌≤◌, ◌==◌, not, ◌++◌, ◌∷◌, [], IfOk, IfSome, IfNone, OnOk, OnErr, length, position, slice_get, Some, None, nat_lt, true, false, if◌then◌else◌};
+ghost use Rattle.std.specs.Str.{bytes_eq};
+ghost use Rattle.cube_core.specs.declared.key.Coord.TheVariants as coord;
+ghost use Rattle.std.specs.String.{string_bytes};
+ghost use Rattle.cube_core.specs.Layout.{is_listed};
+ghost use Rattle.cube_cells.specs.Codes.{IsDictionary, texts_with, is_code, no_code, IsCodeOf, coord_of_value};
+
+use super::codes::{ALL, NONE, NULL};
+use cube_core::{Coord, Text};
+use indexmap::IndexSet;
+use std::alloc::{AllocError, Global};
+use std::marker::Model;
+
+/// The different texts of a dimension, in the order in which they came.
+#[derive(Drop)]
+pub struct Dictionary {
+    texts: IndexSet<String>,
+}
+
+impl Model for Dictionary {
+    ghost use Rattle.std.specs.Prelude.{List, ℕ, map};
+    ghost use Rattle.cube_cells.specs.Codes.{IsDictionary};
+    ghost use Rattle.std.specs.String.{string_bytes};
+
+    ghost Value = { List (List ℕ) };
+
+    ghost view = { λ d. map string_bytes d.texts.keys };
+
+    ghost invariant = { λ d. IsDictionary (map string_bytes d.texts.keys) };
+}
+
+impl Dictionary {
+    /// No text; it takes no memory.
+    pub fn new(alloc: Global) -> Dictionary
+        ensures { result ≡ [] }
+    {
+        Dictionary {
+            texts: IndexSet::new(alloc),
+        }
+    }
+
+    /// The place of a text.
+    pub fn code_of(&self, text: &str) -> Option<usize>
+        ensures { result ≡ position (bytes_eq text.now) self.now }
+    {
+        self.texts.get_index_of(text)
+    }
+
+    /// The code of a value or of null.
+    #[tactic(auto, using(crate::proofs::DictionaryLaws::code_of_null))]
+    pub fn code_of_value(&self, value: &Option<Text>) -> u32
+        ensures { IsCodeOf self.now (coord_of_value value.now) result }
+    {
+        let _ = &self.texts;
+        match value {
+            None => NULL,
+            Some(text) => self.code_of_text(text),
+        }
+    }
+
+    /// The code of a coordinate.
+    #[tactic(auto, using(crate::proofs::DictionaryLaws::code_of_null, crate::proofs::DictionaryLaws::code_of_all))]
+    pub fn code_of_coord(&self, coord: &Coord) -> u32
+        ensures { IsCodeOf self.now coord.now result }
+    {
+        let _ = &self.texts;
+        match coord {
+            Coord::All => ALL,
+            Coord::Null => NULL,
+            Coord::Text(text) => self.code_of_text(text),
+        }
+    }
+
+    /// The code of a value or of null, where a text that isn't there becomes the last.
+    pub fn code_with(&mut self, alloc: Global, value: &Option<Text>) -> Result<u32, AllocError>
+        ensures texts { OnOk result (self.new ≡ texts_with value.now self.old) }
+        ensures code { IfOk result (IsCodeOf self.new (coord_of_value value.now)) }
+        ensures valid { IfOk result (λ code. is_code self.new code ≡ true) }
+        ensures dictionary { IsDictionary self.new }
+        ensures err { OnErr result (self.new ≡ self.old) }
+    {
+        let _ = &self.texts;
+        let Some(text) = value else {
+            return Ok(NULL);
+        };
+        let code = self.code_of_text(text);
+        if code == NONE {
+            return self.push(alloc, text);
+        }
+        Ok(code)
+    }
+
+    // The place of a text, as a number of 32 bits.
+    fn code_of_text(&self, text: &Text) -> u32
+        ensures code { IsCodeOf self.now (coord.Text text.now) result }
+        ensures listed { is_listed text.now self.now ≡ not (result == no_code) }
+    {
+        let _ = &self.texts;
+        match self.code_of(text.as_str()) {
+            None => NONE,
+            Some(place) => place as u32,
+        }
+    }
+
+    // Puts a text that isn't there last, and answers its code.
+    fn push(&mut self, alloc: Global, text: &Text) -> Result<u32, AllocError>
+        requires { is_listed text.now self.old ≡ false }
+        ensures texts { OnOk result (self.new ≡ self.old ++ text.now ∷ []) }
+        ensures code { IfOk result (λ code. code ≡ length self.old) }
+        ensures dictionary { IsDictionary self.new }
+        ensures err { OnErr result (self.new ≡ self.old) }
+    {
+        let Some(code) = next_code(self.texts.len()) else {
+            return Err(AllocError);
+        };
+        let text = String::from_str(alloc, text.as_str())?;
+        self.texts.insert_full(text)?;
+        Ok(code)
+    }
+}
+
+// The code of the next of so many texts. There are codes for more texts than an `IndexSet` has places.
+fn next_code(len: usize) -> Option<u32>
+    ensures { result ≡ (if nat_lt len 4294967293 then Some len else None) }
+{
+    if len < NONE as usize {
+        Some(len as u32)
+    } else {
+        None
+    }
+}
