@@ -83,7 +83,7 @@ pub cube_more : (fact : Fact) (old new : Lattice) (facts : List Fact) → AddsFa
 cube_more fact old new facts adds cube =
     let n = length old.schema.dimensions in
     let to_new : (key : Key) → is_cell new.sets (length new.schema.dimensions) (fact ∷ facts) key ≡ is_cell old.sets n (fact ∷ facts) key =
-        λ key. ap (λ (sets : List ℕ). is_cell sets (length new.schema.dimensions) (fact ∷ facts) key) adds.same.sets ∙ ap (λ (s : Layout). is_cell old.sets (length s.dimensions) (fact ∷ facts) key) adds.same.schema in
+    λ key. ap (λ (sets : List ℕ). is_cell sets (length new.schema.dimensions) (fact ∷ facts) key) adds.same.sets ∙ ap (λ (s : Layout). is_cell old.sets (length s.dimensions) (fact ∷ facts) key) adds.same.schema in
     record {
       keys = λ key. elim (cases_Bool (is_kept_for old.sets fact key)) [
         | inl kept ↦
@@ -121,7 +121,7 @@ pub cube_less : (fact : Fact) (old new : Lattice) (facts : List Fact) → TakesF
 cube_less fact old new facts takes cube =
     let n = length old.schema.dimensions in
     let to_new : (key : Key) → is_cell new.sets (length new.schema.dimensions) facts key ≡ is_cell old.sets n facts key =
-        λ key. ap (λ (sets : List ℕ). is_cell sets (length new.schema.dimensions) facts key) takes.same.sets ∙ ap (λ (s : Layout). is_cell old.sets (length s.dimensions) facts key) takes.same.schema in
+    λ key. ap (λ (sets : List ℕ). is_cell sets (length new.schema.dimensions) facts key) takes.same.sets ∙ ap (λ (s : Layout). is_cell old.sets (length s.dimensions) facts key) takes.same.schema in
     record {
       keys = λ key. elim (cases_Bool (is_kept_for old.sets fact key)) [
         | inl kept ↦

@@ -42,8 +42,7 @@ added_valid sets dictionaries codes valid set among = kept_valid dictionaries co
 
 pub can_add : (schema : Layout) (sets : List ℕ) (facts : ℕ) (old new : Dictionaries) (cells : CodedCells) (fact : Fact) (codes : Codes) → IsCoded schema sets facts old cells → fits schema fact ≡ true → facts + 1 < 2 ^ 64 → AreGrown old new → All IsDictionary new → HasFactCodes new fact codes → are_codes new codes.codes ≡ true → IsDistinct same_codes (codes_in sets codes) × ((key : Codes) → is_in (codes_in sets codes) key ≡ true → HasRoom fact.measures key (coded_at cells key))
 can_add schema sets facts old new cells fact codes is fit room grown all has valid =
-    let of = coded_fact schema sets facts old new cells fact codes is fit (grown_length old new grown) all has in
-    (
+    let of = coded_fact schema sets facts old new cells fact codes is fit (grown_length old new grown) all has in (
       fact_apart schema sets facts old new cells fact codes is fit has,
       room_for schema sets facts old new cells fact codes is grown of (added_valid sets new codes valid) (fitting_measures schema fact fit) room,
     )

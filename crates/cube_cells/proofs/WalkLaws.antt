@@ -313,8 +313,7 @@ split_keys sets left others done set codes split last =
 -- the next of them is apart from those taken back, and is one of all
 pub back_apart : (sets left others : List ℕ) (set : ℕ) (codes : Codes) (values : List (Option ℤ)) (old new : CodedCells) → IsDistinct same_codes (codes_in sets codes) → left ≡ others ++ set ∷ [] → (back : TakenBack sets left codes values old new) → (is_in (codes_in back.done codes) (key_in codes set) ≡ false) × (is_in (codes_in sets codes) (key_in codes set) ≡ true)
 back_apart sets left others set codes values old new distinct last back =
-    let keys = split_keys sets left others back.done set codes back.split last in
-    (
+    let keys = split_keys sets left others back.done set codes back.split last in (
       apart_after (codes_in others codes) (codes_in back.done codes) (key_in codes set) (subst (IsDistinct same_codes) keys distinct),
       ap (λ (ks : List Codes). is_in ks (key_in codes set)) keys ∙ in_middle (codes_in others codes) (codes_in back.done codes) (key_in codes set),
     )
