@@ -1,5 +1,5 @@
 -- Laws of codes: those of a key's coordinates, made dimension by dimension, and kept in a grouping set.
-use Rattle.std.proofs.Common.{◌≡◌, ℕ, zero, suc, ◌+◌, ◌<◌, ◌≤◌, ◌==◌, ◌%◌, ◌/◌, List, [], ◌∷◌, ◌++◌, Bool, true, false, ◌&&◌, refl, sym, ap, ◌∙◌, subst, arith, length, map, get_or, set, take, drop, Option, Some, None, if◌then◌else◌, append_assoc, add-one, inl, inr}
+use Rattle.std.proofs.Common.{◌≡◌, ℕ, zero, suc, ◌+◌, ◌<◌, ◌≤◌, ◌==◌, ◌%◌, ◌/◌, List, [], ◌∷◌, ◌++◌, true, sym, ap, ◌∙◌, subst, arith, length, get_or, set, take, drop, Option, None, if◌then◌else◌, append_assoc, add-one, inl, inr}
 use Rattle.std.specs.List.{list_all}
 use Rattle.std.proofs.lemmas.Bool.{and_parts, and_from, cases_eq, cases_lt}
 use Rattle.std.proofs.Math.Logic.{⊎_elim}

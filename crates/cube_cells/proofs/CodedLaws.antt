@@ -1,34 +1,25 @@
 -- Laws that join cells kept by codes to the cube: what the walk did to them is what the cube promises, and what is true of each cube stays so.
-use Rattle.std.proofs.Common.{◌≡◌, ℕ, zero, suc, ◌+◌, ◌*◌, ◌^◌, ◌<◌, ◌≤◌, ◌==◌, ◌%◌, ◌/◌, List, [], ◌∷◌, Bool, true, false, cond, ◌&&◌, ◌||◌, refl, sym, ap, ◌∙◌, subst, arith, inl, inr, length, map, get_or, replicate, Option, Some, None, ◌⊎◌, if◌then◌else◌, nat_lt}
-use Rattle.std.specs.Prelude.{ℤ, All, IsSome, IfSome, is_some, IsTrue, sum_by, ◌↔◌}
-use Rattle.std.specs.List.{list_all, IsDistinct}
-use Rattle.std.specs.List.Sorted.{IsStrictlySortedBy}
-use Rattle.std.specs.Map.{keys_of}
-use Rattle.std.specs.Ordering.{nat_cmp}
-use Rattle.std.proofs.lemmas.Bool.{cases_Bool, cases_eq, or_cases, or_left, or_right, and_parts, and_from, both_ways, eq-eqb, eqb-true, lt-ltb, cond-true, cond-false}
-use Rattle.std.proofs.lemmas.List.{length-replicate}
-use Rattle.std.proofs.lemmas.List.Elements.{All-contains, Contains-get_or}
-use Rattle.std.proofs.lemmas.Map.Views.{lookup-from_Contains}
+use Rattle.std.proofs.Common.{◌≡◌, ℕ, ◌+◌, ◌^◌, ◌<◌, ◌≤◌, ◌==◌, List, [], ◌∷◌, Bool, true, false, refl, sym, ap, ◌∙◌, subst, arith, inl, inr, length, Option, Some, None}
+use Rattle.std.specs.Prelude.{ℤ, All, IfSome, ◌↔◌}
+use Rattle.std.specs.List.{list_all}
+use Rattle.std.proofs.lemmas.Bool.{cases_eq, or_cases, or_left, or_right, and_parts, and_from, eq-eqb, eqb-true}
 use Rattle.cube_core.specs.Covers.{covers}
 use Rattle.cube_core.specs.Cube.{is_total}
-use Rattle.cube_core.specs.GroupingSet.{mask_of, mask_of_coords, is_among, is_all_coord}
+use Rattle.cube_core.specs.GroupingSet.{mask_of, is_among}
 use Rattle.cube_core.specs.Layout.{Layout}
 use Rattle.cube_core.specs.Takes.{fits}
 use Rattle.cube_core.specs.declared.fact.Fact.{Fact}
 use Rattle.cube_core.specs.declared.key.Key.{Key}
 use Rattle.cube_core.proofs.PlainCells.{width_of_fitting}
-use Rattle.cube_core.proofs.PlainKeys.{ancestor_of, ancestor_of_covers, mask_of_ancestor, length_standing}
-use Rattle.cube_cells.specs.Codes.{Dictionaries, IsDictionary, AreCodesOf, are_codes, kept_codes, all_code, coord_of_value}
-use Rattle.cube_cells.specs.Coded.{CodedCells, IsCodedCell, IsCoded, same_codes, coded_at, decoded, lattice_of, is_total_code, total_codes}
-use Rattle.cube_cells.specs.Cube.{Cells, Lattice, IsLattice, HoldsFact, AddsFact, TakesFact, AddsAt, TakesAt, SameCell, SameCells, cell_at, cell_holds, is_kept_for, count_in, tally_or_empty, empty_tally}
-use Rattle.cube_cells.specs.Tally.{Tally, PlusFact, SameTally}
-use Rattle.cube_cells.specs.Bag.{Bag}
-use Rattle.cube_cells.specs.Walk.{key_in, codes_in, is_in, weight_of_cells, HasRoom, AddsIn, TakesIn, SameCoded, AreApart}
+use Rattle.cube_core.proofs.PlainKeys.{ancestor_of_covers, mask_of_ancestor, length_standing}
+use Rattle.cube_cells.specs.Codes.{Dictionaries, IsDictionary, are_codes}
+use Rattle.cube_cells.specs.Coded.{CodedCells, IsCodedCell, IsCoded, coded_at, decoded, lattice_of, is_total_code}
+use Rattle.cube_cells.specs.Cube.{Cells, HoldsFact, AddsFact, TakesFact, SameCells, cell_at, cell_holds, is_kept_for}
+use Rattle.cube_cells.specs.Tally.{Tally}
+use Rattle.cube_cells.specs.Walk.{key_in, codes_in, is_in, AddsIn, TakesIn, SameCoded}
 use Rattle.cube_cells.specs.declared.cube.codes.Codes.{Codes}
-use Rattle.cube_cells.proofs.CubeLaws.{fitting_measures}
-use Rattle.cube_cells.proofs.GrowthLaws.{AreGrown, cells_grown, grown_length, set_weight, count_is, among_all, sum_of_one, key_weight, sets_apart, keys_apart}
-use Rattle.cube_cells.proofs.KeyLaws.{HasCodes, HasFactCodes, covering_key, covering_codes, covering_is, kept_key_codes, other_codes, look_up-coded, no_cell-width, some_key_codes, is_in-set, set_of-is_in, found_cell, found_width, kept_valid, kept_alls, all_alls, total_key}
-use Rattle.cube_cells.proofs.WalkLaws.{codes_is, codes_equiv, weight-remove, same_cell}
+use Rattle.cube_cells.proofs.GrowthLaws.{AreGrown, cells_grown, grown_length, among_all}
+use Rattle.cube_cells.proofs.KeyLaws.{HasCodes, HasFactCodes, covering_key, covering_codes, kept_key_codes, other_codes, look_up-coded, no_cell-width, some_key_codes, is_in-set, set_of-is_in, found_cell, found_width, total_key}
 
 -- ---- a fact and its codes
 -- the codes of a fact under dictionaries and kept sets

@@ -1,8 +1,8 @@
 -- Laws of the cube: cells that are the cube of facts stay so under a fact more, a fact less, and a refusal.
-use Rattle.std.proofs.Common.{◌≡◌, ℕ, zero, suc, ◌+◌, ◌*◌, ◌<◌, ◌≤◌, ◌==◌, List, [], ◌∷◌, Bool, true, false, cond, ◌&&◌, ◌||◌, refl, sym, ap, ◌∙◌, subst, arith, inl, inr, length, filter, get_or, replicate, Option, Some, None, ◌⊎◌, if◌then◌else◌, nat_lt}
-use Rattle.std.specs.Prelude.{ℤ, IsSome, IfSome, is_some, IsTrue}
+use Rattle.std.proofs.Common.{◌≡◌, ℕ, suc, ◌<◌, ◌==◌, List, [], ◌∷◌, Bool, true, false, ◌&&◌, ◌||◌, refl, sym, ap, ◌∙◌, arith, inl, inr, length, Option, Some, None, if◌then◌else◌, nat_lt}
+use Rattle.std.specs.Prelude.{IfSome, is_some}
 use Rattle.std.specs.List.{list_any, list_all}
-use Rattle.std.proofs.lemmas.Bool.{cases_Bool, or_cases, or_left, or_right, or_parts, and_parts, and_from, and_cases, both_ways, cond-true, cond-false, lt-ltb, le-ltb, ltb-true, eqb-true, cases_lt}
+use Rattle.std.proofs.lemmas.Bool.{cases_Bool, or_left, or_right, or_parts, and_parts, and_from, both_ways, lt-ltb, eqb-true}
 use Rattle.std.proofs.lemmas.List.{length-replicate, get_or-replicate}
 use Rattle.cube_core.specs.Covers.{covers}
 use Rattle.cube_core.specs.Cube.{is_cell, is_total}
@@ -14,8 +14,8 @@ use Rattle.cube_core.specs.declared.fact.Fact.{Fact}
 use Rattle.cube_core.specs.declared.key.Key.{Key}
 use Rattle.cube_core.proofs.ListLaws.{filter-passed, filter-failed}
 use Rattle.cube_cells.specs.Bag.{Bag}
-use Rattle.cube_cells.specs.Cube.{Lattice, IsCubeOf, HoldsFact, AddsFact, TakesFact, AddsAt, TakesAt, SameCell, SameCells, cell_at, cell_holds, is_kept_for, empty_tally, tally_or_empty}
-use Rattle.cube_cells.specs.Tally.{Tally, IsTallyOf, PlusFact, SameTally, holds_fact, bag_at}
+use Rattle.cube_cells.specs.Cube.{Lattice, IsCubeOf, HoldsFact, AddsFact, TakesFact, SameCell, SameCells, cell_at, cell_holds, is_kept_for, empty_tally, tally_or_empty}
+use Rattle.cube_cells.specs.Tally.{Tally, IsTallyOf, PlusFact}
 use Rattle.cube_cells.proofs.FactLaws.{tally_more, tally_less, tally_same, tally_holds}
 
 -- ---- groups
@@ -83,7 +83,7 @@ pub cube_more : (fact : Fact) (old new : Lattice) (facts : List Fact) → AddsFa
 cube_more fact old new facts adds cube =
     let n = length old.schema.dimensions in
     let to_new : (key : Key) → is_cell new.sets (length new.schema.dimensions) (fact ∷ facts) key ≡ is_cell old.sets n (fact ∷ facts) key =
-        λ key. ap (λ (sets : List ℕ). is_cell sets (length new.schema.dimensions) (fact ∷ facts) key) adds.same.sets ∙ ap (λ (s : Layout). is_cell old.sets (length s.dimensions) (fact ∷ facts) key) adds.same.schema in
+    λ key. ap (λ (sets : List ℕ). is_cell sets (length new.schema.dimensions) (fact ∷ facts) key) adds.same.sets ∙ ap (λ (s : Layout). is_cell old.sets (length s.dimensions) (fact ∷ facts) key) adds.same.schema in
     record {
       keys = λ key. elim (cases_Bool (is_kept_for old.sets fact key)) [
         | inl kept ↦
@@ -121,7 +121,7 @@ pub cube_less : (fact : Fact) (old new : Lattice) (facts : List Fact) → TakesF
 cube_less fact old new facts takes cube =
     let n = length old.schema.dimensions in
     let to_new : (key : Key) → is_cell new.sets (length new.schema.dimensions) facts key ≡ is_cell old.sets n facts key =
-        λ key. ap (λ (sets : List ℕ). is_cell sets (length new.schema.dimensions) facts key) takes.same.sets ∙ ap (λ (s : Layout). is_cell old.sets (length s.dimensions) facts key) takes.same.schema in
+    λ key. ap (λ (sets : List ℕ). is_cell sets (length new.schema.dimensions) facts key) takes.same.sets ∙ ap (λ (s : Layout). is_cell old.sets (length s.dimensions) facts key) takes.same.schema in
     record {
       keys = λ key. elim (cases_Bool (is_kept_for old.sets fact key)) [
         | inl kept ↦

@@ -1,17 +1,16 @@
 -- Laws of dictionaries: where a text stands, and which code stands for a coordinate.
-use Rattle.std.proofs.Common.{◌≡◌, ℕ, zero, suc, ◌+◌, ◌<◌, ◌≤◌, ◌==◌, List, [], ◌∷◌, ◌++◌, Bool, true, false, not, cond, ◌||◌, refl, sym, ap, ◌∙◌, subst, arith, inl, inr, length, map, get_or, position, Option, Some, None, ◌⊎◌, nat_lt, IsTrue, if◌then◌else◌}
-use Rattle.std.specs.List.{prefix_len, position_or_len, position_from, AllByRecursion, list_any}
+use Rattle.std.proofs.Common.{◌≡◌, ℕ, zero, suc, ◌+◌, ◌<◌, ◌≤◌, ◌==◌, List, [], ◌∷◌, ◌++◌, Bool, true, false, not, cond, ◌||◌, refl, sym, ap, ◌∙◌, subst, arith, inl, inr, length, map, get_or, position, Some, None, ◌⊎◌, nat_lt, if◌then◌else◌}
+use Rattle.std.specs.List.{prefix_len, position_or_len, list_any}
 use Rattle.std.specs.String.{string_bytes, string_eq}
 use Rattle.std.specs.declared.string.String.{String}
 use Rattle.indexmap.specs.IndexSet.{insert_key}
 use Rattle.std.specs.Str.{bytes_eq}
-use Rattle.std.proofs.lemmas.Bool.{cases_Bool, cases_lt, or_cases, or_right, or_left, or_from, and_parts, and_from, eqb-true, eq-eqb, ne_eqb, ltb-true, lt-ltb, le-ltb, both_ways, not-true, not_from_false, false_from_ne_true, cond-false}
+use Rattle.std.proofs.lemmas.Bool.{cases_Bool, cases_lt, or_cases, or_right, or_left, or_from, and_parts, and_from, eqb-true, ne_eqb, ltb-true, lt-ltb, le-ltb, both_ways, not-true, not_from_false, false_from_ne_true, cond-false}
 use Rattle.std.proofs.lemmas.List.{length-map, length_push, get_or_push, map_push}
 use Rattle.std.proofs.lemmas.Slice.Eq.{bytes_eq-Decides}
 use Rattle.cube_core.specs.Layout.{is_listed, are_distinct}
-use Rattle.cube_core.specs.declared.key.Coord.{Coord}
 use Rattle.cube_core.specs.declared.key.Coord.TheVariants as coord
-use Rattle.cube_cells.specs.Codes.{IsDictionary, IsCodeOf, is_code, coord_at, coord_of_value, texts_with, all_code, null_code, no_code}
+use Rattle.cube_cells.specs.Codes.{IsDictionary, IsCodeOf, is_code, coord_at, texts_with, all_code, null_code, no_code}
 
 -- ---- places
 prefix_len-map : {A B : Type 0} (f : A → B) (p : B → Bool) (xs : List A) → prefix_len (λ x. p (f x)) xs ≡ prefix_len p (map f xs)
@@ -112,28 +111,32 @@ coord_at-place texts code small =
 
 -- ALL and null have their own codes
 pub code_of_all : (texts : List (List ℕ)) → IsDictionary texts → IsCodeOf texts coord.All all_code
-code_of_all texts is = record { alone = λ other valid. (
-  λ same. elim (code_cases texts other valid) [
-    | inl all ↦ all
-    | inr rest ↦ elim rest [
-      | inl null ↦ cc (ap (coord_at texts) (sym null) ∙ same)
-      | inr place ↦ cc (sym (coord_at-place texts other (omega (arith, place, is.few))) ∙ same)
-    ]
-  ],
-  λ all. ap (coord_at texts) all,
-) }
+code_of_all texts is = record {
+  alone = λ other valid. (
+    λ same. elim (code_cases texts other valid) [
+      | inl all ↦ all
+      | inr rest ↦ elim rest [
+        | inl null ↦ cc (ap (coord_at texts) (sym null) ∙ same)
+        | inr place ↦ cc (sym (coord_at-place texts other (omega (arith, place, is.few))) ∙ same)
+      ]
+    ],
+    λ all. ap (coord_at texts) all,
+  );
+}
 
 pub code_of_null : (texts : List (List ℕ)) → IsDictionary texts → IsCodeOf texts coord.Null null_code
-code_of_null texts is = record { alone = λ other valid. (
-  λ same. elim (code_cases texts other valid) [
-    | inl all ↦ cc (ap (coord_at texts) (sym all) ∙ same)
-    | inr rest ↦ elim rest [
-      | inl null ↦ null
-      | inr place ↦ cc (sym (coord_at-place texts other (omega (arith, place, is.few))) ∙ same)
-    ]
-  ],
-  λ null. ap (coord_at texts) null,
-) }
+code_of_null texts is = record {
+  alone = λ other valid. (
+    λ same. elim (code_cases texts other valid) [
+      | inl all ↦ cc (ap (coord_at texts) (sym all) ∙ same)
+      | inr rest ↦ elim rest [
+        | inl null ↦ null
+        | inr place ↦ cc (sym (coord_at-place texts other (omega (arith, place, is.few))) ∙ same)
+      ]
+    ],
+    λ null. ap (coord_at texts) null,
+  );
+}
 
 -- a code that stands for a text is a place of it
 place_of_text : (texts : List (List ℕ)) (text : List ℕ) (other : ℕ) → IsDictionary texts → is_code texts other ≡ true → coord_at texts other ≡ coord.Text text → StandsAt text texts other
@@ -147,23 +150,27 @@ place_of_text texts text other is valid same = elim (code_cases texts other vali
 
 -- the place of a text is its code
 pub code_of_place : (texts : List (List ℕ)) (text : List ℕ) (place : ℕ) → IsDictionary texts → StandsAt text texts place → IsCodeOf texts (coord.Text text) place
-code_of_place texts text place is stands = record { alone = λ other valid. (
-  λ same. one_place text texts other place is.distinct (place_of_text texts text other is valid same) stands,
-  λ same. ap (coord_at texts) same ∙ coord_at-place texts place (omega (arith, stands.below, is.few)) ∙ ap coord.Text stands.is_text,
-) }
+code_of_place texts text place is stands = record {
+  alone = λ other valid. (
+    λ same. one_place text texts other place is.distinct (place_of_text texts text other is valid same) stands,
+    λ same. ap (coord_at texts) same ∙ coord_at-place texts place (omega (arith, stands.below, is.few)) ∙ ap coord.Text stands.is_text,
+  );
+}
 
 -- a text that isn't listed has none
 pub code_of_none : (texts : List (List ℕ)) (text : List ℕ) → IsDictionary texts → is_listed text texts ≡ false → IsCodeOf texts (coord.Text text) no_code
-code_of_none texts text is unlisted = record { alone = λ other valid. (
-  λ same. absurd (both_ways (is_listed text texts) unlisted (listed_at text texts other (place_of_text texts text other is valid same))),
-  λ same. elim (code_cases texts other valid) [
-    | inl all ↦ absurd (omega (arith, all, same))
-    | inr rest ↦ elim rest [
-      | inl null ↦ absurd (omega (arith, null, same))
-      | inr place ↦ absurd (omega (arith, place, same, is.few))
-    ]
-  ],
-) }
+code_of_none texts text is unlisted = record {
+  alone = λ other valid. (
+    λ same. absurd (both_ways (is_listed text texts) unlisted (listed_at text texts other (place_of_text texts text other is valid same))),
+    λ same. elim (code_cases texts other valid) [
+      | inl all ↦ absurd (omega (arith, all, same))
+      | inr rest ↦ elim rest [
+        | inl null ↦ absurd (omega (arith, null, same))
+        | inr place ↦ absurd (omega (arith, place, same, is.few))
+      ]
+    ],
+  );
+}
 
 -- ---- a text more
 listed_push : (text new : List ℕ) (texts : List (List ℕ)) → is_listed text (texts ++ new ∷ []) ≡ (is_listed text texts || bytes_eq text new)

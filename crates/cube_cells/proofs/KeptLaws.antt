@@ -1,11 +1,10 @@
 -- What is true of cells kept by codes stays true: after the walk added a fact, took one, or was refused.
-use Rattle.std.proofs.Common.{◌≡◌, ℕ, zero, suc, ◌+◌, ◌*◌, ◌^◌, ◌<◌, ◌≤◌, ◌==◌, ◌%◌, ◌/◌, List, [], ◌∷◌, Bool, true, false, cond, ◌&&◌, ◌||◌, refl, sym, ap, ◌∙◌, subst, arith, inl, inr, length, map, get_or, replicate, Option, Some, None, ◌⊎◌, if◌then◌else◌, nat_lt}
-use Rattle.std.specs.Prelude.{ℤ, All, IsSome, IfSome, is_some, IsTrue, sum_by}
-use Rattle.std.specs.List.{list_all, IsDistinct}
+use Rattle.std.proofs.Common.{◌≡◌, ℕ, zero, suc, ◌+◌, ◌*◌, ◌^◌, ◌<◌, ◌≤◌, ◌==◌, List, [], ◌∷◌, Bool, true, false, ◌||◌, refl, sym, ap, ◌∙◌, subst, arith, inl, inr, length, get_or, Option, Some, None, if◌then◌else◌, nat_lt}
+use Rattle.std.specs.Prelude.{ℤ, All, IsSome, IfSome, IsTrue}
+use Rattle.std.specs.List.{list_all}
 use Rattle.std.specs.List.Sorted.{IsStrictlySortedBy}
-use Rattle.std.specs.Map.{keys_of}
 use Rattle.std.specs.Ordering.{nat_cmp}
-use Rattle.std.proofs.lemmas.Bool.{cases_Bool, or_cases, or_left, or_right, and_parts, both_ways, eq-eqb, eqb-true, lt-ltb, cond-true, cond-false}
+use Rattle.std.proofs.lemmas.Bool.{cases_Bool, or_right, eq-eqb, lt-ltb}
 use Rattle.std.proofs.lemmas.List.{length-replicate}
 use Rattle.std.proofs.lemmas.List.Elements.{Contains-get_or}
 use Rattle.std.proofs.lemmas.Map.Views.{lookup-from_Contains}
@@ -14,16 +13,16 @@ use Rattle.cube_core.specs.GroupingSet.{is_among}
 use Rattle.cube_core.specs.Layout.{Layout}
 use Rattle.cube_core.specs.declared.fact.Fact.{Fact}
 use Rattle.cube_cells.specs.Bag.{Bag}
-use Rattle.cube_cells.specs.Codes.{Dictionaries, IsDictionary, are_codes, kept_codes, all_code}
-use Rattle.cube_cells.specs.Coded.{CodedCells, IsCodedCell, IsCoded, same_codes, coded_at, decoded, lattice_of, is_total_code, total_codes}
-use Rattle.cube_cells.specs.Cube.{IsLattice, AddsAt, TakesAt, SameCell, count_in, tally_or_empty, empty_tally}
+use Rattle.cube_cells.specs.Codes.{Dictionaries, IsDictionary, kept_codes, all_code}
+use Rattle.cube_cells.specs.Coded.{CodedCells, IsCodedCell, IsCoded, coded_at, decoded, lattice_of, is_total_code, total_codes}
+use Rattle.cube_cells.specs.Cube.{IsLattice, AddsAt, TakesAt, SameCell, count_in, tally_or_empty}
 use Rattle.cube_cells.specs.Tally.{Tally, PlusFact, SameTally}
-use Rattle.cube_cells.specs.Walk.{key_in, codes_in, is_in, weight_of_cells, HasRoom, AddsIn, TakesIn, SameCoded, AreApart}
+use Rattle.cube_cells.specs.Walk.{key_in, codes_in, is_in, HasRoom, AddsIn, TakesIn, SameCoded, AreApart}
 use Rattle.cube_cells.specs.declared.cube.codes.Codes.{Codes}
 use Rattle.cube_cells.proofs.CodedLaws.{IsCodedFact, AreValidIn}
-use Rattle.cube_cells.proofs.GrowthLaws.{AreGrown, cells_grown, grown_length, set_weight, count_is, among_all, sum_of_one, key_weight, sets_apart}
-use Rattle.cube_cells.proofs.KeyLaws.{set_of-is_in, found_cell, found_width, kept_alls, all_alls, covering_codes}
-use Rattle.cube_cells.proofs.WalkLaws.{codes_is, codes_equiv, weight-remove}
+use Rattle.cube_cells.proofs.GrowthLaws.{AreGrown, cells_grown, grown_length, set_weight, count_is, sum_of_one, key_weight, sets_apart}
+use Rattle.cube_cells.proofs.KeyLaws.{set_of-is_in, found_cell, all_alls, covering_codes}
+use Rattle.cube_cells.proofs.WalkLaws.{codes_equiv, weight-remove}
 
 -- ---- each cell
 -- what is true of each codes that are found is true of each cell, where codes differ

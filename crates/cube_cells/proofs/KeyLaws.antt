@@ -1,19 +1,17 @@
 -- Laws of codes and keys: a look-up by key is one by its codes, and the codes of a fact in a set are those of the key that covers it.
-use Rattle.std.proofs.Common.{◌≡◌, ℕ, zero, suc, ◌+◌, ◌*◌, ◌^◌, ◌<◌, ◌≤◌, ◌==◌, ◌%◌, ◌/◌, List, [], ◌∷◌, ◌++◌, Bool, true, false, not, cond, ◌&&◌, ◌||◌, Decides, refl, sym, ap, ◌∙◌, subst, arith, inl, inr, length, map, get_or, replicate, Option, Some, None, Bor, ◌⊎◌, if◌then◌else◌}
+use Rattle.std.proofs.Common.{◌≡◌, ℕ, zero, suc, ◌^◌, ◌<◌, ◌≤◌, ◌==◌, ◌%◌, ◌/◌, List, [], ◌∷◌, Bool, true, false, Decides, refl, sym, ap, ◌∙◌, subst, arith, inl, inr, length, map, replicate, Option, Some, None, Bor, if◌then◌else◌}
 use Rattle.std.specs.Prelude.{All, IfSome}
 use Rattle.std.specs.Option.{option_copied}
-use Rattle.std.specs.List.{list_all, list_any}
-use Rattle.std.specs.Map.{lookup}
+use Rattle.std.specs.List.{list_all}
 use Rattle.std.specs.Ordering.{eq_by_cmp, is_eq}
-use Rattle.std.proofs.lemmas.Bool.{cases_Bool, or_cases, or_left, or_right, and_parts, and_from, both_ways, eqb-true, eq-eqb, ne_eqb, false_from_ne_true}
-use Rattle.std.proofs.lemmas.Bool.Decides.{same_from_decides, Decides-like}
+use Rattle.std.proofs.lemmas.Bool.{or_cases, or_left, or_right, and_parts, and_from, both_ways, eqb-true, eq-eqb, ne_eqb, false_from_ne_true}
+use Rattle.std.proofs.lemmas.Bool.Decides.{same_from_decides}
 use Rattle.std.proofs.lemmas.Cmp.{tied_itself}
 use Rattle.std.proofs.lemmas.List.{length-replicate}
 use Rattle.std.proofs.lemmas.List.Elements.{All-head, All-tail, All-contains}
 use Rattle.std.proofs.lemmas.Map.Views.{tells_apart, Contains-from_lookup}
-use Rattle.std.proofs.Math.Nat.{pow-succ'}
-use Rattle.cube_core.specs.Covers.{covers, all_stand_for}
-use Rattle.cube_core.specs.GroupingSet.{mask_of, mask_of_coords, is_among, is_all_coord}
+use Rattle.cube_core.specs.Covers.{covers}
+use Rattle.cube_core.specs.GroupingSet.{mask_of, is_among, is_all_coord}
 use Rattle.cube_core.specs.Order.{key_cmp}
 use Rattle.cube_core.specs.declared.fact.Fact.{Fact}
 use Rattle.cube_core.specs.declared.key.Coord.{Coord}
@@ -22,12 +20,12 @@ use Rattle.cube_core.specs.declared.key.Key.{Key}
 use Rattle.cube_core.proofs.PlainKeys.{coord_of, ancestor_of, ancestor_of_covers, mask_of_ancestor, same_from_mask, mask_below, length_standing}
 use Rattle.cube_core.proofs.PlainOrder.{exact_keys, key_cmp_total}
 use Rattle.cube_cells.specs.Codes.{Dictionaries, IsDictionary, IsCodeOf, AreCodesOf, is_code, are_codes, coord_at, coords_at, key_at, kept_codes, all_code, null_code, coord_of_value}
-use Rattle.cube_cells.specs.Coded.{CodedCells, IsCodedCell, same_codes, coded_at, decoded, is_total_code, total_codes}
-use Rattle.cube_cells.specs.Cube.{Cells, cell_at, is_kept_for}
+use Rattle.cube_cells.specs.Coded.{CodedCells, IsCodedCell, same_codes, coded_at, decoded, is_total_code}
+use Rattle.cube_cells.specs.Cube.{cell_at, is_kept_for}
 use Rattle.cube_cells.specs.Tally.{Tally}
 use Rattle.cube_cells.specs.Walk.{key_in, codes_in, is_in}
 use Rattle.cube_cells.specs.declared.cube.codes.Codes.{Codes}
-use Rattle.cube_cells.proofs.DictionaryLaws.{StandsAt, first_place, code_cases, coord_at-place, code_of_all, code_of_null, code_of_place, code_of_none}
+use Rattle.cube_cells.proofs.DictionaryLaws.{first_place, code_cases, coord_at-place, code_of_all, code_of_null, code_of_place, code_of_none}
 use Rattle.cube_cells.proofs.WalkLaws.{codes_is, codes_equiv}
 
 -- ---- keys

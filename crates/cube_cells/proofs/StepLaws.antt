@@ -1,6 +1,6 @@
 -- What each step of the cube needs of the walk, and what it then promises.
-use Rattle.std.proofs.Common.{◌≡◌, ℕ, ◌+◌, ◌^◌, ◌<◌, List, [], Bool, true, refl, sym, ap, ◌∙◌, subst, arith, length, map}
-use Rattle.std.specs.Prelude.{ℤ, All}
+use Rattle.std.proofs.Common.{◌≡◌, ℕ, ◌+◌, ◌^◌, ◌<◌, List, [], true, refl, sym, subst}
+use Rattle.std.specs.Prelude.{All}
 use Rattle.std.specs.List.{IsDistinct}
 use Rattle.cube_core.specs.Layout.{Layout}
 use Rattle.cube_core.specs.Takes.{fits}
@@ -9,11 +9,11 @@ use Rattle.cube_core.proofs.PlainCells.{width_of_fitting}
 use Rattle.cube_cells.specs.Codes.{Dictionaries, IsDictionary, are_codes}
 use Rattle.cube_cells.specs.Coded.{CodedCells, IsCoded, same_codes, coded_at, lattice_of}
 use Rattle.cube_cells.specs.Cube.{HoldsFact, AddsFact, TakesFact, SameCells, cell_holds}
-use Rattle.cube_cells.specs.Walk.{key_in, codes_in, is_in, HasRoom, AddsIn, TakesIn, SameCoded, AreApart}
+use Rattle.cube_cells.specs.Walk.{codes_in, is_in, HasRoom, AddsIn, TakesIn, SameCoded, AreApart}
 use Rattle.cube_cells.specs.declared.cube.codes.Codes.{Codes}
-use Rattle.cube_cells.proofs.CodedLaws.{IsCodedFact, AreValidIn, coded_fact, held_valid, held_cells, adds_fact, takes_fact, same_by_keys}
+use Rattle.cube_cells.proofs.CodedLaws.{AreValidIn, coded_fact, held_valid, held_cells, adds_fact, takes_fact, same_by_keys}
 use Rattle.cube_cells.proofs.CubeLaws.{fitting_measures}
-use Rattle.cube_cells.proofs.GrowthLaws.{AreGrown, grown_length, grown_itself, keys_apart}
+use Rattle.cube_cells.proofs.GrowthLaws.{AreGrown, grown_length, keys_apart}
 use Rattle.cube_cells.proofs.KeptLaws.{room_for, coded_more, coded_less, coded_same}
 use Rattle.cube_cells.proofs.KeyLaws.{HasFactCodes, kept_valid}
 use Rattle.cube_cells.proofs.WalkLaws.{same_cells}
@@ -42,8 +42,7 @@ added_valid sets dictionaries codes valid set among = kept_valid dictionaries co
 
 pub can_add : (schema : Layout) (sets : List ℕ) (facts : ℕ) (old new : Dictionaries) (cells : CodedCells) (fact : Fact) (codes : Codes) → IsCoded schema sets facts old cells → fits schema fact ≡ true → facts + 1 < 2 ^ 64 → AreGrown old new → All IsDictionary new → HasFactCodes new fact codes → are_codes new codes.codes ≡ true → IsDistinct same_codes (codes_in sets codes) × ((key : Codes) → is_in (codes_in sets codes) key ≡ true → HasRoom fact.measures key (coded_at cells key))
 can_add schema sets facts old new cells fact codes is fit room grown all has valid =
-    let of = coded_fact schema sets facts old new cells fact codes is fit (grown_length old new grown) all has in
-    (
+    let of = coded_fact schema sets facts old new cells fact codes is fit (grown_length old new grown) all has in (
       fact_apart schema sets facts old new cells fact codes is fit has,
       room_for schema sets facts old new cells fact codes is grown of (added_valid sets new codes valid) (fitting_measures schema fact fit) room,
     )

@@ -1,11 +1,11 @@
 -- Laws of cells kept by codes: what one cell's change says of each look-up and of each weight, and what many changes say.
-use Rattle.std.proofs.Common.{◌≡◌, ℕ, zero, suc, ◌+◌, ◌*◌, ◌<◌, ◌≤◌, ◌==◌, List, [], ◌∷◌, ◌++◌, Bool, true, false, not, cond, ◌&&◌, ◌||◌, refl, sym, ap, ◌∙◌, subst, arith, inl, inr, length, map, take, get_or, replicate, Option, Some, None, ◌⊎◌, nat_lt, IsTrue, if◌then◌else◌}
-use Rattle.std.specs.Prelude.{ℤ, sum_by, All, IsSome, IfSome, Result, Ok, Err, OnOk, OnErr}
+use Rattle.std.proofs.Common.{◌≡◌, ℕ, zero, suc, ◌+◌, ◌*◌, ◌<◌, List, [], ◌∷◌, ◌++◌, Bool, true, false, cond, ◌||◌, refl, sym, ap, ◌∙◌, subst, arith, inl, inr, length, take, get_or, replicate, Option, Some, None, nat_lt}
+use Rattle.std.specs.Prelude.{ℤ, All, IsSome, Result, Ok, Err, OnOk, OnErr}
 use Rattle.std.specs.Cmp.{IsEquivalence}
-use Rattle.std.specs.List.{list_any, list_all, IsDistinct, AllByRecursion}
+use Rattle.std.specs.List.{IsDistinct}
 use Rattle.std.specs.List.Sorted.{IsPermutation}
-use Rattle.std.specs.Map.{lookup, set_value, remove_entry, keys_of}
-use Rattle.std.proofs.lemmas.Bool.{cases_Bool, or_cases, or_right, or_left, or_from, cases_lt, or_parts, and_parts, both_ways, false_from_ne_true, cond-true, cond-false, lt-ltb, le-ltb}
+use Rattle.std.specs.Map.{set_value, remove_entry}
+use Rattle.std.proofs.lemmas.Bool.{cases_Bool, or_cases, or_right, or_left, or_from, cases_lt, or_parts, both_ways, false_from_ne_true, cond-true, cond-false, le-ltb}
 use Rattle.std.proofs.lemmas.Cmp.{nat_list_eq_equiv}
 use Rattle.std.proofs.lemmas.List.Elements.{All-from_recursion, All-get_or, All-take, recursion_from_All}
 use Rattle.std.proofs.lemmas.List.Folds.{list_any-append, list_any_none}
@@ -313,8 +313,7 @@ split_keys sets left others done set codes split last =
 -- the next of them is apart from those taken back, and is one of all
 pub back_apart : (sets left others : List ℕ) (set : ℕ) (codes : Codes) (values : List (Option ℤ)) (old new : CodedCells) → IsDistinct same_codes (codes_in sets codes) → left ≡ others ++ set ∷ [] → (back : TakenBack sets left codes values old new) → (is_in (codes_in back.done codes) (key_in codes set) ≡ false) × (is_in (codes_in sets codes) (key_in codes set) ≡ true)
 back_apart sets left others set codes values old new distinct last back =
-    let keys = split_keys sets left others back.done set codes back.split last in
-    (
+    let keys = split_keys sets left others back.done set codes back.split last in (
       apart_after (codes_in others codes) (codes_in back.done codes) (key_in codes set) (subst (IsDistinct same_codes) keys distinct),
       ap (λ (ks : List Codes). is_in ks (key_in codes set)) keys ∙ in_middle (codes_in others codes) (codes_in back.done codes) (key_in codes set),
     )

@@ -1,5 +1,5 @@
 -- The cells as they are kept: by codes in place of keys (this project's choice).
-use Rattle.std.specs.Prelude.{◌≡◌, ◌<◌, ◌||◌, ◌==◌, ℕ, Bool, true, false, nat_lt, nat_eq, List, [], ◌∷◌, length, map, replicate, Option, IsTrue, IsSome, All}
+use Rattle.std.specs.Prelude.{◌≡◌, ◌||◌, ◌==◌, ℕ, Bool, true, false, nat_lt, nat_eq, List, [], ◌∷◌, length, map, replicate, Option, IsTrue, IsSome, All}
 use Rattle.std.specs.List.{IsDistinct, list_all}
 use Rattle.std.specs.Cmp.Lexicographic.{pointwise}
 use Rattle.std.specs.Map.{lookup, keys_of}

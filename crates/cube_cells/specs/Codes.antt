@@ -1,6 +1,6 @@
 -- Codes for the coordinates of a key: ALL, null, or the place of a text in the dictionary of its dimension (this project's choice).
-use Rattle.std.specs.Prelude.{◌≡◌, ◌+◌, ◌≤◌, ◌==◌, ◌&&◌, ◌||◌, ◌%◌, ◌/◌, ◌↔◌, ◌++◌, ℕ, Bool, true, false, nat_lt, List, [], ◌∷◌, length, get_or, Option, Some, None, if◌then◌else◌, IsTrue}
-use Rattle.std.specs.List.{list_all, AllByRecursion}
+use Rattle.std.specs.Prelude.{◌≡◌, ◌≤◌, ◌==◌, ◌&&◌, ◌||◌, ◌%◌, ◌/◌, ◌↔◌, ◌++◌, ℕ, Bool, true, false, nat_lt, List, [], ◌∷◌, length, get_or, Option, Some, None, if◌then◌else◌, IsTrue}
+use Rattle.std.specs.List.{list_all}
 use Rattle.cube_core.specs.Layout.{is_listed, are_distinct}
 use Rattle.cube_core.specs.declared.key.Coord.{Coord}
 use Rattle.cube_core.specs.declared.key.Coord.TheVariants as coord

@@ -1,6 +1,5 @@
 -- The cube that is kept up to date: its cells by key, and what adding and removing a fact does to them (Gray et al. 1997; grouping sets as in SQL:1999).
-use Rattle.std.specs.Prelude.{◌≡◌, ◌<◌, ◌==◌, ◌&&◌, ◌||◌, ◌+◌, ◌^◌, ◌⊎◌, ℕ, ℤ, Bool, true, false, nat_lt, nat_eq, List, [], ◌∷◌, length, map, get_or, replicate, sum_by, Option, Some, None, is_some, if◌then◌else◌, IsTrue, IfSome, IsSome, All}
-use Rattle.std.specs.List.{list_all}
+use Rattle.std.specs.Prelude.{◌≡◌, ◌<◌, ◌==◌, ◌&&◌, ◌||◌, ◌+◌, ◌^◌, ◌⊎◌, ℕ, ℤ, Bool, false, nat_lt, List, [], length, get_or, replicate, sum_by, Option, Some, None, is_some, if◌then◌else◌, IsTrue, IfSome, All}
 use Rattle.std.specs.List.Sorted.{IsStrictlySortedBy}
 use Rattle.std.specs.Map.{lookup}
 use Rattle.std.specs.Ordering.{eq_by_cmp, nat_cmp}

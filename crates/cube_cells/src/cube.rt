@@ -177,12 +177,7 @@ impl Cube {
 }
 
 // The grouping sets of a part of a schema's, in their order.
-fn kept_sets(
-    alloc: Global,
-    schema: &Schema,
-    part: u32,
-    of: u32,
-) -> Result<Vec<u8>, AllocError>
+fn kept_sets(alloc: Global, schema: &Schema, part: u32, of: u32) -> Result<Vec<u8>, AllocError>
     requires { part < of }
     ensures { IfOk result (λ sets. sets.items ≡ sets_of_part part of schema.now.grouping_sets) }
 {

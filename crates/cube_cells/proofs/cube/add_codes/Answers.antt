@@ -1,9 +1,9 @@
-use Rattle.std.proofs.Common.{◌≡◌, ◌<◌, ◌∙◌, ◌≤◌, length, get_or, map, set, ℕ, List, Option, None, [], true, arith, sym, ap}
+use Rattle.std.proofs.Common.{◌≡◌, ◌<◌, ◌∙◌, length, get_or, map, set, ℕ, List, Option, None, [], true, arith, sym, ap}
 use Rattle.std.proofs.lemmas.List.{get_or_default, get_or_read, get_or-map, get_or-set_same, length-map, length-set}
 use Rattle.std.proofs.lemmas.List.Elements.{All-set}
 use Rattle.cube_core.specs.declared.key.Coord.TheVariants as coord
 use Rattle.cube_cells.specs.Codes.{IsCodeOf, IsDictionary, is_code, coord_of_value, texts_with}
-use Rattle.cube_cells.proofs.CodeLaws.{codes_more, codes_end, codes_kept, valid_more, valid_end, valid_kept, texts_more, texts_end, texts_some}
+use Rattle.cube_cells.proofs.CodeLaws.{codes_more, codes_kept, valid_more, valid_kept, texts_more}
 use Rattle.cube_cells.proofs.cube.add_codes.Goals as goal
 
 pub loop-place-preserved : goal.loop-place-preserved

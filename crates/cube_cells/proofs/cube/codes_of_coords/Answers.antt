@@ -1,4 +1,4 @@
-use Rattle.std.proofs.Common.{◌≡◌, ◌<◌, length, get_or, [], arith, sym}
+use Rattle.std.proofs.Common.{◌<◌, length, get_or, [], arith}
 use Rattle.std.proofs.lemmas.List.{get_or_read, length-set}
 use Rattle.cube_core.specs.declared.key.Coord.TheVariants as coord
 use Rattle.cube_cells.specs.Codes.{IsCodeOf}

@@ -1,4 +1,4 @@
-use Rattle.std.proofs.Common.{◌≡◌, ◌<◌, ◌∙◌, length, get_or, map, None, [], arith, sym, ap}
+use Rattle.std.proofs.Common.{◌<◌, ◌∙◌, length, get_or, map, None, [], arith, sym, ap}
 use Rattle.std.proofs.lemmas.List.{get_or_read, get_or-map, length-map, length-set}
 use Rattle.cube_core.specs.declared.key.Coord.TheVariants as coord
 use Rattle.cube_cells.specs.Codes.{IsCodeOf, coord_of_value}

@@ -1,4 +1,4 @@
-use Rattle.std.proofs.Common.{◌≡◌, ◌∙◌, ap, arith, length, None}
+use Rattle.std.proofs.Common.{◌≡◌, ◌∙◌, ap, arith, None}
 use Rattle.cube_cells.specs.Coded.{CodedCells, coded_at}
 use Rattle.cube_cells.proofs.NewLaws.{one_new}
 use Rattle.cube_cells.proofs.cube.total_cells.Goals as goal

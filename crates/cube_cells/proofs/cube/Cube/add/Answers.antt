@@ -1,8 +1,7 @@
-use Rattle.std.proofs.Common.{rules, ◌≡◌, ◌+◌, ◌∙◌, ◌++◌, ◌<◌, ◌^◌, arith, ap, length, take, drop, true}
+use Rattle.std.proofs.Common.{rules, ◌≡◌, ◌+◌, ◌<◌, ◌^◌, arith, ap, length, true}
 use Rattle.std.specs.Prelude.{All}
 use Rattle.cube_core.specs.Takes.{fits}
 use Rattle.cube_cells.specs.Codes.{IsDictionary}
-use Rattle.cube_cells.specs.Cube.{SameCells}
 use Rattle.cube_cells.specs.Walk.{codes_in}
 use Rattle.cube_cells.proofs.CodeLaws.{dictionaries_back}
 use Rattle.cube_cells.proofs.CubeLaws.{cube_more, cube_same}

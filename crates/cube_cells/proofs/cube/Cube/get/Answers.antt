@@ -1,4 +1,4 @@
-use Rattle.std.proofs.Common.{rules, arith, sym, ap, ◌∙◌, ◌≡◌, length}
+use Rattle.std.proofs.Common.{rules, sym, ◌∙◌, ◌≡◌, length}
 use Rattle.cube_cells.proofs.KeyLaws.{HasCodes, look_up-coded, no_cell-width, some_copied, found_width}
 use Rattle.cube_cells.proofs.cube.Cube.get.Goals as goal
 

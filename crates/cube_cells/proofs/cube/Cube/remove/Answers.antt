@@ -1,4 +1,4 @@
-use Rattle.std.proofs.Common.{◌≡◌, ◌+◌, ◌-◌, ◌<◌, arith}
+use Rattle.std.proofs.Common.{◌≡◌, ◌+◌, ◌-◌, arith}
 use Rattle.cube_cells.specs.Coded.{lattice_of}
 use Rattle.cube_cells.specs.Cube.{HoldsFact}
 use Rattle.cube_cells.proofs.CubeLaws.{cube_less}

@@ -1,10 +1,8 @@
-use Rattle.std.proofs.Common.{rules, refl, sym, ap, subst, arith, ◌∙◌, ◌≡◌, ◌∷◌, [], Some, None, length, true}
+use Rattle.std.proofs.Common.{rules, ◌≡◌, Some}
 use Rattle.std.proofs.lemmas.Result.{on_err_weaker}
 use Rattle.cube_cells.specs.Coded.{coded_at, same_codes}
 use Rattle.std.specs.Map.{set_value}
-use Rattle.cube_cells.specs.Cube.{empty_tally}
-use Rattle.cube_cells.specs.Tally.{PlusFact}
-use Rattle.cube_cells.proofs.WalkLaws.{adds_there, adds_new, same_there, on_ok_both}
+use Rattle.cube_cells.proofs.WalkLaws.{adds_there, same_there, on_ok_both}
 use Rattle.cube_cells.proofs.cube.walk.add_to_cell.Goals as goal
 
 pub returns-in-Some-clause-added : goal.returns-in-Some-clause-added

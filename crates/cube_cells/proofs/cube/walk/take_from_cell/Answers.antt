@@ -1,4 +1,4 @@
-use Rattle.std.proofs.Common.{arith, sym, ◌≡◌, ◌||◌, true, false, nat_lt}
+use Rattle.std.proofs.Common.{arith, sym, ◌≡◌, ◌||◌, true, nat_lt}
 use Rattle.std.proofs.lemmas.Bool.{or_left, or_right, lt-ltb}
 use Rattle.cube_cells.specs.Coded.{is_total_code}
 use Rattle.cube_cells.proofs.WalkLaws.{takes_left, takes_gone}

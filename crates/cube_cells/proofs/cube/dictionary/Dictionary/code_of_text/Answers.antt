@@ -1,8 +1,6 @@
-use Rattle.std.proofs.Common.{arith, ap, subst, sym, ◌∙◌, ◌<◌, length, List, ℕ, false, true}
-use Rattle.cube_core.specs.Layout.{is_listed}
-use Rattle.cube_core.specs.declared.key.Coord.TheVariants as coord
-use Rattle.cube_cells.specs.Codes.{IsDictionary, IsCodeOf, no_code}
-use Rattle.cube_cells.proofs.DictionaryLaws.{StandsAt, found_at, not_listed, listed_at, code_of_place, code_of_none, place_is_some}
+use Rattle.std.proofs.Common.{arith, subst, sym, ◌∙◌}
+use Rattle.cube_cells.specs.Codes.{IsDictionary}
+use Rattle.cube_cells.proofs.DictionaryLaws.{found_at, not_listed, listed_at, code_of_place, code_of_none, place_is_some}
 use Rattle.cube_cells.proofs.cube.dictionary.Dictionary.code_of_text.Goals as goal
 
 pub overflow_cast-result : goal.overflow_cast-result

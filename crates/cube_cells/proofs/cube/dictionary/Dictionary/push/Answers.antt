@@ -1,7 +1,6 @@
-use Rattle.std.proofs.Common.{arith, ap, subst, sym, ◌∙◌, ◌≡◌, ◌<◌, ◌++◌, ◌∷◌, [], length, map, false}
+use Rattle.std.proofs.Common.{arith, ◌∙◌, ◌≡◌, map, false}
 use Rattle.std.specs.String.{string_bytes}
 use Rattle.cube_core.specs.Layout.{is_listed}
-use Rattle.cube_cells.specs.Codes.{IsDictionary, no_code}
 use Rattle.cube_cells.proofs.DictionaryLaws.{dictionary_push, next_place, pushed_texts}
 use Rattle.std.proofs.lemmas.List.{length-map}
 use Rattle.cube_cells.proofs.cube.dictionary.Dictionary.push.Goals as goal
