@@ -1,17 +1,22 @@
 -- The schema of a cube: what its feeds hold and which aggregates it shows (this project's choice).
-use Rattle.std.specs.Prelude.{◌≡◌, ◌<◌, ◌≤◌, ◌&&◌, nat_lt, ℕ, Bool, true, not, List, [], ◌∷◌, ◌++◌, ◌^◌, length, map, codes, get_or}
+use Rattle.std.specs.Prelude.{◌≡◌, ◌<◌, ◌≤◌, ◌&&◌, nat_lt, ℕ, Bool, true, not, List, [], ◌∷◌, ◌++◌, ◌^◌, length, map, codes, get_or, All}
 use Rattle.std.specs.Str.{bytes_eq}
 use Rattle.std.specs.List.{list_any, list_all}
+use Rattle.std.specs.List.Sorted.{IsStrictlyIncreasing}
+use Rattle.cube_core.specs.GroupingSet.{mask_of, all_sets, is_among}
+use Rattle.cube_core.specs.declared.key.Key.{Key}
 use Rattle.cube_core.specs.declared.aggregate.Agg.{Agg}
 use Rattle.cube_core.specs.declared.aggregate.Agg.TheVariants.{CountAll, Count, Sum, Min, Max, Avg}
 
--- a schema: the names of the dimensions and of the measures, the aggregates, each with its spelling, and how many data records a feed may have
+-- a schema: the names of the dimensions and of the measures, the aggregates, each with its spelling, how many data records a feed may have, the masks of the grouping sets that are kept, and the version of its feeds
 pub record Layout : Type 0 where
   pub dimensions : List (List ℕ)
   pub measures : List (List ℕ)
   pub aggregates : List Agg
   pub aggregate_texts : List (List ℕ)
   pub max_records : ℕ
+  pub grouping_sets : List ℕ
+  pub version : ℕ
 
 -- whether a text stands in a list of texts
 abbrev pub is_listed : List ℕ → List (List ℕ) → Bool
@@ -56,7 +61,7 @@ spelling_of measures (Min m) = spelled_with (codes "min") measures m
 spelling_of measures (Max m) = spelled_with (codes "max") measures m
 spelling_of measures (Avg m) = spelled_with (codes "avg") measures m
 
--- what is true of every schema: the numbers of its parts, lawful names that differ, and aggregates of its measures in their spelling
+-- what is true of every schema: the numbers of its parts, lawful names that differ, aggregates of its measures in their spelling, and grouping sets of its dimensions, in ascending order
 pub record IsSchema (s : Layout) : Type 0 where
   pub some_dimension : 1 ≤ length s.dimensions
   pub dimensions_at_most : length s.dimensions ≤ 8
@@ -70,8 +75,17 @@ pub record IsSchema (s : Layout) : Type 0 where
   pub aggregates_are_spelled : s.aggregate_texts ≡ map (spelling_of s.measures) s.aggregates
   pub some_record : 1 ≤ s.max_records
   pub records_at_most : s.max_records < 2 ^ 32
+  pub some_set : 1 ≤ length s.grouping_sets
+  pub sets_are_ascending : IsStrictlyIncreasing s.grouping_sets
+  pub sets_are_of_dimensions : All (λ set. set < 2 ^ length s.dimensions) s.grouping_sets
+  pub version_at_least : 1 ≤ s.version
+  pub version_at_most : s.version ≤ 2
 
--- the sample schema: regions and kinds, an amount, and all aggregates of it
+-- whether a schema keeps the grouping set of a key
+abbrev pub keeps : Layout → Key → Bool
+keeps s key = is_among (mask_of key) s.grouping_sets
+
+-- the sample schema: regions and kinds, an amount, all aggregates of it, and all grouping sets
 abbrev pub sample_layout : Layout
 sample_layout = record {
   dimensions = codes "region" ∷ codes "kind" ∷ [];
@@ -79,4 +93,6 @@ sample_layout = record {
   aggregates = CountAll ∷ Sum 0 ∷ Min 0 ∷ Max 0 ∷ Avg 0 ∷ [];
   aggregate_texts = codes "count(*)" ∷ codes "sum(amount)" ∷ codes "min(amount)" ∷ codes "max(amount)" ∷ codes "avg(amount)" ∷ [];
   max_records = 4294967295;
+  grouping_sets = all_sets 2;
+  version = 1;
 }

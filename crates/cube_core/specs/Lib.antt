@@ -1,6 +1,7 @@
 pub mod Layout
 pub mod SchemaDocument
 pub mod Records
+pub mod Amendment
 pub mod Takes
 pub mod Items
 pub mod Life
@@ -13,11 +14,7 @@ pub mod Answer
 pub mod Order
 pub mod GroupingSet
 pub mod Cube
+pub mod Query
 pub mod Text
 pub mod Printed
-pub mod LawsLife
-pub mod LawsSets
-pub mod LawsKeys
-pub mod LawsCells
-pub mod LawsRollup
-pub mod LawsSchema
+pub mod Sources

@@ -1,12 +1,15 @@
 //! The schema of a cube.
-ghost use Rattle.std.specs.Prelude.{◌≡◌, IfOk};
+ghost use Rattle.std.specs.Prelude.{◌≡◌, ◌≤◌, ◌<◌, ◌^◌, IfOk, length};
 ghost use Rattle.std.specs.List.{list_all};
-ghost use Rattle.cube_core.specs.Layout.{IsSchema, sample_layout};
-ghost use Rattle.cube_core.specs.Takes.{fits, takes, is_id, is_dimension_value};
+ghost use Rattle.cube_core.specs.Layout.{IsSchema, sample_layout, keeps};
+ghost use Rattle.cube_core.specs.Takes.{fits, fits_part, takes, is_id, is_dimension_value, puts_dimension_value};
+ghost use Rattle.cube_core.specs.GroupingSet.{is_among, mask_of_coords};
 
 use crate::aggregate::Agg;
 use crate::change::Change;
 use crate::fact::Fact;
+use crate::partial::{Field, Partial};
+use crate::key::{Coord, Key};
 use crate::text::{Text, copy_texts};
 use std::alloc::{AllocError, Global};
 use std::marker::Model;
@@ -17,11 +20,13 @@ use std::marker::Model;
 /// All names differ, and none is empty, `op`, `id` or `*`.
 #[derive(Debug, Drop)]
 pub struct Schema {
-    dimensions: Vec<Text>,
-    measures: Vec<Text>,
-    aggregates: Vec<Agg>,
-    aggregate_texts: Vec<Text>,
-    max_records: u32,
+    pub(crate) dimensions: Vec<Text>,
+    pub(crate) measures: Vec<Text>,
+    pub(crate) aggregates: Vec<Agg>,
+    pub(crate) aggregate_texts: Vec<Text>,
+    pub(crate) max_records: u32,
+    pub(crate) grouping_sets: Vec<u8>,
+    pub(crate) version: u32,
 }
 
 impl Model for Schema {
@@ -35,6 +40,8 @@ impl Model for Schema {
       aggregates = s.aggregates.items;
       aggregate_texts = s.aggregate_texts.items;
       max_records = s.max_records;
+      grouping_sets = s.grouping_sets.items;
+      version = s.version;
     } };
 
     ghost invariant = { λ s. IsSchema (record {
@@ -43,6 +50,8 @@ impl Model for Schema {
       aggregates = s.aggregates.items;
       aggregate_texts = s.aggregate_texts.items;
       max_records = s.max_records;
+      grouping_sets = s.grouping_sets.items;
+      version = s.version;
     }) };
 }
 
@@ -63,39 +72,9 @@ impl Schema {
             aggregates: sample_aggregates(alloc)?,
             aggregate_texts: sample_aggregate_texts(alloc)?,
             max_records: u32::MAX,
+            grouping_sets: sample_sets(alloc)?,
+            version: 1,
         })
-    }
-
-    /// The schema of parts that make one.
-    pub(crate) fn from_parts(
-        dimensions: Vec<Text>,
-        measures: Vec<Text>,
-        aggregates: Vec<Agg>,
-        aggregate_texts: Vec<Text>,
-        max_records: u32,
-    ) -> Schema
-        requires { IsSchema (record {
-          dimensions = dimensions.items;
-          measures = measures.items;
-          aggregates = aggregates.items;
-          aggregate_texts = aggregate_texts.items;
-          max_records = max_records;
-        }) }
-        ensures { result ≡ record {
-          dimensions = dimensions.items;
-          measures = measures.items;
-          aggregates = aggregates.items;
-          aggregate_texts = aggregate_texts.items;
-          max_records = max_records;
-        } }
-    {
-        Schema {
-            dimensions,
-            measures,
-            aggregates,
-            aggregate_texts,
-            max_records,
-        }
     }
 
     /// A copy; the only error is want of memory.
@@ -108,6 +87,8 @@ impl Schema {
             aggregates: Vec::from_slice(alloc, &self.aggregates)?,
             aggregate_texts: copy_texts(alloc, &self.aggregate_texts)?,
             max_records: self.max_records,
+            grouping_sets: Vec::from_slice(alloc, &self.grouping_sets)?,
+            version: self.version,
         })
     }
 
@@ -151,6 +132,33 @@ impl Schema {
         self.max_records
     }
 
+    /// The masks of the grouping sets that are kept, in ascending order, each once; at least one. The mask of a set
+    /// is the sum of 2 to the power d over its dimensions d, from 0.
+    pub fn grouping_sets(&self) -> &[u8]
+        ensures value { result.now ≡ self.now.grouping_sets }
+        ensures schema { IsSchema self.now }
+    {
+        self.grouping_sets.as_slice()
+    }
+
+    /// The version of the schema's feeds, 1 or 2.
+    pub fn version(&self) -> u32
+        ensures value { result ≡ self.now.version }
+        ensures schema { IsSchema self.now }
+    {
+        self.version
+    }
+
+    /// Whether the schema keeps the grouping set of a key: the set of dimensions that aren't ALL in it. The key
+    /// has a coordinate for each dimension.
+    pub fn keeps(&self, key: &Key) -> bool
+        requires { length key.now.coords ≡ length self.now.dimensions }
+        ensures { result ≡ keeps self.now key.now }
+    {
+        let sets = self.grouping_sets();
+        is_among(mask_of_coords(key.coords.as_slice()), sets)
+    }
+
     /// Whether a fact has this schema's numbers of dimensions and measures, and no dimension text `\N`, which
     /// would read as null.
     pub fn fits(&self, fact: &Fact) -> bool
@@ -161,16 +169,45 @@ impl Schema {
             && are_dimension_values(fact.dims.as_slice())
     }
 
-    /// Whether a change has an id that isn't empty and, where it has a fact, one that fits.
+    /// Whether a change has an id that isn't empty and, where it has a fact, one that fits; an amendment is taken in
+    /// version 2 alone, with this schema's numbers of fields and no dimension text `\N`.
     pub fn takes(&self, change: &Change) -> bool
         ensures { result ≡ takes self.now change.now }
     {
         match change {
             Change::Insert { id, fact } => is_id(id) && self.fits(fact),
             Change::Update { id, fact } => is_id(id) && self.fits(fact),
+            Change::Amend { id, part } => self.version == 2 && is_id(id) && self.fits_part(part),
             Change::Delete { id } => is_id(id),
         }
     }
+
+    fn fits_part(&self, part: &Partial) -> bool
+        ensures { result ≡ fits_part self.now part.now }
+    {
+        part.dims.len() == self.dimensions.len()
+            && part.measures.len() == self.measures.len()
+            && put_dimension_values(part.dims.as_slice())
+    }
+}
+
+// The mask of coordinates, which are at most 8.
+#[tactic(auto, using(crate::proofs::PlainKeys::mask_of_eight))]
+fn mask_of_coords(coords: &[Coord]) -> u32
+    requires { length coords.now ≤ 8 }
+    ensures { result ≡ mask_of_coords coords.now }
+{
+    let Some((coord, others)) = coords.split_first() else {
+        return 0;
+    };
+    let bit = if matches!(coord, Coord::All) { 0 } else { 1 };
+    bit + 2 * mask_of_coords(others)
+}
+
+fn is_among(set: u32, sets: &[u8]) -> bool
+    ensures { result ≡ is_among set sets.now }
+{
+    sets.iter().any(|other| u32::from(*other) == set)
 }
 
 fn is_id(id: &Text) -> bool
@@ -183,6 +220,21 @@ fn are_dimension_values(values: &[Option<Text>]) -> bool
     ensures { result ≡ list_all is_dimension_value values.now }
 {
     values.iter().all(|value| is_dimension_value(value))
+}
+
+fn put_dimension_values(fields: &[Field<Option<Text>>]) -> bool
+    ensures { result ≡ list_all puts_dimension_value fields.now }
+{
+    fields.iter().all(|field| puts_dimension_value(field))
+}
+
+fn puts_dimension_value(field: &Field<Option<Text>>) -> bool
+    ensures { result ≡ puts_dimension_value field.now }
+{
+    match field {
+        Field::Keep => true,
+        Field::Put(value) => is_dimension_value(value),
+    }
 }
 
 fn is_dimension_value(value: &Option<Text>) -> bool
@@ -205,6 +257,13 @@ fn sample_aggregates(alloc: Global) -> Result<Vec<Agg>, AllocError>
         Agg::Avg(0),
     ]?;
     Ok(aggregates)
+}
+
+fn sample_sets(alloc: Global) -> Result<Vec<u8>, AllocError>
+    ensures { IfOk result (λ sets. sets.items ≡ sample_layout.grouping_sets) }
+{
+    let sets = vec![in alloc; 0, 1, 2, 3]?;
+    Ok(sets)
 }
 
 fn sample_aggregate_texts(alloc: Global) -> Result<Vec<Text>, AllocError>

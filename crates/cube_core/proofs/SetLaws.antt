@@ -1,0 +1,31 @@
+-- The masks of grouping sets, in ascending order.
+use Rattle.std.proofs.Common.{◌≡◌, ◌<◌, ◌+◌, ◌^◌, ℕ, length, get_or, List, [], ◌∷◌, ◌++◌, All, refl, sym, ap, ◌∙◌, arith}
+use Rattle.std.specs.List.{range_with_len}
+use Rattle.std.specs.List.Sorted.{IsStrictlyIncreasing}
+use Rattle.std.proofs.lemmas.List.FromFn.{length-range_with_len, get_or-range_with_len, map-range_with_len_more}
+use Rattle.std.proofs.lemmas.List.{map-id}
+use Rattle.std.proofs.lemmas.List.Elements.{All-from_get_or}
+use Rattle.cube_core.specs.GroupingSet.{all_sets}
+
+-- numbers one after another rise
+range_with_len-IsStrictlyIncreasing : (a n : ℕ) → IsStrictlyIncreasing (range_with_len a n)
+range_with_len-IsStrictlyIncreasing a n k inside =
+    let within : k + 1 < n = rw (sym (length-range_with_len a n)) inside in
+    rw (get_or-range_with_len a n k 0 (omega arith), get_or-range_with_len a n (k + 1) 0 within) (omega arith)
+
+-- all sets stand in ascending order
+pub all_sets-IsStrictlyIncreasing : (dimensions : ℕ) → IsStrictlyIncreasing (all_sets dimensions)
+all_sets-IsStrictlyIncreasing dimensions = range_with_len-IsStrictlyIncreasing 0 (2 ^ dimensions)
+
+-- each of all sets is a set of the dimensions
+pub all_sets-All : (dimensions : ℕ) → All (λ set. set < 2 ^ dimensions) (all_sets dimensions)
+all_sets-All dimensions = All-from_get_or (λ set. set < 2 ^ dimensions) (all_sets dimensions) 0 below
+  where
+    below : (i : ℕ) → i < length (all_sets dimensions) → get_or (all_sets dimensions) i 0 < 2 ^ dimensions
+    below i inside =
+        let within : i < 2 ^ dimensions = rw (sym (length-range_with_len 0 (2 ^ dimensions))) inside in
+        rw (get_or-range_with_len 0 (2 ^ dimensions) i 0 within) (omega arith)
+
+-- the list of them after one more
+pub range_with_len-more : (a n : ℕ) → range_with_len a (n + 1) ≡ range_with_len a n ++ (a + n) ∷ []
+range_with_len-more a n = sym (map-id (range_with_len a (n + 1))) ∙ map-range_with_len_more (λ i. i) a n (a + n) refl ∙ ap (λ (xs : List ℕ). xs ++ (a + n) ∷ []) (map-id (range_with_len a n))

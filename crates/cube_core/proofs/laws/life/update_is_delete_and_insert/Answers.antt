@@ -1,5 +1,0 @@
-use Rattle.cube_core.proofs.LifeLaws.{life_updated}
-use Rattle.cube_core.proofs.laws.life.update_is_delete_and_insert.Goals as goal
-
-pub returns : goal.returns
-returns c id changes fact other present = life_updated id changes fact other present

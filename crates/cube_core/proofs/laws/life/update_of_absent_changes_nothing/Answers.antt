@@ -1,8 +1,0 @@
-use Rattle.std.proofs.Common.{◌∙◌, ap}
-use Rattle.cube_core.proofs.LifeLaws.{life_after, life_more, same_text}
-use Rattle.cube_core.specs.declared.change.Change.TheVariants.{Update}
-use Rattle.cube_core.proofs.laws.life.update_of_absent_changes_nothing.Goals as goal
-
-pub returns : goal.returns
-returns c id changes fact absent =
-    life_more id changes (Update id fact) (same_text id) ∙ ap (life_after (Update id fact)) absent

@@ -1,5 +1,0 @@
-use Rattle.cube_core.proofs.LawRollup.{sum_rolls_up}
-use Rattle.cube_core.proofs.laws.rollup.sums_roll_up.Goals as goal
-
-pub returns : goal.returns
-returns c s facts rows row dimension place m is at_place = sum_rolls_up s facts rows row dimension place is m at_place

@@ -1,5 +1,0 @@
-use Rattle.cube_core.proofs.SchemaSpelledOnce.{schema_spelled_once}
-use Rattle.cube_core.proofs.laws.schema.spelling_is_of_one_aggregate.Goals as goal
-
-pub returns : goal.returns
-returns c = schema_spelled_once

@@ -1,5 +1,0 @@
-use Rattle.cube_core.proofs.LawSets.{cell_in_one_part}
-use Rattle.cube_core.proofs.laws.sets.each_cell_is_in_one_part.Goals as goal
-
-pub returns : goal.returns
-returns c parts dimensions sets facts key some cell = cell_in_one_part parts dimensions sets facts key some cell

@@ -1,0 +1,150 @@
+-- Each fact is in the group of one cell of each grouping set.
+use Rattle.std.proofs.Common.{◌≡◌, ℕ, zero, suc, ◌^◌, ◌<◌, ◌==◌, ◌||◌, Bool, true, List, [], ◌∷◌, length, map, get_or, filter, sum_by, count_by, slice_get, Contains, Option, Some, refl, sym, ap, ◌∙◌, subst, arith, eqb-true, eq-eqb}
+use Rattle.std.specs.List.{AllByRecursion, list_any, list_all}
+use Rattle.std.proofs.lemmas.Bool.{and_parts, and_from, or_right}
+use Rattle.std.proofs.lemmas.List.Concat.{length-flat_map}
+use Rattle.std.proofs.lemmas.List.Kept.{IsStrictlySortedBy-filter}
+use Rattle.cube_core.specs.Layout.{Layout}
+use Rattle.cube_core.specs.Answer.{IsAnswer, AreAnswers}
+use Rattle.cube_core.specs.Covers.{covers, all_stand_for}
+use Rattle.cube_core.specs.Cube.{AreRows, HasAnswers, key_of, is_total}
+use Rattle.cube_core.specs.Group.{group_of}
+use Rattle.cube_core.specs.GroupingSet.{is_all_coord, is_among, mask_of, all_sets}
+use Rattle.cube_laws.specs.Cells.{HaveDimensions, rows_in_set, group_size, answer_at, count_at, count_of_answer}
+use Rattle.cube_core.specs.Order.{key_cmp}
+use Rattle.cube_core.specs.declared.aggregate.Agg.{Agg}
+use Rattle.cube_core.specs.declared.aggregate.Agg.TheVariants as agg
+use Rattle.cube_core.specs.declared.aggregate.Answer.{Answer}
+use Rattle.cube_core.specs.declared.aggregate.Answer.TheVariants as answer
+use Rattle.cube_core.specs.declared.fact.Fact.{Fact}
+use Rattle.cube_core.specs.declared.key.Coord.{Coord}
+use Rattle.cube_core.specs.declared.key.Coord.TheVariants as coord
+use Rattle.cube_core.specs.declared.key.Key.{Key}
+use Rattle.cube_core.specs.declared.key.Row.{Row}
+use Rattle.cube_laws.proofs.RowOrderLaws.{length_reordered}
+use Rattle.cube_laws.proofs.GroupCountLaws.{count_of_one, SharedOut, groups_join}
+use Rattle.cube_core.proofs.PlainOrder.{key_cmp_total}
+use Rattle.cube_core.proofs.PlainKeys.{ancestor_of, ancestor_of_covers, mask_of_ancestor, same_from_mask}
+use Rattle.cube_core.proofs.ListLaws.{AllByRecursion-Contains, Contains-AllByRecursion, Contains-filter, Contains-list_any, filter-Contains, filter-all, map-filter, sum_by-map, sum_by-same}
+use Rattle.cube_core.proofs.PlainCells.{same_key}
+use Rattle.cube_core.proofs.PlainRows.{is_among-all_sets}
+
+-- a fact has as many values and nulls as there are dimensions
+pub dimensions_of : (dimensions : ℕ) (facts : List Fact) (fact : Fact) → HaveDimensions dimensions facts →
+    Contains facts fact → length fact.dims ≡ dimensions
+dimensions_of dimensions facts fact dims among = AllByRecursion-Contains (λ (f : Fact). length f.dims ≡ dimensions) facts fact dims among
+
+-- whether a key is in a grouping set
+abbrev is_in_set : ℕ → Key → Bool
+is_in_set set key = mask_of key == set
+
+-- the key that covers a fact in a grouping set
+abbrev pub key_in_set : ℕ → Fact → Key
+key_in_set set fact = record { coords = ancestor_of fact.dims set }
+
+module _ (s : Layout) (facts : List Fact) (rows : List Row) (are : AreRows s facts rows) where
+  -- the key of each fact's grouping set is a cell
+  pub key_is_cell : (key : Key) (fact : Fact) → Contains facts fact → covers key fact ≡ true →
+      mask_of key < 2 ^ length s.dimensions → Contains (map key_of rows) key
+  key_is_cell key fact among covered below =
+      let dimensions = length s.dimensions in
+      let has_fact : list_any (covers key) facts ≡ true = Contains-list_any (covers key) facts fact among covered in
+      (are.cells key).1
+      (and_from (is_among (mask_of key) (all_sets dimensions)) (is_total dimensions key || list_any (covers key) facts)
+      (is_among-all_sets (mask_of key) dimensions below)
+      (or_right (is_total dimensions key) (list_any (covers key) facts) has_fact))
+
+  -- the keys of the rows of a grouping set
+  abbrev keys_in_set : ℕ → List Key
+  keys_in_set set = filter (is_in_set set) (map key_of rows)
+
+  -- one key of a grouping set covers a fact
+  pub one_in_set : (set : ℕ) (fact : Fact) → set < 2 ^ length s.dimensions → Contains facts fact →
+      length fact.dims ≡ length s.dimensions →
+      count_by (λ key. covers key fact) (keys_in_set set) ≡ 1
+  one_in_set set fact below among dims =
+      let one : Key = key_in_set set fact in
+      let mask : mask_of one ≡ set = mask_of_ancestor fact.dims set (subst (λ n. set < 2 ^ n) (sym dims) below) in
+      let covered : covers one fact ≡ true = ancestor_of_covers fact.dims set in
+      let is_set : mask_of one < 2 ^ length s.dimensions = subst (λ n. n < 2 ^ length s.dimensions) (sym mask) below in
+      count_of_one key_cmp_total (λ key. covers key fact) one (keys_in_set set)
+      (IsStrictlySortedBy-filter key_cmp (is_in_set set) (map key_of rows) are.ordered)
+      (filter-Contains (is_in_set set) (map key_of rows) one (key_is_cell one fact among covered is_set) (eq-eqb (mask_of one) set mask))
+      covered
+      (λ key key_among key_covers.
+      let in_set : mask_of key ≡ set = eqb-true (mask_of key) set (Contains-filter (is_in_set set) (map key_of rows) key key_among).1 in
+      same_key key one (same_from_mask key.coords one.coords fact.dims key_covers covered (in_set ∙ sym mask)))
+
+  -- the groups of the rows of a grouping set have each fact once
+  pub set_counts : (set : ℕ) → HaveDimensions (length s.dimensions) facts → set < 2 ^ length s.dimensions →
+      sum_by (group_size facts) (rows_in_set set rows) ≡ length facts
+  set_counts set dims below =
+      let keys : List Key = keys_in_set set in
+      let shared : AllByRecursion (SharedOut keys (λ _. true)) facts
+      = Contains-AllByRecursion (SharedOut keys (λ _. true)) facts (λ fact among. record {
+        one = λ _. one_in_set set fact below among (dimensions_of (length s.dimensions) facts fact dims among);
+        no_other = λ never. cc;
+      }) in
+      sym (sum_by-map key_of (λ key. length (group_of key facts)) (rows_in_set set rows))
+      ∙ ap (sum_by (λ key. length (group_of key facts))) (map-filter key_of (is_in_set set) rows)
+      ∙ sym (length-flat_map (λ key. group_of key facts) keys)
+      ∙ length_reordered (groups_join keys (λ _. true) facts shared)
+      ∙ ap length (filter-all (λ _. true) facts (Contains-AllByRecursion (λ _. true ≡ true) facts (λ _ _. refl)))
+
+-- the answer of an aggregate stands at its place
+pub answer_at_place : (group : List Fact) (aggregates : List Agg) (answers : List Answer) (place : ℕ) (aggregate : Agg) →
+    AreAnswers group aggregates answers → slice_get aggregates place ≡ Some aggregate →
+    IsAnswer group aggregate (get_or answers place answer.Null)
+answer_at_place group [] answers place aggregate h at_place = cc
+answer_at_place group (a ∷ aggregates) [] place aggregate h at_place = elim h [ ]
+answer_at_place group (a ∷ aggregates) (x ∷ answers) zero aggregate h at_place =
+    let same : a ≡ aggregate = cc in
+    subst (λ b. IsAnswer group b x) same h.0
+answer_at_place group (a ∷ aggregates) (x ∷ answers) (suc place) aggregate h at_place =
+    answer_at_place group aggregates answers place aggregate h.1 at_place
+
+-- the answers of a row of the cube
+pub row_answer : (s : Layout) (facts : List Fact) (rows : List Row) → AreRows s facts rows → (row : Row) →
+    Contains rows row → (place : ℕ) (aggregate : Agg) → slice_get s.aggregates place ≡ Some aggregate →
+    IsAnswer (group_of row.key facts) aggregate (answer_at place row)
+row_answer s facts rows are row among place aggregate at_place =
+    answer_at_place (group_of row.key facts) s.aggregates row.answers place aggregate
+    (AllByRecursion-Contains (HasAnswers s.aggregates facts) rows row are.answers among) at_place
+
+-- the counts of the rows of a grouping set add up to the number of facts
+pub set_answers : (s : Layout) (facts : List Fact) (rows : List Row) (set place : ℕ) → AreRows s facts rows →
+    HaveDimensions (length s.dimensions) facts → set < 2 ^ length s.dimensions →
+    slice_get s.aggregates place ≡ Some agg.CountAll → sum_by (count_at place) (rows_in_set set rows) ≡ length facts
+set_answers s facts rows set place are dims below at_place =
+    sum_by-same (count_at place) (group_size facts) (rows_in_set set rows)
+    (Contains-AllByRecursion (λ row. count_at place row ≡ group_size facts row) (rows_in_set set rows) (λ row among.
+    let row_of_cube = (Contains-filter (λ (row : Row). mask_of row.key == set) rows row among).0 in
+    ap count_of_answer (row_answer s facts rows are row row_of_cube place agg.CountAll at_place)))
+    ∙ set_counts s facts rows are set dims below
+
+-- ALL stands for each value
+all_stand : (coords : List Coord) (values : List (Option (List ℕ))) → list_all is_all_coord coords ≡ true →
+    length coords ≡ length values → all_stand_for coords values ≡ true
+all_stand [] [] all long = refl
+all_stand [] (v ∷ values) all long = absurd (omega (arith, long))
+all_stand (c ∷ coords) [] all long = absurd (omega (arith, long))
+all_stand (coord.All ∷ coords) (v ∷ values) all long = all_stand coords values all (omega (arith, long))
+all_stand (coord.Null ∷ coords) (v ∷ values) all long = cc
+all_stand (coord.Text name ∷ coords) (v ∷ values) all long = cc
+
+-- the group of the grand total is all facts
+pub total_group : (dimensions : ℕ) (facts : List Fact) (key : Key) → HaveDimensions dimensions facts →
+    is_total dimensions key ≡ true → group_of key facts ≡ facts
+total_group dimensions facts key dims total =
+    let parts = and_parts (length key.coords == dimensions) (list_all is_all_coord key.coords) total in
+    let long : length key.coords ≡ dimensions = eqb-true (length key.coords) dimensions parts.0 in
+    filter-all (covers key) facts (Contains-AllByRecursion (λ fact. covers key fact ≡ true) facts (λ fact among.
+    all_stand key.coords fact.dims parts.1 (long ∙ sym (dimensions_of dimensions facts fact dims among))))
+
+-- the count of the grand total is the number of facts
+pub total_counts : (s : Layout) (facts : List Fact) (rows : List Row) (row : Row) (place : ℕ) → AreRows s facts rows →
+    HaveDimensions (length s.dimensions) facts → Contains rows row → is_total (length s.dimensions) row.key ≡ true →
+    slice_get s.aggregates place ≡ Some agg.CountAll → answer_at place row ≡ answer.Count (length facts)
+total_counts s facts rows row place are dims among total at_place =
+    row_answer s facts rows are row among place agg.CountAll at_place
+    ∙ ap (λ group. answer.Count (length group)) (total_group (length s.dimensions) facts row.key dims total)

@@ -1,0 +1,16 @@
+mod FractionLaws
+mod LifeLaws
+mod SpellingLaws
+mod WrittenLaws
+mod RowLaws
+mod RowOrderLaws
+mod GroupCountLaws
+mod CountLaws
+mod CellCountLaws
+mod RollupKeyLaws
+mod RollupBestLaws
+mod RollupLaws
+mod SetLaws
+mod SurvivorLaws
+mod KeyLaws
+mod TextLaws

@@ -1,0 +1,170 @@
+-- The keys that drill down from a key along a dimension share its facts out among them.
+use Rattle.std.proofs.Common.{◌≡◌, ℕ, zero, suc, ◌^◌, ◌<◌, Bool, true, false, not, List, [], ◌∷◌, length, map, filter, get_or, set, slice_get, count_by, Contains, Option, Some, None, refl, sym, ap, ◌∙◌, subst, Ordering, Less, Equal, Greater}
+use Rattle.std.specs.Option.{option_map_or}
+use Rattle.std.specs.Ordering.{eq_by_cmp}
+use Rattle.std.proofs.lemmas.Bool.{and_parts, and_from, not-true, false_from_ne_true}
+use Rattle.std.proofs.lemmas.Cmp.{tied_itself}
+use Rattle.std.proofs.lemmas.List.Kept.{IsStrictlySortedBy-filter}
+use Rattle.std.proofs.lemmas.Slice.Eq.{bytes_eq-Decides}
+use Rattle.cube_core.specs.Layout.{Layout}
+use Rattle.cube_core.specs.Covers.{covers, all_stand_for, stands_for}
+use Rattle.cube_core.specs.Cube.{AreRows, key_of}
+use Rattle.cube_core.specs.Group.{group_of}
+use Rattle.cube_core.specs.GroupingSet.{is_all_coord, is_all_at, mask_of}
+use Rattle.cube_laws.specs.Cells.{HaveDimensions}
+use Rattle.cube_laws.specs.Rollup.{rolled_up, drills_down, rows_below}
+use Rattle.cube_core.specs.Order.{key_cmp}
+use Rattle.cube_core.specs.declared.fact.Fact.{Fact}
+use Rattle.cube_core.specs.declared.key.Coord.{Coord}
+use Rattle.cube_core.specs.declared.key.Coord.TheVariants as coord
+use Rattle.cube_core.specs.declared.key.Key.{Key}
+use Rattle.cube_core.specs.declared.key.Row.{Row}
+use Rattle.cube_laws.proofs.RowOrderLaws.{Reordered}
+use Rattle.cube_laws.proofs.CountLaws.{dimensions_of, key_is_cell}
+use Rattle.cube_laws.proofs.GroupCountLaws.{count_of_one, SharedOut, joined_groups, groups_join}
+use Rattle.cube_core.proofs.PlainKeys.{coord_of, coord_of_is, mask_below, length_standing}
+use Rattle.cube_core.proofs.PlainOrder.{key_cmp_total, exact_keys}
+use Rattle.cube_core.proofs.ListLaws.{Contains-AllByRecursion, Contains-filter, count_by-none, filter-Contains, map-filter}
+use Rattle.cube_core.proofs.PlainCells.{same_key}
+
+-- a value or null stands for itself
+stands_itself : (value : Option (List ℕ)) → stands_for (coord_of value true) value ≡ true
+stands_itself None = refl
+stands_itself (Some text) = (bytes_eq-Decides text text).1 refl
+
+-- and is not ALL
+not_all : (value : Option (List ℕ)) → is_all_coord (coord_of value true) ≡ false
+not_all None = refl
+not_all (Some text) = refl
+
+-- coordinates with a fact's own value in a dimension
+abbrev pub drilled : List Coord → ℕ → List (Option (List ℕ)) → List Coord
+drilled coords dimension values = set coords dimension (coord_of (get_or values dimension None) true)
+
+-- what stands for values does so with the value itself in a dimension
+drilled_stands : (coords : List Coord) (dimension : ℕ) (values : List (Option (List ℕ))) →
+    all_stand_for coords values ≡ true → all_stand_for (drilled coords dimension values) values ≡ true
+drilled_stands [] dimension [] stand = refl
+drilled_stands [] dimension (v ∷ values) stand = cc
+drilled_stands (c ∷ coords) dimension [] stand = cc
+drilled_stands (c ∷ coords) zero (v ∷ values) stand =
+    and_from (stands_for (coord_of v true) v) (all_stand_for coords values) (stands_itself v) (and_parts (stands_for c v) (all_stand_for coords values) stand).1
+drilled_stands (c ∷ coords) (suc dimension) (v ∷ values) stand =
+    let parts = and_parts (stands_for c v) (all_stand_for coords values) stand in
+    and_from (stands_for c v) (all_stand_for (drilled coords dimension values) values) parts.0 (drilled_stands coords dimension values parts.1)
+
+-- and with ALL in it
+rolled_stands : (coords : List Coord) (dimension : ℕ) (values : List (Option (List ℕ))) →
+    all_stand_for coords values ≡ true → all_stand_for (set coords dimension coord.All) values ≡ true
+rolled_stands [] dimension values stand = stand
+rolled_stands (c ∷ coords) dimension [] stand = cc
+rolled_stands (c ∷ coords) zero (v ∷ values) stand = (and_parts (stands_for c v) (all_stand_for coords values) stand).1
+rolled_stands (c ∷ coords) (suc dimension) (v ∷ values) stand =
+    let parts = and_parts (stands_for c v) (all_stand_for coords values) stand in
+    and_from (stands_for c v) (all_stand_for (set coords dimension coord.All) values) parts.0 (rolled_stands coords dimension values parts.1)
+
+-- the coordinate that is ALL, set to ALL
+abbrev all_at : List Coord → ℕ → Bool
+all_at coords dimension = option_map_or is_all_coord (slice_get coords dimension) false
+
+-- what was ALL and got a value is what it was when it is ALL again
+rolled_back : (coords : List Coord) (dimension : ℕ) (c : Coord) → all_at coords dimension ≡ true →
+    set (set coords dimension c) dimension coord.All ≡ coords
+rolled_back [] dimension c all = refl
+rolled_back (coord.All ∷ coords) zero c all = refl
+rolled_back (coord.Null ∷ coords) zero c all = cc
+rolled_back (coord.Text name ∷ coords) zero c all = cc
+rolled_back (d ∷ coords) (suc dimension) c all = ap (λ ds. d ∷ ds) (rolled_back coords dimension c all)
+
+-- a coordinate that got a value is not ALL
+drilled_not_all : (coords : List Coord) (dimension : ℕ) (value : Option (List ℕ)) →
+    all_at (set coords dimension (coord_of value true)) dimension ≡ false
+drilled_not_all [] dimension value = refl
+drilled_not_all (c ∷ coords) zero value = not_all value
+drilled_not_all (c ∷ coords) (suc dimension) value = drilled_not_all coords dimension value
+
+-- coordinates that stand for values and are not ALL in a dimension have the value itself there
+drilled_back : (coords : List Coord) (dimension : ℕ) (values : List (Option (List ℕ))) →
+    all_stand_for coords values ≡ true → all_at coords dimension ≡ false →
+    drilled (set coords dimension coord.All) dimension values ≡ coords
+drilled_back [] dimension values stand other = refl
+drilled_back (c ∷ coords) dimension [] stand other = cc
+drilled_back (c ∷ coords) zero (v ∷ values) stand other =
+    ap (λ d. d ∷ coords) (sym (coord_of_is c v true (and_parts (stands_for c v) (all_stand_for coords values) stand).0 other))
+drilled_back (c ∷ coords) (suc dimension) (v ∷ values) stand other =
+    ap (λ ds. c ∷ ds) (drilled_back coords dimension values (and_parts (stands_for c v) (all_stand_for coords values) stand).1 other)
+
+is_equal : (o : Ordering) → eq_by_cmp (λ (x y : ℕ). o) 0 0 ≡ true → o ≡ Equal
+is_equal Less h = cc
+is_equal Equal h = refl
+is_equal Greater h = cc
+
+-- the parts of a drill-down
+rolled_to : (dimension : ℕ) (above key : Key) → drills_down dimension above key ≡ true →
+    (is_all_at key dimension ≡ false) × (rolled_up dimension key ≡ above)
+rolled_to dimension above key h =
+    let parts = and_parts (not (is_all_at key dimension)) (eq_by_cmp key_cmp (rolled_up dimension key) above) h in (
+      not-true (is_all_at key dimension) parts.0,
+      exact_keys (rolled_up dimension key) above (is_equal (key_cmp (rolled_up dimension key) above) parts.1),
+    )
+
+-- a key equals itself
+equals_itself : (key : Key) → eq_by_cmp key_cmp key key ≡ true
+equals_itself key = ap (λ o. eq_by_cmp (λ (x y : ℕ). o) 0 0) (tied_itself key_cmp_total key)
+
+module _ (s : Layout) (facts : List Fact) (rows : List Row) (are : AreRows s facts rows) (above : Key) (dimension : ℕ)
+    (all : is_all_at above dimension ≡ true) where
+  -- the key that drills down to a fact
+  abbrev drilled_key : Fact → Key
+  drilled_key fact = record { coords = drilled above.coords dimension fact.dims }
+
+  -- it does drill down
+  drilled_key_drills : (fact : Fact) → drills_down dimension above (drilled_key fact) ≡ true
+  drilled_key_drills fact =
+      let back : rolled_up dimension (drilled_key fact) ≡ above
+      = same_key (rolled_up dimension (drilled_key fact)) above
+      (rolled_back above.coords dimension (coord_of (get_or fact.dims dimension None) true) all) in
+      and_from (not (is_all_at (drilled_key fact) dimension)) (eq_by_cmp key_cmp (rolled_up dimension (drilled_key fact)) above)
+      (ap not (drilled_not_all above.coords dimension (get_or fact.dims dimension None)))
+      (subst (λ key. eq_by_cmp key_cmp key above ≡ true) (sym back) (equals_itself above))
+
+  -- the keys of the rows below
+  abbrev keys_below : List Key
+  keys_below = filter (drills_down dimension above) (map key_of rows)
+
+  -- one key below covers a fact that the key above does
+  one_below : (fact : Fact) → Contains facts fact → length fact.dims ≡ length s.dimensions →
+      covers above fact ≡ true → count_by (λ key. covers key fact) keys_below ≡ 1
+  one_below fact among dims covered =
+      let one = drilled_key fact in
+      let drilled_covers : covers one fact ≡ true = drilled_stands above.coords dimension fact.dims covered in
+      let is_set : mask_of one < 2 ^ length s.dimensions
+      = subst (λ n. mask_of one < 2 ^ n) (length_standing one.coords fact.dims drilled_covers ∙ dims) (mask_below one.coords) in
+      let is_cell : Contains (map key_of rows) one = key_is_cell s facts rows are one fact among drilled_covers is_set in
+      count_of_one key_cmp_total (λ key. covers key fact) one keys_below
+      (IsStrictlySortedBy-filter key_cmp (drills_down dimension above) (map key_of rows) are.ordered)
+      (filter-Contains (drills_down dimension above) (map key_of rows) one is_cell (drilled_key_drills fact))
+      drilled_covers
+      (λ key key_among key_covers.
+      let rolled = rolled_to dimension above key (Contains-filter (drills_down dimension above) (map key_of rows) key key_among).1 in
+      same_key key one
+      (sym (drilled_back key.coords dimension fact.dims key_covers rolled.0)
+      ∙ ap (λ (key : Key). drilled key.coords dimension fact.dims) rolled.1))
+
+  -- no key below covers another fact
+  none_below : (fact : Fact) → covers above fact ≡ false → count_by (λ key. covers key fact) keys_below ≡ 0
+  none_below fact other = count_by-none (λ key. covers key fact) keys_below (λ key key_among.
+      false_from_ne_true (covers key fact) (λ key_covers.
+      let rolled = rolled_to dimension above key (Contains-filter (drills_down dimension above) (map key_of rows) key key_among).1 in
+      let covered : covers above fact ≡ true = subst (λ (key : Key). covers key fact ≡ true) rolled.1 (rolled_stands key.coords dimension fact.dims key_covers) in
+      absurd (let both : true ≡ false = sym covered ∙ other in cc)))
+
+  -- the groups of the rows below, joined, are the group above up to order
+  pub below_join : HaveDimensions (length s.dimensions) facts →
+      Reordered (joined_groups (map key_of (rows_below dimension above rows)) facts) (group_of above facts)
+  below_join dims =
+      subst (λ keys. Reordered (joined_groups keys facts) (group_of above facts)) (sym (map-filter key_of (drills_down dimension above) rows))
+      (groups_join keys_below (covers above) facts (Contains-AllByRecursion (SharedOut keys_below (covers above)) facts (λ fact among. record {
+        one = one_below fact among (dimensions_of (length s.dimensions) facts fact dims among);
+        no_other = none_below fact;
+      })))

@@ -1,0 +1,99 @@
+-- Filters of lists, of grouping sets and of the rows of a cube.
+use Rattle.std.specs.Prelude.{◌≡◌, ◌==◌, ◌≤◌, ◌%◌, ℕ, Bool, true, List, [], ◌∷◌, map, filter}
+use Rattle.std.proofs.Common.{refl, sym, ap, ◌∙◌, inl, inr}
+use Rattle.std.proofs.lemmas.List.Elements.{All-from_recursion, recursion_from_All, All-filter}
+use Rattle.std.proofs.Math.Nat.{mod-lt}
+use Rattle.std.proofs.lemmas.List.Kept.{IsStrictlySortedBy-filter}
+use Rattle.std.proofs.lemmas.Bool.{cases_Bool, or_cases, or_left, or_right, and_parts, and_from, eqb-true, eq-eqb}
+use Rattle.cube_core.specs.Cube.{is_cell, key_of, HasAnswers, AreRowsOver}
+use Rattle.cube_core.specs.Order.{key_cmp}
+use Rattle.cube_core.specs.GroupingSet.{mask_of, all_sets, is_among, sets_of_part}
+use Rattle.cube_laws.specs.Sets.{AreGroupingSets, rows_in, IsTrueOfOne}
+use Rattle.cube_core.specs.declared.aggregate.Agg.{Agg}
+use Rattle.cube_core.specs.declared.fact.Fact.{Fact}
+use Rattle.cube_core.specs.declared.key.Key.{Key}
+use Rattle.cube_core.specs.declared.key.Row.{Row}
+use Rattle.cube_core.proofs.ListLaws.{Contains-filter, filter-Contains, map-filter}
+
+-- a set that is among sets of so many dimensions is one of them all
+pub among_all_sets : (dimensions : ℕ) (sets : List ℕ) (set : ℕ) → AreGroupingSets dimensions sets → is_among set sets ≡ true
+    → is_among set (all_sets dimensions) ≡ true
+among_all_sets dimensions [] set are among = cc among
+among_all_sets dimensions (first ∷ sets) set are among = elim (or_cases (first == set) (is_among set sets) among) [
+  | inl same ↦ ap (λ (n : ℕ). is_among n (all_sets dimensions)) (sym (eqb-true first set same)) ∙ are.0
+  | inr later ↦ among_all_sets dimensions sets set are.1 later
+]
+
+-- the rows of a cube in some of its grouping sets are those of the cube over these
+pub rows_in_sets : (dimensions : ℕ) (aggregates : List Agg) (facts : List Fact) (rows : List Row) (sets : List ℕ)
+    → AreGroupingSets dimensions sets
+    → AreRowsOver (all_sets dimensions) dimensions aggregates facts rows
+    → AreRowsOver sets dimensions aggregates facts (rows_in sets rows)
+rows_in_sets dimensions aggregates facts rows sets are whole =
+    let in_sets : Key → Bool = λ key. is_among (mask_of key) sets in
+    let keys : map key_of (rows_in sets rows) ≡ filter in_sets (map key_of rows) = map-filter key_of in_sets rows in
+    record {
+      cells = λ key. (
+        (λ here.
+            let kept = Contains-filter in_sets (map key_of rows) key (rw keys at here) in
+            let cell = and_parts _ _ ((whole.cells key).0 kept.0) in
+            and_from (in_sets key) _ kept.1 cell.1),
+        (λ cell.
+            let parts = and_parts _ _ cell in
+            let among = among_all_sets dimensions sets (mask_of key) are parts.0 in
+            rw keys (filter-Contains in_sets (map key_of rows) key ((whole.cells key).1 (and_from _ _ among parts.1)) parts.0)),
+      );
+      ordered = rw keys (IsStrictlySortedBy-filter key_cmp in_sets (map key_of rows) whole.ordered);
+      answers = recursion_from_All _ _ (All-filter (λ (row : Row). in_sets row.key) (HasAnswers aggregates facts) rows (All-from_recursion (HasAnswers aggregates facts) rows whole.answers));
+    }
+
+-- a set that passes is among those that a filter keeps
+among_kept : (p : ℕ → Bool) (sets : List ℕ) (set : ℕ) → is_among set sets ≡ true → p set ≡ true → is_among set (filter p sets) ≡ true
+among_kept p [] set among passes = among
+among_kept p (first ∷ sets) set among passes = elim (or_cases (first == set) (is_among set sets) among) [
+  | inl same ↦ let first_passes = ap p (eqb-true first set same) ∙ passes in rw first_passes (or_left (first == set) _ same)
+  | inr later ↦ elim (cases_Bool (p first)) [
+    | inl kept ↦ rw kept (or_right (first == set) _ (among_kept p sets set later passes))
+    | inr left ↦ rw left (among_kept p sets set later passes)
+  ]
+]
+
+-- a set among those that a filter keeps passes, and was among them
+among_passed : (p : ℕ → Bool) (sets : List ℕ) (set : ℕ) → is_among set (filter p sets) ≡ true → (is_among set sets ≡ true) × (p set ≡ true)
+among_passed p [] set among = cc among
+among_passed p (first ∷ sets) set among = elim (cases_Bool (p first)) [
+  | inl kept ↦ elim (or_cases (first == set) (is_among set (filter p sets)) (rw kept at among)) [
+    | inl same ↦ (or_left (first == set) _ same, ap p (sym (eqb-true first set same)) ∙ kept)
+    | inr later ↦ let rest = among_passed p sets set later in (or_right (first == set) _ rest.0, rest.1)
+  ]
+  | inr left ↦ let rest = among_passed p sets set (rw left at among) in (or_right (first == set) _ rest.0, rest.1)
+]
+
+-- a part has no set that isn't in the list
+pub part_among : (parts j : ℕ) (sets : List ℕ) (set : ℕ) → is_among set (sets_of_part j parts sets) ≡ true → is_among set sets ≡ true
+part_among parts j sets set among = (among_passed (λ other. other % parts == j) sets set among).0
+
+-- a set that is in part k of so many leaves k
+part_of_set : (parts : ℕ) (sets : List ℕ) (set k : ℕ) → is_among set (sets_of_part k parts sets) ≡ true → k ≡ set % parts
+part_of_set parts sets set k among = sym (eqb-true (set % parts) k (among_passed (λ other. other % parts == k) sets set among).1)
+
+-- a set is in the part that it leaves
+in_own_part : (parts : ℕ) (sets : List ℕ) (set : ℕ) → is_among set sets ≡ true → is_among set (sets_of_part (set % parts) parts sets) ≡ true
+in_own_part parts sets set among = among_kept (λ other. other % parts == set % parts) sets set among (eq-eqb (set % parts) (set % parts) refl)
+
+-- each set is in one part
+pub set_in_one_part : (parts : ℕ) (sets : List ℕ) (set : ℕ) → 1 ≤ parts → is_among set sets ≡ true
+    → IsTrueOfOne parts (λ j. is_among set (sets_of_part j parts sets))
+set_in_one_part parts sets set some among =
+    (set % parts, mod-lt set some, in_own_part parts sets set among, λ k here. part_of_set parts sets set k here)
+
+-- each cell is in one part
+pub cell_in_one_part : (parts dimensions : ℕ) (sets : List ℕ) (facts : List Fact) (key : Key) → 1 ≤ parts → is_cell sets dimensions facts key ≡ true
+    → IsTrueOfOne parts (λ j. is_cell (sets_of_part j parts sets) dimensions facts key)
+cell_in_one_part parts dimensions sets facts key some cell =
+    let halves = and_parts _ _ cell in (
+      mask_of key % parts,
+      mod-lt (mask_of key) some,
+      and_from _ _ (in_own_part parts sets (mask_of key) halves.0) halves.1,
+      λ k here. part_of_set parts sets (mask_of key) k (and_parts _ _ here).0,
+    )

@@ -1,0 +1,6 @@
+pub mod Life
+pub mod Sets
+pub mod Keys
+pub mod Cells
+pub mod Rollup
+pub mod Written

@@ -1,0 +1,15 @@
+//! Laws of the definitions: what anyone in the field knows to be true of them, proved of the definitions alone.
+//!
+//! Each law is the contract of a function that does nothing. The program doesn't stand on this crate.
+#![tactic(auto)]
+
+pub mod counts;
+pub mod fraction;
+pub mod keys;
+pub mod life;
+pub mod rollup;
+pub mod rows;
+pub mod schema;
+pub mod sets;
+pub mod survivors;
+pub mod text_back;
