@@ -36,7 +36,7 @@ later_at t text texts place stands =
     rw next (record { below = omega (arith, stands.below); is_text = stands.is_text })
 
 -- where a text stands: at its first place, or nowhere
-first_place : (text : List ℕ) (texts : List (List ℕ)) → StandsAt text texts (position_or_len (bytes_eq text) texts) ⊎ ((is_listed text texts ≡ false) × (length texts ≤ position_or_len (bytes_eq text) texts))
+pub first_place : (text : List ℕ) (texts : List (List ℕ)) → StandsAt text texts (position_or_len (bytes_eq text) texts) ⊎ ((is_listed text texts ≡ false) × (length texts ≤ position_or_len (bytes_eq text) texts))
 first_place text [] = inr (refl, omega arith)
 first_place text (t ∷ texts) = elim (cases_Bool (bytes_eq text t)) [
   | inl same ↦ inl (rw same (record { below = omega arith; is_text = sym ((bytes_eq-Decides text t).0 same) }))

@@ -6,3 +6,5 @@ pub mod FactLaws
 pub mod DictionaryLaws
 pub mod CodeLaws
 pub mod WalkLaws
+pub mod KeyLaws
+pub mod GrowthLaws

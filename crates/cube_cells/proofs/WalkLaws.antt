@@ -1,22 +1,23 @@
 -- Laws of cells kept by codes: what one cell's change says of each look-up and of each weight, and what many changes say.
-use Rattle.std.proofs.Common.{◌≡◌, ℕ, zero, suc, ◌+◌, ◌*◌, ◌<◌, ◌≤◌, ◌==◌, List, [], ◌∷◌, ◌++◌, Bool, true, false, not, cond, ◌&&◌, ◌||◌, refl, sym, ap, ◌∙◌, subst, arith, inl, inr, length, map, take, get_or, Option, Some, None, ◌⊎◌, nat_lt, IsTrue, if◌then◌else◌}
-use Rattle.std.specs.Prelude.{ℤ, sum_by, IsSome, IfSome}
+use Rattle.std.proofs.Common.{◌≡◌, ℕ, zero, suc, ◌+◌, ◌*◌, ◌<◌, ◌≤◌, ◌==◌, List, [], ◌∷◌, ◌++◌, Bool, true, false, not, cond, ◌&&◌, ◌||◌, refl, sym, ap, ◌∙◌, subst, arith, inl, inr, length, map, take, get_or, replicate, Option, Some, None, ◌⊎◌, nat_lt, IsTrue, if◌then◌else◌}
+use Rattle.std.specs.Prelude.{ℤ, sum_by, All, IsSome, IfSome, Result, Ok, Err, OnOk}
 use Rattle.std.specs.Cmp.{IsEquivalence}
 use Rattle.std.specs.List.{list_any, list_all, IsDistinct, AllByRecursion}
 use Rattle.std.specs.List.Sorted.{IsPermutation}
 use Rattle.std.specs.Map.{lookup, set_value, remove_entry, keys_of}
-use Rattle.std.proofs.lemmas.Bool.{cases_Bool, or_cases, or_right, or_left, or_from, or_parts, and_parts, both_ways, false_from_ne_true, cond-true, cond-false, lt-ltb, le-ltb}
+use Rattle.std.proofs.lemmas.Bool.{cases_Bool, or_cases, or_right, or_left, or_from, cases_lt, or_parts, and_parts, both_ways, false_from_ne_true, cond-true, cond-false, lt-ltb, le-ltb}
 use Rattle.std.proofs.lemmas.Cmp.{nat_list_eq_equiv}
-use Rattle.std.proofs.lemmas.List.Elements.{All-from_recursion, All-get_or}
-use Rattle.std.proofs.lemmas.List.Folds.{list_any-append}
+use Rattle.std.proofs.lemmas.List.Elements.{All-from_recursion, All-get_or, All-take, recursion_from_All}
+use Rattle.std.proofs.lemmas.List.Folds.{list_any-append, list_any_none}
 use Rattle.std.proofs.lemmas.List.Sorted.{sum_by-IsPermutation}
 use Rattle.std.proofs.lemmas.List.Sums.{sum_by-cons, sum_by-append}
 use Rattle.std.proofs.lemmas.Map.{lookup-set_value}
 use Rattle.std.proofs.lemmas.Slice.Eq.{bytes_eq-Decides}
-use Rattle.cube_cells.specs.Codes.{kept_codes}
+use Rattle.std.proofs.lemmas.List.{get_or-replicate, get_or_past, length-replicate, append_assoc, append-nil, map-append, map_more, length-map, take-map, get_or-map}
+use Rattle.cube_cells.specs.Bag.{Bag, held_of}
 use Rattle.cube_cells.specs.Coded.{CodedCells, same_codes, coded_at, is_total_code}
 use Rattle.cube_cells.specs.Cube.{AddsAt, TakesAt, SameCell, cell_holds, tally_or_empty, empty_tally}
-use Rattle.cube_cells.specs.Tally.{Tally, PlusFact, SameTally, holds_fact}
+use Rattle.cube_cells.specs.Tally.{Tally, IsTallyOf, PlusFact, SameTally, bag_at, holds_fact}
 use Rattle.cube_cells.specs.Walk.{key_in, codes_in, is_in, weight_of_cells, HasRoom, AddsIn, TakesIn, SameCoded, LosesFact}
 use Rattle.cube_cells.specs.declared.cube.codes.Codes.{Codes}
 use Rattle.cube_cells.proofs.ValueLaws.{added_and_taken}
@@ -255,3 +256,146 @@ apart_before (k ∷ keys) (suc i) d distinct inside =
     let below : i < length keys = omega (arith, inside) in
     let first : same_codes k (get_or keys i d) ≡ false = All-get_or (λ y. same_codes k y ≡ false) keys i d below (All-from_recursion (λ y. same_codes k y ≡ false) keys distinct.0) in
     or_from (same_codes (get_or keys i d) k) (is_in (take i keys) (get_or keys i d)) (codes_equiv.symm (get_or keys i d) k ∙ first) (apart_before keys i d distinct.1 below)
+
+-- what follows from two facts of a success
+pub on_ok_both : {T E P Q R : Type 0} (r : Result T E) → (P → Q → R) → OnOk r P → OnOk r Q → OnOk r R
+on_ok_both (Ok x) both p q = both p q
+on_ok_both (Err e) both p q = tt
+
+-- an empty bag, however it is reached
+no_bag : (n m : ℕ) → bag_at (replicate n []) m ≡ []
+no_bag n m = elim (cases_lt m n) [
+  | inl inside ↦ get_or-replicate n m [] [] inside
+  | inr past ↦ get_or_past (replicate n []) m [] (omega (arith, length-replicate {A = Bag} n [], past))
+]
+
+-- a tally of no fact holds nothing
+nothing_held : (t : Tally) (m : ℕ) (x : ℤ) → IsTallyOf [] t → held_of (bag_at t.bags m) x ≡ 0
+nothing_held t m x is = elim (cases_lt m (length t.bags)) [
+  | inl inside ↦ (is.bags m inside).held x
+  | inr past ↦ ap (λ (bag : Bag). held_of bag x) (get_or_past t.bags m [] past)
+]
+
+-- what is a fact more than a new cell is one more than the empty tally
+pub empty_plus : (values : List (Option ℤ)) (n : ℕ) (cell t : Tally) → IsTallyOf [] cell → length cell.bags ≡ n → PlusFact values cell t → PlusFact values (empty_tally n) t
+empty_plus values n cell t is width plus = record {
+  facts = omega (arith, plus.facts, is.count);
+  bags = record {
+    same_length = omega (arith, plus.bags.same_length, width, length-replicate {A = Bag} n []);
+    each = λ m. record { held = λ x. omega (arith, (plus.bags.each m).held x, nothing_held cell m x is, ap (λ (bag : Bag). held_of bag x) (no_bag n m)) };
+  };
+}
+
+-- what is between others is among them
+pub in_middle : (as' bs : List Codes) (k : Codes) → is_in (as' ++ k ∷ bs) k ≡ true
+in_middle as' bs k = list_any-append (same_codes k) as' (k ∷ bs) ∙ or_right (is_in as' k) (is_in (k ∷ bs) k) (or_left (same_codes k k) (is_in bs k) (codes_equiv.refl k))
+
+-- where all differ it isn't among those after it
+pub apart_after : (as' bs : List Codes) (k : Codes) → IsDistinct same_codes (as' ++ k ∷ bs) → is_in bs k ≡ false
+unfolding IsDistinct
+apart_after [] bs k distinct = list_any_none (same_codes k) bs (All-from_recursion (λ y. same_codes k y ≡ false) bs distinct.0)
+apart_after (a ∷ as') bs k distinct = apart_after as' bs k distinct.1
+
+-- the last of these sets were taken back
+pub record TakenBack (sets left : List ℕ) (codes : Codes) (values : List (Option ℤ)) (old new : CodedCells) : Type 0 where
+  pub done : List ℕ
+  pub split : sets ≡ left ++ done
+  pub taken : TakesIn (codes_in done codes) values old new
+
+pub taken_none : (sets : List ℕ) (codes : Codes) (values : List (Option ℤ)) (cells : CodedCells) → TakenBack sets sets codes values cells cells
+taken_none sets codes values cells = record { done = []; split = sym (append-nil sets); taken = takes_none values cells }
+
+-- the keys of sets that are split before one of them
+split_keys : (sets left others done : List ℕ) (set : ℕ) (codes : Codes) → sets ≡ left ++ done → left ≡ others ++ set ∷ [] → codes_in sets codes ≡ codes_in others codes ++ key_in codes set ∷ codes_in done codes
+split_keys sets left others done set codes split last =
+    ap (λ (xs : List ℕ). codes_in xs codes) (split ∙ ap (λ (xs : List ℕ). xs ++ done) last ∙ append_assoc others (set ∷ []) done) ∙ map-append (key_in codes) others (set ∷ done)
+
+-- the next of them is apart from those taken back, and is one of all
+pub back_apart : (sets left others : List ℕ) (set : ℕ) (codes : Codes) (values : List (Option ℤ)) (old new : CodedCells) → IsDistinct same_codes (codes_in sets codes) → left ≡ others ++ set ∷ [] → (back : TakenBack sets left codes values old new) → (is_in (codes_in back.done codes) (key_in codes set) ≡ false) × (is_in (codes_in sets codes) (key_in codes set) ≡ true)
+back_apart sets left others set codes values old new distinct last back =
+    let keys = split_keys sets left others back.done set codes back.split last in
+    (
+      apart_after (codes_in others codes) (codes_in back.done codes) (key_in codes set) (subst (IsDistinct same_codes) keys distinct),
+      ap (λ (ks : List Codes). is_in ks (key_in codes set)) keys ∙ in_middle (codes_in others codes) (codes_in back.done codes) (key_in codes set),
+    )
+
+-- its cell is as it was
+pub back_held : (sets left others : List ℕ) (set : ℕ) (codes : Codes) (values : List (Option ℤ)) (old new : CodedCells) → IsDistinct same_codes (codes_in sets codes) → ((key : Codes) → is_in (codes_in sets codes) key ≡ true → cell_holds values (coded_at old key) ≡ true) → left ≡ others ++ set ∷ [] → TakenBack sets left codes values old new → cell_holds values (coded_at new (key_in codes set)) ≡ true
+back_held sets left others set codes values old new distinct held last back =
+    let at = back_apart sets left others set codes values old new distinct last back in
+    rw (back.taken.others (key_in codes set) at.0) (held (key_in codes set) at.1)
+
+pub back_more : (sets left others : List ℕ) (set : ℕ) (codes : Codes) (values : List (Option ℤ)) (old mid new : CodedCells) → IsDistinct same_codes (codes_in sets codes) → left ≡ others ++ set ∷ [] → TakenBack sets left codes values old mid → TakesIn (key_in codes set ∷ []) values mid new → TakenBack sets others codes values old new
+back_more sets left others set codes values old mid new distinct last back takes = record {
+  done = set ∷ back.done;
+  split = back.split ∙ ap (λ (xs : List ℕ). xs ++ back.done) last ∙ append_assoc others (set ∷ []) back.done;
+  taken = takes_next (codes_in back.done codes) (key_in codes set) values old mid new (back_apart sets left others set codes values old mid distinct last back).0 back.taken takes;
+}
+
+pub back_end : (sets left : List ℕ) (codes : Codes) (values : List (Option ℤ)) (old new : CodedCells) → length left ≡ 0 → TakenBack sets left codes values old new → TakesIn (codes_in sets codes) values old new
+back_end sets [] codes values old new none back = let P : List ℕ → Type 0 = λ xs. TakesIn (codes_in xs codes) values old new in subst P (sym back.split) back.taken
+back_end sets (set ∷ left) codes values old new none back = absurd (omega (arith, none))
+
+-- ---- sets below a place
+-- the key at a place is apart from those before it, and is one of all
+pub at_apart : (sets : List ℕ) (i : ℕ) (codes : Codes) → IsDistinct same_codes (codes_in sets codes) → i < length sets → is_in (codes_in (take i sets) codes) (key_in codes (get_or sets i 0)) ≡ false
+at_apart sets i codes distinct inside =
+    let below : i < length (codes_in sets codes) = omega (arith, length-map sets (key_in codes), inside) in
+    let first = apart_before (codes_in sets codes) i (key_in codes (get_or sets i 0)) distinct below in
+    let place = get_or-map (key_in codes) sets i 0 (key_in codes (get_or sets i 0)) inside in
+    rw (take-map (key_in codes) i sets, place) at first
+
+pub at_inside : (sets : List ℕ) (i : ℕ) (codes : Codes) → i < length sets → is_in (codes_in sets codes) (key_in codes (get_or sets i 0)) ≡ true
+at_inside [] i codes inside = absurd (omega arith)
+at_inside (set ∷ sets) zero codes inside = or_left (same_codes (key_in codes set) (key_in codes set)) (is_in (codes_in sets codes) (key_in codes set)) (codes_equiv.refl (key_in codes set))
+at_inside (set ∷ sets) (suc i) codes inside = or_right (same_codes (key_in codes (get_or sets i 0)) (key_in codes set)) (is_in (codes_in sets codes) (key_in codes (get_or sets i 0))) (at_inside sets i codes (omega (arith, inside)))
+
+-- what is among those before a place is among all
+pub in_front : (sets : List ℕ) (i : ℕ) (codes q : Codes) → is_in (codes_in (take i sets) codes) q ≡ true → is_in (codes_in sets codes) q ≡ true
+in_front [] zero codes q inside = inside
+in_front [] (suc i) codes q inside = inside
+in_front (set ∷ sets) zero codes q inside = cc inside
+in_front (set ∷ sets) (suc i) codes q inside = elim (or_cases (same_codes q (key_in codes set)) (is_in (codes_in (take i sets) codes) q) inside) [
+  | inl here ↦ or_left (same_codes q (key_in codes set)) (is_in (codes_in sets codes) q) here
+  | inr later ↦ or_right (same_codes q (key_in codes set)) (is_in (codes_in sets codes) q) (in_front sets i codes q later)
+]
+
+-- those before a place differ
+pub front_distinct : (sets : List ℕ) (i : ℕ) (codes : Codes) → IsDistinct same_codes (codes_in sets codes) → IsDistinct same_codes (codes_in (take i sets) codes)
+unfolding IsDistinct
+front_distinct [] zero codes distinct = distinct
+front_distinct [] (suc i) codes distinct = distinct
+front_distinct (set ∷ sets) zero codes distinct = tt
+front_distinct (set ∷ sets) (suc i) codes distinct = (
+  recursion_from_All (λ y. same_codes (key_in codes set) y ≡ false) (codes_in (take i sets) codes) (subst (λ (ks : List Codes). All (λ y. same_codes (key_in codes set) y ≡ false) ks) (take-map (key_in codes) i sets) (All-take (λ y. same_codes (key_in codes set) y ≡ false) i (codes_in sets codes) (All-from_recursion (λ y. same_codes (key_in codes set) y ≡ false) (codes_in sets codes) distinct.0))),
+  front_distinct sets i codes distinct.1,
+)
+
+-- the keys up to a place and at it
+pub at_keys : (sets : List ℕ) (i : ℕ) (codes : Codes) → i < length sets → codes_in (take (i + 1) sets) codes ≡ codes_in (take i sets) codes ++ key_in codes (get_or sets i 0) ∷ []
+at_keys sets i codes inside = map_more (key_in codes) sets i 0 inside
+
+-- a cell that wasn't reached has room as before
+pub room_at : (sets : List ℕ) (i : ℕ) (codes : Codes) (values : List (Option ℤ)) (old new : CodedCells) → IsDistinct same_codes (codes_in sets codes) → i < length sets → ((key : Codes) → is_in (codes_in sets codes) key ≡ true → HasRoom values key (coded_at old key)) → AddsIn (codes_in (take i sets) codes) values old new → HasRoom values (key_in codes (get_or sets i 0)) (coded_at new (key_in codes (get_or sets i 0)))
+room_at sets i codes values old new distinct inside room adds =
+    let key = key_in codes (get_or sets i 0) in
+    rw (adds.others key (at_apart sets i codes distinct inside)) (room key (at_inside sets i codes inside))
+
+-- what was added before a refusal is held
+pub held_before : (sets : List ℕ) (i : ℕ) (codes : Codes) (values : List (Option ℤ)) (old mid new : CodedCells) → IsDistinct same_codes (codes_in sets codes) → i < length sets → AddsIn (codes_in (take i sets) codes) values old mid → SameCoded (key_in codes (get_or sets i 0) ∷ []) mid new → (key : Codes) → is_in (codes_in (take i sets) codes) key ≡ true → cell_holds values (coded_at new key) ≡ true
+held_before sets i codes values old mid new distinct inside adds refused key before =
+    rw (refused.others key (apart_from (codes_in (take i sets) codes) (key_in codes (get_or sets i 0)) key (at_apart sets i codes distinct inside) before)) (adds.held key before)
+
+-- a refusal that was undone
+pub undone_before : (sets : List ℕ) (i : ℕ) (codes : Codes) (values : List (Option ℤ)) (old mid then_ new : CodedCells) → IsDistinct same_codes (codes_in sets codes) → i < length sets → ((key : Codes) → is_in (codes_in sets codes) key ≡ true → HasRoom values key (coded_at old key)) → AddsIn (codes_in (take i sets) codes) values old mid → SameCoded (key_in codes (get_or sets i 0) ∷ []) mid then_ → TakesIn (codes_in (take i sets) codes) values then_ new → SameCoded (codes_in sets codes) old new
+undone_before sets i codes values old mid then_ new distinct inside room adds refused takes =
+    let keys = codes_in (take i sets) codes in
+    let key = key_in codes (get_or sets i 0) in
+    undone keys (codes_in sets codes) key values old mid then_ new
+    (λ q before. room q (in_front sets i codes q before))
+    (at_apart sets i codes distinct inside)
+    (λ q outside. (
+      false_from_ne_true (is_in keys q) (λ before. both_ways (is_in (codes_in sets codes) q) outside (in_front sets i codes q before)),
+      false_from_ne_true (is_in (key ∷ []) q) (λ here. both_ways (is_in (codes_in sets codes) q) outside (ap (is_in (codes_in sets codes)) (in_one key q here) ∙ at_inside sets i codes inside)),
+    ))
+    adds refused takes

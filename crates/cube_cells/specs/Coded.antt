@@ -1,5 +1,5 @@
 -- The cells as they are kept: by codes in place of keys (this project's choice).
-use Rattle.std.specs.Prelude.{◌≡◌, ◌<◌, ◌||◌, ◌==◌, ℕ, Bool, true, nat_lt, nat_eq, List, [], ◌∷◌, length, map, Option, IsTrue, All}
+use Rattle.std.specs.Prelude.{◌≡◌, ◌<◌, ◌||◌, ◌==◌, ℕ, Bool, true, nat_lt, nat_eq, List, [], ◌∷◌, length, map, replicate, Option, IsTrue, IsSome, All}
 use Rattle.std.specs.List.{IsDistinct, list_all}
 use Rattle.std.specs.Cmp.Lexicographic.{pointwise}
 use Rattle.std.specs.Map.{lookup, keys_of}
@@ -33,8 +33,13 @@ is_total_code codes = list_all (λ code. code == all_code) codes.codes
 -- what is true of a cell: its codes are of the dimensions, it has a bag for each measure, and a fact unless it is the grand total
 pub record IsCodedCell (dictionaries : Dictionaries) (measures : ℕ) (cell : Codes × Tally) : Type 0 where
   pub codes : are_codes dictionaries cell.0.codes ≡ true
+  pub eight : length cell.0.codes ≡ 8
   pub width : length cell.1.bags ≡ measures
   pub some : IsTrue (is_total_code cell.0 || nat_lt 0 cell.1.facts)
+
+-- the codes of the grand total
+abbrev pub total_codes : Codes
+total_codes = record { codes = replicate 8 all_code }
 
 -- the lattice of what is kept
 abbrev pub lattice_of : Layout → List ℕ → ℕ → Dictionaries → CodedCells → Lattice
@@ -52,4 +57,5 @@ pub record IsCoded (schema : Layout) (sets : List ℕ) (facts : ℕ) (dictionari
   pub texts : All IsDictionary dictionaries
   pub distinct : IsDistinct same_codes (keys_of cells)
   pub each : All (IsCodedCell dictionaries (length schema.measures)) cells
+  pub total : IsTrue (is_among 0 sets) → IsSome (coded_at cells total_codes)
   pub counts : (set : ℕ) → IsTrue (is_among set sets) → count_in set (decoded dictionaries cells) ≡ facts

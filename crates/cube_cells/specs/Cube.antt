@@ -1,5 +1,5 @@
 -- The cube that is kept up to date: its cells by key, and what adding and removing a fact does to them (Gray et al. 1997; grouping sets as in SQL:1999).
-use Rattle.std.specs.Prelude.{◌≡◌, ◌<◌, ◌==◌, ◌&&◌, ◌||◌, ◌+◌, ◌⊎◌, ℕ, ℤ, Bool, true, false, nat_lt, nat_eq, List, [], ◌∷◌, length, map, get_or, replicate, sum_by, Option, Some, None, is_some, if◌then◌else◌, IsTrue, IfSome, IsSome}
+use Rattle.std.specs.Prelude.{◌≡◌, ◌<◌, ◌==◌, ◌&&◌, ◌||◌, ◌+◌, ◌^◌, ◌⊎◌, ℕ, ℤ, Bool, true, false, nat_lt, nat_eq, List, [], ◌∷◌, length, map, get_or, replicate, sum_by, Option, Some, None, is_some, if◌then◌else◌, IsTrue, IfSome, IsSome, All}
 use Rattle.std.specs.List.{list_all}
 use Rattle.std.specs.List.Sorted.{IsStrictlySortedBy}
 use Rattle.std.specs.Map.{lookup}
@@ -9,7 +9,6 @@ use Rattle.cube_core.specs.Cube.{is_cell, is_total}
 use Rattle.cube_core.specs.Group.{group_of}
 use Rattle.cube_core.specs.GroupingSet.{mask_of, is_among}
 use Rattle.cube_core.specs.Layout.{Layout, IsSchema}
-use Rattle.cube_core.specs.LawsSets.{AreGroupingSets}
 use Rattle.cube_core.specs.Order.{key_cmp}
 use Rattle.cube_core.specs.Takes.{fits}
 use Rattle.cube_core.specs.declared.fact.Fact.{Fact}
@@ -44,7 +43,7 @@ is_kept_for sets fact key = covers key fact && is_among (mask_of key) sets
 -- what is true of every cube: a schema's, over some of its grouping sets in ascending order, with texts for each dimension
 pub record IsLattice (l : Lattice) : Type 0 where
   pub schema : IsSchema l.schema
-  pub sets : AreGroupingSets (length l.schema.dimensions) l.sets
+  pub sets : All (λ set. set < 2 ^ length l.schema.dimensions) l.sets
   pub ascending : IsStrictlySortedBy nat_cmp l.sets
   pub dictionaries : length l.dictionaries ≡ length l.schema.dimensions
 

@@ -230,6 +230,7 @@ fn add_codes(
     ensures codes { IfOk result (λ codes.
         AreCodesOf dictionaries.new (map coord_of_value fact.now.dims) codes.codes) }
     ensures valid { IfOk result (λ codes. are_codes dictionaries.new codes.codes ≡ true) }
+    ensures eight { IfOk result (λ codes. length codes.codes ≡ 8) }
     ensures texts { OnOk result (AddsTexts fact.now.dims dictionaries.old dictionaries.new) }
     ensures err { OnErr result (MayAddTexts fact.now.dims dictionaries.old dictionaries.new) }
     ensures dictionaries { All IsDictionary dictionaries.old → All IsDictionary dictionaries.new }
@@ -246,7 +247,8 @@ fn add_codes(
 fn codes_of_values(dictionaries: &[Dictionary], values: &[Option<Text>]) -> Codes
     requires places { length dictionaries.now ≤ 8 }
     requires width { length values.now ≡ length dictionaries.now }
-    ensures { AreCodesOf dictionaries.now (map coord_of_value values.now) result.codes }
+    ensures codes { AreCodesOf dictionaries.now (map coord_of_value values.now) result.codes }
+    ensures eight { length result.codes ≡ 8 }
 {
     let mut codes = [ALL; 8];
     for (place, value) in values.iter().enumerate() {
@@ -259,7 +261,8 @@ fn codes_of_values(dictionaries: &[Dictionary], values: &[Option<Text>]) -> Code
 fn codes_of_coords(dictionaries: &[Dictionary], coords: &[Coord]) -> Codes
     requires places { length dictionaries.now ≤ 8 }
     requires width { length coords.now ≡ length dictionaries.now }
-    ensures { AreCodesOf dictionaries.now coords.now result.codes }
+    ensures codes { AreCodesOf dictionaries.now coords.now result.codes }
+    ensures eight { length result.codes ≡ 8 }
 {
     let mut codes = [ALL; 8];
     for (place, coord) in coords.iter().enumerate() {

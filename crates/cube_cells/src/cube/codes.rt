@@ -1,6 +1,6 @@
 //! The codes of a key: what the cells of a cube are found by.
-ghost use Rattle.std.specs.Prelude.{◌≡◌, ◌+◌, ◌*◌, ◌++◌, ◌%◌, ◌==◌, slice_index_or, true, if◌then◌else◌};
-ghost use Rattle.cube_cells.specs.Coded.{is_total_code};
+ghost use Rattle.std.specs.Prelude.{◌≡◌, ◌+◌, ◌*◌, ◌++◌, ◌%◌, ◌==◌, slice_index_or, if◌then◌else◌};
+ghost use Rattle.cube_cells.specs.Coded.{is_total_code, total_codes};
 ghost use Rattle.std.specs.Hash as fed;
 ghost use Rattle.std.specs.Cmp.Rules.{comparing, hashing};
 ghost use Rattle.std.proofs.Common.{rules};
@@ -27,7 +27,7 @@ pub struct Codes {
 impl Codes {
     /// The key that is ALL in each dimension.
     pub fn total() -> Codes
-        ensures { is_total_code result ≡ true }
+        ensures { result ≡ total_codes }
     {
         Codes { codes: [ALL; 8] }
     }

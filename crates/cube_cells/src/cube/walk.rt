@@ -1,5 +1,5 @@
 //! The walk over the kept grouping sets: the one key in each that covers a fact.
-ghost use Rattle.std.specs.Prelude.{◌≡◌, ◌<◌, ◌+◌, ◌^◌, [], ◌∷◌, true, IsTrue, OnOk, OnErr, IfSome, length};
+ghost use Rattle.std.specs.Prelude.{◌≡◌, ◌<◌, ◌+◌, ◌^◌, [], ◌∷◌, true, IsTrue, OnOk, OnErr, IfSome, None, length};
 ghost use Rattle.std.specs.List.{list_all, IsDistinct};
 ghost use Rattle.std.specs.Option.{ForSome};
 ghost use Rattle.cube_cells.specs.Coded.{coded_at, same_codes};
@@ -96,6 +96,21 @@ fn add_to_cell(
     if let Some(cell) = cells.get_mut(&codes) {
         return cell.plus(values);
     }
+    put_cell(alloc, cells, codes, values)
+}
+
+// Puts a cell of one fact in.
+fn put_cell(
+    alloc: Global,
+    cells: &mut HashMap<Codes, Cell>,
+    codes: Codes,
+    values: &[Option<i64>],
+) -> Result<(), AllocError>
+    requires { coded_at cells.old.entries codes ≡ None }
+    ensures added { OnOk result (AddsIn (codes ∷ []) values.now cells.old.entries cells.new.entries) }
+    ensures err { OnErr result (cells.new.entries ≡ cells.old.entries) }
+    ensures apart { AreApart cells.old.entries → AreApart cells.new.entries }
+{
     let mut cell = Cell::new(alloc, values.len())?;
     cell.plus(values)?;
     cells.insert(codes, cell)?;

@@ -17,5 +17,5 @@ loop-place-preserved c =
       codes = codes_more c.args.dictionaries.now c.args.coords.now c.loop-place.codes i c.code_of_coord.result c.loop-place.invariant.codes (omega arith) c.requires.width (omega arith) of;
     }
 
-pub returns : goal.returns
-returns c = codes_end c.args.dictionaries.now c.args.coords.now c.loop-place.codes c.loop-place.place (omega arith) (omega arith) c.loop-place.invariant.codes
+pub returns-clause-codes : goal.returns-clause-codes
+returns-clause-codes c = codes_end c.args.dictionaries.now c.args.coords.now c.loop-place.codes c.loop-place.place (omega arith) (omega arith) c.loop-place.invariant.codes

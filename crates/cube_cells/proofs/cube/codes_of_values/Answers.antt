@@ -19,5 +19,5 @@ loop-place-preserved c =
       codes = codes_more c.args.dictionaries.now coords c.loop-place.codes i c.code_of_value.result c.loop-place.invariant.codes (omega arith) (length-map c.args.values.now coord_of_value ∙ c.requires.width) (omega arith) of;
     }
 
-pub returns : goal.returns
-returns c = codes_end c.args.dictionaries.now (map coord_of_value c.args.values.now) c.loop-place.codes c.loop-place.place (omega arith) (omega (arith, length-map c.args.values.now coord_of_value)) c.loop-place.invariant.codes
+pub returns-clause-codes : goal.returns-clause-codes
+returns-clause-codes c = codes_end c.args.dictionaries.now (map coord_of_value c.args.values.now) c.loop-place.codes c.loop-place.place (omega arith) (omega (arith, length-map c.args.values.now coord_of_value)) c.loop-place.invariant.codes
