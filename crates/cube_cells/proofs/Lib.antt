@@ -8,3 +8,5 @@ pub mod CodeLaws
 pub mod WalkLaws
 pub mod KeyLaws
 pub mod GrowthLaws
+pub mod RankLaws
+pub mod RowLaws

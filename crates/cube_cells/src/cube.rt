@@ -11,6 +11,8 @@ ghost use Rattle.cube_cells.specs.Cube.{Lattice, IsLattice, IsCubeOf, HoldsFact,
 
 mod codes;
 mod dictionary;
+mod ranks;
+mod rows;
 mod walk;
 
 use crate::cell::Cell;
