@@ -3,7 +3,7 @@ use Rattle.std.proofs.Common.{◌≡◌, ℕ, zero, suc, ◌+◌, ◌<◌, ◌�
 use Rattle.std.specs.List.{list_all}
 use Rattle.std.proofs.lemmas.Bool.{and_parts, and_from, cases_eq, cases_lt}
 use Rattle.std.proofs.Math.Logic.{⊎_elim}
-use Rattle.std.proofs.lemmas.List.{at_drop_more, at_drop_all, append-nil, take_more_set, drop-set-lt, take_all, take-set, length-set, get_or-set_same, get_or-set_other, get_or_past}
+use Rattle.std.proofs.lemmas.List.{at_drop_more, at_drop_all, append-nil, take_more_set, drop-set-lt, take_all, take-append-le, take-set, length-set, get_or-set_same, get_or-set_other, get_or_past}
 use Rattle.cube_core.specs.declared.key.Coord.{Coord}
 use Rattle.cube_core.specs.declared.key.Coord.TheVariants as coord
 use Rattle.cube_cells.specs.Codes.{Dictionaries, IsCodeOf, AreCodesOf, is_code, are_codes, kept_codes, all_code, texts_with}
@@ -89,3 +89,7 @@ kept_end codes i rest all over so_far =
     let none : kept_codes rest (drop i codes) ≡ [] = at_drop_all (λ cs. kept_codes rest cs) codes i over in
     let whole : take i codes ≡ codes = take_all i codes over in
     sym (append-nil codes) ∙ (rw (none, whole) at so_far)
+
+-- ---- dictionaries that are written back whole
+pub dictionaries_back : (items new : Dictionaries) (n : ℕ) → length items ≡ n → length new ≡ length items → take n (new ++ drop (length new) items) ≡ new
+dictionaries_back items new n is same = take-append-le n new (drop (length new) items) (omega arith) ∙ take_all n new (omega arith)

@@ -112,28 +112,32 @@ coord_at-place texts code small =
 
 -- ALL and null have their own codes
 pub code_of_all : (texts : List (List ℕ)) → IsDictionary texts → IsCodeOf texts coord.All all_code
-code_of_all texts is = record { alone = λ other valid. (
-  λ same. elim (code_cases texts other valid) [
-    | inl all ↦ all
-    | inr rest ↦ elim rest [
-      | inl null ↦ cc (ap (coord_at texts) (sym null) ∙ same)
-      | inr place ↦ cc (sym (coord_at-place texts other (omega (arith, place, is.few))) ∙ same)
-    ]
-  ],
-  λ all. ap (coord_at texts) all,
-) }
+code_of_all texts is = record {
+  alone = λ other valid. (
+    λ same. elim (code_cases texts other valid) [
+      | inl all ↦ all
+      | inr rest ↦ elim rest [
+        | inl null ↦ cc (ap (coord_at texts) (sym null) ∙ same)
+        | inr place ↦ cc (sym (coord_at-place texts other (omega (arith, place, is.few))) ∙ same)
+      ]
+    ],
+    λ all. ap (coord_at texts) all,
+  );
+}
 
 pub code_of_null : (texts : List (List ℕ)) → IsDictionary texts → IsCodeOf texts coord.Null null_code
-code_of_null texts is = record { alone = λ other valid. (
-  λ same. elim (code_cases texts other valid) [
-    | inl all ↦ cc (ap (coord_at texts) (sym all) ∙ same)
-    | inr rest ↦ elim rest [
-      | inl null ↦ null
-      | inr place ↦ cc (sym (coord_at-place texts other (omega (arith, place, is.few))) ∙ same)
-    ]
-  ],
-  λ null. ap (coord_at texts) null,
-) }
+code_of_null texts is = record {
+  alone = λ other valid. (
+    λ same. elim (code_cases texts other valid) [
+      | inl all ↦ cc (ap (coord_at texts) (sym all) ∙ same)
+      | inr rest ↦ elim rest [
+        | inl null ↦ null
+        | inr place ↦ cc (sym (coord_at-place texts other (omega (arith, place, is.few))) ∙ same)
+      ]
+    ],
+    λ null. ap (coord_at texts) null,
+  );
+}
 
 -- a code that stands for a text is a place of it
 place_of_text : (texts : List (List ℕ)) (text : List ℕ) (other : ℕ) → IsDictionary texts → is_code texts other ≡ true → coord_at texts other ≡ coord.Text text → StandsAt text texts other
@@ -147,23 +151,27 @@ place_of_text texts text other is valid same = elim (code_cases texts other vali
 
 -- the place of a text is its code
 pub code_of_place : (texts : List (List ℕ)) (text : List ℕ) (place : ℕ) → IsDictionary texts → StandsAt text texts place → IsCodeOf texts (coord.Text text) place
-code_of_place texts text place is stands = record { alone = λ other valid. (
-  λ same. one_place text texts other place is.distinct (place_of_text texts text other is valid same) stands,
-  λ same. ap (coord_at texts) same ∙ coord_at-place texts place (omega (arith, stands.below, is.few)) ∙ ap coord.Text stands.is_text,
-) }
+code_of_place texts text place is stands = record {
+  alone = λ other valid. (
+    λ same. one_place text texts other place is.distinct (place_of_text texts text other is valid same) stands,
+    λ same. ap (coord_at texts) same ∙ coord_at-place texts place (omega (arith, stands.below, is.few)) ∙ ap coord.Text stands.is_text,
+  );
+}
 
 -- a text that isn't listed has none
 pub code_of_none : (texts : List (List ℕ)) (text : List ℕ) → IsDictionary texts → is_listed text texts ≡ false → IsCodeOf texts (coord.Text text) no_code
-code_of_none texts text is unlisted = record { alone = λ other valid. (
-  λ same. absurd (both_ways (is_listed text texts) unlisted (listed_at text texts other (place_of_text texts text other is valid same))),
-  λ same. elim (code_cases texts other valid) [
-    | inl all ↦ absurd (omega (arith, all, same))
-    | inr rest ↦ elim rest [
-      | inl null ↦ absurd (omega (arith, null, same))
-      | inr place ↦ absurd (omega (arith, place, same, is.few))
-    ]
-  ],
-) }
+code_of_none texts text is unlisted = record {
+  alone = λ other valid. (
+    λ same. absurd (both_ways (is_listed text texts) unlisted (listed_at text texts other (place_of_text texts text other is valid same))),
+    λ same. elim (code_cases texts other valid) [
+      | inl all ↦ absurd (omega (arith, all, same))
+      | inr rest ↦ elim rest [
+        | inl null ↦ absurd (omega (arith, null, same))
+        | inr place ↦ absurd (omega (arith, place, same, is.few))
+      ]
+    ],
+  );
+}
 
 -- ---- a text more
 listed_push : (text new : List ℕ) (texts : List (List ℕ)) → is_listed text (texts ++ new ∷ []) ≡ (is_listed text texts || bytes_eq text new)

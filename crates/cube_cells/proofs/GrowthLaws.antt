@@ -75,8 +75,7 @@ code_grown t more u code is dictionary valid = elim (code_cases t code valid) [
     | inl null ↦ (rw null refl, rw null refl)
     | inr place ↦
         let longer : code < length u = omega (arith, ap length is, length-append t more, place) in
-        let small : code < null_code = omega (arith, longer, dictionary.few) in
-        (
+        let small : code < null_code = omega (arith, longer, dictionary.few) in (
           place_is_code u code longer,
           coord_at-place u code small ∙ ap (λ (ts : List (List ℕ)). coord.Text (get_or ts code [])) is ∙ ap coord.Text (get_or_append_left t more [] code place) ∙ sym (coord_at-place t code small),
         )
@@ -103,8 +102,7 @@ cells_grown old new measures (e ∷ cells) grown dictionaries all =
     let cell = All-head (IsCodedCell old measures) e cells all in
     let codes = codes_grown old new e.0.codes grown dictionaries cell.codes in
     let rest = cells_grown old new measures cells grown dictionaries (All-tail (IsCodedCell old measures) e cells all) in
-    let make : List Coord → Cells = λ coords. (record { coords = coords }, e.1) ∷ decoded new cells in
-    (
+    let make : List Coord → Cells = λ coords. (record { coords = coords }, e.1) ∷ decoded new cells in (
       All-cons (IsCodedCell new measures) e cells (record { codes = codes.0; eight = cell.eight; width = cell.width; some = cell.some }) rest.0,
       ap make codes.1 ∙ ap (λ (others : Cells). (key_at old e.0.codes, e.1) ∷ others) rest.1,
     )
@@ -127,11 +125,13 @@ times false n = omega arith
 pub count_is : (dictionaries : Dictionaries) (set : ℕ) (cells : CodedCells) → count_in set (decoded dictionaries cells) ≡ weight_of_cells (set_weight dictionaries set) cells
 count_is dictionaries set [] = refl
 count_is dictionaries set (e ∷ cells) =
-    omega (arith,
+    omega (
+      arith,
       sum_by-cons (λ (cell : Key × Tally). if mask_of cell.0 == set then cell.1.facts else 0) (key_at dictionaries e.0.codes, e.1) (decoded dictionaries cells),
       sum_by-cons (λ (cell : Codes × Tally). set_weight dictionaries set cell.0 * cell.1.facts) e cells,
       times (mask_of_coords (coords_at dictionaries e.0.codes) == set) e.1.facts,
-      count_is dictionaries set cells)
+      count_is dictionaries set cells,
+    )
 
 less_is : (x y : ℕ) → nat_cmp x y ≡ Less → x < y
 less_is x y less = elim (cases_order x y) [
@@ -175,7 +175,7 @@ sum_of_none weight codes set (first ∷ sets) at_each among = elim (cases_Bool (
   first_among x xs = rw (eq-eqb x x refl) refl
 
   later_among : (x y : ℕ) (xs : List ℕ) → is_among y xs ≡ true → is_among y (x ∷ xs) ≡ true
-  later_among x y xs later = elim (cases_Bool (x == y)) [ | inl same ↦ rw same refl | inr apart ↦ rw apart later ]
+  later_among x y xs later = elim (cases_Bool (x == y)) [ inl same ↦ rw same refl | inr apart ↦ rw apart later ]
 
 not_among_later : (set : ℕ) (sets : List ℕ) → All (λ other. set < other) sets → is_among set sets ≡ false
 not_among_later set sets above = false_from_ne_true (is_among set sets) (λ among. absurd (omega (arith, among_all (λ other. set < other) sets set above among)))
@@ -196,7 +196,7 @@ sum_of_one weight codes set (first ∷ sets) at_each ascending among = elim (cas
   first_among x xs = rw (eq-eqb x x refl) refl
 
   later_among : (x y : ℕ) (xs : List ℕ) → is_among y xs ≡ true → is_among y (x ∷ xs) ≡ true
-  later_among x y xs later = elim (cases_Bool (x == y)) [ | inl same ↦ rw same refl | inr apart ↦ rw apart later ]
+  later_among x y xs later = elim (cases_Bool (x == y)) [ inl same ↦ rw same refl | inr apart ↦ rw apart later ]
 
 -- codes in a set weigh 1 in it and 0 in others
 pub key_weight : (dictionaries : Dictionaries) (fact : Fact) (codes : Codes) (set other : ℕ) → All IsDictionary dictionaries → HasFactCodes dictionaries fact codes → are_codes dictionaries (key_in codes other).codes ≡ true → other < 2 ^ length fact.dims → set_weight dictionaries set (key_in codes other) ≡ (if other == set then 1 else 0)

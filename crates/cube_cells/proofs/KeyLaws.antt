@@ -31,7 +31,7 @@ use Rattle.cube_cells.proofs.DictionaryLaws.{StandsAt, first_place, code_cases, 
 use Rattle.cube_cells.proofs.WalkLaws.{codes_is, codes_equiv}
 
 -- ---- keys
-key_is : (a b : Key) → a.coords ≡ b.coords → a ≡ b
+pub key_is : (a b : Key) → a.coords ≡ b.coords → a ≡ b
 key_is a b same = let make : List Coord → Key = λ coords. record { coords = coords } in ap make same
 
 -- whether a key is another, by key order
@@ -43,7 +43,7 @@ same_key a b = (
 
 -- ---- codes of coordinates
 -- nothing but ALL
-all_alls : (a b : List ℕ) → list_all (λ code. code == all_code) a ≡ true → list_all (λ code. code == all_code) b ≡ true → length a ≡ length b → a ≡ b
+pub all_alls : (a b : List ℕ) → list_all (λ code. code == all_code) a ≡ true → list_all (λ code. code == all_code) b ≡ true → length a ≡ length b → a ≡ b
 all_alls [] [] all_a all_b lengths = refl
 all_alls [] (y ∷ b) all_a all_b lengths = absurd (omega (arith, lengths))
 all_alls (x ∷ a) [] all_a all_b lengths = absurd (omega (arith, lengths))
@@ -157,7 +157,7 @@ coord_of-value : (value : Option (List ℕ)) → coord_of value true ≡ coord_o
 coord_of-value None = refl
 coord_of-value (Some text) = refl
 
-kept_alls : (set : ℕ) (codes : List ℕ) → list_all (λ code. code == all_code) codes ≡ true → list_all (λ code. code == all_code) (kept_codes set codes) ≡ true
+pub kept_alls : (set : ℕ) (codes : List ℕ) → list_all (λ code. code == all_code) codes ≡ true → list_all (λ code. code == all_code) (kept_codes set codes) ≡ true
 kept_alls set [] all = refl
 kept_alls set (x ∷ codes) all =
     let parts = and_parts (x == all_code) (list_all (λ code. code == all_code) codes) all in

@@ -10,3 +10,8 @@ pub mod KeyLaws
 pub mod GrowthLaws
 pub mod RankLaws
 pub mod RowLaws
+pub mod CubeLaws
+pub mod CodedLaws
+pub mod KeptLaws
+pub mod StepLaws
+pub mod NewLaws

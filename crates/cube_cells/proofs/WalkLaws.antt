@@ -1,6 +1,6 @@
 -- Laws of cells kept by codes: what one cell's change says of each look-up and of each weight, and what many changes say.
 use Rattle.std.proofs.Common.{◌≡◌, ℕ, zero, suc, ◌+◌, ◌*◌, ◌<◌, ◌≤◌, ◌==◌, List, [], ◌∷◌, ◌++◌, Bool, true, false, not, cond, ◌&&◌, ◌||◌, refl, sym, ap, ◌∙◌, subst, arith, inl, inr, length, map, take, get_or, replicate, Option, Some, None, ◌⊎◌, nat_lt, IsTrue, if◌then◌else◌}
-use Rattle.std.specs.Prelude.{ℤ, sum_by, All, IsSome, IfSome, Result, Ok, Err, OnOk}
+use Rattle.std.specs.Prelude.{ℤ, sum_by, All, IsSome, IfSome, Result, Ok, Err, OnOk, OnErr}
 use Rattle.std.specs.Cmp.{IsEquivalence}
 use Rattle.std.specs.List.{list_any, list_all, IsDistinct, AllByRecursion}
 use Rattle.std.specs.List.Sorted.{IsPermutation}
@@ -313,8 +313,7 @@ split_keys sets left others done set codes split last =
 -- the next of them is apart from those taken back, and is one of all
 pub back_apart : (sets left others : List ℕ) (set : ℕ) (codes : Codes) (values : List (Option ℤ)) (old new : CodedCells) → IsDistinct same_codes (codes_in sets codes) → left ≡ others ++ set ∷ [] → (back : TakenBack sets left codes values old new) → (is_in (codes_in back.done codes) (key_in codes set) ≡ false) × (is_in (codes_in sets codes) (key_in codes set) ≡ true)
 back_apart sets left others set codes values old new distinct last back =
-    let keys = split_keys sets left others back.done set codes back.split last in
-    (
+    let keys = split_keys sets left others back.done set codes back.split last in (
       apart_after (codes_in others codes) (codes_in back.done codes) (key_in codes set) (subst (IsDistinct same_codes) keys distinct),
       ap (λ (ks : List Codes). is_in ks (key_in codes set)) keys ∙ in_middle (codes_in others codes) (codes_in back.done codes) (key_in codes set),
     )
@@ -399,3 +398,8 @@ undone_before sets i codes values old mid then_ new distinct inside room adds re
       false_from_ne_true (is_in (key ∷ []) q) (λ here. both_ways (is_in (codes_in sets codes) q) outside (ap (is_in (codes_in sets codes)) (in_one key q here) ∙ at_inside sets i codes inside)),
     ))
     adds refused takes
+
+-- what holds whatever a call answers
+pub on_err_from : {T E P : Type 0} (r : Result T E) → P → OnErr r P
+on_err_from (Ok x) p = tt
+on_err_from (Err e) p = p

@@ -1,5 +1,5 @@
 -- The cells as they are kept: by codes in place of keys (this project's choice).
-use Rattle.std.specs.Prelude.{◌≡◌, ◌<◌, ◌||◌, ◌==◌, ℕ, Bool, true, nat_lt, nat_eq, List, [], ◌∷◌, length, map, replicate, Option, IsTrue, IsSome, All}
+use Rattle.std.specs.Prelude.{◌≡◌, ◌<◌, ◌||◌, ◌==◌, ℕ, Bool, true, false, nat_lt, nat_eq, List, [], ◌∷◌, length, map, replicate, Option, IsTrue, IsSome, All}
 use Rattle.std.specs.List.{IsDistinct, list_all}
 use Rattle.std.specs.Cmp.Lexicographic.{pointwise}
 use Rattle.std.specs.Map.{lookup, keys_of}
@@ -7,7 +7,7 @@ use Rattle.cube_core.specs.GroupingSet.{is_among}
 use Rattle.cube_core.specs.Layout.{Layout}
 use Rattle.cube_cells.specs.Codes.{Dictionaries, IsDictionary, are_codes, key_at, all_code}
 use Rattle.cube_cells.specs.Cube.{Cells, Lattice, IsLattice, count_in}
-use Rattle.cube_cells.specs.Tally.{Tally}
+use Rattle.cube_cells.specs.Tally.{Tally, IsTallyOf}
 use Rattle.cube_cells.specs.declared.cube.codes.Codes.{Codes}
 
 -- cells, each by the codes of its key
@@ -59,3 +59,8 @@ pub record IsCoded (schema : Layout) (sets : List ℕ) (facts : ℕ) (dictionari
   pub each : All (IsCodedCell dictionaries (length schema.measures)) cells
   pub total : IsTrue (is_among 0 sets) → IsSome (coded_at cells total_codes)
   pub counts : (set : ℕ) → IsTrue (is_among set sets) → count_in set (decoded dictionaries cells) ≡ facts
+
+-- the cells of no fact: the grand total where it is kept, and no other
+pub record AreNewCells (has_total : Bool) (measures : ℕ) (cells : CodedCells) : Type 0 where
+  pub none : has_total ≡ false → cells ≡ []
+  pub total : has_total ≡ true → (t : Tally) × (cells ≡ (total_codes, t) ∷ []) × IsTallyOf [] t × (length t.bags ≡ measures)

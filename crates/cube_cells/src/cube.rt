@@ -1,5 +1,5 @@
 //! A data cube: the cells of the kept grouping sets, kept right under adds and removes.
-ghost use Rattle.std.specs.Prelude.{◌≡◌, ◌+◌, ◌<◌, ◌≤◌, ◌^◌, ◌↔◌, [], ◌∷◌, ℕ, List, IsTrue, IfOk, IfSome, OnOk, OnErr, true, false, length, map, get_or, position, All};
+ghost use Rattle.std.specs.Prelude.{◌≡◌, ◌+◌, ◌<◌, ◌≤◌, ◌^◌, ◌↔◌, [], ◌∷◌, ◌++◌, replicate, if◌then◌else◌, ℕ, List, IsTrue, IfOk, IfSome, OnOk, OnErr, true, false, length, map, get_or, position, All};
 ghost use Rattle.std.specs.Option.{option_map};
 ghost use Rattle.std.specs.Str.{bytes_eq};
 ghost use Rattle.cube_core.specs.GroupingSet.{all_sets, sets_of_part, is_among};
@@ -7,6 +7,7 @@ ghost use Rattle.cube_core.specs.Takes.{fits};
 ghost use Rattle.cube_core.specs.declared.fact.Fact.{Fact};
 ghost use Rattle.cube_core.specs.declared.key.Key.{Key};
 ghost use Rattle.cube_cells.specs.Codes.{IsDictionary, AreCodesOf, are_codes, coord_of_value};
+ghost use Rattle.cube_cells.specs.Coded.{AreNewCells};
 ghost use Rattle.cube_cells.specs.Cube.{Lattice, IsLattice, IsCubeOf, HoldsFact, AddsFact, TakesFact, AddsTexts, MayAddTexts, SameCells, cell_at, count_in, IsNewLattice};
 
 mod codes;
@@ -70,9 +71,9 @@ impl Cube {
         ensures cube { IfOk result (λ cube. IsCubeOf cube []) }
     {
         let schema = schema.copy(alloc)?;
-        let sets = kept_sets(alloc, schema.dimensions().len(), part, of)?;
+        let sets = kept_sets(alloc, &schema, part, of)?;
         let dictionaries = new_dictionaries(alloc, schema.dimensions().len())?;
-        let cells = new_cells(alloc, schema.measures().len(), &sets)?;
+        let cells = new_cells(alloc, schema.measures().len(), has_total(&sets))?;
         Ok(Cube {
             schema,
             sets,
@@ -177,19 +178,34 @@ impl Cube {
     }
 }
 
-// The grouping sets of a part of those of so many dimensions, in their order.
-fn kept_sets(alloc: Global, dimensions: usize, part: u32, of: u32) -> Result<Vec<u8>, AllocError>
-    requires dimensions { dimensions ≤ 8 }
-    requires part { part < of }
-    ensures { IfOk result (λ sets. sets.items ≡ sets_of_part part of (all_sets dimensions)) }
+// The grouping sets of a part of a schema's, in their order.
+fn kept_sets(alloc: Global, schema: &Schema, part: u32, of: u32) -> Result<Vec<u8>, AllocError>
+    requires { part < of }
+    ensures { IfOk result
+        (λ sets. sets.items ≡ sets_of_part part of (all_sets (length schema.now.dimensions))) }
 {
     let mut sets = Vec::new(alloc);
-    for set in 0..set_count(dimensions) {
-        if set % of == part {
-            sets.push(set as u8)?;
-        }
+    for set in 0..set_count(schema.dimensions().len()) {
+        push_kept(&mut sets, set as u8, set % of == part)?;
     }
     Ok(sets)
+}
+
+fn push_kept(sets: &mut Vec<u8>, set: u8, is_kept: bool) -> Result<(), AllocError>
+    ensures { OnOk result
+        (sets.new.items ≡ sets.old.items ++ (if is_kept then set ∷ [] else [])) }
+{
+    if is_kept {
+        sets.push(set)?;
+    }
+    Ok(())
+}
+
+// Whether the grand total's set is among these.
+fn has_total(sets: &[u8]) -> bool
+    ensures { result ≡ is_among 0 sets.now }
+{
+    sets.iter().any(|set| *set == 0)
 }
 
 // How many grouping sets there are of so many dimensions.
@@ -200,9 +216,11 @@ fn set_count(dimensions: usize) -> u32
     1u32 << dimensions
 }
 
-fn new_dictionaries(alloc: Global, dimensions: usize) -> Result<Vec<Dictionary>, AllocError> {
+fn new_dictionaries(alloc: Global, dimensions: usize) -> Result<Vec<Dictionary>, AllocError>
+    ensures { IfOk result (λ dictionaries. dictionaries.items ≡ replicate dimensions []) }
+{
     let mut dictionaries = Vec::with_capacity(alloc, dimensions)?;
-    for _ in 0..dimensions {
+    for place in 0..dimensions {
         dictionaries.push(Dictionary::new(alloc))?;
     }
     Ok(dictionaries)
@@ -212,12 +230,23 @@ fn new_dictionaries(alloc: Global, dimensions: usize) -> Result<Vec<Dictionary>,
 fn new_cells(
     alloc: Global,
     measures: usize,
-    sets: &[u8],
-) -> Result<HashMap<Codes, Cell>, AllocError> {
-    let mut cells = HashMap::new(alloc);
-    if sets.first() == Some(&0) {
-        cells.insert(Codes::total(), Cell::new(alloc, measures)?)?;
+    has_total: bool,
+) -> Result<HashMap<Codes, Cell>, AllocError>
+    ensures { IfOk result (λ cells. AreNewCells has_total measures cells.entries) }
+{
+    if has_total {
+        total_cells(alloc, measures)
+    } else {
+        Ok(HashMap::new(alloc))
     }
+}
+
+// The cell of the grand total over no facts.
+fn total_cells(alloc: Global, measures: usize) -> Result<HashMap<Codes, Cell>, AllocError>
+    ensures { IfOk result (λ cells. AreNewCells true measures cells.entries) }
+{
+    let mut cells = HashMap::new(alloc);
+    cells.insert(Codes::total(), Cell::new(alloc, measures)?)?;
     Ok(cells)
 }
 

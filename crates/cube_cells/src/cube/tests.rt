@@ -7,6 +7,11 @@ use std::alloc::{AllocError, Global};
 use std::process::Abort;
 use std::test::Fail;
 
+const EIGHT: &str = "dimensions = ['d1', 'd2', 'd3', 'd4', 'd5', 'd6', 'd7', 'd8']
+measures = ['m']
+aggregates = ['count(*)']
+";
+
 #[test]
 fn two_facts_have_six_cells_and_one_of_them_four(rt: HostRuntime) -> Result<(), Fail> {
     let alloc = rt.alloc();
@@ -73,6 +78,23 @@ fn a_part_has_the_cells_of_its_sets(rt: HostRuntime) -> Result<(), Fail> {
     assert_eq!(rt; cells_of(alloc, &seventh)?, 0);
     assert_eq!(rt; seventh.facts(), 1);
     assert!(rt; seventh.holds(&fact(alloc, Some("east"), None, 1)?));
+    Ok(())
+}
+
+#[test]
+fn a_fact_of_eight_dimensions_has_256_cells(rt: HostRuntime) -> Result<(), Fail> {
+    let alloc = rt.alloc();
+    let Ok(schema) = Schema::from_toml(alloc, EIGHT.as_bytes()) else {
+        assert!(rt; false, "a schema");
+        return Ok(());
+    };
+    let names = ["a", "b", "c", "d", "e", "f", "g", "h"];
+    let mut cube = Cube::new(alloc, &schema)?;
+    let of_all = fact_of(alloc, &names)?;
+    expect_added(&rt, &schema, &mut cube, &of_all)?;
+    assert_eq!(rt; ancestors_in(alloc, &cube, &names)?, 256);
+    expect_removed(&rt, &mut cube, &of_all);
+    assert_eq!(rt; ancestors_in(alloc, &cube, &names)?, 1);
     Ok(())
 }
 
@@ -154,16 +176,55 @@ fn holds_at(cube: &Cube, key: &Key, amount: i64) -> bool {
 
 // How many of the keys of some texts, null and ALL are cells.
 fn cells_of(alloc: Global, cube: &Cube) -> Result<usize, AllocError> {
-    let mut count = 0;
+    let mut count: usize = 0;
     for region in [Some("w"), Some("e"), Some("west"), Some("null"), None] {
         for kind in [Some("a"), Some("b"), Some("c"), Some("null"), None] {
             let key = key(alloc, coord(alloc, region)?, coord(alloc, kind)?)?;
             if cube.get(&key).is_some() {
-                count += 1;
+                count = count.saturating_add(1);
             }
         }
     }
     Ok(count)
+}
+
+// A fact of these names, its measure null.
+fn fact_of(alloc: Global, names: &[&str]) -> Result<Fact, AllocError> {
+    let mut dims = Vec::new(alloc);
+    for name in names {
+        dims.push(Some(Text::from_str(alloc, name)?))?;
+    }
+    let measures = vec![in alloc; None]?;
+    Ok(Fact {
+        dims: Sequence::from_vec(dims),
+        measures: Sequence::from_vec(measures),
+    })
+}
+
+// How many of the keys of these names and ALL are cells.
+fn ancestors_in(alloc: Global, cube: &Cube, names: &[&str]) -> Result<usize, AllocError> {
+    let mut count: usize = 0;
+    for set in 0..256 {
+        let key = ancestor(alloc, names, set)?;
+        if cube.get(&key).is_some() {
+            count = count.saturating_add(1);
+        }
+    }
+    Ok(count)
+}
+
+// The key of the names in the dimensions of a set, and ALL in the others.
+fn ancestor(alloc: Global, names: &[&str], set: u32) -> Result<Key, AllocError> {
+    let mut coords = Vec::new(alloc);
+    let mut rest = set;
+    for name in names {
+        let is_kept = rest % 2 == 1;
+        coords.push(coord(alloc, if is_kept { Some(*name) } else { None })?)?;
+        rest /= 2;
+    }
+    Ok(Key {
+        coords: Sequence::from_vec(coords),
+    })
 }
 
 fn coord(alloc: Global, name: Option<&str>) -> Result<Coord, AllocError> {

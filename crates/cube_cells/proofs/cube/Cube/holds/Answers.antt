@@ -1,5 +1,24 @@
-use Rattle.cube_cells.proofs.GrowthLaws.{keys_apart}
+use Rattle.std.proofs.Common.{arith, refl, sym, ◌≡◌, true}
+use Rattle.cube_core.specs.Takes.{fits}
+use Rattle.cube_cells.proofs.CubeLaws.{cube_holds}
+use Rattle.cube_cells.proofs.KeyLaws.{HasFactCodes}
+use Rattle.cube_cells.proofs.CodedLaws.{coded_fact, holds_is, key_widths}
 use Rattle.cube_cells.proofs.cube.Cube.holds.Goals as goal
 
-pub codes_of_values-requires-clause-places : goal.codes_of_values-requires-clause-places
-codes_of_values-requires-clause-places c = ?
+pub returns-clause-held : goal.returns-clause-held
+returns-clause-held c =
+    let schema = c.self.inside.schema in
+    let sets = c.self.inside.sets.items in
+    let facts = c.self.inside.facts in
+    let dictionaries = c.self.inside.dictionaries.items in
+    let cells = c.self.inside.cells.entries in
+    let codes = c.codes_of_values-codes.result in
+    let fit : fits schema c.args.fact.now ≡ true = sym c.if-not-fits.ensures in
+    let has : HasFactCodes dictionaries c.args.fact.now codes = record { are = rw (c.deref.ensures.value, c.as_slice.ensures) at c.codes_of_values-codes.ensures.codes; eight = c.codes_of_values-codes.ensures.eight } in
+    let of = coded_fact schema sets facts dictionaries dictionaries cells c.args.fact.now codes c.self.invariant fit refl c.self.invariant.texts has in
+    let is = holds_is schema sets facts dictionaries cells c.args.fact.now codes c.self.invariant fit (omega arith) of in
+    let result = rw (c.as_slice-2.ensures, c.deref-2.ensures.value) at c.hold_in_sets.ensures in
+    rw (← c.self.view_is, result) is
+
+pub returns-clause-cube : goal.returns-clause-cube
+returns-clause-cube c = λ facts fit cube some. (returns-clause-held c).1 (cube_holds c.args.fact.now c.args.self.now facts fit some (rw (← c.self.view_is) (key_widths c.self.inside.schema c.self.inside.sets.items c.self.inside.facts c.self.inside.dictionaries.items c.self.inside.cells.entries c.self.invariant)) cube)

@@ -1,0 +1,236 @@
+-- Laws of the new cube: its kept sets, its empty dictionaries, and its one cell or none.
+use Rattle.std.proofs.Common.{◌≡◌, ℕ, zero, suc, ◌+◌, ◌*◌, ◌^◌, ◌<◌, ◌≤◌, ◌==◌, ◌%◌, List, [], ◌∷◌, ◌++◌, Bool, true, false, cond, ◌&&◌, ◌||◌, refl, sym, ap, ◌∙◌, subst, arith, inl, inr, length, map, filter, get_or, replicate, Option, Some, None, if◌then◌else◌}
+use Rattle.std.specs.Prelude.{All, IsSome, IfSome, is_some, IsTrue, sum_by}
+use Rattle.std.specs.Cmp.{nat_cmp_is, eq_by_cmp_equiv}
+use Rattle.std.specs.List.{list_all, range_with_len, IsDistinct, AllByRecursion}
+use Rattle.std.specs.List.Sorted.{IsStrictlySortedBy}
+use Rattle.std.specs.Map.{keys_of}
+use Rattle.std.specs.Ordering.{nat_cmp, eq_by_cmp}
+use Rattle.std.specs.declared.cmp.Ordering.TheVariants.{Less}
+use Rattle.std.proofs.lemmas.Bool.{cases_Bool, and_parts, and_from, and_left, and_right, or_left, or_cases, both_ways, eq-eqb, eqb-true}
+use Rattle.std.proofs.lemmas.List.{length-replicate, map-id, get_or-replicate, get_or_past}
+use Rattle.std.proofs.lemmas.List.Elements.{All-filter, All-replicate, All-nil, All-cons, filter-append}
+use Rattle.std.proofs.lemmas.List.FromFn.{length-range_with_len, get_or-range_with_len, map-range_with_len_more}
+use Rattle.std.proofs.lemmas.List.Kept.{IsStrictlySortedBy-filter}
+use Rattle.std.proofs.lemmas.List.Sums.{sum_by-cons}
+use Rattle.std.proofs.lemmas.Bool.{cases_lt}
+use Rattle.cube_core.specs.Cube.{is_cell, is_total}
+use Rattle.cube_core.specs.GroupingSet.{mask_of, mask_of_coords, is_among, is_all_coord, all_sets, sets_of_part}
+use Rattle.cube_core.specs.Layout.{Layout, IsSchema}
+use Rattle.cube_core.specs.Order.{key_cmp}
+use Rattle.cube_core.specs.declared.key.Coord.{Coord}
+use Rattle.cube_core.specs.declared.key.Coord.TheVariants as coord
+use Rattle.cube_core.specs.declared.key.Key.{Key}
+use Rattle.cube_core.proofs.PlainCells.{same_total}
+use Rattle.cube_core.proofs.PlainOrder.{key_cmp_total}
+use Rattle.cube_cells.specs.Codes.{Dictionaries, IsDictionary, are_codes, coords_at, key_at, all_code}
+use Rattle.cube_cells.specs.Coded.{CodedCells, IsCodedCell, IsCoded, AreNewCells, same_codes, coded_at, decoded, lattice_of, total_codes}
+use Rattle.cube_cells.specs.Cube.{IsLattice, IsCubeOf, IsNewLattice, cell_at, count_in}
+use Rattle.cube_cells.specs.Tally.{Tally, IsTallyOf}
+use Rattle.cube_cells.specs.declared.cube.codes.Codes.{Codes}
+use Rattle.cube_cells.proofs.WalkLaws.{codes_equiv, codes_is}
+
+-- ---- the kept sets
+-- one set more of a walk over all
+pub kept_one_more : (part of n : ℕ) → filter (λ set. set % of == part) (range_with_len 0 (n + 1)) ≡ filter (λ set. set % of == part) (range_with_len 0 n) ++ (if n % of == part then n ∷ [] else [])
+kept_one_more part of n =
+    let more : range_with_len 0 (n + 1) ≡ range_with_len 0 n ++ n ∷ [] = sym (map-id (range_with_len 0 (n + 1))) ∙ map-range_with_len_more (λ (x : ℕ). x) 0 n n (omega arith) ∙ ap (λ (xs : List ℕ). xs ++ n ∷ []) (map-id (range_with_len 0 n)) in
+    ap (filter (λ set. set % of == part)) more ∙ filter-append (λ set. set % of == part) (range_with_len 0 n) (n ∷ [])
+
+sets_below : (n : ℕ) → All (λ set. set < n) (range_with_len 0 n)
+sets_below n = λ k d inside.
+    let place : k < n = omega (arith, inside, length-range_with_len 0 n) in
+    omega (arith, get_or-range_with_len 0 n k d place, place)
+
+above : (a b n : ℕ) → a < b → AllByRecursion (λ other. nat_cmp a other ≡ Less) (range_with_len b n)
+above a b zero less = tt
+above a b (suc n) less = (sym (nat_cmp_is a b Less less), above a (b + 1) n (omega arith))
+
+sets_ascend : (a n : ℕ) → IsStrictlySortedBy nat_cmp (range_with_len a n)
+unfolding IsStrictlySortedBy
+sets_ascend a zero = tt
+sets_ascend a (suc n) = (above a (a + 1) n (omega arith), sets_ascend (a + 1) n)
+
+-- ---- the codes of the grand total
+total_valid : (n k : ℕ) → n ≤ k → are_codes (replicate n []) (replicate k all_code) ≡ true
+total_valid zero k room = alls k where
+  alls : (m : ℕ) → list_all (λ code. code == all_code) (replicate m all_code) ≡ true
+  alls zero = refl
+  alls (suc m) = alls m
+total_valid (suc n) zero room = absurd (omega (arith, room))
+total_valid (suc n) (suc k) room = total_valid n k (omega (arith, room))
+
+total_coords : (n k : ℕ) → n ≤ k → (list_all is_all_coord (coords_at (replicate n []) (replicate k all_code)) ≡ true) × (length (coords_at (replicate n []) (replicate k all_code)) ≡ n)
+total_coords zero k room = (refl, refl)
+total_coords (suc n) zero room = absurd (omega (arith, room))
+total_coords (suc n) (suc k) room = let rest = total_coords n k (omega (arith, room)) in (rest.0, ap suc rest.1)
+
+no_dimensions : (coords : List Coord) → list_all is_all_coord coords ≡ true → mask_of_coords coords ≡ 0
+no_dimensions [] all = refl
+no_dimensions (c ∷ coords) all =
+    let parts = and_parts (is_all_coord c) (list_all is_all_coord coords) all in
+    rw (parts.0, no_dimensions coords parts.1) refl
+
+-- the key of the grand total is in the empty set
+total_mask : (n : ℕ) (key : Key) → is_total n key ≡ true → mask_of key ≡ 0
+total_mask n key total = no_dimensions key.coords (and_parts (length key.coords == n) (list_all is_all_coord key.coords) total).1
+
+-- whether a key is that of the grand total
+total_is : (n : ℕ) (key : Key) → n ≤ 8 → eq_by_cmp key_cmp key (key_at (replicate n []) (replicate 8 all_code)) ≡ is_total n key
+total_is n key room =
+    let total = key_at (replicate n []) (replicate 8 all_code) in
+    let coords = total_coords n 8 room in
+    let is : is_total n total ≡ true = and_from (length total.coords == n) (list_all is_all_coord total.coords) (eq-eqb (length total.coords) n coords.1) coords.0 in
+    (eq_by_cmp_equiv key_cmp_total).symm key total ∙ same_total total key n is
+
+-- ---- the new cube
+-- its cells are those of CUBE of nothing
+keys_none : (sets : List ℕ) (n : ℕ) (key : Key) → is_among 0 sets ≡ false → false ≡ is_cell sets n [] key
+keys_none sets n key none = elim (cases_Bool (is_total n key)) [
+  | inl total ↦ sym (and_left (is_among (mask_of key) sets) (is_total n key || false) (ap (λ (s : ℕ). is_among s sets) (total_mask n key total) ∙ none))
+  | inr other ↦ sym (and_right (is_among (mask_of key) sets) (is_total n key || false) (ap (λ (b : Bool). b || false) other))
+]
+
+keys_total : (sets : List ℕ) (n : ℕ) (key : Key) (t : Tally) → is_among 0 sets ≡ true → is_some (cond (is_total n key) (Some t) None) ≡ is_cell sets n [] key
+keys_total sets n key t kept = elim (cases_Bool (is_total n key)) [
+  | inl total ↦ rw (total, total_mask n key total, kept) refl
+  | inr other ↦ rw other (sym (and_right (is_among (mask_of key) sets) false refl))
+]
+
+pub new_cube : (schema : Layout) (sets : List ℕ) (cells : CodedCells) → length schema.dimensions ≤ 8 → AreNewCells (is_among 0 sets) (length schema.measures) cells → IsCubeOf (lattice_of schema sets 0 (replicate (length schema.dimensions) []) cells) []
+new_cube schema sets cells room new = elim (cases_Bool (is_among 0 sets)) [
+  | inl kept ↦
+      let one = new.total kept in
+      let at : (key : Key) → cell_at (decoded (replicate n []) cells) key ≡ cond (is_total n key) (Some one.0) None = λ key. ap (λ (cs : CodedCells). cell_at (decoded (replicate n []) cs) key) one.1 ∙ ap (λ (b : Bool). cond b (Some one.0) None) (total_is n key room) in
+      record {
+        keys = λ key. ap is_some (at key) ∙ keys_total sets n key one.0 kept;
+        tallies = λ key. rw (at key) (if_total (is_total n key) one.0 one.2);
+      }
+  | inr none ↦
+      let at : (key : Key) → cell_at (decoded (replicate n []) cells) key ≡ None = λ key. ap (λ (cs : CodedCells). cell_at (decoded (replicate n []) cs) key) (new.none none) in
+      record {
+        keys = λ key. ap is_some (at key) ∙ keys_none sets n key none;
+        tallies = λ key. rw (at key) tt;
+      }
+] where
+  n : ℕ
+  n = length schema.dimensions
+
+  if_total : (b : Bool) (t : Tally) → IsTallyOf [] t → IfSome (cond b (Some t) None) (IsTallyOf [])
+  if_total true t is = is
+  if_total false t is = tt
+
+-- one cell is apart from the others, and so is none
+one_apart : (t : Tally) → IsDistinct same_codes (keys_of ((total_codes, t) ∷ []))
+unfolding IsDistinct
+one_apart t = (tt, tt)
+
+none_apart : IsDistinct same_codes []
+unfolding IsDistinct
+none_apart = tt
+
+-- it is a cube
+pub new_coded : (schema : Layout) (part of : ℕ) (cells : CodedCells) → IsSchema schema → AreNewCells (is_among 0 (sets_of_part part of (all_sets (length schema.dimensions)))) (length schema.measures) cells → IsCoded schema (sets_of_part part of (all_sets (length schema.dimensions))) 0 (replicate (length schema.dimensions) []) cells
+new_coded schema part of cells is new = elim (cases_Bool (is_among 0 sets)) [
+  | inl kept ↦ let one = new.total kept in subst (λ (cs : CodedCells). IsCoded schema sets 0 (replicate n []) cs) (sym one.1) (with_total one.0 one.2 one.3)
+  | inr none ↦ subst (λ (cs : CodedCells). IsCoded schema sets 0 (replicate n []) cs) (sym (new.none none)) (without none)
+] where
+  n : ℕ
+  n = length schema.dimensions
+
+  sets : List ℕ
+  sets = sets_of_part part of (all_sets n)
+
+  lattice : (others : CodedCells) → IsLattice (lattice_of schema sets 0 (replicate n []) others)
+  lattice others = record {
+    schema = is;
+    sets = All-filter (λ set. set % of == part) (λ set. set < 2 ^ n) (all_sets n) (sets_below (2 ^ n));
+    ascending = IsStrictlySortedBy-filter nat_cmp (λ set. set % of == part) (all_sets n) (sets_ascend 0 (2 ^ n));
+    dictionaries = length-replicate {A = List (List ℕ)} n [];
+  }
+
+  texts : All IsDictionary (replicate n [])
+  texts = All-replicate IsDictionary n [] (record { distinct = refl; few = omega arith })
+
+  with_total : (t : Tally) → IsTallyOf [] t → length t.bags ≡ length schema.measures → IsCoded schema sets 0 (replicate n []) ((total_codes, t) ∷ [])
+  with_total t empty width = record {
+    lattice = lattice ((total_codes, t) ∷ []);
+    texts = texts;
+    distinct = one_apart t;
+    each = All-cons (IsCodedCell (replicate n []) (length schema.measures)) (total_codes, t) [] (record { codes = total_valid n 8 is.dimensions_at_most; eight = refl; width = width; some = refl }) (All-nil (IsCodedCell (replicate n []) (length schema.measures)));
+    total = λ kept. refl;
+    counts = λ set among. omega (arith, no_count (mask_of (key_at (replicate n []) total_codes.codes) == set) t empty, sum_by-cons (λ (cell : Key × Tally). if mask_of cell.0 == set then cell.1.facts else 0) (key_at (replicate n []) total_codes.codes, t) []);
+  } where
+    no_count : (b : Bool) (s : Tally) → IsTallyOf [] s → (if b then s.facts else 0) ≡ 0
+    no_count true s e = e.count
+    no_count false s e = refl
+
+  without : is_among 0 sets ≡ false → IsCoded schema sets 0 (replicate n []) []
+  without none = record {
+    lattice = lattice [];
+    texts = texts;
+    distinct = none_apart;
+    each = All-nil (IsCodedCell (replicate n []) (length schema.measures));
+    total = λ kept. absurd (both_ways (is_among 0 sets) none kept);
+    counts = λ set among. refl;
+  }
+
+-- and new
+pub new_lattice : (schema : Layout) (sets : List ℕ) (cells : CodedCells) → IsNewLattice schema sets (lattice_of schema sets 0 (replicate (length schema.dimensions) []) cells)
+new_lattice schema sets cells = record {
+  schema_is = refl;
+  sets_are = refl;
+  no_facts = refl;
+  no_texts = λ d. elim (cases_lt d (length schema.dimensions)) [
+    | inl inside ↦ get_or-replicate {A = List (List ℕ)} (length schema.dimensions) d [] [] inside
+    | inr past ↦ get_or_past (replicate (length schema.dimensions) []) d [] (omega (arith, past, length-replicate {A = List (List ℕ)} (length schema.dimensions) []))
+  ];
+}
+
+-- ---- the new cells
+-- none where the grand total isn't kept
+pub none_new : (has_total : Bool) (measures : ℕ) (cells : CodedCells) → has_total ≡ false → cells ≡ [] → AreNewCells has_total measures cells
+none_new has_total measures cells none empty = record { none = λ _. empty; total = λ kept. absurd (both_ways has_total none kept) }
+
+-- where it is kept, the one
+pub total_new : (has_total : Bool) (measures : ℕ) (cells : CodedCells) → has_total ≡ true → AreNewCells true measures cells → AreNewCells has_total measures cells
+total_new has_total measures cells kept new = subst (λ (b : Bool). AreNewCells b measures cells) (sym kept) new
+
+-- a cell alone
+pub one_new : (measures : ℕ) (cells : CodedCells) (codes : Codes) (t : Tally) → codes ≡ total_codes → length cells ≡ 1 → coded_at cells codes ≡ Some t → IsTallyOf [] t → length t.bags ≡ measures → AreNewCells true measures cells
+one_new measures cells codes t total one found empty width = record {
+  none = λ never. cc never;
+  total = λ _. (t, alone cells one (subst (λ (k : Codes). coded_at cells k ≡ Some t) total found), empty, width);
+} where
+  alone : (es : CodedCells) → length es ≡ 1 → coded_at es total_codes ≡ Some t → es ≡ (total_codes, t) ∷ []
+  alone [] len at = cc at
+  alone (e ∷ []) len at = elim (cases_Bool (same_codes total_codes e.0)) [
+    | inl same ↦
+        let tally : e.1 ≡ t = cc (rw same at at) in
+        let make : Codes → Tally → CodedCells = λ k s. (k, s) ∷ [] in
+        ap (λ (k : Codes). make k e.1) (sym (codes_is total_codes e.0 same)) ∙ ap (make total_codes) tally
+    | inr apart ↦ cc (rw apart at at)
+  ]
+  alone (e ∷ f ∷ es) len at = absurd (omega (arith, len))
+
+-- ---- the whole
+pub new_all : (schema copy : Layout) (part of : ℕ) (sets : List ℕ) (dictionaries : Dictionaries) (total : Bool) (cells : CodedCells) → IsSchema copy → copy ≡ schema → sets ≡ sets_of_part part of (all_sets (length copy.dimensions)) → dictionaries ≡ replicate (length copy.dimensions) [] → total ≡ is_among 0 sets → AreNewCells total (length copy.measures) cells → IsCoded copy sets 0 dictionaries cells × IsCubeOf (lattice_of copy sets 0 dictionaries cells) [] × IsNewLattice schema (sets_of_part part of (all_sets (length schema.dimensions))) (lattice_of copy sets 0 dictionaries cells)
+new_all schema copy part of sets dictionaries total cells is same sets_are texts_are total_is new =
+    let kept = sets_of_part part of (all_sets (length copy.dimensions)) in
+    let as_kept = subst (λ (b : Bool). AreNewCells b (length copy.measures) cells) (total_is ∙ ap (λ (xs : List ℕ). is_among 0 xs) sets_are) new in (
+      rw (sets_are, texts_are) (new_coded copy part of cells is as_kept),
+      rw (sets_are, texts_are) (new_cube copy kept cells is.dimensions_at_most as_kept),
+      record {
+        schema_is = same;
+        sets_are = sets_are ∙ ap (λ (s : Layout). sets_of_part part of (all_sets (length s.dimensions))) same;
+        no_facts = refl;
+        no_texts = λ d. ap (λ (ds : Dictionaries). get_or ds d []) texts_are ∙ (new_lattice copy kept cells).no_texts d;
+      },
+    )
+
+-- the only part of one is the whole
+pub part_of_one : (sets : List ℕ) → sets_of_part 0 1 sets ≡ sets
+part_of_one [] = refl
+part_of_one (set ∷ sets) =
+    let whole : (set % 1 == 0) ≡ true = eq-eqb (set % 1) 0 (omega arith) in
+    rw whole (ap (λ (xs : List ℕ). set ∷ xs) (part_of_one sets))
