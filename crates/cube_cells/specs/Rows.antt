@@ -1,5 +1,5 @@
 -- The rows of a cube that is kept up to date: those of the cells whose keys pass a test (Gray et al. 1997).
-use Rattle.std.specs.Prelude.{◌≡◌, ◌==◌, ◌&&◌, ◌↔◌, ℕ, Bool, true, not, List, [], ◌∷◌, length, map, Contains, All, IsTrue, IsSome, IfSome}
+use Rattle.std.specs.Prelude.{◌≡◌, ◌==◌, ◌&&◌, ◌↔◌, ℕ, Bool, true, false, not, Option, Some, None, List, [], ◌∷◌, length, map, Contains, All, IsTrue, IsSome, IfSome}
 use Rattle.std.specs.List.{AllByRecursion}
 use Rattle.std.specs.List.Sorted.{IsStrictlySortedBy}
 use Rattle.cube_core.specs.Answer.{AreAnswers}
@@ -36,6 +36,16 @@ pub record AreRowsWhere (test : Key → Bool) (sets : List ℕ) (dimensions : �
   pub cells : (key : Key) → Contains (map key_of rows) key ↔ (IsTrue (is_cell sets dimensions facts key) × IsTrue (test key))
   pub ordered : IsStrictlySortedBy key_cmp (map key_of rows)
   pub answers : AllByRecursion (HasAnswers aggregates facts) rows
+
+-- the row of a key's cell, or none where the key is no cell
+abbrev pub IsRowAt : List Agg → Cells → Key → Option Row → Type 0
+IsRowAt aggregates cells key None = cell_at cells key ≡ None
+IsRowAt aggregates cells key (Some row) = (t : Tally) × (cell_at cells key ≡ Some t) × IsRowOf aggregates (key, t) row
+
+-- the row of a key of the cube over these grouping sets, or none where the key is no cell
+abbrev pub IsRowOver : List ℕ → ℕ → List Agg → List Fact → Key → Option Row → Type 0
+IsRowOver sets dimensions aggregates facts key None = is_cell sets dimensions facts key ≡ false
+IsRowOver sets dimensions aggregates facts key (Some row) = (is_cell sets dimensions facts key ≡ true) × (row.key ≡ key) × HasAnswers aggregates facts row
 
 -- whether a code is wanted
 abbrev pub is_wanted_code : Want → ℕ → Bool

@@ -52,8 +52,8 @@ impl Cube {
         self.rows_where(&[])
     }
 
-    // The rows of the cells whose codes are wanted.
-    fn rows_where(&self, wants: &[Want]) -> Result<Vec<Row>, AllocError>
+    /// The rows of the cells whose codes are wanted.
+    pub(super) fn rows_where(&self, wants: &[Want]) -> Result<Vec<Row>, AllocError>
         ensures { IfOk result (λ rows. (test : Key → Bool) →
             AreWantsOf self.now.dictionaries test wants.now →
             AreRowsOf test self.now.schema.aggregates self.now.cells rows.items) }
@@ -173,8 +173,8 @@ fn key_of(alloc: Global, dictionaries: &[Dictionary], codes: &Codes) -> Result<K
     })
 }
 
-// The row of a key with a cell.
-fn row_of(alloc: Global, aggregates: &[Agg], key: Key, cell: &Cell) -> Result<Row, AllocError>
+/// The row of a key with a cell.
+pub fn row_of(alloc: Global, aggregates: &[Agg], key: Key, cell: &Cell) -> Result<Row, AllocError>
     requires { list_all (is_aggregate_of (length cell.now.bags)) aggregates.now ≡ true }
     ensures { IfOk result (IsRowOf aggregates.now (key, cell.now)) }
 {
