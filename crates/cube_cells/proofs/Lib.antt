@@ -8,6 +8,8 @@ pub mod CodeLaws
 pub mod WalkLaws
 pub mod KeyLaws
 pub mod GrowthLaws
+pub mod RankLaws
+pub mod RowLaws
 pub mod CubeLaws
 pub mod CodedLaws
 pub mod KeptLaws

@@ -6,3 +6,5 @@ pub mod Codes
 pub mod Cube
 pub mod Coded
 pub mod Walk
+pub mod Ranks
+pub mod Rows

@@ -12,6 +12,9 @@ ghost use Rattle.cube_cells.specs.Cube.{Lattice, IsLattice, IsCubeOf, HoldsFact,
 
 mod codes;
 mod dictionary;
+mod queries;
+mod ranks;
+mod rows;
 mod walk;
 
 use crate::cell::Cell;

@@ -1,10 +1,10 @@
 //! The texts of a dimension, each with its place as its code.
-ghost use Rattle.std.specs.Prelude.{◌≡◌, ◌<◌, ◌≤◌, ◌==◌, not, ◌++◌, ◌∷◌, [], IfOk, IfSome, IfNone, OnOk, OnErr, length, position, slice_get, Some, None, nat_lt, true, false, if◌then◌else◌};
+ghost use Rattle.std.specs.Prelude.{◌≡◌, ◌<◌, ◌≤◌, ◌==◌, not, ◌++◌, ◌∷◌, [], IfOk, IfSome, IfNone, OnOk, OnErr, length, position, slice_get, get_or, Some, None, nat_lt, true, false, if◌then◌else◌};
 ghost use Rattle.std.specs.Str.{bytes_eq};
 ghost use Rattle.cube_core.specs.declared.key.Coord.TheVariants as coord;
 ghost use Rattle.std.specs.String.{string_bytes};
 ghost use Rattle.cube_core.specs.Layout.{is_listed};
-ghost use Rattle.cube_cells.specs.Codes.{IsDictionary, texts_with, is_code, no_code, IsCodeOf, coord_of_value};
+ghost use Rattle.cube_cells.specs.Codes.{IsDictionary, texts_with, is_code, no_code, IsCodeOf, coord_at, coord_of_value};
 
 use super::codes::{ALL, NONE, NULL};
 use cube_core::{Coord, Text};
@@ -45,6 +45,38 @@ impl Dictionary {
         ensures { result ≡ position (bytes_eq text.now) self.now }
     {
         self.texts.get_index_of(text)
+    }
+
+    /// How many texts there are.
+    pub fn len(&self) -> usize
+        ensures len { result ≡ length self.now }
+        ensures dictionary { IsDictionary self.now }
+    {
+        self.texts.len()
+    }
+
+    /// The text at a place; empty where there is none.
+    pub fn text(&self, place: usize) -> &str
+        ensures { result.now ≡ get_or self.now place [] }
+    {
+        match self.texts.get_index(place) {
+            None => "",
+            Some(text) => text.as_str(),
+        }
+    }
+
+    /// A copy of the coordinate of a code; the only error is want of memory.
+    pub fn coord_at(&self, alloc: Global, code: u32) -> Result<Coord, AllocError>
+        ensures { IfOk result (λ coord. coord ≡ coord_at self.now code) }
+    {
+        match code {
+            ALL => Ok(Coord::All),
+            NULL => Ok(Coord::Null),
+            place => {
+                let text = Text::from_str(alloc, self.text(place as usize))?;
+                Ok(Coord::Text(text))
+            }
+        }
     }
 
     /// The code of a value or of null.

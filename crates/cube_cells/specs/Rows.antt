@@ -1,0 +1,65 @@
+-- The rows of a cube that is kept up to date: those of the cells whose keys pass a test (Gray et al. 1997).
+use Rattle.std.specs.Prelude.{◌≡◌, ◌==◌, ◌&&◌, ◌↔◌, ℕ, Bool, true, false, not, Option, Some, None, List, [], ◌∷◌, length, map, Contains, All, IsTrue, IsSome, IfSome}
+use Rattle.std.specs.List.{AllByRecursion}
+use Rattle.std.specs.List.Sorted.{IsStrictlySortedBy}
+use Rattle.cube_core.specs.Answer.{AreAnswers}
+use Rattle.cube_core.specs.Cube.{is_cell, key_of, HasAnswers}
+use Rattle.cube_core.specs.Order.{key_cmp}
+use Rattle.cube_core.specs.declared.aggregate.Agg.{Agg}
+use Rattle.cube_core.specs.declared.aggregate.Answer.{Answer}
+use Rattle.cube_core.specs.declared.fact.Fact.{Fact}
+use Rattle.cube_core.specs.declared.key.Key.{Key}
+use Rattle.cube_core.specs.declared.key.Row.{Row}
+use Rattle.cube_cells.specs.Codes.{Dictionaries, are_codes, key_at}
+use Rattle.cube_cells.specs.Cube.{Cells, cell_at}
+use Rattle.cube_cells.specs.Tally.{Tally, IsTallyOf}
+use Rattle.cube_cells.specs.declared.cube.rows.Want.{Want}
+use Rattle.cube_cells.specs.declared.cube.rows.Want.TheVariants as want
+
+-- the answers of a tally: those of any facts that it is the tally of
+abbrev pub AreAnswersOf : List Agg → Tally → List Answer → Type 0
+AreAnswersOf aggregates t answers = (facts : List Fact) → IsTallyOf facts t → AreAnswers facts aggregates answers
+
+-- the row of a cell: its key, and the answers of its tally
+pub record IsRowOf (aggregates : List Agg) (cell : Key × Tally) (row : Row) : Type 0 where
+  pub key : row.key ≡ cell.0
+  pub answers : AreAnswersOf aggregates cell.1 row.answers
+
+-- these are the rows of the cells whose key passes a test: each once, in key order, with the answers of its tally
+pub record AreRowsOf (test : Key → Bool) (aggregates : List Agg) (cells : Cells) (rows : List Row) : Type 0 where
+  pub keys : (key : Key) → Contains (map key_of rows) key ↔ (IsSome (cell_at cells key) × IsTrue (test key))
+  pub ordered : IsStrictlySortedBy key_cmp (map key_of rows)
+  pub answers : All (λ row. IfSome (cell_at cells row.key) (λ t. AreAnswersOf aggregates t row.answers)) rows
+
+-- these are the rows of the cube over these grouping sets whose key passes a test: each once, in key order, with the answers of its group
+pub record AreRowsWhere (test : Key → Bool) (sets : List ℕ) (dimensions : ℕ) (aggregates : List Agg) (facts : List Fact) (rows : List Row) : Type 0 where
+  pub cells : (key : Key) → Contains (map key_of rows) key ↔ (IsTrue (is_cell sets dimensions facts key) × IsTrue (test key))
+  pub ordered : IsStrictlySortedBy key_cmp (map key_of rows)
+  pub answers : AllByRecursion (HasAnswers aggregates facts) rows
+
+-- the row of a key's cell, or none where the key is no cell
+abbrev pub IsRowAt : List Agg → Cells → Key → Option Row → Type 0
+IsRowAt aggregates cells key None = cell_at cells key ≡ None
+IsRowAt aggregates cells key (Some row) = (t : Tally) × (cell_at cells key ≡ Some t) × IsRowOf aggregates (key, t) row
+
+-- the row of a key of the cube over these grouping sets, or none where the key is no cell
+abbrev pub IsRowOver : List ℕ → ℕ → List Agg → List Fact → Key → Option Row → Type 0
+IsRowOver sets dimensions aggregates facts key None = is_cell sets dimensions facts key ≡ false
+IsRowOver sets dimensions aggregates facts key (Some row) = (is_cell sets dimensions facts key ≡ true) × (row.key ≡ key) × HasAnswers aggregates facts row
+
+-- whether a code is wanted
+abbrev pub is_wanted_code : Want → ℕ → Bool
+is_wanted_code want.Any code = true
+is_wanted_code (want.Code wanted) code = code == wanted
+is_wanted_code (want.Not unwanted) code = not (code == unwanted)
+
+-- whether each code is wanted, as far as both lists go
+abbrev pub are_wanted_codes : List Want → List ℕ → Bool
+are_wanted_codes [] codes = true
+are_wanted_codes (w ∷ wants) [] = true
+are_wanted_codes (w ∷ wants) (code ∷ codes) = is_wanted_code w code && are_wanted_codes wants codes
+
+-- codes are wanted where their key passes a test
+abbrev pub AreWantsOf : Dictionaries → (Key → Bool) → List Want → Type 0
+AreWantsOf dictionaries test wants = (codes : List ℕ) → are_codes dictionaries codes ≡ true → length codes ≡ 8
+    → are_wanted_codes wants codes ≡ test (key_at dictionaries codes)

@@ -1,0 +1,189 @@
+//! The rows of a cube, in key order.
+ghost use Rattle.std.specs.Prelude.{◌≡◌, ◌≤◌, Bool, true, false, List, IfOk, IsTrue, length, map, filter, All};
+ghost use Rattle.std.specs.Cmp.Lexicographic.{slice_cmp};
+ghost use Rattle.std.specs.List.{AllZip, list_all};
+ghost use Rattle.std.specs.List.Sorted.{IsPermutation, IsSortedBy};
+ghost use Rattle.std.specs.Ordering.{nat_cmp, is_lt};
+ghost use Rattle.cube_core.specs.Answer.{AreAnswers};
+ghost use Rattle.cube_core.specs.Cube.{AreRowsOver};
+ghost use Rattle.cube_core.specs.Layout.{is_aggregate_of};
+ghost use Rattle.cube_core.specs.declared.fact.Fact.{Fact};
+ghost use Rattle.cube_core.specs.declared.key.Key.{Key};
+ghost use Rattle.cube_cells.specs.Codes.{are_codes, key_at, IsDictionary};
+ghost use Rattle.cube_cells.specs.Coded.{decoded};
+ghost use Rattle.cube_cells.specs.Cube.{IsCubeOf};
+ghost use Rattle.cube_cells.specs.Ranks.{ranks_of};
+ghost use Rattle.cube_cells.specs.Rows.{AreRowsOf, AreRowsWhere, AreAnswersOf, IsRowOf, AreWantsOf, is_wanted_code, are_wanted_codes};
+
+use super::Cube;
+use super::codes::Codes;
+use super::dictionary::Dictionary;
+use super::ranks::{Ranks, ranks_of, ranks_of_all};
+use crate::cell::Cell;
+use cube_core::{Agg, Key, Row, Sequence};
+use std::alloc::{AllocError, Global};
+use std::collections::HashMap;
+
+/// What is wanted of the code of a dimension.
+#[derive(Clone, Copy)]
+pub enum Want {
+    Any,
+    Code(u32),
+    Not(u32),
+}
+
+// Where a row comes from: a cell, and the ranks of its key.
+#[derive(Drop)]
+struct Place<'c> {
+    ranks: [u32; 8],
+    codes: &'c Codes,
+    cell: &'c Cell,
+}
+
+impl Cube {
+    /// The rows of all cells in key order: dimension by dimension, texts by their bytes, then null, then ALL.
+    pub fn rows(&self) -> Result<Vec<Row>, AllocError>
+        ensures rows { IfOk result (λ rows.
+            AreRowsOf (λ key. true) self.now.schema.aggregates self.now.cells rows.items) }
+        ensures cube { IfOk result (λ rows. (facts : List Fact) → IsCubeOf self.now facts →
+            AreRowsOver self.now.sets (length self.now.schema.dimensions)
+                self.now.schema.aggregates facts rows.items) }
+    {
+        self.rows_where(&[])
+    }
+
+    /// The rows of the cells whose codes are wanted.
+    pub(super) fn rows_where(&self, wants: &[Want]) -> Result<Vec<Row>, AllocError>
+        ensures { IfOk result (λ rows. (test : Key → Bool) →
+            AreWantsOf self.now.dictionaries test wants.now →
+            AreRowsOf test self.now.schema.aggregates self.now.cells rows.items) }
+    {
+        let ranks = ranks_of_all(self.alloc, &self.dictionaries)?;
+        let places = places_in_order(self.alloc, &ranks, &self.cells, wants)?;
+        rows_of(
+            self.alloc,
+            self.schema.aggregates(),
+            &self.dictionaries,
+            &places,
+        )
+    }
+}
+
+// The cells whose codes are wanted, by the ranks of their keys.
+fn places_in_order<'c>(
+    alloc: Global,
+    ranks: &[Ranks],
+    cells: &'c HashMap<Codes, Cell>,
+    wants: &[Want],
+) -> Result<Vec<Place<'c>>, AllocError>
+    requires { length ranks.now ≤ 8 }
+    ensures cells { IfOk result (λ places. IsPermutation
+        (filter (λ cell. are_wanted_codes wants.now cell.0.codes) cells.now.entries)
+        (map (λ place. (place.codes.now, place.cell.now)) places.items)) }
+    ensures ranks { IfOk result (λ places.
+        All (λ place. place.ranks ≡ ranks_of ranks.now place.codes.now.codes) places.items) }
+    ensures order { IfOk result (λ places.
+        IsSortedBy (λ a b. is_lt (slice_cmp nat_cmp a.ranks b.ranks)) places.items) }
+{
+    let mut places = places_of(alloc, ranks, cells, wants)?;
+    places.sort_unstable_by(|a, b| a.ranks.cmp(&b.ranks));
+    Ok(places)
+}
+
+// The cells whose codes are wanted.
+fn places_of<'c>(
+    alloc: Global,
+    ranks: &[Ranks],
+    cells: &'c HashMap<Codes, Cell>,
+    wants: &[Want],
+) -> Result<Vec<Place<'c>>, AllocError>
+    requires { length ranks.now ≤ 8 }
+    ensures cells { IfOk result (λ places.
+        map (λ place. (place.codes.now, place.cell.now)) places.items
+        ≡ filter (λ cell. are_wanted_codes wants.now cell.0.codes) cells.now.entries) }
+    ensures ranks { IfOk result (λ places.
+        All (λ place. place.ranks ≡ ranks_of ranks.now place.codes.now.codes) places.items) }
+{
+    let mut places = Vec::new(alloc);
+    for (codes, cell) in cells {
+        if are_wanted(wants, &codes.codes) {
+            let ranks = ranks_of(ranks, codes);
+            places.push(Place { ranks, codes, cell })?;
+        }
+    }
+    Ok(places)
+}
+
+// Whether each code is wanted, as far as both lists go.
+fn are_wanted(wants: &[Want], codes: &[u32]) -> bool
+    ensures { result ≡ are_wanted_codes wants.now codes.now }
+{
+    let Some((want, other_wants)) = wants.split_first() else {
+        return true;
+    };
+    let Some((code, other_codes)) = codes.split_first() else {
+        return true;
+    };
+    is_wanted(want, *code) && are_wanted(other_wants, other_codes)
+}
+
+fn is_wanted(want: &Want, code: u32) -> bool
+    ensures { result ≡ is_wanted_code want.now code }
+{
+    match want {
+        Want::Any => true,
+        Want::Code(wanted) => code == *wanted,
+        Want::Not(unwanted) => code != *unwanted,
+    }
+}
+
+// The rows of cells, in their order.
+fn rows_of(
+    alloc: Global,
+    aggregates: &[Agg],
+    dictionaries: &[Dictionary],
+    places: &[Place],
+) -> Result<Vec<Row>, AllocError>
+    requires dictionaries { length dictionaries.now ≤ 8 }
+    requires aggregates { All (λ place. list_all
+        (is_aggregate_of (length place.cell.now.bags)) aggregates.now ≡ true) places.now }
+    ensures { IfOk result (λ rows. AllZip (IsRowOf aggregates.now)
+        (map (λ place. (key_at dictionaries.now place.codes.now.codes, place.cell.now)) places.now)
+        rows.items) }
+{
+    let mut rows = Vec::with_capacity(alloc, places.len())?;
+    for place in places {
+        let key = key_of(alloc, dictionaries, place.codes)?;
+        rows.push(row_of(alloc, aggregates, key, place.cell)?)?;
+    }
+    Ok(rows)
+}
+
+// The key of codes.
+fn key_of(alloc: Global, dictionaries: &[Dictionary], codes: &Codes) -> Result<Key, AllocError>
+    requires { length dictionaries.now ≤ 8 }
+    ensures { IfOk result (λ key. key ≡ key_at dictionaries.now codes.now.codes) }
+{
+    let mut coords = Vec::with_capacity(alloc, dictionaries.len())?;
+    for (place, dictionary) in dictionaries.iter().enumerate() {
+        coords.push(dictionary.coord_at(alloc, codes.codes[place])?)?;
+    }
+    Ok(Key {
+        coords: Sequence::from_vec(coords),
+    })
+}
+
+/// The row of a key with a cell.
+pub fn row_of(alloc: Global, aggregates: &[Agg], key: Key, cell: &Cell) -> Result<Row, AllocError>
+    requires { list_all (is_aggregate_of (length cell.now.bags)) aggregates.now ≡ true }
+    ensures { IfOk result (IsRowOf aggregates.now (key, cell.now)) }
+{
+    let mut answers = Vec::with_capacity(alloc, aggregates.len())?;
+    for aggregate in aggregates {
+        answers.push(cell.answer(aggregate))?;
+    }
+    Ok(Row {
+        key,
+        answers: Sequence::from_vec(answers),
+    })
+}
