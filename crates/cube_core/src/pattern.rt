@@ -100,11 +100,11 @@ fn only_record(alloc: Global, text: &[u8]) -> Result<Option<ByteRecord>, AllocEr
 }
 
 /// What the fields of a record want; the error is `Field` where one has none of the four forms, or `Memory`.
-fn spelled_by(alloc: Global, record: &ByteRecord) -> Result<Pattern, QueryFault>
-    ensures { Says (spelled_by (fields_of record.now)) result }
+fn spelled_by(alloc: Global, fields: &ByteRecord) -> Result<Pattern, QueryFault>
+    ensures { Says (spelled_by (fields_of fields.now)) result }
 {
-    let mut wanted = Vec::with_capacity(alloc, record.len())?;
-    for field in record {
+    let mut wanted = Vec::with_capacity(alloc, fields.len())?;
+    for field in fields {
         wanted.push(wanted_by(alloc, field)?)?;
     }
     Ok(Pattern { wanted })

@@ -86,7 +86,8 @@ impl<'r> Fields<'r> {
     pub(crate) fn text_at(&self, place: usize) -> Result<&str, Stop>
         ensures text { IfOk result (λ text. text.now ≡ field_at self.now place) }
         ensures sound { IfOk result (λ _. is_utf8 (field_at self.now place) ≡ true) }
-        ensures line { IfErr result (λ e. (e ≡ stop.Line) × (is_utf8 (field_at self.now place) ≡ false)) }
+        ensures line { IfErr result (λ e.
+            (e ≡ stop.Line) × (is_utf8 (field_at self.now place) ≡ false)) }
     {
         let field = self.bytes_at(place);
         if self.are_ascii {

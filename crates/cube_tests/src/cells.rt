@@ -42,7 +42,11 @@ fn check_end(
     assert_eq!(rt; ends_of(&values), both, "beside {others}");
     assert!(rt; values.remove(end), "beside {others}");
     assert!(rt; !values.remove(end), "beside {others}");
-    assert_eq!(rt; ends_of(&values), (last.map(|_| 0), last), "beside {others}");
+    assert_eq!(rt;
+        ends_of(&values),
+        (last.map(|_| 0), last),
+        "beside {others}"
+    );
     Ok(())
 }
 

@@ -56,7 +56,8 @@ fn values_of(
     key: &Key,
     facts: &[Fact],
 ) -> Result<Vec<i64>, AllocError>
-    ensures { IfOk result (λ values. values.items ≡ values_of measure (group_of key.now facts.now)) }
+    ensures { IfOk result (λ values.
+        values.items ≡ values_of measure (group_of key.now facts.now)) }
 {
     facts
         .iter()

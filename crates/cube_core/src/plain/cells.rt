@@ -63,7 +63,8 @@ fn insert_ancestors(
     requires { All (λ set. set < 2 ^ length fact.now.dims) sets.now }
     ensures { OnOk result
         ((key : Key) → contains key_cmp keys.new key
-        ≡ (contains key_cmp keys.old key || (is_among (mask_of key) sets.now && covers key fact.now))) }
+        ≡ (contains key_cmp keys.old key
+        || (is_among (mask_of key) sets.now && covers key fact.now))) }
 {
     for set in sets {
         insert_key(keys, ancestor(alloc, fact.dims.as_slice(), *set)?)?;
@@ -73,7 +74,8 @@ fn insert_ancestors(
 
 fn insert_key(keys: &mut BTreeSet<Key>, key: Key) -> Result<(), AllocError>
     ensures { OnOk result
-        ((other : Key) → contains key_cmp keys.new other ≡ (contains key_cmp keys.old other || eq_by_cmp key_cmp key other)) }
+        ((other : Key) → contains key_cmp keys.new other
+        ≡ (contains key_cmp keys.old other || eq_by_cmp key_cmp key other)) }
 {
     keys.insert(key)?;
     Ok(())

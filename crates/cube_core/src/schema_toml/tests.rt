@@ -366,20 +366,26 @@ fn expect_sets(
     Ok(())
 }
 
+/// Whether a schema of one dimension keeps the key with this coordinate.
+fn keeps(
+    rt: &impl Abort,
+    alloc: Global,
+    schema: &Schema,
+    coord: Coord,
+) -> Result<bool, AllocError> {
+    let coords = vec![in alloc; coord]?;
+    assert!(rt; coords.len() == schema.dimensions().len());
+    Ok(schema.keeps(&Key {
+        coords: Sequence::from_vec(coords),
+    }))
+}
+
 #[test]
 fn a_schema_keeps_a_key_of_a_set_that_it_names(rt: HostRuntime) -> Result<(), Fail> {
     let text = "dimensions = ['d']\nmeasures = ['m']\naggregates = ['sum(m)']\ngrouping = [['d']]";
     let schema = Schema::from_toml(rt.alloc(), text.as_bytes())?;
-    let coords = vec![in rt.alloc(); Coord::Null]?;
-    let null = Key {
-        coords: Sequence::from_vec(coords),
-    };
-    let coords = vec![in rt.alloc(); Coord::All]?;
-    let total = Key {
-        coords: Sequence::from_vec(coords),
-    };
-    assert_eq!(rt; schema.keeps(&null), true);
-    assert_eq!(rt; schema.keeps(&total), false);
+    assert_eq!(rt; keeps(&rt, rt.alloc(), &schema, Coord::Null)?, true);
+    assert_eq!(rt; keeps(&rt, rt.alloc(), &schema, Coord::All)?, false);
     Ok(())
 }
 

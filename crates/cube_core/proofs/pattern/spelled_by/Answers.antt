@@ -8,7 +8,7 @@ use Rattle.cube_core.proofs.pattern.spelled_by.Goals as goal
 
 pub returns-in_err-wanted_by : goal.returns-in_err-wanted_by
 returns-in_err-wanted_by c =
-    let fields = fields_of c.args.record.now in
+    let fields = fields_of c.args.fields.now in
     let at : Some c.in-Some.field.now ≡ field_at fields c.loop-field.field-iterator.at = rw c.loop-field.invariant.row at c.in-Some.ensures.steps.1 in
     let why = c.in_err-wanted_by.field-0.0 in
     let gave : c.from_residual-in_err-wanted_by.result ≡ Err why = search rules in
@@ -17,7 +17,7 @@ returns-in_err-wanted_by c =
 
 pub loop-field-preserved : goal.loop-field-preserved
 loop-field-preserved c =
-    let fields = fields_of c.args.record.now in
+    let fields = fields_of c.args.fields.now in
     let at : Some c.in-Some.field.now ≡ field_at fields c.loop-field.field-iterator.at = rw c.loop-field.invariant.row at c.in-Some.ensures.steps.1 in
     let said : Ok c.in_ok-wanted_by.field-0 ≡ ok_or (wanted_by c.in-Some.field.now) fault.Field = search rules in
     let pushed : c.push.new.self.items ≡ c.loop-field.wanted.items ++ c.in_ok-wanted_by.field-0 ∷ [] = search rules in
@@ -31,6 +31,6 @@ loop-field-preserved c =
 
 pub returns : goal.returns
 returns c =
-    let fields = fields_of c.args.record.now in
+    let fields = fields_of c.args.fields.now in
     let at : None ≡ field_at fields c.loop-field.field-iterator.at = rw c.loop-field.invariant.row at c.in-None.ensures.steps.1 in
     wanted_all fields c.loop-field.field-iterator.at c.loop-field.wanted.items at c.loop-field.invariant.found c.loop-field.invariant.spelled
