@@ -86,7 +86,8 @@ impl<'r> Fields<'r> {
     pub(crate) fn text_at(&self, place: usize) -> Result<&str, Stop>
         ensures text { IfOk result (λ text. text.now ≡ field_at self.now place) }
         ensures sound { IfOk result (λ _. is_utf8 (field_at self.now place) ≡ true) }
-        ensures line { IfErr result (λ e. (e ≡ stop.Line) × (is_utf8 (field_at self.now place) ≡ false)) }
+        ensures line { IfErr result (λ e.
+            (e ≡ stop.Line) × (is_utf8 (field_at self.now place) ≡ false)) }
     {
         let field = self.bytes_at(place);
         if self.are_ascii {
@@ -153,7 +154,8 @@ impl Spelled for Option<i64> {
 
 /// A field of an amendment: a value, or that it keeps the old one.
 impl<T: Spelled> Spelled for Field<T> {
-    ghost spells = { λ text. if bytes_eq text keep_text then Some field.Keep else option_map field.Put (T.spells text) };
+    ghost spells = { λ text.
+        if bytes_eq text keep_text then Some field.Keep else option_map field.Put (T.spells text) };
 
     fn read(alloc: Global, text: &str) -> Result<Field<T>, Stop> {
         if is_keep_text(text.as_bytes()) {

@@ -18,8 +18,10 @@ fn values<T: Spelled>(
 ) -> Result<Sequence<T>, Stop>
     requires in_order { start ≤ end }
     requires in_record { end ≤ length fields.now }
-    ensures values { IfOk result (λ values. values ≡ filter_map T.spells (slice_range fields.now start end)) }
-    ensures sound { IfOk result (λ _. list_all (is_sound T.spells) (slice_range fields.now start end) ≡ true) }
+    ensures values { IfOk result (λ values.
+        values ≡ filter_map T.spells (slice_range fields.now start end)) }
+    ensures sound { IfOk result (λ _.
+        list_all (is_sound T.spells) (slice_range fields.now start end) ≡ true) }
     ensures line { IfErr result (λ e. e ≡ stop.Line →
         list_all (is_sound T.spells) (slice_range fields.now start end) ≡ false) }
 {
@@ -60,10 +62,13 @@ fn parts<D: Spelled, M: Spelled>(
 ) -> Result<(Text, Sequence<D>, Sequence<M>), Stop>
     requires { length fields.now ≡ width_of schema.now }
     ensures id { IfOk result (λ parts. parts.0 ≡ field_at fields.now 1) }
-    ensures dims { IfOk result (λ parts. parts.1 ≡ filter_map D.spells (dimension_fields schema.now fields.now)) }
-    ensures measures { IfOk result (λ parts. parts.2 ≡ filter_map M.spells (measure_fields schema.now fields.now)) }
+    ensures dims { IfOk result (λ parts.
+        parts.1 ≡ filter_map D.spells (dimension_fields schema.now fields.now)) }
+    ensures measures { IfOk result (λ parts.
+        parts.2 ≡ filter_map M.spells (measure_fields schema.now fields.now)) }
     ensures sound { IfOk result (λ _. are_sound D.spells M.spells schema.now fields.now ≡ true) }
-    ensures line { IfErr result (λ e. e ≡ stop.Line → are_sound D.spells M.spells schema.now fields.now ≡ false) }
+    ensures line { IfErr result (λ e.
+        e ≡ stop.Line → are_sound D.spells M.spells schema.now fields.now ≡ false) }
 {
     let first_measure = 2 + schema.dimensions().len();
     let id = id(alloc, fields)?;
@@ -139,7 +144,8 @@ fn insert(
     schema: &Schema,
     fields: &Fields<'_>,
 ) -> Result<Result<Change, LineFault>, AllocError>
-    ensures { IfOk result (λ what. what ≡ put_of (insert_of schema.now fields.now) schema.now fields.now) }
+    ensures { IfOk result (λ what.
+        what ≡ put_of (insert_of schema.now fields.now) schema.now fields.now) }
 {
     if keeps_any(schema, fields) {
         return match put::<Field<Option<Text>>, Field<Option<i64>>>(alloc, schema, fields)? {
@@ -161,7 +167,8 @@ fn update(
     schema: &Schema,
     fields: &Fields<'_>,
 ) -> Result<Result<Change, LineFault>, AllocError>
-    ensures { IfOk result (λ what. what ≡ put_of (update_of schema.now fields.now) schema.now fields.now) }
+    ensures { IfOk result (λ what.
+        what ≡ put_of (update_of schema.now fields.now) schema.now fields.now) }
 {
     if keeps_any(schema, fields) {
         return match put::<Field<Option<Text>>, Field<Option<i64>>>(alloc, schema, fields)? {
