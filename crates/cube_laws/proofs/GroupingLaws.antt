@@ -51,7 +51,7 @@ AreRows-all_sets document s facts rows is none are =
     subst (λ sets. AreRowsOver sets (length s.dimensions) s.aggregates facts rows) (grouping_sets-all_sets document s is none) are
 
 -- a name that is no dimension adds nothing to a mask
-mask_of_names-other : (name : List ℕ) (dimensions names : List (List ℕ)) → is_listed name dimensions ≡ false → mask_of_names dimensions (name ∷ names) ≡ mask_of_names dimensions names
+pub mask_of_names-other : (name : List ℕ) (dimensions names : List (List ℕ)) → is_listed name dimensions ≡ false → mask_of_names dimensions (name ∷ names) ≡ mask_of_names dimensions names
 mask_of_names-other name [] names other = refl
 mask_of_names-other name (dimension ∷ dimensions) names other =
     let (here, after) = neither (bytes_eq name dimension) (is_listed name dimensions) other in
@@ -91,7 +91,7 @@ map-same f g a (suc n) same =
     ap₂ (λ x xs. x ∷ xs) (same a (omega arith)) (map-same f g (a + 1) n (λ i below. same i (omega (arith, below))))
 
 -- the first of names that differ differ
-are_distinct-front : (front end : List (List ℕ)) → are_distinct (front ++ end) ≡ true → are_distinct front ≡ true
+pub are_distinct-front : (front end : List (List ℕ)) → are_distinct (front ++ end) ≡ true → are_distinct front ≡ true
 are_distinct-front [] end distinct = refl
 are_distinct-front (name ∷ front) end distinct =
     let (other, others) = and_parts (not (is_listed name (front ++ end))) (are_distinct (front ++ end)) distinct in
@@ -112,12 +112,12 @@ rollup_sets-first_sets dimensions distinct =
     (λ first below. mask_of_names-take dimensions first distinct (omega (arith, below)))
 
 -- numbers that rise, from a on and below b
-abbrev Rise : ℕ → ℕ → List ℕ → Type 0
+abbrev pub Rise : ℕ → ℕ → List ℕ → Type 0
 Rise a b [] = ⊤
 Rise a b (x ∷ xs) = (a ≤ x) × (x < b) × Rise (x + 1) b xs
 
 -- such numbers have none below a
-is_among-Rise : (set a b : ℕ) (xs : List ℕ) → Rise a b xs → set < a → is_among set xs ≡ false
+pub is_among-Rise : (set a b : ℕ) (xs : List ℕ) → Rise a b xs → set < a → is_among set xs ≡ false
 is_among-Rise set a b [] rise before = refl
 is_among-Rise set a b (x ∷ xs) rise before =
     let differs : (x == set) ≡ false = grind (arith, nat_tests, rise.0) in
@@ -131,7 +131,7 @@ is_among-below x a (suc n) xs before =
     rw differs (ap (λ rest. cond (is_among a xs) (a ∷ rest) rest) (is_among-below x (a + 1) n xs (omega (arith, before))))
 
 -- of the numbers from a on those among rising ones are these
-filter-Rise : (a n b : ℕ) (xs : List ℕ) → a + n ≡ b → Rise a b xs → filter (λ set. is_among set xs) (range_with_len a n) ≡ xs
+pub filter-Rise : (a n b : ℕ) (xs : List ℕ) → a + n ≡ b → Rise a b xs → filter (λ set. is_among set xs) (range_with_len a n) ≡ xs
 filter-Rise a zero b [] is rise = refl
 filter-Rise a zero b (x ∷ xs) is rise = absurd (omega (arith, rise.0, rise.1, is))
 filter-Rise a (suc n) b [] is rise = filter-Rise (a + 1) n b [] (omega (arith, is)) tt

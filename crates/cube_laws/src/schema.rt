@@ -1,4 +1,4 @@
-//! What a schema file writes: a document that writes a schema is read as it, and each spelling is of one aggregate.
+//! What a schema file writes: each schema can be written, and each spelling is of one aggregate.
 ghost use Rattle.std.specs.Prelude.{◌≡◌, ◌+◌, ◌-◌, ◌^◌, Some, None, Ok, List, length, map, codes, true};
 ghost use Rattle.std.specs.List.{range_with_len};
 ghost use Rattle.toml.specs.Data.{Members, string, get_member};
@@ -11,11 +11,16 @@ ghost use Rattle.cube_core.specs.declared.aggregate.Agg.{Agg};
 ghost use Rattle.cube_core.specs.declared.fact.Fact.{Fact};
 ghost use Rattle.cube_core.specs.declared.key.Row.{Row};
 
-/// A document that writes a schema is read as that schema and no other. That each schema has such a document is no
-/// part of this law.
+/// A document that writes a schema is read as that schema and no other: no schema is refused, and none is taken for
+/// another.
 pub fn written_schema_is_read()
     ensures { (document : Members) (s : Layout) →
         IsSchema s → Writes document s → schema_of document ≡ Ok s }
+{}
+
+/// Each schema is written by some document (of TOML's values; the text of a file isn't spoken of).
+pub fn each_schema_can_be_written()
+    ensures { (s : Layout) → IsSchema s → (document : Members) × Writes document s }
 {}
 
 /// In a schema the spelling of an aggregate is read as that aggregate, so that no two share a spelling, whatever
