@@ -18,12 +18,12 @@ use Rattle.cube_core.specs.declared.change.Change.{Change}
 use Rattle.cube_core.specs.declared.change.Change.TheVariants.{Insert, Update, Amend}
 use Rattle.cube_core.specs.declared.change.LineFault.{LineFault}
 use Rattle.cube_core.specs.declared.change.LineFault.TheVariants as fault
-use Rattle.cube_feed.specs.Lines.{is_sound_id, is_sound, are_sound, read_of}
+use Rattle.cube_feed.specs.SoundFields.{is_sound_id, is_sound, are_sound, read_of}
 
 -- two tests of each field
-both_tests : (p q : List ℕ → Bool) (fields : List (List ℕ)) → list_all (λ field. p field && q field) fields ≡ (list_all p fields && list_all q fields)
-both_tests p q [] = refl
-both_tests p q (field ∷ fields) = rw (both_tests p q fields) (four (p field) (q field) (list_all p fields) (list_all q fields))
+list_all-and : (p q : List ℕ → Bool) (fields : List (List ℕ)) → list_all (λ field. p field && q field) fields ≡ (list_all p fields && list_all q fields)
+list_all-and p q [] = refl
+list_all-and p q (field ∷ fields) = rw (list_all-and p q fields) (four (p field) (q field) (list_all p fields) (list_all q fields))
   where
     four : (a b c d : Bool) → ((a && b) && (c && d)) ≡ ((a && c) && (b && d))
     four false b c d = refl
@@ -32,21 +32,21 @@ both_tests p q (field ∷ fields) = rw (both_tests p q fields) (four (p field) (
     four true true c d = refl
 
 -- the fields after the operation are the id, the dimensions and the measures
-pub parts_of : (fields : List (List ℕ)) (first_measure : ℕ) → 2 ≤ first_measure → first_measure ≤ length fields
+pub drop-slice_range : (fields : List (List ℕ)) (first_measure : ℕ) → 2 ≤ first_measure → first_measure ≤ length fields
     → drop 1 fields ≡ get_or fields 1 [] ∷ (slice_range fields 2 first_measure ++ drop first_measure fields)
-parts_of fields first_measure h k =
+drop-slice_range fields first_measure h k =
     let one : 1 < length fields = omega arith in
     let whole : 2 + (first_measure - 2) ≡ first_measure = omega arith in
     let tail = rw (drop-drop (first_measure - 2) 2 fields, whole) at (take-append-drop (first_measure - 2) (drop 2 fields)) in
     drop-cons fields 1 [] one ∙ ap (λ (rest : List (List ℕ)). get_or fields 1 [] ∷ rest) (sym tail)
 
 -- a part up to the end is all the rest
-pub part_to_end : (fields : List (List ℕ)) (start : ℕ) → slice_range fields start (length fields) ≡ drop start fields
-part_to_end fields start = take_all (length fields - start) (drop start fields) (omega (arith, length-drop start fields))
+pub slice_range-drop : (fields : List (List ℕ)) (start : ℕ) → slice_range fields start (length fields) ≡ drop start fields
+slice_range-drop fields start = take_all (length fields - start) (drop start fields) (omega (arith, length-drop start fields))
 
 -- the fields of the dimensions are those after the id
-pub dimension_part : (s : Layout) (fields : List (List ℕ)) → slice_range fields 2 (2 + length s.dimensions) ≡ dimension_fields s fields
-dimension_part s fields = let count : (2 + length s.dimensions) - 2 ≡ length s.dimensions = omega arith in rw count refl
+pub slice_range-dimension_fields : (s : Layout) (fields : List (List ℕ)) → slice_range fields 2 (2 + length s.dimensions) ≡ dimension_fields s fields
+slice_range-dimension_fields s fields = let count : (2 + length s.dimensions) - 2 ≡ length s.dimensions = omega arith in rw count refl
 
 -- what an answer to a reading says: the fault, or what follows from the parts
 abbrev pub then_say : {X : Type 0} → Result X LineFault → (X → Result Change LineFault) → Result Change LineFault
@@ -54,29 +54,29 @@ then_say (Ok parts) answer = answer parts
 then_say (Err why) answer = Err why
 
 -- a filter map that gives something of each item is sound of each that is UTF-8
-sound_always : {A : Type 0} (spells : List ℕ → Option A) → ((field : List ℕ) → is_some (spells field) ≡ true) → (fields : List (List ℕ))
+list_all-is_sound : {A : Type 0} (spells : List ℕ → Option A) → ((field : List ℕ) → is_some (spells field) ≡ true) → (fields : List (List ℕ))
     → list_all (is_sound spells) fields ≡ list_all is_utf8 fields
-sound_always spells always [] = refl
-sound_always spells always (field ∷ fields) = rw (always field, sound_always spells always fields) (ap (λ b. b && list_all is_utf8 fields) (and-true (is_utf8 field)))
+list_all-is_sound spells always [] = refl
+list_all-is_sound spells always (field ∷ fields) = rw (always field, list_all-is_sound spells always fields) (ap (λ b. b && list_all is_utf8 fields) (and-true (is_utf8 field)))
   where
     and-true : (b : Bool) → (b && true) ≡ b
     and-true true = refl
     and-true false = refl
 
 -- the first fault of a record is the same, whether its fields are looked at one by one or test by test
-same_fault : {X : Type 0} (id dims measures empty lawful : Bool) (parts : X) (answer : X → Result Change LineFault)
+then_say-fault : {X : Type 0} (id dims measures empty lawful : Bool) (parts : X) (answer : X → Result Change LineFault)
     → then_say (if not (((id && not empty) && dims) && (measures && lawful))
     then Err (if not (id && (dims && measures)) then fault.Text else if empty then fault.Id else fault.Measure) else Ok parts) answer
     ≡ (if not (id && (dims && measures)) then Err fault.Text
     else if empty then Err fault.Id else if not lawful then Err fault.Measure else answer parts)
-same_fault false dims measures empty lawful parts answer = refl
-same_fault true false measures true lawful parts answer = refl
-same_fault true false measures false lawful parts answer = refl
-same_fault true true false true lawful parts answer = refl
-same_fault true true false false lawful parts answer = refl
-same_fault true true true true lawful parts answer = refl
-same_fault true true true false true parts answer = refl
-same_fault true true true false false parts answer = refl
+then_say-fault false dims measures empty lawful parts answer = refl
+then_say-fault true false measures true lawful parts answer = refl
+then_say-fault true false measures false lawful parts answer = refl
+then_say-fault true true false true lawful parts answer = refl
+then_say-fault true true false false lawful parts answer = refl
+then_say-fault true true true true lawful parts answer = refl
+then_say-fault true true true false true parts answer = refl
+then_say-fault true true true false false parts answer = refl
 
 -- what is read of a record says what the record spells, where each text is a dimension and the measures are those of the schema
 read_of-put_of : {D M : Type 0} (dimension : List ℕ → Option D) (measure : List ℕ → Option M) (s : Layout) (fields : List (List ℕ))
@@ -93,10 +93,10 @@ read_of-put_of dimension measure s fields answer always alike =
       | inl right ↦
           let long : length fields ≡ width_of s = eqb-true _ _ right in
           let texts : list_all is_utf8 (drop 1 fields) ≡ (is_utf8 id && (list_all is_utf8 dims && list_all is_utf8 measures)) =
-          ap (list_all is_utf8) (parts_of fields (2 + length s.dimensions) (omega arith) (omega arith) ∙ ap (λ part. id ∷ (part ++ measures)) (dimension_part s fields))
+          ap (list_all is_utf8) (drop-slice_range fields (2 + length s.dimensions) (omega arith) (omega arith) ∙ ap (λ part. id ∷ (part ++ measures)) (slice_range-dimension_fields s fields))
           ∙ ap (λ b. is_utf8 id && b) (list_all-append is_utf8 dims measures) in
-          rw (right, texts, sound_always dimension always dims, both_tests is_utf8 (λ field. is_some (measure field)) measures, alike)
-          (same_fault (is_utf8 id) (list_all is_utf8 dims) (list_all is_utf8 measures) (length id == 0) (list_all (λ field. is_some (measure field)) measures)
+          rw (right, texts, list_all-is_sound dimension always dims, list_all-and is_utf8 (λ field. is_some (measure field)) measures, alike)
+          (then_say-fault (is_utf8 id) (list_all is_utf8 dims) (list_all is_utf8 measures) (length id == 0) (list_all (λ field. is_some (measure field)) measures)
           (id, filter_map dimension dims, filter_map measure measures) answer)
       | inr wrong ↦ rw wrong refl
     ]
@@ -122,14 +122,14 @@ keeps_any-parts s fields = elim (cases_Bool (may_amend s)) [
     none never (f ∷ fs) = rw never (none never fs)
 
 -- so a field keeps its value where the version is 2 and a field says so, and none does in the other version
-pub keeps_some : (s : Layout) (fields : List (List ℕ)) (version : ℕ) (some : Bool) → version ≡ s.version → version ≡ 2
+pub keeps_any-some : (s : Layout) (fields : List (List ℕ)) (version : ℕ) (some : Bool) → version ≡ s.version → version ≡ 2
     → some ≡ list_any (λ field. bytes_eq field keep_text) (drop 2 fields) → some ≡ keeps_any s fields
-keeps_some s fields version some is two found =
+keeps_any-some s fields version some is two found =
     let amends : may_amend s ≡ true = eq-eqb _ _ (sym is ∙ two) in
     found ∙ ap (λ b. b && list_any (λ field. bytes_eq field keep_text) (drop 2 fields)) (sym amends) ∙ keeps_any-parts s (drop 2 fields)
 
-pub keeps_none : (s : Layout) (fields : List (List ℕ)) (version : ℕ) → version ≡ s.version → (version ≡ 2 → ⊥) → (version == 2) ≡ keeps_any s fields
-keeps_none s fields version is other =
+pub keeps_any-none : (s : Layout) (fields : List (List ℕ)) (version : ℕ) → version ≡ s.version → (version ≡ 2 → ⊥) → (version == 2) ≡ keeps_any s fields
+keeps_any-none s fields version is other =
     let never : may_amend s ≡ false = ne_eqb _ _ (λ two. other (is ∙ two)) in
     ne_eqb version 2 other
     ∙ ap (λ b. b && list_any (λ field. bytes_eq field keep_text) (drop 2 fields)) (sym never) ∙ keeps_any-parts s (drop 2 fields)
@@ -142,12 +142,12 @@ abbrev pub measure_put : List ℕ → Option (Field (Option ℤ))
 measure_put text = if bytes_eq text keep_text then Some Keep else option_map Put (measure_of text)
 
 -- a record without a kept field spells a fact
-fact_says : (s : Layout) (fields : List (List ℕ)) → keeps_any s fields ≡ false
+then_say-fact_of : (s : Layout) (fields : List (List ℕ)) → keeps_any s fields ≡ false
     → (read : Result (List ℕ × List (Option (List ℕ)) × List (Option ℤ)) LineFault) → read ≡ read_of (λ text. Some (dimension_of text)) measure_of s fields
     → (change : List ℕ → Fact → Change)
     → then_say read (λ parts. Ok (change parts.0 (record { dims = parts.1; measures = parts.2 })))
     ≡ put_of (Ok (change (field_at fields 1) (fact_of s fields))) s fields
-fact_says s fields none read is change =
+then_say-fact_of s fields none read is change =
     let dims = filter_map-some (λ text. Some (dimension_of text)) dimension_of (λ text. refl) (dimension_fields s fields) in
     let said : List ℕ × List (Option (List ℕ)) × List (Option ℤ) → Result Change LineFault = λ parts. Ok (change parts.0 (record { dims = parts.1; measures = parts.2 })) in
     ap (λ r. then_say r said) is
@@ -156,11 +156,11 @@ fact_says s fields none read is change =
     ∙ ap (λ (values : List (Option (List ℕ))). put_of (said (field_at fields 1, values, filter_map measure_of (measure_fields s fields))) s fields) dims
 
 -- a record with a kept field spells an amendment, or nothing where there is nothing to amend
-part_says : (s : Layout) (fields : List (List ℕ)) → keeps_any s fields ≡ true
+then_say-part_of : (s : Layout) (fields : List (List ℕ)) → keeps_any s fields ≡ true
     → (read : Result (List ℕ × List (Field (Option (List ℕ))) × List (Field (Option ℤ))) LineFault) → read ≡ read_of dimension_put measure_put s fields
     → (said : List ℕ → Partial → Result Change LineFault)
     → then_say read (λ parts. said parts.0 (record { dims = parts.1; measures = parts.2 })) ≡ put_of (said (field_at fields 1) (part_of s fields)) s fields
-part_says s fields keeps read is said =
+then_say-part_of s fields keeps read is said =
     let amends : may_amend s ≡ true = may_amend-keeps s (drop 2 fields) keeps in
     let dims : filter_map dimension_put (dimension_fields s fields) ≡ map (dimension_field_of s) (dimension_fields s fields) =
     filter_map-some dimension_put (dimension_field_of s) (puts amends) (dimension_fields s fields) in
@@ -187,55 +187,55 @@ part_says s fields keeps read is said =
     ]
 
 -- what an insert says, and an update
-pub insert_says : (s : Layout) (fields : List (List ℕ)) → false ≡ keeps_any s fields
+pub insert_of-fact : (s : Layout) (fields : List (List ℕ)) → false ≡ keeps_any s fields
     → (read : Result (List ℕ × List (Option (List ℕ)) × List (Option ℤ)) LineFault) → read ≡ read_of (λ text. Some (dimension_of text)) measure_of s fields
     → then_say read (λ parts. Ok (Insert parts.0 (record { dims = parts.1; measures = parts.2 }))) ≡ put_of (insert_of s fields) s fields
-insert_says s fields none read is =
-    fact_says s fields (sym none) read is Insert
+insert_of-fact s fields none read is =
+    then_say-fact_of s fields (sym none) read is Insert
     ∙ ap (λ b. put_of (if b then Err fault.Keep else Ok (Insert (field_at fields 1) (fact_of s fields))) s fields) none
 
-pub update_says : (s : Layout) (fields : List (List ℕ)) → false ≡ keeps_any s fields
+pub update_of-fact : (s : Layout) (fields : List (List ℕ)) → false ≡ keeps_any s fields
     → (read : Result (List ℕ × List (Option (List ℕ)) × List (Option ℤ)) LineFault) → read ≡ read_of (λ text. Some (dimension_of text)) measure_of s fields
     → then_say read (λ parts. Ok (Update parts.0 (record { dims = parts.1; measures = parts.2 }))) ≡ put_of (update_of s fields) s fields
-update_says s fields none read is =
-    fact_says s fields (sym none) read is Update
+update_of-fact s fields none read is =
+    then_say-fact_of s fields (sym none) read is Update
     ∙ ap (λ b. put_of (if b then Ok (Amend (field_at fields 1) (part_of s fields)) else Ok (Update (field_at fields 1) (fact_of s fields))) s fields) none
 
 -- and both, where they keep a field
-pub keep_says : (s : Layout) (fields : List (List ℕ)) → true ≡ keeps_any s fields
+pub insert_of-keep : (s : Layout) (fields : List (List ℕ)) → true ≡ keeps_any s fields
     → (read : Result (List ℕ × List (Field (Option (List ℕ))) × List (Field (Option ℤ))) LineFault) → read ≡ read_of dimension_put measure_put s fields
     → then_say read (λ parts. Err fault.Keep) ≡ put_of (insert_of s fields) s fields
-keep_says s fields keeps read is =
-    part_says s fields (sym keeps) read is (λ id part. Err fault.Keep)
+insert_of-keep s fields keeps read is =
+    then_say-part_of s fields (sym keeps) read is (λ id part. Err fault.Keep)
     ∙ ap (λ b. put_of (if b then Err fault.Keep else Ok (Insert (field_at fields 1) (fact_of s fields))) s fields) keeps
 
-pub amend_says : (s : Layout) (fields : List (List ℕ)) → true ≡ keeps_any s fields
+pub update_of-keep : (s : Layout) (fields : List (List ℕ)) → true ≡ keeps_any s fields
     → (read : Result (List ℕ × List (Field (Option (List ℕ))) × List (Field (Option ℤ))) LineFault) → read ≡ read_of dimension_put measure_put s fields
     → then_say read (λ parts. Ok (Amend parts.0 (record { dims = parts.1; measures = parts.2 }))) ≡ put_of (update_of s fields) s fields
-amend_says s fields keeps read is =
-    part_says s fields (sym keeps) read is (λ id part. Ok (Amend id part))
+update_of-keep s fields keeps read is =
+    then_say-part_of s fields (sym keeps) read is (λ id part. Ok (Amend id part))
     ∙ ap (λ b. put_of (if b then Ok (Amend (field_at fields 1) (part_of s fields)) else Ok (Update (field_at fields 1) (fact_of s fields))) s fields) keeps
 
 -- a part of a record that isn't sound
-pub unsound_dimensions : {D M : Type 0} (dimension : List ℕ → Option D) (measure : List ℕ → Option M) (s : Layout) (fields : List (List ℕ)) (names : List (List ℕ))
+pub are_sound-dimensions : {D M : Type 0} (dimension : List ℕ → Option D) (measure : List ℕ → Option M) (s : Layout) (fields : List (List ℕ)) (names : List (List ℕ))
     → names ≡ s.dimensions → list_all (is_sound dimension) (slice_range fields 2 (2 + length names)) ≡ false → are_sound dimension measure s fields ≡ false
-unsound_dimensions dimension measure s fields names is bad =
-    let dims = rw (is, dimension_part s fields) at bad in
+are_sound-dimensions dimension measure s fields names is bad =
+    let dims = rw (is, slice_range-dimension_fields s fields) at bad in
     rw dims (and_left _ _ (and_right _ _ refl))
 
-pub unsound_measures : {D M : Type 0} (dimension : List ℕ → Option D) (measure : List ℕ → Option M) (s : Layout) (fields : List (List ℕ)) (names : List (List ℕ)) (fields_end : ℕ)
+pub are_sound-measures : {D M : Type 0} (dimension : List ℕ → Option D) (measure : List ℕ → Option M) (s : Layout) (fields : List (List ℕ)) (names : List (List ℕ)) (fields_end : ℕ)
     → names ≡ s.dimensions → fields_end ≡ length fields
     → list_all (is_sound measure) (slice_range fields (2 + length names) fields_end) ≡ false → are_sound dimension measure s fields ≡ false
-unsound_measures dimension measure s fields names fields_end is end bad =
-    let measures = rw (is, end, part_to_end fields (2 + length s.dimensions)) at bad in
+are_sound-measures dimension measure s fields names fields_end is end bad =
+    let measures = rw (is, end, slice_range-drop fields (2 + length s.dimensions)) at bad in
     rw measures (and_right _ _ refl)
 
 -- a record whose parts are all sound
-pub sound_whole : {D M : Type 0} (dimension : List ℕ → Option D) (measure : List ℕ → Option M) (s : Layout) (fields : List (List ℕ)) (names : List (List ℕ)) (fields_end : ℕ)
+pub are_sound-parts : {D M : Type 0} (dimension : List ℕ → Option D) (measure : List ℕ → Option M) (s : Layout) (fields : List (List ℕ)) (names : List (List ℕ)) (fields_end : ℕ)
     → names ≡ s.dimensions → fields_end ≡ length fields
     → is_sound_id (field_at fields 1) ≡ true → list_all (is_sound dimension) (slice_range fields 2 (2 + length names)) ≡ true
     → list_all (is_sound measure) (slice_range fields (2 + length names) fields_end) ≡ true → are_sound dimension measure s fields ≡ true
-sound_whole dimension measure s fields names fields_end is end id dims measures =
-    let first = rw (is, dimension_part s fields) at dims in
-    let second = rw (is, end, part_to_end fields (2 + length s.dimensions)) at measures in
+are_sound-parts dimension measure s fields names fields_end is end id dims measures =
+    let first = rw (is, slice_range-dimension_fields s fields) at dims in
+    let second = rw (is, end, slice_range-drop fields (2 + length s.dimensions)) at measures in
     and_from _ _ (and_from _ _ id first) second

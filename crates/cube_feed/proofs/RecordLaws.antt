@@ -14,19 +14,19 @@ use Rattle.csv.specs.declared.parser.State.TheVariants as st
 pub record Shrinks (before : List ℕ) (state : State) (left : List ℕ) : Type 0 where
   pub is : (length left < length before) ⊎ ((state ≡ st.StartRecord) × (left ≡ []))
 
-longer : (c : ℕ) (rest : List ℕ) (state : State) (left : List ℕ) → Shrinks rest state left → Shrinks (c ∷ rest) state left
-longer c rest state left h = elim h.is [ inl a ↦ record { is = inl (omega arith) } | inr b ↦ record { is = inr b } ]
+Shrinks-cons : (c : ℕ) (rest : List ℕ) (state : State) (left : List ℕ) → Shrinks rest state left → Shrinks (c ∷ rest) state left
+Shrinks-cons c rest state left h = elim h.is [ inl a ↦ record { is = inl (omega arith) } | inr b ↦ record { is = inr b } ]
 
-shrinks : (cfg : Config) (s : State) (fields : List (List ℕ)) (field xs : List ℕ) (r : Read)
+next_record-Shrinks : (cfg : Config) (s : State) (fields : List (List ℕ)) (field xs : List ℕ) (r : Read)
     → next_record cfg s fields field xs ≡ Some r → Shrinks xs r.1 r.2
 unfolding next_record
-shrinks cfg s fields field [] r h = by (ends_at_end s) h
+next_record-Shrinks cfg s fields field [] r h = by (ends_at_end s) h
   where
     by : (b : Bool) → (if b then Some (fields ++ (field ∷ []), st.StartRecord, []) else None) ≡ Some r → Shrinks [] r.1 r.2
     by true e = record { is = inr (cc, cc) }
     by false e = cc
-shrinks cfg s fields field (c ∷ rest) r h =
-    by (is_end (step cfg s c).1) h (shrinks cfg (step cfg s c).0 (fields_after (step cfg s c).1 fields field) (field_after (step cfg s c).1 c field) rest r)
+next_record-Shrinks cfg s fields field (c ∷ rest) r h =
+    by (is_end (step cfg s c).1) h (next_record-Shrinks cfg (step cfg s c).0 (fields_after (step cfg s c).1 fields field) (field_after (step cfg s c).1 c field) rest r)
   where
     by : (b : Bool)
         → (if b then Some (fields_after (step cfg s c).1 fields field, (step cfg s c).0, rest)
@@ -34,71 +34,71 @@ shrinks cfg s fields field (c ∷ rest) r h =
         → (next_record cfg (step cfg s c).0 (fields_after (step cfg s c).1 fields field) (field_after (step cfg s c).1 c field) rest ≡ Some r → Shrinks rest r.1 r.2)
         → Shrinks (c ∷ rest) r.1 r.2
     by true e more = let left : rest ≡ r.2 = cc in record { is = inl (omega (arith, ap length left)) }
-    by false e more = longer c rest r.1 r.2 (more e)
+    by false e more = Shrinks-cons c rest r.1 r.2 (more e)
 
 -- no record follows the end
-at_end : (cfg : Config) (n : ℕ) → records_from cfg n st.StartRecord [] ≡ []
+records_from-nil : (cfg : Config) (n : ℕ) → records_from cfg n st.StartRecord [] ≡ []
 unfolding records_from next_record
-at_end cfg zero = refl
-at_end cfg (suc n) = refl
+records_from-nil cfg zero = refl
+records_from-nil cfg (suc n) = refl
 
 -- any number above the length of the text serves
-fuel : (cfg : Config) (n m : ℕ) (s : State) (xs : List ℕ) → length xs < n → length xs < m
+records_from-fuel : (cfg : Config) (n m : ℕ) (s : State) (xs : List ℕ) → length xs < n → length xs < m
     → records_from cfg n s xs ≡ records_from cfg m s xs
 unfolding records_from
-fuel cfg zero m s xs h k = absurd (omega arith)
-fuel cfg (suc n) zero s xs h k = absurd (omega arith)
-fuel cfg (suc n) (suc m) s xs h k = by (next_record cfg s [] [] xs) refl (fuel cfg n m)
+records_from-fuel cfg zero m s xs h k = absurd (omega arith)
+records_from-fuel cfg (suc n) zero s xs h k = absurd (omega arith)
+records_from-fuel cfg (suc n) (suc m) s xs h k = by (next_record cfg s [] [] xs) refl (records_from-fuel cfg n m)
   where
     by : (o : Option Read) → next_record cfg s [] [] xs ≡ o
         → ((s2 : State) (ys : List ℕ) → length ys < n → length ys < m → records_from cfg n s2 ys ≡ records_from cfg m s2 ys)
         → records_next (records_from cfg n) o ≡ records_next (records_from cfg m) o
     by None e more = refl
-    by (Some r) e more = elim (shrinks cfg s [] [] xs r e).is [
+    by (Some r) e more = elim (next_record-Shrinks cfg s [] [] xs r e).is [
       | inl a ↦ ap (λ (rs : List (List (List ℕ))). r.0 ∷ rs) (more r.1 r.2 (omega arith) (omega arith))
-      | inr b ↦ rw (b.0, b.1, at_end cfg n, at_end cfg m) refl
+      | inr b ↦ rw (b.0, b.1, records_from-nil cfg n, records_from-nil cfg m) refl
     ]
 
 -- where no record follows, there is none
-records_at_none : (s : State) (xs : List ℕ) → next_record default_config s [] [] xs ≡ None → records_at s xs ≡ []
+records_at-None : (s : State) (xs : List ℕ) → next_record default_config s [] [] xs ≡ None → records_at s xs ≡ []
 unfolding records_from
-records_at_none s xs h = rw (add-one (length xs), h) refl
+records_at-None s xs h = rw (add-one (length xs), h) refl
 
 -- where a record follows, it is the first, and the others are those of the bytes that it leaves
-records_at_some : (s : State) (xs : List ℕ) (r : Read) → next_record default_config s [] [] xs ≡ Some r
+records_at-Some : (s : State) (xs : List ℕ) (r : Read) → next_record default_config s [] [] xs ≡ Some r
     → records_at s xs ≡ r.0 ∷ records_at r.1 r.2
 unfolding records_from
-records_at_some s xs r h = rw (add-one (length xs), h) (ap (λ (rs : List (List (List ℕ))). r.0 ∷ rs) same)
+records_at-Some s xs r h = rw (add-one (length xs), h) (ap (λ (rs : List (List (List ℕ))). r.0 ∷ rs) same)
   where
     same : records_from default_config (length xs) r.1 r.2 ≡ records_from default_config (length r.2 + 1) r.1 r.2
-    same = elim (shrinks default_config s [] [] xs r h).is [
-      | inl a ↦ fuel default_config (length xs) (length r.2 + 1) r.1 r.2 (omega arith) (omega arith)
-      | inr b ↦ rw (b.0, b.1, at_end default_config (length xs)) (sym (at_end default_config 1))
+    same = elim (next_record-Shrinks default_config s [] [] xs r h).is [
+      | inl a ↦ records_from-fuel default_config (length xs) (length r.2 + 1) r.1 r.2 (omega arith) (omega arith)
+      | inr b ↦ rw (b.0, b.1, records_from-nil default_config (length xs)) (sym (records_from-nil default_config 1))
     ]
 
-next_found : (s : State) (xs : List ℕ) (o : Option Read) (fields : List (List ℕ)) (s2 : State) (ys : List ℕ)
+NextIs-true : (s : State) (xs : List ℕ) (o : Option Read) (fields : List (List ℕ)) (s2 : State) (ys : List ℕ)
     → next_record default_config s [] [] xs ≡ o → NextIs o true fields s2 ys → records_at s xs ≡ fields ∷ records_at s2 ys
-next_found s xs None fields s2 ys e n = cc n
-next_found s xs (Some r) fields s2 ys e n = rw (n.1, n.2, n.3) (records_at_some s xs r e)
+NextIs-true s xs None fields s2 ys e n = cc n
+NextIs-true s xs (Some r) fields s2 ys e n = rw (n.1, n.2, n.3) (records_at-Some s xs r e)
 
-next_ended : (s : State) (xs : List ℕ) (o : Option Read) (fields : List (List ℕ)) (s2 : State) (ys : List ℕ)
+NextIs-false : (s : State) (xs : List ℕ) (o : Option Read) (fields : List (List ℕ)) (s2 : State) (ys : List ℕ)
     → next_record default_config s [] [] xs ≡ o → NextIs o false fields s2 ys → records_at s xs ≡ []
-next_ended s xs None fields s2 ys e n = records_at_none s xs e
-next_ended s xs (Some r) fields s2 ys e n = cc n.0
+NextIs-false s xs None fields s2 ys e n = records_at-None s xs e
+NextIs-false s xs (Some r) fields s2 ys e n = cc n.0
 
 -- what a read of csv does to the records that are left
-taken : (s : State) (xs : List ℕ) (after : Option (List ℕ)) (found : Bool) (fields : List (List ℕ)) (s2 : State)
+ReadsNext-Advances : (s : State) (xs : List ℕ) (after : Option (List ℕ)) (found : Bool) (fields : List (List ℕ)) (s2 : State)
     → ReadsNext default_config s (Some xs) after found fields s2
     → Advances (Some (records_at s xs)) found (record { left = option_map (records_at s2) after; fields = fields })
-taken s xs None found fields s2 h = absurd h
-taken s xs (Some ys) true fields s2 h = rw (next_found s xs (next_record default_config s [] [] xs) fields s2 ys refl h) (refl, refl, refl)
-taken s xs (Some ys) false fields s2 h = rw (next_ended s xs (next_record default_config s [] [] xs) fields s2 ys refl h) refl
+ReadsNext-Advances s xs None found fields s2 h = absurd h
+ReadsNext-Advances s xs (Some ys) true fields s2 h = rw (NextIs-true s xs (next_record default_config s [] [] xs) fields s2 ys refl h) (refl, refl, refl)
+ReadsNext-Advances s xs (Some ys) false fields s2 h = rw (NextIs-false s xs (next_record default_config s [] [] xs) fields s2 ys refl h) refl
 
 -- a read takes the first of the records that are left
-pub record_taken : {R : Type 0} (remaining : R → Option (List ℕ)) (old new : Reader R) (found : Bool) (fields : List (List ℕ))
+pub ReadRecord-Advances : {R : Type 0} (remaining : R → Option (List ℕ)) (old new : Reader R) (found : Bool) (fields : List (List ℕ))
     → ReadsPlainly old → (reader_trim old ≡ trim.None → Ready old → ReadRecord remaining old new found fields)
     → Advances (left_of remaining old) found (record { left = left_of remaining new; fields = fields })
-record_taken {R} remaining old new found fields plain reads = by (has_failed old) refl
+ReadRecord-Advances {R} remaining old new found fields plain reads = by (has_failed old) refl
   where
     known : has_failed old ≡ false → (source : Option (List ℕ)) → source_of remaining old ≡ source
         → Advances (option_map (records_at (reader_state old)) source) found (record { left = left_of remaining new; fields = fields })
@@ -106,7 +106,7 @@ record_taken {R} remaining old new found fields plain reads = by (has_failed old
     known e (Some xs) q =
         let read = reads (plain.trims e) (plain.ready e) in
         let next = rw (plain.config e, q) at read.0 in
-        rw read.1 (taken old.state xs (pending_of (remaining new.rdr) new) found fields new.state next)
+        rw read.1 (ReadsNext-Advances old.state xs (pending_of (remaining new.rdr) new) found fields new.state next)
 
     by : (failed : Bool) → has_failed old ≡ failed → Advances (left_of remaining old) found (record { left = left_of remaining new; fields = fields })
     by true e = rw e tt

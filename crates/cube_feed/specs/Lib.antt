@@ -1,3 +1,3 @@
 pub mod Reading
-pub mod Lines
+pub mod SoundFields
 pub mod Feed

@@ -2,7 +2,7 @@
 ghost use Rattle.std.specs.Prelude.{◌≡◌, ◌≤◌, ◌+◌, None, Some, IfOk, IfErr, IfSome, IfNone, option_map};
 ghost use Rattle.cube_core.specs.Records.{records_of};
 ghost use Rattle.cube_core.specs.Items.{items_of};
-ghost use Rattle.cube_feed.specs.Feed.{HasEnded, Gives, IsTaken, Numbers, TakesHeader, IsFeed, after_header, ended_of, end_answer, to_come, to_come_of};
+ghost use Rattle.cube_feed.specs.Feed.{HasEnded, Gives, IsTaken, Numbers, TakesHeader, IsFeed, after_header, ended_of, end_answer, to_come_of};
 
 use crate::fault::FeedFault;
 use crate::header::is_header;
@@ -125,8 +125,7 @@ impl<'s, R: Read> Feed<'s, R> {
         ensures number { result.number ≡ 0 }
         ensures open { result.ended ≡ None }
         ensures to_come { result.to_come
-            ≡ option_map (λ bytes. to_come (items_of schema.now (records_of bytes)))
-            (R.remaining reader) }
+            ≡ option_map (λ bytes. items_of schema.now (records_of bytes)) (R.remaining reader) }
     {
         Feed {
             alloc,

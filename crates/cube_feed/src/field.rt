@@ -154,7 +154,8 @@ impl Spelled for Option<i64> {
 
 /// A field of an amendment: a value, or that it keeps the old one.
 impl<T: Spelled> Spelled for Field<T> {
-    ghost spells = { λ text. if bytes_eq text keep_text then Some field.Keep else option_map field.Put (T.spells text) };
+    ghost spells = { λ text.
+        if bytes_eq text keep_text then Some field.Keep else option_map field.Put (T.spells text) };
 
     fn read(alloc: Global, text: &str) -> Result<Field<T>, Stop> {
         if is_keep_text(text.as_bytes()) {

@@ -9,7 +9,8 @@ use cube_core::{Schema, Text};
 
 // Whether a field is `op`, which a byte order mark may precede.
 fn is_first_name(field: &[u8]) -> bool
-    ensures { result ≡ (bytes_eq field.now (codes "op") || bytes_eq field.now (byte_order_mark ++ codes "op")) }
+    ensures { result
+        ≡ (bytes_eq field.now (codes "op") || bytes_eq field.now (byte_order_mark ++ codes "op")) }
 {
     field == b"op".as_slice() || field == b"\xEF\xBB\xBFop".as_slice()
 }
@@ -24,7 +25,8 @@ fn is_name(field: &[u8], name: &str) -> bool
 fn are_names(fields: &Fields<'_>, start: usize, names: &[Text]) -> bool
     requires few { start + length names.now ≤ 16 }
     requires in_record { start + length names.now ≤ length fields.now }
-    ensures { result ≡ same_fields (slice_range fields.now start (start + length names.now)) names.now }
+    ensures { result
+        ≡ same_fields (slice_range fields.now start (start + length names.now)) names.now }
 {
     for (i, name) in names.iter().enumerate() {
         if !is_name(fields.bytes_at(start + i), name.as_str()) {

@@ -3,7 +3,7 @@ ghost use Rattle.std.specs.Prelude.{◌≡◌, ◌≤◌, ◌∷◌, [], true, f
 ghost use Rattle.std.specs.Str.{bytes_eq, is_utf8};
 ghost use Rattle.std.specs.List.{list_all, list_any, filter_map};
 ghost use Rattle.cube_core.specs.Items.{width_of, field_at, keep_text, keeps_any, dimension_fields, measure_fields, put_of, insert_of, update_of, delete_of, change_of};
-ghost use Rattle.cube_feed.specs.Lines.{is_sound_id, is_sound, are_sound, put_fault, read_of};
+ghost use Rattle.cube_feed.specs.SoundFields.{is_sound_id, is_sound, are_sound, put_fault, read_of};
 ghost use Rattle.cube_feed.specs.declared.field.Stop.TheVariants as stop;
 
 use crate::field::{Fields, Spelled, Stop, is_keep_text};

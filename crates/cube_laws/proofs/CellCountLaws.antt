@@ -28,18 +28,18 @@ use Rattle.cube_core.proofs.ListLaws.{AllByRecursion-Contains, Contains-AllByRec
 use Rattle.cube_core.proofs.PlainCells.{same_key}
 
 -- what g takes back is as it was
-there_and_back : {X Y : Type 0} (f : X → Y) (g : Y → X) (xs : List X) → AllByRecursion (λ x. g (f x) ≡ x) xs →
+map-inverse : {X Y : Type 0} (f : X → Y) (g : Y → X) (xs : List X) → AllByRecursion (λ x. g (f x) ≡ x) xs →
     map g (map f xs) ≡ xs
-there_and_back f g [] back = refl
-there_and_back f g (x ∷ xs) back = ap₂ (λ y ys. y ∷ ys) back.0 (there_and_back f g xs back.1)
+map-inverse f g [] back = refl
+map-inverse f g (x ∷ xs) back = ap₂ (λ y ys. y ∷ ys) back.0 (map-inverse f g xs back.1)
 
 -- the numbers below n
-below_contained : (n set : ℕ) → set < n → Contains (range_with_len 0 n) set
-below_contained n set below =
+range_with_len-Contains : (n set : ℕ) → set < n → Contains (range_with_len 0 n) set
+range_with_len-Contains n set below =
     (set, omega (arith, length-range_with_len 0 n), get_or-range_with_len 0 n set set below ∙ zero-add set)
 
-contained_below : (n set : ℕ) → Contains (range_with_len 0 n) set → set < n
-contained_below n set among =
+Contains-range_with_len : (n set : ℕ) → Contains (range_with_len 0 n) set → set < n
+Contains-range_with_len n set among =
     let place : among.0 < n = omega (arith, among.1, length-range_with_len 0 n) in
     omega (arith, place, get_or-range_with_len 0 n among.0 set place, among.2)
 
@@ -48,14 +48,14 @@ abbrev covering : Fact → List Key
 covering fact = map (λ set. key_in_set set fact) (all_sets (length fact.dims))
 
 -- a fact is covered by one key of each grouping set, and by no other keys
-pub covering_keys : (fact : Fact) → CoveringKeys fact
-covering_keys fact = record {
+pub CoveringKeys-all_sets : (fact : Fact) → CoveringKeys fact
+CoveringKeys-all_sets fact = record {
   keys = covering fact;
   cover = λ key. (covers_if_contained key, contained_if_covers key);
   count = length-map (all_sets (length fact.dims)) (λ set. key_in_set set fact) ∙ length-range_with_len 0 (2 ^ length fact.dims);
-  sets = there_and_back (λ set. key_in_set set fact) mask_of (all_sets (length fact.dims))
+  sets = map-inverse (λ set. key_in_set set fact) mask_of (all_sets (length fact.dims))
       (Contains-AllByRecursion (λ set. mask_of (key_in_set set fact) ≡ set) (all_sets (length fact.dims))
-      (λ set among. mask_of_ancestor fact.dims set (contained_below (2 ^ length fact.dims) set among)));
+      (λ set among. mask_of_ancestor fact.dims set (Contains-range_with_len (2 ^ length fact.dims) set among)));
 }
   where
     covers_if_contained : (key : Key) → Contains (covering fact) key → IsTrue (covers key fact)
@@ -72,7 +72,7 @@ covering_keys fact = record {
         = same_from_mask (ancestor_of fact.dims set) key.coords fact.dims (ancestor_of_covers fact.dims set) covered
         (mask_of_ancestor fact.dims set below) in
         subst (Contains (covering fact)) (same_key (key_in_set set fact) key same)
-        (map-Contains (λ set. key_in_set set fact) (all_sets (length fact.dims)) set (below_contained (2 ^ length fact.dims) set below))
+        (map-Contains (λ set. key_in_set set fact) (all_sets (length fact.dims)) set (range_with_len-Contains (2 ^ length fact.dims) set below))
 
 -- values and null, as coordinates
 abbrev pub as_coords : List (Option (List ℕ)) → List Coord
@@ -88,18 +88,18 @@ coords_over [] = [] ∷ []
 coords_over (values ∷ other_values) = flat_map (λ c. map (λ coords. c ∷ coords) (coords_over other_values)) (coords_for values)
 
 -- a sum of the same number
-same_terms : {X : Type 0} (f : X → ℕ) (n : ℕ) (xs : List X) → ((x : X) → f x ≡ n) → sum_by f xs ≡ length xs * n
-same_terms f n [] same = omega arith
-same_terms f n (x ∷ xs) same = omega (arith, sum_by-cons f x xs, same x, same_terms f n xs same)
+sum_by-constant : {X : Type 0} (f : X → ℕ) (n : ℕ) (xs : List X) → ((x : X) → f x ≡ n) → sum_by f xs ≡ length xs * n
+sum_by-constant f n [] same = omega arith
+sum_by-constant f n (x ∷ xs) same = omega (arith, sum_by-cons f x xs, same x, sum_by-constant f n xs same)
 
 -- there are as many as the product
-length_over : (values : List (List (Option (List ℕ)))) → length (coords_over values) ≡ most_cells values
+length-coords_over : (values : List (List (Option (List ℕ)))) → length (coords_over values) ≡ most_cells values
 unfolding coords_over
-length_over [] = refl
-length_over (values ∷ other_values) =
+length-coords_over [] = refl
+length-coords_over (values ∷ other_values) =
     length-flat_map (λ c. map (λ coords. c ∷ coords) (coords_over other_values)) (coords_for values)
-    ∙ same_terms (λ c. length (map (λ coords. c ∷ coords) (coords_over other_values))) (most_cells other_values) (coords_for values)
-    (λ c. length-map (coords_over other_values) (λ coords. c ∷ coords) ∙ length_over other_values)
+    ∙ sum_by-constant (λ c. length (map (λ coords. c ∷ coords) (coords_over other_values))) (most_cells other_values) (coords_for values)
+    (λ c. length-map (coords_over other_values) (λ coords. c ∷ coords) ∙ length-coords_over other_values)
     ∙ ap (λ n. n * most_cells other_values) (omega (arith, length-map values (λ value. coord_of value true)))
 
 -- each coordinate is ALL or stands for a value of its dimension
@@ -107,64 +107,64 @@ abbrev StandAmong : List (List (Option (List ℕ))) → List Coord → Type 0
 StandAmong values coords = AllZip (λ among c. Contains (coords_for among) c) values coords
 
 -- such coordinates are those of a key over the dimensions
-over_contains : (values : List (List (Option (List ℕ)))) (coords : List Coord) → StandAmong values coords →
+coords_over-Contains : (values : List (List (Option (List ℕ)))) (coords : List Coord) → StandAmong values coords →
     Contains (coords_over values) coords
 unfolding coords_over
-over_contains [] [] h = Contains-head [] []
-over_contains [] (c ∷ coords) h = elim h [ ]
-over_contains (values ∷ other_values) [] h = elim h [ ]
-over_contains (values ∷ other_values) (c ∷ coords) h =
+coords_over-Contains [] [] h = Contains-head [] []
+coords_over-Contains [] (c ∷ coords) h = elim h [ ]
+coords_over-Contains (values ∷ other_values) [] h = elim h [ ]
+coords_over-Contains (values ∷ other_values) (c ∷ coords) h =
     flat_map-Contains (λ c. map (λ coords. c ∷ coords) (coords_over other_values)) (coords_for values) c (c ∷ coords) h.0
-    (map-Contains (λ coords. c ∷ coords) (coords_over other_values) coords (over_contains other_values coords h.1))
+    (map-Contains (λ coords. c ∷ coords) (coords_over other_values) coords (coords_over-Contains other_values coords h.1))
 
 -- a listed value is listed as a coordinate
-value_among : (c : Coord) (value : Option (List ℕ)) (values : List (Option (List ℕ))) → c ≡ coord_of value true →
+coords_for-coord_of : (c : Coord) (value : Option (List ℕ)) (values : List (Option (List ℕ))) → c ≡ coord_of value true →
     Contains values value → Contains (coords_for values) c
-value_among c value values is among =
+coords_for-coord_of c value values is among =
     Contains-tail coord.All (as_coords values) c
     (subst (Contains (as_coords values)) (sym is) (map-Contains (λ value. coord_of value true) values value among))
 
 -- what stands for a listed value is listed
-stands_among : (c : Coord) (value : Option (List ℕ)) (values : List (Option (List ℕ))) → stands_for c value ≡ true →
+coords_for-stands_for : (c : Coord) (value : Option (List ℕ)) (values : List (Option (List ℕ))) → stands_for c value ≡ true →
     Contains values value → Contains (coords_for values) c
-stands_among coord.All value values stands among = Contains-head coord.All (as_coords values)
-stands_among coord.Null value values stands among =
-    value_among coord.Null value values (coord_of_is coord.Null value true stands refl) among
-stands_among (coord.Text name) value values stands among =
-    value_among (coord.Text name) value values (coord_of_is (coord.Text name) value true stands refl) among
+coords_for-stands_for coord.All value values stands among = Contains-head coord.All (as_coords values)
+coords_for-stands_for coord.Null value values stands among =
+    coords_for-coord_of coord.Null value values (coord_of_is coord.Null value true stands refl) among
+coords_for-stands_for (coord.Text name) value values stands among =
+    coords_for-coord_of (coord.Text name) value values (coord_of_is (coord.Text name) value true stands refl) among
 
 -- a key that covers a fact with listed values
-covering_among : (values : List (List (Option (List ℕ)))) (coords : List Coord) (dims : List (Option (List ℕ))) →
+StandAmong-all_stand_for : (values : List (List (Option (List ℕ)))) (coords : List Coord) (dims : List (Option (List ℕ))) →
     AllZip Contains values dims → all_stand_for coords dims ≡ true → StandAmong values coords
-covering_among [] [] dims among stand = tt
-covering_among [] (c ∷ coords) [] among stand = cc
-covering_among [] (c ∷ coords) (v ∷ dims) among stand = elim among [ ]
-covering_among (values ∷ other_values) coords [] among stand = elim among [ ]
-covering_among (values ∷ other_values) [] (v ∷ dims) among stand = cc
-covering_among (values ∷ other_values) (c ∷ coords) (v ∷ dims) among stand =
+StandAmong-all_stand_for [] [] dims among stand = tt
+StandAmong-all_stand_for [] (c ∷ coords) [] among stand = cc
+StandAmong-all_stand_for [] (c ∷ coords) (v ∷ dims) among stand = elim among [ ]
+StandAmong-all_stand_for (values ∷ other_values) coords [] among stand = elim among [ ]
+StandAmong-all_stand_for (values ∷ other_values) [] (v ∷ dims) among stand = cc
+StandAmong-all_stand_for (values ∷ other_values) (c ∷ coords) (v ∷ dims) among stand =
     let parts = and_parts (stands_for c v) (all_stand_for coords dims) stand in
-    (stands_among c v values parts.0 among.0, covering_among other_values coords dims among.1 parts.1)
+    (coords_for-stands_for c v values parts.0 among.0, StandAmong-all_stand_for other_values coords dims among.1 parts.1)
 
 -- the key of the grand total
-total_among : (values : List (List (Option (List ℕ)))) (coords : List Coord) → length coords ≡ length values →
+StandAmong-is_all_coord : (values : List (List (Option (List ℕ)))) (coords : List Coord) → length coords ≡ length values →
     list_all is_all_coord coords ≡ true → StandAmong values coords
-total_among [] [] long all = tt
-total_among [] (c ∷ coords) long all = absurd (omega (arith, long))
-total_among (values ∷ other_values) [] long all = absurd (omega (arith, long))
-total_among (values ∷ other_values) (coord.All ∷ coords) long all =
-    (Contains-head coord.All (as_coords values), total_among other_values coords (omega (arith, long)) all)
-total_among (values ∷ other_values) (coord.Null ∷ coords) long all = cc
-total_among (values ∷ other_values) (coord.Text name ∷ coords) long all = cc
+StandAmong-is_all_coord [] [] long all = tt
+StandAmong-is_all_coord [] (c ∷ coords) long all = absurd (omega (arith, long))
+StandAmong-is_all_coord (values ∷ other_values) [] long all = absurd (omega (arith, long))
+StandAmong-is_all_coord (values ∷ other_values) (coord.All ∷ coords) long all =
+    (Contains-head coord.All (as_coords values), StandAmong-is_all_coord other_values coords (omega (arith, long)) all)
+StandAmong-is_all_coord (values ∷ other_values) (coord.Null ∷ coords) long all = cc
+StandAmong-is_all_coord (values ∷ other_values) (coord.Text name ∷ coords) long all = cc
 
 -- the cells are no more than the product
-pub cells_at_most : (s : Layout) (facts : List Fact) (rows : List Row) (values : List (List (Option (List ℕ)))) →
+pub AreRows-most_cells : (s : Layout) (facts : List Fact) (rows : List Row) (values : List (List (Option (List ℕ)))) →
     AreRows s facts rows → length values ≡ length s.dimensions → HaveValuesAmong values facts →
     length rows ≤ most_cells values
-cells_at_most s facts rows values are long among =
+AreRows-most_cells s facts rows values are long among =
     let at_most : length (map key_of rows) ≤ length (map key_with (coords_over values))
     = length-le_from_is_member (eq_by_cmp_equiv key_cmp_total) (map key_of rows) (map key_with (coords_over values))
     (IsDistinct-from_sorted key_cmp (map key_of rows) are.ordered) member in
-    omega (arith, at_most, length-map rows key_of, length-map (coords_over values) key_with, length_over values)
+    omega (arith, at_most, length-map rows key_of, length-map (coords_over values) key_with, length-coords_over values)
   where
     key_with : List Coord → Key
     key_with coords = record { coords = coords }
@@ -177,10 +177,10 @@ cells_at_most s facts rows values are long among =
         elim (or_cases (is_total dimensions key) (list_any (covers key) facts) cell.1) [
           | inl total ↦
               let parts = and_parts (length key.coords == dimensions) (list_all is_all_coord key.coords) total in
-              total_among values key.coords (eqb-true (length key.coords) dimensions parts.0 ∙ sym long) parts.1
+              StandAmong-is_all_coord values key.coords (eqb-true (length key.coords) dimensions parts.0 ∙ sym long) parts.1
           | inr covered ↦
               let found = list_any-Contains (covers key) facts covered in
-              covering_among values key.coords found.0.dims
+              StandAmong-all_stand_for values key.coords found.0.dims
               (AllByRecursion-Contains (λ (fact : Fact). AllZip Contains values fact.dims) facts found.0 among found.1) found.2
         ]
 
@@ -190,5 +190,5 @@ cells_at_most s facts rows values are long among =
         let found = list_any-Contains (eq_by_cmp key_cmp key) (map key_of rows) h in
         Contains-list_any (eq_by_cmp key_cmp key) (map key_with (coords_over values)) found.0
         (map-Contains key_with (coords_over values) found.0.coords
-        (over_contains values found.0.coords (in_cells found.0 found.1)))
+        (coords_over-Contains values found.0.coords (in_cells found.0 found.1)))
         found.2

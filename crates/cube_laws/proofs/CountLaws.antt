@@ -21,17 +21,17 @@ use Rattle.cube_core.specs.declared.key.Coord.{Coord}
 use Rattle.cube_core.specs.declared.key.Coord.TheVariants as coord
 use Rattle.cube_core.specs.declared.key.Key.{Key}
 use Rattle.cube_core.specs.declared.key.Row.{Row}
-use Rattle.cube_laws.proofs.RowOrderLaws.{length_reordered}
-use Rattle.cube_laws.proofs.GroupCountLaws.{count_of_one, SharedOut, groups_join}
+use Rattle.cube_laws.proofs.RowOrderLaws.{length-Reordered}
+use Rattle.cube_laws.proofs.GroupCountLaws.{count_by-one, SharedOut, joined_groups-filter}
 use Rattle.cube_core.proofs.PlainOrder.{key_cmp_total}
 use Rattle.cube_core.proofs.PlainKeys.{ancestor_of, ancestor_of_covers, mask_of_ancestor, same_from_mask}
 use Rattle.cube_core.proofs.ListLaws.{AllByRecursion-Contains, Contains-AllByRecursion, Contains-filter, Contains-list_any, filter-Contains, filter-all, map-filter, sum_by-map, sum_by-same}
 use Rattle.cube_core.proofs.PlainCells.{same_key}
 
 -- a fact has as many values and nulls as there are dimensions
-pub dimensions_of : (dimensions : ℕ) (facts : List Fact) (fact : Fact) → HaveDimensions dimensions facts →
+pub HaveDimensions-Contains : (dimensions : ℕ) (facts : List Fact) (fact : Fact) → HaveDimensions dimensions facts →
     Contains facts fact → length fact.dims ≡ dimensions
-dimensions_of dimensions facts fact dims among = AllByRecursion-Contains (λ (f : Fact). length f.dims ≡ dimensions) facts fact dims among
+HaveDimensions-Contains dimensions facts fact dims among = AllByRecursion-Contains (λ (f : Fact). length f.dims ≡ dimensions) facts fact dims among
 
 -- whether a key is in a grouping set
 abbrev is_in_set : ℕ → Key → Bool
@@ -43,9 +43,9 @@ key_in_set set fact = record { coords = ancestor_of fact.dims set }
 
 module _ (s : Layout) (facts : List Fact) (rows : List Row) (are : AreRows s facts rows) where
   -- the key of each fact's grouping set is a cell
-  pub key_is_cell : (key : Key) (fact : Fact) → Contains facts fact → covers key fact ≡ true →
+  pub AreRows-covers : (key : Key) (fact : Fact) → Contains facts fact → covers key fact ≡ true →
       is_among (mask_of key) s.grouping_sets ≡ true → Contains (map key_of rows) key
-  key_is_cell key fact among covered kept =
+  AreRows-covers key fact among covered kept =
       let dimensions = length s.dimensions in
       let has_fact : list_any (covers key) facts ≡ true = Contains-list_any (covers key) facts fact among covered in
       (are.cells key).1
@@ -57,92 +57,92 @@ module _ (s : Layout) (facts : List Fact) (rows : List Row) (are : AreRows s fac
   keys_in_set set = filter (is_in_set set) (map key_of rows)
 
   -- one key of a grouping set covers a fact
-  pub one_in_set : (set : ℕ) (fact : Fact) → set < 2 ^ length s.dimensions → is_among set s.grouping_sets ≡ true → Contains facts fact →
+  pub keys_in_set-one : (set : ℕ) (fact : Fact) → set < 2 ^ length s.dimensions → is_among set s.grouping_sets ≡ true → Contains facts fact →
       length fact.dims ≡ length s.dimensions →
       count_by (λ key. covers key fact) (keys_in_set set) ≡ 1
-  one_in_set set fact below kept among dims =
+  keys_in_set-one set fact below kept among dims =
       let one : Key = key_in_set set fact in
       let mask : mask_of one ≡ set = mask_of_ancestor fact.dims set (subst (λ n. set < 2 ^ n) (sym dims) below) in
       let covered : covers one fact ≡ true = ancestor_of_covers fact.dims set in
       let is_kept : is_among (mask_of one) s.grouping_sets ≡ true = ap (λ n. is_among n s.grouping_sets) mask ∙ kept in
-      count_of_one key_cmp_total (λ key. covers key fact) one (keys_in_set set)
+      count_by-one key_cmp_total (λ key. covers key fact) one (keys_in_set set)
       (IsStrictlySortedBy-filter key_cmp (is_in_set set) (map key_of rows) are.ordered)
-      (filter-Contains (is_in_set set) (map key_of rows) one (key_is_cell one fact among covered is_kept) (eq-eqb (mask_of one) set mask))
+      (filter-Contains (is_in_set set) (map key_of rows) one (AreRows-covers one fact among covered is_kept) (eq-eqb (mask_of one) set mask))
       covered
       (λ key key_among key_covers.
       let in_set : mask_of key ≡ set = eqb-true (mask_of key) set (Contains-filter (is_in_set set) (map key_of rows) key key_among).1 in
       same_key key one (same_from_mask key.coords one.coords fact.dims key_covers covered (in_set ∙ sym mask)))
 
   -- the groups of the rows of a grouping set have each fact once
-  pub set_counts : (set : ℕ) → HaveDimensions (length s.dimensions) facts → set < 2 ^ length s.dimensions → is_among set s.grouping_sets ≡ true →
+  pub rows_in_set-group_size : (set : ℕ) → HaveDimensions (length s.dimensions) facts → set < 2 ^ length s.dimensions → is_among set s.grouping_sets ≡ true →
       sum_by (group_size facts) (rows_in_set set rows) ≡ length facts
-  set_counts set dims below kept =
+  rows_in_set-group_size set dims below kept =
       let keys : List Key = keys_in_set set in
       let shared : AllByRecursion (SharedOut keys (λ _. true)) facts
       = Contains-AllByRecursion (SharedOut keys (λ _. true)) facts (λ fact among. record {
-        one = λ _. one_in_set set fact below kept among (dimensions_of (length s.dimensions) facts fact dims among);
+        one = λ _. keys_in_set-one set fact below kept among (HaveDimensions-Contains (length s.dimensions) facts fact dims among);
         no_other = λ never. cc;
       }) in
       sym (sum_by-map key_of (λ key. length (group_of key facts)) (rows_in_set set rows))
       ∙ ap (sum_by (λ key. length (group_of key facts))) (map-filter key_of (is_in_set set) rows)
       ∙ sym (length-flat_map (λ key. group_of key facts) keys)
-      ∙ length_reordered (groups_join keys (λ _. true) facts shared)
+      ∙ length-Reordered (joined_groups-filter keys (λ _. true) facts shared)
       ∙ ap length (filter-all (λ _. true) facts (Contains-AllByRecursion (λ _. true ≡ true) facts (λ _ _. refl)))
 
 -- the answer of an aggregate stands at its place
-pub answer_at_place : (group : List Fact) (aggregates : List Agg) (answers : List Answer) (place : ℕ) (aggregate : Agg) →
+pub AreAnswers-slice_get : (group : List Fact) (aggregates : List Agg) (answers : List Answer) (place : ℕ) (aggregate : Agg) →
     AreAnswers group aggregates answers → slice_get aggregates place ≡ Some aggregate →
     IsAnswer group aggregate (get_or answers place answer.Null)
-answer_at_place group [] answers place aggregate h at_place = cc
-answer_at_place group (a ∷ aggregates) [] place aggregate h at_place = elim h [ ]
-answer_at_place group (a ∷ aggregates) (x ∷ answers) zero aggregate h at_place =
+AreAnswers-slice_get group [] answers place aggregate h at_place = cc
+AreAnswers-slice_get group (a ∷ aggregates) [] place aggregate h at_place = elim h [ ]
+AreAnswers-slice_get group (a ∷ aggregates) (x ∷ answers) zero aggregate h at_place =
     let same : a ≡ aggregate = cc in
     subst (λ b. IsAnswer group b x) same h.0
-answer_at_place group (a ∷ aggregates) (x ∷ answers) (suc place) aggregate h at_place =
-    answer_at_place group aggregates answers place aggregate h.1 at_place
+AreAnswers-slice_get group (a ∷ aggregates) (x ∷ answers) (suc place) aggregate h at_place =
+    AreAnswers-slice_get group aggregates answers place aggregate h.1 at_place
 
 -- the answers of a row of the cube
-pub row_answer : (s : Layout) (facts : List Fact) (rows : List Row) → AreRows s facts rows → (row : Row) →
+pub AreRows-answer_at : (s : Layout) (facts : List Fact) (rows : List Row) → AreRows s facts rows → (row : Row) →
     Contains rows row → (place : ℕ) (aggregate : Agg) → slice_get s.aggregates place ≡ Some aggregate →
     IsAnswer (group_of row.key facts) aggregate (answer_at place row)
-row_answer s facts rows are row among place aggregate at_place =
-    answer_at_place (group_of row.key facts) s.aggregates row.answers place aggregate
+AreRows-answer_at s facts rows are row among place aggregate at_place =
+    AreAnswers-slice_get (group_of row.key facts) s.aggregates row.answers place aggregate
     (AllByRecursion-Contains (HasAnswers s.aggregates facts) rows row are.answers among) at_place
 
 -- the counts of the rows of a grouping set add up to the number of facts
-pub set_answers : (s : Layout) (facts : List Fact) (rows : List Row) (set place : ℕ) → AreRows s facts rows →
+pub rows_in_set-count_at : (s : Layout) (facts : List Fact) (rows : List Row) (set place : ℕ) → AreRows s facts rows →
     HaveDimensions (length s.dimensions) facts → set < 2 ^ length s.dimensions → is_among set s.grouping_sets ≡ true →
     slice_get s.aggregates place ≡ Some agg.CountAll → sum_by (count_at place) (rows_in_set set rows) ≡ length facts
-set_answers s facts rows set place are dims below kept at_place =
+rows_in_set-count_at s facts rows set place are dims below kept at_place =
     sum_by-same (count_at place) (group_size facts) (rows_in_set set rows)
     (Contains-AllByRecursion (λ row. count_at place row ≡ group_size facts row) (rows_in_set set rows) (λ row among.
     let row_of_cube = (Contains-filter (λ (row : Row). mask_of row.key == set) rows row among).0 in
-    ap count_of_answer (row_answer s facts rows are row row_of_cube place agg.CountAll at_place)))
-    ∙ set_counts s facts rows are set dims below kept
+    ap count_of_answer (AreRows-answer_at s facts rows are row row_of_cube place agg.CountAll at_place)))
+    ∙ rows_in_set-group_size s facts rows are set dims below kept
 
 -- ALL stands for each value
-all_stand : (coords : List Coord) (values : List (Option (List ℕ))) → list_all is_all_coord coords ≡ true →
+all_stand_for-is_all_coord : (coords : List Coord) (values : List (Option (List ℕ))) → list_all is_all_coord coords ≡ true →
     length coords ≡ length values → all_stand_for coords values ≡ true
-all_stand [] [] all long = refl
-all_stand [] (v ∷ values) all long = absurd (omega (arith, long))
-all_stand (c ∷ coords) [] all long = absurd (omega (arith, long))
-all_stand (coord.All ∷ coords) (v ∷ values) all long = all_stand coords values all (omega (arith, long))
-all_stand (coord.Null ∷ coords) (v ∷ values) all long = cc
-all_stand (coord.Text name ∷ coords) (v ∷ values) all long = cc
+all_stand_for-is_all_coord [] [] all long = refl
+all_stand_for-is_all_coord [] (v ∷ values) all long = absurd (omega (arith, long))
+all_stand_for-is_all_coord (c ∷ coords) [] all long = absurd (omega (arith, long))
+all_stand_for-is_all_coord (coord.All ∷ coords) (v ∷ values) all long = all_stand_for-is_all_coord coords values all (omega (arith, long))
+all_stand_for-is_all_coord (coord.Null ∷ coords) (v ∷ values) all long = cc
+all_stand_for-is_all_coord (coord.Text name ∷ coords) (v ∷ values) all long = cc
 
 -- the group of the grand total is all facts
-pub total_group : (dimensions : ℕ) (facts : List Fact) (key : Key) → HaveDimensions dimensions facts →
+pub group_of-is_total : (dimensions : ℕ) (facts : List Fact) (key : Key) → HaveDimensions dimensions facts →
     is_total dimensions key ≡ true → group_of key facts ≡ facts
-total_group dimensions facts key dims total =
+group_of-is_total dimensions facts key dims total =
     let parts = and_parts (length key.coords == dimensions) (list_all is_all_coord key.coords) total in
     let long : length key.coords ≡ dimensions = eqb-true (length key.coords) dimensions parts.0 in
     filter-all (covers key) facts (Contains-AllByRecursion (λ fact. covers key fact ≡ true) facts (λ fact among.
-    all_stand key.coords fact.dims parts.1 (long ∙ sym (dimensions_of dimensions facts fact dims among))))
+    all_stand_for-is_all_coord key.coords fact.dims parts.1 (long ∙ sym (HaveDimensions-Contains dimensions facts fact dims among))))
 
 -- the count of the grand total is the number of facts
-pub total_counts : (s : Layout) (facts : List Fact) (rows : List Row) (row : Row) (place : ℕ) → AreRows s facts rows →
+pub answer_at-is_total : (s : Layout) (facts : List Fact) (rows : List Row) (row : Row) (place : ℕ) → AreRows s facts rows →
     HaveDimensions (length s.dimensions) facts → Contains rows row → is_total (length s.dimensions) row.key ≡ true →
     slice_get s.aggregates place ≡ Some agg.CountAll → answer_at place row ≡ answer.Count (length facts)
-total_counts s facts rows row place are dims among total at_place =
-    row_answer s facts rows are row among place agg.CountAll at_place
-    ∙ ap (λ group. answer.Count (length group)) (total_group (length s.dimensions) facts row.key dims total)
+answer_at-is_total s facts rows row place are dims among total at_place =
+    AreRows-answer_at s facts rows are row among place agg.CountAll at_place
+    ∙ ap (λ group. answer.Count (length group)) (group_of-is_total (length s.dimensions) facts row.key dims total)

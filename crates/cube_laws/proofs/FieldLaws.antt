@@ -18,10 +18,10 @@ use Rattle.cube_laws.specs.Life.{value_put, put_at, puts_at, last_of}
 use Rattle.cube_laws.proofs.LifeLaws.{fields_over-put, fields_over-kept}
 
 -- a list has an item at each of its places
-item_at : {A : Type 0} (items : List A) (place : ℕ) → place < length items → (item : A) × (slice_get items place ≡ Some item)
-item_at [] place below = absurd (omega arith)
-item_at (item ∷ items) zero below = (item, refl)
-item_at (item ∷ items) (suc place) below = item_at items place (omega arith)
+slice_get-length : {A : Type 0} (items : List A) (place : ℕ) → place < length items → (item : A) × (slice_get items place ≡ Some item)
+slice_get-length [] place below = absurd (omega arith)
+slice_get-length (item ∷ items) zero below = (item, refl)
+slice_get-length (item ∷ items) (suc place) below = slice_get-length items place (omega arith)
 
 -- as many values as there were
 length-fields_over : {A : Type 0} (fields : List (Field A)) (olds : List A) → length fields ≡ length olds → length (fields_over fields olds) ≡ length olds
@@ -45,10 +45,10 @@ pub record IsPart {A : Type 0} (s : Layout) (values : Fact → List A) (fields :
   pub amended : (part : Partial) (fact : Fact) → values (over part fact) ≡ fields_over (fields part) (values fact)
 
 -- a field of an amendment at a place, kept or put
-amended_at : {A : Type 0} (fields : List (Field A)) (olds : List A) (place : ℕ) (field : Field A) → length fields ≡ length olds → slice_get fields place ≡ Some field
+fields_over-slice_get : {A : Type 0} (fields : List (Field A)) (olds : List A) (place : ℕ) (field : Field A) → length fields ≡ length olds → slice_get fields place ≡ Some field
     → (rest : List A) → last_after (slice_get (fields_over fields olds) place) rest ≡ last_after (slice_get olds place) (cons_option (value_put field) rest)
-amended_at fields olds place Keep same there rest = ap (λ o. last_after o rest) (fields_over-kept fields olds place same there)
-amended_at fields olds place (Put value) same there rest = ap (λ o. last_after o rest) (fields_over-put fields olds place value same there)
+fields_over-slice_get fields olds place Keep same there rest = ap (λ o. last_after o rest) (fields_over-kept fields olds place same there)
+fields_over-slice_get fields olds place (Put value) same there rest = ap (λ o. last_after o rest) (fields_over-put fields olds place value same there)
 
 -- the value at a place after updates and amendments is the one put last, or else the first
 updated-last : {A : Type 0} (s : Layout) (values : Fact → List A) (fields : Partial → List (Field A)) (count place : ℕ) → IsPart s values fields count → place < count
@@ -60,18 +60,18 @@ updated-last s values fields count place part below (Insert id other ∷ changes
 updated-last s values fields count place part below (Update id other ∷ changes) fact taken long =
     let both = and_parts (takes s (Update id other)) (list_all (takes s) changes) taken in
     let long' : length (values other) ≡ count = part.of_fact other (and_parts _ _ both.0).1 in
-    let there = item_at (values other) place (omega arith) in
+    let there = slice_get-length (values other) place (omega arith) in
     updated-last s values fields count place part below changes other both.1 long'
     ∙ sym (last_after-put (slice_get (values fact) place) (slice_get (values other) place) there.0 (filter_map (put_at values fields place) changes) there.1)
 updated-last s values fields count place part below (Amend id amendment ∷ changes) fact taken long =
     let both = and_parts (takes s (Amend id amendment)) (list_all (takes s) changes) taken in
     let long' : length (fields amendment) ≡ count = part.of_part amendment (and_parts _ _ both.0).1 in
-    let there = item_at (fields amendment) place (omega arith) in
+    let there = slice_get-length (fields amendment) place (omega arith) in
     let same : length (fields amendment) ≡ length (values fact) = long' ∙ sym long in
     let longer : length (values (over amendment fact)) ≡ count = ap length (part.amended amendment fact) ∙ length-fields_over (fields amendment) (values fact) same ∙ long in
     updated-last s values fields count place part below changes (over amendment fact) both.1 longer
     ∙ ap (λ vs. last_after (slice_get vs place) (filter_map (put_at values fields place) changes)) (part.amended amendment fact)
-    ∙ amended_at (fields amendment) (values fact) place there.0 same there.1 (filter_map (put_at values fields place) changes)
+    ∙ fields_over-slice_get (fields amendment) (values fact) place there.0 same there.1 (filter_map (put_at values fields place) changes)
     ∙ ap (λ o. last_after (slice_get (values fact) place) (cons_option (option_and_then value_put o) (filter_map (put_at values fields place) changes))) (sym there.1)
 updated-last s values fields count place part below (Delete id ∷ changes) fact taken long =
     updated-last s values fields count place part below changes fact (and_parts _ _ taken).1 long
@@ -84,7 +84,7 @@ from_insert-last s values fields count place part below [] fact taken present = 
 from_insert-last s values fields count place part below (Insert id first ∷ changes) fact taken present =
     let both = and_parts (takes s (Insert id first)) (list_all (takes s) changes) taken in
     let long : length (values first) ≡ count = part.of_fact first (and_parts _ _ both.0).1 in
-    let there = item_at (values first) place (omega arith) in
+    let there = slice_get-length (values first) place (omega arith) in
     let is : fact ≡ updated first changes = cc present in
     ap (λ f. slice_get (values f) place) is
     ∙ updated-last s values fields count place part below changes first both.1 long

@@ -8,35 +8,35 @@ use Rattle.cube_core.specs.Fraction.{IsInLowestTerms}
 use Rattle.cube_core.proofs.CommonDivisors.{gauss}
 
 -- a number below zero, by its distance from -1
-negated : (n : ℕ) → 0 < n → neg_ℤ (pos n) ≡ negsuc (n - 1)
-negated zero h = absurd (omega arith)
-negated (suc n) h = ap negsuc (omega arith)
+neg_ℤ-pos : (n : ℕ) → 0 < n → neg_ℤ (pos n) ≡ negsuc (n - 1)
+neg_ℤ-pos zero h = absurd (omega arith)
+neg_ℤ-pos (suc n) h = ap negsuc (omega arith)
 
 -- a product that is not below zero is none that is
-signs_agree : (a b n : ℕ) → 0 < n → pos (a * n) ≡ neg_ℤ (pos (suc b * n)) → ⊥
-signs_agree a b n some e =
+pos-neg_ℤ : (a b n : ℕ) → 0 < n → pos (a * n) ≡ neg_ℤ (pos (suc b * n)) → ⊥
+pos-neg_ℤ a b n some e =
     let below : neg_ℤ (pos (suc b * n)) ≡ negsuc (suc b * n - 1)
-    = negated (suc b * n) (omega (arith, le-mul_of_pos_right (suc b) some)) in
+    = neg_ℤ-pos (suc b * n) (omega (arith, le-mul_of_pos_right (suc b) some)) in
     cc
 
 -- the size of a product determines that of its first factor
-same_size : (p p' : ℤ) (n : ℕ) → 0 < n → p *ℤ pos n ≡ p' *ℤ pos n → unsigned_abs p ≡ unsigned_abs p'
-same_size p p' n some e =
+unsigned_abs-factor : (p p' : ℤ) (n : ℕ) → 0 < n → p *ℤ pos n ≡ p' *ℤ pos n → unsigned_abs p ≡ unsigned_abs p'
+unsigned_abs-factor p p' n some e =
     eq_of_mul-eq-mul_right n some (unsigned_abs p) (unsigned_abs p')
     (sym (unsigned_abs-mul p (pos n)) ∙ ap unsigned_abs e ∙ unsigned_abs-mul p' (pos n))
 
 -- two numbers of one size are one, where their products with a count above 0 are
-same_factor : (p p' : ℤ) (n : ℕ) → 0 < n → unsigned_abs p ≡ unsigned_abs p' → p *ℤ pos n ≡ p' *ℤ pos n → p ≡ p'
-same_factor (pos a) (pos b) n some size e = ap pos size
-same_factor (pos a) (negsuc b) n some size e = absurd (signs_agree a b n some e)
-same_factor (negsuc a) (pos b) n some size e = absurd (signs_agree b a n some (sym e))
-same_factor (negsuc a) (negsuc b) n some size e = cc
+sign-factor : (p p' : ℤ) (n : ℕ) → 0 < n → unsigned_abs p ≡ unsigned_abs p' → p *ℤ pos n ≡ p' *ℤ pos n → p ≡ p'
+sign-factor (pos a) (pos b) n some size e = ap pos size
+sign-factor (pos a) (negsuc b) n some size e = absurd (pos-neg_ℤ a b n some e)
+sign-factor (negsuc a) (pos b) n some size e = absurd (pos-neg_ℤ b a n some (sym e))
+sign-factor (negsuc a) (negsuc b) n some size e = cc
 
 -- the two fractions' sizes, multiplied crosswise
-crosswise : (total : ℤ) (count : ℕ) (p p' : ℤ) (q q' : ℕ) → 0 < count →
+IsInLowestTerms-cross : (total : ℤ) (count : ℕ) (p p' : ℤ) (q q' : ℕ) → 0 < count →
     p *ℤ pos count ≡ total *ℤ pos q → p' *ℤ pos count ≡ total *ℤ pos q' →
     unsigned_abs p * q' ≡ unsigned_abs p' * q
-crosswise total count p p' q q' some e e' =
+IsInLowestTerms-cross total count p p' q q' some e e' =
     let size : unsigned_abs p * count ≡ unsigned_abs total * q
     = sym (unsigned_abs-mul p (pos count)) ∙ ap unsigned_abs e ∙ unsigned_abs-mul total (pos q) in
     let size' : unsigned_abs p' * count ≡ unsigned_abs total * q'
@@ -45,18 +45,18 @@ crosswise total count p p' q q' some e e' =
     (omega (arith, ap (λ k. k * q') size, ap (λ k. k * q) size'))
 
 -- a denominator divides the other one
-denominator_divides : (total : ℤ) (count : ℕ) (p p' : ℤ) (q q' : ℕ) → 0 < count →
+IsInLowestTerms-Divides : (total : ℤ) (count : ℕ) (p p' : ℤ) (q q' : ℕ) → 0 < count →
     IsInLowestTerms total count p q → IsInLowestTerms total count p' q' → q ∣ q'
-denominator_divides total count p p' q q' some h h' =
+IsInLowestTerms-Divides total count p p' q q' some h h' =
     gauss q (unsigned_abs p) q' (IsGcd-swap (unsigned_abs p) q 1 h.coprime)
-    (subst (λ k. q ∣ k) (sym (crosswise total count p p' q q' some h.equal h'.equal)) (dvd-mul_left q (unsigned_abs p')))
+    (subst (λ k. q ∣ k) (sym (IsInLowestTerms-cross total count p p' q q' some h.equal h'.equal)) (dvd-mul_left q (unsigned_abs p')))
 
 -- the numerator and the denominator are determined by the total and the count
-pub lowest_terms_unique : (total : ℤ) (count : ℕ) (p p' : ℤ) (q q' : ℕ) → 0 < count →
+pub IsInLowestTerms-unique : (total : ℤ) (count : ℕ) (p p' : ℤ) (q q' : ℕ) → 0 < count →
     IsInLowestTerms total count p q → IsInLowestTerms total count p' q' → (p ≡ p') × (q ≡ q')
-lowest_terms_unique total count p p' q q' some h h' =
+IsInLowestTerms-unique total count p p' q q' some h h' =
     let below : q ≡ q' = dvd_antisymm
-    (denominator_divides total count p p' q q' some h h')
-    (denominator_divides total count p' p q' q some h' h) in
+    (IsInLowestTerms-Divides total count p p' q q' some h h')
+    (IsInLowestTerms-Divides total count p' p q' q some h' h) in
     let products : p *ℤ pos count ≡ p' *ℤ pos count = h.equal ∙ ap (λ k. total *ℤ pos k) below ∙ sym h'.equal in
-    (same_factor p p' count some (same_size p p' count some products) products, below)
+    (sign-factor p p' count some (unsigned_abs-factor p p' count some products) products, below)

@@ -9,35 +9,35 @@ use Rattle.cube_core.specs.Covers.{covers}
 use Rattle.cube_core.specs.Group.{group_of}
 use Rattle.cube_core.specs.declared.fact.Fact.{Fact}
 use Rattle.cube_core.specs.declared.key.Key.{Key}
-use Rattle.cube_laws.proofs.RowLaws.{head_not_after}
-use Rattle.cube_laws.proofs.RowOrderLaws.{Reordered, none, next, exchange, both, unmoved}
+use Rattle.cube_laws.proofs.RowLaws.{IsStrictlySortedBy-head}
+use Rattle.cube_laws.proofs.RowOrderLaws.{Reordered, none, next, exchange, both, Reordered-refl}
 use Rattle.cube_core.proofs.ListLaws.{Contains-cases, Contains-head, Contains-tail, count_by-failed, count_by-none, count_by-passed, filter-failed, filter-passed}
 
 -- where one element of a strictly sorted list passes, the count is 1
-pub count_of_one : {X : Type 0} {c : X → X → Ordering} → IsTotalOrder c → (p : X → Bool) (one : X) (xs : List X) →
+pub count_by-one : {X : Type 0} {c : X → X → Ordering} → IsTotalOrder c → (p : X → Bool) (one : X) (xs : List X) →
     IsStrictlySortedBy c xs → Contains xs one → p one ≡ true → ((x : X) → Contains xs x → p x ≡ true → x ≡ one) →
     count_by p xs ≡ 1
-count_of_one o p one [] sorted among passes alone = absurd (omega (arith, among.1))
-count_of_one {X} {c} o p one (x ∷ xs) sorted among passes alone = elim (Contains-cases x xs one among) [
+count_by-one o p one [] sorted among passes alone = absurd (omega (arith, among.1))
+count_by-one {X} {c} o p one (x ∷ xs) sorted among passes alone = elim (Contains-cases x xs one among) [
   | inl here ↦
       count_by-passed p x xs (ap p here ∙ passes)
       ∙ ap (λ n. 1 + n) (count_by-none p xs (λ y after. false_from_ne_true (p y) (λ passes_too.
-      head_not_after o x xs sorted (subst (Contains xs) (alone y (Contains-tail x xs y after) passes_too ∙ sym here) after))))
+      IsStrictlySortedBy-head o x xs sorted (subst (Contains xs) (alone y (Contains-tail x xs y after) passes_too ∙ sym here) after))))
   | inr after ↦
       count_by-failed p x xs (false_from_ne_true (p x) (λ passes_too.
-      head_not_after o x xs sorted (subst (Contains xs) (sym (alone x (Contains-head x xs) passes_too)) after)))
-      ∙ count_of_one o p one xs (sorted_tail c x xs sorted) after passes (λ y y_after. alone y (Contains-tail x xs y y_after))
+      IsStrictlySortedBy-head o x xs sorted (subst (Contains xs) (sym (alone x (Contains-head x xs) passes_too)) after)))
+      ∙ count_by-one o p one xs (sorted_tail c x xs sorted) after passes (λ y y_after. alone y (Contains-tail x xs y y_after))
 ]
 
 -- an element from behind a list comes before it
-to_front : {X : Type 0} (x : X) (xs ys : List X) → Reordered (xs ++ x ∷ ys) (x ∷ (xs ++ ys))
-to_front x [] ys = unmoved (x ∷ ys)
-to_front x (y ∷ xs) ys = both (next (to_front x xs ys)) exchange
+Reordered-middle : {X : Type 0} (x : X) (xs ys : List X) → Reordered (xs ++ x ∷ ys) (x ∷ (xs ++ ys))
+Reordered-middle x [] ys = Reordered-refl (x ∷ ys)
+Reordered-middle x (y ∷ xs) ys = both (next (Reordered-middle x xs ys)) exchange
 
 -- the lists behind a list are in another order
-behind : {X : Type 0} (zs : List X) {xs ys : List X} → Reordered xs ys → Reordered (zs ++ xs) (zs ++ ys)
-behind [] r = r
-behind (z ∷ zs) r = next (behind zs r)
+Reordered-append : {X : Type 0} (zs : List X) {xs ys : List X} → Reordered xs ys → Reordered (zs ++ xs) (zs ++ ys)
+Reordered-append [] r = r
+Reordered-append (z ∷ zs) r = next (Reordered-append zs r)
 
 module _ {X A : Type 0} (p : A → Bool) (x : X) (g : A → List X) where
   -- the list of an element, with x before it where the element passes
@@ -45,32 +45,32 @@ module _ {X A : Type 0} (p : A → Bool) (x : X) (g : A → List X) where
   with_x a = cond (p a) (x ∷ g a) (g a)
 
   -- where no element passes, x is in no list
-  x_in_none : (as' : List A) → count_by p as' ≡ 0 → flat_map with_x as' ≡ flat_map g as'
+  with_x-none : (as' : List A) → count_by p as' ≡ 0 → flat_map with_x as' ≡ flat_map g as'
   unfolding with_x
-  x_in_none [] h = refl
-  x_in_none (a ∷ as') h = elim (cases_Bool (p a)) [
+  with_x-none [] h = refl
+  with_x-none (a ∷ as') h = elim (cases_Bool (p a)) [
     | inl passes ↦ absurd (omega (arith, h, count_by-passed p a as' passes))
     | inr fails ↦
         ap (λ b. cond b (x ∷ g a) (g a) ++ flat_map with_x as') fails
-        ∙ ap (λ xs. g a ++ xs) (x_in_none as' (sym (count_by-failed p a as' fails) ∙ h))
+        ∙ ap (λ xs. g a ++ xs) (with_x-none as' (sym (count_by-failed p a as' fails) ∙ h))
   ]
 
   -- where one element passes, x is in one list
-  x_in_one : (as' : List A) → count_by p as' ≡ 1 → Reordered (flat_map with_x as') (x ∷ flat_map g as')
+  with_x-one : (as' : List A) → count_by p as' ≡ 1 → Reordered (flat_map with_x as') (x ∷ flat_map g as')
   unfolding with_x
-  x_in_one [] h = absurd (omega arith)
-  x_in_one (a ∷ as') h = elim (cases_Bool (p a)) [
+  with_x-one [] h = absurd (omega arith)
+  with_x-one (a ∷ as') h = elim (cases_Bool (p a)) [
     | inl passes ↦
         let rest : count_by p as' ≡ 0 = omega (arith, h, count_by-passed p a as' passes) in
         let same : flat_map with_x (a ∷ as') ≡ x ∷ flat_map g (a ∷ as')
-        = ap (λ b. cond b (x ∷ g a) (g a) ++ flat_map with_x as') passes ∙ ap (λ xs. (x ∷ g a) ++ xs) (x_in_none as' rest) in
-        subst (λ xs. Reordered xs (x ∷ flat_map g (a ∷ as'))) (sym same) (unmoved (x ∷ flat_map g (a ∷ as')))
+        = ap (λ b. cond b (x ∷ g a) (g a) ++ flat_map with_x as') passes ∙ ap (λ xs. (x ∷ g a) ++ xs) (with_x-none as' rest) in
+        subst (λ xs. Reordered xs (x ∷ flat_map g (a ∷ as'))) (sym same) (Reordered-refl (x ∷ flat_map g (a ∷ as')))
     | inr fails ↦
         let rest : count_by p as' ≡ 1 = sym (count_by-failed p a as' fails) ∙ h in
         let same : flat_map with_x (a ∷ as') ≡ g a ++ flat_map with_x as'
         = ap (λ b. cond b (x ∷ g a) (g a) ++ flat_map with_x as') fails in
         subst (λ xs. Reordered xs (x ∷ flat_map g (a ∷ as'))) (sym same)
-        (both (behind (g a) (x_in_one as' rest)) (to_front x (g a) (flat_map g as')))
+        (both (Reordered-append (g a) (with_x-one as' rest)) (Reordered-middle x (g a) (flat_map g as')))
   ]
 
 -- the facts of keys' groups, one group after the other
@@ -83,29 +83,29 @@ pub record SharedOut (keys : List Key) (test : Fact → Bool) (fact : Fact) : Ty
   pub no_other : test fact ≡ false → count_by (λ key. covers key fact) keys ≡ 0
 
 -- the groups of no facts
-no_groups : (keys : List Key) → joined_groups keys [] ≡ []
-no_groups [] = refl
-no_groups (key ∷ keys) = no_groups keys
+joined_groups-nil : (keys : List Key) → joined_groups keys [] ≡ []
+joined_groups-nil [] = refl
+joined_groups-nil (key ∷ keys) = joined_groups-nil keys
 
 -- the groups of keys that share out what passes a test, joined
-pub groups_join : (keys : List Key) (test : Fact → Bool) (facts : List Fact) →
+pub joined_groups-filter : (keys : List Key) (test : Fact → Bool) (facts : List Fact) →
     AllByRecursion (SharedOut keys test) facts → Reordered (joined_groups keys facts) (filter test facts)
 unfolding with_x
-groups_join keys test [] shared = subst (λ xs. Reordered xs []) (sym (no_groups keys)) none
-groups_join keys test (fact ∷ facts) shared = elim (cases_Bool (test fact)) [
+joined_groups-filter keys test [] shared = subst (λ xs. Reordered xs []) (sym (joined_groups-nil keys)) none
+joined_groups-filter keys test (fact ∷ facts) shared = elim (cases_Bool (test fact)) [
   | inl passes ↦
       subst (Reordered (joined_groups keys (fact ∷ facts))) (sym (filter-passed test fact facts passes))
-      (both (one_more (shared.0.one passes)) (next (groups_join keys test facts shared.1)))
+      (both (one_more (shared.0.one passes)) (next (joined_groups-filter keys test facts shared.1)))
   | inr fails ↦
       subst (Reordered (joined_groups keys (fact ∷ facts))) (sym (filter-failed test fact facts fails))
       (subst (λ xs. Reordered xs (filter test facts)) (sym (none_more (shared.0.no_other fails)))
-      (groups_join keys test facts shared.1))
+      (joined_groups-filter keys test facts shared.1))
 ]
   where
     one_more : count_by (λ key. covers key fact) keys ≡ 1 →
         Reordered (joined_groups keys (fact ∷ facts)) (fact ∷ joined_groups keys facts)
-    one_more h = x_in_one (λ key. covers key fact) fact (λ key. group_of key facts) keys h
+    one_more h = with_x-one (λ key. covers key fact) fact (λ key. group_of key facts) keys h
 
     none_more : count_by (λ key. covers key fact) keys ≡ 0 →
         joined_groups keys (fact ∷ facts) ≡ joined_groups keys facts
-    none_more h = x_in_none (λ key. covers key fact) fact (λ key. group_of key facts) keys h
+    none_more h = with_x-none (λ key. covers key fact) fact (λ key. group_of key facts) keys h

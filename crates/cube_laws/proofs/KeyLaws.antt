@@ -19,143 +19,143 @@ use Rattle.cube_core.specs.declared.key.Coord.{Coord}
 use Rattle.cube_core.specs.declared.key.Coord.TheVariants as coord
 use Rattle.cube_core.specs.declared.key.Key.{Key}
 use Rattle.cube_core.specs.declared.key.Row.{Row}
-use Rattle.cube_laws.proofs.RowLaws.{same_row}
+use Rattle.cube_laws.proofs.RowLaws.{HasAnswers-unique}
 use Rattle.cube_core.proofs.PlainRows.{width_of_cell}
 use Rattle.cube_core.proofs.ListLaws.{AllByRecursion-Contains, list_all-Contains, list_any-Contains, map-Contains}
 
 -- a text that is the one for null isn't told
-not_the_null_text : (name : List ℕ) → not (bytes_eq name null_text) ≡ true → name ≡ null_text → ⊥
-not_the_null_text name told same = both_ways _ (not-true (bytes_eq name null_text) told) ((bytes_eq-Decides name null_text).1 same)
+null_text-bytes_eq : (name : List ℕ) → not (bytes_eq name null_text) ≡ true → name ≡ null_text → ⊥
+null_text-bytes_eq name told same = both_ways _ (not-true (bytes_eq name null_text) told) ((bytes_eq-Decides name null_text).1 same)
 
 -- the two texts of a GROUPING column differ
-zero_is_not_one : codes "0" ≡ codes "1" → ⊥
-zero_is_not_one same = false≢true (ap (λ (text : List ℕ). get_or text 0 0 == 49) same)
+codes-apart : codes "0" ≡ codes "1" → ⊥
+codes-apart same = false≢true (ap (λ (text : List ℕ). get_or text 0 0 == 49) same)
 
 -- coordinates that show the same are the same
-coord_told : (a b : Coord) → is_no_null_text a ≡ true → is_no_null_text b ≡ true → coord_text a ≡ coord_text b → grouping_text a ≡ grouping_text b → a ≡ b
-coord_told (coord.Text x) (coord.Text y) told_a told_b texts groupings = ap coord.Text texts
-coord_told (coord.Text x) coord.Null told_a told_b texts groupings = absurd (not_the_null_text x told_a texts)
-coord_told (coord.Text x) coord.All told_a told_b texts groupings = absurd (not_the_null_text x told_a texts)
-coord_told coord.Null (coord.Text y) told_a told_b texts groupings = absurd (not_the_null_text y told_b (sym texts))
-coord_told coord.Null coord.Null told_a told_b texts groupings = refl
-coord_told coord.Null coord.All told_a told_b texts groupings = absurd (zero_is_not_one groupings)
-coord_told coord.All (coord.Text y) told_a told_b texts groupings = absurd (not_the_null_text y told_b (sym texts))
-coord_told coord.All coord.Null told_a told_b texts groupings = absurd (zero_is_not_one (sym groupings))
-coord_told coord.All coord.All told_a told_b texts groupings = refl
+coord_text-unique : (a b : Coord) → is_no_null_text a ≡ true → is_no_null_text b ≡ true → coord_text a ≡ coord_text b → grouping_text a ≡ grouping_text b → a ≡ b
+coord_text-unique (coord.Text x) (coord.Text y) told_a told_b texts groupings = ap coord.Text texts
+coord_text-unique (coord.Text x) coord.Null told_a told_b texts groupings = absurd (null_text-bytes_eq x told_a texts)
+coord_text-unique (coord.Text x) coord.All told_a told_b texts groupings = absurd (null_text-bytes_eq x told_a texts)
+coord_text-unique coord.Null (coord.Text y) told_a told_b texts groupings = absurd (null_text-bytes_eq y told_b (sym texts))
+coord_text-unique coord.Null coord.Null told_a told_b texts groupings = refl
+coord_text-unique coord.Null coord.All told_a told_b texts groupings = absurd (codes-apart groupings)
+coord_text-unique coord.All (coord.Text y) told_a told_b texts groupings = absurd (null_text-bytes_eq y told_b (sym texts))
+coord_text-unique coord.All coord.Null told_a told_b texts groupings = absurd (codes-apart (sym groupings))
+coord_text-unique coord.All coord.All told_a told_b texts groupings = refl
 
 -- so are lists of them
-coords_told : (a b : List Coord) → list_all is_no_null_text a ≡ true → list_all is_no_null_text b ≡ true
+coord_text-all_unique : (a b : List Coord) → list_all is_no_null_text a ≡ true → list_all is_no_null_text b ≡ true
     → map coord_text a ≡ map coord_text b → map grouping_text a ≡ map grouping_text b → a ≡ b
-coords_told [] [] told_a told_b texts groupings = refl
-coords_told [] (y ∷ ys) told_a told_b texts groupings = cc texts
-coords_told (x ∷ xs) [] told_a told_b texts groupings = cc texts
-coords_told (x ∷ xs) (y ∷ ys) told_a told_b texts groupings =
+coord_text-all_unique [] [] told_a told_b texts groupings = refl
+coord_text-all_unique [] (y ∷ ys) told_a told_b texts groupings = cc texts
+coord_text-all_unique (x ∷ xs) [] told_a told_b texts groupings = cc texts
+coord_text-all_unique (x ∷ xs) (y ∷ ys) told_a told_b texts groupings =
     let a = and_parts (is_no_null_text x) (list_all is_no_null_text xs) told_a in
     let b = and_parts (is_no_null_text y) (list_all is_no_null_text ys) told_b in
     let text : coord_text x ≡ coord_text y = cc texts in
     let grouping : grouping_text x ≡ grouping_text y = cc groupings in
     let more_texts : map coord_text xs ≡ map coord_text ys = cc texts in
     let more_groupings : map grouping_text xs ≡ map grouping_text ys = cc groupings in
-    let head : x ≡ y = coord_told x y a.0 b.0 text grouping in
-    let tail : xs ≡ ys = coords_told xs ys a.1 b.1 more_texts more_groupings in
+    let head : x ≡ y = coord_text-unique x y a.0 b.0 text grouping in
+    let tail : xs ≡ ys = coord_text-all_unique xs ys a.1 b.1 more_texts more_groupings in
     cc (head, tail)
 
 -- keys that look alike are one key
-pub key_told : (a b : Key) → has_no_null_text a ≡ true → has_no_null_text b ≡ true → LookAlike a b → a ≡ b
-key_told a b told_a told_b alike =
+pub LookAlike-unique : (a b : Key) → has_no_null_text a ≡ true → has_no_null_text b ≡ true → LookAlike a b → a ≡ b
+LookAlike-unique a b told_a told_b alike =
     let make : List Coord → Key = λ coords. record { coords = coords } in
-    ap make (coords_told a.coords b.coords told_a told_b alike.dimensions alike.groupings)
+    ap make (coord_text-all_unique a.coords b.coords told_a told_b alike.dimensions alike.groupings)
 
 -- a coordinate that stands for a lawful value of a dimension is no null text
-stands_told : (c : Coord) (value : Option (List ℕ)) → stands_for c value ≡ true → is_dimension_value value ≡ true → is_no_null_text c ≡ true
-stands_told coord.All value stands lawful = refl
-stands_told coord.Null value stands lawful = refl
-stands_told (coord.Text name) None stands lawful = cc stands
-stands_told (coord.Text name) (Some text) stands lawful =
+is_no_null_text-stands_for : (c : Coord) (value : Option (List ℕ)) → stands_for c value ≡ true → is_dimension_value value ≡ true → is_no_null_text c ≡ true
+is_no_null_text-stands_for coord.All value stands lawful = refl
+is_no_null_text-stands_for coord.Null value stands lawful = refl
+is_no_null_text-stands_for (coord.Text name) None stands lawful = cc stands
+is_no_null_text-stands_for (coord.Text name) (Some text) stands lawful =
     let same = (bytes_eq-Decides name text).0 stands in
     ap (λ (t : List ℕ). not (bytes_eq t null_text)) same ∙ lawful
 
 -- so do those of a key
-all_stand_told : (coords : List Coord) (values : List (Option (List ℕ))) → all_stand_for coords values ≡ true → list_all is_dimension_value values ≡ true
+is_no_null_text-all_stand_for : (coords : List Coord) (values : List (Option (List ℕ))) → all_stand_for coords values ≡ true → list_all is_dimension_value values ≡ true
     → list_all is_no_null_text coords ≡ true
-all_stand_told [] values stand lawful = refl
-all_stand_told (c ∷ coords) [] stand lawful = cc stand
-all_stand_told (c ∷ coords) (value ∷ values) stand lawful =
+is_no_null_text-all_stand_for [] values stand lawful = refl
+is_no_null_text-all_stand_for (c ∷ coords) [] stand lawful = cc stand
+is_no_null_text-all_stand_for (c ∷ coords) (value ∷ values) stand lawful =
     let s = and_parts (stands_for c value) (all_stand_for coords values) stand in
     let l = and_parts (is_dimension_value value) (list_all is_dimension_value values) lawful in
-    and_from _ _ (stands_told c value s.0 l.0) (all_stand_told coords values s.1 l.1)
+    and_from _ _ (is_no_null_text-stands_for c value s.0 l.0) (is_no_null_text-all_stand_for coords values s.1 l.1)
 
 -- no coordinate of the grand total is a null text
-total_told : (coords : List Coord) → list_all is_all_coord coords ≡ true → list_all is_no_null_text coords ≡ true
-total_told [] all = refl
-total_told (coord.Text name ∷ coords) all = cc all
-total_told (coord.Null ∷ coords) all = cc all
-total_told (coord.All ∷ coords) all = total_told coords all
+is_no_null_text-is_all_coord : (coords : List Coord) → list_all is_all_coord coords ≡ true → list_all is_no_null_text coords ≡ true
+is_no_null_text-is_all_coord [] all = refl
+is_no_null_text-is_all_coord (coord.Text name ∷ coords) all = cc all
+is_no_null_text-is_all_coord (coord.Null ∷ coords) all = cc all
+is_no_null_text-is_all_coord (coord.All ∷ coords) all = is_no_null_text-is_all_coord coords all
 
 -- what is true of each cell of facts that fit: no null text, and a coordinate for each dimension
 abbrev IsTold : Layout → Key → Type 0
 IsTold s key = (has_no_null_text key ≡ true) × (length key.coords ≡ length s.dimensions)
 
 -- a key that covers one of the facts
-covering_told : (s : Layout) (facts : List Fact) (key : Key) → list_all (fits s) facts ≡ true → list_any (covers key) facts ≡ true → has_no_null_text key ≡ true
-covering_told s facts key fit some =
+has_no_null_text-covers : (s : Layout) (facts : List Fact) (key : Key) → list_all (fits s) facts ≡ true → list_any (covers key) facts ≡ true → has_no_null_text key ≡ true
+has_no_null_text-covers s facts key fit some =
     let found = list_any-Contains (covers key) facts some in
     let parts = and_parts _ _ (list_all-Contains (fits s) facts found.0 fit found.1) in
-    all_stand_told key.coords found.0.dims found.2 parts.1
+    is_no_null_text-all_stand_for key.coords found.0.dims found.2 parts.1
 
 -- a cell
-pub cell_told : (s : Layout) (sets : List ℕ) (facts : List Fact) (key : Key) → list_all (fits s) facts ≡ true → is_cell sets (length s.dimensions) facts key ≡ true → IsTold s key
-cell_told s sets facts key fit cell =
+pub IsTold-is_cell : (s : Layout) (sets : List ℕ) (facts : List Fact) (key : Key) → list_all (fits s) facts ≡ true → is_cell sets (length s.dimensions) facts key ≡ true → IsTold s key
+IsTold-is_cell s sets facts key fit cell =
     let parts = and_parts _ _ cell in
     let told : has_no_null_text key ≡ true = elim (or_cases (is_total (length s.dimensions) key) (list_any (covers key) facts) parts.1) [
-      | inl total ↦ total_told key.coords (and_parts _ _ total).1
-      | inr some ↦ covering_told s facts key fit some
+      | inl total ↦ is_no_null_text-is_all_coord key.coords (and_parts _ _ total).1
+      | inr some ↦ has_no_null_text-covers s facts key fit some
     ] in
     (told, width_of_cell s facts key fit parts.1)
 
 -- lists of one length that begin two equal lists are equal, and so is what comes after
-fronts_same : {X : Type 0} (a b as' bs : List X) → length a ≡ length b → a ++ as' ≡ b ++ bs → a ≡ b
-fronts_same {X} a b as' bs lengths same =
+append-front : {X : Type 0} (a b as' bs : List X) → length a ≡ length b → a ++ as' ≡ b ++ bs → a ≡ b
+append-front {X} a b as' bs lengths same =
     sym (take-append_seam a as') ∙ ap (λ (xs : List X). take (length a) xs) same ∙ rw lengths (take-append_seam b bs)
 
-backs_same : {X : Type 0} (a b as' bs : List X) → length a ≡ length b → a ++ as' ≡ b ++ bs → as' ≡ bs
-backs_same {X} a b as' bs lengths same =
+append-back : {X : Type 0} (a b as' bs : List X) → length a ≡ length b → a ++ as' ≡ b ++ bs → as' ≡ bs
+append-back {X} a b as' bs lengths same =
     sym (drop-append_seam a as') ∙ ap (λ (xs : List X). drop (length a) xs) same ∙ rw lengths (drop-append_seam b bs)
 
 -- the columns of a row that show its key
 abbrev shown : Key → List (List ℕ)
 shown key = map coord_text key.coords ++ map grouping_text key.coords
 
-shown_length : (key : Key) → length (shown key) ≡ 2 * length key.coords
-shown_length key = simp (length-append, length-map) (omega arith)
+length-shown : (key : Key) → length (shown key) ≡ 2 * length key.coords
+length-shown key = simp (length-append, length-map) (omega arith)
 
-shown_in_row : (s : Layout) (row : Row) → length row.key.coords ≡ length s.dimensions → key_columns s row ≡ shown row.key
-shown_in_row s row as_many =
-    let n : 2 * length s.dimensions ≡ length (shown row.key) = sym (shown_length row.key ∙ ap (λ (k : ℕ). 2 * k) as_many) in
+key_columns-shown : (s : Layout) (row : Row) → length row.key.coords ≡ length s.dimensions → key_columns s row ≡ shown row.key
+key_columns-shown s row as_many =
+    let n : 2 * length s.dimensions ≡ length (shown row.key) = sym (length-shown row.key ∙ ap (λ (k : ℕ). 2 * k) as_many) in
     rw n (take-append_seam (shown row.key) (map answer_text row.answers))
 
 -- what shows the same looks alike
-shown_alike : (a b : Key) → length a.coords ≡ length b.coords → shown a ≡ shown b → LookAlike a b
-shown_alike a b lengths same =
+shown-LookAlike : (a b : Key) → length a.coords ≡ length b.coords → shown a ≡ shown b → LookAlike a b
+shown-LookAlike a b lengths same =
     let l : length (map coord_text a.coords) ≡ length (map coord_text b.coords) = length-map a.coords coord_text ∙ lengths ∙ sym (length-map b.coords coord_text) in
     record {
-      dimensions = fronts_same (map coord_text a.coords) (map coord_text b.coords) _ _ l same;
-      groupings = backs_same (map coord_text a.coords) (map coord_text b.coords) _ _ l same;
+      dimensions = append-front (map coord_text a.coords) (map coord_text b.coords) _ _ l same;
+      groupings = append-back (map coord_text a.coords) (map coord_text b.coords) _ _ l same;
     }
 
 -- rows of a cube that show the same have one key
-row_key_told : (s : Layout) (facts : List Fact) (rows : List Row) (a b : Row) → list_all (fits s) facts ≡ true → AreRows s facts rows
+shown-unique : (s : Layout) (facts : List Fact) (rows : List Row) (a b : Row) → list_all (fits s) facts ≡ true → AreRows s facts rows
     → Contains rows a → Contains rows b → key_columns s a ≡ key_columns s b → a.key ≡ b.key
-row_key_told s facts rows a b fit whole in_a in_b same =
-    let told_a = cell_told s s.grouping_sets facts a.key fit ((whole.cells a.key).0 (map-Contains key_of rows a in_a)) in
-    let told_b = cell_told s s.grouping_sets facts b.key fit ((whole.cells b.key).0 (map-Contains key_of rows b in_b)) in
-    key_told a.key b.key told_a.0 told_b.0
-    (shown_alike a.key b.key (told_a.1 ∙ sym told_b.1) (sym (shown_in_row s a told_a.1) ∙ same ∙ shown_in_row s b told_b.1))
+shown-unique s facts rows a b fit whole in_a in_b same =
+    let told_a = IsTold-is_cell s s.grouping_sets facts a.key fit ((whole.cells a.key).0 (map-Contains key_of rows a in_a)) in
+    let told_b = IsTold-is_cell s s.grouping_sets facts b.key fit ((whole.cells b.key).0 (map-Contains key_of rows b in_b)) in
+    LookAlike-unique a.key b.key told_a.0 told_b.0
+    (shown-LookAlike a.key b.key (told_a.1 ∙ sym told_b.1) (sym (key_columns-shown s a told_a.1) ∙ same ∙ key_columns-shown s b told_b.1))
 
 -- rows of a cube that show the same are one row
-pub row_told : (s : Layout) (facts : List Fact) (rows : List Row) (a b : Row) → list_all (fits s) facts ≡ true → AreRows s facts rows
+pub row_fields-unique : (s : Layout) (facts : List Fact) (rows : List Row) (a b : Row) → list_all (fits s) facts ≡ true → AreRows s facts rows
     → Contains rows a → Contains rows b → key_columns s a ≡ key_columns s b → a ≡ b
-row_told s facts rows a b fit whole in_a in_b same =
-    same_row s.aggregates facts a b (row_key_told s facts rows a b fit whole in_a in_b same)
+row_fields-unique s facts rows a b fit whole in_a in_b same =
+    HasAnswers-unique s.aggregates facts a b (shown-unique s facts rows a b fit whole in_a in_b same)
     (AllByRecursion-Contains (HasAnswers s.aggregates facts) rows a whole.answers in_a)
     (AllByRecursion-Contains (HasAnswers s.aggregates facts) rows b whole.answers in_b)

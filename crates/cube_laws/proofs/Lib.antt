@@ -4,6 +4,7 @@ mod FieldLaws
 mod SpellingLaws
 mod WrittenLaws
 mod GroupingLaws
+mod WritableLaws
 mod RowLaws
 mod RowOrderLaws
 mod GroupCountLaws

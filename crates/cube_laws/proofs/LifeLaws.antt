@@ -17,42 +17,42 @@ use Rattle.cube_core.specs.declared.partial.Field.TheVariants.{Keep, Put}
 use Rattle.cube_laws.specs.Life.{is_insert_of, inserts, keeping, putting}
 
 -- after a delete an id is absent
-pub life_deleted : (id : List ℕ) (changes : List Change) → life_of id (changes ++ Delete id ∷ []) ≡ None
-life_deleted id changes = life_more id changes (Delete id) (same_text id) ∙ sym (nothing_after_delete id (life_of id changes))
+pub life_of-Delete : (id : List ℕ) (changes : List Change) → life_of id (changes ++ Delete id ∷ []) ≡ None
+life_of-Delete id changes = life_more id changes (Delete id) (same_text id) ∙ sym (nothing_after_delete id (life_of id changes))
 
 -- a change that doesn't insert an absent id leaves it absent
-pub life_none_more : (id : List ℕ) (changes : List Change) (change : Change) → life_of id changes ≡ None → is_insert_of id change ≡ false
+pub life_of-is_insert_of : (id : List ℕ) (changes : List Change) (change : Change) → life_of id changes ≡ None → is_insert_of id change ≡ false
     → life_of id (changes ++ change ∷ []) ≡ None
-life_none_more id changes (Insert named fact) absent uninserted = life_other id changes (Insert named fact) uninserted ∙ absent
-life_none_more id changes (Update named fact) absent uninserted = elim (cases_Bool (bytes_eq id named)) [
+life_of-is_insert_of id changes (Insert named fact) absent uninserted = life_other id changes (Insert named fact) uninserted ∙ absent
+life_of-is_insert_of id changes (Update named fact) absent uninserted = elim (cases_Bool (bytes_eq id named)) [
   | inl same ↦ life_more id changes (Update named fact) same ∙ ap (life_after (Update named fact)) absent
   | inr other ↦ life_other id changes (Update named fact) other ∙ absent
 ]
-life_none_more id changes (Amend named part) absent uninserted = elim (cases_Bool (bytes_eq id named)) [
+life_of-is_insert_of id changes (Amend named part) absent uninserted = elim (cases_Bool (bytes_eq id named)) [
   | inl same ↦ life_more id changes (Amend named part) same ∙ ap (life_after (Amend named part)) absent
   | inr other ↦ life_other id changes (Amend named part) other ∙ absent
 ]
-life_none_more id changes (Delete named) absent uninserted = elim (cases_Bool (bytes_eq id named)) [
+life_of-is_insert_of id changes (Delete named) absent uninserted = elim (cases_Bool (bytes_eq id named)) [
   | inl same ↦ life_more id changes (Delete named) same ∙ ap (life_after (Delete named)) absent
   | inr other ↦ life_other id changes (Delete named) other ∙ absent
 ]
 
 -- so do many of them
-pub life_stays_none : (id : List ℕ) (later changes : List Change) → life_of id changes ≡ None → inserts id later ≡ false
+pub life_of-inserts : (id : List ℕ) (later changes : List Change) → life_of id changes ≡ None → inserts id later ≡ false
     → life_of id (changes ++ later) ≡ None
-life_stays_none id [] changes absent uninserted = ap (life_of id) (append-nil changes) ∙ absent
-life_stays_none id (change ∷ later) changes absent uninserted =
+life_of-inserts id [] changes absent uninserted = ap (life_of id) (append-nil changes) ∙ absent
+life_of-inserts id (change ∷ later) changes absent uninserted =
     let parts = or_parts (is_insert_of id change) (inserts id later) uninserted in
     ap (life_of id) (sym (append_assoc changes (change ∷ []) later))
-    ∙ life_stays_none id later (changes ++ change ∷ []) (life_none_more id changes change absent parts.0) parts.1
+    ∙ life_of-inserts id later (changes ++ change ∷ []) (life_of-is_insert_of id changes change absent parts.0) parts.1
 
 -- a present id after an update, and after a delete and an insert
-pub life_updated : (id : List ℕ) (changes : List Change) (fact other : Fact) → life_of id changes ≡ Some fact
+pub life_of-Update : (id : List ℕ) (changes : List Change) (fact other : Fact) → life_of id changes ≡ Some fact
     → life_of id (changes ++ Update id other ∷ []) ≡ life_of id (changes ++ Delete id ∷ Insert id other ∷ [])
-life_updated id changes fact other present =
+life_of-Update id changes fact other present =
     let updated = life_more id changes (Update id other) (same_text id) ∙ ap (life_after (Update id other)) present in
     let deleted : List Change = changes ++ Delete id ∷ [] in
-    let inserted = life_more id deleted (Insert id other) (same_text id) ∙ ap (life_after (Insert id other)) (life_deleted id changes) in
+    let inserted = life_more id deleted (Insert id other) (same_text id) ∙ ap (life_after (Insert id other)) (life_of-Delete id changes) in
     updated ∙ sym (ap (life_of id) (sym (append_assoc changes (Delete id ∷ []) (Insert id other ∷ []))) ∙ inserted)
 
 -- a value that is put, and one that is kept
@@ -83,16 +83,16 @@ fields_over-put_all (value ∷ values) [] same = absurd (omega arith)
 fields_over-put_all (value ∷ values) (old ∷ olds) same = ap (λ rest. value ∷ rest) (fields_over-put_all values olds (omega arith))
 
 -- a present id after an amendment that keeps all, and after one that puts all
-pub life_kept : (id : List ℕ) (changes : List Change) (fact : Fact) → life_of id changes ≡ Some fact
+pub life_of-keeping : (id : List ℕ) (changes : List Change) (fact : Fact) → life_of id changes ≡ Some fact
     → life_of id (changes ++ Amend id (keeping fact) ∷ []) ≡ Some fact
-life_kept id changes fact present =
+life_of-keeping id changes fact present =
     life_more id changes (Amend id (keeping fact)) (same_text id) ∙ ap (life_after (Amend id (keeping fact))) present
     ∙ (λ i. Some (record { dims = fields_over-keep_all fact.dims i; measures = fields_over-keep_all fact.measures i }))
 
-pub life_put : (id : List ℕ) (changes : List Change) (fact other : Fact) → life_of id changes ≡ Some fact
+pub life_of-putting : (id : List ℕ) (changes : List Change) (fact other : Fact) → life_of id changes ≡ Some fact
     → length other.dims ≡ length fact.dims → length other.measures ≡ length fact.measures
     → life_of id (changes ++ Amend id (putting other) ∷ []) ≡ life_of id (changes ++ Update id other ∷ [])
-life_put id changes fact other present dims measures =
+life_of-putting id changes fact other present dims measures =
     life_more id changes (Amend id (putting other)) (same_text id) ∙ ap (life_after (Amend id (putting other))) present
     ∙ (λ i. Some (record { dims = fields_over-put_all other.dims fact.dims dims i; measures = fields_over-put_all other.measures fact.measures measures i }))
     ∙ sym (life_more id changes (Update id other) (same_text id) ∙ ap (life_after (Update id other)) present)
@@ -103,8 +103,8 @@ since_delete-past id [] after = refl
 since_delete-past id (change ∷ before) after =
     rw (list_any-append is_delete (change ∷ before) (Delete id ∷ after) ∙ or_right _ true refl) (since_delete-past id before after)
 
-pub life_past : (id : List ℕ) (before after : List Change) → life_of id (before ++ Delete id ∷ after) ≡ life_of id after
-life_past id before after =
+pub life_of-past : (id : List ℕ) (before after : List Change) → life_of id (before ++ Delete id ∷ after) ≡ life_of id after
+life_of-past id before after =
     let named : naming id (before ++ Delete id ∷ after) ≡ naming id before ++ Delete id ∷ naming id after =
     filter-append (λ (c : Change). bytes_eq id (id_of c)) before (Delete id ∷ after) ∙ rw (same_text id) refl in
     ap (λ (cs : List Change). from_insert (since_delete cs)) named ∙ ap from_insert (since_delete-past id (naming id before) (naming id after))

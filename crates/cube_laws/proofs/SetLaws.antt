@@ -20,19 +20,19 @@ use Rattle.cube_core.specs.declared.key.Row.{Row}
 use Rattle.cube_core.proofs.ListLaws.{Contains-filter, filter-Contains, map-filter}
 
 -- a set that is among sets that are among others is among these
-among_others : (others sets : List ℕ) (set : ℕ) → AreAmong sets others → is_among set sets ≡ true → is_among set others ≡ true
-among_others others [] set are among = cc among
-among_others others (first ∷ sets) set are among = elim (or_cases (first == set) (is_among set sets) among) [
+is_among-AreAmong : (others sets : List ℕ) (set : ℕ) → AreAmong sets others → is_among set sets ≡ true → is_among set others ≡ true
+is_among-AreAmong others [] set are among = cc among
+is_among-AreAmong others (first ∷ sets) set are among = elim (or_cases (first == set) (is_among set sets) among) [
   | inl same ↦ ap (λ (n : ℕ). is_among n others) (sym (eqb-true first set same)) ∙ are.0
-  | inr later ↦ among_others others sets set are.1 later
+  | inr later ↦ is_among-AreAmong others sets set are.1 later
 ]
 
 -- the rows of a cube in some of its grouping sets are those of the cube over these
-pub rows_in_sets : (dimensions : ℕ) (aggregates : List Agg) (facts : List Fact) (rows : List Row) (others sets : List ℕ)
+pub AreRowsOver-AreAmong : (dimensions : ℕ) (aggregates : List Agg) (facts : List Fact) (rows : List Row) (others sets : List ℕ)
     → AreAmong sets others
     → AreRowsOver others dimensions aggregates facts rows
     → AreRowsOver sets dimensions aggregates facts (rows_in sets rows)
-rows_in_sets dimensions aggregates facts rows others sets are whole =
+AreRowsOver-AreAmong dimensions aggregates facts rows others sets are whole =
     let in_sets : Key → Bool = λ key. is_among (mask_of key) sets in
     let keys : map key_of (rows_in sets rows) ≡ filter in_sets (map key_of rows) = map-filter key_of in_sets rows in
     record {
@@ -43,7 +43,7 @@ rows_in_sets dimensions aggregates facts rows others sets are whole =
             and_from (in_sets key) _ kept.1 cell.1),
         (λ cell.
             let parts = and_parts _ _ cell in
-            let among = among_others others sets (mask_of key) are parts.0 in
+            let among = is_among-AreAmong others sets (mask_of key) are parts.0 in
             rw keys (filter-Contains in_sets (map key_of rows) key ((whole.cells key).1 (and_from _ _ among parts.1)) parts.0)),
       );
       ordered = rw keys (IsStrictlySortedBy-filter key_cmp in_sets (map key_of rows) whole.ordered);
@@ -51,63 +51,63 @@ rows_in_sets dimensions aggregates facts rows others sets are whole =
     }
 
 -- a schema's sets are among all
-pub each_among : (dimensions : ℕ) (sets : List ℕ) → AllByRecursion (λ set. set < 2 ^ dimensions) sets → AreAmong sets (all_sets dimensions)
-each_among dimensions [] below = tt
-each_among dimensions (set ∷ sets) below =
-    (set_is_among set dimensions (λ other. other == set) below.0 (eq-eqb set set refl), each_among dimensions sets below.1)
+pub AreAmong-all_sets : (dimensions : ℕ) (sets : List ℕ) → AllByRecursion (λ set. set < 2 ^ dimensions) sets → AreAmong sets (all_sets dimensions)
+AreAmong-all_sets dimensions [] below = tt
+AreAmong-all_sets dimensions (set ∷ sets) below =
+    (set_is_among set dimensions (λ other. other == set) below.0 (eq-eqb set set refl), AreAmong-all_sets dimensions sets below.1)
 
-pub schema-AreAmong : (s : Layout) → IsSchema s → AreAmong s.grouping_sets (all_sets (length s.dimensions))
-schema-AreAmong s is =
-    each_among (length s.dimensions) s.grouping_sets
+pub IsSchema-AreAmong : (s : Layout) → IsSchema s → AreAmong s.grouping_sets (all_sets (length s.dimensions))
+IsSchema-AreAmong s is =
+    AreAmong-all_sets (length s.dimensions) s.grouping_sets
     (recursion_from_All (λ set. set < 2 ^ length s.dimensions) s.grouping_sets is.sets_are_of_dimensions)
 
 -- a set that passes is among those that a filter keeps
-among_kept : (p : ℕ → Bool) (sets : List ℕ) (set : ℕ) → is_among set sets ≡ true → p set ≡ true → is_among set (filter p sets) ≡ true
-among_kept p [] set among passes = among
-among_kept p (first ∷ sets) set among passes = elim (or_cases (first == set) (is_among set sets) among) [
+is_among-filter : (p : ℕ → Bool) (sets : List ℕ) (set : ℕ) → is_among set sets ≡ true → p set ≡ true → is_among set (filter p sets) ≡ true
+is_among-filter p [] set among passes = among
+is_among-filter p (first ∷ sets) set among passes = elim (or_cases (first == set) (is_among set sets) among) [
   | inl same ↦ let first_passes = ap p (eqb-true first set same) ∙ passes in rw first_passes (or_left (first == set) _ same)
   | inr later ↦ elim (cases_Bool (p first)) [
-    | inl kept ↦ rw kept (or_right (first == set) _ (among_kept p sets set later passes))
-    | inr left ↦ rw left (among_kept p sets set later passes)
+    | inl kept ↦ rw kept (or_right (first == set) _ (is_among-filter p sets set later passes))
+    | inr left ↦ rw left (is_among-filter p sets set later passes)
   ]
 ]
 
 -- a set among those that a filter keeps passes, and was among them
-among_passed : (p : ℕ → Bool) (sets : List ℕ) (set : ℕ) → is_among set (filter p sets) ≡ true → (is_among set sets ≡ true) × (p set ≡ true)
-among_passed p [] set among = cc among
-among_passed p (first ∷ sets) set among = elim (cases_Bool (p first)) [
+filter-is_among : (p : ℕ → Bool) (sets : List ℕ) (set : ℕ) → is_among set (filter p sets) ≡ true → (is_among set sets ≡ true) × (p set ≡ true)
+filter-is_among p [] set among = cc among
+filter-is_among p (first ∷ sets) set among = elim (cases_Bool (p first)) [
   | inl kept ↦ elim (or_cases (first == set) (is_among set (filter p sets)) (rw kept at among)) [
     | inl same ↦ (or_left (first == set) _ same, ap p (sym (eqb-true first set same)) ∙ kept)
-    | inr later ↦ let rest = among_passed p sets set later in (or_right (first == set) _ rest.0, rest.1)
+    | inr later ↦ let rest = filter-is_among p sets set later in (or_right (first == set) _ rest.0, rest.1)
   ]
-  | inr left ↦ let rest = among_passed p sets set (rw left at among) in (or_right (first == set) _ rest.0, rest.1)
+  | inr left ↦ let rest = filter-is_among p sets set (rw left at among) in (or_right (first == set) _ rest.0, rest.1)
 ]
 
 -- a part has no set that isn't in the list
-pub part_among : (parts j : ℕ) (sets : List ℕ) (set : ℕ) → is_among set (sets_of_part j parts sets) ≡ true → is_among set sets ≡ true
-part_among parts j sets set among = (among_passed (λ other. other % parts == j) sets set among).0
+pub is_among-sets_of_part : (parts j : ℕ) (sets : List ℕ) (set : ℕ) → is_among set (sets_of_part j parts sets) ≡ true → is_among set sets ≡ true
+is_among-sets_of_part parts j sets set among = (filter-is_among (λ other. other % parts == j) sets set among).0
 
 -- a set that is in part k of so many leaves k
-part_of_set : (parts : ℕ) (sets : List ℕ) (set k : ℕ) → is_among set (sets_of_part k parts sets) ≡ true → k ≡ set % parts
-part_of_set parts sets set k among = sym (eqb-true (set % parts) k (among_passed (λ other. other % parts == k) sets set among).1)
+sets_of_part-mod : (parts : ℕ) (sets : List ℕ) (set k : ℕ) → is_among set (sets_of_part k parts sets) ≡ true → k ≡ set % parts
+sets_of_part-mod parts sets set k among = sym (eqb-true (set % parts) k (filter-is_among (λ other. other % parts == k) sets set among).1)
 
 -- a set is in the part that it leaves
-in_own_part : (parts : ℕ) (sets : List ℕ) (set : ℕ) → is_among set sets ≡ true → is_among set (sets_of_part (set % parts) parts sets) ≡ true
-in_own_part parts sets set among = among_kept (λ other. other % parts == set % parts) sets set among (eq-eqb (set % parts) (set % parts) refl)
+sets_of_part-own : (parts : ℕ) (sets : List ℕ) (set : ℕ) → is_among set sets ≡ true → is_among set (sets_of_part (set % parts) parts sets) ≡ true
+sets_of_part-own parts sets set among = is_among-filter (λ other. other % parts == set % parts) sets set among (eq-eqb (set % parts) (set % parts) refl)
 
 -- each set is in one part
-pub set_in_one_part : (parts : ℕ) (sets : List ℕ) (set : ℕ) → 1 ≤ parts → is_among set sets ≡ true
+pub sets_of_part-unique : (parts : ℕ) (sets : List ℕ) (set : ℕ) → 1 ≤ parts → is_among set sets ≡ true
     → IsTrueOfOne parts (λ j. is_among set (sets_of_part j parts sets))
-set_in_one_part parts sets set some among =
-    (set % parts, mod-lt set some, in_own_part parts sets set among, λ k here. part_of_set parts sets set k here)
+sets_of_part-unique parts sets set some among =
+    (set % parts, mod-lt set some, sets_of_part-own parts sets set among, λ k here. sets_of_part-mod parts sets set k here)
 
 -- each cell is in one part
-pub cell_in_one_part : (parts dimensions : ℕ) (sets : List ℕ) (facts : List Fact) (key : Key) → 1 ≤ parts → is_cell sets dimensions facts key ≡ true
+pub is_cell-sets_of_part : (parts dimensions : ℕ) (sets : List ℕ) (facts : List Fact) (key : Key) → 1 ≤ parts → is_cell sets dimensions facts key ≡ true
     → IsTrueOfOne parts (λ j. is_cell (sets_of_part j parts sets) dimensions facts key)
-cell_in_one_part parts dimensions sets facts key some cell =
+is_cell-sets_of_part parts dimensions sets facts key some cell =
     let halves = and_parts _ _ cell in (
       mask_of key % parts,
       mod-lt (mask_of key) some,
-      and_from _ _ (in_own_part parts sets (mask_of key) halves.0) halves.1,
-      λ k here. part_of_set parts sets (mask_of key) k (and_parts _ _ here).0,
+      and_from _ _ (sets_of_part-own parts sets (mask_of key) halves.0) halves.1,
+      λ k here. sets_of_part-mod parts sets (mask_of key) k (and_parts _ _ here).0,
     )

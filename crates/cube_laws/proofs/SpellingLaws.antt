@@ -16,13 +16,13 @@ use Rattle.cube_core.specs.declared.aggregate.Agg.TheVariants.{CountAll, Count, 
 use Rattle.cube_core.proofs.SchemaSpelling.{spelled_is, measure_in, position_between, position_between_none, bytes_eq-between}
 
 -- a text that is at a place of a list is listed
-listed_at : (text : List ℕ) (texts : List (List ℕ)) (m : ℕ) → m < length texts → text ≡ get_or texts m [] → is_listed text texts ≡ true
-listed_at text [] m inside same = absurd (omega arith)
-listed_at text (first ∷ texts) zero inside same = rw ((bytes_eq-Decides text first).1 same)
-listed_at text (first ∷ texts) (suc m) inside same =
+is_listed-get_or : (text : List ℕ) (texts : List (List ℕ)) (m : ℕ) → m < length texts → text ≡ get_or texts m [] → is_listed text texts ≡ true
+is_listed-get_or text [] m inside same = absurd (omega arith)
+is_listed-get_or text (first ∷ texts) zero inside same = rw ((bytes_eq-Decides text first).1 same)
+is_listed-get_or text (first ∷ texts) (suc m) inside same =
     elim (cases_Bool (bytes_eq text first)) [
       | inl here ↦ rw here
-      | inr there ↦ rw there (listed_at text texts m (omega arith) same)
+      | inr there ↦ rw there (is_listed-get_or text texts m (omega arith) same)
     ]
 
 -- a name stands at one place among names that differ
@@ -32,7 +32,7 @@ position_of-name (name ∷ names) zero k distinct inside = rw ((bytes_eq-Decides
 position_of-name (name ∷ names) (suc m) k distinct inside =
     let (alone, others) = and_parts (not (is_listed name names)) (are_distinct names) distinct in
     let other : bytes_eq name (get_or names m []) ≡ false =
-    false_from_ne_true _ (λ same. false≢true (sym (not-true _ alone) ∙ listed_at name names m (omega arith) ((bytes_eq-Decides name (get_or names m [])).0 same))) in
+    false_from_ne_true _ (λ same. false≢true (sym (not-true _ alone) ∙ is_listed-get_or name names m (omega arith) ((bytes_eq-Decides name (get_or names m [])).0 same))) in
     rw other (position_of-name names m (k + 1) others (omega arith) ∙ ap Some (omega arith))
 
 -- the measure that a spelling names
@@ -50,63 +50,63 @@ measure_in-other measures text opening other =
     position_between_none opening (codes ")") text measures (λ name same. false≢true (sym (other name) ∙ (bytes_eq-Decides text ((opening ++ name) ++ codes ")")).1 (sym same)))
 
 -- a function that has no such measure is passed over, and one that has is taken
-passed_over : (make : ℕ → Agg) (measure : Option ℕ) (others : Option Agg) (agg : Agg) → measure ≡ None → others ≡ Some agg → option_or (option_map make measure) others ≡ Some agg
-passed_over make measure others agg none rest = rw none rest
+option_or-None : (make : ℕ → Agg) (measure : Option ℕ) (others : Option Agg) (agg : Agg) → measure ≡ None → others ≡ Some agg → option_or (option_map make measure) others ≡ Some agg
+option_or-None make measure others agg none rest = rw none rest
 
-taken : (make : ℕ → Agg) (measure : Option ℕ) (others : Option Agg) (m : ℕ) → measure ≡ Some m → option_or (option_map make measure) others ≡ Some (make m)
-taken make measure others m some = rw some
+option_or-Some : (make : ℕ → Agg) (measure : Option ℕ) (others : Option Agg) (m : ℕ) → measure ≡ Some m → option_or (option_map make measure) others ≡ Some (make m)
+option_or-Some make measure others m some = rw some
 
 -- a lawful name isn't a star
-lawful_no_star : (names : List (List ℕ)) (m : ℕ) → list_all is_lawful_name names ≡ true → m < length names → bytes_eq (codes "*") (get_or names m []) ≡ false
-lawful_no_star names m lawful inside =
+is_lawful_name-star : (names : List (List ℕ)) (m : ℕ) → list_all is_lawful_name names ≡ true → m < length names → bytes_eq (codes "*") (get_or names m []) ≡ false
+is_lawful_name-star names m lawful inside =
     let this : is_lawful_name (get_or names m []) ≡ true = AllPass-from_list_all is_lawful_name names lawful m [] inside in
     false_from_ne_true _ (λ star. false≢true (ap is_lawful_name ((bytes_eq-Decides (codes "*") (get_or names m [])).0 star) ∙ this))
 
-pub spelled_once : (measures : List (List ℕ)) (agg : Agg) → list_all is_lawful_name measures ≡ true → are_distinct measures ≡ true → is_aggregate_of (length measures) agg ≡ true → aggregate_spelled measures (spelling_of measures agg) ≡ Some agg
-spelled_once measures CountAll lawful distinct of = spelled_is measures (codes "count(*)")
-spelled_once measures (Count m) lawful distinct of =
+pub aggregate_spelled-spelling_of : (measures : List (List ℕ)) (agg : Agg) → list_all is_lawful_name measures ≡ true → are_distinct measures ≡ true → is_aggregate_of (length measures) agg ≡ true → aggregate_spelled measures (spelling_of measures agg) ≡ Some agg
+aggregate_spelled-spelling_of measures CountAll lawful distinct of = spelled_is measures (codes "count(*)")
+aggregate_spelled-spelling_of measures (Count m) lawful distinct of =
     let inside : m < length measures = grind (arith, nat_tests) in
     let text : List ℕ = spelling_of measures (Count m) in
-    let star : bytes_eq text (codes "count(*)") ≡ false = bytes_eq-between (codes "count(") (codes ")") (codes "*") text (get_or measures m []) refl ∙ lawful_no_star measures m lawful inside in
-    spelled_is measures text ∙ rw star (taken Count _ _ m (measure_in-own measures m (codes "count(") distinct inside))
-spelled_once measures (Sum m) lawful distinct of =
+    let star : bytes_eq text (codes "count(*)") ≡ false = bytes_eq-between (codes "count(") (codes ")") (codes "*") text (get_or measures m []) refl ∙ is_lawful_name-star measures m lawful inside in
+    spelled_is measures text ∙ rw star (option_or-Some Count _ _ m (measure_in-own measures m (codes "count(") distinct inside))
+aggregate_spelled-spelling_of measures (Sum m) lawful distinct of =
     let inside : m < length measures = grind (arith, nat_tests) in
     let text : List ℕ = spelling_of measures (Sum m) in
     spelled_is measures text
-    ∙ passed_over Count _ _ _ (measure_in-other measures text (codes "count(") (λ name. refl))
-    (taken Sum _ _ m (measure_in-own measures m (codes "sum(") distinct inside))
-spelled_once measures (Min m) lawful distinct of =
+    ∙ option_or-None Count _ _ _ (measure_in-other measures text (codes "count(") (λ name. refl))
+    (option_or-Some Sum _ _ m (measure_in-own measures m (codes "sum(") distinct inside))
+aggregate_spelled-spelling_of measures (Min m) lawful distinct of =
     let inside : m < length measures = grind (arith, nat_tests) in
     let text : List ℕ = spelling_of measures (Min m) in
     spelled_is measures text
-    ∙ passed_over Count _ _ _ (measure_in-other measures text (codes "count(") (λ name. refl))
-    (passed_over Sum _ _ _ (measure_in-other measures text (codes "sum(") (λ name. refl))
-    (taken Min _ _ m (measure_in-own measures m (codes "min(") distinct inside)))
-spelled_once measures (Max m) lawful distinct of =
+    ∙ option_or-None Count _ _ _ (measure_in-other measures text (codes "count(") (λ name. refl))
+    (option_or-None Sum _ _ _ (measure_in-other measures text (codes "sum(") (λ name. refl))
+    (option_or-Some Min _ _ m (measure_in-own measures m (codes "min(") distinct inside)))
+aggregate_spelled-spelling_of measures (Max m) lawful distinct of =
     let inside : m < length measures = grind (arith, nat_tests) in
     let text : List ℕ = spelling_of measures (Max m) in
     spelled_is measures text
-    ∙ passed_over Count _ _ _ (measure_in-other measures text (codes "count(") (λ name. refl))
-    (passed_over Sum _ _ _ (measure_in-other measures text (codes "sum(") (λ name. refl))
-    (passed_over Min _ _ _ (measure_in-other measures text (codes "min(") (λ name. refl))
-    (taken Max _ _ m (measure_in-own measures m (codes "max(") distinct inside))))
-spelled_once measures (Avg m) lawful distinct of =
+    ∙ option_or-None Count _ _ _ (measure_in-other measures text (codes "count(") (λ name. refl))
+    (option_or-None Sum _ _ _ (measure_in-other measures text (codes "sum(") (λ name. refl))
+    (option_or-None Min _ _ _ (measure_in-other measures text (codes "min(") (λ name. refl))
+    (option_or-Some Max _ _ m (measure_in-own measures m (codes "max(") distinct inside))))
+aggregate_spelled-spelling_of measures (Avg m) lawful distinct of =
     let inside : m < length measures = grind (arith, nat_tests) in
     let text : List ℕ = spelling_of measures (Avg m) in
     spelled_is measures text
-    ∙ passed_over Count _ _ _ (measure_in-other measures text (codes "count(") (λ name. refl))
-    (passed_over Sum _ _ _ (measure_in-other measures text (codes "sum(") (λ name. refl))
-    (passed_over Min _ _ _ (measure_in-other measures text (codes "min(") (λ name. refl))
-    (passed_over Max _ _ _ (measure_in-other measures text (codes "max(") (λ name. refl))
+    ∙ option_or-None Count _ _ _ (measure_in-other measures text (codes "count(") (λ name. refl))
+    (option_or-None Sum _ _ _ (measure_in-other measures text (codes "sum(") (λ name. refl))
+    (option_or-None Min _ _ _ (measure_in-other measures text (codes "min(") (λ name. refl))
+    (option_or-None Max _ _ _ (measure_in-other measures text (codes "max(") (λ name. refl))
     (ap (option_map Avg) (measure_in-own measures m (codes "avg(") distinct inside)))))
 
 -- the measures of a schema are lawful and differ, being its last names
-distinct_end : (front end : List (List ℕ)) → are_distinct (front ++ end) ≡ true → are_distinct end ≡ true
-distinct_end [] end distinct = distinct
-distinct_end (name ∷ front) end distinct = distinct_end front end (and_parts (not (is_listed name (front ++ end))) (are_distinct (front ++ end)) distinct).1
+are_distinct-end : (front end : List (List ℕ)) → are_distinct (front ++ end) ≡ true → are_distinct end ≡ true
+are_distinct-end [] end distinct = distinct
+are_distinct-end (name ∷ front) end distinct = are_distinct-end front end (and_parts (not (is_listed name (front ++ end))) (are_distinct (front ++ end)) distinct).1
 
-pub schema_spelled_once : (s : Layout) (agg : Agg) → IsSchema s → is_aggregate_of (length s.measures) agg ≡ true → aggregate_spelled s.measures (spelling_of s.measures agg) ≡ Some agg
-schema_spelled_once s agg is of =
+pub aggregate_spelled-IsSchema : (s : Layout) (agg : Agg) → IsSchema s → is_aggregate_of (length s.measures) agg ≡ true → aggregate_spelled s.measures (spelling_of s.measures agg) ≡ Some agg
+aggregate_spelled-IsSchema s agg is of =
     let lawful : list_all is_lawful_name s.measures ≡ true =
     (and_parts (list_all is_lawful_name s.dimensions) (list_all is_lawful_name s.measures) (sym (list_all-append is_lawful_name s.dimensions s.measures) ∙ is.names_are_lawful)).1 in
-    spelled_once s.measures agg lawful (distinct_end s.dimensions s.measures is.names_are_distinct) of
+    aggregate_spelled-spelling_of s.measures agg lawful (are_distinct-end s.dimensions s.measures is.names_are_distinct) of

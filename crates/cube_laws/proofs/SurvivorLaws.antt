@@ -15,8 +15,8 @@ use Rattle.cube_core.specs.declared.change.Change.{Change}
 use Rattle.cube_core.specs.declared.change.Item.{Item}
 use Rattle.cube_core.specs.Sources.{SurviveTogether, IsPrintedOf}
 use Rattle.cube_core.proofs.LifeLaws.{same_text}
-use Rattle.cube_laws.proofs.RowLaws.{same_text as printed-same}
-use Rattle.cube_laws.proofs.RowOrderLaws.{Reordered, none, next, both, back, reordered, permutation, filter_map_reordered, text_stays}
+use Rattle.cube_laws.proofs.RowLaws.{IsPrinted-unique}
+use Rattle.cube_laws.proofs.RowOrderLaws.{Reordered, none, next, both, Reordered-sym, IsPermutation-Reordered, Reordered-IsPermutation, filter_map-Reordered, IsPrinted-IsPermutation}
 use Rattle.cube_core.proofs.ListLaws.{AllByRecursion-Contains, Contains-cases, Contains-head, Contains-nil, Contains-tail}
 
 -- an id that differs from all after it isn't among them
@@ -49,7 +49,7 @@ IsDistinct-Reordered (id ∷ ids) ids' distinct distinct' to from =
     (next (IsDistinct-Reordered ids others (IsDistinct-tail bytes_eq id ids distinct) (IsDistinct-tail bytes_eq id others apart)
     (tail-Contains id ids others (head-once id ids distinct) (λ other among. Contains-permutation ids' (id ∷ others) other moved (to other among)))
     (tail-Contains id others ids (head-once id others apart) (λ other among. from other (Contains-permutation (id ∷ others) ids' other moved_back among)))))
-    (back (reordered ids' (id ∷ others) moved))
+    (Reordered-sym (IsPermutation-Reordered ids' (id ∷ others) moved))
 
 -- the facts are what the life of each id gives
 filter_map-map : (life : List ℕ → Option Fact) (ids : List (List ℕ)) (facts : List Fact) → map Some facts ≡ map life ids →
@@ -74,7 +74,7 @@ Survive-IsPermutation changes facts facts' h k =
     subst₂ IsPermutation
     (sym (filter_map-map life h.ids facts h.facts_are_theirs))
     (sym (filter_map-map life k.ids facts' k.facts_are_theirs))
-    (permutation (filter_map_reordered life ids))
+    (Reordered-IsPermutation (filter_map-Reordered life ids))
 
 -- and so are those of several feeds
 parts-IsPermutation : (s : Layout) (feeds : List (List Item)) (parts parts' : List (List Fact)) →
@@ -96,16 +96,16 @@ SurviveTogether-IsPermutation s feeds facts facts' h k =
     subst₂ IsPermutation (sym h.joined) (sym k.joined) (parts-IsPermutation s feeds h.parts k.parts h.of_each k.of_each)
 
 -- the survivors of one feed, joined alone
-alone : (s : Layout) (items : List Item) (parts : List (List Fact)) → AllZip (AreSurviving s) (items ∷ []) parts →
+AreSurviving-alone : (s : Layout) (items : List Item) (parts : List (List Fact)) → AllZip (AreSurviving s) (items ∷ []) parts →
     AreSurviving s items (flat_map (λ part. part) parts)
-alone s items [] h = elim h [ ]
-alone s items (part ∷ []) h = subst (AreSurviving s items) (sym (append-nil part)) h.0
-alone s items (part ∷ other ∷ parts) h = elim h.1 [ ]
+AreSurviving-alone s items [] h = elim h [ ]
+AreSurviving-alone s items (part ∷ []) h = subst (AreSurviving s items) (sym (append-nil part)) h.0
+AreSurviving-alone s items (part ∷ other ∷ parts) h = elim h.1 [ ]
 
 pub SurviveTogether-AreSurviving : (s : Layout) (items : List Item) (facts : List Fact) →
     SurviveTogether s (items ∷ []) facts ↔ AreSurviving s items facts
 SurviveTogether-AreSurviving s items facts = (
-  λ together. subst (AreSurviving s items) (sym together.joined) (alone s items together.parts together.of_each),
+  λ together. subst (AreSurviving s items) (sym together.joined) (AreSurviving-alone s items together.parts together.of_each),
   λ surviving. record { parts = facts ∷ []; of_each = (surviving, tt); joined = sym (append-nil facts) },
 )
 
@@ -114,4 +114,4 @@ pub IsPrintedOf-text : (s : Layout) (sources : List (List ℕ)) (text text' : Li
     IsPrintedOf s sources text' → text ≡ text'
 IsPrintedOf-text s sources text text' h k =
     let same : IsPermutation h.facts k.facts = SurviveTogether-IsPermutation s _ h.facts k.facts h.survive k.survive in
-    printed-same s k.facts text text' (text_stays s h.facts k.facts text same h.printed) k.printed
+    IsPrinted-unique s k.facts text text' (IsPrinted-IsPermutation s h.facts k.facts text same h.printed) k.printed

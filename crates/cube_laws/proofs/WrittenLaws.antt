@@ -11,31 +11,31 @@ use Rattle.cube_laws.specs.Written.{Writes}
 use Rattle.cube_core.specs.declared.aggregate.Agg.{Agg}
 use Rattle.cube_core.specs.declared.schema_fault.SchemaFault.{SchemaFault}
 use Rattle.cube_core.specs.declared.schema_fault.SchemaFault.TheVariants.{UnknownKey, Dimensions, Measures, Name, Aggregates, MaxRecords, Grouping, Version}
-use Rattle.cube_laws.proofs.SpellingLaws.{schema_spelled_once}
+use Rattle.cube_laws.proofs.SpellingLaws.{aggregate_spelled-IsSchema}
 
 -- the spellings of aggregates are read as these aggregates
-read_back : (s : Layout) → IsSchema s → (aggregates : List Agg) → list_all (is_aggregate_of (length s.measures)) aggregates ≡ true → filter_map (aggregate_spelled s.measures) (map (spelling_of s.measures) aggregates) ≡ aggregates
-read_back s is [] of = refl
-read_back s is (agg ∷ aggregates) of =
+filter_map-spelling_of : (s : Layout) → IsSchema s → (aggregates : List Agg) → list_all (is_aggregate_of (length s.measures)) aggregates ≡ true → filter_map (aggregate_spelled s.measures) (map (spelling_of s.measures) aggregates) ≡ aggregates
+filter_map-spelling_of s is [] of = refl
+filter_map-spelling_of s is (agg ∷ aggregates) of =
     let (here, others) = and_parts (is_aggregate_of (length s.measures) agg) (list_all (is_aggregate_of (length s.measures)) aggregates) of in
-    rw (schema_spelled_once s agg is here) (ap (λ rest. agg ∷ rest) (read_back s is aggregates others))
+    rw (aggregate_spelled-IsSchema s agg is here) (ap (λ rest. agg ∷ rest) (filter_map-spelling_of s is aggregates others))
 
-spellings_back : (s : Layout) → IsSchema s → (aggregates : List Agg) → list_all (is_aggregate_of (length s.measures)) aggregates ≡ true → are_spellings s.measures (map (spelling_of s.measures) aggregates) ≡ true
-spellings_back s is [] of = refl
-spellings_back s is (agg ∷ aggregates) of =
+are_spellings-spelling_of : (s : Layout) → IsSchema s → (aggregates : List Agg) → list_all (is_aggregate_of (length s.measures)) aggregates ≡ true → are_spellings s.measures (map (spelling_of s.measures) aggregates) ≡ true
+are_spellings-spelling_of s is [] of = refl
+are_spellings-spelling_of s is (agg ∷ aggregates) of =
     let (here, others) = and_parts (is_aggregate_of (length s.measures) agg) (list_all (is_aggregate_of (length s.measures)) aggregates) of in
-    rw (schema_spelled_once s agg is here) (spellings_back s is aggregates others)
+    rw (aggregate_spelled-IsSchema s agg is here) (are_spellings-spelling_of s is aggregates others)
 
 -- a number of texts in its bounds
-up_to : (most : ℕ) (texts : List (List ℕ)) → 1 ≤ length texts → length texts ≤ most → is_some_up_to most texts ≡ true
-up_to most texts least greatest = rw (le-leb 1 (length texts) least, le-leb (length texts) most greatest)
+is_some_up_to-length : (most : ℕ) (texts : List (List ℕ)) → 1 ≤ length texts → length texts ≤ most → is_some_up_to most texts ≡ true
+is_some_up_to-length most texts least greatest = rw (le-leb 1 (length texts) least, le-leb (length texts) most greatest)
 
 -- no fault, where none of them holds
-none_found : (holds : SchemaFault → Bool) → holds UnknownKey ≡ false → holds Dimensions ≡ false → holds Measures ≡ false → holds Name ≡ false → holds Aggregates ≡ false → holds MaxRecords ≡ false → holds Grouping ≡ false → holds Version ≡ false → find holds document_faults ≡ None
-none_found holds a b c d e f g h = rw (a, b, c, d, e, f, g, h)
+find-document_faults : (holds : SchemaFault → Bool) → holds UnknownKey ≡ false → holds Dimensions ≡ false → holds Measures ≡ false → holds Name ≡ false → holds Aggregates ≡ false → holds MaxRecords ≡ false → holds Grouping ≡ false → holds Version ≡ false → find holds document_faults ≡ None
+find-document_faults holds a b c d e f g h = rw (a, b, c, d, e, f, g, h)
 
-pub written_is_read : (document : Members) (s : Layout) → IsSchema s → Writes document s → schema_of document ≡ Ok s
-written_is_read document s is writes =
+pub Writes-schema_of : (document : Members) (s : Layout) → IsSchema s → Writes document s → schema_of document ≡ Ok s
+Writes-schema_of document s is writes =
     let dimensions : dimensions_in document ≡ s.dimensions = ap (λ o. unwrap_or o []) writes.dimensions in
     let measures : measures_in document ≡ s.measures = ap (λ o. unwrap_or o []) writes.measures in
     let texts : spellings_in document ≡ s.aggregate_texts = ap (λ o. unwrap_or o []) writes.aggregates in
@@ -44,15 +44,15 @@ written_is_read document s is writes =
     let version : unwrap_or (version_in document) 1 ≡ s.version = ap (λ o. unwrap_or o 1) writes.version in
     let spelled : spellings_in document ≡ map (spelling_of s.measures) s.aggregates = texts ∙ is.aggregates_are_spelled in
     let as_many : length s.aggregate_texts ≡ length s.aggregates = ap length is.aggregates_are_spelled ∙ length-map s.aggregates (spelling_of s.measures) in
-    let all_spelled : are_spellings (measures_in document) (spellings_in document) ≡ true = rw (measures, spelled) (spellings_back s is s.aggregates is.aggregates_are_of_measures) in
-    let aggregates : filter_map (aggregate_spelled (measures_in document)) (spellings_in document) ≡ s.aggregates = rw (measures, spelled) (read_back s is s.aggregates is.aggregates_are_of_measures) in
+    let all_spelled : are_spellings (measures_in document) (spellings_in document) ≡ true = rw (measures, spelled) (are_spellings-spelling_of s is s.aggregates is.aggregates_are_of_measures) in
+    let aggregates : filter_map (aggregate_spelled (measures_in document)) (spellings_in document) ≡ s.aggregates = rw (measures, spelled) (filter_map-spelling_of s is s.aggregates is.aggregates_are_of_measures) in
     let no_fault : first_fault document ≡ None =
-    none_found (has_fault document)
+    find-document_faults (has_fault document)
     (not_from_true _ writes.known_keys)
-    (not_from_true _ (rw dimensions (up_to 8 s.dimensions is.some_dimension is.dimensions_at_most)))
-    (not_from_true _ (rw measures (up_to 4 s.measures is.some_measure is.measures_at_most)))
+    (not_from_true _ (rw dimensions (is_some_up_to-length 8 s.dimensions is.some_dimension is.dimensions_at_most)))
+    (not_from_true _ (rw measures (is_some_up_to-length 4 s.measures is.some_measure is.measures_at_most)))
     (not_from_true _ (rw (dimensions, measures, is.names_are_lawful) is.names_are_distinct))
-    (not_from_true _ (rw all_spelled (rw texts (rw (up_to 16 s.aggregate_texts (rw as_many is.some_aggregate) (rw as_many is.aggregates_at_most))))))
+    (not_from_true _ (rw all_spelled (rw texts (rw (is_some_up_to-length 16 s.aggregate_texts (rw as_many is.some_aggregate) (rw as_many is.aggregates_at_most))))))
     (not_from_true _ (rw writes.max_records))
     (not_from_true _ (rw writes.grouping_sets))
     (not_from_true _ (rw writes.version)) in

@@ -46,7 +46,8 @@ pub fn one_key_in_each_set()
 /// A cube over dimensions with C1 to CN values, null among them where it stands, has at most
 /// (C1 + 1) times .. times (CN + 1) cells (Gray et al. 1997).
 pub fn cells_are_at_most()
-    ensures { (s : Layout) (facts : List Fact) (rows : List Row) (values : List (List (Option (List ℕ)))) →
+    ensures { (s : Layout) (facts : List Fact) (rows : List Row)
+        (values : List (List (Option (List ℕ)))) →
         AreRows s facts rows → length values ≡ length s.dimensions → HaveValuesAmong values facts →
         length rows ≤ most_cells values }
 {}

@@ -14,10 +14,12 @@ ghost use Rattle.cube_core.specs.declared.key.Row.{Row};
 /// A count is the sum of the counts of the cells that drill down from it along one dimension (Gray et al. 1997:
 /// COUNT is distributive, by adding).
 pub fn counts_roll_up()
-    ensures of_facts { (s : Layout) (facts : List Fact) (rows : List Row) (row : Row) (dimension place : ℕ) →
+    ensures of_facts { (s : Layout) (facts : List Fact) (rows : List Row) (row : Row)
+        (dimension place : ℕ) →
         IsRolledUp s facts rows row dimension → slice_get s.aggregates place ≡ Some agg.CountAll →
         count_at place row ≡ sum_by (count_at place) (rows_below dimension row.key rows) }
-    ensures of_values { (s : Layout) (facts : List Fact) (rows : List Row) (row : Row) (dimension place m : ℕ) →
+    ensures of_values { (s : Layout) (facts : List Fact) (rows : List Row) (row : Row)
+        (dimension place m : ℕ) →
         IsRolledUp s facts rows row dimension → slice_get s.aggregates place ≡ Some (agg.Count m) →
         count_at place row ≡ sum_by (count_at place) (rows_below dimension row.key rows) }
 {}
@@ -25,7 +27,8 @@ pub fn counts_roll_up()
 /// A sum is the sum of the sums of the cells that drill down from it along one dimension, nulls left out
 /// (Gray et al. 1997: SUM is distributive).
 pub fn sums_roll_up()
-    ensures { (s : Layout) (facts : List Fact) (rows : List Row) (row : Row) (dimension place m : ℕ) →
+    ensures { (s : Layout) (facts : List Fact) (rows : List Row) (row : Row)
+        (dimension place m : ℕ) →
         IsRolledUp s facts rows row dimension → slice_get s.aggregates place ≡ Some (agg.Sum m) →
         IsSum (numbers_at place (rows_below dimension row.key rows)) (answer_at place row) }
 {}
@@ -33,7 +36,8 @@ pub fn sums_roll_up()
 /// A least value is the least of those of the cells that drill down from it along one dimension, nulls left out
 /// (Gray et al. 1997: MIN is distributive).
 pub fn least_values_roll_up()
-    ensures { (s : Layout) (facts : List Fact) (rows : List Row) (row : Row) (dimension place m : ℕ) →
+    ensures { (s : Layout) (facts : List Fact) (rows : List Row) (row : Row)
+        (dimension place m : ℕ) →
         IsRolledUp s facts rows row dimension → slice_get s.aggregates place ≡ Some (agg.Min m) →
         IsLeast (numbers_at place (rows_below dimension row.key rows)) (answer_at place row) }
 {}
@@ -41,7 +45,8 @@ pub fn least_values_roll_up()
 /// A greatest value is the greatest of those of the cells that drill down from it along one dimension, nulls left
 /// out (Gray et al. 1997: MAX is distributive).
 pub fn greatest_values_roll_up()
-    ensures { (s : Layout) (facts : List Fact) (rows : List Row) (row : Row) (dimension place m : ℕ) →
+    ensures { (s : Layout) (facts : List Fact) (rows : List Row) (row : Row)
+        (dimension place m : ℕ) →
         IsRolledUp s facts rows row dimension → slice_get s.aggregates place ≡ Some (agg.Max m) →
         IsGreatest (numbers_at place (rows_below dimension row.key rows)) (answer_at place row) }
 {}
@@ -49,7 +54,8 @@ pub fn greatest_values_roll_up()
 /// A sum, a least and a greatest value are null exactly where those of all cells that drill down from them along one
 /// dimension are (SQL:1999: these aggregates skip nulls, and of no value they are null).
 pub fn nulls_roll_up()
-    ensures { (s : Layout) (facts : List Fact) (rows : List Row) (row : Row) (dimension place : ℕ) (aggregate : Agg) →
+    ensures { (s : Layout) (facts : List Fact) (rows : List Row) (row : Row)
+        (dimension place : ℕ) (aggregate : Agg) →
         IsRolledUp s facts rows row dimension → gives_numbers aggregate ≡ true →
         slice_get s.aggregates place ≡ Some aggregate →
         (answer_at place row ≡ answer.Null) ↔ AreNullAt place (rows_below dimension row.key rows) }

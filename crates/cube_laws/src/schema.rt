@@ -18,6 +18,11 @@ pub fn written_schema_is_read()
         IsSchema s → Writes document s → schema_of document ≡ Ok s }
 {}
 
+/// Each schema is written by some document (of TOML's values; the text of a file isn't spoken of).
+pub fn each_schema_can_be_written()
+    ensures { (s : Layout) → IsSchema s → (document : Members) × Writes document s }
+{}
+
 /// In a schema the spelling of an aggregate is read as that aggregate, so that no two share a spelling, whatever
 /// the names of the measures.
 pub fn spelling_is_of_one_aggregate()

@@ -36,15 +36,20 @@ pub fn rows_are_those_of_the_whole_cube()
 
 /// However many parts there are, each grouping set of a list stands in exactly one of them (this project's choice).
 pub fn each_set_is_in_one_part()
-    ensures { (parts : ℕ) (sets : List ℕ) (set : ℕ) → 1 ≤ parts → IsTrue (is_among set sets) → IsTrueOfOne parts (λ j. is_among set (sets_of_part j parts sets)) }
+    ensures { (parts : ℕ) (sets : List ℕ) (set : ℕ) →
+        1 ≤ parts → IsTrue (is_among set sets) →
+        IsTrueOfOne parts (λ j. is_among set (sets_of_part j parts sets)) }
 {}
 
 /// A part of a list of grouping sets has no set that isn't in the list (this project's choice).
 pub fn parts_have_no_other_sets()
-    ensures { (parts j : ℕ) (sets : List ℕ) (set : ℕ) → IsTrue (is_among set (sets_of_part j parts sets)) → IsTrue (is_among set sets) }
+    ensures { (parts j : ℕ) (sets : List ℕ) (set : ℕ) →
+        IsTrue (is_among set (sets_of_part j parts sets)) → IsTrue (is_among set sets) }
 {}
 
 /// However many parts there are, each cell of a cube stands in exactly one of them (this project's choice).
 pub fn each_cell_is_in_one_part()
-    ensures { (parts dimensions : ℕ) (sets : List ℕ) (facts : List Fact) (key : Key) → 1 ≤ parts → IsTrue (is_cell sets dimensions facts key) → IsTrueOfOne parts (λ j. is_cell (sets_of_part j parts sets) dimensions facts key) }
+    ensures { (parts dimensions : ℕ) (sets : List ℕ) (facts : List Fact) (key : Key) →
+        1 ≤ parts → IsTrue (is_cell sets dimensions facts key) →
+        IsTrueOfOne parts (λ j. is_cell (sets_of_part j parts sets) dimensions facts key) }
 {}

@@ -17,7 +17,8 @@ pub fn survivors_are_determined()
 /// The facts that survive several feeds are determined up to their order (this project's choice).
 pub fn joined_survivors_are_determined()
     ensures { (s : Layout) (feeds : List (List Item)) (facts facts' : List Fact) →
-        SurviveTogether s feeds facts → SurviveTogether s feeds facts' → IsPermutation facts facts' }
+        SurviveTogether s feeds facts → SurviveTogether s feeds facts' →
+        IsPermutation facts facts' }
 {}
 
 /// The survivors of a single feed are those of its items: one source is the first case of several.

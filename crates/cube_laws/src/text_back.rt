@@ -11,7 +11,9 @@ ghost use Rattle.cube_core.specs.declared.key.Row.{Row};
 /// The records of printed lines are the very fields that were printed, whatever bytes they hold, where each line
 /// has a field (RFC 4180; a line of no field would read as one empty field).
 pub fn lines_read_back()
-    ensures { (lines : List (List (List ℕ))) → AllByRecursion (λ fields. 1 ≤ length fields) lines → records default_config (flat_map line lines) ≡ lines }
+    ensures { (lines : List (List (List ℕ))) →
+        AllByRecursion (λ fields. 1 ≤ length fields) lines →
+        records default_config (flat_map line lines) ≡ lines }
 {}
 
 /// The records of a printed cube are the fields of its header and of each of its rows (RFC 4180).
@@ -19,5 +21,7 @@ pub fn lines_read_back()
 /// No byte order mark is taken off the start: the text may begin with one, as part of the first dimension's name,
 /// and a reader that took it off would lose it.
 pub fn cube_reads_back()
-    ensures { (s : Layout) (facts : List Fact) (rows : List Row) → IsSchema s → AreRows s facts rows → records default_config (text_of_rows s rows) ≡ header_fields s ∷ map row_fields rows }
+    ensures { (s : Layout) (facts : List Fact) (rows : List Row) →
+        IsSchema s → AreRows s facts rows →
+        records default_config (text_of_rows s rows) ≡ header_fields s ∷ map row_fields rows }
 {}

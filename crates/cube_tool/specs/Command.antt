@@ -14,12 +14,12 @@ use Rattle.cube_tool.specs.declared.command.failure.Failure.TheVariants.{Unreada
 use Rattle.cube_tool.specs.declared.fault.RunFault.TheVariants as run_fault
 
 -- the number of a status
-abbrev pub code_of : Status → ℕ
-code_of Done = 0
-code_of Failed = 1
-code_of WrongWords = 2
-code_of WrongSchema = 3
-code_of LinesRefused = 4
+abbrev pub status_code : Status → ℕ
+status_code Done = 0
+status_code Failed = 1
+status_code WrongWords = 2
+status_code WrongSchema = 3
+status_code LinesRefused = 4
 
 -- the status that a failure ends with
 abbrev pub status_of : Failure → Status

@@ -1,11 +1,11 @@
 use Rattle.std.proofs.Common.{◌≡◌, length, sym, ◌∙◌}
 use Rattle.cube_core.specs.Items.{width_of}
-use Rattle.cube_feed.proofs.HeaderLaws.{no_header, header_parts}
+use Rattle.cube_feed.proofs.HeaderLaws.{is_header-width_of, is_header-parts}
 use Rattle.cube_feed.proofs.header.is_header.Goals as goal
 
 pub returns-then-len-width : goal.returns-then-len-width
 returns-then-len-width c =
-    no_header c.args.schema.now c.args.fields.now (λ e. c.if-len-width.true (c.len.ensures ∙ e ∙ sym c.width.ensures))
+    is_header-width_of c.args.schema.now c.args.fields.now (λ e. c.if-len-width.true (c.len.ensures ∙ e ∙ sym c.width.ensures))
 
 pub returns : goal.returns
 returns c =
@@ -14,4 +14,4 @@ returns c =
     let second = rw c.bytes_at-2.ensures at c.is_name-second.ensures in
     let dims = rw c.dimensions-names.ensures.value at c.are_names-dimensions.ensures in
     let measures = rw (c.measures.ensures.value, c.dimensions-names.ensures.value) at c.are_names-measures.ensures in
-    header_parts c.args.schema.now c.args.fields.now _ _ _ _ width first second dims measures
+    is_header-parts c.args.schema.now c.args.fields.now _ _ _ _ width first second dims measures

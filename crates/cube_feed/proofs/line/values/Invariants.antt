@@ -1,7 +1,7 @@
 use Rattle.std.proofs.Common.{◌≡◌, ◌++◌, ◌≤◌, length}
 use Rattle.std.specs.Prelude.{slice_range}
 use Rattle.std.specs.List.{list_all, filter_map}
-use Rattle.cube_feed.specs.Lines.{is_sound}
+use Rattle.cube_feed.specs.SoundFields.{is_sound}
 use Rattle.cube_feed.proofs.line.values.Given as goal
 
 abbrev pub invariant-loop-place : goal.invariant-loop-place

@@ -1,5 +1,5 @@
-use Rattle.cube_laws.proofs.CountLaws.{set_answers}
+use Rattle.cube_laws.proofs.CountLaws.{rows_in_set-count_at}
 use Rattle.cube_laws.proofs.counts.counts_add_up.Goals as goal
 
 pub returns : goal.returns
-returns c = set_answers
+returns c = rows_in_set-count_at

@@ -1,5 +1,5 @@
-use Rattle.cube_laws.proofs.LifeLaws.{life_updated}
+use Rattle.cube_laws.proofs.LifeLaws.{life_of-Update}
 use Rattle.cube_laws.proofs.life.update_is_delete_and_insert.Goals as goal
 
 pub returns : goal.returns
-returns c id changes fact other present = life_updated id changes fact other present
+returns c id changes fact other present = life_of-Update id changes fact other present

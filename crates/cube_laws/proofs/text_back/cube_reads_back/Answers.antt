@@ -1,5 +1,5 @@
-use Rattle.cube_laws.proofs.TextLaws.{cube_back}
+use Rattle.cube_laws.proofs.TextLaws.{records-text_of_rows}
 use Rattle.cube_laws.proofs.text_back.cube_reads_back.Goals as goal
 
 pub returns : goal.returns
-returns c s facts rows schema are = cube_back s facts rows schema are
+returns c s facts rows schema are = records-text_of_rows s facts rows schema are

@@ -1,10 +1,10 @@
 use Rattle.std.proofs.Common.{sym}
 use Rattle.csv.specs.Records.{fields_of}
-use Rattle.cube_feed.proofs.FieldLaws.{field_some, field_none}
+use Rattle.cube_feed.proofs.FieldLaws.{field_at-Some, field_at-None}
 use Rattle.cube_feed.proofs.field.Fields.bytes_at.Goals as goal
 
 pub returns-in-Some : goal.returns-in-Some
-returns-in-Some c = rw (← c.self.view_is) (field_some (fields_of c.self.inside.row.now) c.args.place c.in-Some.field.now c.in-Some.ensures.value)
+returns-in-Some c = rw (← c.self.view_is) (field_at-Some (fields_of c.self.inside.row.now) c.args.place c.in-Some.field.now c.in-Some.ensures.value)
 
 pub returns-in-None : goal.returns-in-None
-returns-in-None c = rw (← c.self.view_is) (sym (field_none (fields_of c.self.inside.row.now) c.args.place c.in-None.ensures.value))
+returns-in-None c = rw (← c.self.view_is) (sym (field_at-None (fields_of c.self.inside.row.now) c.args.place c.in-None.ensures.value))
