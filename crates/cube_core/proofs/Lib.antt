@@ -1,8 +1,10 @@
+pub mod ListLaws
 pub mod CommonDivisors
 mod ReducedFraction
 pub mod SchemaReading
 pub mod SchemaSpelling
 pub mod SchemaLaws
+pub mod AmendmentLaws
 pub mod LifeLaws
 pub mod RefusalLaws
 pub mod PlainAnswers

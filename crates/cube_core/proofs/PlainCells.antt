@@ -1,5 +1,5 @@
 -- Lemmas for the keys that the walk over the facts and their grouping sets reaches.
-use Rattle.std.proofs.Common.{zero, suc, ◌≡◌, ◌+◌, ◌^◌, ◌<◌, ◌≤◌, ◌==◌, ℕ, Bool, true, false, nat_lt, eq-eqb, ◌&&◌, ◌||◌, List, [], ◌∷◌, length, get_or, Decides, refl, sym, ap, ◌∙◌, subst, arith}
+use Rattle.std.proofs.Common.{◌≡◌, ◌+◌, ◌^◌, ◌<◌, ◌≤◌, ◌==◌, ℕ, Bool, true, false, nat_lt, eq-eqb, ◌&&◌, ◌||◌, List, [], ◌∷◌, length, Decides, refl, sym, ap, ◌∙◌, subst, arith}
 use Rattle.std.specs.BTreeSet.{BTreeSet, contains}
 use Rattle.std.specs.List.{list_all}
 use Rattle.std.specs.Ordering.{eq_by_cmp, is_eq}
@@ -20,7 +20,8 @@ use Rattle.cube_core.specs.declared.key.Key.{Key}
 use Rattle.cube_core.proofs.PlainKeys.{same_from_mask, mask_below, length_standing}
 use Rattle.cube_core.proofs.PlainOrder.{exact_keys, key_cmp_total}
 
-same_key : (x y : Key) → x.coords ≡ y.coords → x ≡ y
+-- keys with the same coordinates are one
+pub same_key : (x y : Key) → x.coords ≡ y.coords → x ≡ y
 same_key x y e = ap (λ (coords : List Coord). let key : Key = record { coords = coords } in key) e
 
 -- whether a key is another, by key order
@@ -115,13 +116,6 @@ pub first_key : (old new : BTreeSet Key) (total : Key) (dimensions : ℕ) → ol
 first_key old new total dimensions empty t h key =
     let none : contains key_cmp old key ≡ false = rw empty refl in
     h key ∙ ap (λ b. b || eq_by_cmp key_cmp total key) none ∙ same_total total key dimensions t ∙ or_false (is_total dimensions key)
-
--- each of a list of facts that fit does
-pub fits_at : (s : Layout) (facts : List Fact) (i : ℕ) (d : Fact) → list_all (fits s) facts ≡ true → i < length facts → fits s (get_or facts i d) ≡ true
-fits_at s [] i d all below = absurd (omega arith)
-fits_at s (fact ∷ facts) zero d all below = (and_parts (fits s fact) (list_all (fits s) facts) all).0
-fits_at s (fact ∷ facts) (suc i) d all below =
-    fits_at s facts i d (and_parts (fits s fact) (list_all (fits s) facts) all).1 (omega arith)
 
 -- a fact that fits has a value for each dimension
 pub width_of_fitting : (s : Layout) (fact : Fact) → fits s fact ≡ true → length fact.dims ≡ length s.dimensions

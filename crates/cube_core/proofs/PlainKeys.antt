@@ -1,9 +1,9 @@
 -- Lemmas for the keys that cover a fact: each grouping set has exactly one.
-use Rattle.std.proofs.Common.{suc, ◌≡◌, ◌+◌, ◌*◌, ◌^◌, ◌<◌, ◌≤◌, ◌%◌, ◌/◌, ◌==◌, ℕ, Bool, true, false, cond, not, ◌&&◌, List, [], ◌∷◌, ◌++◌, length, drop, get_or, Option, Some, None, refl, sym, ap, ◌∙◌, arith, append_assoc}
+use Rattle.std.proofs.Common.{suc, ◌≡◌, ◌+◌, ◌*◌, ◌^◌, ◌<◌, ◌≤◌, ◌%◌, ◌/◌, ◌==◌, ℕ, Bool, true, false, cond, not, List, [], ◌∷◌, ◌++◌, length, drop, get_or, Option, Some, None, refl, sym, ap, ◌∙◌, arith, append_assoc}
 use Rattle.std.proofs.lemmas.List.{at_drop_more, at_drop_all, append-nil}
 use Rattle.std.proofs.lemmas.Slice.Eq.{bytes_eq-Decides}
 use Rattle.std.proofs.lemmas.Bool.Decides.{nat_tests}
-use Rattle.std.proofs.lemmas.Bool.{false≢true}
+use Rattle.std.proofs.lemmas.Bool.{and_parts}
 use Rattle.std.proofs.Math.Nat.{pow-succ'}
 use Rattle.cube_core.specs.Covers.{stands_for, all_stand_for}
 use Rattle.cube_core.specs.GroupingSet.{is_all_coord, mask_of_coords}
@@ -44,11 +44,6 @@ unfolding ancestor_of
 ancestor_of_all coords values i mask over =
     let e : ancestor_of (drop i values) mask ≡ [] = at_drop_all (λ vs. ancestor_of vs mask) values i over in
     rw e (append-nil coords)
-
-and_parts : (x y : Bool) → x && y ≡ true → (x ≡ true) × (y ≡ true)
-and_parts true true e = (refl, refl)
-and_parts true false e = (refl, e)
-and_parts false y e = absurd (false≢true e)
 
 not_not : (x : Bool) → not (not x) ≡ x
 not_not true = refl

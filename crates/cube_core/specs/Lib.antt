@@ -1,6 +1,7 @@
 pub mod Layout
 pub mod SchemaDocument
 pub mod Records
+pub mod Amendment
 pub mod Takes
 pub mod Items
 pub mod Life
@@ -15,3 +16,4 @@ pub mod GroupingSet
 pub mod Cube
 pub mod Text
 pub mod Printed
+pub mod Sources

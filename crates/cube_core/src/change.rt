@@ -1,6 +1,10 @@
 //! What a feed says: changes of facts, and the faults of its lines.
+ghost use Rattle.std.specs.Prelude.{◌≡◌, IfOk};
+
 use crate::fact::Fact;
+use crate::partial::Partial;
 use crate::text::Text;
+use std::alloc::{AllocError, Global};
 use thiserror::Error;
 
 /// A change of the facts of one source, each known by an id of the source's own.
@@ -10,6 +14,8 @@ pub enum Change {
     Insert { id: Text, fact: Fact },
     /// Puts a fact in place of the one under an id that is present.
     Update { id: Text, fact: Fact },
+    /// Puts some values in place of those of the fact under an id that is present; feeds of version 2 alone.
+    Amend { id: Text, part: Partial },
     /// Takes the fact of an id that is present away.
     Delete { id: Text },
 }
@@ -32,6 +38,9 @@ pub enum LineFault {
     /// A measure is neither null nor a number.
     #[error("L5")]
     Measure,
+    /// A field of an insert keeps a value, and there is none.
+    #[error("L6")]
+    Keep,
 }
 
 /// An item of a feed: the number of its record, from 1, and the change that the record spells.
@@ -46,4 +55,45 @@ pub struct Item {
 pub struct Refusal {
     pub number: u32,
     pub code: u8,
+}
+
+impl Change {
+    /// A copy; the only error is want of memory.
+    pub(crate) fn copy(&self, alloc: Global) -> Result<Change, AllocError>
+        ensures { IfOk result (λ copy. copy ≡ self.now) }
+    {
+        match self {
+            Change::Insert { id, fact } => Ok(Change::Insert {
+                id: id.copy(alloc)?,
+                fact: fact.copy(alloc)?,
+            }),
+            Change::Update { id, fact } => Ok(Change::Update {
+                id: id.copy(alloc)?,
+                fact: fact.copy(alloc)?,
+            }),
+            Change::Amend { id, part } => Ok(Change::Amend {
+                id: id.copy(alloc)?,
+                part: part.copy(alloc)?,
+            }),
+            Change::Delete { id } => Ok(Change::Delete {
+                id: id.copy(alloc)?,
+            }),
+        }
+    }
+}
+
+impl Item {
+    /// A copy; the only error is want of memory.
+    pub fn copy(&self, alloc: Global) -> Result<Item, AllocError>
+        ensures { IfOk result (λ copy. copy ≡ self.now) }
+    {
+        let what = match &self.what {
+            Ok(change) => Ok(change.copy(alloc)?),
+            Err(fault) => Err(*fault),
+        };
+        Ok(Item {
+            number: self.number,
+            what,
+        })
+    }
 }

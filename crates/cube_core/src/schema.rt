@@ -2,11 +2,12 @@
 ghost use Rattle.std.specs.Prelude.{◌≡◌, IfOk};
 ghost use Rattle.std.specs.List.{list_all};
 ghost use Rattle.cube_core.specs.Layout.{IsSchema, sample_layout};
-ghost use Rattle.cube_core.specs.Takes.{fits, takes, is_id, is_dimension_value};
+ghost use Rattle.cube_core.specs.Takes.{fits, fits_part, takes, is_id, is_dimension_value, puts_dimension_value};
 
 use crate::aggregate::Agg;
 use crate::change::Change;
 use crate::fact::Fact;
+use crate::partial::{Field, Partial};
 use crate::text::{Text, copy_texts};
 use std::alloc::{AllocError, Global};
 use std::marker::Model;
@@ -196,15 +197,25 @@ impl Schema {
             && are_dimension_values(fact.dims.as_slice())
     }
 
-    /// Whether a change has an id that isn't empty and, where it has a fact, one that fits.
+    /// Whether a change has an id that isn't empty and, where it has a fact, one that fits; an amendment is taken in
+    /// version 2 alone, with this schema's numbers of fields and no dimension text `\N`.
     pub fn takes(&self, change: &Change) -> bool
         ensures { result ≡ takes self.now change.now }
     {
         match change {
             Change::Insert { id, fact } => is_id(id) && self.fits(fact),
             Change::Update { id, fact } => is_id(id) && self.fits(fact),
+            Change::Amend { id, part } => self.version == 2 && is_id(id) && self.fits_part(part),
             Change::Delete { id } => is_id(id),
         }
+    }
+
+    fn fits_part(&self, part: &Partial) -> bool
+        ensures { result ≡ fits_part self.now part.now }
+    {
+        part.dims.len() == self.dimensions.len()
+            && part.measures.len() == self.measures.len()
+            && put_dimension_values(part.dims.as_slice())
     }
 }
 
@@ -218,6 +229,21 @@ fn are_dimension_values(values: &[Option<Text>]) -> bool
     ensures { result ≡ list_all is_dimension_value values.now }
 {
     values.iter().all(|value| is_dimension_value(value))
+}
+
+fn put_dimension_values(fields: &[Field<Option<Text>>]) -> bool
+    ensures { result ≡ list_all puts_dimension_value fields.now }
+{
+    fields.iter().all(|field| puts_dimension_value(field))
+}
+
+fn puts_dimension_value(field: &Field<Option<Text>>) -> bool
+    ensures { result ≡ puts_dimension_value field.now }
+{
+    match field {
+        Field::Keep => true,
+        Field::Put(value) => is_dimension_value(value),
+    }
 }
 
 fn is_dimension_value(value: &Option<Text>) -> bool

@@ -11,5 +11,6 @@ mod RollupKeyLaws
 mod RollupBestLaws
 mod RollupLaws
 mod SetLaws
+mod SurvivorLaws
 mod KeyLaws
 mod TextLaws

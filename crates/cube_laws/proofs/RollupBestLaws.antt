@@ -1,9 +1,9 @@
 -- The answers of groups, against the answer of the groups joined: of sums the sum, of least values the least.
-use Rattle.std.proofs.Common.{◌≡◌, ℕ, ◌≤ℤ◌, ℤ, ◌+ℤ◌, List, [], ◌∷◌, ◌++◌, length, flat_map, Contains, ◌↔◌, ◌⊎◌, refl, sym, ap, ◌∙◌, subst, inl, inr, arith, length-append}
+use Rattle.std.proofs.Common.{◌≡◌, ℕ, ℤ, ◌+ℤ◌, List, [], ◌∷◌, ◌++◌, length, flat_map, Contains, ◌↔◌, ◌⊎◌, refl, sym, ap, ◌∙◌, subst, inl, inr, arith, length-append}
 use Rattle.std.specs.List.{AllByRecursion, cons_option}
 use Rattle.std.proofs.lemmas.Int.{ints}
 use Rattle.std.proofs.lemmas.List.Elements.{Contains-append_left, Contains-append_right, Contains-append_cases}
-use Rattle.cube_core.specs.Answer.{IsSum, IsLeast, IsGreatest}
+use Rattle.cube_core.specs.Answer.{IsSum, IsBest}
 use Rattle.cube_core.specs.Group.{total_of}
 use Rattle.cube_laws.specs.Cells.{answer_at}
 use Rattle.cube_laws.specs.Rollup.{number_in, numbers_at}
@@ -48,26 +48,20 @@ total_step (v ∷ vs) a numbers others h same =
     ∙ ap (λ t. total_of (v ∷ vs) +ℤ t) same
     ∙ sym (total_joined (v ∷ vs) others)
 
--- what is best of values by an order: null where there are none
-unfoldable pub IsBest : (ℤ → ℤ → Type 0) → List ℤ → Answer → Type 0
-IsBest R [] a = a ≡ answer.Null
-IsBest R (v ∷ vs) a = (m : ℤ) × (a ≡ answer.Whole m) × Contains (v ∷ vs) m × AllByRecursion (R m) (v ∷ vs)
-
+-- so does what is best by an order
 pub best_says : (R : ℤ → ℤ → Type 0) (values : List ℤ) (a : Answer) → IsBest R values a → Says values a
-unfolding Says IsBest
+unfolding Says
 best_says R [] a h = h
 best_says R (v ∷ vs) a h = (h.0, h.1)
 
-module _ (R : ℤ → ℤ → Type 0) (one : (m n : ℤ) → R m n → R n m → m ≡ n) where
+module _ (R : ℤ → ℤ → Type 0) where
   -- an answer that is best is one of its values, and no value is better
   best_found : (values : List ℤ) (a : Answer) (x : ℤ) → IsBest R values a → Contains values x →
       (n : ℤ) × (a ≡ answer.Whole n) × R n x
-  unfolding IsBest
   best_found [] a x h among = absurd (none_contained x among)
   best_found (v ∷ vs) a x h among = (h.0, h.1, at_contained (R h.0) (v ∷ vs) x h.3 among)
 
   best_among : (values : List ℤ) (a : Answer) (n : ℤ) → IsBest R values a → a ≡ answer.Whole n → Contains values n
-  unfolding IsBest
   best_among [] a n h is =
       let clash : answer.Null ≡ answer.Whole n = sym h ∙ is in
       cc
@@ -129,7 +123,7 @@ module _ (values_under : Row → List ℤ) (place : ℕ) where
     numbers_are_values (row ∷ rows) n h among = elim (number_cases (answer_at place row) (numbers_at place rows) n among) [
       | inl here ↦
           Contains-append_left (values_under row) (flat_map values_under rows) n
-          (best_among R one (values_under row) (answer_at place row) n h.0 here)
+          (best_among R (values_under row) (answer_at place row) n h.0 here)
       | inr after ↦
           Contains-append_right (values_under row) (flat_map values_under rows) n (numbers_are_values rows n h.1 after)
     ]
@@ -141,7 +135,7 @@ module _ (values_under : Row → List ℤ) (place : ℕ) where
     number_as_good [] x h among = absurd (none_contained x among)
     number_as_good (row ∷ rows) x h among = elim (Contains-append_cases (values_under row) (flat_map values_under rows) x among) [
       | inl here ↦
-          let found = best_found R one (values_under row) (answer_at place row) x h.0 here in
+          let found = best_found R (values_under row) (answer_at place row) x h.0 here in
           (found.0, number_among row rows found.0 found.1, found.2)
       | inr after ↦
           let found = number_as_good rows x h.1 after in
@@ -152,7 +146,6 @@ module _ (values_under : Row → List ℤ) (place : ℕ) where
     best_from : (numbers values : List ℤ) (a : Answer) → (length numbers ≡ 0) ↔ (length values ≡ 0) →
         ((n : ℤ) → Contains numbers n → Contains values n) →
         ((x : ℤ) → Contains values x → (n : ℤ) × Contains numbers n × R n x) → IsBest R values a → IsBest R numbers a
-    unfolding IsBest
     best_from [] [] a both within found h = h
     best_from [] (v ∷ vs) a both within found h = absurd (omega (arith, both.0 refl))
     best_from (n ∷ ns) [] a both within found h = absurd (omega (arith, both.1 refl))
@@ -179,27 +172,6 @@ module _ (values_under : Row → List ℤ) (place : ℕ) where
             AllByRecursion (λ row. Says (values_under row) (answer_at place row)) rows
         says [] each = each
         says (row ∷ rows) each = (best_says R (values_under row) (answer_at place row) each.0, says rows each.1)
-
--- least and greatest values are the best by the order and by its reverse
-pub least_is_best : (values : List ℤ) (a : Answer) → IsLeast values a → IsBest (λ m x. m ≤ℤ x) values a
-unfolding IsBest
-least_is_best [] a h = h
-least_is_best (v ∷ vs) a h = h
-
-pub best_is_least : (values : List ℤ) (a : Answer) → IsBest (λ m x. m ≤ℤ x) values a → IsLeast values a
-unfolding IsBest
-best_is_least [] a h = h
-best_is_least (v ∷ vs) a h = h
-
-pub greatest_is_best : (values : List ℤ) (a : Answer) → IsGreatest values a → IsBest (λ m x. x ≤ℤ m) values a
-unfolding IsBest
-greatest_is_best [] a h = h
-greatest_is_best (v ∷ vs) a h = h
-
-pub best_is_greatest : (values : List ℤ) (a : Answer) → IsBest (λ m x. x ≤ℤ m) values a → IsGreatest values a
-unfolding IsBest
-best_is_greatest [] a h = h
-best_is_greatest (v ∷ vs) a h = h
 
 -- a sum of values is one of numbers with the same sum
 pub sum_from : (numbers values : List ℤ) (a : Answer) → (length numbers ≡ 0) ↔ (length values ≡ 0) →

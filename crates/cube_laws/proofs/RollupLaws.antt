@@ -5,7 +5,7 @@ use Rattle.std.proofs.lemmas.Int.{ints}
 use Rattle.std.proofs.lemmas.List.Concat.{length-flat_map}
 use Rattle.std.proofs.lemmas.List.Elements.{filter_map-append}
 use Rattle.cube_core.specs.Layout.{Layout}
-use Rattle.cube_core.specs.Answer.{IsSum, IsLeast, IsGreatest, IsAnswer}
+use Rattle.cube_core.specs.Answer.{IsSum, IsBest, IsLeast, IsGreatest, IsAnswer}
 use Rattle.cube_core.specs.Cube.{key_of}
 use Rattle.cube_core.specs.Group.{group_of, values_of, value_of}
 use Rattle.cube_laws.specs.Cells.{group_size, answer_at, count_at, count_of_answer}
@@ -16,10 +16,10 @@ use Rattle.cube_core.specs.declared.aggregate.Answer.{Answer}
 use Rattle.cube_core.specs.declared.aggregate.Answer.TheVariants as answer
 use Rattle.cube_core.specs.declared.fact.Fact.{Fact}
 use Rattle.cube_core.specs.declared.key.Row.{Row}
-use Rattle.cube_laws.proofs.RowOrderLaws.{Reordered, back, length_reordered, values_reordered, sum_stays, least_stays, greatest_stays}
+use Rattle.cube_laws.proofs.RowOrderLaws.{Reordered, back, length_reordered, values_reordered, sum_stays, best_stays}
 use Rattle.cube_laws.proofs.CountLaws.{each_contained, was_in, row_answer, same_sums, sum_by_mapped}
 use Rattle.cube_laws.proofs.GroupCountLaws.{joined_groups}
-use Rattle.cube_laws.proofs.RollupBestLaws.{Says, IsBest, sum_says, best_says, none_in_both, total_of_sums, best_of_best, sum_from, null_where_none, nulls_where_none, least_is_best, best_is_least, greatest_is_best, best_is_greatest}
+use Rattle.cube_laws.proofs.RollupBestLaws.{Says, sum_says, best_says, none_in_both, total_of_sums, best_of_best, sum_from, null_where_none, nulls_where_none}
 use Rattle.cube_laws.proofs.RollupKeyLaws.{below_join}
 
 -- the values of joined groups are the groups' values, joined
@@ -46,10 +46,8 @@ unfolding measure_in
 answer_says group agg.CountAll a numbers h = cc
 answer_says group (agg.Count m) a numbers h = cc
 answer_says group (agg.Sum m) a numbers h = sum_says (values_of m group) a h
-answer_says group (agg.Min m) a numbers h =
-    best_says (λ m x. m ≤ℤ x) (values_of m group) a (least_is_best (values_of m group) a h)
-answer_says group (agg.Max m) a numbers h =
-    best_says (λ m x. x ≤ℤ m) (values_of m group) a (greatest_is_best (values_of m group) a h)
+answer_says group (agg.Min m) a numbers h = best_says (λ m x. m ≤ℤ x) (values_of m group) a h
+answer_says group (agg.Max m) a numbers h = best_says (λ m x. x ≤ℤ m) (values_of m group) a h
 answer_says group (agg.Avg m) a numbers h = cc
 
 module _ (s : Layout) (facts : List Fact) (rows : List Row) (row : Row) (dimension place : ℕ)
@@ -116,29 +114,26 @@ module _ (s : Layout) (facts : List Fact) (rows : List Row) (row : Row) (dimensi
       (sum_stays (values_in m row) (flat_map (values_in m) under) (answer_at place row) (values_move m)
       (answer_of (agg.Sum m) at_place row is.row_of_cube))
 
-  -- a least value rolls up
+  -- what is best rolls up
+  best_rolls_up : (IsAsGood : ℤ → ℤ → Type 0) → ((m n : ℤ) → IsAsGood m n → IsAsGood n m → m ≡ n) → (m : ℕ) →
+      ((other : Row) → Contains rows other → IsBest IsAsGood (values_in m other) (answer_at place other)) →
+      IsBest IsAsGood (numbers_at place under) (answer_at place row)
+  best_rolls_up IsAsGood one m best =
+      best_of_best (values_in m) place IsAsGood one under (answer_at place row)
+      (each_under (λ below. IsBest IsAsGood (values_in m below) (answer_at place below)) best)
+      (best_stays IsAsGood (values_in m row) (flat_map (values_in m) under) (answer_at place row) (values_move m)
+      (best row is.row_of_cube))
+
+  -- so do a least value and a greatest
   pub least_rolls_up : (m : ℕ) → slice_get s.aggregates place ≡ Some (agg.Min m) →
       IsLeast (numbers_at place under) (answer_at place row)
   least_rolls_up m at_place =
-      best_is_least (numbers_at place under) (answer_at place row)
-      (best_of_best (values_in m) place (λ m x. m ≤ℤ x) (λ m n h k. omega (arith, ints)) under (answer_at place row)
-      (each_under (λ below. IsBest (λ m x. m ≤ℤ x) (values_in m below) (answer_at place below))
-      (λ below among. least_is_best (values_in m below) (answer_at place below) (answer_of (agg.Min m) at_place below among)))
-      (least_is_best (flat_map (values_in m) under) (answer_at place row)
-      (least_stays (values_in m row) (flat_map (values_in m) under) (answer_at place row) (values_move m)
-      (answer_of (agg.Min m) at_place row is.row_of_cube))))
+      best_rolls_up (λ m x. m ≤ℤ x) (λ m n h k. omega (arith, ints)) m (answer_of (agg.Min m) at_place)
 
-  -- a greatest value rolls up
   pub greatest_rolls_up : (m : ℕ) → slice_get s.aggregates place ≡ Some (agg.Max m) →
       IsGreatest (numbers_at place under) (answer_at place row)
   greatest_rolls_up m at_place =
-      best_is_greatest (numbers_at place under) (answer_at place row)
-      (best_of_best (values_in m) place (λ m x. x ≤ℤ m) (λ m n h k. omega (arith, ints)) under (answer_at place row)
-      (each_under (λ below. IsBest (λ m x. x ≤ℤ m) (values_in m below) (answer_at place below))
-      (λ below among. greatest_is_best (values_in m below) (answer_at place below) (answer_of (agg.Max m) at_place below among)))
-      (greatest_is_best (flat_map (values_in m) under) (answer_at place row)
-      (greatest_stays (values_in m row) (flat_map (values_in m) under) (answer_at place row) (values_move m)
-      (answer_of (agg.Max m) at_place row is.row_of_cube))))
+      best_rolls_up (λ m x. x ≤ℤ m) (λ m n h k. omega (arith, ints)) m (answer_of (agg.Max m) at_place)
 
   -- a null rolls up
   pub null_rolls_up : (aggregate : Agg) → gives_numbers aggregate ≡ true →

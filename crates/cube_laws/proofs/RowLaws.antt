@@ -8,7 +8,7 @@ use Rattle.std.proofs.lemmas.Int.{ints}
 use Rattle.std.proofs.lemmas.List.Elements.{Contains-append_right, Contains-append_cases, Contains-push_cases, Contains-push, Contains-append_left, All-contains, All-from_recursion}
 use Rattle.std.proofs.lemmas.Map.Keys.{sorted_head, sorted_tail}
 use Rattle.cube_core.specs.Layout.{Layout}
-use Rattle.cube_core.specs.Answer.{IsSum, IsLeast, IsGreatest, IsMean, IsAnswer, AreAnswers}
+use Rattle.cube_core.specs.Answer.{IsSum, IsBest, IsMean, IsAnswer, AreAnswers}
 use Rattle.cube_core.specs.Cube.{AreRowsOver, HasAnswers, key_of}
 use Rattle.cube_core.specs.Group.{group_of, total_of, values_of}
 use Rattle.cube_core.specs.Printed.{IsPrinted}
@@ -103,25 +103,14 @@ one_sum : (values : List ℤ) (a b : Answer) → IsSum values a → IsSum values
 one_sum [] a b h k = h ∙ sym k
 one_sum (v ∷ vs) a b h k = h ∙ sym k
 
--- two values of a list, each of which is no greater than any in it, are one
-one_extreme : (m n : ℤ) → m ≤ℤ n → n ≤ℤ m → m ≡ n
-one_extreme m n h k = omega (arith, ints)
-
--- a least value is determined
-one_least : (values : List ℤ) (a b : Answer) → IsLeast values a → IsLeast values b → a ≡ b
-one_least [] a b h k = h ∙ sym k
-one_least (v ∷ vs) a b h k =
-    let below : h.0 ≤ℤ k.0 = at_contained (λ x. h.0 ≤ℤ x) (v ∷ vs) k.0 h.3 k.2 in
-    let above : k.0 ≤ℤ h.0 = at_contained (λ x. k.0 ≤ℤ x) (v ∷ vs) h.0 k.3 h.2 in
-    h.1 ∙ ap answer.Whole (one_extreme h.0 k.0 below above) ∙ sym k.1
-
--- a greatest value is determined
-one_greatest : (values : List ℤ) (a b : Answer) → IsGreatest values a → IsGreatest values b → a ≡ b
-one_greatest [] a b h k = h ∙ sym k
-one_greatest (v ∷ vs) a b h k =
-    let below : h.0 ≤ℤ k.0 = at_contained (λ x. x ≤ℤ k.0) (v ∷ vs) h.0 k.3 h.2 in
-    let above : k.0 ≤ℤ h.0 = at_contained (λ x. x ≤ℤ h.0) (v ∷ vs) k.0 h.3 k.2 in
-    h.1 ∙ ap answer.Whole (one_extreme h.0 k.0 below above) ∙ sym k.1
+-- what is best is determined, where no two values are as good as each other
+one_best : (IsAsGood : ℤ → ℤ → Type 0) → ((m n : ℤ) → IsAsGood m n → IsAsGood n m → m ≡ n) → (values : List ℤ) (a b : Answer) →
+    IsBest IsAsGood values a → IsBest IsAsGood values b → a ≡ b
+one_best IsAsGood one [] a b h k = h ∙ sym k
+one_best IsAsGood one (v ∷ vs) a b h k =
+    let there : IsAsGood h.0 k.0 = at_contained (IsAsGood h.0) (v ∷ vs) k.0 h.3 k.2 in
+    let back : IsAsGood k.0 h.0 = at_contained (IsAsGood k.0) (v ∷ vs) h.0 k.3 h.2 in
+    h.1 ∙ ap answer.Whole (one h.0 k.0 there back) ∙ sym k.1
 
 -- a mean is determined
 one_mean : (values : List ℤ) (a b : Answer) → IsMean values a → IsMean values b → a ≡ b
@@ -136,8 +125,8 @@ one_answer : (group : List Fact) (aggregate : Agg) (a b : Answer) → IsAnswer g
 one_answer group agg.CountAll a b h k = h ∙ sym k
 one_answer group (agg.Count m) a b h k = h ∙ sym k
 one_answer group (agg.Sum m) a b h k = one_sum (values_of m group) a b h k
-one_answer group (agg.Min m) a b h k = one_least (values_of m group) a b h k
-one_answer group (agg.Max m) a b h k = one_greatest (values_of m group) a b h k
+one_answer group (agg.Min m) a b h k = one_best (λ m x. m ≤ℤ x) (λ m n h k. omega (arith, ints)) (values_of m group) a b h k
+one_answer group (agg.Max m) a b h k = one_best (λ m x. x ≤ℤ m) (λ m n h k. omega (arith, ints)) (values_of m group) a b h k
 one_answer group (agg.Avg m) a b h k = one_mean (values_of m group) a b h k
 
 -- the answers over a group are determined
