@@ -17,3 +17,4 @@ pub mod Cube
 pub mod Text
 pub mod Printed
 pub mod Sources
+pub mod Arrival

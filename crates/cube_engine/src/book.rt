@@ -1,9 +1,9 @@
 //! The facts of one source.
 ghost use Rattle.std.specs.Prelude.{◌≡◌, [], Some, None, length, IfOk, IfErr, OnErr, IfNone, is_some};
 ghost use Rattle.std.specs.Option.{option_map};
-ghost use Rattle.cube_engine.specs.Book.{IsBook, Replaces, Takes, Explains, fact_at};
+ghost use Rattle.cube_engine.specs.Book.{AmendsAlike, IsBook, Replaces, Takes, Explains, fact_at};
 
-use cube_core::{Change, Fact, Text};
+use cube_core::{Change, Fact, Partial, Text};
 use std::alloc::Global;
 use std::collections::HashMap;
 use std::marker::Model;
@@ -22,7 +22,7 @@ pub enum BookFault {
     /// The id of an insert is present.
     #[error("Present")]
     Present,
-    /// The id of an update or of a delete is absent.
+    /// The id of an update, an amendment or a delete is absent.
     #[error("Absent")]
     Absent,
     /// A growth was refused; never in a delete.
@@ -97,11 +97,14 @@ impl Book {
         self.facts.remove(id)
     }
 
-    /// Takes a change: an insert of an absent id or an update of a present one puts its fact, a delete of a present
-    /// id takes the fact away. The answer is what went out, and a copy of what came in.
+    /// Takes a change: an insert of an absent id or an update of a present one puts its fact, an amendment of a
+    /// present id puts the fact with some fields changed, a delete of a present id takes the fact away. The answer is
+    /// what went out, and a copy of what came in.
     ///
-    /// On a fault the book is as it was. A delete takes no memory.
+    /// An amendment has as many fields as the fact that it amends. On a fault the book is as it was. A delete takes no
+    /// memory.
     pub fn apply(&mut self, change: Change) -> Result<Delta, BookFault>
+        requires { AmendsAlike self.old change }
         ensures taken { IfOk result (λ delta. Takes self.old change delta self.new) }
         ensures refused { IfErr result (Explains self.old change) }
         ensures unchanged { OnErr result (self.new ≡ self.old) }
@@ -109,6 +112,7 @@ impl Book {
         match change {
             Change::Insert { id, fact } => self.insert(id, fact),
             Change::Update { id, fact } => self.update(id, fact),
+            Change::Amend { id, part } => self.amend(id, &part),
             Change::Delete { id } => self.delete(&id),
         }
     }
@@ -132,6 +136,21 @@ impl Book {
         if !self.has(&id) {
             return Err(BookFault::Absent);
         }
+        self.put_copied(id, fact)
+    }
+
+    fn amend(&mut self, id: Text, part: &Partial) -> Result<Delta, BookFault>
+        requires { AmendsAlike self.old (Change.Amend id part.now) }
+        ensures taken { IfOk result (λ delta. Takes self.old (Change.Amend id part.now) delta self.new) }
+        ensures refused { IfErr result (Explains self.old (Change.Amend id part.now)) }
+        ensures unchanged { OnErr result (self.new ≡ self.old) }
+    {
+        let Some(old) = self.get(&id) else {
+            return Err(BookFault::Absent);
+        };
+        let Ok(fact) = part.over(self.alloc, old) else {
+            return Err(BookFault::Memory);
+        };
         self.put_copied(id, fact)
     }
 
