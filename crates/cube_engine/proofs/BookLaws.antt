@@ -8,7 +8,7 @@ use Rattle.std.specs.Map.{lookup, values_of, set_value, remove_entry}
 use Rattle.std.proofs.lemmas.Bool.{cases_Bool}
 use Rattle.std.proofs.lemmas.List.Sorted.{IsPermutation-refl, IsPermutation-sym, IsPermutation-cons, IsPermutation-trans, IsPermutation-map, IsPermutation-append_right, IsPermutation-middle}
 use Rattle.cube_core.specs.declared.fact.Fact.{Fact}
-use Rattle.cube_engine.specs.Book.{Entries, Replaces, fact_at, facts_of}
+use Rattle.cube_engine.specs.Book.{Entries, IsBook, Replaces, fact_at, facts_of}
 
 -- the values are the one that a test finds, and those that are left without it
 values_of-remove_entry : {K X : Type 0} (test : K → Bool) (es : List (K × X))
@@ -47,9 +47,9 @@ facts_of-IsPermutation old new moved = IsPermutation-map (λ (e : List ℕ × Fa
 -- a book without the entry of an id
 pub Replaces-remove : (old new : Entries) (id : List ℕ) (taken : Option Fact) → taken ≡ fact_at old id
     → ((other : List ℕ) → fact_at new other ≡ (if bytes_eq id other then None else fact_at old other))
-    → IsPermutation (remove_entry (bytes_eq id) old) new
+    → IsPermutation (remove_entry (bytes_eq id) old) new → IsBook new
     → Replaces old id taken None new
-Replaces-remove old new id taken was facts left = record {
+Replaces-remove old new id taken was facts left each_once = record {
   was = was;
   facts = facts;
   moved =
@@ -57,6 +57,7 @@ Replaces-remove old new id taken was facts left = record {
       (IsPermutation-trans _ _ _
       (values_of-remove_entry (bytes_eq id) old)
       (IsPermutation-append_right (option_to_list (fact_at old id)) _ _ (facts_of-IsPermutation _ _ left)));
+  each_once = each_once;
 }
 
 -- how the entries change where a fact is put: one entry more, or another fact in the entry of the id
@@ -69,10 +70,11 @@ entries-put old new id fact (Some before) was same = rw same (values_of-set_valu
 -- a book with a fact under an id
 pub Replaces-insert : (old new : Entries) (id : List ℕ) (fact : Fact) (gone : Option Fact) → gone ≡ fact_at old id
     → ((other : List ℕ) → fact_at new other ≡ (if bytes_eq id other then Some fact else fact_at old other))
-    → MatchOption gone (IsPermutation ((id, fact) ∷ old) new) (λ _. new ≡ set_value (bytes_eq id) old fact)
+    → MatchOption gone (IsPermutation ((id, fact) ∷ old) new) (λ _. new ≡ set_value (bytes_eq id) old fact) → IsBook new
     → Replaces old id gone (Some fact) new
-Replaces-insert old new id fact gone was facts put = record {
+Replaces-insert old new id fact gone was facts put each_once = record {
   was = was;
   facts = facts;
   moved = entries-put old new id fact gone was put;
+  each_once = each_once;
 }

@@ -34,11 +34,12 @@ facts_of book = values_of book
 abbrev pub IsBook : Entries → Type 0
 IsBook book = IsDistinct bytes_eq (ids_of book)
 
--- the new book has this fact under an id, or none, and under each other id what the old one has; what was there is gone
+-- the new book has this fact under an id, or none, and under each other id what the old one has; what was there is gone, and no id stands twice
 pub record Replaces (old : Entries) (id : List ℕ) (gone come : Option Fact) (new : Entries) : Type 0 where
   pub was : gone ≡ fact_at old id
   pub facts : (other : List ℕ) → fact_at new other ≡ (if bytes_eq id other then come else fact_at old other)
   pub moved : IsPermutation (option_to_list come ++ facts_of old) (option_to_list gone ++ facts_of new)
+  pub each_once : IsBook new
 
 -- the fact that a change puts under its id, given the one that is there: none where it is a delete, or an amendment of nothing
 abbrev pub fact_put : Change → Option Fact → Option Fact

@@ -1,1 +1,2 @@
 pub mod Book
+pub mod Ledger

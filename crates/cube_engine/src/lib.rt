@@ -3,6 +3,8 @@
 //! A [`Book`] keeps the facts of one source.
 #![tactic(auto)]
 
+mod account;
 mod book;
+mod code;
 
 pub use book::{Book, BookFault, Delta};
