@@ -1,1 +1,5 @@
 pub mod BookLaws
+pub mod FitLaws
+pub mod LedgerLaws
+pub mod StandLaws
+pub mod SurvivorLaws

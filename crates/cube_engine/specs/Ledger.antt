@@ -1,16 +1,18 @@
 -- The books and the refusals of all sources, and what an item does to them (this project's choice).
-use Rattle.std.specs.Prelude.{◌≡◌, ◌++◌, ◌∷◌, ◌-◌, ℕ, List, [], length, map, get_or, flat_map, slice_set, Option, Some, None, is_some, Result, Ok, Err, not, if◌then◌else◌}
+use Rattle.std.specs.Prelude.{◌≡◌, ◌≤◌, ⊤, true, All, ◌++◌, ◌∷◌, ◌-◌, ℕ, Bool, List, [], length, map, get_or, flat_map, slice_set, Option, Some, None, is_some, Result, Ok, Err, not, if◌then◌else◌}
 use Rattle.std.specs.List.{AllZip}
 use Rattle.cube_core.specs.Arrival.{Arrivals, of_sources}
 use Rattle.cube_core.specs.Layout.{Layout}
 use Rattle.cube_core.specs.Life.{id_of, life_of, changes_of}
 use Rattle.cube_core.specs.Refusals.{code_of_fault, shape_code, code_by_presence, refusals_of}
-use Rattle.cube_core.specs.Takes.{takes}
+use Rattle.cube_core.specs.Takes.{takes, fits}
 use Rattle.cube_core.specs.declared.fact.Fact.{Fact}
 use Rattle.cube_core.specs.declared.change.Change.{Change}
 use Rattle.cube_core.specs.declared.change.LineFault.{LineFault}
 use Rattle.cube_core.specs.declared.change.Item.{Item}
 use Rattle.cube_core.specs.declared.change.Refusal.{Refusal}
+use Rattle.cube_engine.specs.declared.ruling.Ruling.{Ruling}
+use Rattle.cube_engine.specs.declared.ruling.Ruling.TheVariants.{Refuse, Put, Take}
 use Rattle.cube_engine.specs.Book.{Entries, IsBook, Replaces, fact_at, fact_put, facts_of}
 
 -- what a ledger keeps of one source: its book, and its refusals in the order of its items
@@ -42,10 +44,45 @@ code_in s book (Ok change) =
     if not (takes s change) then Some (shape_code s)
     else code_by_presence s change (is_some (fact_at book (id_of change)))
 
--- a ruling on what an item says: the change, where a source with this book takes it, else the code of the refusal
-abbrev pub IsRuling : Layout → Entries → Result Change LineFault → Result Change ℕ → Type 0
-IsRuling s book what (Ok change) = (what ≡ Ok change) × (code_in s book what ≡ None)
-IsRuling s book what (Err code) = code_in s book what ≡ Some code
+-- what an item says is a change that a source with this book takes, and this fact or none comes under this id by it
+pub record Puts (s : Layout) (book : Entries) (what : Result Change LineFault) (id : List ℕ) (come : Option Fact) : Type 0 where
+  pub change : Change
+  pub says : what ≡ Ok change
+  pub lawful : code_in s book what ≡ None
+  pub of_id : id_of change ≡ id
+  pub comes : fact_put change (fact_at book id) ≡ come
+
+-- what a change comes to that isn't refused: this fact or none comes under this id
+abbrev pub Settles : Entries → Change → Ruling → Type 0
+Settles book change (Refuse code) = ⊥
+Settles book change (Put id fact) = (id_of change ≡ id) × (fact_put change (fact_at book id) ≡ Some fact)
+Settles book change (Take id) = (id_of change ≡ id) × (fact_put change (fact_at book id) ≡ None)
+
+-- whether the schema takes the change that an item says; a line fault says none
+abbrev pub says_taken : Layout → Result Change LineFault → Bool
+says_taken s (Ok change) = takes s change
+says_taken s (Err fault) = true
+
+-- what an item comes to where a source has this book: a refusal, a fact under an id, or none under it
+abbrev pub IsRuling : Layout → Entries → Result Change LineFault → Ruling → Type 0
+IsRuling s book what (Refuse code) = code_in s book what ≡ Some code
+IsRuling s book what (Put id fact) = Puts s book what id (Some fact)
+IsRuling s book what (Take id) = Puts s book what id None
+
+-- the fact that comes, where one does, fits the schema
+abbrev pub RulingFits : Layout → Ruling → Type 0
+RulingFits s (Refuse code) = ⊤
+RulingFits s (Put id fact) = fits s fact ≡ true
+RulingFits s (Take id) = ⊤
+
+-- all facts fit the schema
+abbrev pub AllFit : Layout → List Fact → Type 0
+AllFit s facts = All (λ fact. fits s fact ≡ true) facts
+
+-- what is true of every ledger: it has at most 64 sources, and all its facts fit
+pub record IsLedger (s : Layout) (accounts : List AccountView) : Type 0 where
+  pub sources_at_most : length accounts ≤ 64
+  pub all_fit : AllFit s (all_facts accounts)
 
 -- a refusal of a number and a code
 abbrev pub refusal : ℕ → ℕ → Refusal

@@ -2,11 +2,12 @@
 ghost use Rattle.std.specs.Prelude.{◌≡◌, Ok, None, Some, true, IfOk, IfErr, OnOk, OnErr, IfNone};
 ghost use Rattle.std.specs.Option.{option_map};
 ghost use Rattle.cube_core.specs.Takes.{takes};
-ghost use Rattle.cube_engine.specs.Book.{fact_at};
-ghost use Rattle.cube_engine.specs.Ledger.{Exchanges, IsRuling, new_account, with_refusal};
+ghost use Rattle.cube_engine.specs.Book.{AmendsAlike, fact_at, facts_of, refused_by};
+ghost use Rattle.cube_engine.specs.Ledger.{AllFit, Exchanges, IsRuling, RulingFits, Settles, says_taken, new_account, with_refusal};
 
 use crate::book::Book;
 use crate::code::{code_by_presence, code_of_fault, id_of, shape_code};
+use crate::ruling::Ruling;
 use cube_core::{Change, Fact, LineFault, Refusal, Schema, Text};
 use std::alloc::{AllocError, Global};
 use std::marker::Model;
@@ -37,29 +38,68 @@ impl Account {
         }
     }
 
-    /// The change that an item says, where it is taken, or else the code of its refusal. It takes no memory.
-    pub fn judge(&self, schema: &Schema, what: Result<Change, LineFault>) -> Result<Change, u8>
-        ensures { IsRuling schema.now self.now.book what result }
+    /// What an item comes to: its refusal, a fact that is put under an id, or an id whose fact is taken out. The only
+    /// error is want of memory, and only an amendment takes some.
+    pub fn rule(
+        &self,
+        alloc: Global,
+        schema: &Schema,
+        what: Result<Change, LineFault>,
+    ) -> Result<Ruling, AllocError>
+        requires { AllFit schema.now (facts_of self.now.book) }
+        ensures ruling { IfOk result (IsRuling schema.now self.now.book what) }
+        ensures fits { IfOk result (RulingFits schema.now) }
+    {
+        if !takes(schema, &what) {
+            return Ok(Ruling::Refuse {
+                code: shape_code(schema),
+            });
+        }
+        self.rule_taken(alloc, schema, what)
+    }
+
+    /// The same of an item whose change, where it says one, the schema takes.
+    pub fn rule_taken(
+        &self,
+        alloc: Global,
+        schema: &Schema,
+        what: Result<Change, LineFault>,
+    ) -> Result<Ruling, AllocError>
+        requires all_fit { AllFit schema.now (facts_of self.now.book) }
+        requires taken { IfOk what (λ change. takes schema.now change ≡ true) }
+        ensures ruling { IfOk result (IsRuling schema.now self.now.book what) }
+        ensures fits { IfOk result (RulingFits schema.now) }
     {
         let change = match what {
             Ok(change) => change,
-            Err(fault) => return Err(code_of_fault(schema, fault)),
+            Err(fault) => {
+                return Ok(Ruling::Refuse {
+                    code: code_of_fault(schema, fault),
+                });
+            }
         };
-        if !schema.takes(&change) {
-            return Err(shape_code(schema));
-        }
-        self.judge_taken(schema, change)
-    }
-
-    /// The same of a change that the schema takes.
-    pub fn judge_taken(&self, schema: &Schema, change: Change) -> Result<Change, u8>
-        requires { takes schema.now change ≡ true }
-        ensures { IsRuling schema.now self.now.book (Ok change) result }
-    {
         let present = self.book.has(id_of(&change));
         match code_by_presence(schema, &change, present) {
-            None => Ok(change),
-            Some(code) => Err(code),
+            Some(code) => Ok(Ruling::Refuse { code }),
+            None => self.settle(alloc, change),
+        }
+    }
+
+    // What a change comes to that isn't refused.
+    fn settle(&self, alloc: Global, change: Change) -> Result<Ruling, AllocError>
+        requires alike { AmendsAlike self.now.book change }
+        requires lawful { refused_by self.now.book change ≡ None }
+        ensures { IfOk result (Settles self.now.book change) }
+    {
+        match change {
+            Change::Insert { id, fact } => Ok(Ruling::Put { id, fact }),
+            Change::Update { id, fact } => Ok(Ruling::Put { id, fact }),
+            Change::Amend { id, part } => {
+                let old = self.book.get(&id).unwrap();
+                let fact = part.over(alloc, old)?;
+                Ok(Ruling::Put { id, fact })
+            }
+            Change::Delete { id } => Ok(Ruling::Take { id }),
         }
     }
 
@@ -67,6 +107,7 @@ impl Account {
     pub fn refuse(&mut self, number: u32, code: u8) -> Result<(), AllocError>
         ensures ok { OnOk result (self.new ≡ with_refusal self.old number code) }
         ensures err { OnErr result (self.new ≡ self.old) }
+        ensures book { self.new.book ≡ self.old.book }
     {
         self.refusals.push(Refusal { number, code })?;
         Ok(())
@@ -101,5 +142,15 @@ impl Account {
         ensures { result.now ≡ self.now.refusals }
     {
         self.refusals.as_slice()
+    }
+}
+
+// Whether the schema takes what an item says; a line fault isn't looked at.
+fn takes(schema: &Schema, what: &Result<Change, LineFault>) -> bool
+    ensures { result ≡ says_taken schema.now what.now }
+{
+    match what {
+        Ok(change) => schema.takes(change),
+        Err(_) => true,
     }
 }

@@ -6,5 +6,7 @@
 mod account;
 mod book;
 mod code;
+mod ledger;
+mod ruling;
 
 pub use book::{Book, BookFault, Delta};
