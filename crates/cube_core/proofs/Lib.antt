@@ -5,6 +5,7 @@ pub mod SchemaReading
 pub mod SchemaSpelling
 pub mod SchemaLaws
 pub mod AmendmentLaws
+pub mod ItemLaws
 pub mod LifeLaws
 pub mod RefusalLaws
 pub mod PlainAnswers

@@ -110,10 +110,7 @@ fn copy_dims(
     Ok(copies)
 }
 
-fn copy_dim(
-    alloc: Global,
-    field: &Field<Option<Text>>,
-) -> Result<Field<Option<Text>>, AllocError>
+fn copy_dim(alloc: Global, field: &Field<Option<Text>>) -> Result<Field<Option<Text>>, AllocError>
     ensures { IfOk result (λ copy. copy ≡ field.now) }
 {
     match field {
