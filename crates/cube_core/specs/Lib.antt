@@ -18,3 +18,4 @@ pub mod Text
 pub mod Printed
 pub mod Sources
 pub mod Arrival
+pub mod Run

@@ -3,3 +3,4 @@ pub mod FitLaws
 pub mod LedgerLaws
 pub mod StandLaws
 pub mod SurvivorLaws
+pub mod FeedLaws

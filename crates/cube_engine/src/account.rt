@@ -1,12 +1,11 @@
 //! What a ledger keeps of one source.
 ghost use Rattle.std.specs.Prelude.{◌≡◌, Ok, None, Some, true, IfOk, IfErr, OnOk, OnErr, IfNone};
 ghost use Rattle.std.specs.Option.{option_map};
-ghost use Rattle.cube_core.specs.Takes.{takes};
 ghost use Rattle.cube_engine.specs.Book.{AmendsAlike, fact_at, facts_of, refused_by};
 ghost use Rattle.cube_engine.specs.Ledger.{AllFit, Exchanges, IsRuling, RulingFits, Settles, says_taken, new_account, with_refusal};
 
 use crate::book::Book;
-use crate::code::{code_by_presence, code_of_fault, id_of, shape_code};
+use crate::code::{code_by_presence, code_of_fault, id_of};
 use crate::ruling::Ruling;
 use cube_core::{Change, Fact, LineFault, Refusal, Schema, Text};
 use std::alloc::{AllocError, Global};
@@ -38,35 +37,16 @@ impl Account {
         }
     }
 
-    /// What an item comes to: its refusal, a fact that is put under an id, or an id whose fact is taken out. The only
-    /// error is want of memory, and only an amendment takes some.
+    /// What an item comes to whose change, where it says one, the schema takes: its refusal, a fact that is put under
+    /// an id, or an id whose fact is taken out. The only error is want of memory, and only an amendment takes some.
     pub fn rule(
         &self,
         alloc: Global,
         schema: &Schema,
         what: Result<Change, LineFault>,
     ) -> Result<Ruling, AllocError>
-        requires { AllFit schema.now (facts_of self.now.book) }
-        ensures ruling { IfOk result (IsRuling schema.now self.now.book what) }
-        ensures fits { IfOk result (RulingFits schema.now) }
-    {
-        if !takes(schema, &what) {
-            return Ok(Ruling::Refuse {
-                code: shape_code(schema),
-            });
-        }
-        self.rule_taken(alloc, schema, what)
-    }
-
-    /// The same of an item whose change, where it says one, the schema takes.
-    pub fn rule_taken(
-        &self,
-        alloc: Global,
-        schema: &Schema,
-        what: Result<Change, LineFault>,
-    ) -> Result<Ruling, AllocError>
         requires all_fit { AllFit schema.now (facts_of self.now.book) }
-        requires taken { IfOk what (λ change. takes schema.now change ≡ true) }
+        requires taken { says_taken schema.now what ≡ true }
         ensures ruling { IfOk result (IsRuling schema.now self.now.book what) }
         ensures fits { IfOk result (RulingFits schema.now) }
     {
@@ -142,15 +122,5 @@ impl Account {
         ensures { result.now ≡ self.now.refusals }
     {
         self.refusals.as_slice()
-    }
-}
-
-// Whether the schema takes what an item says; a line fault isn't looked at.
-fn takes(schema: &Schema, what: &Result<Change, LineFault>) -> bool
-    ensures { result ≡ says_taken schema.now what.now }
-{
-    match what {
-        Ok(change) => schema.takes(change),
-        Err(_) => true,
     }
 }

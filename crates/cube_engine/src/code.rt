@@ -3,6 +3,7 @@ ghost use Rattle.std.specs.Prelude.{◌≡◌};
 ghost use Rattle.cube_core.specs.Takes.{may_amend};
 ghost use Rattle.cube_core.specs.Life.{id_of};
 ghost use Rattle.cube_core.specs.Refusals.{present_code, absent_code, shape_code, code_of_fault, code_by_presence};
+ghost use Rattle.cube_engine.specs.Ledger.{says_taken};
 
 use cube_core::{Change, LineFault, Schema, Text};
 
@@ -11,6 +12,16 @@ pub fn shape_code(schema: &Schema) -> u8
     ensures { result ≡ shape_code schema.now }
 {
     if may_amend(schema) { 9 } else { 8 }
+}
+
+/// Whether the schema takes the change that an item says; a line fault says none.
+pub fn says_taken(schema: &Schema, what: &Result<Change, LineFault>) -> bool
+    ensures { result ≡ says_taken schema.now what.now }
+{
+    match what {
+        Ok(change) => schema.takes(change),
+        Err(_) => true,
+    }
 }
 
 /// The code of a line fault.

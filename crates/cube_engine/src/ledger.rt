@@ -3,9 +3,10 @@ ghost use Rattle.std.specs.Prelude.{◌≡◌, ◌≤◌, ◌++◌, ◌∷◌, [
 ghost use Rattle.std.specs.Option.{option_map};
 ghost use Rattle.cube_core.specs.Arrival.{Arrivals};
 ghost use Rattle.cube_core.specs.Takes.{fits};
-ghost use Rattle.cube_engine.specs.Ledger.{AtSource, Enters, Exchanges, IsRuling, LedgerStandsAt, RulingFits, account_of, new_account, with_refusal};
+ghost use Rattle.cube_engine.specs.Ledger.{AtSource, Enters, Exchanges, IsRuling, LedgerStandsAt, RulingFits, account_of, new_account, says_taken, with_refusal};
 
 use crate::account::Account;
+use crate::code::{says_taken, shape_code};
 use crate::ruling::Ruling;
 use cube_core::{Change, Fact, Item, LineFault, Refusal, Schema, Text};
 use std::alloc::{AllocError, Global};
@@ -60,11 +61,13 @@ impl Ledger {
         self.accounts[source as usize - 1].refusals()
     }
 
-    /// What an item of a source comes to: its refusal, a fact that is put under an id, or an id whose fact is taken
-    /// out. The only error is want of memory, and only an amendment takes some.
+    /// What an item of a source comes to whose change, where it says one, the schema takes: its refusal, a fact that
+    /// is put under an id, or an id whose fact is taken out. The only error is want of memory, and only an amendment
+    /// takes some.
     pub fn rule(&self, source: u32, what: Result<Change, LineFault>) -> Result<Ruling, AllocError>
         requires first { 1 ≤ source }
         requires last { source ≤ length self.now.accounts }
+        requires taken { says_taken self.now.schema what ≡ true }
         ensures ruling { IfOk result (IsRuling self.now.schema (account_of self.now source).book what) }
         ensures fits { IfOk result (RulingFits self.now.schema) }
     {
@@ -122,10 +125,37 @@ impl Ledger {
         self.enter(source, item)
     }
 
-    // The same, by what it does to the account of the source.
+    /// The same of an item whose change, where it says one, the schema takes, as a feed's items are.
+    pub fn apply_taken(&mut self, source: u32, item: Item) -> Result<(), AllocError>
+        requires first { 1 ≤ source }
+        requires last { source ≤ length self.old.accounts }
+        requires taken { says_taken self.old.schema item.what ≡ true }
+        ensures enters { OnOk result (AtSource (Enters self.old.schema item) source self.old self.new) }
+        ensures stands { OnOk result ((arrivals : Arrivals) → LedgerStandsAt self.old arrivals →
+            LedgerStandsAt self.new (arrivals ++ (source, item) ∷ [])) }
+        ensures err { OnErr result (self.new ≡ self.old) }
+    {
+        self.enter_taken(source, item)
+    }
+
+    // What an item does to the account of its source.
     fn enter(&mut self, source: u32, item: Item) -> Result<(), AllocError>
         requires first { 1 ≤ source }
         requires last { source ≤ length self.old.accounts }
+        ensures enters { OnOk result (AtSource (Enters self.old.schema item) source self.old self.new) }
+        ensures err { OnErr result (self.new ≡ self.old) }
+    {
+        if !says_taken(&self.schema, &item.what) {
+            let code = shape_code(&self.schema);
+            return self.refuse(source, item.number, code);
+        }
+        self.enter_taken(source, item)
+    }
+
+    fn enter_taken(&mut self, source: u32, item: Item) -> Result<(), AllocError>
+        requires first { 1 ≤ source }
+        requires last { source ≤ length self.old.accounts }
+        requires taken { says_taken self.old.schema item.what ≡ true }
         ensures enters { OnOk result (AtSource (Enters self.old.schema item) source self.old self.new) }
         ensures err { OnErr result (self.new ≡ self.old) }
     {

@@ -1,12 +1,17 @@
 //! Builders: from the items of many sources to the facts that are present, the refusals, and the cube.
 //!
-//! A [`Book`] keeps the facts of one source.
+//! A [`Book`] keeps the facts of one source, a [`Ledger`] the books and the refusals of all.
 #![tactic(auto)]
 
 mod account;
 mod book;
+mod build;
 mod code;
+mod fault;
 mod ledger;
 mod ruling;
 
 pub use book::{Book, BookFault, Delta};
+pub use fault::RunFault;
+pub use build::build_ledger;
+pub use ledger::Ledger;

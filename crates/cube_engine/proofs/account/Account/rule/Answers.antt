@@ -2,7 +2,7 @@ use Rattle.std.proofs.Common.{◌≡◌, true}
 use Rattle.std.proofs.lemmas.Result.{IfOk-weaker}
 use Rattle.cube_core.specs.Takes.{takes}
 use Rattle.cube_engine.proofs.FitLaws.{AmendsAlike-takes, RulingFits-Settles}
-use Rattle.cube_engine.proofs.account.Account.rule_taken.Goals as goal
+use Rattle.cube_engine.proofs.account.Account.rule.Goals as goal
 
 pub settle-requires-clause-alike : goal.settle-requires-clause-alike
 settle-requires-clause-alike c = AmendsAlike-takes c.args.schema.now _ _ (rw c.in-Ok.is at c.requires.taken) c.requires.all_fit
