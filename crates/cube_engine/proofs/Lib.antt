@@ -4,3 +4,4 @@ pub mod LedgerLaws
 pub mod StandLaws
 pub mod SurvivorLaws
 pub mod FeedLaws
+pub mod BuildLaws
