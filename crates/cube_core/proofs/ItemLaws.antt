@@ -1,6 +1,6 @@
 -- What a record spells: a change that the schema takes, and without a kept field a whole fact.
-use Rattle.std.proofs.Common.{◌≡◌, ◌≤◌, ℕ, suc, Bool, true, false, List, [], ◌∷◌, length, map, take, drop, refl, sym, ap, ◌∙◌, inl, inr, true≢false, arith, length-drop}
-use Rattle.std.specs.Prelude.{◌==◌, ◌&&◌, ◌||◌, ◌+◌, not, codes, IfOk, option_map, Option, Some, None, is_some, Result, Ok, Err, if◌then◌else◌}
+use Rattle.std.proofs.Common.{◌≡◌, ℕ, suc, Bool, true, false, List, [], ◌∷◌, length, map, take, drop, refl, sym, ap, ◌∙◌, inl, inr, true≢false, arith, length-drop}
+use Rattle.std.specs.Prelude.{◌==◌, ◌&&◌, ◌||◌, ◌+◌, not, codes, IfOk, option_map, Option, Some, None, is_some, Result, if◌then◌else◌}
 use Rattle.std.specs.Str.{bytes_eq, is_utf8}
 use Rattle.std.specs.List.{list_all, list_any, filter_map, cons_option}
 use Rattle.std.proofs.lemmas.Bool.{cases_Bool, and_from, and_parts, or_parts, eqb-true, eq-eqb}
@@ -8,9 +8,8 @@ use Rattle.std.proofs.lemmas.List.{length-map, length-take, drop-drop, take-appe
 use Rattle.std.proofs.lemmas.List.Folds.{list_any-append}
 use Rattle.cube_core.specs.Layout.{Layout}
 use Rattle.cube_core.specs.Takes.{takes, may_amend, is_id, fits, fits_part, is_dimension_value, puts_dimension_value}
-use Rattle.cube_core.specs.Items.{width_of, field_at, is_null, is_keep, keeps_any, is_measure, dimension_of, dimension_field_of, measure_of, measure_field_of, dimension_fields, measure_fields, fact_of, part_of, put_of, insert_of, update_of, delete_of, change_of}
+use Rattle.cube_core.specs.Items.{width_of, field_at, is_null, is_keep, keeps_any, is_measure, dimension_of, dimension_field_of, measure_of, measure_field_of, dimension_fields, measure_fields, fact_of, part_of, put_of, insert_of, update_of, change_of}
 use Rattle.cube_core.specs.declared.change.Change.{Change}
-use Rattle.cube_core.specs.declared.change.Change.TheVariants.{Insert, Update, Amend, Delete}
 use Rattle.cube_core.specs.declared.change.LineFault.{LineFault}
 use Rattle.cube_core.specs.declared.partial.Field.TheVariants.{Put}
 

@@ -2,6 +2,8 @@ pub mod ListLaws
 pub mod CommonDivisors
 mod ReducedFraction
 pub mod SchemaReading
+pub mod GroupingReading
+pub mod GroupingLaws
 pub mod SchemaSpelling
 pub mod SchemaLaws
 pub mod AmendmentLaws
@@ -14,3 +16,4 @@ pub mod PlainKeys
 pub mod PlainOrder
 pub mod PlainRows
 pub mod SetLaws
+pub mod QueryLaws

@@ -1,24 +1,24 @@
 -- Lemmas for the rows over the keys of all cells.
-use Rattle.std.proofs.Common.{◌≡◌, ◌^◌, ◌<◌, ◌==◌, ℕ, Bool, true, false, ◌&&◌, ◌||◌, List, length, map, Contains, refl, sym, ◌∙◌, subst, arith, eq-eqb, zero-add, inl, inr}
+use Rattle.std.proofs.Common.{◌≡◌, ◌^◌, ◌<◌, ◌==◌, ℕ, true, ◌||◌, List, length, map, Contains, sym, ◌∙◌, subst, arith, eq-eqb, zero-add, inl, inr}
 use Rattle.std.specs.BTreeSet.{BTreeSet, contains, IsOrdered}
 use Rattle.std.specs.List.{AllByRecursion, list_any, list_all}
 use Rattle.std.specs.List.Sorted.{IsStrictlySortedBy}
-use Rattle.std.proofs.lemmas.Bool.{false≢true, and_parts, or_cases}
+use Rattle.std.proofs.lemmas.Bool.{and_parts, or_cases}
 use Rattle.std.proofs.lemmas.List.Folds.{list_any_at}
 use Rattle.std.proofs.lemmas.List.FromFn.{length-range_with_len, get_or-range_with_len}
 use Rattle.std.proofs.lemmas.Map.Views.{btree_set_contains_iff, exact_unsigned_eq}
 use Rattle.cube_core.specs.Covers.{covers}
+use Rattle.cube_core.specs.GroupingSet.{is_all_coord, all_sets, is_among}
+use Rattle.cube_core.specs.Takes.{fits}
 use Rattle.cube_core.specs.Cube.{is_total, is_cell, key_of, HasAnswers, AreRows}
-use Rattle.cube_core.specs.GroupingSet.{is_all_coord, mask_of, all_sets, is_among}
 use Rattle.cube_core.specs.Layout.{Layout}
 use Rattle.cube_core.specs.Order.{key_cmp}
-use Rattle.cube_core.specs.Takes.{fits}
 use Rattle.cube_core.specs.declared.fact.Fact.{Fact}
 use Rattle.cube_core.specs.declared.key.Key.{Key}
 use Rattle.cube_core.specs.declared.key.Row.{Row}
 use Rattle.cube_core.proofs.ListLaws.{list_any-Contains, list_all-Contains}
 use Rattle.cube_core.proofs.PlainCells.{width_of_fitting}
-use Rattle.cube_core.proofs.PlainKeys.{mask_below, length_standing}
+use Rattle.cube_core.proofs.PlainKeys.{length_standing}
 use Rattle.cube_core.proofs.PlainOrder.{exact_keys, key_cmp_total}
 
 -- a key that covers one of some facts that fit has a coordinate for each dimension
@@ -41,28 +41,15 @@ is_among-all_sets set dimensions below =
     (omega (arith, length-range_with_len 0 (2 ^ dimensions)))
     (eq-eqb _ _ (get_or-range_with_len 0 (2 ^ dimensions) set 0 below ∙ zero-add set))
 
-tested_as : (among cell : Bool) → (cell ≡ true → among ≡ true) → (among && cell) ≡ cell
-tested_as true cell h = refl
-tested_as false true h = absurd (false≢true (h refl))
-tested_as false false h = refl
-
--- the cells of CUBE are the grand total and what covers a fact
-cube_cells : (s : Layout) (facts : List Fact) (key : Key) → list_all (fits s) facts ≡ true → is_cell (all_sets (length s.dimensions)) (length s.dimensions) facts key ≡ (is_total (length s.dimensions) key || list_any (covers key) facts)
-cube_cells s facts key all =
-    tested_as (is_among (mask_of key) (all_sets (length s.dimensions))) (is_total (length s.dimensions) key || list_any (covers key) facts)
-    (λ cell. is_among-all_sets (mask_of key) (length s.dimensions)
-    (let P : ℕ → Type 0 = λ n. mask_of key < 2 ^ n in subst P (width_of_cell s facts key all cell) (mask_below key.coords)))
-
 -- rows that have the keys of all cells, in order, and their answers
-pub rows_of_keys : (s : Layout) (facts : List Fact) (keys : BTreeSet Key) (rows : List Row) → list_all (fits s) facts ≡ true → IsOrdered key_cmp keys → ((key : Key) → contains key_cmp keys key ≡ (is_total (length s.dimensions) key || list_any (covers key) facts)) → map key_of rows ≡ keys.keys → AllByRecursion (HasAnswers s.aggregates facts) rows → AreRows s facts rows
-rows_of_keys s facts keys rows all ordered has same answers =
+pub rows_of_keys : (s : Layout) (facts : List Fact) (keys : BTreeSet Key) (rows : List Row) → IsOrdered key_cmp keys → ((key : Key) → contains key_cmp keys key ≡ is_cell s.grouping_sets (length s.dimensions) facts key) → map key_of rows ≡ keys.keys → AllByRecursion (HasAnswers s.aggregates facts) rows → AreRows s facts rows
+rows_of_keys s facts keys rows ordered has same answers =
     let Has : Key → List Key → Type 0 = λ key ks. Contains ks key in
     let InOrder : List Key → Type 0 = λ ks. IsStrictlySortedBy key_cmp ks in
     record {
       cells = λ key.
-          let cell : is_cell (all_sets (length s.dimensions)) (length s.dimensions) facts key ≡ contains key_cmp keys key = cube_cells s facts key all ∙ sym (has key) in
           let member = btree_set_contains_iff key_cmp_total exact_keys keys key in
-          (λ there. cell ∙ member.1 (subst (Has key) same there), λ is. subst (Has key) (sym same) (member.0 (sym cell ∙ is)));
+          (λ there. sym (has key) ∙ member.1 (subst (Has key) same there), λ is. subst (Has key) (sym same) (member.0 (has key ∙ is)));
       ordered = subst InOrder (sym same) ordered;
       answers = answers;
     }

@@ -14,6 +14,7 @@ pub mod Answer
 pub mod Order
 pub mod GroupingSet
 pub mod Cube
+pub mod Query
 pub mod Text
 pub mod Printed
 pub mod Sources

@@ -1,7 +1,9 @@
 mod FractionLaws
 mod LifeLaws
+mod FieldLaws
 mod SpellingLaws
 mod WrittenLaws
+mod GroupingLaws
 mod RowLaws
 mod RowOrderLaws
 mod GroupCountLaws

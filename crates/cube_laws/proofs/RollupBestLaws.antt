@@ -10,8 +10,7 @@ use Rattle.cube_laws.specs.Rollup.{number_in, numbers_at}
 use Rattle.cube_core.specs.declared.aggregate.Answer.{Answer}
 use Rattle.cube_core.specs.declared.aggregate.Answer.TheVariants as answer
 use Rattle.cube_core.specs.declared.key.Row.{Row}
-use Rattle.cube_laws.proofs.RowLaws.{at_contained, none_contained, head_contained, tail_contained, contained_cases}
-use Rattle.cube_laws.proofs.CountLaws.{each_contained}
+use Rattle.cube_core.proofs.ListLaws.{AllByRecursion-Contains, Contains-AllByRecursion, Contains-cases, Contains-head, Contains-nil, Contains-tail}
 
 -- a sum of joined lists
 total_joined : (xs ys : List ℤ) → total_of (xs ++ ys) ≡ total_of xs +ℤ total_of ys
@@ -58,8 +57,8 @@ module _ (R : ℤ → ℤ → Type 0) where
   -- an answer that is best is one of its values, and no value is better
   best_found : (values : List ℤ) (a : Answer) (x : ℤ) → IsBest R values a → Contains values x →
       (n : ℤ) × (a ≡ answer.Whole n) × R n x
-  best_found [] a x h among = absurd (none_contained x among)
-  best_found (v ∷ vs) a x h among = (h.0, h.1, at_contained (R h.0) (v ∷ vs) x h.3 among)
+  best_found [] a x h among = absurd (Contains-nil x among)
+  best_found (v ∷ vs) a x h among = (h.0, h.1, AllByRecursion-Contains (R h.0) (v ∷ vs) x h.3 among)
 
   best_among : (values : List ℤ) (a : Answer) (n : ℤ) → IsBest R values a → a ≡ answer.Whole n → Contains values n
   best_among [] a n h is =
@@ -93,14 +92,14 @@ module _ (values_under : Row → List ℤ) (place : ℕ) where
       Contains (numbers_at place (row ∷ rows)) n
   number_among row rows n is =
       subst (λ a. Contains (cons_option (number_in a) (numbers_at place rows)) n) (sym is)
-      (head_contained n (numbers_at place rows))
+      (Contains-head n (numbers_at place rows))
 
   -- and so do the numbers of the other rows
   other_among : (a : Answer) (numbers : List ℤ) (n : ℤ) → Contains numbers n →
       Contains (cons_option (number_in a) numbers) n
   other_among answer.Null numbers n among = among
   other_among (answer.Count c) numbers n among = among
-  other_among (answer.Whole z) numbers n among = tail_contained z numbers n among
+  other_among (answer.Whole z) numbers n among = Contains-tail z numbers n among
   other_among (answer.Ratio p q) numbers n among = among
 
   -- a number is an answer, or among the other numbers
@@ -108,7 +107,7 @@ module _ (values_under : Row → List ℤ) (place : ℕ) where
       (a ≡ answer.Whole n) ⊎ Contains numbers n
   number_cases answer.Null numbers n among = inr among
   number_cases (answer.Count c) numbers n among = inr among
-  number_cases (answer.Whole z) numbers n among = elim (contained_cases z numbers n among) [
+  number_cases (answer.Whole z) numbers n among = elim (Contains-cases z numbers n among) [
     | inl here ↦ inl (ap answer.Whole here)
     | inr after ↦ inr after
   ]
@@ -132,7 +131,7 @@ module _ (values_under : Row → List ℤ) (place : ℕ) where
     number_as_good : (rows : List Row) (x : ℤ) →
         AllByRecursion (λ row. IsBest R (values_under row) (answer_at place row)) rows →
         Contains (flat_map values_under rows) x → (n : ℤ) × Contains (numbers_at place rows) n × R n x
-    number_as_good [] x h among = absurd (none_contained x among)
+    number_as_good [] x h among = absurd (Contains-nil x among)
     number_as_good (row ∷ rows) x h among = elim (Contains-append_cases (values_under row) (flat_map values_under rows) x among) [
       | inl here ↦
           let found = best_found R (values_under row) (answer_at place row) x h.0 here in
@@ -151,12 +150,12 @@ module _ (values_under : Row → List ℤ) (place : ℕ) where
     best_from (n ∷ ns) [] a both within found h = absurd (omega (arith, both.1 refl))
     best_from (n ∷ ns) (v ∷ vs) a both within found h =
         let good = found h.0 h.2 in
-        let below : (x : ℤ) → Contains (v ∷ vs) x → R h.0 x = λ x among. at_contained (R h.0) (v ∷ vs) x h.3 among in
+        let below : (x : ℤ) → Contains (v ∷ vs) x → R h.0 x = λ x among. AllByRecursion-Contains (R h.0) (v ∷ vs) x h.3 among in
         let same : h.0 ≡ good.0 = one h.0 good.0 (below good.0 (within good.0 good.1)) good.2 in (
           h.0,
           h.1,
           subst (Contains (n ∷ ns)) (sym same) good.1,
-          each_contained (R h.0) (n ∷ ns) (λ x among. below x (within x among)),
+          Contains-AllByRecursion (R h.0) (n ∷ ns) (λ x among. below x (within x among)),
         )
 
     -- the best of the best is the best of the values

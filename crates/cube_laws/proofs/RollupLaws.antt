@@ -9,7 +9,8 @@ use Rattle.cube_core.specs.Answer.{IsSum, IsBest, IsLeast, IsGreatest, IsAnswer}
 use Rattle.cube_core.specs.Cube.{key_of}
 use Rattle.cube_core.specs.Group.{group_of, values_of, value_of}
 use Rattle.cube_laws.specs.Cells.{group_size, answer_at, count_at, count_of_answer}
-use Rattle.cube_laws.specs.Rollup.{IsRolledUp, drills_down, rows_below, numbers_at, gives_numbers}
+use Rattle.cube_core.specs.Query.{drills_down, rows_below}
+use Rattle.cube_laws.specs.Rollup.{IsRolledUp, numbers_at, gives_numbers}
 use Rattle.cube_core.specs.declared.aggregate.Agg.{Agg}
 use Rattle.cube_core.specs.declared.aggregate.Agg.TheVariants as agg
 use Rattle.cube_core.specs.declared.aggregate.Answer.{Answer}
@@ -17,10 +18,11 @@ use Rattle.cube_core.specs.declared.aggregate.Answer.TheVariants as answer
 use Rattle.cube_core.specs.declared.fact.Fact.{Fact}
 use Rattle.cube_core.specs.declared.key.Row.{Row}
 use Rattle.cube_laws.proofs.RowOrderLaws.{Reordered, back, length_reordered, values_reordered, sum_stays, best_stays}
-use Rattle.cube_laws.proofs.CountLaws.{each_contained, was_in, row_answer, same_sums, sum_by_mapped}
+use Rattle.cube_laws.proofs.CountLaws.{row_answer}
 use Rattle.cube_laws.proofs.GroupCountLaws.{joined_groups}
 use Rattle.cube_laws.proofs.RollupBestLaws.{Says, sum_says, best_says, none_in_both, total_of_sums, best_of_best, sum_from, null_where_none, nulls_where_none}
 use Rattle.cube_laws.proofs.RollupKeyLaws.{below_join}
+use Rattle.cube_core.proofs.ListLaws.{Contains-AllByRecursion, Contains-filter, sum_by-map, sum_by-same}
 
 -- the values of joined groups are the groups' values, joined
 values_joined : (m : ℕ) (rows : List Row) (facts : List Fact) →
@@ -68,12 +70,12 @@ module _ (s : Layout) (facts : List Fact) (rows : List Row) (row : Row) (dimensi
 
   -- what holds of each row holds of each one below
   each_under : (P : Row → Type 0) → ((other : Row) → Contains rows other → P other) → AllByRecursion P under
-  each_under P h = each_contained P under
-      (λ below among. h below (was_in (λ (other : Row). drills_down dimension row.key other.key) rows below among).0)
+  each_under P h = Contains-AllByRecursion P under
+      (λ below among. h below (Contains-filter (λ (other : Row). drills_down dimension row.key other.key) rows below among).0)
 
   -- the facts of the group, and its values, are those of the groups below
   groups_under : Reordered (group_of row.key facts) (joined_groups (map key_of under) facts)
-  groups_under = back (below_join s facts rows is.are_rows row.key dimension is.is_all is.dimensions)
+  groups_under = back (below_join s facts rows is.are_rows row.key dimension is.is_all is.is_kept)
 
   values_move : (m : ℕ) → Reordered (values_in m row) (flat_map (values_in m) under)
   values_move m = subst (Reordered (values_in m row)) (values_joined m under facts) (values_reordered m groups_under)
@@ -85,8 +87,8 @@ module _ (s : Layout) (facts : List Fact) (rows : List Row) (row : Row) (dimensi
       ap count_of_answer (answer_of agg.CountAll at_place row is.row_of_cube)
       ∙ length_reordered groups_under
       ∙ length-flat_map (λ key. group_of key facts) (map key_of under)
-      ∙ sum_by_mapped key_of (λ key. length (group_of key facts)) under
-      ∙ sym (same_sums (count_at place) (group_size facts) under
+      ∙ sum_by-map key_of (λ key. length (group_of key facts)) under
+      ∙ sym (sum_by-same (count_at place) (group_size facts) under
       (each_under (λ below. count_at place below ≡ group_size facts below)
       (λ below among. ap count_of_answer (answer_of agg.CountAll at_place below among))))
 
@@ -97,7 +99,7 @@ module _ (s : Layout) (facts : List Fact) (rows : List Row) (row : Row) (dimensi
       ap count_of_answer (answer_of (agg.Count m) at_place row is.row_of_cube)
       ∙ length_reordered (values_move m)
       ∙ length-flat_map (values_in m) under
-      ∙ sym (same_sums (count_at place) (λ below. length (values_in m below)) under
+      ∙ sym (sum_by-same (count_at place) (λ below. length (values_in m below)) under
       (each_under (λ below. count_at place below ≡ length (values_in m below))
       (λ below among. ap count_of_answer (answer_of (agg.Count m) at_place below among))))
 

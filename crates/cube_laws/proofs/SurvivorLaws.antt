@@ -15,19 +15,19 @@ use Rattle.cube_core.specs.declared.change.Change.{Change}
 use Rattle.cube_core.specs.declared.change.Item.{Item}
 use Rattle.cube_core.specs.Sources.{SurviveTogether, IsPrintedOf}
 use Rattle.cube_core.proofs.LifeLaws.{same_text}
-use Rattle.cube_laws.proofs.RowLaws.{at_contained, none_contained, head_contained, tail_contained, contained_cases}
 use Rattle.cube_laws.proofs.RowLaws.{same_text as printed-same}
 use Rattle.cube_laws.proofs.RowOrderLaws.{Reordered, none, next, both, back, reordered, permutation, filter_map_reordered, text_stays}
+use Rattle.cube_core.proofs.ListLaws.{AllByRecursion-Contains, Contains-cases, Contains-head, Contains-nil, Contains-tail}
 
 -- an id that differs from all after it isn't among them
 head-once : (id : List ℕ) (ids : List (List ℕ)) → IsDistinct bytes_eq (id ∷ ids) → Contains ids id → ⊥
 head-once id ids distinct among =
-    false≢true (sym (at_contained (λ other. bytes_eq id other ≡ false) ids id (IsDistinct-head bytes_eq id ids distinct) among) ∙ same_text id)
+    false≢true (sym (AllByRecursion-Contains (λ other. bytes_eq id other ≡ false) ids id (IsDistinct-head bytes_eq id ids distinct) among) ∙ same_text id)
 
 -- what is contained after a head that stands once is contained after it in the other list
 tail-Contains : {X : Type 0} (x : X) (xs ys : List X) → (Contains xs x → ⊥) →
     ((y : X) → Contains (x ∷ xs) y → Contains (x ∷ ys) y) → (y : X) → Contains xs y → Contains ys y
-tail-Contains x xs ys once within y among = elim (contained_cases x ys y (within y (tail_contained x xs y among))) [
+tail-Contains x xs ys once within y among = elim (Contains-cases x ys y (within y (Contains-tail x xs y among))) [
   | inl head ↦ absurd (once (subst (Contains xs) (sym head) among))
   | inr rest ↦ rest
 ]
@@ -37,9 +37,9 @@ IsDistinct-Reordered : (ids ids' : List (List ℕ)) → IsDistinct bytes_eq ids 
     ((id : List ℕ) → Contains ids id → Contains ids' id) → ((id : List ℕ) → Contains ids' id → Contains ids id) →
     Reordered ids ids'
 IsDistinct-Reordered [] [] distinct distinct' to from = none
-IsDistinct-Reordered [] (id ∷ ids) distinct distinct' to from = absurd (none_contained id (from id (head_contained id ids)))
+IsDistinct-Reordered [] (id ∷ ids) distinct distinct' to from = absurd (Contains-nil id (from id (Contains-head id ids)))
 IsDistinct-Reordered (id ∷ ids) ids' distinct distinct' to from =
-    let found = to id (head_contained id ids) in
+    let found = to id (Contains-head id ids) in
     let others : List (List ℕ) = remove ids' found.0 in
     let moved : IsPermutation ids' (id ∷ others) = IsPermutation-remove ids' found.0 id found.1 (sym found.2) in
     let moved_back : IsPermutation (id ∷ others) ids' = IsPermutation-sym ids' (id ∷ others) moved in
