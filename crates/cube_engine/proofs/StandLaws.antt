@@ -132,8 +132,10 @@ AccountStandsAt-Enters s items item old new stands enters = go (code_in s old.bo
   where
     coded : (code : Option ℕ) → code_in s old.book item.what ≡ code → code_of s items item.what ≡ code
     coded code is = sym (code_in-code_of s items old.book item.what stands.facts) ∙ is
+
     lives : (id : List ℕ) → life_of id (changes_of s (items ++ item ∷ [])) ≡ life_of id (changes_of s items ++ cons_option (taken_change s item.what) [])
     lives id = ap (life_of id) (changes_of-more s items item)
+
     go : (code : Option ℕ) → code_in s old.book item.what ≡ code → AccountStandsAt s (items ++ item ∷ []) new
     go (Some code) is =
         subst (AccountStandsAt s (items ++ item ∷ [])) (sym (enters.refused code is)) (record {
@@ -196,8 +198,8 @@ StandFrom-set s arrivals source item first [] place account is below step stand 
 StandFrom-set s arrivals source item first (a ∷ accounts) zero account is below step stand =
     let here : source ≡ first = is ∙ add-zero first in (
       subst (λ n. AccountStandsAt s (of_source (arrivals ++ (source, item) ∷ []) n) account) here
-      (subst (λ (items : List Item). AccountStandsAt s items account) (sym (of_source-same arrivals source item))
-      (step (subst (λ n. AccountStandsAt s (of_source arrivals n) a) (sym here) stand.0))),
+          (subst (λ (items : List Item). AccountStandsAt s items account) (sym (of_source-same arrivals source item))
+          (step (subst (λ n. AccountStandsAt s (of_source arrivals n) a) (sym here) stand.0))),
       StandFrom-later s arrivals source item (first + 1) accounts (omega (arith, here)) stand.1,
     )
 StandFrom-set s arrivals source item first (a ∷ accounts) (suc place) account is below step stand =

@@ -64,7 +64,11 @@ impl Ledger {
     /// What an item of a source comes to whose change, where it says one, the schema takes: its refusal, a fact that
     /// is put under an id, or an id whose fact is taken out. The only error is want of memory, and only an amendment
     /// takes some.
-    pub fn rule(&self, source: u32, what: Result<Change, LineFault>) -> Result<Ruling, AllocError>
+    pub(crate) fn rule(
+        &self,
+        source: u32,
+        what: Result<Change, LineFault>,
+    ) -> Result<Ruling, AllocError>
         requires first { 1 ≤ source }
         requires last { source ≤ length self.now.accounts }
         requires taken { says_taken self.now.schema what ≡ true }
@@ -76,7 +80,7 @@ impl Ledger {
     }
 
     /// Notes a refused item of a source; where memory is wanting, the ledger is as it was.
-    pub fn refuse(&mut self, source: u32, number: u32, code: u8) -> Result<(), AllocError>
+    pub(crate) fn refuse(&mut self, source: u32, number: u32, code: u8) -> Result<(), AllocError>
         requires first { 1 ≤ source }
         requires last { source ≤ length self.old.accounts }
         ensures ok { OnOk result
@@ -89,7 +93,7 @@ impl Ledger {
 
     /// Puts a fact that fits under an id of a source; the fact that was there comes out. Where memory is wanting, the
     /// ledger is as it was, and the fact comes back.
-    pub fn put(&mut self, source: u32, id: Text, fact: Fact) -> Result<Option<Fact>, Fact>
+    pub(crate) fn put(&mut self, source: u32, id: Text, fact: Fact) -> Result<Option<Fact>, Fact>
         requires first { 1 ≤ source }
         requires last { source ≤ length self.old.accounts }
         requires fits { fits self.old.schema fact ≡ true }
@@ -103,7 +107,7 @@ impl Ledger {
     }
 
     /// Takes the fact under an id of a source out, if there is one. It takes no memory.
-    pub fn take(&mut self, source: u32, id: &Text) -> Option<Fact>
+    pub(crate) fn take(&mut self, source: u32, id: &Text) -> Option<Fact>
         requires first { 1 ≤ source }
         requires last { source ≤ length self.old.accounts }
         ensures { AtSource (Exchanges id.now result None) source self.old self.new }
@@ -126,7 +130,7 @@ impl Ledger {
     }
 
     /// The same of an item whose change, where it says one, the schema takes, as a feed's items are.
-    pub fn apply_taken(&mut self, source: u32, item: Item) -> Result<(), AllocError>
+    pub(crate) fn apply_taken(&mut self, source: u32, item: Item) -> Result<(), AllocError>
         requires first { 1 ≤ source }
         requires last { source ≤ length self.old.accounts }
         requires taken { says_taken self.old.schema item.what ≡ true }
