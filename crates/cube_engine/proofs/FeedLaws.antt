@@ -1,6 +1,6 @@
 -- A feed taken into a ledger, item by item: what was taken, and what is to come.
-use Rattle.std.proofs.Common.{◌≡◌, ◌≤◌, ℕ, true, false, List, [], ◌∷◌, ◌++◌, length, map, refl, sym, ap, ◌∙◌, subst, append_assoc}
-use Rattle.std.specs.Prelude.{⊤, Option, Some, None, option_map, Result, Ok, Err, is_err, IfOk, OnOk, IfSome, slice_set}
+use Rattle.std.proofs.Common.{◌≡◌, ℕ, true, false, List, [], ◌∷◌, ◌++◌, length, map, refl, sym, ap, ◌∙◌, subst, append_assoc}
+use Rattle.std.specs.Prelude.{⊤, Option, Some, None, option_map, Result, Ok, Err, is_err, IfOk, OnOk}
 use Rattle.std.proofs.Math.ListN.{length-set}
 use Rattle.std.proofs.lemmas.List.{append-nil, map-append}
 use Rattle.cube_core.specs.Arrival.{Arrivals}
@@ -15,7 +15,7 @@ use Rattle.cube_core.specs.declared.change.Item.{Item}
 use Rattle.cube_feed.specs.Feed.{ToCome, FeedView, Gives, to_come, fault_of, nothing_but}
 use Rattle.cube_feed.specs.declared.fault.FeedFault.{FeedFault}
 use Rattle.cube_feed.specs.declared.fault.FeedFault.TheVariants.{Memory, Read, Header, TooMany}
-use Rattle.cube_engine.specs.Build.{TakesFeed, IsFaultOf, IsEndOf}
+use Rattle.cube_engine.specs.Build.{TakesFeed, IsFaultOf}
 use Rattle.cube_engine.specs.Ledger.{LedgerView, AtSource, Enters, LedgerStandsAt, says_taken}
 
 -- what is to come of a feed at its start, where its bytes are told

@@ -1,12 +1,12 @@
 -- Facts that fit a schema: those that a change puts, and amendments of them.
-use Rattle.std.proofs.Common.{◌≡◌, ℕ, suc, Bool, true, false, ◌&&◌, ◌==◌, List, [], ◌∷◌, ◌++◌, length, map, refl, sym, ap, ◌∙◌}
-use Rattle.std.specs.Prelude.{⊤, Option, Some, None, IfSome, All, is_some, option_map}
-use Rattle.std.specs.List.{list_all, zip}
+use Rattle.std.proofs.Common.{◌≡◌, ℕ, suc, Bool, true, false, ◌&&◌, ◌==◌, List, [], ◌∷◌, length, refl, sym, ap, ◌∙◌}
+use Rattle.std.specs.Prelude.{Option, Some, None, IfSome, option_map}
+use Rattle.std.specs.List.{list_all}
 use Rattle.std.specs.Str.{bytes_eq}
 use Rattle.std.proofs.lemmas.Bool.{and_parts, eqb-true, eq-eqb}
 use Rattle.std.proofs.lemmas.Option.{IfSome_then, same_Some}
 use Rattle.std.proofs.lemmas.Map.Views.{IfSome-lookup_from_All}
-use Rattle.cube_core.specs.Amendment.{over, field_over, fields_over}
+use Rattle.cube_core.specs.Amendment.{over, fields_over}
 use Rattle.cube_core.specs.Layout.{Layout}
 use Rattle.cube_core.specs.Life.{id_of}
 use Rattle.cube_core.specs.Takes.{takes, fits, fits_part, is_id, may_amend, is_dimension_value, puts_dimension_value}

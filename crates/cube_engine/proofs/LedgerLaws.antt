@@ -1,5 +1,5 @@
 -- What a change of one account does to the facts of all sources.
-use Rattle.std.proofs.Common.{◌≡◌, ◌<◌, ◌≤◌, ◌-◌, ℕ, zero, suc, Bool, true, false, List, [], ◌∷◌, ◌++◌, length, get_or, take, map, replicate, refl, sym, ap, ◌∙◌, subst, arith, append_assoc}
+use Rattle.std.proofs.Common.{◌≡◌, ◌<◌, ◌≤◌, ℕ, zero, suc, true, List, [], ◌∷◌, ◌++◌, length, get_or, replicate, refl, sym, ap, ◌∙◌, subst, arith, append_assoc}
 use Rattle.std.specs.Prelude.{Option, Some, None, All, IfSome, slice_set, Result, Ok, Err, IfOk, OnErr}
 use Rattle.std.specs.Option.{option_to_list}
 use Rattle.std.specs.List.Sorted.{IsPermutation}
@@ -11,8 +11,8 @@ use Rattle.std.proofs.lemmas.List.Sorted.{IsPermutation-refl, IsPermutation-tran
 use Rattle.cube_core.specs.Layout.{Layout}
 use Rattle.cube_core.specs.Takes.{fits}
 use Rattle.cube_core.specs.declared.fact.Fact.{Fact}
-use Rattle.cube_engine.specs.Book.{Entries, Replaces, facts_of}
-use Rattle.cube_engine.specs.Ledger.{AccountView, LedgerView, AtSource, Exchanges, AllFit, IsLedger, all_facts, account_of, new_account}
+use Rattle.cube_engine.specs.Book.{facts_of}
+use Rattle.cube_engine.specs.Ledger.{AccountView, Exchanges, AllFit, IsLedger, all_facts, new_account}
 
 -- what holds of all elements of joined lists holds of those of the first and of the second
 All-append_right : {X : Type 0} (P : X → Type 0) (xs ys : List X) → All P (xs ++ ys) → All P ys

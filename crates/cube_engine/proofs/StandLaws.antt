@@ -1,29 +1,27 @@
 -- How an account that stands at items comes to stand at one item more, and a ledger at an arrival list with one item more.
-use Rattle.std.proofs.Common.{◌≡◌, ◌≢◌, ◌<◌, ◌≤◌, ◌+◌, ◌-◌, ◌==◌, ℕ, zero, suc, Bool, true, false, not, List, [], ◌∷◌, ◌++◌, length, get_or, map, filter, replicate, refl, sym, ap, ◌∙◌, subst, arith, inl, inr, add-zero}
+use Rattle.std.proofs.Common.{◌≡◌, ◌≢◌, ◌<◌, ◌≤◌, ◌+◌, ◌-◌, ◌==◌, ℕ, zero, suc, true, false, not, List, [], ◌∷◌, ◌++◌, length, get_or, map, filter, replicate, refl, sym, ap, ◌∙◌, subst, arith, inl, inr, add-zero}
 use Rattle.std.specs.Prelude.{Option, Some, None, is_some, Result, Ok, Err, slice_set, option_map, if◌then◌else◌}
 use Rattle.std.specs.Option.{option_to_list}
 use Rattle.std.specs.Str.{bytes_eq}
 use Rattle.std.specs.List.{IsDistinct, AllZip, cons_option, range_with_len}
-use Rattle.std.proofs.Math.ListN.{length-set}
 use Rattle.std.proofs.lemmas.Bool.{cases_Bool, eq-eqb, eqb-true, false_from_ne_true}
 use Rattle.std.proofs.lemmas.List.{append-nil, map-append}
 use Rattle.std.proofs.lemmas.List.Elements.{filter-append, filter_map-append}
 use Rattle.std.proofs.lemmas.Slice.Eq.{bytes_eq-Decides}
-use Rattle.cube_core.specs.Arrival.{Arrivals, of_source, of_sources}
+use Rattle.cube_core.specs.Arrival.{Arrivals, of_source}
 use Rattle.cube_core.specs.Layout.{Layout}
 use Rattle.cube_core.specs.Life.{id_of, life_of, taken_change, changes_of}
 use Rattle.cube_core.specs.Refusals.{code_of, code_by_presence, shape_code, refusals_of}
 use Rattle.cube_core.specs.Takes.{takes}
-use Rattle.cube_core.proofs.LifeLaws.{life_after, life_more, life_other, same_text, other_text}
+use Rattle.cube_core.proofs.LifeLaws.{life_after, life_more, life_other}
 use Rattle.cube_core.proofs.RefusalLaws.{refusals_of-more}
 use Rattle.cube_core.specs.declared.fact.Fact.{Fact}
 use Rattle.cube_core.specs.declared.change.Change.{Change}
 use Rattle.cube_core.specs.declared.change.Change.TheVariants.{Insert, Update, Amend, Delete}
 use Rattle.cube_core.specs.declared.change.LineFault.{LineFault}
 use Rattle.cube_core.specs.declared.change.Item.{Item}
-use Rattle.cube_core.specs.declared.change.Refusal.{Refusal}
 use Rattle.cube_engine.specs.Book.{Entries, fact_at, fact_put}
-use Rattle.cube_engine.specs.Ledger.{AccountView, LedgerView, AtSource, Exchanges, Enters, AccountStandsAt, LedgerStandsAt, code_in, refusal, with_refusal, new_account, account_of}
+use Rattle.cube_engine.specs.Ledger.{AccountView, LedgerView, AtSource, Exchanges, Enters, AccountStandsAt, LedgerStandsAt, code_in, refusal, new_account, account_of}
 
 -- ---- one change more
 

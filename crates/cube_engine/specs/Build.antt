@@ -1,5 +1,5 @@
 -- What taking the feeds of several sources promises, and why it may fail (this project's choice).
-use Rattle.std.specs.Prelude.{◌≡◌, ◌≤◌, ◌-◌, ◌++◌, ⊤, ℕ, List, length, map, take, get_or, Option, Some, None, IfSome}
+use Rattle.std.specs.Prelude.{◌≡◌, ◌≤◌, ◌-◌, ◌++◌, ⊤, ℕ, List, length, map, take, get_or, Option, None, IfSome}
 use Rattle.cube_core.specs.Arrival.{Arrivals}
 use Rattle.cube_core.specs.Items.{FeedEnd, WrongHeader, TooManyRecords, items_of}
 use Rattle.cube_core.specs.Layout.{Layout}

@@ -1,5 +1,5 @@
 -- The books and the refusals of all sources, and what an item does to them (this project's choice).
-use Rattle.std.specs.Prelude.{◌≡◌, ◌≤◌, ⊤, true, All, ◌++◌, ◌∷◌, ◌-◌, ℕ, Bool, List, [], length, map, get_or, flat_map, slice_set, Option, Some, None, is_some, Result, Ok, Err, not, if◌then◌else◌}
+use Rattle.std.specs.Prelude.{◌≡◌, ◌≤◌, ⊤, true, All, ◌++◌, ◌∷◌, ◌-◌, ℕ, Bool, List, [], length, get_or, flat_map, slice_set, Option, Some, None, is_some, Result, Ok, Err, not, if◌then◌else◌}
 use Rattle.std.specs.List.{AllZip}
 use Rattle.cube_core.specs.Arrival.{Arrivals, of_sources}
 use Rattle.cube_core.specs.Layout.{Layout}

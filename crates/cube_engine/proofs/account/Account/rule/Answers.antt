@@ -1,6 +1,4 @@
-use Rattle.std.proofs.Common.{◌≡◌, true}
 use Rattle.std.proofs.lemmas.Result.{IfOk-weaker}
-use Rattle.cube_core.specs.Takes.{takes}
 use Rattle.cube_engine.proofs.FitLaws.{AmendsAlike-takes, RulingFits-Settles}
 use Rattle.cube_engine.proofs.account.Account.rule.Goals as goal
 
