@@ -18,3 +18,5 @@ pub mod Query
 pub mod Text
 pub mod Printed
 pub mod Sources
+pub mod Arrival
+pub mod Run

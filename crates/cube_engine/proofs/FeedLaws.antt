@@ -1,0 +1,150 @@
+-- A feed taken into a ledger, item by item: what was taken, and what is to come.
+use Rattle.std.proofs.Common.{◌≡◌, ℕ, true, false, List, [], ◌∷◌, ◌++◌, length, map, refl, sym, ap, ◌∙◌, subst, append_assoc}
+use Rattle.std.specs.Prelude.{⊤, Option, Some, None, option_map, Result, Ok, Err, is_err, IfOk, OnOk}
+use Rattle.std.proofs.Math.ListN.{length-set}
+use Rattle.std.proofs.lemmas.List.{append-nil, map-append}
+use Rattle.cube_core.specs.Arrival.{Arrivals}
+use Rattle.cube_core.specs.Layout.{Layout}
+use Rattle.cube_core.specs.Records.{records_of}
+use Rattle.cube_core.specs.Run.{IsGood, AreItemsOf}
+use Rattle.cube_core.specs.Items.{FeedEnd, Good, WrongHeader, TooManyRecords, items_of}
+use Rattle.cube_core.specs.Takes.{takes}
+use Rattle.cube_core.specs.declared.change.Change.{Change}
+use Rattle.cube_core.specs.declared.change.LineFault.{LineFault}
+use Rattle.cube_core.specs.declared.change.Item.{Item}
+use Rattle.cube_feed.specs.Feed.{ToCome, FeedView, Gives, to_come, fault_of, nothing_but}
+use Rattle.cube_feed.specs.declared.fault.FeedFault.{FeedFault}
+use Rattle.cube_feed.specs.declared.fault.FeedFault.TheVariants.{Memory, Read, Header, TooMany}
+use Rattle.cube_engine.specs.Build.{TakesFeed, IsFaultOf}
+use Rattle.cube_engine.specs.Ledger.{LedgerView, AtSource, Enters, LedgerStandsAt, says_taken}
+
+-- what is to come of a feed at its start, where its bytes are told
+abbrev pub start_of : Layout → Option (List ℕ) → Option ToCome
+start_of s bytes = option_map (λ (known : List ℕ). to_come (items_of s (records_of known))) bytes
+
+-- what was to come at the start are the items done, and then what is to come now
+abbrev pub LeftOf : Option ToCome → List Item → Option ToCome → Type 0
+LeftOf None done now = ⊤
+LeftOf (Some all) done now = (rest : ToCome) × (now ≡ Some rest) × (all.items ≡ done ++ rest.items) × (all.end ≡ rest.end)
+
+-- items, each with the number of their source
+abbrev pub from_source : ℕ → List Item → Arrivals
+from_source source items = map (λ item. (source, item)) items
+
+-- how far a feed was taken: a ledger that stood at an arrival list stands at the items done after it
+pub record HasTaken (s : Layout) (bytes : Option (List ℕ)) (source : ℕ) (old : LedgerView) (feed : FeedView) (now : LedgerView) : Type 0 where
+  pub done : List Item
+  pub left : LeftOf (start_of s bytes) done feed.to_come
+  pub of_schema : feed.schema ≡ now.schema
+  pub schema : now.schema ≡ old.schema
+  pub sources : length now.accounts ≡ length old.accounts
+  pub stands : (arrivals : Arrivals) → LedgerStandsAt old arrivals → LedgerStandsAt now (arrivals ++ from_source source done)
+
+-- at the start nothing was taken
+left-start : (start : Option ToCome) → LeftOf start [] start
+left-start None = tt
+left-start (Some all) = (all, refl, refl, refl)
+
+pub HasTaken-none : (s : Layout) (bytes : Option (List ℕ)) (source : ℕ) (ledger : LedgerView) (feed : FeedView)
+    → feed.to_come ≡ start_of s bytes → feed.schema ≡ s → ledger.schema ≡ s → HasTaken s bytes source ledger feed ledger
+HasTaken-none s bytes source ledger feed comes feed_schema schema = record {
+  done = [];
+  left = subst (λ (now : Option ToCome). LeftOf (start_of s bytes) [] now) (sym comes) (left-start (start_of s bytes));
+  of_schema = feed_schema ∙ sym schema;
+  schema = refl;
+  sources = refl;
+  stands = λ arrivals stands. subst (LedgerStandsAt ledger) (sym (append-nil arrivals)) stands;
+}
+
+-- one item more
+left-more : (start now next : Option ToCome) (done : List Item) (item : Item) → LeftOf start done now → Gives now (Ok (Some item)) next
+    → LeftOf start (done ++ item ∷ []) next
+left-more None now next done item left gives = tt
+left-more (Some all) now next done item left gives =
+    let given : Gives (Some left.0) (Ok (Some item)) next = subst (λ (n : Option ToCome). Gives n (Ok (Some item)) next) left.1 gives in (
+      given.0,
+      given.2,
+      left.2 ∙ ap (λ (t : ToCome). done ++ t.items) given.1 ∙ sym (append_assoc done (item ∷ []) given.0.items),
+      left.3 ∙ ap (λ (t : ToCome). t.end) given.1,
+    )
+
+-- the arrivals with one item more of a source
+from_source-more : (arrivals : Arrivals) (source : ℕ) (done : List Item) (item : Item)
+    → (arrivals ++ from_source source done) ++ (source, item) ∷ [] ≡ arrivals ++ from_source source (done ++ item ∷ [])
+from_source-more arrivals source done item =
+    append_assoc arrivals (from_source source done) ((source, item) ∷ [])
+    ∙ ap (λ more. arrivals ++ more) (sym (map-append (λ (x : Item). (source, x)) done (item ∷ [])))
+
+pub HasTaken-more : (s : Layout) (bytes : Option (List ℕ)) (source : ℕ) (old : LedgerView) (feed next : FeedView) (now new : LedgerView) (item : Item)
+    → Gives feed.to_come (Ok (Some item)) next.to_come → next.schema ≡ feed.schema → AtSource (Enters now.schema item) source now new
+    → ((arrivals : Arrivals) → LedgerStandsAt now arrivals → LedgerStandsAt new (arrivals ++ (source, item) ∷ []))
+    → HasTaken s bytes source old feed now → HasTaken s bytes source old next new
+HasTaken-more s bytes source old feed next now new item gives same at stands taken = record {
+  done = taken.done ++ item ∷ [];
+  left = left-more (start_of s bytes) feed.to_come next.to_come taken.done item taken.left gives;
+  of_schema = same ∙ taken.of_schema ∙ sym at.schema;
+  schema = at.schema ∙ taken.schema;
+  sources = ap length at.accounts ∙ length-set now.accounts _ at.account ∙ taken.sources;
+  stands = λ arrivals before.
+      subst (LedgerStandsAt new) (from_source-more arrivals source taken.done item)
+      (stands (arrivals ++ from_source source taken.done) (taken.stands arrivals before));
+}
+
+-- a feed with no fault at its end is good
+good_from_none : (end : FeedEnd) → fault_of end ≡ None → end ≡ Good
+good_from_none Good none = refl
+good_from_none WrongHeader none = cc
+good_from_none TooManyRecords none = cc
+
+-- the end: all items were taken
+items-all : (s : Layout) (bytes : Option (List ℕ)) (now : Option ToCome) (done : List Item) (next : Option ToCome) → LeftOf (start_of s bytes) done now → Gives now (Ok None) next
+    → AreItemsOf s bytes done × IsGood s bytes
+items-all s None now done next left gives = (tt, tt)
+items-all s (Some bytes) now done next left gives =
+    let ended : left.0 ≡ nothing_but None = subst (λ (n : Option ToCome). Gives n (Ok None) next) left.1 gives in (
+      sym (left.2 ∙ ap (λ (t : ToCome). done ++ t.items) ended ∙ append-nil done),
+      good_from_none (items_of s (records_of bytes)).end (left.3 ∙ ap (λ (t : ToCome). t.end) ended),
+    )
+
+pub TakesFeed-all : (s : Layout) (bytes : Option (List ℕ)) (source : ℕ) (old : LedgerView) (feed next : FeedView) (now : LedgerView)
+    → Gives feed.to_come (Ok None) next.to_come → HasTaken s bytes source old feed now → TakesFeed s bytes source old now
+TakesFeed-all s bytes source old feed next now gives taken =
+    let all = items-all s bytes feed.to_come taken.done next.to_come taken.left gives in
+    record { items = taken.done; all = all.0; good = all.1; schema = taken.schema; sources = taken.sources; stands = taken.stands }
+
+-- the end of a feed tells the fault that it answers
+end_from_header : (end : FeedEnd) → fault_of end ≡ Some Header → end ≡ WrongHeader
+end_from_header Good is = cc
+end_from_header WrongHeader is = refl
+end_from_header TooManyRecords is = cc
+
+end_from_too_many : (end : FeedEnd) → fault_of end ≡ Some TooMany → end ≡ TooManyRecords
+end_from_too_many Good is = cc
+end_from_too_many WrongHeader is = cc
+end_from_too_many TooManyRecords is = refl
+
+ends-by : (s : Layout) (bytes : Option (List ℕ)) (now next : Option ToCome) (done : List Item) (fault : FeedFault) → LeftOf (start_of s bytes) done now → Gives now (Err fault) next
+    → IsFaultOf s bytes fault
+ends-by s None now next done fault left gives = tt
+ends-by s (Some bytes) now next done Memory left gives = tt
+ends-by s (Some bytes) now next done Read left gives = tt
+ends-by s (Some bytes) now next done Header left gives =
+    let ended : left.0 ≡ nothing_but (Some Header) = subst (λ (n : Option ToCome). Gives n (Err Header) next) left.1 gives in
+    end_from_header (items_of s (records_of bytes)).end (left.3 ∙ ap (λ (t : ToCome). t.end) ended)
+ends-by s (Some bytes) now next done TooMany left gives =
+    let ended : left.0 ≡ nothing_but (Some TooMany) = subst (λ (n : Option ToCome). Gives n (Err TooMany) next) left.1 gives in
+    end_from_too_many (items_of s (records_of bytes)).end (left.3 ∙ ap (λ (t : ToCome). t.end) ended)
+
+pub IsFaultOf-taken : (s : Layout) (bytes : Option (List ℕ)) (source : ℕ) (old : LedgerView) (feed next : FeedView) (now : LedgerView) (fault : FeedFault)
+    → Gives feed.to_come (Err fault) next.to_come → HasTaken s bytes source old feed now → IsFaultOf s bytes fault
+IsFaultOf-taken s bytes source old feed next now fault gives taken = ends-by s bytes feed.to_come next.to_come taken.done fault taken.left gives
+
+-- a change that the schema takes, if an item says one
+pub says_taken-is : (s : Layout) (what : Result Change LineFault) → IfOk what (λ change. takes s change ≡ true) → says_taken s what ≡ true
+says_taken-is s (Ok change) taken = taken
+says_taken-is s (Err fault) taken = refl
+
+-- a call that didn't fail did what it promises
+pub on_ok_holds : {T E : Type 0} (r : Result T E) (P : Type 0) → is_err r ≡ false → OnOk r P → P
+on_ok_holds (Ok x) P fine holds = holds
+on_ok_holds (Err e) P fine holds = cc

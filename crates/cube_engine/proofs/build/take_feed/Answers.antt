@@ -1,0 +1,17 @@
+use Rattle.std.proofs.Common.{◌≡◌, false, sym, ◌∙◌}
+use Rattle.std.specs.Prelude.{is_err}
+use Rattle.cube_engine.proofs.FeedLaws.{HasTaken-none, HasTaken-more, on_ok_holds}
+use Rattle.cube_engine.proofs.build.take_feed.Goals as goal
+
+pub loop-item-init : goal.loop-item-init
+loop-item-init g c = HasTaken-none _ _ _ _ _ c.new-feed.ensures.to_come c.new-feed.ensures.schema c.requires.schema
+
+pub loop-item-preserved : goal.loop-item-preserved
+loop-item-preserved g c =
+    let fine : is_err c.apply_taken.result ≡ false = sym c.is_err.ensures.value ∙ c.if-is_err.false in
+    HasTaken-more _ _ _ _ _ c.next.new.self _ _ c.in-Ok-Some.item
+    (rw c.in-Ok-Some.field-0-is at c.in-Ok-Some.ensures.gives)
+    c.next.ensures.schema
+    (on_ok_holds c.apply_taken.result _ fine c.apply_taken.ensures.enters)
+    (on_ok_holds c.apply_taken.result _ fine c.apply_taken.ensures.stands)
+    c.loop-item.invariant

@@ -1,0 +1,3 @@
+pub mod Book
+pub mod Ledger
+pub mod Build

@@ -1,0 +1,126 @@
+//! What a ledger keeps of one source.
+ghost use Rattle.std.specs.Prelude.{◌≡◌, Ok, None, Some, true, IfOk, IfErr, OnOk, OnErr, IfNone};
+ghost use Rattle.std.specs.Option.{option_map};
+ghost use Rattle.cube_engine.specs.Book.{AmendsAlike, fact_at, facts_of, refused_by};
+ghost use Rattle.cube_engine.specs.Ledger.{AllFit, Exchanges, IsRuling, RulingFits, Settles, says_taken, new_account, with_refusal};
+
+use crate::book::Book;
+use crate::code::{code_by_presence, code_of_fault, id_of};
+use crate::ruling::Ruling;
+use cube_core::{Change, Fact, LineFault, Refusal, Schema, Text};
+use std::alloc::{AllocError, Global};
+use std::marker::Model;
+
+/// The book of a source, and its refusals in the order of its items.
+#[derive(Drop)]
+pub struct Account {
+    book: Book,
+    refusals: Vec<Refusal>,
+}
+
+impl Model for Account {
+    ghost use Rattle.cube_engine.specs.Ledger.{AccountView};
+
+    ghost Value = { AccountView };
+
+    ghost view = { λ a. record { book = a.book; refusals = a.refusals.items } };
+}
+
+impl Account {
+    /// The account of a source of which no item came; it takes no memory.
+    pub fn new(alloc: Global) -> Account
+        ensures { result ≡ new_account }
+    {
+        Account {
+            book: Book::new(alloc),
+            refusals: Vec::new(alloc),
+        }
+    }
+
+    /// What an item comes to whose change, where it says one, the schema takes: its refusal, a fact that is put under
+    /// an id, or an id whose fact is taken out. The only error is want of memory, and only an amendment takes some.
+    pub fn rule(
+        &self,
+        alloc: Global,
+        schema: &Schema,
+        what: Result<Change, LineFault>,
+    ) -> Result<Ruling, AllocError>
+        requires all_fit { AllFit schema.now (facts_of self.now.book) }
+        requires taken { says_taken schema.now what ≡ true }
+        ensures ruling { IfOk result (IsRuling schema.now self.now.book what) }
+        ensures fits { IfOk result (RulingFits schema.now) }
+    {
+        let change = match what {
+            Ok(change) => change,
+            Err(fault) => {
+                return Ok(Ruling::Refuse {
+                    code: code_of_fault(schema, fault),
+                });
+            }
+        };
+        let present = self.book.has(id_of(&change));
+        match code_by_presence(schema, &change, present) {
+            Some(code) => Ok(Ruling::Refuse { code }),
+            None => self.settle(alloc, change),
+        }
+    }
+
+    // What a change comes to that isn't refused.
+    fn settle(&self, alloc: Global, change: Change) -> Result<Ruling, AllocError>
+        requires alike { AmendsAlike self.now.book change }
+        requires lawful { refused_by self.now.book change ≡ None }
+        ensures { IfOk result (Settles self.now.book change) }
+    {
+        match change {
+            Change::Insert { id, fact } => Ok(Ruling::Put { id, fact }),
+            Change::Update { id, fact } => Ok(Ruling::Put { id, fact }),
+            Change::Amend { id, part } => {
+                let old = self.book.get(&id).unwrap();
+                let fact = part.over(alloc, old)?;
+                Ok(Ruling::Put { id, fact })
+            }
+            Change::Delete { id } => Ok(Ruling::Take { id }),
+        }
+    }
+
+    /// Notes a refused item; where memory is wanting, the account is as it was.
+    pub fn refuse(&mut self, number: u32, code: u8) -> Result<(), AllocError>
+        ensures ok { OnOk result (self.new ≡ with_refusal self.old number code) }
+        ensures err { OnErr result (self.new ≡ self.old) }
+        ensures book { self.new.book ≡ self.old.book }
+    {
+        self.refusals.push(Refusal { number, code })?;
+        Ok(())
+    }
+
+    /// Puts a fact under an id; the fact that was there comes out. Where memory is wanting, the account is as it was,
+    /// and the fact comes back.
+    pub fn put(&mut self, id: Text, fact: Fact) -> Result<Option<Fact>, Fact>
+        ensures put { IfOk result (λ gone. Exchanges id gone (Some fact) self.old self.new) }
+        ensures back { IfErr result (λ back. back ≡ fact) }
+        ensures err { OnErr result (self.new ≡ self.old) }
+    {
+        self.book.put(id, fact)
+    }
+
+    /// Takes the fact under an id out, if there is one. It takes no memory.
+    pub fn take(&mut self, id: &Text) -> Option<Fact>
+        ensures { Exchanges id.now result None self.old self.new }
+    {
+        self.book.take(id)
+    }
+
+    /// The fact under an id, `None` where the id is absent.
+    pub fn get(&self, id: &Text) -> Option<&Fact>
+        ensures { option_map (λ fact. fact.now) result ≡ fact_at self.now.book id.now }
+    {
+        self.book.get(id)
+    }
+
+    /// The refusals, in the order of the items.
+    pub fn refusals(&self) -> &[Refusal]
+        ensures { result.now ≡ self.now.refusals }
+    {
+        self.refusals.as_slice()
+    }
+}

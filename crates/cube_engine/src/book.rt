@@ -1,0 +1,193 @@
+//! The facts of one source.
+ghost use Rattle.std.specs.Prelude.{◌≡◌, [], Some, None, length, IfOk, IfErr, OnErr, IfNone, is_some};
+ghost use Rattle.std.specs.Option.{option_map};
+ghost use Rattle.cube_engine.specs.Book.{AmendsAlike, IsBook, Replaces, Takes, Explains, fact_at};
+
+use cube_core::{Change, Fact, Partial, Text};
+use std::alloc::Global;
+use std::collections::HashMap;
+use std::marker::Model;
+use thiserror::Error;
+
+/// What a change took out of a book, and a copy of what it put in.
+#[derive(Debug, Drop)]
+pub struct Delta {
+    pub gone: Option<Fact>,
+    pub come: Option<Fact>,
+}
+
+/// Why a book took no change; where several faults hold, the first. The text of each is its name.
+#[derive(Clone, Copy, Debug, PartialEq, Eq, Error)]
+pub enum BookFault {
+    /// The id of an insert is present.
+    #[error("Present")]
+    Present,
+    /// The id of an update, an amendment or a delete is absent.
+    #[error("Absent")]
+    Absent,
+    /// A growth was refused; never in a delete.
+    #[error("Memory")]
+    Memory,
+}
+
+/// The facts of one source, each under its id.
+#[derive(Drop)]
+pub struct Book {
+    alloc: Global,
+    facts: HashMap<Text, Fact>,
+}
+
+impl Model for Book {
+    ghost use Rattle.cube_engine.specs.Book.{Entries, IsBook};
+
+    ghost Value = { Entries };
+
+    ghost view = { λ b. b.facts.entries };
+
+    ghost invariant = { λ b. IsBook b.facts.entries };
+}
+
+impl Book {
+    /// A book without facts; it takes no memory.
+    pub fn new(alloc: Global) -> Book
+        ensures { result ≡ [] }
+    {
+        Book {
+            alloc,
+            facts: HashMap::new(alloc),
+        }
+    }
+
+    /// The fact under an id, `None` where the id is absent. It takes no memory.
+    pub fn get(&self, id: &Text) -> Option<&Fact>
+        ensures { option_map (λ fact. fact.now) result ≡ fact_at self.now id.now }
+    {
+        self.facts.get(id)
+    }
+
+    /// How many facts there are.
+    pub fn len(&self) -> usize
+        ensures facts { result ≡ length self.now }
+        ensures each_once { IsBook self.now }
+    {
+        self.facts.len()
+    }
+
+    /// Puts a fact under an id; the fact that was there comes out. Where memory is wanting, the book is as it was,
+    /// and the fact comes back.
+    pub(crate) fn put(&mut self, id: Text, fact: Fact) -> Result<Option<Fact>, Fact>
+        ensures put { IfOk result (λ gone. Replaces self.old id gone (Some fact) self.new) }
+        ensures back { IfErr result (λ back. back ≡ fact) }
+        ensures unchanged { OnErr result (self.new ≡ self.old) }
+    {
+        match self.facts.insert(id, fact) {
+            Ok(gone) => Ok(gone),
+            Err(refused) => {
+                let (_, fact) = refused.value;
+                Err(fact)
+            }
+        }
+    }
+
+    /// Takes the fact under an id out, if there is one. It takes no memory.
+    pub(crate) fn take(&mut self, id: &Text) -> Option<Fact>
+        ensures taken { Replaces self.old id.now result None self.new }
+        ensures absent { IfNone result (self.new ≡ self.old) }
+    {
+        self.facts.remove(id)
+    }
+
+    /// Takes a change: an insert of an absent id or an update of a present one puts its fact, an amendment of a
+    /// present id puts the fact with some fields changed, a delete of a present id takes the fact away. The answer is
+    /// what went out, and a copy of what came in.
+    ///
+    /// An amendment has as many fields as the fact that it amends. On a fault the book is as it was. A delete takes no
+    /// memory.
+    pub fn apply(&mut self, change: Change) -> Result<Delta, BookFault>
+        requires { AmendsAlike self.old change }
+        ensures taken { IfOk result (λ delta. Takes self.old change delta self.new) }
+        ensures refused { IfErr result (Explains self.old change) }
+        ensures unchanged { OnErr result (self.new ≡ self.old) }
+    {
+        match change {
+            Change::Insert { id, fact } => self.insert(id, fact),
+            Change::Update { id, fact } => self.update(id, fact),
+            Change::Amend { id, part } => self.amend(id, &part),
+            Change::Delete { id } => self.delete(&id),
+        }
+    }
+
+    fn insert(&mut self, id: Text, fact: Fact) -> Result<Delta, BookFault>
+        ensures taken { IfOk result (λ delta. Takes self.old (Change.Insert id fact) delta self.new) }
+        ensures refused { IfErr result (Explains self.old (Change.Insert id fact)) }
+        ensures unchanged { OnErr result (self.new ≡ self.old) }
+    {
+        if self.has(&id) {
+            return Err(BookFault::Present);
+        }
+        self.put_copied(id, fact)
+    }
+
+    fn update(&mut self, id: Text, fact: Fact) -> Result<Delta, BookFault>
+        ensures taken { IfOk result (λ delta. Takes self.old (Change.Update id fact) delta self.new) }
+        ensures refused { IfErr result (Explains self.old (Change.Update id fact)) }
+        ensures unchanged { OnErr result (self.new ≡ self.old) }
+    {
+        if !self.has(&id) {
+            return Err(BookFault::Absent);
+        }
+        self.put_copied(id, fact)
+    }
+
+    fn amend(&mut self, id: Text, part: &Partial) -> Result<Delta, BookFault>
+        requires { AmendsAlike self.old (Change.Amend id part.now) }
+        ensures taken { IfOk result (λ delta. Takes self.old (Change.Amend id part.now) delta self.new) }
+        ensures refused { IfErr result (Explains self.old (Change.Amend id part.now)) }
+        ensures unchanged { OnErr result (self.new ≡ self.old) }
+    {
+        let Some(old) = self.get(&id) else {
+            return Err(BookFault::Absent);
+        };
+        let Ok(fact) = part.over(self.alloc, old) else {
+            return Err(BookFault::Memory);
+        };
+        self.put_copied(id, fact)
+    }
+
+    fn delete(&mut self, id: &Text) -> Result<Delta, BookFault>
+        ensures taken { IfOk result (λ delta. Takes self.old (Change.Delete id.now) delta self.new) }
+        ensures refused { IfErr result (Explains self.old (Change.Delete id.now)) }
+        ensures unchanged { OnErr result (self.new ≡ self.old) }
+    {
+        match self.take(id) {
+            None => Err(BookFault::Absent),
+            gone => Ok(Delta { gone, come: None }),
+        }
+    }
+
+    /// Whether an id is present.
+    pub(crate) fn has(&self, id: &Text) -> bool
+        ensures { result ≡ is_some (fact_at self.now id.now) }
+    {
+        self.facts.contains_key(id)
+    }
+
+    // Puts a fact under an id, and answers a copy of it.
+    fn put_copied(&mut self, id: Text, fact: Fact) -> Result<Delta, BookFault>
+        ensures put { IfOk result (λ delta. Replaces self.old id delta.gone delta.come self.new) }
+        ensures come { IfOk result (λ delta. delta.come ≡ Some fact) }
+        ensures memory { IfErr result (λ fault. fault ≡ BookFault.Memory) }
+        ensures unchanged { OnErr result (self.new ≡ self.old) }
+    {
+        let Ok(come) = fact.copy(self.alloc) else {
+            return Err(BookFault::Memory);
+        };
+        match self.put(id, fact) {
+            Ok(gone) => Ok(Delta {
+                gone,
+                come: Some(come),
+            }),
+            Err(_) => Err(BookFault::Memory),
+        }
+    }
+}
