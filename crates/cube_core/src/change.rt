@@ -1,6 +1,9 @@
 //! What a feed says: changes of facts, and the faults of its lines.
+ghost use Rattle.std.specs.Prelude.{◌≡◌, IfOk};
+
 use crate::fact::Fact;
 use crate::text::Text;
+use std::alloc::{AllocError, Global};
 use thiserror::Error;
 
 /// A change of the facts of one source, each known by an id of the source's own.
@@ -46,4 +49,41 @@ pub struct Item {
 pub struct Refusal {
     pub number: u32,
     pub code: u8,
+}
+
+impl Change {
+    /// A copy; the only error is want of memory.
+    pub(crate) fn copy(&self, alloc: Global) -> Result<Change, AllocError>
+        ensures { IfOk result (λ copy. copy ≡ self.now) }
+    {
+        match self {
+            Change::Insert { id, fact } => Ok(Change::Insert {
+                id: id.copy(alloc)?,
+                fact: fact.copy(alloc)?,
+            }),
+            Change::Update { id, fact } => Ok(Change::Update {
+                id: id.copy(alloc)?,
+                fact: fact.copy(alloc)?,
+            }),
+            Change::Delete { id } => Ok(Change::Delete {
+                id: id.copy(alloc)?,
+            }),
+        }
+    }
+}
+
+impl Item {
+    /// A copy; the only error is want of memory.
+    pub fn copy(&self, alloc: Global) -> Result<Item, AllocError>
+        ensures { IfOk result (λ copy. copy ≡ self.now) }
+    {
+        let what = match &self.what {
+            Ok(change) => Ok(change.copy(alloc)?),
+            Err(fault) => Err(*fault),
+        };
+        Ok(Item {
+            number: self.number,
+            what,
+        })
+    }
 }

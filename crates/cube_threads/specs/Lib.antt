@@ -1,0 +1,3 @@
+pub mod Parcels
+pub mod Feeding
+pub mod Ends

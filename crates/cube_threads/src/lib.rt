@@ -1,0 +1,16 @@
+//! The threads of a build: a feeder for each source, and builders that gather from the feeders' links.
+//!
+//! [`feed_out`] sends the items of a feed to each builder, as [`Parcel`]s over a link of their own.
+#![tactic(auto)]
+
+mod copies;
+mod ends;
+mod feeding;
+mod gate;
+mod offering;
+mod parcel;
+
+pub use ends::{first_stop, first_unsealed};
+pub use feeding::feed_out;
+pub use gate::{Gate, OpenGate};
+pub use parcel::{FeederEnd, Parcel};
