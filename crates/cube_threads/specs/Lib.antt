@@ -1,3 +1,5 @@
+pub mod Arrival
 pub mod Parcels
 pub mod Feeding
 pub mod Ends
+pub mod Gathering

@@ -3,14 +3,18 @@
 //! [`feed_out`] sends the items of a feed to each builder, as [`Parcel`]s over a link of their own.
 #![tactic(auto)]
 
+mod builds;
 mod copies;
 mod ends;
 mod feeding;
 mod gate;
+mod gathering;
 mod offering;
 mod parcel;
 
+pub use builds::Builds;
 pub use ends::{first_stop, first_unsealed};
 pub use feeding::feed_out;
 pub use gate::{Gate, OpenGate};
+pub use gathering::gather;
 pub use parcel::{FeederEnd, Parcel};
