@@ -4,7 +4,7 @@ use Rattle.std.proofs.lemmas.Grind.{common_steps}
 use Rattle.std.proofs.lemmas.List.{get_or_append_left}
 use Rattle.std.proofs.lemmas.List.Elements.{All-append}
 use Rattle.std.proofs.Math.Seq.{get_or-append_seam}
-use Rattle.std.specs.List.{All}
+use Rattle.std.specs.List.{All, AllZip}
 
 -- the first places changed by f, the others as they were
 abbrev pub first_mapped : {A : Type 0} → (A → A) → ℕ → List A → List A
@@ -44,20 +44,32 @@ first_mapped-all f (suc n) [] all = refl
 first_mapped-all f (suc n) (x ∷ xs) all = ap (λ ys. f x ∷ ys) (first_mapped-all f n xs (omega (arith, all)))
 
 -- what holds of all of a list holds of its front
-pub all-front : {A : Type 0} (P : A → Type 0) (xs ys : List A) → All P (xs ++ ys) → All P xs
-all-front P xs ys all k d below =
+pub all_front : {A : Type 0} (xs ys : List A) (P : A → Type 0) → All P (xs ++ ys) → All P xs
+all_front xs ys P all k d below =
     let further : k < length (xs ++ ys) = grind (arith, common_steps, below) in
     rw (get_or_append_left xs ys d k below) at (all k d further)
 
 -- and of its last
-pub all-last : {A : Type 0} (P : A → Type 0) (xs : List A) (x : A) → All P (xs ++ x ∷ []) → P x
-all-last P xs x all =
+pub all_last : {A : Type 0} (P : A → Type 0) (xs : List A) (x : A) → All P (xs ++ x ∷ []) → P x
+all_last P xs x all =
     let further : length xs < length (xs ++ x ∷ []) = grind (arith, common_steps) in
     rw (get_or-append_seam xs x [] x) at (all (length xs) x further)
 
 -- what holds of all of a list and of one more holds of all of both
-pub all-more : {A : Type 0} (P : A → Type 0) (xs : List A) (x : A) → All P xs → P x → All P (xs ++ x ∷ [])
-all-more P xs x all last = All-append P xs (x ∷ []) all one where
+pub all_more : {A : Type 0} (P : A → Type 0) (xs : List A) (x : A) → All P xs → P x → All P (xs ++ x ∷ [])
+all_more P xs x all last = All-append P xs (x ∷ []) all one where
   one : All P (x ∷ [])
   one zero d below = last
   one (suc k) d below = absurd (omega arith)
+
+-- two lists place by place, and one more of each
+pub all_zip_more : {A B : Type 0} (R : A → B → Type 0) (xs : List A) (ys : List B) (x : A) (y : B) → AllZip R xs ys → R x y → AllZip R (xs ++ x ∷ []) (ys ++ y ∷ [])
+all_zip_more R [] [] x y pairs last = (last, record { })
+all_zip_more R [] (v ∷ ys) x y pairs last = absurd pairs
+all_zip_more R (u ∷ xs) [] x y pairs last = absurd pairs
+all_zip_more R (u ∷ xs) (v ∷ ys) x y pairs last = (pairs.0, all_zip_more R xs ys x y pairs.1 last)
+
+pub all_zip_empty : {A B : Type 0} (R : A → B → Type 0) (xs : List A) (ys : List B) → length xs ≡ 0 → length ys ≡ 0 → AllZip R xs ys
+all_zip_empty R [] [] a b = record { }
+all_zip_empty R [] (y ∷ ys) a b = absurd (omega (arith, b))
+all_zip_empty R (x ∷ xs) ys a b = absurd (omega (arith, a))

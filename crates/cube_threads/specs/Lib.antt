@@ -3,3 +3,4 @@ pub mod Parcels
 pub mod Feeding
 pub mod Ends
 pub mod Gathering
+pub mod Starting

@@ -1,7 +1,7 @@
 use Rattle.std.proofs.Common.{rules, arith, ap, ◌∙◌, ◌≡◌, ◌∷◌, [], length, get_or}
 use Rattle.cube_threads.specs.Parcels.{sends}
 use Rattle.cube_threads.specs.declared.parcel.Parcel.TheVariants.{Line}
-use Rattle.cube_threads.proofs.PlaceLaws.{first_mapped-more, first_mapped-all, length-first_mapped, all-front, all-last}
+use Rattle.cube_threads.proofs.PlaceLaws.{first_mapped-more, first_mapped-all, length-first_mapped, all_front, all_last}
 use Rattle.cube_threads.proofs.offering.offer_copies.Goals as goal
 
 pub loop-outlet-preserved : goal.loop-outlet-preserved
@@ -13,10 +13,10 @@ loop-outlet-preserved g c =
       (λ item all.
           let was = loop.invariant.2 item all in
           let copies = rw whole at was.0 in
-          let this = all-last (λ copy. copy ≡ item) c.pop.new.self.items c.unwrap-copy.result copies in
+          let this = all_last (λ copy. copy ≡ item) c.pop.new.self.items c.unwrap-copy.result copies in
           let sent = rw this at c.offer_until_taken.ensures in
           let next : c.offer_until_taken.new.outlet ≡ sends (Line item ∷ []) (get_or loop.outlets loop.outlet-index c.outlet-item.result) = search (rules, sent) in (
-            all-front (λ copy. copy ≡ item) c.pop.new.self.items (c.unwrap-copy.result ∷ []) copies,
+            all_front c.pop.new.self.items (c.unwrap-copy.result ∷ []) (λ copy. copy ≡ item) copies,
             first_mapped-more (sends (Line item ∷ [])) loop.outlet-index c.args.outlets.now loop.outlets c.outlet-item.result c.offer_until_taken.new.outlet was.1 (omega arith) next,
           )),
     )
