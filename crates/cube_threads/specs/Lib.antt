@@ -4,3 +4,4 @@ pub mod Feeding
 pub mod Ends
 pub mod Gathering
 pub mod Starting
+pub mod Wiring

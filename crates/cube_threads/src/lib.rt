@@ -15,6 +15,7 @@ mod offering;
 mod parcel;
 mod roster;
 mod together;
+mod wiring;
 mod words;
 
 pub use builds::Builds;
