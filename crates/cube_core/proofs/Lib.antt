@@ -1,8 +1,13 @@
+pub mod ListLaws
 pub mod CommonDivisors
 mod ReducedFraction
 pub mod SchemaReading
+pub mod GroupingReading
+pub mod GroupingLaws
 pub mod SchemaSpelling
 pub mod SchemaLaws
+pub mod AmendmentLaws
+pub mod ItemLaws
 pub mod LifeLaws
 pub mod RefusalLaws
 pub mod PlainAnswers
@@ -11,3 +16,4 @@ pub mod PlainKeys
 pub mod PlainOrder
 pub mod PlainRows
 pub mod SetLaws
+pub mod QueryLaws

@@ -2,16 +2,18 @@
 use Rattle.std.specs.Prelude.{◌≡◌, ◌≢◌, ℕ, Bool, true, false, ◌||◌, List, [], ◌∷◌, ◌++◌, Option, Some, None, if◌then◌else◌}
 use Rattle.std.specs.Str.{bytes_eq}
 use Rattle.std.specs.List.{list_any}
-use Rattle.std.proofs.Common.{refl, sym, ap, ◌∙◌, inl, inr}
+use Rattle.std.proofs.Common.{refl, sym, ap, ◌∙◌, inl, inr, true≢false}
 use Rattle.std.proofs.lemmas.List.{append-nil}
 use Rattle.std.proofs.lemmas.List.Elements.{filter-append}
 use Rattle.std.proofs.lemmas.List.Folds.{list_any-append}
+use Rattle.std.proofs.lemmas.List.Sums.{fold_push}
 use Rattle.std.proofs.lemmas.Bool.{cases_Bool, or_right, false_from_ne_true}
 use Rattle.std.proofs.lemmas.Slice.Eq.{bytes_eq-Decides}
-use Rattle.cube_core.specs.Life.{id_of, naming, is_delete, since_delete, last_update, from_insert, life_of}
+use Rattle.cube_core.specs.Life.{id_of, naming, is_delete, since_delete, updated_by, updated, from_insert, life_of}
+use Rattle.cube_core.specs.Amendment.{over}
 use Rattle.cube_core.specs.declared.fact.Fact.{Fact}
 use Rattle.cube_core.specs.declared.change.Change.{Change}
-use Rattle.cube_core.specs.declared.change.Change.TheVariants.{Insert, Update, Delete}
+use Rattle.cube_core.specs.declared.change.Change.TheVariants.{Insert, Update, Amend, Delete}
 
 -- the life of an id after a change that names it, given its life before
 abbrev pub life_after : Change → Option Fact → Option Fact
@@ -19,6 +21,8 @@ life_after (Insert id fact) None = Some fact
 life_after (Insert id fact) (Some present) = Some present
 life_after (Update id fact) None = None
 life_after (Update id fact) (Some present) = Some fact
+life_after (Amend id part) None = None
+life_after (Amend id part) (Some present) = Some (over part present)
 life_after (Delete id) None = None
 life_after (Delete id) (Some present) = None
 
@@ -59,37 +63,24 @@ since_delete_more (first ∷ changes) change stays = elim (cases_Bool (list_any 
   | inr hasnt ↦ rw (same_deletes (first ∷ changes) change stays, hasnt) refl
 ]
 
--- an insert at the end updates nothing
-last_update_insert : (fact : Fact) (changes : List Change) (id : List ℕ) (other : Fact)
-    → last_update fact (changes ++ Insert id other ∷ []) ≡ last_update fact changes
-last_update_insert fact [] id other = refl
-last_update_insert fact (Insert _ _ ∷ changes) id other = last_update_insert fact changes id other
-last_update_insert fact (Update _ newer ∷ changes) id other = last_update_insert newer changes id other
-last_update_insert fact (Delete _ ∷ changes) id other = last_update_insert fact changes id other
-
--- an update at the end is the last one
-last_update_update : (fact : Fact) (changes : List Change) (id : List ℕ) (other : Fact)
-    → last_update fact (changes ++ Update id other ∷ []) ≡ other
-last_update_update fact [] id other = refl
-last_update_update fact (Insert _ _ ∷ changes) id other = last_update_update fact changes id other
-last_update_update fact (Update _ newer ∷ changes) id other = last_update_update newer changes id other
-last_update_update fact (Delete _ ∷ changes) id other = last_update_update fact changes id other
-
--- an insert at the end puts its fact where there is none
-from_insert_insert : (changes : List Change) (id : List ℕ) (fact : Fact)
-    → from_insert (changes ++ Insert id fact ∷ []) ≡ life_after (Insert id fact) (from_insert changes)
-from_insert_insert [] id fact = refl
-from_insert_insert (Insert _ first ∷ changes) id fact = ap Some (last_update_insert first changes id fact)
-from_insert_insert (Update _ _ ∷ changes) id fact = from_insert_insert changes id fact
-from_insert_insert (Delete _ ∷ changes) id fact = from_insert_insert changes id fact
-
--- an update at the end puts its fact where there is one
-from_insert_update : (changes : List Change) (id : List ℕ) (fact : Fact)
-    → from_insert (changes ++ Update id fact ∷ []) ≡ life_after (Update id fact) (from_insert changes)
-from_insert_update [] id fact = refl
-from_insert_update (Insert _ first ∷ changes) id fact = ap Some (last_update_update first changes id fact)
-from_insert_update (Update _ _ ∷ changes) id fact = from_insert_update changes id fact
-from_insert_update (Delete _ ∷ changes) id fact = from_insert_update changes id fact
+-- a change at the end that is no delete puts its fact, or some fields of it, where it may
+from_insert-more : (changes : List Change) (change : Change) → is_delete change ≡ false
+    → from_insert (changes ++ change ∷ []) ≡ life_after change (from_insert changes)
+from_insert-more [] (Insert id fact) stays = refl
+from_insert-more [] (Update id fact) stays = refl
+from_insert-more [] (Amend id part) stays = refl
+from_insert-more [] (Delete id) stays = refl
+from_insert-more (Insert _ first ∷ changes) change stays =
+    ap Some (fold_push updated_by first changes change) ∙ last change (updated first changes) stays
+  where
+    last : (change' : Change) (fact : Fact) → is_delete change' ≡ false → Some (updated_by fact change') ≡ life_after change' (Some fact)
+    last (Insert id other) fact stays' = refl
+    last (Update id other) fact stays' = refl
+    last (Amend id part) fact stays' = refl
+    last (Delete id) fact stays' = absurd (true≢false stays')
+from_insert-more (Update _ _ ∷ changes) change stays = from_insert-more changes change stays
+from_insert-more (Amend _ _ ∷ changes) change stays = from_insert-more changes change stays
+from_insert-more (Delete _ ∷ changes) change stays = from_insert-more changes change stays
 
 -- nothing is there after a delete
 pub nothing_after_delete : (id : List ℕ) (life : Option Fact) → None ≡ life_after (Delete id) life
@@ -100,17 +91,20 @@ nothing_after_delete id (Some fact) = refl
 pub life_none : (id : List ℕ) → life_of id [] ≡ None
 life_none id = refl
 
+-- the life of an id after one more change that names it, where it is no delete
+life_of-more : (id : List ℕ) (changes : List Change) (change : Change) → bytes_eq id (id_of change) ≡ true → is_delete change ≡ false
+    → life_of id (changes ++ change ∷ []) ≡ life_after change (life_of id changes)
+life_of-more id changes change same stays =
+    ap (λ (cs : List Change). from_insert (since_delete cs)) (naming_more id changes change same)
+    ∙ ap from_insert (since_delete_more (naming id changes) change stays)
+    ∙ from_insert-more (since_delete (naming id changes)) change stays
+
 -- the life of an id after one more change that names it
 pub life_more : (id : List ℕ) (changes : List Change) (change : Change) → bytes_eq id (id_of change) ≡ true
     → life_of id (changes ++ change ∷ []) ≡ life_after change (life_of id changes)
-life_more id changes (Insert named fact) same =
-    ap (λ (cs : List Change). from_insert (since_delete cs)) (naming_more id changes (Insert named fact) same)
-    ∙ ap from_insert (since_delete_more (naming id changes) (Insert named fact) refl)
-    ∙ from_insert_insert (since_delete (naming id changes)) named fact
-life_more id changes (Update named fact) same =
-    ap (λ (cs : List Change). from_insert (since_delete cs)) (naming_more id changes (Update named fact) same)
-    ∙ ap from_insert (since_delete_more (naming id changes) (Update named fact) refl)
-    ∙ from_insert_update (since_delete (naming id changes)) named fact
+life_more id changes (Insert named fact) same = life_of-more id changes (Insert named fact) same refl
+life_more id changes (Update named fact) same = life_of-more id changes (Update named fact) same refl
+life_more id changes (Amend named part) same = life_of-more id changes (Amend named part) same refl
 life_more id changes (Delete named) same =
     ap (λ (cs : List Change). from_insert (since_delete cs)) (naming_more id changes (Delete named) same)
     ∙ ap from_insert (since_delete_done (naming id changes) named)

@@ -1,26 +1,28 @@
--- Lemmas for the keys that the walk over the facts and their grouping sets reaches.
-use Rattle.std.proofs.Common.{zero, suc, ◌≡◌, ◌+◌, ◌^◌, ◌<◌, ◌≤◌, ◌==◌, ℕ, Bool, true, false, nat_lt, eq-eqb, ◌&&◌, ◌||◌, List, [], ◌∷◌, length, get_or, Decides, refl, sym, ap, ◌∙◌, subst, arith}
+-- Lemmas for the keys that the walk over the facts and the kept grouping sets reaches.
+use Rattle.std.proofs.Common.{◌≡◌, ◌+◌, ◌<◌, ◌==◌, ℕ, Bool, true, false, eq-eqb, ◌&&◌, ◌||◌, List, [], ◌∷◌, length, Decides, refl, sym, ap, ◌∙◌, subst, get_or, take}
 use Rattle.std.specs.BTreeSet.{BTreeSet, contains}
-use Rattle.std.specs.List.{list_all}
+use Rattle.std.specs.List.{list_any, list_all}
 use Rattle.std.specs.Ordering.{eq_by_cmp, is_eq}
-use Rattle.std.proofs.lemmas.Bool.{and_parts}
-use Rattle.std.proofs.lemmas.Bool.Decides.{same_from_decides, nat_tests}
+use Rattle.std.proofs.lemmas.Bool.{and_parts, and_from}
+use Rattle.std.proofs.lemmas.Bool.Decides.{same_from_decides}
 use Rattle.std.proofs.lemmas.Cmp.{tied_itself}
+use Rattle.std.proofs.lemmas.List.Folds.{list_any_more}
 use Rattle.std.proofs.lemmas.Map.Views.{tells_apart, exact_unsigned_eq}
 use Rattle.cube_core.specs.Covers.{covers}
-use Rattle.cube_core.specs.Cube.{is_total}
-use Rattle.cube_core.specs.GroupingSet.{is_all_coord, mask_of}
-use Rattle.cube_core.specs.Layout.{Layout}
+use Rattle.cube_core.specs.Cube.{is_total, is_cell}
+use Rattle.cube_core.specs.GroupingSet.{is_all_coord, is_among, mask_of, mask_of_coords}
+use Rattle.cube_core.specs.Layout.{Layout, keeps}
 use Rattle.cube_core.specs.Order.{key_cmp}
 use Rattle.cube_core.specs.Takes.{fits, is_dimension_value}
 use Rattle.cube_core.specs.declared.fact.Fact.{Fact}
 use Rattle.cube_core.specs.declared.key.Coord.{Coord}
 use Rattle.cube_core.specs.declared.key.Coord.TheVariants as coord
 use Rattle.cube_core.specs.declared.key.Key.{Key}
-use Rattle.cube_core.proofs.PlainKeys.{same_from_mask, mask_below, length_standing}
+use Rattle.cube_core.proofs.PlainKeys.{same_from_mask}
 use Rattle.cube_core.proofs.PlainOrder.{exact_keys, key_cmp_total}
 
-same_key : (x y : Key) → x.coords ≡ y.coords → x ≡ y
+-- keys with the same coordinates are one
+pub same_key : (x y : Key) → x.coords ≡ y.coords → x ≡ y
 same_key x y e = ap (λ (coords : List Coord). let key : Key = record { coords = coords } in key) e
 
 -- whether a key is another, by key order
@@ -31,51 +33,54 @@ same_key_decides x y = (
 )
 
 -- a key that covers a fact is that of its grouping set that does
-same_ancestor : (ancestor key : Key) (fact : Fact) (mask : ℕ) → covers ancestor fact ≡ true → mask_of ancestor ≡ mask → eq_by_cmp key_cmp ancestor key ≡ (covers key fact && (mask_of key == mask))
-same_ancestor ancestor key fact mask c m =
-    let P : Key → Type 0 = λ k. (covers k fact && (mask_of k == mask)) ≡ true in
-    let by_mask : Decides (covers key fact && (mask_of key == mask)) (ancestor ≡ key) = (
+same_ancestor : (ancestor key : Key) (fact : Fact) (set : ℕ) → covers ancestor fact ≡ true → mask_of ancestor ≡ set → eq_by_cmp key_cmp ancestor key ≡ ((set == mask_of key) && covers key fact)
+same_ancestor ancestor key fact set c m =
+    let P : Key → Type 0 = λ k. ((set == mask_of k) && covers k fact) ≡ true in
+    let by_set : Decides ((set == mask_of key) && covers key fact) (ancestor ≡ key) = (
       λ e.
-          let parts = and_parts (covers key fact) (mask_of key == mask) e in
-          let masks : mask_of key ≡ mask = exact_unsigned_eq (mask_of key) mask parts.1 in
-          same_key ancestor key (same_from_mask ancestor.coords key.coords fact.dims c parts.0 (m ∙ sym masks)),
-      λ e. subst P e (rw (c, m) (eq-eqb mask mask refl)),
+          let parts = and_parts (set == mask_of key) (covers key fact) e in
+          let sets : set ≡ mask_of key = exact_unsigned_eq set (mask_of key) parts.0 in
+          same_key ancestor key (same_from_mask ancestor.coords key.coords fact.dims c parts.1 (m ∙ sets)),
+      λ e. subst P e (and_from _ _ (eq-eqb set (mask_of ancestor) (sym m)) c),
     ) in
-    same_from_decides _ _ (same_key_decides ancestor key) by_mask
+    same_from_decides _ _ (same_key_decides ancestor key) by_set
 
-covers_below : (key : Key) (fact : Fact) → covers key fact ≡ true → mask_of key < 2 ^ length fact.dims
-covers_below key fact c =
-    let P : ℕ → Type 0 = λ n. mask_of key < 2 ^ n in
-    subst P (length_standing key.coords fact.dims c) (mask_below key.coords)
-
-more_masks : (old covered : Bool) (set mask : ℕ) → ((old || (covered && nat_lt set mask)) || (covered && (set == mask))) ≡ (old || (covered && nat_lt set (mask + 1)))
-more_masks true covered set mask = refl
-more_masks false false set mask = refl
-more_masks false true set mask = grind (arith, nat_tests)
+more_sets : (old among is_set covered : Bool) → ((old || (among && covered)) || (is_set && covered)) ≡ (old || ((among || is_set) && covered))
+more_sets true among is_set covered = refl
+more_sets false true true true = refl
+more_sets false true true false = refl
+more_sets false true false true = refl
+more_sets false true false false = refl
+more_sets false false is_set covered = refl
 
 -- one more grouping set of a fact
-pub more_ancestors : (old mid new : Bool) (ancestor key : Key) (fact : Fact) (mask : ℕ) → covers ancestor fact ≡ true → mask_of ancestor ≡ mask → mid ≡ (old || (covers key fact && nat_lt (mask_of key) mask)) → new ≡ (mid || eq_by_cmp key_cmp ancestor key) → new ≡ (old || (covers key fact && nat_lt (mask_of key) (mask + 1)))
-more_ancestors old mid new ancestor key fact mask c m e f =
-    let same : eq_by_cmp key_cmp ancestor key ≡ (covers key fact && (mask_of key == mask)) = same_ancestor ancestor key fact mask c m in
+pub more_ancestors : (old mid new : Bool) (ancestor key : Key) (fact : Fact) (sets : List ℕ) (i : ℕ) → i < length sets → covers ancestor fact ≡ true → mask_of ancestor ≡ get_or sets i 0 → mid ≡ (old || (is_among (mask_of key) (take i sets) && covers key fact)) → new ≡ (mid || eq_by_cmp key_cmp ancestor key) → new ≡ (old || (is_among (mask_of key) (take (i + 1) sets) && covers key fact))
+more_ancestors old mid new ancestor key fact sets i inside c m e f =
+    let set = get_or sets i 0 in
+    let among = is_among (mask_of key) (take i sets) in
+    let same : eq_by_cmp key_cmp ancestor key ≡ ((set == mask_of key) && covers key fact) = same_ancestor ancestor key fact set c m in
     f ∙ ap (λ b. b || eq_by_cmp key_cmp ancestor key) e
-    ∙ ap (λ b. (old || (covers key fact && nat_lt (mask_of key) mask)) || b) same
-    ∙ more_masks old (covers key fact) (mask_of key) mask
+    ∙ ap (λ b. (old || (among && covers key fact)) || b) same
+    ∙ more_sets old among (set == mask_of key) (covers key fact)
+    ∙ sym (ap (λ b. old || (b && covers key fact)) (list_any_more (λ other. other == mask_of key) sets i 0 inside))
 
--- no grouping set of a fact yet
-pub no_ancestors : (old covered : Bool) (set : ℕ) → old ≡ (old || (covered && nat_lt set 0))
-no_ancestors true covered set = refl
-no_ancestors false true set = grind (arith, nat_tests)
-no_ancestors false false set = refl
+-- nothing more
+pub or_false : (b : Bool) → b ≡ (b || false)
+or_false true = refl
+or_false false = refl
 
-all_masks : (old covered : Bool) (set bound mask : ℕ) → (covered ≡ true → set < bound) → bound ≤ mask → (old || (covered && nat_lt set mask)) ≡ (old || covered)
-all_masks true covered set bound mask below over = refl
-all_masks false false set bound mask below over = refl
-all_masks false true set bound mask below over = let lt : set < bound = below refl in grind (arith, nat_tests)
+more_covered : (kept total any covered : Bool) → ((kept && (total || any)) || (kept && covered)) ≡ (kept && (total || (any || covered)))
+more_covered true true any covered = refl
+more_covered true false any covered = refl
+more_covered false total any covered = refl
 
--- all grouping sets of a fact
-pub all_ancestors : (old new : Bool) (key : Key) (fact : Fact) (mask : ℕ) → 2 ^ length fact.dims ≤ mask → new ≡ (old || (covers key fact && nat_lt (mask_of key) mask)) → new ≡ (old || covers key fact)
-all_ancestors old new key fact mask over e =
-    e ∙ all_masks old (covers key fact) (mask_of key) (2 ^ length fact.dims) mask (covers_below key fact) over
+-- one more fact of a cube
+pub more_cells : (s : Layout) (facts : List Fact) (i : ℕ) (d : Fact) (key : Key) (old new : Bool) → i < length facts → old ≡ is_cell s.grouping_sets (length s.dimensions) (take i facts) key → new ≡ (old || (keeps s key && covers key (get_or facts i d))) → new ≡ is_cell s.grouping_sets (length s.dimensions) (take (i + 1) facts) key
+more_cells s facts i d key old new inside e f =
+    let total = is_total (length s.dimensions) key in
+    f ∙ ap (λ b. b || (keeps s key && covers key (get_or facts i d))) e
+    ∙ more_covered (keeps s key) total (list_any (covers key) (take i facts)) (covers key (get_or facts i d))
+    ∙ sym (ap (λ b. keeps s key && (total || b)) (list_any_more (covers key) facts i d inside))
 
 is_all_is : (c : Coord) → is_all_coord c ≡ true → c ≡ coord.All
 is_all_is (coord.Text name) e = cc
@@ -106,25 +111,55 @@ same_total total key dimensions t =
     ) in
     same_from_decides _ _ (same_key_decides total key) by_total
 
-or_false : (b : Bool) → b ≡ (b || false)
-or_false true = refl
-or_false false = refl
+-- ALL in each dimension is the empty set
+mask_of_all : (coords : List Coord) → list_all is_all_coord coords ≡ true → mask_of_coords coords ≡ 0
+mask_of_all [] all = refl
+mask_of_all (c ∷ coords) all =
+    let parts = and_parts (is_all_coord c) (list_all is_all_coord coords) all in
+    rw (parts.0, mask_of_all coords parts.1) refl
 
--- the set of the grand total's key
-pub first_key : (old new : BTreeSet Key) (total : Key) (dimensions : ℕ) → old.keys ≡ [] → is_total dimensions total ≡ true → ((other : Key) → contains key_cmp new other ≡ (contains key_cmp old other || eq_by_cmp key_cmp total other)) → (key : Key) → contains key_cmp new key ≡ (is_total dimensions key || false)
-first_key old new total dimensions empty t h key =
+same_kept : (kept own total : Bool) → own ≡ true → (total ≡ true → kept ≡ own) → total ≡ (kept && total)
+same_kept kept own true is same = sym (same refl ∙ is) ∙ and_true kept
+  where
+    and_true : (b : Bool) → b ≡ (b && true)
+    and_true true = refl
+    and_true false = refl
+same_kept true own false is same = refl
+same_kept false own false is same = refl
+
+none_kept : (kept own total : Bool) → own ≡ false → (total ≡ true → kept ≡ own) → false ≡ (kept && total)
+none_kept kept own true is same = sym (same refl ∙ is) ∙ and_true kept
+  where
+    and_true : (b : Bool) → b ≡ (b && true)
+    and_true true = refl
+    and_true false = refl
+none_kept true own false is same = refl
+none_kept false own false is same = refl
+
+-- the grand totals' keys are kept or not together
+keeps_total : (s : Layout) (total key : Key) (dimensions : ℕ) → is_total dimensions total ≡ true → is_total dimensions key ≡ true → keeps s key ≡ keeps s total
+keeps_total s total key dimensions t u =
+    let of_total = mask_of_all total.coords (and_parts (length total.coords == dimensions) (list_all is_all_coord total.coords) t).1 in
+    let of_key = mask_of_all key.coords (and_parts (length key.coords == dimensions) (list_all is_all_coord key.coords) u).1 in
+    ap (λ set. is_among set s.grouping_sets) (of_key ∙ sym of_total)
+
+-- the set of the grand total's key, where it's kept
+pub total_key_kept : (s : Layout) (old new : BTreeSet Key) (total : Key) (dimensions : ℕ) → old.keys ≡ [] → is_total dimensions total ≡ true → keeps s total ≡ true
+    → ((other : Key) → contains key_cmp new other ≡ (contains key_cmp old other || eq_by_cmp key_cmp total other))
+    → (key : Key) → contains key_cmp new key ≡ (keeps s key && is_total dimensions key)
+total_key_kept s old new total dimensions empty t kept h key =
     let none : contains key_cmp old key ≡ false = rw empty refl in
-    h key ∙ ap (λ b. b || eq_by_cmp key_cmp total key) none ∙ same_total total key dimensions t ∙ or_false (is_total dimensions key)
-
--- each of a list of facts that fit does
-pub fits_at : (s : Layout) (facts : List Fact) (i : ℕ) (d : Fact) → list_all (fits s) facts ≡ true → i < length facts → fits s (get_or facts i d) ≡ true
-fits_at s [] i d all below = absurd (omega arith)
-fits_at s (fact ∷ facts) zero d all below = (and_parts (fits s fact) (list_all (fits s) facts) all).0
-fits_at s (fact ∷ facts) (suc i) d all below =
-    fits_at s facts i d (and_parts (fits s fact) (list_all (fits s) facts) all).1 (omega arith)
+    h key ∙ ap (λ b. b || eq_by_cmp key_cmp total key) none ∙ same_total total key dimensions t
+    ∙ same_kept (keeps s key) (keeps s total) (is_total dimensions key) kept (keeps_total s total key dimensions t)
 
 -- a fact that fits has a value for each dimension
 pub width_of_fitting : (s : Layout) (fact : Fact) → fits s fact ≡ true → length fact.dims ≡ length s.dimensions
 width_of_fitting s fact e =
     let parts = and_parts ((length fact.dims == length s.dimensions) && (length fact.measures == length s.measures)) (list_all is_dimension_value fact.dims) e in
     exact_unsigned_eq _ _ (and_parts (length fact.dims == length s.dimensions) (length fact.measures == length s.measures) parts.0).0
+
+-- and no key, where it isn't
+pub total_key_not_kept : (s : Layout) (none : BTreeSet Key) (total : Key) (dimensions : ℕ) → none.keys ≡ [] → is_total dimensions total ≡ true → keeps s total ≡ false
+    → (key : Key) → contains key_cmp none key ≡ (keeps s key && is_total dimensions key)
+total_key_not_kept s none total dimensions empty t left key =
+    rw empty (none_kept (keeps s key) (keeps s total) (is_total dimensions key) left (keeps_total s total key dimensions t))

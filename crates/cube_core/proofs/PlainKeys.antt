@@ -1,10 +1,10 @@
 -- Lemmas for the keys that cover a fact: each grouping set has exactly one.
-use Rattle.std.proofs.Common.{suc, ◌≡◌, ◌+◌, ◌*◌, ◌^◌, ◌<◌, ◌≤◌, ◌%◌, ◌/◌, ◌==◌, ℕ, Bool, true, false, cond, not, ◌&&◌, List, [], ◌∷◌, ◌++◌, length, drop, get_or, Option, Some, None, refl, sym, ap, ◌∙◌, arith, append_assoc}
+use Rattle.std.proofs.Common.{suc, ◌≡◌, ◌+◌, ◌*◌, ◌^◌, ◌<◌, ◌≤◌, ◌%◌, ◌/◌, ◌==◌, ℕ, Bool, true, false, cond, not, List, [], ◌∷◌, ◌++◌, length, drop, get_or, Option, Some, None, refl, sym, ap, ◌∙◌, arith, append_assoc}
 use Rattle.std.proofs.lemmas.List.{at_drop_more, at_drop_all, append-nil}
 use Rattle.std.proofs.lemmas.Slice.Eq.{bytes_eq-Decides}
 use Rattle.std.proofs.lemmas.Bool.Decides.{nat_tests}
-use Rattle.std.proofs.lemmas.Bool.{false≢true}
-use Rattle.std.proofs.Math.Nat.{pow-succ'}
+use Rattle.std.proofs.lemmas.Bool.{and_parts}
+use Rattle.std.proofs.Math.Nat.{pow-succ', pow-le-pow_right}
 use Rattle.cube_core.specs.Covers.{stands_for, all_stand_for}
 use Rattle.cube_core.specs.GroupingSet.{is_all_coord, mask_of_coords}
 use Rattle.cube_core.specs.declared.key.Coord.{Coord}
@@ -44,11 +44,6 @@ unfolding ancestor_of
 ancestor_of_all coords values i mask over =
     let e : ancestor_of (drop i values) mask ≡ [] = at_drop_all (λ vs. ancestor_of vs mask) values i over in
     rw e (append-nil coords)
-
-and_parts : (x y : Bool) → x && y ≡ true → (x ≡ true) × (y ≡ true)
-and_parts true true e = (refl, refl)
-and_parts true false e = (refl, e)
-and_parts false y e = absurd (false≢true e)
 
 not_not : (x : Bool) → not (not x) ≡ x
 not_not true = refl
@@ -120,6 +115,13 @@ same_from_mask (x ∷ xs) (y ∷ ys) (value ∷ values) s t e =
 pub mask_below : (coords : List Coord) → mask_of_coords coords < 2 ^ length coords
 mask_below [] = omega arith
 mask_below (c ∷ coords) = bit_below (is_all_coord c) (mask_of_coords coords) (length coords) (mask_below coords)
+
+-- the mask of at most 8 coordinates has 8 bits
+pub mask_of_eight : (coords : List Coord) → length coords ≤ 8 → mask_of_coords coords < 256
+mask_of_eight coords few =
+    let two : 0 < 2 = omega arith in
+    let bound : 2 ^ length coords ≤ 2 ^ 8 = pow-le-pow_right two few in
+    omega (arith, mask_below coords, bound)
 
 -- coordinates that stand for values are as many
 pub length_standing : (coords : List Coord) (values : List (Option (List ℕ))) → all_stand_for coords values ≡ true → length coords ≡ length values

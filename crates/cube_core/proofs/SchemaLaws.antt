@@ -1,20 +1,20 @@
 -- A document that has no fault writes a schema.
-use Rattle.std.proofs.Common.{◌≡◌, ℕ, ◌+◌, ◌<◌, ◌≤◌, ◌^◌, pos, zero, suc, Bool, true, ◌&&◌, is_some, nat_le, nat_lt, codes, List, [], ◌∷◌, ◌++◌, length, map, find, Option, Some, None, refl, ap, ◌∙◌, sym, inl, inr, arith}
+use Rattle.std.proofs.Common.{◌≡◌, ℕ, ◌+◌, ◌<◌, ◌≤◌, ◌^◌, pos, zero, suc, Bool, true, false, ◌&&◌, is_some, nat_le, nat_lt, codes, List, [], ◌∷◌, ◌++◌, length, map, find, Option, Some, None, Result, Ok, Err, IsUtf8, refl, ap, ◌∙◌, sym, inl, inr, arith}
 use Rattle.std.specs.Str.{bytes_eq}
 use Rattle.std.specs.List.{list_all, range_with_len, filter_map, cons_option}
 use Rattle.std.specs.Option.{option_map_or}
 use Rattle.std.proofs.lemmas.Slice.Eq.{bytes_eq-Decides}
-use Rattle.std.proofs.lemmas.Bool.{and_parts, cases_Bool}
+use Rattle.std.proofs.lemmas.Bool.{and_parts, cases_Bool, false≢true}
 use Rattle.std.proofs.lemmas.Bool.Decides.{nat_tests}
 use Rattle.std.proofs.lemmas.List.Folds.{list_all-append, list_all-map}
 use Rattle.std.proofs.lemmas.Option.{same_Some, cond_some}
 use Rattle.toml.specs.Data.{Data, integer, get_member, Members}
-use Rattle.std.proofs.lemmas.List.FromFn.{length-range_with_len}
-use Rattle.std.proofs.lemmas.Nat.{pow_pos}
-use Rattle.cube_core.specs.GroupingSet.{all_sets}
-use Rattle.cube_core.proofs.SetLaws.{all_sets-IsStrictlyIncreasing, all_sets-All}
-use Rattle.cube_core.specs.Layout.{IsSchema, spelling_of, is_aggregate_of, is_lawful_name, are_distinct}
-use Rattle.cube_core.specs.SchemaDocument.{is_some_up_to, are_lawful_names, aggregates_over, aggregate_spelled, are_spellings, record_limit, max_records_in, default_max_records, dimensions_in, measures_in, spellings_in}
+use Rattle.cube_core.proofs.GroupingLaws.{grouping-AreKept}
+use Rattle.toml.specs.Parse.{parse_document}
+use Rattle.cube_core.specs.declared.schema_fault.SchemaFault.{SchemaFault}
+use Rattle.cube_core.specs.declared.schema_fault.SchemaFault.TheVariants.{Memory, Toml, UnknownKey, Dimensions, Measures, Name, Aggregates, MaxRecords, Grouping, Version}
+use Rattle.cube_core.specs.Layout.{Layout, IsSchema, spelling_of, is_aggregate_of, is_lawful_name, are_distinct}
+use Rattle.cube_core.specs.SchemaDocument.{is_some_up_to, are_lawful_names, aggregates_over, aggregate_spelled, are_spellings, record_limit, max_records_in, default_max_records, sets_of_grouping, feed_version, version_in, dimensions_in, measures_in, spellings_in, document_faults, has_fault, first_fault, layout_of, AnswersDocument, AnswersBytes}
 use Rattle.cube_core.specs.declared.aggregate.Agg.{Agg}
 use Rattle.cube_core.specs.declared.aggregate.Agg.TheVariants.{Count, Sum, Min, Max, Avg}
 
@@ -113,23 +113,40 @@ some_up_to most texts is =
     let (least, above) = and_parts (nat_le 1 (length texts)) (nat_le (length texts) most) is in
     (grind (arith, nat_tests), grind (arith, nat_tests))
 
+-- a version that is read is 1 or 2
+feed_version_range : (value : Data) (n : ℕ) → feed_version value ≡ Some n → (1 ≤ n) × (n ≤ 2)
+feed_version_range (integer (pos m)) n is =
+    let (inside, same) = cond_some (nat_le 1 m && nat_le m 2) m n is in
+    let (least, most) = and_parts (nat_le 1 m) (nat_le m 2) inside in
+    grind (arith, nat_tests)
+feed_version_range _ n is = cc
+
+version_range-at : (value : Option Data) (n : ℕ) → option_map_or feed_version value (Some 1) ≡ Some n → (1 ≤ n) × (n ≤ 2)
+version_range-at None n is = let same : 1 ≡ n = same_Some _ _ is in (omega arith, omega arith)
+version_range-at (Some value) n is = feed_version_range value n is
+
+version_range : (document : Members) (n : ℕ) → version_in document ≡ Some n → (1 ≤ n) × (n ≤ 2)
+version_range document n is = version_range-at (get_member (codes "version") document) n is
+
 -- parts read off a document that has none of the faults make a schema
-pub makes_schema : (document : Members) (dimensions measures texts : List (List ℕ)) (aggregates : List Agg) (limit : ℕ) (sets : List ℕ)
+pub makes_schema : (document : Members) (dimensions measures texts : List (List ℕ)) (aggregates : List Agg) (limit : ℕ) (sets : List ℕ) (version : ℕ)
     → (dimensions ≡ dimensions_in document) × (is_some_up_to 8 (dimensions_in document) ≡ true)
     → (measures ≡ measures_in document) × (is_some_up_to 4 (measures_in document) ≡ true)
     → are_lawful_names (dimensions ++ measures) ≡ true
     → (texts ≡ spellings_in document) × (is_some_up_to 16 (spellings_in document) ≡ true)
     → (aggregates ≡ filter_map (aggregate_spelled measures) texts) × (are_spellings measures texts ≡ true)
-    → Some limit ≡ max_records_in document → sets ≡ all_sets (length dimensions)
-    → IsSchema (record { dimensions = dimensions; measures = measures; aggregates = aggregates; aggregate_texts = texts; max_records = limit; grouping_sets = sets; version = 1 })
-makes_schema document dimensions measures texts aggregates limit sets d m names t spellings limit_is sets_are =
+    → Some limit ≡ max_records_in document → Some sets ≡ sets_of_grouping dimensions (get_member (codes "grouping") document) → Some version ≡ version_in document
+    → IsSchema (record { dimensions = dimensions; measures = measures; aggregates = aggregates; aggregate_texts = texts; max_records = limit; grouping_sets = sets; version = version })
+makes_schema document dimensions measures texts aggregates limit sets version d m names t spellings limit_is sets_are version_is =
     let ds = some_up_to 8 dimensions (rw d.0 d.1) in
     let ms = some_up_to 4 measures (rw m.0 m.1) in
     let ts = some_up_to 16 texts (rw t.0 t.1) in
     let range = max_records_range document limit (sym limit_is) in
+    let kept = grouping-AreKept dimensions (get_member (codes "grouping") document) sets (sym sets_are) in
+    let versions = version_range document version (sym version_is) in
     let (lawful, distinct) = and_parts (list_all is_lawful_name (dimensions ++ measures)) (are_distinct (dimensions ++ measures)) names in
     let all = all_spelled measures texts spellings.1 in
-    rw (spellings.0, sets_are) (record {
+    rw spellings.0 (record {
       some_dimension = ds.0;
       dimensions_at_most = ds.1;
       some_measure = ms.0;
@@ -142,9 +159,30 @@ makes_schema document dimensions measures texts aggregates limit sets d m names 
       aggregates_are_spelled = all.spelled;
       some_record = range.0;
       records_at_most = range.1;
-      some_set = rw (length-range_with_len 0 (2 ^ length dimensions)) (pow_pos (length dimensions));
-      sets_are_ascending = all_sets-IsStrictlyIncreasing (length dimensions);
-      sets_are_of_dimensions = all_sets-All (length dimensions);
-      version_at_least = omega arith;
-      version_at_most = omega arith;
+      some_set = kept.some_set;
+      sets_are_ascending = kept.ascending;
+      sets_are_of_dimensions = kept.of_dimensions;
+      version_at_least = versions.0;
+      version_at_most = versions.1;
     })
+
+-- no document is answered that it is none
+not_toml : (document : Members) (found : Option SchemaFault) → first_fault document ≡ found → Err Toml ≡ option_map_or Err found (Ok (layout_of document)) → false ≡ true
+not_toml document None is same = cc
+not_toml document (Some fault) is same =
+    let fault_is : fault ≡ Toml = cc in
+    find-passes (has_fault document) document_faults Toml (is ∙ ap Some fault_is)
+
+-- what is answered to the document of bytes is answered to the bytes
+pub bytes-answered : (bytes : List ℕ) (document : Members) (answer : Result Layout SchemaFault) → IsUtf8 bytes → parse_document bytes ≡ Some document → AnswersDocument document answer → AnswersBytes bytes answer
+bytes-answered bytes document (Ok layout) utf8 parsed answers = (utf8, document, parsed, answers)
+bytes-answered bytes document (Err Memory) utf8 parsed answers = tt
+bytes-answered bytes document (Err Toml) utf8 parsed answers = absurd (false≢true (not_toml document (first_fault document) refl answers))
+bytes-answered bytes document (Err UnknownKey) utf8 parsed answers = (utf8, document, parsed, answers)
+bytes-answered bytes document (Err Dimensions) utf8 parsed answers = (utf8, document, parsed, answers)
+bytes-answered bytes document (Err Measures) utf8 parsed answers = (utf8, document, parsed, answers)
+bytes-answered bytes document (Err Name) utf8 parsed answers = (utf8, document, parsed, answers)
+bytes-answered bytes document (Err Aggregates) utf8 parsed answers = (utf8, document, parsed, answers)
+bytes-answered bytes document (Err MaxRecords) utf8 parsed answers = (utf8, document, parsed, answers)
+bytes-answered bytes document (Err Grouping) utf8 parsed answers = (utf8, document, parsed, answers)
+bytes-answered bytes document (Err Version) utf8 parsed answers = (utf8, document, parsed, answers)

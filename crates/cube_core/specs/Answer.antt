@@ -14,15 +14,18 @@ abbrev pub IsSum : List ℤ → Answer → Type 0
 IsSum [] a = a ≡ answer.Null
 IsSum (v ∷ vs) a = a ≡ answer.Whole (total_of (v ∷ vs))
 
+-- a value that is as good as each by this order, null where there is none
+abbrev pub IsBest : (ℤ → ℤ → Type 0) → List ℤ → Answer → Type 0
+IsBest IsAsGood [] a = a ≡ answer.Null
+IsBest IsAsGood (v ∷ vs) a = (m : ℤ) × (a ≡ answer.Whole m) × Contains (v ∷ vs) m × AllByRecursion (IsAsGood m) (v ∷ vs)
+
 -- a value that no value is below, null where there is none
 abbrev pub IsLeast : List ℤ → Answer → Type 0
-IsLeast [] a = a ≡ answer.Null
-IsLeast (v ∷ vs) a = (m : ℤ) × (a ≡ answer.Whole m) × Contains (v ∷ vs) m × AllByRecursion (λ x. m ≤ℤ x) (v ∷ vs)
+IsLeast values a = IsBest (λ m x. m ≤ℤ x) values a
 
 -- a value that no value is above, null where there is none
 abbrev pub IsGreatest : List ℤ → Answer → Type 0
-IsGreatest [] a = a ≡ answer.Null
-IsGreatest (v ∷ vs) a = (m : ℤ) × (a ≡ answer.Whole m) × Contains (v ∷ vs) m × AllByRecursion (λ x. x ≤ℤ m) (v ∷ vs)
+IsGreatest values a = IsBest (λ m x. x ≤ℤ m) values a
 
 -- the mean of the values as a fraction in lowest terms, null where there is none
 abbrev pub IsMean : List ℤ → Answer → Type 0

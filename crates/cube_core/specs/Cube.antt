@@ -1,4 +1,4 @@
--- CUBE: the cells of all grouping sets of a list of facts, each with its answers (Gray et al. 1997, section 3; the grand total over no facts is this project's choice).
+-- The cube over grouping sets: the cells of these sets of a list of facts, each with its answers (Gray et al. 1997, section 3, where CUBE has all sets; SQL:1999, grouping sets; the grand total over no facts is this project's choice).
 use Rattle.std.specs.Prelude.{◌==◌, ◌&&◌, ◌||◌, ◌↔◌, ℕ, Bool, IsTrue, List, length, map, Contains}
 use Rattle.std.specs.List.{AllByRecursion, list_any, list_all}
 use Rattle.std.specs.List.Sorted.{IsStrictlySortedBy}
@@ -7,7 +7,7 @@ use Rattle.cube_core.specs.Covers.{covers}
 use Rattle.cube_core.specs.Group.{group_of}
 use Rattle.cube_core.specs.Answer.{AreAnswers}
 use Rattle.cube_core.specs.Order.{key_cmp}
-use Rattle.cube_core.specs.GroupingSet.{is_all_coord, mask_of, all_sets, is_among}
+use Rattle.cube_core.specs.GroupingSet.{is_all_coord, mask_of, is_among}
 use Rattle.cube_core.specs.declared.aggregate.Agg.{Agg}
 use Rattle.cube_core.specs.declared.key.Key.{Key}
 use Rattle.cube_core.specs.declared.key.Row.{Row}
@@ -36,6 +36,6 @@ pub record AreRowsOver (sets : List ℕ) (dimensions : ℕ) (aggregates : List A
   pub ordered : IsStrictlySortedBy key_cmp (map key_of rows)
   pub answers : AllByRecursion (HasAnswers aggregates facts) rows
 
--- these are the rows of CUBE over a schema's dimensions: the cells of all its grouping sets
+-- these are the rows of the cube over a schema's grouping sets
 abbrev pub AreRows : Layout → List Fact → List Row → Type 0
-AreRows s facts rows = AreRowsOver (all_sets (length s.dimensions)) (length s.dimensions) s.aggregates facts rows
+AreRows s facts rows = AreRowsOver s.grouping_sets (length s.dimensions) s.aggregates facts rows

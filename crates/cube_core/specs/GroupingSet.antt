@@ -1,7 +1,7 @@
 -- Grouping sets: the set of dimensions that aren't ALL in a key, written as a mask (SQL:1999, grouping sets; the masks are this project's choice).
-use Rattle.std.specs.Prelude.{◌+◌, ◌*◌, ◌^◌, ◌%◌, ◌==◌, ℕ, Bool, true, false, List, [], ◌∷◌, filter, slice_get, if◌then◌else◌}
+use Rattle.std.specs.Prelude.{◌+◌, ◌*◌, ◌^◌, ◌%◌, ◌==◌, ℕ, Bool, true, false, IsTrue, List, [], ◌∷◌, filter, slice_get, if◌then◌else◌}
 use Rattle.std.specs.Option.{option_map_or}
-use Rattle.std.specs.List.{range_with_len, list_any}
+use Rattle.std.specs.List.{AllByRecursion, range_with_len, list_any}
 use Rattle.cube_core.specs.declared.key.Coord.{Coord}
 use Rattle.cube_core.specs.declared.key.Coord.TheVariants as coord
 use Rattle.cube_core.specs.declared.key.Key.{Key}
@@ -36,3 +36,11 @@ sets_of_part j n sets = filter (λ set. set % n == j) sets
 -- whether a grouping set is one of a list
 abbrev pub is_among : ℕ → List ℕ → Bool
 is_among set sets = list_any (λ other. other == set) sets
+
+-- each of these sets is among others
+abbrev pub AreAmong : List ℕ → List ℕ → Type 0
+AreAmong sets others = AllByRecursion (λ set. IsTrue (is_among set others)) sets
+
+-- each of these is a grouping set of so many dimensions
+abbrev pub AreGroupingSets : ℕ → List ℕ → Type 0
+AreGroupingSets dimensions sets = AreAmong sets (all_sets dimensions)

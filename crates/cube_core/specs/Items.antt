@@ -2,15 +2,18 @@
 use Rattle.std.specs.Prelude.{◌≡◌, ◌==◌, ◌||◌, ◌&&◌, ◌+◌, nat_lt, ℕ, ℤ, Bool, true, false, not, pos, negsuc, ◌^◌, List, [], ◌∷◌, ◌++◌, length, map, take, drop, get_or, codes, Option, Some, None, is_some, option_map, Result, Ok, Err, if◌then◌else◌}
 use Rattle.std.specs.Str.{bytes_eq, is_utf8, all_ascii_digits}
 use Rattle.std.specs.Str.Parse.{without_leading_sign, signed_digits_value}
-use Rattle.std.specs.List.{list_all, filter_map}
+use Rattle.std.specs.List.{list_all, list_any, filter_map}
 use Rattle.cube_core.specs.Layout.{Layout}
-use Rattle.cube_core.specs.Takes.{null_text}
+use Rattle.cube_core.specs.Takes.{null_text, may_amend}
 use Rattle.cube_core.specs.declared.fact.Fact.{Fact}
 use Rattle.cube_core.specs.declared.change.Change.{Change}
-use Rattle.cube_core.specs.declared.change.Change.TheVariants.{Insert, Update, Delete}
+use Rattle.cube_core.specs.declared.change.Change.TheVariants.{Insert, Update, Amend, Delete}
 use Rattle.cube_core.specs.declared.change.LineFault.{LineFault}
 use Rattle.cube_core.specs.declared.change.LineFault.TheVariants as fault
 use Rattle.cube_core.specs.declared.change.Item.{Item}
+use Rattle.cube_core.specs.declared.partial.Field.{Field}
+use Rattle.cube_core.specs.declared.partial.Field.TheVariants.{Keep, Put}
+use Rattle.cube_core.specs.declared.partial.Partial.{Partial}
 
 -- the fields of a record with a fact: the operation, the id, a value for each dimension and one for each measure
 abbrev pub width_of : Layout → ℕ
@@ -83,18 +86,57 @@ fact_of s fields = record {
   measures = filter_map measure_of (measure_fields s fields);
 }
 
--- whether a field spells a lawful value of a measure
-abbrev pub is_measure : List ℕ → Bool
-is_measure field = is_some (measure_of field)
+-- how a feed of version 2 writes that a field keeps its value: a backslash and an equals sign
+abbrev pub keep_text : List ℕ
+keep_text = 92 ∷ 61 ∷ []
 
--- the change of a record that puts a fact under an id, or the first fault that holds
-abbrev pub put_of : (List ℕ → Fact → Change) → Layout → List (List ℕ) → Result Change LineFault
-put_of put s fields =
+-- whether a field keeps its value; in version 1 none does
+abbrev pub is_keep : Layout → List ℕ → Bool
+is_keep s field = may_amend s && bytes_eq field keep_text
+
+-- whether a field after the id keeps its value
+abbrev pub keeps_any : Layout → List (List ℕ) → Bool
+keeps_any s fields = list_any (is_keep s) (drop 2 fields)
+
+-- what a field says of a dimension: it keeps its value, or puts one
+abbrev pub dimension_field_of : Layout → List ℕ → Field (Option (List ℕ))
+dimension_field_of s field = if is_keep s field then Keep else Put (dimension_of field)
+
+-- what a field says of a measure: it keeps its value, or puts one, or nothing lawful
+abbrev pub measure_field_of : Layout → List ℕ → Option (Field (Option ℤ))
+measure_field_of s field = if is_keep s field then Some Keep else option_map Put (measure_of field)
+
+-- the amendment that a record spells, where its measures are lawful
+abbrev pub part_of : Layout → List (List ℕ) → Partial
+part_of s fields = record {
+  dims = map (dimension_field_of s) (dimension_fields s fields);
+  measures = filter_map (measure_field_of s) (measure_fields s fields);
+}
+
+-- whether a field spells a lawful value of a measure, or keeps one
+abbrev pub is_measure : Layout → List ℕ → Bool
+is_measure s field = is_some (measure_field_of s field)
+
+-- the change of a record with a fact or an amendment, or the first fault that holds
+abbrev pub put_of : Result Change LineFault → Layout → List (List ℕ) → Result Change LineFault
+put_of change s fields =
     if not (length fields == width_of s) then Err fault.Fields
     else if not (list_all is_utf8 (drop 1 fields)) then Err fault.Text
     else if length (field_at fields 1) == 0 then Err fault.Id
-    else if not (list_all is_measure (measure_fields s fields)) then Err fault.Measure
-    else Ok (put (field_at fields 1) (fact_of s fields))
+    else if not (list_all (is_measure s) (measure_fields s fields)) then Err fault.Measure
+    else change
+
+-- the insert that a record with lawful fields spells: where the id is new, no field has a value to keep
+abbrev pub insert_of : Layout → List (List ℕ) → Result Change LineFault
+insert_of s fields =
+    if keeps_any s fields then Err fault.Keep
+    else Ok (Insert (field_at fields 1) (fact_of s fields))
+
+-- the update that a record with lawful fields spells: an amendment, where it keeps a field
+abbrev pub update_of : Layout → List (List ℕ) → Result Change LineFault
+update_of s fields =
+    if keeps_any s fields then Ok (Amend (field_at fields 1) (part_of s fields))
+    else Ok (Update (field_at fields 1) (fact_of s fields))
 
 -- the change of a record that takes an id away, or the first fault that holds; fields after the id aren't looked at
 abbrev pub delete_of : Layout → List (List ℕ) → Result Change LineFault
@@ -107,8 +149,8 @@ delete_of s fields =
 -- the change that a data record spells, or its first fault: the operation is `I`, `U` or `D`
 abbrev pub change_of : Layout → List (List ℕ) → Result Change LineFault
 change_of s fields =
-    if bytes_eq (field_at fields 0) (codes "I") then put_of Insert s fields
-    else if bytes_eq (field_at fields 0) (codes "U") then put_of Update s fields
+    if bytes_eq (field_at fields 0) (codes "I") then put_of (insert_of s fields) s fields
+    else if bytes_eq (field_at fields 0) (codes "U") then put_of (update_of s fields) s fields
     else if bytes_eq (field_at fields 0) (codes "D") then delete_of s fields
     else Err fault.Op
 

@@ -3,7 +3,8 @@ use Rattle.std.specs.Prelude.{◌≡◌, ◌<◌, ◌≤◌, ◌&&◌, nat_lt, �
 use Rattle.std.specs.Str.{bytes_eq}
 use Rattle.std.specs.List.{list_any, list_all}
 use Rattle.std.specs.List.Sorted.{IsStrictlyIncreasing}
-use Rattle.cube_core.specs.GroupingSet.{all_sets}
+use Rattle.cube_core.specs.GroupingSet.{mask_of, all_sets, is_among}
+use Rattle.cube_core.specs.declared.key.Key.{Key}
 use Rattle.cube_core.specs.declared.aggregate.Agg.{Agg}
 use Rattle.cube_core.specs.declared.aggregate.Agg.TheVariants.{CountAll, Count, Sum, Min, Max, Avg}
 
@@ -79,6 +80,10 @@ pub record IsSchema (s : Layout) : Type 0 where
   pub sets_are_of_dimensions : All (λ set. set < 2 ^ length s.dimensions) s.grouping_sets
   pub version_at_least : 1 ≤ s.version
   pub version_at_most : s.version ≤ 2
+
+-- whether a schema keeps the grouping set of a key
+abbrev pub keeps : Layout → Key → Bool
+keeps s key = is_among (mask_of key) s.grouping_sets
 
 -- the sample schema: regions and kinds, an amount, all aggregates of it, and all grouping sets
 abbrev pub sample_layout : Layout

@@ -1,6 +1,7 @@
 pub mod Layout
 pub mod SchemaDocument
 pub mod Records
+pub mod Amendment
 pub mod Takes
 pub mod Items
 pub mod Life
@@ -13,5 +14,7 @@ pub mod Answer
 pub mod Order
 pub mod GroupingSet
 pub mod Cube
+pub mod Query
 pub mod Text
 pub mod Printed
+pub mod Sources

@@ -1,12 +1,13 @@
--- The life of an id in a list of changes: absent, or present with a fact (an update is a delete and an insert: Gray et al. 1997, section 6).
+-- The life of an id in a list of changes: absent, or present with a fact (an update is a delete and an insert: Gray et al. 1997, section 6; an amendment is an update of some fields: this project's choice).
 use Rattle.std.specs.Prelude.{ℕ, Bool, true, false, List, [], ◌∷◌, Option, Some, None, Result, Ok, Err, if◌then◌else◌, filter}
 use Rattle.std.specs.Str.{bytes_eq}
-use Rattle.std.specs.List.{list_any, filter_map}
+use Rattle.std.specs.List.{list_any, filter_map, fold}
 use Rattle.cube_core.specs.Layout.{Layout}
+use Rattle.cube_core.specs.Amendment.{over}
 use Rattle.cube_core.specs.Takes.{takes}
 use Rattle.cube_core.specs.declared.fact.Fact.{Fact}
 use Rattle.cube_core.specs.declared.change.Change.{Change}
-use Rattle.cube_core.specs.declared.change.Change.TheVariants.{Insert, Update, Delete}
+use Rattle.cube_core.specs.declared.change.Change.TheVariants.{Insert, Update, Amend, Delete}
 use Rattle.cube_core.specs.declared.change.LineFault.{LineFault}
 use Rattle.cube_core.specs.declared.change.Item.{Item}
 
@@ -14,6 +15,7 @@ use Rattle.cube_core.specs.declared.change.Item.{Item}
 abbrev pub id_of : Change → List ℕ
 id_of (Insert id fact) = id
 id_of (Update id fact) = id
+id_of (Amend id part) = id
 id_of (Delete id) = id
 
 -- the changes that name an id, in their order
@@ -24,6 +26,7 @@ naming id changes = filter (λ change. bytes_eq id (id_of change)) changes
 abbrev pub is_delete : Change → Bool
 is_delete (Insert id fact) = false
 is_delete (Update id fact) = false
+is_delete (Amend id part) = false
 is_delete (Delete id) = true
 
 -- the changes after the last delete; all of them, where there is none
@@ -32,18 +35,23 @@ since_delete [] = []
 since_delete (change ∷ changes) =
     if list_any is_delete (change ∷ changes) then since_delete changes else change ∷ changes
 
--- the fact of the last update, or else the given one
-abbrev pub last_update : Fact → List Change → Fact
-last_update fact [] = fact
-last_update fact (Insert id other ∷ changes) = last_update fact changes
-last_update fact (Update id other ∷ changes) = last_update other changes
-last_update fact (Delete id ∷ changes) = last_update fact changes
+-- the fact of a present id after a change that takes it not away: an update puts its fact, an amendment some fields of it
+abbrev pub updated_by : Fact → Change → Fact
+updated_by fact (Insert id other) = fact
+updated_by fact (Update id other) = other
+updated_by fact (Amend id part) = over part fact
+updated_by fact (Delete id) = fact
 
--- the fact of the last update after the first insert, or of that insert; nothing, where there is no insert
+-- the fact after all updates and amendments of a list, one over the other
+abbrev pub updated : Fact → List Change → Fact
+updated fact changes = fold updated_by fact changes
+
+-- the fact of the first insert after all updates and amendments that follow it; nothing, where there is no insert
 abbrev pub from_insert : List Change → Option Fact
 from_insert [] = None
-from_insert (Insert id fact ∷ changes) = Some (last_update fact changes)
+from_insert (Insert id fact ∷ changes) = Some (updated fact changes)
 from_insert (Update id fact ∷ changes) = from_insert changes
+from_insert (Amend id part ∷ changes) = from_insert changes
 from_insert (Delete id ∷ changes) = from_insert changes
 
 -- the life of an id: the fact that it has in the end, if it is present then

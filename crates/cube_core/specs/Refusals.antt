@@ -2,47 +2,49 @@
 use Rattle.std.specs.Prelude.{ℕ, Bool, List, length, take, Option, Some, None, is_some, slice_get, Result, Ok, Err, if◌then◌else◌, not, option_map, option_and_then}
 use Rattle.std.specs.List.{filter_map, range_with_len}
 use Rattle.cube_core.specs.Layout.{Layout}
-use Rattle.cube_core.specs.Takes.{takes}
+use Rattle.cube_core.specs.Takes.{takes, may_amend}
 use Rattle.cube_core.specs.Life.{id_of, life_of, changes_of}
 use Rattle.cube_core.specs.declared.change.Change.{Change}
-use Rattle.cube_core.specs.declared.change.Change.TheVariants.{Insert, Update, Delete}
+use Rattle.cube_core.specs.declared.change.Change.TheVariants.{Insert, Update, Amend, Delete}
 use Rattle.cube_core.specs.declared.change.LineFault.{LineFault}
 use Rattle.cube_core.specs.declared.change.LineFault.TheVariants as fault
 use Rattle.cube_core.specs.declared.change.Item.{Item}
 use Rattle.cube_core.specs.declared.change.Refusal.{Refusal}
 
--- the code of a line fault
-abbrev pub code_of_fault : LineFault → ℕ
-code_of_fault fault.Op = 1
-code_of_fault fault.Fields = 2
-code_of_fault fault.Text = 3
-code_of_fault fault.Id = 4
-code_of_fault fault.Measure = 5
+-- the code of an insert of an id that is present: in version 2 the codes are one higher, since a fault of lines is 6 there
+abbrev pub present_code : Layout → ℕ
+present_code s = if may_amend s then 7 else 6
 
--- the code of an insert of an id that is present
-abbrev pub present_code : ℕ
-present_code = 6
-
--- the code of an update or a delete of an id that is absent
-abbrev pub absent_code : ℕ
-absent_code = 7
+-- the code of an update, an amendment or a delete of an id that is absent
+abbrev pub absent_code : Layout → ℕ
+absent_code s = if may_amend s then 8 else 7
 
 -- the code of a change that the schema doesn't take
-abbrev pub shape_code : ℕ
-shape_code = 8
+abbrev pub shape_code : Layout → ℕ
+shape_code s = if may_amend s then 9 else 8
+
+-- the code of a line fault; an insert that keeps a field is a fault of version 2 alone
+abbrev pub code_of_fault : Layout → LineFault → ℕ
+code_of_fault s fault.Op = 1
+code_of_fault s fault.Fields = 2
+code_of_fault s fault.Text = 3
+code_of_fault s fault.Id = 4
+code_of_fault s fault.Measure = 5
+code_of_fault s fault.Keep = if may_amend s then 6 else shape_code s
 
 -- the code of a change of an id that is present or absent, if it is refused
-abbrev pub code_by_presence : Change → Bool → Option ℕ
-code_by_presence (Insert id fact) present = if present then Some present_code else None
-code_by_presence (Update id fact) present = if present then None else Some absent_code
-code_by_presence (Delete id) present = if present then None else Some absent_code
+abbrev pub code_by_presence : Layout → Change → Bool → Option ℕ
+code_by_presence s (Insert id fact) present = if present then Some (present_code s) else None
+code_by_presence s (Update id fact) present = if present then None else Some (absent_code s)
+code_by_presence s (Amend id part) present = if present then None else Some (absent_code s)
+code_by_presence s (Delete id) present = if present then None else Some (absent_code s)
 
 -- the code of what an item says, if it is refused after the items before it
 abbrev pub code_of : Layout → List Item → Result Change LineFault → Option ℕ
-code_of s before (Err line_fault) = Some (code_of_fault line_fault)
+code_of s before (Err line_fault) = Some (code_of_fault s line_fault)
 code_of s before (Ok change) =
-    if not (takes s change) then Some shape_code
-    else code_by_presence change (is_some (life_of (id_of change) (changes_of s before)))
+    if not (takes s change) then Some (shape_code s)
+    else code_by_presence s change (is_some (life_of (id_of change) (changes_of s before)))
 
 -- the refusal of an item after the items before it, if it is refused
 abbrev pub refusal_of : Layout → List Item → Item → Option Refusal

@@ -1,20 +1,20 @@
 -- The schema that a TOML document writes, and the faults of one that writes none (TOML 1.1; the keys, the limits and the order of the faults are this project's choice).
-use Rattle.std.specs.Prelude.{◌≡◌, ◌&&◌, ◌^◌, ℕ, pos, Bool, false, true, not, nat_lt, nat_le, is_some, if◌then◌else◌, List, [], ◌∷◌, ◌++◌, length, map, find, codes, Option, Some, None, option_and_then, option_map, unwrap_or, Result, Ok, Err, IsUtf8, ⊤}
+use Rattle.std.specs.Prelude.{◌≡◌, ◌&&◌, ◌+◌, ◌*◌, ◌^◌, ℕ, pos, Bool, false, true, not, nat_lt, nat_le, is_some, if◌then◌else◌, List, [], ◌∷◌, ◌++◌, length, map, take, filter, find, codes, Option, Some, None, option_and_then, option_map, unwrap_or, Result, Ok, Err, IsUtf8, ⊤}
 use Rattle.std.specs.Str.{bytes_eq}
 use Rattle.std.specs.Option.{option_map_or}
 use Rattle.std.specs.List.{list_all, filter_map, range_with_len}
-use Rattle.toml.specs.Data.{Data, string, integer, as_array, Items, no_items, item, Members, no_members, member, get_member}
+use Rattle.toml.specs.Data.{Data, string, integer, array, as_array, Items, no_items, item, Members, no_members, member, get_member}
 use Rattle.toml.specs.Parse.{parse_document}
 use Rattle.cube_core.specs.Layout.{Layout, is_listed, are_distinct, is_lawful_name, spelling_of}
-use Rattle.cube_core.specs.GroupingSet.{all_sets}
+use Rattle.cube_core.specs.GroupingSet.{all_sets, is_among}
 use Rattle.cube_core.specs.declared.aggregate.Agg.{Agg}
 use Rattle.cube_core.specs.declared.aggregate.Agg.TheVariants.{CountAll, Count, Sum, Min, Max, Avg}
 use Rattle.cube_core.specs.declared.schema_fault.SchemaFault.{SchemaFault}
-use Rattle.cube_core.specs.declared.schema_fault.SchemaFault.TheVariants.{Memory, Toml, UnknownKey, Dimensions, Measures, Name, Aggregates, MaxRecords}
+use Rattle.cube_core.specs.declared.schema_fault.SchemaFault.TheVariants.{Memory, Toml, UnknownKey, Dimensions, Measures, Name, Aggregates, MaxRecords, Grouping, Version}
 
 -- the keys that a document may have
 abbrev pub known_keys : List (List ℕ)
-known_keys = codes "dimensions" ∷ codes "measures" ∷ codes "aggregates" ∷ codes "max_records" ∷ []
+known_keys = codes "dimensions" ∷ codes "measures" ∷ codes "aggregates" ∷ codes "max_records" ∷ codes "grouping" ∷ codes "version" ∷ []
 
 -- whether a document has no other key
 abbrev pub has_known_keys : Members → Bool
@@ -83,9 +83,79 @@ record_limit _ = None
 abbrev pub max_records_in : Members → Option ℕ
 max_records_in document = option_map_or record_limit (get_member (codes "max_records") document) (Some default_max_records)
 
+-- whether names are a set of dimensions: each is one of them, and none stands twice
+abbrev pub is_set_of : List (List ℕ) → List (List ℕ) → Bool
+is_set_of dimensions names = list_all (λ name. is_listed name dimensions) names && are_distinct names
+
+-- the mask of the set that has the dimensions of these names: the sum of 2 to the power d over their places d, from 0
+abbrev pub mask_of_names : List (List ℕ) → List (List ℕ) → ℕ
+mask_of_names [] names = 0
+mask_of_names (dimension ∷ dimensions) names = (if is_listed dimension names then 1 else 0) + 2 * mask_of_names dimensions names
+
+-- the set that names write, where they are one of dimensions
+abbrev pub set_of_names : List (List ℕ) → List (List ℕ) → Option ℕ
+set_of_names dimensions names = if is_set_of dimensions names then Some (mask_of_names dimensions names) else None
+
+-- the set that an item of an array writes, where it is an array of the names of one
+abbrev pub set_of_item : List (List ℕ) → Data → Option ℕ
+set_of_item dimensions value = option_and_then (set_of_names dimensions) (option_and_then texts_of (as_array value))
+
+-- the sets that an array writes, where each of its items writes one
+abbrev pub sets_of_items : List (List ℕ) → Items → Option (List ℕ)
+sets_of_items dimensions no_items = Some []
+sets_of_items dimensions (item value others) = option_and_then (λ set. option_map (λ sets. set ∷ sets) (sets_of_items dimensions others)) (set_of_item dimensions value)
+
+-- whether no set stands twice in a list
+abbrev pub are_distinct_sets : List ℕ → Bool
+are_distinct_sets [] = true
+are_distinct_sets (set ∷ sets) = not (is_among set sets) && are_distinct_sets sets
+
+-- whether sets may stand together: there is one, and none stands twice
+abbrev pub are_lawful_sets : List ℕ → Bool
+are_lawful_sets sets = nat_le 1 (length sets) && are_distinct_sets sets
+
+-- the sets of ROLLUP: for each number of dimensions that of so many first ones (SQL:1999)
+abbrev pub rollup_sets : List (List ℕ) → List ℕ
+rollup_sets dimensions = map (λ first. mask_of_names dimensions (take first dimensions)) (range_with_len 0 (length dimensions + 1))
+
+-- the sets that a text names
+abbrev pub sets_of_word : List (List ℕ) → List ℕ → Option (List ℕ)
+sets_of_word dimensions text =
+    if bytes_eq text (codes "cube") then Some (all_sets (length dimensions))
+    else if bytes_eq text (codes "rollup") then Some (rollup_sets dimensions)
+    else None
+
+-- the sets that a grouping names, by a word or one by one, where it's right; all where there is none
+abbrev pub named_sets : List (List ℕ) → Option Data → Option (List ℕ)
+named_sets dimensions None = Some (all_sets (length dimensions))
+named_sets dimensions (Some (string text)) = sets_of_word dimensions text
+named_sets dimensions (Some (array items)) = option_and_then (λ sets. if are_lawful_sets sets then Some sets else None) (sets_of_items dimensions items)
+named_sets dimensions (Some _) = None
+
+-- of all grouping sets of so many dimensions those that are named
+abbrev pub kept_sets : ℕ → List ℕ → List ℕ
+kept_sets dimensions named = filter (λ set. is_among set named) (all_sets dimensions)
+
+-- the grouping sets that a grouping keeps, where it's right
+abbrev pub sets_of_grouping : List (List ℕ) → Option Data → Option (List ℕ)
+sets_of_grouping dimensions grouping = option_map (kept_sets (length dimensions)) (named_sets dimensions grouping)
+
+-- the grouping sets that the document keeps, where what it says of them is right
+abbrev pub grouping_sets_in : Members → Option (List ℕ)
+grouping_sets_in document = sets_of_grouping (dimensions_in document) (get_member (codes "grouping") document)
+
+-- the version of a feed that a value names: it is 1 or 2
+abbrev pub feed_version : Data → Option ℕ
+feed_version (integer (pos n)) = if nat_le 1 n && nat_le n 2 then Some n else None
+feed_version _ = None
+
+-- the version that the document names, where what it says of it is right; 1 where it says nothing
+abbrev pub version_in : Members → Option ℕ
+version_in document = option_map_or feed_version (get_member (codes "version") document) (Some 1)
+
 -- the faults of a document, in the order in which they are looked for
 abbrev pub document_faults : List SchemaFault
-document_faults = UnknownKey ∷ Dimensions ∷ Measures ∷ Name ∷ Aggregates ∷ MaxRecords ∷ []
+document_faults = UnknownKey ∷ Dimensions ∷ Measures ∷ Name ∷ Aggregates ∷ MaxRecords ∷ Grouping ∷ Version ∷ []
 
 -- whether a document has this fault
 abbrev pub has_fault : Members → SchemaFault → Bool
@@ -97,6 +167,8 @@ has_fault document Measures = not (is_some_up_to 4 (measures_in document))
 has_fault document Name = not (are_lawful_names (dimensions_in document ++ measures_in document))
 has_fault document Aggregates = not (is_some_up_to 16 (spellings_in document) && are_spellings (measures_in document) (spellings_in document))
 has_fault document MaxRecords = not (is_some (max_records_in document))
+has_fault document Grouping = not (is_some (grouping_sets_in document))
+has_fault document Version = not (is_some (version_in document))
 
 -- the first fault of a document
 abbrev pub first_fault : Members → Option SchemaFault
@@ -110,8 +182,8 @@ layout_of document = record {
   aggregates = filter_map (aggregate_spelled (measures_in document)) (spellings_in document);
   aggregate_texts = spellings_in document;
   max_records = unwrap_or (max_records_in document) default_max_records;
-  grouping_sets = all_sets (length (dimensions_in document));
-  version = 1;
+  grouping_sets = unwrap_or (grouping_sets_in document) [];
+  version = unwrap_or (version_in document) 1;
 }
 
 -- what a document says: its first fault, or its schema

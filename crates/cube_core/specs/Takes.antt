@@ -5,7 +5,10 @@ use Rattle.std.specs.List.{list_all}
 use Rattle.cube_core.specs.Layout.{Layout}
 use Rattle.cube_core.specs.declared.fact.Fact.{Fact}
 use Rattle.cube_core.specs.declared.change.Change.{Change}
-use Rattle.cube_core.specs.declared.change.Change.TheVariants.{Insert, Update, Delete}
+use Rattle.cube_core.specs.declared.change.Change.TheVariants.{Insert, Update, Amend, Delete}
+use Rattle.cube_core.specs.declared.partial.Field.{Field}
+use Rattle.cube_core.specs.declared.partial.Field.TheVariants.{Keep, Put}
+use Rattle.cube_core.specs.declared.partial.Partial.{Partial}
 
 -- how a feed writes null, and a report null and ALL: a backslash and a capital N
 abbrev pub null_text : List ℕ
@@ -23,12 +26,29 @@ fits s fact =
     && (length fact.measures == length s.measures)
     && list_all is_dimension_value fact.dims
 
+-- whether a field of an amendment keeps its value or puts one that a dimension may have
+abbrev pub puts_dimension_value : Field (Option (List ℕ)) → Bool
+puts_dimension_value Keep = true
+puts_dimension_value (Put value) = is_dimension_value value
+
+-- whether an amendment has a field for each dimension, where it puts lawful values alone, and one for each measure
+abbrev pub fits_part : Layout → Partial → Bool
+fits_part s part =
+    (length part.dims == length s.dimensions)
+    && (length part.measures == length s.measures)
+    && list_all puts_dimension_value part.dims
+
+-- whether a schema's feeds may amend: those of version 2
+abbrev pub may_amend : Layout → Bool
+may_amend s = s.version == 2
+
 -- whether an id may be given to a fact: any text but the empty one
 abbrev pub is_id : List ℕ → Bool
 is_id id = not (length id == 0)
 
--- whether a schema takes a change: its id is lawful, and its fact, where there is one, fits
+-- whether a schema takes a change: its id is lawful, its fact or its amendment, where there is one, fits, and its feeds may amend, where it is an amendment
 abbrev pub takes : Layout → Change → Bool
 takes s (Insert id fact) = is_id id && fits s fact
 takes s (Update id fact) = is_id id && fits s fact
+takes s (Amend id part) = may_amend s && is_id id && fits_part s part
 takes s (Delete id) = is_id id

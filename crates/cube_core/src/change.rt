@@ -2,6 +2,7 @@
 ghost use Rattle.std.specs.Prelude.{◌≡◌, IfOk};
 
 use crate::fact::Fact;
+use crate::partial::Partial;
 use crate::text::Text;
 use std::alloc::{AllocError, Global};
 use thiserror::Error;
@@ -13,6 +14,8 @@ pub enum Change {
     Insert { id: Text, fact: Fact },
     /// Puts a fact in place of the one under an id that is present.
     Update { id: Text, fact: Fact },
+    /// Puts some values in place of those of the fact under an id that is present; feeds of version 2 alone.
+    Amend { id: Text, part: Partial },
     /// Takes the fact of an id that is present away.
     Delete { id: Text },
 }
@@ -35,6 +38,9 @@ pub enum LineFault {
     /// A measure is neither null nor a number.
     #[error("L5")]
     Measure,
+    /// A field of an insert keeps a value, and there is none.
+    #[error("L6")]
+    Keep,
 }
 
 /// An item of a feed: the number of its record, from 1, and the change that the record spells.
@@ -64,6 +70,10 @@ impl Change {
             Change::Update { id, fact } => Ok(Change::Update {
                 id: id.copy(alloc)?,
                 fact: fact.copy(alloc)?,
+            }),
+            Change::Amend { id, part } => Ok(Change::Amend {
+                id: id.copy(alloc)?,
+                part: part.copy(alloc)?,
             }),
             Change::Delete { id } => Ok(Change::Delete {
                 id: id.copy(alloc)?,

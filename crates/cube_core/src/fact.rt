@@ -36,7 +36,8 @@ fn copy_values(alloc: Global, values: &[Option<Text>]) -> Result<Vec<Option<Text
     Ok(copies)
 }
 
-fn copy_value(alloc: Global, value: &Option<Text>) -> Result<Option<Text>, AllocError>
+/// A copy of a dimension's value.
+pub(crate) fn copy_value(alloc: Global, value: &Option<Text>) -> Result<Option<Text>, AllocError>
     ensures { IfOk result (λ copy. copy ≡ value.now) }
 {
     match value {

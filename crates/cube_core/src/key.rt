@@ -104,7 +104,8 @@ fn copy_coords(alloc: Global, coords: &[Coord]) -> Result<Vec<Coord>, AllocError
     Ok(copies)
 }
 
-fn copy_coord(alloc: Global, coord: &Coord) -> Result<Coord, AllocError>
+/// A copy; the only error is want of memory.
+pub(crate) fn copy_coord(alloc: Global, coord: &Coord) -> Result<Coord, AllocError>
     ensures { IfOk result (λ copy. copy ≡ coord.now) }
 {
     match coord {

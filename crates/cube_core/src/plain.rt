@@ -17,9 +17,10 @@ use answers::answer_of;
 use cells::cell_keys;
 use std::alloc::{AllocError, Global};
 
-/// The rows of CUBE over facts that fit, in key order; the only error is want of memory.
+/// The rows of the cube of facts that fit, over the schema's grouping sets, in key order; the only error is want of
+/// memory.
 ///
-/// The grand total has its row over no facts too.
+/// The grand total has its row over no facts too, where its set is kept.
 pub fn plain_rows(alloc: Global, schema: &Schema, facts: &[Fact]) -> Result<Vec<Row>, AllocError>
     requires { list_all (fits schema.now) facts.now ≡ true }
     ensures { IfOk result (λ rows. AreRows schema.now facts.now rows.items) }

@@ -1,12 +1,15 @@
 //! The schema of a cube.
-ghost use Rattle.std.specs.Prelude.{◌≡◌, IfOk};
+ghost use Rattle.std.specs.Prelude.{◌≡◌, ◌≤◌, ◌<◌, ◌^◌, IfOk, length};
 ghost use Rattle.std.specs.List.{list_all};
-ghost use Rattle.cube_core.specs.Layout.{IsSchema, sample_layout};
-ghost use Rattle.cube_core.specs.Takes.{fits, takes, is_id, is_dimension_value};
+ghost use Rattle.cube_core.specs.Layout.{IsSchema, sample_layout, keeps};
+ghost use Rattle.cube_core.specs.Takes.{fits, fits_part, takes, is_id, is_dimension_value, puts_dimension_value};
+ghost use Rattle.cube_core.specs.GroupingSet.{is_among, mask_of_coords};
 
 use crate::aggregate::Agg;
 use crate::change::Change;
 use crate::fact::Fact;
+use crate::partial::{Field, Partial};
+use crate::key::{Coord, Key};
 use crate::text::{Text, copy_texts};
 use std::alloc::{AllocError, Global};
 use std::marker::Model;
@@ -17,13 +20,13 @@ use std::marker::Model;
 /// All names differ, and none is empty, `op`, `id` or `*`.
 #[derive(Debug, Drop)]
 pub struct Schema {
-    dimensions: Vec<Text>,
-    measures: Vec<Text>,
-    aggregates: Vec<Agg>,
-    aggregate_texts: Vec<Text>,
-    max_records: u32,
-    grouping_sets: Vec<u8>,
-    version: u32,
+    pub(crate) dimensions: Vec<Text>,
+    pub(crate) measures: Vec<Text>,
+    pub(crate) aggregates: Vec<Agg>,
+    pub(crate) aggregate_texts: Vec<Text>,
+    pub(crate) max_records: u32,
+    pub(crate) grouping_sets: Vec<u8>,
+    pub(crate) version: u32,
 }
 
 impl Model for Schema {
@@ -72,46 +75,6 @@ impl Schema {
             grouping_sets: sample_sets(alloc)?,
             version: 1,
         })
-    }
-
-    /// The schema of parts that make one.
-    pub(crate) fn from_parts(
-        dimensions: Vec<Text>,
-        measures: Vec<Text>,
-        aggregates: Vec<Agg>,
-        aggregate_texts: Vec<Text>,
-        max_records: u32,
-        grouping_sets: Vec<u8>,
-        version: u32,
-    ) -> Schema
-        requires { IsSchema (record {
-          dimensions = dimensions.items;
-          measures = measures.items;
-          aggregates = aggregates.items;
-          aggregate_texts = aggregate_texts.items;
-          max_records = max_records;
-          grouping_sets = grouping_sets.items;
-          version = version;
-        }) }
-        ensures { result ≡ record {
-          dimensions = dimensions.items;
-          measures = measures.items;
-          aggregates = aggregates.items;
-          aggregate_texts = aggregate_texts.items;
-          max_records = max_records;
-          grouping_sets = grouping_sets.items;
-          version = version;
-        } }
-    {
-        Schema {
-            dimensions,
-            measures,
-            aggregates,
-            aggregate_texts,
-            max_records,
-            grouping_sets,
-            version,
-        }
     }
 
     /// A copy; the only error is want of memory.
@@ -186,6 +149,16 @@ impl Schema {
         self.version
     }
 
+    /// Whether the schema keeps the grouping set of a key: the set of dimensions that aren't ALL in it. The key
+    /// has a coordinate for each dimension.
+    pub fn keeps(&self, key: &Key) -> bool
+        requires { length key.now.coords ≡ length self.now.dimensions }
+        ensures { result ≡ keeps self.now key.now }
+    {
+        let sets = self.grouping_sets();
+        is_among(mask_of_coords(key.coords.as_slice()), sets)
+    }
+
     /// Whether a fact has this schema's numbers of dimensions and measures, and no dimension text `\N`, which
     /// would read as null.
     pub fn fits(&self, fact: &Fact) -> bool
@@ -196,16 +169,45 @@ impl Schema {
             && are_dimension_values(fact.dims.as_slice())
     }
 
-    /// Whether a change has an id that isn't empty and, where it has a fact, one that fits.
+    /// Whether a change has an id that isn't empty and, where it has a fact, one that fits; an amendment is taken in
+    /// version 2 alone, with this schema's numbers of fields and no dimension text `\N`.
     pub fn takes(&self, change: &Change) -> bool
         ensures { result ≡ takes self.now change.now }
     {
         match change {
             Change::Insert { id, fact } => is_id(id) && self.fits(fact),
             Change::Update { id, fact } => is_id(id) && self.fits(fact),
+            Change::Amend { id, part } => self.version == 2 && is_id(id) && self.fits_part(part),
             Change::Delete { id } => is_id(id),
         }
     }
+
+    fn fits_part(&self, part: &Partial) -> bool
+        ensures { result ≡ fits_part self.now part.now }
+    {
+        part.dims.len() == self.dimensions.len()
+            && part.measures.len() == self.measures.len()
+            && put_dimension_values(part.dims.as_slice())
+    }
+}
+
+// The mask of coordinates, which are at most 8.
+#[tactic(auto, using(crate::proofs::PlainKeys::mask_of_eight))]
+fn mask_of_coords(coords: &[Coord]) -> u32
+    requires { length coords.now ≤ 8 }
+    ensures { result ≡ mask_of_coords coords.now }
+{
+    let Some((coord, others)) = coords.split_first() else {
+        return 0;
+    };
+    let bit = if matches!(coord, Coord::All) { 0 } else { 1 };
+    bit + 2 * mask_of_coords(others)
+}
+
+fn is_among(set: u32, sets: &[u8]) -> bool
+    ensures { result ≡ is_among set sets.now }
+{
+    sets.iter().any(|other| u32::from(*other) == set)
 }
 
 fn is_id(id: &Text) -> bool
@@ -218,6 +220,21 @@ fn are_dimension_values(values: &[Option<Text>]) -> bool
     ensures { result ≡ list_all is_dimension_value values.now }
 {
     values.iter().all(|value| is_dimension_value(value))
+}
+
+fn put_dimension_values(fields: &[Field<Option<Text>>]) -> bool
+    ensures { result ≡ list_all puts_dimension_value fields.now }
+{
+    fields.iter().all(|field| puts_dimension_value(field))
+}
+
+fn puts_dimension_value(field: &Field<Option<Text>>) -> bool
+    ensures { result ≡ puts_dimension_value field.now }
+{
+    match field {
+        Field::Keep => true,
+        Field::Put(value) => is_dimension_value(value),
+    }
 }
 
 fn is_dimension_value(value: &Option<Text>) -> bool

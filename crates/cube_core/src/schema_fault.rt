@@ -29,6 +29,13 @@ pub enum SchemaFault {
     /// The number of data records is no whole number from 1 to 4294967295.
     #[error("S8")]
     MaxRecords,
+    /// The grouping is neither `cube` nor `rollup` nor an array of at least one array of names of dimensions, or a
+    /// name stands twice in its set, or two sets are equal.
+    #[error("S9")]
+    Grouping,
+    /// The version of the feeds is neither 1 nor 2.
+    #[error("S10")]
+    Version,
 }
 
 impl From<AllocError> for SchemaFault {

@@ -1,13 +1,13 @@
 //! Reads a schema from a TOML document.
-ghost use Rattle.std.specs.Prelude.{◌≡◌, ◌≢◌, ◌≤◌, ℕ, List, ◌++◌, codes, false, true, IfOk, MatchOption, option_map, position};
+ghost use Rattle.std.specs.Prelude.{◌≡◌, ◌≢◌, ℕ, List, ◌++◌, codes, false, true, IfOk, MatchOption, option_map, position};
 ghost use Rattle.std.specs.Str.{bytes_eq};
 ghost use Rattle.std.specs.List.{list_all, filter_map};
 ghost use Rattle.toml.specs.Data.{get_member};
 ghost use Rattle.toml.specs.View.{view, table_view, items_view};
-ghost use Rattle.cube_core.specs.GroupingSet.{all_sets};
 ghost use Rattle.cube_core.specs.Layout.{is_listed, are_distinct, is_lawful_name};
-ghost use Rattle.cube_core.specs.SchemaDocument.{AnswersBytes, AnswersDocument, known_keys, has_known_keys, texts_of, texts_at, texts_in, is_some_up_to, are_lawful_names, aggregate_spelled, are_spellings, record_limit, max_records_in};
+ghost use Rattle.cube_core.specs.SchemaDocument.{AnswersBytes, AnswersDocument, known_keys, has_known_keys, texts_of, texts_at, texts_in, is_some_up_to, are_lawful_names, aggregate_spelled, are_spellings, record_limit, max_records_in, feed_version, version_in};
 
+mod grouping;
 #[cfg(test)]
 mod tests;
 
@@ -15,12 +15,18 @@ use crate::aggregate::Agg;
 use crate::schema::Schema;
 use crate::schema_fault::SchemaFault;
 use crate::text::Text;
+use grouping::sets_of_grouping;
 use std::alloc::{AllocError, Global};
 use toml::{Table, Value};
 
 impl Schema {
-    /// The schema that a TOML document writes: the arrays of texts `dimensions`, `measures` and `aggregates`, and
-    /// the whole number `max_records`, which is 4294967295 where the document doesn't give it.
+    /// The schema that a TOML document writes: the arrays of texts `dimensions`, `measures` and `aggregates`, the
+    /// whole number `max_records`, which is 4294967295 where the document doesn't give it, the `grouping`, and the
+    /// `version` of the feeds, which is 1 where the document doesn't give it.
+    ///
+    /// The grouping is `cube` for all grouping sets, as where the document doesn't give it, `rollup` for those of
+    /// the first dimensions, from none to all, or an array of sets, each an array of names of dimensions in any
+    /// order, the empty one for the grand total (SQL:1999).
     ///
     /// The error is the first fault of the document, or want of memory, which says nothing of the document.
     pub fn from_toml(alloc: Global, bytes: &[u8]) -> Result<Schema, SchemaFault>
@@ -59,16 +65,22 @@ fn schema_of(alloc: Global, document: &Table) -> Result<Schema, SchemaFault>
     let Some(max_records) = max_records_in(document) else {
         return Err(SchemaFault::MaxRecords);
     };
-    let grouping_sets = all_sets(alloc, dimensions.len())?;
-    Ok(Schema::from_parts(
+    let grouping = value_at(document, "grouping");
+    let Some(grouping_sets) = sets_of_grouping(alloc, &dimensions, grouping)? else {
+        return Err(SchemaFault::Grouping);
+    };
+    let Some(version) = version_in(document) else {
+        return Err(SchemaFault::Version);
+    };
+    Ok(Schema {
         dimensions,
         measures,
         aggregates,
         aggregate_texts,
         max_records,
         grouping_sets,
-        1,
-    ))
+        version,
+    })
 }
 
 /// Whether a document has only keys that a schema has.
@@ -88,7 +100,7 @@ fn is_known_key(key: &str) -> bool
 {
     matches!(
         key,
-        "dimensions" | "measures" | "aggregates" | "max_records"
+        "dimensions" | "measures" | "aggregates" | "max_records" | "grouping" | "version"
     )
 }
 
@@ -240,7 +252,8 @@ fn argument_of<'t>(opening: &str, text: &'t str) -> Option<&'t str>
     text.strip_prefix(opening)?.strip_suffix(')')
 }
 
-fn position_of(names: &[Text], name: &str) -> Option<usize>
+/// The first place of a name.
+pub(crate) fn position_of(names: &[Text], name: &str) -> Option<usize>
     ensures { result ≡ position (λ other. bytes_eq other name.now) names.now }
 {
     names.iter().position(|other| other.as_str() == name)
@@ -256,22 +269,30 @@ fn max_records_in(document: &Table) -> Option<u32>
     }
 }
 
-/// The masks of all grouping sets of so many dimensions.
-fn all_sets(alloc: Global, dimensions: usize) -> Result<Vec<u8>, AllocError>
-    requires { dimensions ≤ 8 }
-    ensures { IfOk result (λ sets. sets.items ≡ all_sets dimensions) }
-{
-    let count = 1u32 << dimensions;
-    let mut sets = Vec::with_capacity(alloc, count as usize)?;
-    for set in 0..count {
-        sets.push(set as u8)?;
-    }
-    Ok(sets)
-}
-
 fn record_limit(value: &Value) -> Option<u32>
     ensures { result ≡ record_limit (view value.now) }
 {
     let limit = u32::try_from(value.as_integer()?).ok()?;
     if limit == 0 { None } else { Some(limit) }
+}
+
+/// The version of the feeds that a document names, 1 or 2; None where what it says of it is wrong.
+fn version_in(document: &Table) -> Option<u32>
+    ensures { result ≡ version_in (table_view document.now) }
+{
+    match value_at(document, "version") {
+        Some(value) => feed_version(value),
+        None => Some(1),
+    }
+}
+
+fn feed_version(value: &Value) -> Option<u32>
+    ensures { result ≡ feed_version (view value.now) }
+{
+    let version = u32::try_from(value.as_integer()?).ok()?;
+    if version == 1 || version == 2 {
+        Some(version)
+    } else {
+        None
+    }
 }

@@ -3,8 +3,7 @@ use Rattle.std.proofs.Common.{◌≡◌, ◌<◌, ◌≤◌, ◌+◌, ◌-◌, �
 use Rattle.std.specs.Prelude.{zero, suc, slice_range, IsUtf8}
 use Rattle.std.specs.Str.{is_utf8, IsAscii}
 use Rattle.std.specs.List.{list_all, filter_map}
-use Rattle.cube_core.specs.Items.{dimension_of, measure_of}
-use Rattle.cube_feed.specs.Lines.{is_sound_measure}
+use Rattle.cube_feed.specs.Lines.{is_sound}
 use Rattle.std.proofs.lemmas.Str.{IsUtf8-from_is_utf8, IsUtf8-from_ascii, IsAscii-take, IsAscii-drop}
 use Rattle.std.proofs.lemmas.Bool.{and_left, and_right}
 use Rattle.csv.specs.Records as csv
@@ -42,39 +41,29 @@ part_cons fields place end h k =
 pub part_nil : (fields : List (List ℕ)) (place end : ℕ) → end ≤ place → slice_range fields place end ≡ []
 part_nil fields place end h = let none : end - place ≡ 0 = omega arith in rw none refl
 
--- one more value of a dimension
-pub dimension_more : (fields : List (List ℕ)) (place end : ℕ) (text : List ℕ) (value : Option (List ℕ)) (values whole : List (Option (List ℕ))) (texts : Bool)
-    → place < end → end ≤ length fields → text ≡ get_or fields place [] → is_utf8 (get_or fields place []) ≡ true → value ≡ dimension_of text
-    → list_all is_utf8 (slice_range fields place end) ≡ texts → values ++ map dimension_of (slice_range fields place end) ≡ whole
-    → (list_all is_utf8 (slice_range fields (place + 1) end) ≡ texts) × ((values ++ value ∷ []) ++ map dimension_of (slice_range fields (place + 1) end) ≡ whole)
-dimension_more fields place end text value values whole texts h k is sound v t w =
-    let next = rw (part_cons fields place end h k, sound) at t in
-    let more = rw (part_cons fields place end h k) at w in
-    (next, rw (v, is, append_assoc values (dimension_of (get_or fields place []) ∷ []) (map dimension_of (slice_range fields (place + 1) end))) more)
+-- a part with a field that isn't sound
+pub sound_fails : {A : Type 0} (spells : List ℕ → Option A) (fields : List (List ℕ)) (place end : ℕ) (all : Bool)
+    → place < end → end ≤ length fields → is_sound spells (get_or fields place []) ≡ false
+    → list_all (is_sound spells) (slice_range fields place end) ≡ all → all ≡ false
+sound_fails spells fields place end all h k fails t = sym (rw (part_cons fields place end h k, fails) at t)
 
--- a part with a field that isn't UTF-8
-pub text_fails : (fields : List (List ℕ)) (place end : ℕ) (field : List ℕ) (test : List ℕ → Bool) (all : Bool)
-    → place < end → end ≤ length fields → field ≡ get_or fields place [] → test field ≡ false
-    → list_all test (slice_range fields place end) ≡ all → all ≡ false
-text_fails fields place end field test all h k is fails t = sym (rw (part_cons fields place end h k, rw is at fails) at t)
-
--- one more value of a measure
-pub measure_more : (fields : List (List ℕ)) (place end : ℕ) (text : List ℕ) (value : Option ℤ) (values whole : List (Option ℤ)) (all : Bool)
-    → place < end → end ≤ length fields → text ≡ get_or fields place [] → is_utf8 (get_or fields place []) ≡ true → Some value ≡ measure_of text
-    → list_all is_sound_measure (slice_range fields place end) ≡ all → values ++ filter_map measure_of (slice_range fields place end) ≡ whole
-    → (list_all is_sound_measure (slice_range fields (place + 1) end) ≡ all) × ((values ++ value ∷ []) ++ filter_map measure_of (slice_range fields (place + 1) end) ≡ whole)
-measure_more fields place end text value values whole all h k is sound v t w =
+-- one more value
+pub value_more : {A : Type 0} (spells : List ℕ → Option A) (fields : List (List ℕ)) (place end : ℕ) (text : List ℕ) (value : A) (values whole : List A) (all : Bool)
+    → place < end → end ≤ length fields → text ≡ get_or fields place [] → is_utf8 (get_or fields place []) ≡ true → Some value ≡ spells text
+    → list_all (is_sound spells) (slice_range fields place end) ≡ all → values ++ filter_map spells (slice_range fields place end) ≡ whole
+    → (list_all (is_sound spells) (slice_range fields (place + 1) end) ≡ all) × ((values ++ value ∷ []) ++ filter_map spells (slice_range fields (place + 1) end) ≡ whole)
+value_more spells fields place end text value values whole all h k is sound v t w =
     let lawful = rw is at (sym v) in
     let next = rw (part_cons fields place end h k, sound, lawful) at t in
     let more = rw (part_cons fields place end h k, lawful) at w in
-    (next, rw (append_assoc values (value ∷ []) (filter_map measure_of (slice_range fields (place + 1) end))) more)
+    (next, rw (append_assoc values (value ∷ []) (filter_map spells (slice_range fields (place + 1) end))) more)
 
--- a field that isn't UTF-8 is no sound measure, and neither is a text that is no measure
-pub unsound_text : (field : List ℕ) → is_utf8 field ≡ false → is_sound_measure field ≡ false
-unsound_text field h = and_left _ _ h
+-- a field that isn't UTF-8 is not sound, and neither is a text that spells no value
+pub unsound_text : {A : Type 0} (spells : List ℕ → Option A) (field : List ℕ) → is_utf8 field ≡ false → is_sound spells field ≡ false
+unsound_text spells field h = and_left _ _ h
 
-pub unsound_number : (field text : List ℕ) → text ≡ field → None ≡ measure_of text → is_sound_measure field ≡ false
-unsound_number field text is h = let none = rw is at (sym h) in rw none (and_right _ _ refl)
+pub unsound_value : {A : Type 0} (spells : List ℕ → Option A) (field text : List ℕ) → text ≡ field → None ≡ spells text → is_sound spells field ≡ false
+unsound_value spells field text is h = let none = rw is at (sym h) in rw none (and_right _ _ refl)
 
 -- each field of a record of ASCII is ASCII
 ascii_fields : (start : ℕ) (ends bytes : List ℕ) (place : ℕ) → IsAscii bytes → IsAscii (get_or (csv.cut_from start ends bytes) place [])

@@ -1,38 +1,24 @@
--- What a record of the right width spells, by its parts.
-use Rattle.std.proofs.Common.{◌≡◌, ◌<◌, ◌≤◌, ◌+◌, ◌-◌, ℕ, Bool, true, false, List, [], ◌∷◌, ◌++◌, length, get_or, drop, refl, sym, ap, ◌∙◌, arith, drop-cons}
-use Rattle.std.specs.Prelude.{◌&&◌, ◌==◌, not, codes, slice_range, Result}
+-- What a record spells, by its parts.
+use Rattle.std.proofs.Common.{◌≡◌, ◌<◌, ◌≤◌, ◌+◌, ◌-◌, ℕ, ℤ, Bool, true, false, List, [], ◌∷◌, ◌++◌, length, get_or, drop, map, refl, sym, ap, ◌∙◌, inl, inr, arith, drop-cons}
+use Rattle.std.specs.Prelude.{◌&&◌, ◌==◌, not, slice_range, Option, Some, None, is_some, option_map, Result, Ok, Err, if◌then◌else◌}
 use Rattle.std.specs.Str.{bytes_eq, is_utf8}
-use Rattle.std.specs.List.{list_all}
+use Rattle.std.specs.List.{list_all, list_any, filter_map}
 use Rattle.std.proofs.lemmas.List.{take-append-drop, drop-drop, take_all, length-drop}
-use Rattle.std.proofs.lemmas.Bool.{and_left, and_right}
+use Rattle.std.proofs.lemmas.Bool.{cases_Bool, and_from, and_left, and_right, eqb-true, eq-eqb, ne_eqb}
 use Rattle.std.proofs.lemmas.List.Folds.{list_all-append}
 use Rattle.cube_core.specs.Layout.{Layout}
-use Rattle.cube_core.specs.Items.{width_of, field_at, is_measure, put_of, change_of}
+use Rattle.cube_core.specs.Takes.{may_amend}
+use Rattle.cube_core.specs.Items.{width_of, field_at, keep_text, is_keep, keeps_any, is_measure, dimension_of, dimension_field_of, measure_of, measure_field_of, dimension_fields, measure_fields, fact_of, part_of, put_of, insert_of, update_of}
+use Rattle.cube_core.proofs.ItemLaws.{is_measure-value, keeps_any-measures, may_amend-keeps}
+use Rattle.cube_core.specs.declared.fact.Fact.{Fact}
+use Rattle.cube_core.specs.declared.partial.Field.{Field}
+use Rattle.cube_core.specs.declared.partial.Field.TheVariants.{Keep, Put}
+use Rattle.cube_core.specs.declared.partial.Partial.{Partial}
 use Rattle.cube_core.specs.declared.change.Change.{Change}
-use Rattle.cube_core.specs.declared.change.Change.TheVariants.{Insert, Update}
+use Rattle.cube_core.specs.declared.change.Change.TheVariants.{Insert, Update, Amend}
 use Rattle.cube_core.specs.declared.change.LineFault.{LineFault}
-use Rattle.cube_feed.specs.Lines.{is_sound_id, is_sound_measure, is_sound}
-
--- an insert says what it puts
-pub insert_says : (s : Layout) (fields : List (List ℕ)) (what : Result Change LineFault)
-    → bytes_eq (field_at fields 0) (codes "I") ≡ true → put_of Insert s fields ≡ what → what ≡ change_of s fields
-insert_says s fields what letter h = rw letter (sym h)
-
--- and so does an update
-pub update_says : (s : Layout) (fields : List (List ℕ)) (what : Result Change LineFault)
-    → bytes_eq (field_at fields 0) (codes "I") ≡ false → bytes_eq (field_at fields 0) (codes "U") ≡ true
-    → put_of Update s fields ≡ what → what ≡ change_of s fields
-update_says s fields what other letter h = rw (other, letter) (sym h)
-
--- the same tests in another order
-shuffled : (a b c d e : Bool) → ((a && (b && c)) && d && e) ≡ (((a && d) && b) && (c && e))
-shuffled false b c d e = refl
-shuffled true false c false e = refl
-shuffled true false c true e = refl
-shuffled true true false false e = refl
-shuffled true true false true e = refl
-shuffled true true true false e = refl
-shuffled true true true true e = refl
+use Rattle.cube_core.specs.declared.change.LineFault.TheVariants as fault
+use Rattle.cube_feed.specs.Lines.{is_sound_id, is_sound, are_sound, read_of}
 
 -- two tests of each field
 both_tests : (p q : List ℕ → Bool) (fields : List (List ℕ)) → list_all (λ field. p field && q field) fields ≡ (list_all p fields && list_all q fields)
@@ -58,41 +44,198 @@ parts_of fields first_measure h k =
 pub part_to_end : (fields : List (List ℕ)) (start : ℕ) → slice_range fields start (length fields) ≡ drop start fields
 part_to_end fields start = take_all (length fields - start) (drop start fields) (omega (arith, length-drop start fields))
 
--- the test of all fields, by their parts
-sound_parts : (s : Layout) (fields : List (List ℕ)) → length fields ≡ width_of s
-    → is_sound s fields ≡ ((is_sound_id (field_at fields 1) && list_all is_utf8 (slice_range fields 2 (2 + length s.dimensions)))
-    && list_all is_sound_measure (slice_range fields (2 + length s.dimensions) (length fields)))
-sound_parts s fields h =
-    let first_measure = 2 + length s.dimensions in
-    let dims = slice_range fields 2 first_measure in
-    let measures = drop first_measure fields in
-    let id = field_at fields 1 in
-    rw (
-      parts_of fields first_measure (omega arith) (omega arith),
-      list_all-append is_utf8 dims measures,
-      part_to_end fields first_measure,
-      both_tests is_utf8 is_measure measures,
-    ) (shuffled (is_utf8 id) (list_all is_utf8 dims) (list_all is_utf8 measures) (not (length id == 0)) (list_all is_measure measures))
+-- the fields of the dimensions are those after the id
+pub dimension_part : (s : Layout) (fields : List (List ℕ)) → slice_range fields 2 (2 + length s.dimensions) ≡ dimension_fields s fields
+dimension_part s fields = let count : (2 + length s.dimensions) - 2 ≡ length s.dimensions = omega arith in rw count refl
 
--- a record whose dimensions aren't all UTF-8
-pub unsound_dimensions : (s : Layout) (fields : List (List ℕ)) (names : List (List ℕ)) → length fields ≡ width_of s → names ≡ s.dimensions
-    → list_all is_utf8 (slice_range fields 2 (2 + length names)) ≡ false → is_sound s fields ≡ false
-unsound_dimensions s fields names h is bad =
-    let dims = rw is at bad in
-    rw (sound_parts s fields h, dims) (and_left _ _ (and_right _ _ refl))
+-- what an answer to a reading says: the fault, or what follows from the parts
+abbrev pub then_say : {X : Type 0} → Result X LineFault → (X → Result Change LineFault) → Result Change LineFault
+then_say (Ok parts) answer = answer parts
+then_say (Err why) answer = Err why
 
--- a record whose measures aren't all sound
-pub unsound_measures : (s : Layout) (fields : List (List ℕ)) (names : List (List ℕ)) (fields_end : ℕ) → length fields ≡ width_of s → names ≡ s.dimensions → fields_end ≡ length fields
-    → list_all is_sound_measure (slice_range fields (2 + length names) fields_end) ≡ false → is_sound s fields ≡ false
-unsound_measures s fields names fields_end h is end bad =
-    let measures = rw (is, end) at bad in
-    rw (sound_parts s fields h, measures) (and_right _ _ refl)
+-- a filter map that gives something of each item is sound of each that is UTF-8
+sound_always : {A : Type 0} (spells : List ℕ → Option A) → ((field : List ℕ) → is_some (spells field) ≡ true) → (fields : List (List ℕ))
+    → list_all (is_sound spells) fields ≡ list_all is_utf8 fields
+sound_always spells always [] = refl
+sound_always spells always (field ∷ fields) = rw (always field, sound_always spells always fields) (ap (λ b. b && list_all is_utf8 fields) (and-true (is_utf8 field)))
+  where
+    and-true : (b : Bool) → (b && true) ≡ b
+    and-true true = refl
+    and-true false = refl
+
+-- the first fault of a record is the same, whether its fields are looked at one by one or test by test
+same_fault : {X : Type 0} (id dims measures empty lawful : Bool) (parts : X) (answer : X → Result Change LineFault)
+    → then_say (if not (((id && not empty) && dims) && (measures && lawful))
+    then Err (if not (id && (dims && measures)) then fault.Text else if empty then fault.Id else fault.Measure) else Ok parts) answer
+    ≡ (if not (id && (dims && measures)) then Err fault.Text
+    else if empty then Err fault.Id else if not lawful then Err fault.Measure else answer parts)
+same_fault false dims measures empty lawful parts answer = refl
+same_fault true false measures true lawful parts answer = refl
+same_fault true false measures false lawful parts answer = refl
+same_fault true true false true lawful parts answer = refl
+same_fault true true false false lawful parts answer = refl
+same_fault true true true true lawful parts answer = refl
+same_fault true true true false true parts answer = refl
+same_fault true true true false false parts answer = refl
+
+-- what is read of a record says what the record spells, where each text is a dimension and the measures are those of the schema
+read_of-put_of : {D M : Type 0} (dimension : List ℕ → Option D) (measure : List ℕ → Option M) (s : Layout) (fields : List (List ℕ))
+    → (answer : List ℕ × List D × List M → Result Change LineFault)
+    → ((field : List ℕ) → is_some (dimension field) ≡ true)
+    → list_all (is_measure s) (measure_fields s fields) ≡ list_all (λ field. is_some (measure field)) (measure_fields s fields)
+    → then_say (read_of dimension measure s fields) answer
+    ≡ put_of (answer (field_at fields 1, filter_map dimension (dimension_fields s fields), filter_map measure (measure_fields s fields))) s fields
+read_of-put_of dimension measure s fields answer always alike =
+    let id : List ℕ = field_at fields 1 in
+    let dims : List (List ℕ) = dimension_fields s fields in
+    let measures : List (List ℕ) = measure_fields s fields in
+    elim (cases_Bool (length fields == width_of s)) [
+      | inl right ↦
+          let long : length fields ≡ width_of s = eqb-true _ _ right in
+          let texts : list_all is_utf8 (drop 1 fields) ≡ (is_utf8 id && (list_all is_utf8 dims && list_all is_utf8 measures)) =
+          ap (list_all is_utf8) (parts_of fields (2 + length s.dimensions) (omega arith) (omega arith) ∙ ap (λ part. id ∷ (part ++ measures)) (dimension_part s fields))
+          ∙ ap (λ b. is_utf8 id && b) (list_all-append is_utf8 dims measures) in
+          rw (right, texts, sound_always dimension always dims, both_tests is_utf8 (λ field. is_some (measure field)) measures, alike)
+          (same_fault (is_utf8 id) (list_all is_utf8 dims) (list_all is_utf8 measures) (length id == 0) (list_all (λ field. is_some (measure field)) measures)
+          (id, filter_map dimension dims, filter_map measure measures) answer)
+      | inr wrong ↦ rw wrong refl
+    ]
+
+-- a filter map that gives something of each item is a map
+filter_map-some : {A B : Type 0} (spells : A → Option B) (value : A → B) → ((x : A) → spells x ≡ Some (value x)) → (xs : List A) → filter_map spells xs ≡ map value xs
+filter_map-some spells value some [] = refl
+filter_map-some spells value some (x ∷ xs) = rw (some x) (ap (λ values. value x ∷ values) (filter_map-some spells value some xs))
+
+-- only in version 2 a field may keep a value
+keeps_any-parts : (s : Layout) (fields : List (List ℕ)) → (may_amend s && list_any (λ field. bytes_eq field keep_text) fields) ≡ list_any (is_keep s) fields
+keeps_any-parts s fields = elim (cases_Bool (may_amend s)) [
+  | inl amends ↦ rw amends (same amends fields)
+  | inr never ↦ rw never (none never fields)
+]
+  where
+    same : may_amend s ≡ true → (fs : List (List ℕ)) → list_any (λ field. bytes_eq field keep_text) fs ≡ list_any (is_keep s) fs
+    same amends [] = refl
+    same amends (f ∷ fs) = rw (amends, same amends fs) refl
+
+    none : may_amend s ≡ false → (fs : List (List ℕ)) → false ≡ list_any (is_keep s) fs
+    none never [] = refl
+    none never (f ∷ fs) = rw never (none never fs)
+
+-- so a field keeps its value where the version is 2 and a field says so, and none does in the other version
+pub keeps_some : (s : Layout) (fields : List (List ℕ)) (version : ℕ) (some : Bool) → version ≡ s.version → version ≡ 2
+    → some ≡ list_any (λ field. bytes_eq field keep_text) (drop 2 fields) → some ≡ keeps_any s fields
+keeps_some s fields version some is two found =
+    let amends : may_amend s ≡ true = eq-eqb _ _ (sym is ∙ two) in
+    found ∙ ap (λ b. b && list_any (λ field. bytes_eq field keep_text) (drop 2 fields)) (sym amends) ∙ keeps_any-parts s (drop 2 fields)
+
+pub keeps_none : (s : Layout) (fields : List (List ℕ)) (version : ℕ) → version ≡ s.version → (version ≡ 2 → ⊥) → (version == 2) ≡ keeps_any s fields
+keeps_none s fields version is other =
+    let never : may_amend s ≡ false = ne_eqb _ _ (λ two. other (is ∙ two)) in
+    ne_eqb version 2 other
+    ∙ ap (λ b. b && list_any (λ field. bytes_eq field keep_text) (drop 2 fields)) (sym never) ∙ keeps_any-parts s (drop 2 fields)
+
+-- what a feed of version 2 puts in a dimension and in a measure
+abbrev pub dimension_put : List ℕ → Option (Field (Option (List ℕ)))
+dimension_put text = if bytes_eq text keep_text then Some Keep else option_map Put (Some (dimension_of text))
+
+abbrev pub measure_put : List ℕ → Option (Field (Option ℤ))
+measure_put text = if bytes_eq text keep_text then Some Keep else option_map Put (measure_of text)
+
+-- a record without a kept field spells a fact
+fact_says : (s : Layout) (fields : List (List ℕ)) → keeps_any s fields ≡ false
+    → (read : Result (List ℕ × List (Option (List ℕ)) × List (Option ℤ)) LineFault) → read ≡ read_of (λ text. Some (dimension_of text)) measure_of s fields
+    → (change : List ℕ → Fact → Change)
+    → then_say read (λ parts. Ok (change parts.0 (record { dims = parts.1; measures = parts.2 })))
+    ≡ put_of (Ok (change (field_at fields 1) (fact_of s fields))) s fields
+fact_says s fields none read is change =
+    let dims = filter_map-some (λ text. Some (dimension_of text)) dimension_of (λ text. refl) (dimension_fields s fields) in
+    let said : List ℕ × List (Option (List ℕ)) × List (Option ℤ) → Result Change LineFault = λ parts. Ok (change parts.0 (record { dims = parts.1; measures = parts.2 })) in
+    ap (λ r. then_say r said) is
+    ∙ read_of-put_of (λ text. Some (dimension_of text)) measure_of s fields said (λ text. refl)
+    (is_measure-value s (measure_fields s fields) (keeps_any-measures s fields none))
+    ∙ ap (λ (values : List (Option (List ℕ))). put_of (said (field_at fields 1, values, filter_map measure_of (measure_fields s fields))) s fields) dims
+
+-- a record with a kept field spells an amendment, or nothing where there is nothing to amend
+part_says : (s : Layout) (fields : List (List ℕ)) → keeps_any s fields ≡ true
+    → (read : Result (List ℕ × List (Field (Option (List ℕ))) × List (Field (Option ℤ))) LineFault) → read ≡ read_of dimension_put measure_put s fields
+    → (said : List ℕ → Partial → Result Change LineFault)
+    → then_say read (λ parts. said parts.0 (record { dims = parts.1; measures = parts.2 })) ≡ put_of (said (field_at fields 1) (part_of s fields)) s fields
+part_says s fields keeps read is said =
+    let amends : may_amend s ≡ true = may_amend-keeps s (drop 2 fields) keeps in
+    let dims : filter_map dimension_put (dimension_fields s fields) ≡ map (dimension_field_of s) (dimension_fields s fields) =
+    filter_map-some dimension_put (dimension_field_of s) (puts amends) (dimension_fields s fields) in
+    let measures : measure_field_of s ≡ measure_put = λ i text. kept_or_put amends text i in
+    let answer : List ℕ × List (Field (Option (List ℕ))) × List (Field (Option ℤ)) → Result Change LineFault = λ parts. said parts.0 (record { dims = parts.1; measures = parts.2 }) in
+    ap (λ r. then_say r answer) is
+    ∙ read_of-put_of dimension_put measure_put s fields answer always
+    (ap (λ (spells : List ℕ → Option (Field (Option ℤ))). list_all (λ field. is_some (spells field)) (measure_fields s fields)) measures)
+    ∙ (λ i. put_of (said (field_at fields 1) (record { dims = dims i; measures = filter_map (sym measures i) (measure_fields s fields) })) s fields)
+  where
+    puts : may_amend s ≡ true → (text : List ℕ) → dimension_put text ≡ Some (dimension_field_of s text)
+    puts amends text = elim (cases_Bool (bytes_eq text keep_text)) [
+      | inl kept ↦ rw (amends, kept) refl
+      | inr other ↦ rw (amends, other) refl
+    ]
+
+    kept_or_put : may_amend s ≡ true → (text : List ℕ) → measure_field_of s text ≡ measure_put text
+    kept_or_put amends text = rw amends refl
+
+    always : (text : List ℕ) → is_some (dimension_put text) ≡ true
+    always text = elim (cases_Bool (bytes_eq text keep_text)) [
+      | inl kept ↦ rw kept refl
+      | inr other ↦ rw other refl
+    ]
+
+-- what an insert says, and an update
+pub insert_says : (s : Layout) (fields : List (List ℕ)) → false ≡ keeps_any s fields
+    → (read : Result (List ℕ × List (Option (List ℕ)) × List (Option ℤ)) LineFault) → read ≡ read_of (λ text. Some (dimension_of text)) measure_of s fields
+    → then_say read (λ parts. Ok (Insert parts.0 (record { dims = parts.1; measures = parts.2 }))) ≡ put_of (insert_of s fields) s fields
+insert_says s fields none read is =
+    fact_says s fields (sym none) read is Insert
+    ∙ ap (λ b. put_of (if b then Err fault.Keep else Ok (Insert (field_at fields 1) (fact_of s fields))) s fields) none
+
+pub update_says : (s : Layout) (fields : List (List ℕ)) → false ≡ keeps_any s fields
+    → (read : Result (List ℕ × List (Option (List ℕ)) × List (Option ℤ)) LineFault) → read ≡ read_of (λ text. Some (dimension_of text)) measure_of s fields
+    → then_say read (λ parts. Ok (Update parts.0 (record { dims = parts.1; measures = parts.2 }))) ≡ put_of (update_of s fields) s fields
+update_says s fields none read is =
+    fact_says s fields (sym none) read is Update
+    ∙ ap (λ b. put_of (if b then Ok (Amend (field_at fields 1) (part_of s fields)) else Ok (Update (field_at fields 1) (fact_of s fields))) s fields) none
+
+-- and both, where they keep a field
+pub keep_says : (s : Layout) (fields : List (List ℕ)) → true ≡ keeps_any s fields
+    → (read : Result (List ℕ × List (Field (Option (List ℕ))) × List (Field (Option ℤ))) LineFault) → read ≡ read_of dimension_put measure_put s fields
+    → then_say read (λ parts. Err fault.Keep) ≡ put_of (insert_of s fields) s fields
+keep_says s fields keeps read is =
+    part_says s fields (sym keeps) read is (λ id part. Err fault.Keep)
+    ∙ ap (λ b. put_of (if b then Err fault.Keep else Ok (Insert (field_at fields 1) (fact_of s fields))) s fields) keeps
+
+pub amend_says : (s : Layout) (fields : List (List ℕ)) → true ≡ keeps_any s fields
+    → (read : Result (List ℕ × List (Field (Option (List ℕ))) × List (Field (Option ℤ))) LineFault) → read ≡ read_of dimension_put measure_put s fields
+    → then_say read (λ parts. Ok (Amend parts.0 (record { dims = parts.1; measures = parts.2 }))) ≡ put_of (update_of s fields) s fields
+amend_says s fields keeps read is =
+    part_says s fields (sym keeps) read is (λ id part. Ok (Amend id part))
+    ∙ ap (λ b. put_of (if b then Ok (Amend (field_at fields 1) (part_of s fields)) else Ok (Update (field_at fields 1) (fact_of s fields))) s fields) keeps
+
+-- a part of a record that isn't sound
+pub unsound_dimensions : {D M : Type 0} (dimension : List ℕ → Option D) (measure : List ℕ → Option M) (s : Layout) (fields : List (List ℕ)) (names : List (List ℕ))
+    → names ≡ s.dimensions → list_all (is_sound dimension) (slice_range fields 2 (2 + length names)) ≡ false → are_sound dimension measure s fields ≡ false
+unsound_dimensions dimension measure s fields names is bad =
+    let dims = rw (is, dimension_part s fields) at bad in
+    rw dims (and_left _ _ (and_right _ _ refl))
+
+pub unsound_measures : {D M : Type 0} (dimension : List ℕ → Option D) (measure : List ℕ → Option M) (s : Layout) (fields : List (List ℕ)) (names : List (List ℕ)) (fields_end : ℕ)
+    → names ≡ s.dimensions → fields_end ≡ length fields
+    → list_all (is_sound measure) (slice_range fields (2 + length names) fields_end) ≡ false → are_sound dimension measure s fields ≡ false
+unsound_measures dimension measure s fields names fields_end is end bad =
+    let measures = rw (is, end, part_to_end fields (2 + length s.dimensions)) at bad in
+    rw measures (and_right _ _ refl)
 
 -- a record whose parts are all sound
-pub sound_whole : (s : Layout) (fields : List (List ℕ)) (names : List (List ℕ)) (fields_end : ℕ) → length fields ≡ width_of s → names ≡ s.dimensions → fields_end ≡ length fields
-    → is_sound_id (field_at fields 1) ≡ true → list_all is_utf8 (slice_range fields 2 (2 + length names)) ≡ true
-    → list_all is_sound_measure (slice_range fields (2 + length names) fields_end) ≡ true → is_sound s fields ≡ true
-sound_whole s fields names fields_end h is end a b c =
-    let dims = rw is at b in
-    let measures = rw (is, end) at c in
-    rw (sound_parts s fields h, a, dims, measures) refl
+pub sound_whole : {D M : Type 0} (dimension : List ℕ → Option D) (measure : List ℕ → Option M) (s : Layout) (fields : List (List ℕ)) (names : List (List ℕ)) (fields_end : ℕ)
+    → names ≡ s.dimensions → fields_end ≡ length fields
+    → is_sound_id (field_at fields 1) ≡ true → list_all (is_sound dimension) (slice_range fields 2 (2 + length names)) ≡ true
+    → list_all (is_sound measure) (slice_range fields (2 + length names) fields_end) ≡ true → are_sound dimension measure s fields ≡ true
+sound_whole dimension measure s fields names fields_end is end id dims measures =
+    let first = rw (is, dimension_part s fields) at dims in
+    let second = rw (is, end, part_to_end fields (2 + length s.dimensions)) at measures in
+    and_from _ _ (and_from _ _ id first) second

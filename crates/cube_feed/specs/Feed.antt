@@ -1,6 +1,7 @@
 -- What a feed has to come, and what each call of it gives (this project's choice).
-use Rattle.std.specs.Prelude.{◌≡◌, ⊤, ◌+◌, ◌≤◌, ℕ, Bool, true, false, List, [], ◌∷◌, Option, Some, None, option_map, Result, Ok, Err}
+use Rattle.std.specs.Prelude.{◌≡◌, ⊤, ◌+◌, ◌≤◌, ℕ, Bool, true, false, List, [], ◌∷◌, Option, Some, None, option_map, Result, Ok, Err, IfOk, IfSome}
 use Rattle.cube_core.specs.Layout.{Layout}
+use Rattle.cube_core.specs.Takes.{takes}
 use Rattle.cube_core.specs.Items.{Coming, FeedEnd, Good, WrongHeader, TooManyRecords, items_of, items_after}
 use Rattle.cube_core.specs.declared.change.Item.{Item}
 use Rattle.cube_feed.specs.declared.fault.FeedFault.{FeedFault}
@@ -81,6 +82,10 @@ Gives (Some old) (Err Memory) new = ⊤
 Gives (Some old) (Err Read) new = ⊤
 Gives (Some old) (Err Header) new = old ≡ nothing_but (Some Header)
 Gives (Some old) (Err TooMany) new = old ≡ nothing_but (Some TooMany)
+
+-- a change that is given is one that the schema takes
+abbrev pub IsTaken : Layout → Result (Option Item) FeedFault → Type 0
+IsTaken schema answer = IfOk answer (λ next. IfSome next (λ item. IfOk item.what (λ change. takes schema change ≡ true)))
 
 -- an item has the next number, which is the schema's number of records at most; without one the number stays
 abbrev pub Numbers : FeedView → Result (Option Item) FeedFault → FeedView → Type 0

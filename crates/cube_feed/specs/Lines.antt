@@ -1,11 +1,9 @@
 -- When the fields of a record of the right width spell a change, and what is wrong with them else (this project's choice).
-use Rattle.std.specs.Prelude.{◌≡◌, ◌==◌, ◌&&◌, ℕ, Bool, not, List, length, drop, Result, Ok, Err, if◌then◌else◌}
+use Rattle.std.specs.Prelude.{◌==◌, ◌&&◌, ℕ, Bool, not, List, length, drop, Option, is_some, Result, Ok, Err, if◌then◌else◌}
 use Rattle.std.specs.Str.{is_utf8}
-use Rattle.std.specs.List.{list_all}
+use Rattle.std.specs.List.{list_all, filter_map}
 use Rattle.cube_core.specs.Layout.{Layout}
-use Rattle.cube_core.specs.Items.{field_at, is_measure, measure_fields, put_of}
-use Rattle.cube_core.specs.declared.fact.Fact.{Fact}
-use Rattle.cube_core.specs.declared.change.Change.{Change}
+use Rattle.cube_core.specs.Items.{width_of, field_at, dimension_fields, measure_fields}
 use Rattle.cube_core.specs.declared.change.LineFault.{LineFault}
 use Rattle.cube_core.specs.declared.change.LineFault.TheVariants as fault
 
@@ -13,14 +11,16 @@ use Rattle.cube_core.specs.declared.change.LineFault.TheVariants as fault
 abbrev pub is_sound_id : List ℕ → Bool
 is_sound_id field = is_utf8 field && not (length field == 0)
 
--- whether a field is UTF-8 and spells a measure
-abbrev pub is_sound_measure : List ℕ → Bool
-is_sound_measure field = is_utf8 field && is_measure field
+-- whether a field is UTF-8 and spells a value
+abbrev pub is_sound : {A : Type 0} → (List ℕ → Option A) → List ℕ → Bool
+is_sound spells field = is_utf8 field && is_some (spells field)
 
--- whether the fields after the operation of an insert or an update have no fault but perhaps their number
-abbrev pub is_sound : Layout → List (List ℕ) → Bool
-is_sound s fields =
-    list_all is_utf8 (drop 1 fields) && not (length (field_at fields 1) == 0) && list_all is_measure (measure_fields s fields)
+-- whether the fields after the operation of a record have no fault but perhaps their number
+abbrev pub are_sound : {D M : Type 0} → (List ℕ → Option D) → (List ℕ → Option M) → Layout → List (List ℕ) → Bool
+are_sound dimension measure s fields =
+    is_sound_id (field_at fields 1)
+    && list_all (is_sound dimension) (dimension_fields s fields)
+    && list_all (is_sound measure) (measure_fields s fields)
 
 -- the first fault of fields that aren't sound
 abbrev pub put_fault : List (List ℕ) → LineFault
@@ -29,7 +29,10 @@ put_fault fields =
     else if length (field_at fields 1) == 0 then fault.Id
     else fault.Measure
 
--- what a record puts: under the id the fact, whether it is an insert or an update, or its first fault
-abbrev pub IsPut : Layout → List (List ℕ) → Result (List ℕ × Fact) LineFault → Type 0
-IsPut s fields (Ok parts) = (change : List ℕ → Fact → Change) → put_of change s fields ≡ Ok (change parts.0 parts.1)
-IsPut s fields (Err why) = (change : List ℕ → Fact → Change) → put_of change s fields ≡ Err why
+-- what reading a record gives: its id, its dimensions and its measures, or its first fault
+abbrev pub read_of : {D M : Type 0} → (List ℕ → Option D) → (List ℕ → Option M) → Layout → List (List ℕ)
+    → Result (List ℕ × List D × List M) LineFault
+read_of dimension measure s fields =
+    if not (length fields == width_of s) then Err fault.Fields
+    else if not (are_sound dimension measure s fields) then Err (put_fault fields)
+    else Ok (field_at fields 1, filter_map dimension (dimension_fields s fields), filter_map measure (measure_fields s fields))

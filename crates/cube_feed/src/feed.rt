@@ -2,7 +2,7 @@
 ghost use Rattle.std.specs.Prelude.{◌≡◌, ◌≤◌, ◌+◌, None, Some, IfOk, IfErr, IfSome, IfNone, option_map};
 ghost use Rattle.cube_core.specs.Records.{records_of};
 ghost use Rattle.cube_core.specs.Items.{items_of};
-ghost use Rattle.cube_feed.specs.Feed.{HasEnded, Gives, Numbers, TakesHeader, IsFeed, after_header, ended_of, end_answer, to_come, to_come_of};
+ghost use Rattle.cube_feed.specs.Feed.{HasEnded, Gives, IsTaken, Numbers, TakesHeader, IsFeed, after_header, ended_of, end_answer, to_come, to_come_of};
 
 use crate::fault::FeedFault;
 use crate::header::is_header;
@@ -73,6 +73,7 @@ fn take_item<R: Read>(
     requires { number ≤ schema.now.max_records }
     ensures gives { Gives (after_header schema.now number records.old.left) result (after_header schema.now (number + 1) records.new.left) }
     ensures item { IfOk result (λ next. IfSome next (λ item. (item.number ≡ number + 1) × (number + 1 ≤ schema.now.max_records))) }
+    ensures taken { IsTaken schema.now result }
 {
     if !records.advance()? {
         return Ok(None);
@@ -101,6 +102,7 @@ fn take_next<R: Read>(
     requires open { ended_of stage ≡ None }
     ensures gives { Gives (to_come_of schema.now number stage records.old.left) result (after_header schema.now (number + 1) records.new.left) }
     ensures item { IfOk result (λ next. IfSome next (λ item. (item.number ≡ number + 1) × (number + 1 ≤ schema.now.max_records))) }
+    ensures taken { IsTaken schema.now result }
 {
     if let Stage::Start = stage {
         if !take_header(schema, records)? {
@@ -131,9 +133,12 @@ impl<'s, R: Read> Feed<'s, R> {
 
     /// The next item, or `None` after the last one of a good feed.
     ///
+    /// A change that an item has is one that the schema takes: no caller need ask again.
+    ///
     /// A fault is the feed's last word, and so is `None`: each later call answers it again.
     pub fn next(&mut self) -> Result<Option<Item>, FeedFault>
         ensures gives { Gives self.old.to_come result self.new.to_come }
+        ensures taken { IsTaken self.old.schema result }
         ensures numbers { Numbers self.old result self.new }
         ensures done { IfOk result (λ next. IfNone next (HasEnded self.new None)) }
         ensures failed { IfErr result (λ fault. HasEnded self.new (Some fault)) }

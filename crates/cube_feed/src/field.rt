@@ -1,12 +1,13 @@
 //! The fields of a record, and what each of them spells.
-ghost use Rattle.std.specs.Prelude.{◌≡◌, true, false, IfOk, IfErr, length};
-ghost use Rattle.std.specs.Str.{is_utf8};
+ghost use Rattle.std.specs.Prelude.{◌≡◌, true, false, Some, None, List, ℕ, Option, IfOk, IfErr, length, option_map, if◌then◌else◌};
+ghost use Rattle.std.specs.Str.{bytes_eq, is_utf8};
 ghost use Rattle.csv.specs.Records.{fields_of};
-ghost use Rattle.cube_core.specs.Items.{field_at, number_of, is_null, dimension_of, measure_of};
+ghost use Rattle.cube_core.specs.Items.{field_at, number_of, is_null, keep_text, dimension_of, measure_of};
+ghost use Rattle.cube_core.specs.declared.partial.Field.TheVariants as field;
 ghost use Rattle.cube_feed.specs.declared.field.Stop.TheVariants as stop;
 
 use csv::ByteRecord;
-use cube_core::Text;
+use cube_core::{Field, Text};
 use std::alloc::{AllocError, AllocFailed, Global};
 use std::marker::Model;
 use std::str;
@@ -112,22 +113,60 @@ fn is_null(text: &str) -> bool
     text == "\\N"
 }
 
-/// The value of a dimension that a field's text spells; the only error is want of memory.
-pub(crate) fn dimension(alloc: Global, text: &str) -> Result<Option<Text>, AllocError>
-    ensures { IfOk result (λ value. value ≡ dimension_of text.now) }
-{
-    if is_null(text) {
-        return Ok(None);
-    }
-    Ok(Some(Text::from_str(alloc, text)?))
+/// A value that the text of a field may spell.
+pub(crate) trait Spelled: Drop {
+    ghost spells: { List ℕ → Option Self };
+
+    /// The value that a text spells; the record is at fault where it spells none.
+    fn read(alloc: Global, text: &str) -> Result<Self, Stop>
+        ensures value { IfOk result (λ value. Some value ≡ spells text.now) }
+        ensures line { IfErr result (λ e. e ≡ stop.Line → None ≡ spells text.now) };
 }
 
-/// The value of a measure that a field's text spells, if it is one.
-pub(crate) fn measure(text: &str) -> Option<Option<i64>>
-    ensures { result ≡ measure_of text.now }
-{
-    if is_null(text) {
-        return Some(None);
+/// The value of a dimension: any text, or null.
+impl Spelled for Option<Text> {
+    ghost spells = { λ text. Some (dimension_of text) };
+
+    fn read(alloc: Global, text: &str) -> Result<Option<Text>, Stop> {
+        if is_null(text) {
+            return Ok(None);
+        }
+        Ok(Some(Text::from_str(alloc, text)?))
     }
-    number(text).map(|value| Some(value))
+}
+
+/// The value of a measure: a number, or null.
+impl Spelled for Option<i64> {
+    ghost spells = { measure_of };
+
+    fn read(alloc: Global, text: &str) -> Result<Option<i64>, Stop> {
+        let _ = alloc;
+        if is_null(text) {
+            return Ok(None);
+        }
+        match number(text) {
+            Some(value) => Ok(Some(value)),
+            None => Err(Stop::Line),
+        }
+    }
+}
+
+/// A field of an amendment: a value, or that it keeps the old one.
+impl<T: Spelled> Spelled for Field<T> {
+    ghost spells = { λ text. if bytes_eq text keep_text then Some field.Keep else option_map field.Put (T.spells text) };
+
+    fn read(alloc: Global, text: &str) -> Result<Field<T>, Stop> {
+        if is_keep_text(text.as_bytes()) {
+            return Ok(Field::Keep);
+        }
+        let value = T::read(alloc, text)?;
+        Ok(Field::Put(value))
+    }
+}
+
+/// Whether a field is the one by which a feed of version 2 keeps a value.
+pub(crate) fn is_keep_text(field: &[u8]) -> bool
+    ensures { result ≡ bytes_eq field.now keep_text }
+{
+    field == b"\\=".as_slice()
 }

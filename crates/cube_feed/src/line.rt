@@ -1,54 +1,32 @@
 //! The change that a record spells, or the first fault that it has.
-ghost use Rattle.std.specs.Prelude.{◌≡◌, ◌≤◌, ◌∷◌, [], true, false, length, map, drop, slice_range, IfOk, IfErr};
+ghost use Rattle.std.specs.Prelude.{◌≡◌, ◌≤◌, ◌∷◌, [], true, false, length, drop, slice_range, IfOk, IfErr};
 ghost use Rattle.std.specs.Str.{bytes_eq, is_utf8};
-ghost use Rattle.std.specs.List.{list_all, filter_map};
-ghost use Rattle.cube_core.specs.Items.{width_of, field_at, dimension_of, measure_of, fact_of, delete_of, change_of};
-ghost use Rattle.cube_feed.specs.Lines.{is_sound_id, is_sound_measure, is_sound, put_fault, IsPut};
+ghost use Rattle.std.specs.List.{list_all, list_any, filter_map};
+ghost use Rattle.cube_core.specs.Items.{width_of, field_at, keep_text, keeps_any, dimension_fields, measure_fields, put_of, insert_of, update_of, delete_of, change_of};
+ghost use Rattle.cube_feed.specs.Lines.{is_sound_id, is_sound, are_sound, put_fault, read_of};
 ghost use Rattle.cube_feed.specs.declared.field.Stop.TheVariants as stop;
 
-use crate::field::{Fields, Stop, dimension, measure};
-use cube_core::{Change, Fact, LineFault, Schema, Sequence, Text};
+use crate::field::{Fields, Spelled, Stop, is_keep_text};
+use cube_core::{Change, Fact, Field, LineFault, Partial, Schema, Sequence, Text};
 use std::alloc::{AllocError, Global};
 
-fn dimensions(
+fn values<T: Spelled>(
     alloc: Global,
     fields: &Fields<'_>,
     start: usize,
     end: usize,
-) -> Result<Sequence<Option<Text>>, Stop>
+) -> Result<Sequence<T>, Stop>
     requires in_order { start ≤ end }
     requires in_record { end ≤ length fields.now }
-    ensures values { IfOk result (λ values. values ≡ map dimension_of (slice_range fields.now start end)) }
-    ensures sound { IfOk result (λ _. list_all is_utf8 (slice_range fields.now start end) ≡ true) }
-    ensures line { IfErr result (λ e. e ≡ stop.Line → list_all is_utf8 (slice_range fields.now start end) ≡ false) }
+    ensures values { IfOk result (λ values. values ≡ filter_map T.spells (slice_range fields.now start end)) }
+    ensures sound { IfOk result (λ _. list_all (is_sound T.spells) (slice_range fields.now start end) ≡ true) }
+    ensures line { IfErr result (λ e. e ≡ stop.Line →
+        list_all (is_sound T.spells) (slice_range fields.now start end) ≡ false) }
 {
     let mut values = Vec::with_capacity(alloc, end - start)?;
     for place in start..end {
         let text = fields.text_at(place)?;
-        let value = dimension(alloc, text)?;
-        values.push(value)?;
-    }
-    Ok(Sequence::from_vec(values))
-}
-
-fn measures(
-    alloc: Global,
-    fields: &Fields<'_>,
-    start: usize,
-    end: usize,
-) -> Result<Sequence<Option<i64>>, Stop>
-    requires in_order { start ≤ end }
-    requires in_record { end ≤ length fields.now }
-    ensures values { IfOk result (λ values. values ≡ filter_map measure_of (slice_range fields.now start end)) }
-    ensures sound { IfOk result (λ _. list_all is_sound_measure (slice_range fields.now start end) ≡ true) }
-    ensures line { IfErr result (λ e. e ≡ stop.Line → list_all is_sound_measure (slice_range fields.now start end) ≡ false) }
-{
-    let mut values = Vec::with_capacity(alloc, end - start)?;
-    for place in start..end {
-        let text = fields.text_at(place)?;
-        let Some(value) = measure(text) else {
-            return Err(Stop::Line);
-        };
+        let value = T::read(alloc, text)?;
         values.push(value)?;
     }
     Ok(Sequence::from_vec(values))
@@ -73,19 +51,25 @@ pub(crate) fn width(schema: &Schema) -> usize
     2 + schema.dimensions().len() + schema.measures().len()
 }
 
-// The id and the fact of a record of the right width. Each field is looked at once: which fault it is that stops it is looked for only then.
-fn parts(alloc: Global, schema: &Schema, fields: &Fields<'_>) -> Result<(Text, Fact), Stop>
+// The id, the dimensions and the measures of a record of the right width. Each field is looked at once: which fault it is
+// that stops it is looked for only then.
+fn parts<D: Spelled, M: Spelled>(
+    alloc: Global,
+    schema: &Schema,
+    fields: &Fields<'_>,
+) -> Result<(Text, Sequence<D>, Sequence<M>), Stop>
     requires { length fields.now ≡ width_of schema.now }
     ensures id { IfOk result (λ parts. parts.0 ≡ field_at fields.now 1) }
-    ensures fact { IfOk result (λ parts. parts.1 ≡ fact_of schema.now fields.now) }
-    ensures sound { IfOk result (λ _. is_sound schema.now fields.now ≡ true) }
-    ensures line { IfErr result (λ e. e ≡ stop.Line → is_sound schema.now fields.now ≡ false) }
+    ensures dims { IfOk result (λ parts. parts.1 ≡ filter_map D.spells (dimension_fields schema.now fields.now)) }
+    ensures measures { IfOk result (λ parts. parts.2 ≡ filter_map M.spells (measure_fields schema.now fields.now)) }
+    ensures sound { IfOk result (λ _. are_sound D.spells M.spells schema.now fields.now ≡ true) }
+    ensures line { IfErr result (λ e. e ≡ stop.Line → are_sound D.spells M.spells schema.now fields.now ≡ false) }
 {
     let first_measure = 2 + schema.dimensions().len();
     let id = id(alloc, fields)?;
-    let dims = dimensions(alloc, fields, 2, first_measure)?;
-    let measures = measures(alloc, fields, first_measure, fields.len())?;
-    Ok((id, Fact { dims, measures }))
+    let dims = values::<D>(alloc, fields, 2, first_measure)?;
+    let measures = values::<M>(alloc, fields, first_measure, fields.len())?;
+    Ok((id, dims, measures))
 }
 
 // Whether all fields after the operation are UTF-8.
@@ -113,21 +97,87 @@ fn put_fault(fields: &Fields<'_>) -> LineFault
     }
 }
 
-// The id and the fact that an insert or an update puts under it.
-fn put(
+// The parts of a record with a fact or an amendment, or its first fault.
+fn put<D: Spelled, M: Spelled>(
     alloc: Global,
     schema: &Schema,
     fields: &Fields<'_>,
-) -> Result<Result<(Text, Fact), LineFault>, AllocError>
-    ensures { IfOk result (λ put. IsPut schema.now fields.now put) }
+) -> Result<Result<(Text, Sequence<D>, Sequence<M>), LineFault>, AllocError>
+    ensures { IfOk result (λ read. read ≡ read_of D.spells M.spells schema.now fields.now) }
 {
     if fields.len() != width(schema) {
         return Ok(Err(LineFault::Fields));
     }
-    match parts(alloc, schema, fields) {
+    match parts::<D, M>(alloc, schema, fields) {
         Ok(parts) => Ok(Ok(parts)),
         Err(Stop::Memory) => Err(AllocError),
         Err(Stop::Line) => Ok(Err(put_fault(fields))),
+    }
+}
+
+// Whether a field after the id is the one that keeps a value.
+fn has_keep_text(fields: &Fields<'_>) -> bool
+    ensures { result ≡ list_any (λ field. bytes_eq field keep_text) (drop 2 fields.now) }
+{
+    for place in 2..fields.len() {
+        if is_keep_text(fields.bytes_at(place)) {
+            return true;
+        }
+    }
+    false
+}
+
+// Whether a field after the id keeps its value; only in version 2 it may.
+fn keeps_any(schema: &Schema, fields: &Fields<'_>) -> bool
+    ensures { result ≡ keeps_any schema.now fields.now }
+{
+    schema.version() == 2 && has_keep_text(fields)
+}
+
+fn insert(
+    alloc: Global,
+    schema: &Schema,
+    fields: &Fields<'_>,
+) -> Result<Result<Change, LineFault>, AllocError>
+    ensures { IfOk result (λ what. what ≡ put_of (insert_of schema.now fields.now) schema.now fields.now) }
+{
+    if keeps_any(schema, fields) {
+        return match put::<Field<Option<Text>>, Field<Option<i64>>>(alloc, schema, fields)? {
+            Ok(_parts) => Ok(Err(LineFault::Keep)),
+            Err(fault) => Ok(Err(fault)),
+        };
+    }
+    match put::<Option<Text>, Option<i64>>(alloc, schema, fields)? {
+        Ok((id, dims, measures)) => {
+            let fact = Fact { dims, measures };
+            Ok(Ok(Change::Insert { id, fact }))
+        }
+        Err(fault) => Ok(Err(fault)),
+    }
+}
+
+fn update(
+    alloc: Global,
+    schema: &Schema,
+    fields: &Fields<'_>,
+) -> Result<Result<Change, LineFault>, AllocError>
+    ensures { IfOk result (λ what. what ≡ put_of (update_of schema.now fields.now) schema.now fields.now) }
+{
+    if keeps_any(schema, fields) {
+        return match put::<Field<Option<Text>>, Field<Option<i64>>>(alloc, schema, fields)? {
+            Ok((id, dims, measures)) => {
+                let part = Partial { dims, measures };
+                Ok(Ok(Change::Amend { id, part }))
+            }
+            Err(fault) => Ok(Err(fault)),
+        };
+    }
+    match put::<Option<Text>, Option<i64>>(alloc, schema, fields)? {
+        Ok((id, dims, measures)) => {
+            let fact = Fact { dims, measures };
+            Ok(Ok(Change::Update { id, fact }))
+        }
+        Err(fault) => Ok(Err(fault)),
     }
 }
 
@@ -167,16 +217,10 @@ pub(crate) fn change(
 {
     let operation = fields.bytes_at(0);
     if is_operation(operation, b'I') {
-        return match put(alloc, schema, fields)? {
-            Ok((id, fact)) => Ok(Ok(Change::Insert { id, fact })),
-            Err(fault) => Ok(Err(fault)),
-        };
+        return insert(alloc, schema, fields);
     }
     if is_operation(operation, b'U') {
-        return match put(alloc, schema, fields)? {
-            Ok((id, fact)) => Ok(Ok(Change::Update { id, fact })),
-            Err(fault) => Ok(Err(fault)),
-        };
+        return update(alloc, schema, fields);
     }
     if is_operation(operation, b'D') {
         return delete(alloc, schema, fields);

@@ -1,5 +1,5 @@
 use crate::{Feed, FeedFault};
-use cube_core::{Change, Fact, Item, Schema, Text};
+use cube_core::{Change, Fact, Field, Item, Partial, Schema, Text};
 use std::alloc::{AllocError, Global};
 use std::io;
 use std::io::Read;
@@ -65,6 +65,24 @@ fn show_fact(out: &mut String, fact: &Fact) -> Result<(), AllocError> {
     Ok(())
 }
 
+fn show_part(out: &mut String, part: &Partial) -> Result<(), AllocError> {
+    for field in part.dims.as_slice() {
+        match field {
+            Field::Keep => write!(out, " keep")?,
+            Field::Put(None) => write!(out, " null")?,
+            Field::Put(Some(text)) => write!(out, " {}", text.as_str())?,
+        }
+    }
+    for field in part.measures.as_slice() {
+        match field {
+            Field::Keep => write!(out, " keep")?,
+            Field::Put(None) => write!(out, " null")?,
+            Field::Put(Some(number)) => write!(out, " {number}")?,
+        }
+    }
+    Ok(())
+}
+
 fn show_change(out: &mut String, change: &Change) -> Result<(), AllocError> {
     match change {
         Change::Insert { id, fact } => {
@@ -74,6 +92,10 @@ fn show_change(out: &mut String, change: &Change) -> Result<(), AllocError> {
         Change::Update { id, fact } => {
             write!(out, " update {}", id.as_str())?;
             show_fact(out, fact)
+        }
+        Change::Amend { id, part } => {
+            write!(out, " amend {}", id.as_str())?;
+            show_part(out, part)
         }
         Change::Delete { id } => write!(out, " delete {}", id.as_str()),
     }
@@ -358,6 +380,65 @@ fn the_texts_of_the_faults_are_their_codes(rt: HostRuntime) -> Result<(), Fail> 
         write!(out, "{fault} ")?;
     }
     assert_eq!(rt; out.as_str(), "F1 F2 F3 F4 ");
+    Ok(())
+}
+
+const SECOND_VERSION: &[u8] =
+    b"dimensions = [\"region\", \"kind\"]\nmeasures = [\"amount\"]\naggregates = [\"count(*)\"]\nversion = 2\n";
+
+#[test]
+fn a_feed_of_version_2_keeps_fields(rt: HostRuntime) -> Result<(), Fail> {
+    let schema = Schema::from_toml(rt.alloc(), SECOND_VERSION)?;
+    for (lines, wanted) in [
+        (
+            "I,1,west,a,5\nU,1,\\=,b,\\=\nU,1,\\=,\\=,\\=\nU,1,\\N,\"\\=\",7\n",
+            "1 insert 1 west a 5\n2 amend 1 keep b keep\n3 amend 1 keep keep keep\n4 amend 1 null keep 7\nNone\nNone\n",
+        ),
+        (
+            "I,1,\\=,a,1\nI,1,w,a,\\=\nI,1,w,\\=,x\nU,9,\\=,a,1\nD,9\nI,1,w,a,1\nI,1,w,a,2\nU,1,\\=,a,x\n",
+            "1 L6\n2 L6\n3 L5\n4 amend 9 keep a 1\n5 delete 9\n6 insert 1 w a 1\n7 insert 1 w a 2\n8 L5\nNone\nNone\n",
+        ),
+        (
+            "I,\\=,w,a,1\nU,\\=,w,a,1\nI,,\\=,a,1\nI,1,\\=,a\n",
+            "1 insert \\= w a 1\n2 update \\= w a 1\n3 L4\n4 L2\nNone\nNone\n",
+        ),
+    ] {
+        let text = format!(in rt.alloc(); "{HEADER}{lines}")?;
+        let got = answers(rt.alloc(), &schema, whole(text.as_bytes()))?;
+        assert_eq!(rt; got.as_str(), wanted, "of {lines:?}");
+    }
+    Ok(())
+}
+
+#[test]
+fn a_feed_of_version_1_reads_the_same_text_as_a_value(rt: HostRuntime) -> Result<(), Fail> {
+    let lines = "I,1,west,a,5\nU,1,\\=,b,7\nI,2,w,a,\\=\n";
+    let got = sample_answers(rt.alloc(), lines)?;
+    assert_eq!(rt;
+        got.as_str(),
+        "1 insert 1 west a 5\n2 update 1 \\= b 7\n3 L5\nNone\nNone\n"
+    );
+    Ok(())
+}
+
+// The copies of each item that the worked faults give, and of an amendment, are shown as the items themselves.
+#[test]
+fn a_copy_of_an_item_equals_its_source(rt: HostRuntime) -> Result<(), Fail> {
+    let text =
+        b"op,id,region,kind,amount\nX,1,w,a\nI,1,w,a\nI,1,w,\xFF,1\nI,,w,a,1.5\nI,1,w,a,1.5\ni,1,w,a,1\nD,1,w\nD,9,x,y,z\nI,1,w,a,+\nU,1,\\=,b,\\N\n";
+    let schema = Schema::from_toml(rt.alloc(), SECOND_VERSION)?;
+    let mut feed = Feed::new(rt.alloc(), &schema, text.as_slice());
+    let mut items = String::new(rt.alloc());
+    let mut copies = String::new(rt.alloc());
+    while let Some(item) = feed.next()? {
+        show_item(&mut items, &item)?;
+        show_item(&mut copies, &item.copy(rt.alloc())?)?;
+    }
+    assert_eq!(rt; copies.as_str(), items.as_str());
+    assert_eq!(rt;
+        copies.as_str(),
+        "1 L1\n2 L2\n3 L3\n4 L4\n5 L5\n6 L1\n7 L2\n8 delete 9\n9 L5\n10 amend 1 keep b null\n"
+    );
     Ok(())
 }
 

@@ -6,7 +6,6 @@ use Rattle.std.proofs.lemmas.Bool.{and_parts, or_cases}
 use Rattle.std.proofs.lemmas.Cmp.{eq_by_cmp_equiv}
 use Rattle.std.proofs.lemmas.List.{length-map}
 use Rattle.std.proofs.lemmas.List.Concat.{length-flat_map}
-use Rattle.std.proofs.lemmas.List.Elements.{Contains-append_left, Contains-append_right}
 use Rattle.std.proofs.lemmas.List.FromFn.{length-range_with_len, get_or-range_with_len}
 use Rattle.std.proofs.lemmas.List.Sums.{sum_by-cons}
 use Rattle.std.proofs.lemmas.Map.Keys.{IsDistinct-from_sorted}
@@ -22,27 +21,11 @@ use Rattle.cube_core.specs.declared.key.Coord.{Coord}
 use Rattle.cube_core.specs.declared.key.Coord.TheVariants as coord
 use Rattle.cube_core.specs.declared.key.Key.{Key}
 use Rattle.cube_core.specs.declared.key.Row.{Row}
-use Rattle.cube_laws.proofs.RowLaws.{at_contained, same_key, none_contained, head_contained, tail_contained, contained_cases}
-use Rattle.cube_laws.proofs.CountLaws.{each_contained, any_passes, passing_element, key_in_set}
+use Rattle.cube_laws.proofs.CountLaws.{key_in_set}
 use Rattle.cube_core.proofs.PlainOrder.{key_cmp_total}
 use Rattle.cube_core.proofs.PlainKeys.{coord_of, coord_of_is, ancestor_of, ancestor_of_covers, mask_of_ancestor, same_from_mask, mask_below, length_standing}
-
--- what f gives of an element is in the list that f gives
-pub mapped_contained : {X Y : Type 0} (f : X → Y) (xs : List X) (x : X) → Contains xs x → Contains (map f xs) (f x)
-mapped_contained f [] x among = absurd (none_contained x among)
-mapped_contained f (y ∷ ys) x among = elim (contained_cases y ys x among) [
-  | inl here ↦ subst (Contains (f y ∷ map f ys)) (ap f here) (head_contained (f y) (map f ys))
-  | inr after ↦ tail_contained (f y) (map f ys) (f x) (mapped_contained f ys x after)
-]
-
--- and each element of that list is what f gives of one
-pub contained_mapped : {X Y : Type 0} (f : X → Y) (xs : List X) (y : Y) → Contains (map f xs) y →
-    (x : X) × Contains xs x × (f x ≡ y)
-contained_mapped f [] y among = absurd (none_contained y among)
-contained_mapped f (x ∷ xs) y among = elim (contained_cases (f x) (map f xs) y among) [
-  | inl here ↦ (x, head_contained x xs, here)
-  | inr after ↦ let rest = contained_mapped f xs y after in (rest.0, tail_contained x xs rest.0 rest.1, rest.2)
-]
+use Rattle.cube_core.proofs.ListLaws.{AllByRecursion-Contains, Contains-AllByRecursion, Contains-head, Contains-list_any, Contains-map, Contains-tail, flat_map-Contains, list_any-Contains, map-Contains}
+use Rattle.cube_core.proofs.PlainCells.{same_key}
 
 -- what g takes back is as it was
 there_and_back : {X Y : Type 0} (f : X → Y) (g : Y → X) (xs : List X) → AllByRecursion (λ x. g (f x) ≡ x) xs →
@@ -71,13 +54,13 @@ covering_keys fact = record {
   cover = λ key. (covers_if_contained key, contained_if_covers key);
   count = length-map (all_sets (length fact.dims)) (λ set. key_in_set set fact) ∙ length-range_with_len 0 (2 ^ length fact.dims);
   sets = there_and_back (λ set. key_in_set set fact) mask_of (all_sets (length fact.dims))
-      (each_contained (λ set. mask_of (key_in_set set fact) ≡ set) (all_sets (length fact.dims))
+      (Contains-AllByRecursion (λ set. mask_of (key_in_set set fact) ≡ set) (all_sets (length fact.dims))
       (λ set among. mask_of_ancestor fact.dims set (contained_below (2 ^ length fact.dims) set among)));
 }
   where
     covers_if_contained : (key : Key) → Contains (covering fact) key → IsTrue (covers key fact)
     covers_if_contained key among =
-        let found = contained_mapped (λ set. key_in_set set fact) (all_sets (length fact.dims)) key among in
+        let found = Contains-map (λ set. key_in_set set fact) (all_sets (length fact.dims)) key among in
         subst (λ (key : Key). covers key fact ≡ true) found.2 (ancestor_of_covers fact.dims found.0)
 
     contained_if_covers : (key : Key) → IsTrue (covers key fact) → Contains (covering fact) key
@@ -89,7 +72,7 @@ covering_keys fact = record {
         = same_from_mask (ancestor_of fact.dims set) key.coords fact.dims (ancestor_of_covers fact.dims set) covered
         (mask_of_ancestor fact.dims set below) in
         subst (Contains (covering fact)) (same_key (key_in_set set fact) key same)
-        (mapped_contained (λ set. key_in_set set fact) (all_sets (length fact.dims)) set (below_contained (2 ^ length fact.dims) set below))
+        (map-Contains (λ set. key_in_set set fact) (all_sets (length fact.dims)) set (below_contained (2 ^ length fact.dims) set below))
 
 -- values and null, as coordinates
 abbrev pub as_coords : List (Option (List ℕ)) → List Coord
@@ -119,15 +102,6 @@ length_over (values ∷ other_values) =
     (λ c. length-map (coords_over other_values) (λ coords. c ∷ coords) ∙ length_over other_values)
     ∙ ap (λ n. n * most_cells other_values) (omega (arith, length-map values (λ value. coord_of value true)))
 
--- what one of the lists contains, all of them joined do
-joined_contain : {X Y : Type 0} (f : X → List Y) (xs : List X) (x : X) (y : Y) → Contains xs x → Contains (f x) y →
-    Contains (flat_map f xs) y
-joined_contain f [] x y among h = absurd (none_contained x among)
-joined_contain f (z ∷ zs) x y among h = elim (contained_cases z zs x among) [
-  | inl here ↦ Contains-append_left (f z) (flat_map f zs) y (subst (λ w. Contains (f w) y) (sym here) h)
-  | inr after ↦ Contains-append_right (f z) (flat_map f zs) y (joined_contain f zs x y after h)
-]
-
 -- each coordinate is ALL or stands for a value of its dimension
 abbrev StandAmong : List (List (Option (List ℕ))) → List Coord → Type 0
 StandAmong values coords = AllZip (λ among c. Contains (coords_for among) c) values coords
@@ -136,24 +110,24 @@ StandAmong values coords = AllZip (λ among c. Contains (coords_for among) c) va
 over_contains : (values : List (List (Option (List ℕ)))) (coords : List Coord) → StandAmong values coords →
     Contains (coords_over values) coords
 unfolding coords_over
-over_contains [] [] h = head_contained [] []
+over_contains [] [] h = Contains-head [] []
 over_contains [] (c ∷ coords) h = elim h [ ]
 over_contains (values ∷ other_values) [] h = elim h [ ]
 over_contains (values ∷ other_values) (c ∷ coords) h =
-    joined_contain (λ c. map (λ coords. c ∷ coords) (coords_over other_values)) (coords_for values) c (c ∷ coords) h.0
-    (mapped_contained (λ coords. c ∷ coords) (coords_over other_values) coords (over_contains other_values coords h.1))
+    flat_map-Contains (λ c. map (λ coords. c ∷ coords) (coords_over other_values)) (coords_for values) c (c ∷ coords) h.0
+    (map-Contains (λ coords. c ∷ coords) (coords_over other_values) coords (over_contains other_values coords h.1))
 
 -- a listed value is listed as a coordinate
 value_among : (c : Coord) (value : Option (List ℕ)) (values : List (Option (List ℕ))) → c ≡ coord_of value true →
     Contains values value → Contains (coords_for values) c
 value_among c value values is among =
-    tail_contained coord.All (as_coords values) c
-    (subst (Contains (as_coords values)) (sym is) (mapped_contained (λ value. coord_of value true) values value among))
+    Contains-tail coord.All (as_coords values) c
+    (subst (Contains (as_coords values)) (sym is) (map-Contains (λ value. coord_of value true) values value among))
 
 -- what stands for a listed value is listed
 stands_among : (c : Coord) (value : Option (List ℕ)) (values : List (Option (List ℕ))) → stands_for c value ≡ true →
     Contains values value → Contains (coords_for values) c
-stands_among coord.All value values stands among = head_contained coord.All (as_coords values)
+stands_among coord.All value values stands among = Contains-head coord.All (as_coords values)
 stands_among coord.Null value values stands among =
     value_among coord.Null value values (coord_of_is coord.Null value true stands refl) among
 stands_among (coord.Text name) value values stands among =
@@ -178,7 +152,7 @@ total_among [] [] long all = tt
 total_among [] (c ∷ coords) long all = absurd (omega (arith, long))
 total_among (values ∷ other_values) [] long all = absurd (omega (arith, long))
 total_among (values ∷ other_values) (coord.All ∷ coords) long all =
-    (head_contained coord.All (as_coords values), total_among other_values coords (omega (arith, long)) all)
+    (Contains-head coord.All (as_coords values), total_among other_values coords (omega (arith, long)) all)
 total_among (values ∷ other_values) (coord.Null ∷ coords) long all = cc
 total_among (values ∷ other_values) (coord.Text name ∷ coords) long all = cc
 
@@ -198,23 +172,23 @@ cells_at_most s facts rows values are long among =
     in_cells : (key : Key) → Contains (map key_of rows) key → StandAmong values key.coords
     in_cells key key_among =
         let dimensions = length s.dimensions in
-        let is_in_set = is_among (mask_of key) (all_sets dimensions) in
+        let is_in_set = is_among (mask_of key) s.grouping_sets in
         let cell = and_parts is_in_set (is_total dimensions key || list_any (covers key) facts) ((are.cells key).0 key_among) in
         elim (or_cases (is_total dimensions key) (list_any (covers key) facts) cell.1) [
           | inl total ↦
               let parts = and_parts (length key.coords == dimensions) (list_all is_all_coord key.coords) total in
               total_among values key.coords (eqb-true (length key.coords) dimensions parts.0 ∙ sym long) parts.1
           | inr covered ↦
-              let found = passing_element (covers key) facts covered in
+              let found = list_any-Contains (covers key) facts covered in
               covering_among values key.coords found.0.dims
-              (at_contained (λ (fact : Fact). AllZip Contains values fact.dims) facts found.0 among found.1) found.2
+              (AllByRecursion-Contains (λ (fact : Fact). AllZip Contains values fact.dims) facts found.0 among found.1) found.2
         ]
 
     member : (key : Key) → list_any (eq_by_cmp key_cmp key) (map key_of rows) ≡ true →
         list_any (eq_by_cmp key_cmp key) (map key_with (coords_over values)) ≡ true
     member key h =
-        let found = passing_element (eq_by_cmp key_cmp key) (map key_of rows) h in
-        any_passes (eq_by_cmp key_cmp key) (map key_with (coords_over values)) found.0
-        (mapped_contained key_with (coords_over values) found.0.coords
+        let found = list_any-Contains (eq_by_cmp key_cmp key) (map key_of rows) h in
+        Contains-list_any (eq_by_cmp key_cmp key) (map key_with (coords_over values)) found.0
+        (map-Contains key_with (coords_over values) found.0.coords
         (over_contains values found.0.coords (in_cells found.0 found.1)))
         found.2

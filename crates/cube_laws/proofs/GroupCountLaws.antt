@@ -1,57 +1,32 @@
 -- Cells that share the facts of a group out among them have that group's facts, up to order.
-use Rattle.std.proofs.Common.{◌≡◌, ◌+◌, Bool, true, false, cond, List, [], ◌∷◌, ◌++◌, filter, count_by, flat_map, Contains, Ordering, refl, sym, ap, ◌∙◌, subst, arith, zero-add, inl, inr}
+use Rattle.std.proofs.Common.{◌≡◌, ◌+◌, Bool, true, false, cond, List, [], ◌∷◌, ◌++◌, filter, count_by, flat_map, Contains, Ordering, refl, sym, ap, ◌∙◌, subst, arith, inl, inr}
 use Rattle.std.specs.List.{AllByRecursion}
 use Rattle.std.specs.List.Sorted.{IsStrictlySortedBy}
 use Rattle.std.specs.Cmp.{IsTotalOrder}
 use Rattle.std.proofs.lemmas.Bool.{cases_Bool, false_from_ne_true}
-use Rattle.std.proofs.lemmas.List.Sums.{sum_by-cons}
 use Rattle.std.proofs.lemmas.Map.Keys.{sorted_tail}
 use Rattle.cube_core.specs.Covers.{covers}
 use Rattle.cube_core.specs.Group.{group_of}
 use Rattle.cube_core.specs.declared.fact.Fact.{Fact}
 use Rattle.cube_core.specs.declared.key.Key.{Key}
-use Rattle.cube_laws.proofs.RowLaws.{head_contained, tail_contained, contained_cases, head_not_after}
+use Rattle.cube_laws.proofs.RowLaws.{head_not_after}
 use Rattle.cube_laws.proofs.RowOrderLaws.{Reordered, none, next, exchange, both, unmoved}
-
--- a filtered list with one more element, which passes or fails
-pub filter_passed : {X : Type 0} (p : X → Bool) (x : X) (xs : List X) → p x ≡ true →
-    filter p (x ∷ xs) ≡ x ∷ filter p xs
-filter_passed p x xs passes = ap (λ b. cond b (x ∷ filter p xs) (filter p xs)) passes
-
-pub filter_failed : {X : Type 0} (p : X → Bool) (x : X) (xs : List X) → p x ≡ false → filter p (x ∷ xs) ≡ filter p xs
-filter_failed p x xs fails = ap (λ b. cond b (x ∷ filter p xs) (filter p xs)) fails
-
--- a count of one more element, which passes or fails
-pub count_passed : {X : Type 0} (p : X → Bool) (x : X) (xs : List X) → p x ≡ true →
-    count_by p (x ∷ xs) ≡ 1 + count_by p xs
-count_passed p x xs passes = sum_by-cons (λ y. cond (p y) 1 0) x xs ∙ ap (λ b. cond b 1 0 + count_by p xs) passes
-
-pub count_failed : {X : Type 0} (p : X → Bool) (x : X) (xs : List X) → p x ≡ false →
-    count_by p (x ∷ xs) ≡ count_by p xs
-count_failed p x xs fails =
-    sum_by-cons (λ y. cond (p y) 1 0) x xs ∙ ap (λ b. cond b 1 0 + count_by p xs) fails ∙ zero-add (count_by p xs)
-
--- where no element passes, the count is 0
-pub count_of_none : {X : Type 0} (p : X → Bool) (xs : List X) → ((x : X) → Contains xs x → p x ≡ false) →
-    count_by p xs ≡ 0
-count_of_none p [] fails = refl
-count_of_none p (x ∷ xs) fails =
-    count_failed p x xs (fails x (head_contained x xs)) ∙ count_of_none p xs (λ y among. fails y (tail_contained x xs y among))
+use Rattle.cube_core.proofs.ListLaws.{Contains-cases, Contains-head, Contains-tail, count_by-failed, count_by-none, count_by-passed, filter-failed, filter-passed}
 
 -- where one element of a strictly sorted list passes, the count is 1
 pub count_of_one : {X : Type 0} {c : X → X → Ordering} → IsTotalOrder c → (p : X → Bool) (one : X) (xs : List X) →
     IsStrictlySortedBy c xs → Contains xs one → p one ≡ true → ((x : X) → Contains xs x → p x ≡ true → x ≡ one) →
     count_by p xs ≡ 1
 count_of_one o p one [] sorted among passes alone = absurd (omega (arith, among.1))
-count_of_one {X} {c} o p one (x ∷ xs) sorted among passes alone = elim (contained_cases x xs one among) [
+count_of_one {X} {c} o p one (x ∷ xs) sorted among passes alone = elim (Contains-cases x xs one among) [
   | inl here ↦
-      count_passed p x xs (ap p here ∙ passes)
-      ∙ ap (λ n. 1 + n) (count_of_none p xs (λ y after. false_from_ne_true (p y) (λ passes_too.
-      head_not_after o x xs sorted (subst (Contains xs) (alone y (tail_contained x xs y after) passes_too ∙ sym here) after))))
+      count_by-passed p x xs (ap p here ∙ passes)
+      ∙ ap (λ n. 1 + n) (count_by-none p xs (λ y after. false_from_ne_true (p y) (λ passes_too.
+      head_not_after o x xs sorted (subst (Contains xs) (alone y (Contains-tail x xs y after) passes_too ∙ sym here) after))))
   | inr after ↦
-      count_failed p x xs (false_from_ne_true (p x) (λ passes_too.
-      head_not_after o x xs sorted (subst (Contains xs) (sym (alone x (head_contained x xs) passes_too)) after)))
-      ∙ count_of_one o p one xs (sorted_tail c x xs sorted) after passes (λ y y_after. alone y (tail_contained x xs y y_after))
+      count_by-failed p x xs (false_from_ne_true (p x) (λ passes_too.
+      head_not_after o x xs sorted (subst (Contains xs) (sym (alone x (Contains-head x xs) passes_too)) after)))
+      ∙ count_of_one o p one xs (sorted_tail c x xs sorted) after passes (λ y y_after. alone y (Contains-tail x xs y y_after))
 ]
 
 -- an element from behind a list comes before it
@@ -74,10 +49,10 @@ module _ {X A : Type 0} (p : A → Bool) (x : X) (g : A → List X) where
   unfolding with_x
   x_in_none [] h = refl
   x_in_none (a ∷ as') h = elim (cases_Bool (p a)) [
-    | inl passes ↦ absurd (omega (arith, h, count_passed p a as' passes))
+    | inl passes ↦ absurd (omega (arith, h, count_by-passed p a as' passes))
     | inr fails ↦
         ap (λ b. cond b (x ∷ g a) (g a) ++ flat_map with_x as') fails
-        ∙ ap (λ xs. g a ++ xs) (x_in_none as' (sym (count_failed p a as' fails) ∙ h))
+        ∙ ap (λ xs. g a ++ xs) (x_in_none as' (sym (count_by-failed p a as' fails) ∙ h))
   ]
 
   -- where one element passes, x is in one list
@@ -86,12 +61,12 @@ module _ {X A : Type 0} (p : A → Bool) (x : X) (g : A → List X) where
   x_in_one [] h = absurd (omega arith)
   x_in_one (a ∷ as') h = elim (cases_Bool (p a)) [
     | inl passes ↦
-        let rest : count_by p as' ≡ 0 = omega (arith, h, count_passed p a as' passes) in
+        let rest : count_by p as' ≡ 0 = omega (arith, h, count_by-passed p a as' passes) in
         let same : flat_map with_x (a ∷ as') ≡ x ∷ flat_map g (a ∷ as')
         = ap (λ b. cond b (x ∷ g a) (g a) ++ flat_map with_x as') passes ∙ ap (λ xs. (x ∷ g a) ++ xs) (x_in_none as' rest) in
         subst (λ xs. Reordered xs (x ∷ flat_map g (a ∷ as'))) (sym same) (unmoved (x ∷ flat_map g (a ∷ as')))
     | inr fails ↦
-        let rest : count_by p as' ≡ 1 = sym (count_failed p a as' fails) ∙ h in
+        let rest : count_by p as' ≡ 1 = sym (count_by-failed p a as' fails) ∙ h in
         let same : flat_map with_x (a ∷ as') ≡ g a ++ flat_map with_x as'
         = ap (λ b. cond b (x ∷ g a) (g a) ++ flat_map with_x as') fails in
         subst (λ xs. Reordered xs (x ∷ flat_map g (a ∷ as'))) (sym same)
@@ -119,10 +94,10 @@ unfolding with_x
 groups_join keys test [] shared = subst (λ xs. Reordered xs []) (sym (no_groups keys)) none
 groups_join keys test (fact ∷ facts) shared = elim (cases_Bool (test fact)) [
   | inl passes ↦
-      subst (Reordered (joined_groups keys (fact ∷ facts))) (sym (filter_passed test fact facts passes))
+      subst (Reordered (joined_groups keys (fact ∷ facts))) (sym (filter-passed test fact facts passes))
       (both (one_more (shared.0.one passes)) (next (groups_join keys test facts shared.1)))
   | inr fails ↦
-      subst (Reordered (joined_groups keys (fact ∷ facts))) (sym (filter_failed test fact facts fails))
+      subst (Reordered (joined_groups keys (fact ∷ facts))) (sym (filter-failed test fact facts fails))
       (subst (λ xs. Reordered xs (filter test facts)) (sym (none_more (shared.0.no_other fails)))
       (groups_join keys test facts shared.1))
 ]

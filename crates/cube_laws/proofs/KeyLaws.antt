@@ -1,33 +1,27 @@
 -- What the columns of a row tell of its key.
 use Rattle.std.specs.Prelude.{◌≡◌, ◌==◌, ◌*◌, ℕ, true, not, List, [], ◌∷◌, ◌++◌, length, map, take, drop, get_or, Option, Some, None, Contains, codes}
 use Rattle.std.specs.Str.{bytes_eq}
-use Rattle.std.specs.List.{AllByRecursion, list_any, list_all}
-use Rattle.std.specs.List.Sorted.{IsStrictlySortedBy}
-use Rattle.std.specs.Cmp.{nat_cmp_is}
-use Rattle.std.specs.Cmp.Lexicographic.{slice_cmp}
-use Rattle.std.specs.Ordering.{nat_cmp}
-use Rattle.std.specs.declared.cmp.Ordering.{Ordering}
-use Rattle.std.specs.declared.cmp.Ordering.TheVariants.{Less, Equal}
+use Rattle.std.specs.List.{list_any, list_all}
 use Rattle.std.proofs.Common.{refl, sym, ap, ◌∙◌, inl, inr, arith}
 use Rattle.std.proofs.Math.Seq.{take-append_seam, drop-append_seam}
 use Rattle.std.proofs.lemmas.List.{length-append, length-map}
-use Rattle.std.proofs.lemmas.List.Elements.{All-contains, All-from_recursion}
-use Rattle.std.proofs.lemmas.Bool.{or_cases, and_parts, and_from, eqb-true, both_ways, not-true, false≢true}
+use Rattle.std.proofs.lemmas.Bool.{or_cases, and_parts, and_from, both_ways, not-true, false≢true}
 use Rattle.std.proofs.lemmas.Slice.Eq.{bytes_eq-Decides}
 use Rattle.cube_core.specs.Layout.{Layout}
-use Rattle.cube_core.specs.Takes.{null_text, is_dimension_value}
+use Rattle.cube_core.specs.Takes.{null_text, fits, is_dimension_value}
 use Rattle.cube_core.specs.Covers.{stands_for, all_stand_for, covers}
-use Rattle.cube_core.specs.Order.{coord_cmp, key_cmp}
-use Rattle.cube_core.specs.GroupingSet.{is_all_coord, all_sets}
-use Rattle.cube_core.specs.Cube.{is_total, is_cell, key_of, AreRows}
+use Rattle.cube_core.specs.GroupingSet.{is_all_coord}
+use Rattle.cube_core.specs.Cube.{is_total, is_cell, HasAnswers, key_of, AreRows}
 use Rattle.cube_core.specs.Text.{coord_text, grouping_text, answer_text}
-use Rattle.cube_laws.specs.Keys.{is_no_null_text, has_no_null_text, LookAlike, key_columns, AllFit}
+use Rattle.cube_laws.specs.Keys.{is_no_null_text, has_no_null_text, LookAlike, key_columns}
 use Rattle.cube_core.specs.declared.fact.Fact.{Fact}
 use Rattle.cube_core.specs.declared.key.Coord.{Coord}
 use Rattle.cube_core.specs.declared.key.Coord.TheVariants as coord
 use Rattle.cube_core.specs.declared.key.Key.{Key}
 use Rattle.cube_core.specs.declared.key.Row.{Row}
-use Rattle.cube_laws.proofs.SetLaws.{in_cons, in_head, in_tail}
+use Rattle.cube_laws.proofs.RowLaws.{same_row}
+use Rattle.cube_core.proofs.PlainRows.{width_of_cell}
+use Rattle.cube_core.proofs.ListLaws.{AllByRecursion-Contains, list_all-Contains, list_any-Contains, map-Contains}
 
 -- a text that is the one for null isn't told
 not_the_null_text : (name : List ℕ) → not (bytes_eq name null_text) ≡ true → name ≡ null_text → ⊥
@@ -81,17 +75,15 @@ stands_told (coord.Text name) (Some text) stands lawful =
     let same = (bytes_eq-Decides name text).0 stands in
     ap (λ (t : List ℕ). not (bytes_eq t null_text)) same ∙ lawful
 
--- so do those of a key, and they are as many
+-- so do those of a key
 all_stand_told : (coords : List Coord) (values : List (Option (List ℕ))) → all_stand_for coords values ≡ true → list_all is_dimension_value values ≡ true
-    → (list_all is_no_null_text coords ≡ true) × (length coords ≡ length values)
-all_stand_told [] [] stand lawful = (refl, refl)
-all_stand_told [] (value ∷ values) stand lawful = cc stand
+    → list_all is_no_null_text coords ≡ true
+all_stand_told [] values stand lawful = refl
 all_stand_told (c ∷ coords) [] stand lawful = cc stand
 all_stand_told (c ∷ coords) (value ∷ values) stand lawful =
     let s = and_parts (stands_for c value) (all_stand_for coords values) stand in
     let l = and_parts (is_dimension_value value) (list_all is_dimension_value values) lawful in
-    let rest = all_stand_told coords values s.1 l.1 in
-    (and_from _ _ (stands_told c value s.0 l.0) rest.0, omega (arith, rest.1))
+    and_from _ _ (stands_told c value s.0 l.0) (all_stand_told coords values s.1 l.1)
 
 -- no coordinate of the grand total is a null text
 total_told : (coords : List Coord) → list_all is_all_coord coords ≡ true → list_all is_no_null_text coords ≡ true
@@ -105,25 +97,21 @@ abbrev IsTold : Layout → Key → Type 0
 IsTold s key = (has_no_null_text key ≡ true) × (length key.coords ≡ length s.dimensions)
 
 -- a key that covers one of the facts
-covering_told : (s : Layout) (facts : List Fact) (key : Key) → AllFit s facts → list_any (covers key) facts ≡ true → IsTold s key
-covering_told s [] key fit some = cc some
-covering_told s (fact ∷ facts) key fit some = elim (or_cases (covers key fact) (list_any (covers key) facts) some) [
-  | inl here ↦
-      let parts = and_parts _ _ fit.0 in
-      let shape = and_parts _ _ parts.0 in
-      let told = all_stand_told key.coords fact.dims here parts.1 in
-      (told.0, told.1 ∙ eqb-true _ _ shape.0)
-  | inr later ↦ covering_told s facts key fit.1 later
-]
+covering_told : (s : Layout) (facts : List Fact) (key : Key) → list_all (fits s) facts ≡ true → list_any (covers key) facts ≡ true → has_no_null_text key ≡ true
+covering_told s facts key fit some =
+    let found = list_any-Contains (covers key) facts some in
+    let parts = and_parts _ _ (list_all-Contains (fits s) facts found.0 fit found.1) in
+    all_stand_told key.coords found.0.dims found.2 parts.1
 
 -- a cell
-pub cell_told : (s : Layout) (sets : List ℕ) (facts : List Fact) (key : Key) → AllFit s facts → is_cell sets (length s.dimensions) facts key ≡ true → IsTold s key
+pub cell_told : (s : Layout) (sets : List ℕ) (facts : List Fact) (key : Key) → list_all (fits s) facts ≡ true → is_cell sets (length s.dimensions) facts key ≡ true → IsTold s key
 cell_told s sets facts key fit cell =
     let parts = and_parts _ _ cell in
-    elim (or_cases (is_total (length s.dimensions) key) (list_any (covers key) facts) parts.1) [
-      | inl total ↦ let t = and_parts _ _ total in (total_told key.coords t.1, eqb-true _ _ t.0)
+    let told : has_no_null_text key ≡ true = elim (or_cases (is_total (length s.dimensions) key) (list_any (covers key) facts) parts.1) [
+      | inl total ↦ total_told key.coords (and_parts _ _ total).1
       | inr some ↦ covering_told s facts key fit some
-    ]
+    ] in
+    (told, width_of_cell s facts key fit parts.1)
 
 -- lists of one length that begin two equal lists are equal, and so is what comes after
 fronts_same : {X : Type 0} (a b as' bs : List X) → length a ≡ length b → a ++ as' ≡ b ++ bs → a ≡ b
@@ -155,58 +143,19 @@ shown_alike a b lengths same =
       groupings = backs_same (map coord_text a.coords) (map coord_text b.coords) _ _ l same;
     }
 
--- the key of a row is among the keys
-in_keys : (rows : List Row) (row : Row) → Contains rows row → Contains (map key_of rows) row.key
-in_keys [] row here = absurd (omega (arith, here.1))
-in_keys (first ∷ rows) row here = elim (in_cons first rows row here) [
-  | inl same ↦ in_head first.key (map key_of rows) row.key (ap key_of same)
-  | inr later ↦ in_tail first.key (map key_of rows) row.key (in_keys rows row later)
-]
-
--- what is true of all keys is true of a row's
-after_all : (first : Key) (rows : List Row) (row : Row) → AllByRecursion (λ key. key_cmp first key ≡ Less) (map key_of rows) → Contains rows row → key_cmp first row.key ≡ Less
-after_all first rows row all here =
-    All-contains (λ key. key_cmp first key ≡ Less) (map key_of rows) row.key (All-from_recursion (λ key. key_cmp first key ≡ Less) (map key_of rows) all) (in_keys rows row here)
-
 -- rows of a cube that show the same have one key
-row_key_told : (s : Layout) (facts : List Fact) (rows : List Row) (a b : Row) → AllFit s facts → AreRows s facts rows
+row_key_told : (s : Layout) (facts : List Fact) (rows : List Row) (a b : Row) → list_all (fits s) facts ≡ true → AreRows s facts rows
     → Contains rows a → Contains rows b → key_columns s a ≡ key_columns s b → a.key ≡ b.key
 row_key_told s facts rows a b fit whole in_a in_b same =
-    let told_a = cell_told s (all_sets (length s.dimensions)) facts a.key fit ((whole.cells a.key).0 (in_keys rows a in_a)) in
-    let told_b = cell_told s (all_sets (length s.dimensions)) facts b.key fit ((whole.cells b.key).0 (in_keys rows b in_b)) in
+    let told_a = cell_told s s.grouping_sets facts a.key fit ((whole.cells a.key).0 (map-Contains key_of rows a in_a)) in
+    let told_b = cell_told s s.grouping_sets facts b.key fit ((whole.cells b.key).0 (map-Contains key_of rows b in_b)) in
     key_told a.key b.key told_a.0 told_b.0
     (shown_alike a.key b.key (told_a.1 ∙ sym told_b.1) (sym (shown_in_row s a told_a.1) ∙ same ∙ shown_in_row s b told_b.1))
 
--- a key is not before itself
-compares_with_itself : {X : Type 0} (R : X → X → Ordering) → ((x : X) → R x x ≡ Equal) → (xs : List X) → slice_cmp R xs xs ≡ Equal
-compares_with_itself R same [] = refl
-compares_with_itself R same (x ∷ xs) = rw (same x) (compares_with_itself R same xs)
-
-coord_with_itself : (c : Coord) → coord_cmp c c ≡ Equal
-coord_with_itself (coord.Text name) = compares_with_itself nat_cmp (λ n. sym (nat_cmp_is n n Equal refl)) name
-coord_with_itself coord.Null = refl
-coord_with_itself coord.All = refl
-
-not_before_itself : (key : Key) → key_cmp key key ≡ Less → ⊥
-not_before_itself key before = let equal = compares_with_itself coord_cmp coord_with_itself key.coords in cc (equal, before)
-
--- in rows in order by key, rows of one key are one
-one_row : (rows : List Row) (a b : Row) → IsStrictlySortedBy key_cmp (map key_of rows) → Contains rows a → Contains rows b → a.key ≡ b.key → a ≡ b
-unfolding IsStrictlySortedBy
-one_row [] a b ordered in_a in_b same = absurd (omega (arith, in_a.1))
-one_row (row ∷ rows) a b ordered in_a in_b same = elim (in_cons row rows a in_a) [
-  | inl first_a ↦ elim (in_cons row rows b in_b) [
-    | inl first_b ↦ sym first_a ∙ first_b
-    | inr later_b ↦ absurd (not_before_itself b.key (ap (λ (key : Key). key_cmp key b.key) (sym same ∙ sym (ap key_of first_a)) ∙ after_all row.key rows b ordered.0 later_b))
-  ]
-  | inr later_a ↦ elim (in_cons row rows b in_b) [
-    | inl first_b ↦ absurd (not_before_itself a.key (ap (λ (key : Key). key_cmp key a.key) (same ∙ sym (ap key_of first_b)) ∙ after_all row.key rows a ordered.0 later_a))
-    | inr later_b ↦ one_row rows a b ordered.1 later_a later_b same
-  ]
-]
-
 -- rows of a cube that show the same are one row
-pub row_told : (s : Layout) (facts : List Fact) (rows : List Row) (a b : Row) → AllFit s facts → AreRows s facts rows
+pub row_told : (s : Layout) (facts : List Fact) (rows : List Row) (a b : Row) → list_all (fits s) facts ≡ true → AreRows s facts rows
     → Contains rows a → Contains rows b → key_columns s a ≡ key_columns s b → a ≡ b
 row_told s facts rows a b fit whole in_a in_b same =
-    one_row rows a b whole.ordered in_a in_b (row_key_told s facts rows a b fit whole in_a in_b same)
+    same_row s.aggregates facts a b (row_key_told s facts rows a b fit whole in_a in_b same)
+    (AllByRecursion-Contains (HasAnswers s.aggregates facts) rows a whole.answers in_a)
+    (AllByRecursion-Contains (HasAnswers s.aggregates facts) rows b whole.answers in_b)

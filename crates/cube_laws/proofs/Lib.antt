@@ -1,7 +1,9 @@
 mod FractionLaws
 mod LifeLaws
+mod FieldLaws
 mod SpellingLaws
 mod WrittenLaws
+mod GroupingLaws
 mod RowLaws
 mod RowOrderLaws
 mod GroupCountLaws
@@ -11,5 +13,6 @@ mod RollupKeyLaws
 mod RollupBestLaws
 mod RollupLaws
 mod SetLaws
+mod SurvivorLaws
 mod KeyLaws
 mod TextLaws

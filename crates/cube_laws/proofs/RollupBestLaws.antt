@@ -1,17 +1,16 @@
 -- The answers of groups, against the answer of the groups joined: of sums the sum, of least values the least.
-use Rattle.std.proofs.Common.{◌≡◌, ℕ, ◌≤ℤ◌, ℤ, ◌+ℤ◌, List, [], ◌∷◌, ◌++◌, length, flat_map, Contains, ◌↔◌, ◌⊎◌, refl, sym, ap, ◌∙◌, subst, inl, inr, arith, length-append}
+use Rattle.std.proofs.Common.{◌≡◌, ℕ, ℤ, ◌+ℤ◌, List, [], ◌∷◌, ◌++◌, length, flat_map, Contains, ◌↔◌, ◌⊎◌, refl, sym, ap, ◌∙◌, subst, inl, inr, arith, length-append}
 use Rattle.std.specs.List.{AllByRecursion, cons_option}
 use Rattle.std.proofs.lemmas.Int.{ints}
 use Rattle.std.proofs.lemmas.List.Elements.{Contains-append_left, Contains-append_right, Contains-append_cases}
-use Rattle.cube_core.specs.Answer.{IsSum, IsLeast, IsGreatest}
+use Rattle.cube_core.specs.Answer.{IsSum, IsBest}
 use Rattle.cube_core.specs.Group.{total_of}
 use Rattle.cube_laws.specs.Cells.{answer_at}
 use Rattle.cube_laws.specs.Rollup.{number_in, numbers_at}
 use Rattle.cube_core.specs.declared.aggregate.Answer.{Answer}
 use Rattle.cube_core.specs.declared.aggregate.Answer.TheVariants as answer
 use Rattle.cube_core.specs.declared.key.Row.{Row}
-use Rattle.cube_laws.proofs.RowLaws.{at_contained, none_contained, head_contained, tail_contained, contained_cases}
-use Rattle.cube_laws.proofs.CountLaws.{each_contained}
+use Rattle.cube_core.proofs.ListLaws.{AllByRecursion-Contains, Contains-AllByRecursion, Contains-cases, Contains-head, Contains-nil, Contains-tail}
 
 -- a sum of joined lists
 total_joined : (xs ys : List ℤ) → total_of (xs ++ ys) ≡ total_of xs +ℤ total_of ys
@@ -48,26 +47,20 @@ total_step (v ∷ vs) a numbers others h same =
     ∙ ap (λ t. total_of (v ∷ vs) +ℤ t) same
     ∙ sym (total_joined (v ∷ vs) others)
 
--- what is best of values by an order: null where there are none
-unfoldable pub IsBest : (ℤ → ℤ → Type 0) → List ℤ → Answer → Type 0
-IsBest R [] a = a ≡ answer.Null
-IsBest R (v ∷ vs) a = (m : ℤ) × (a ≡ answer.Whole m) × Contains (v ∷ vs) m × AllByRecursion (R m) (v ∷ vs)
-
+-- so does what is best by an order
 pub best_says : (R : ℤ → ℤ → Type 0) (values : List ℤ) (a : Answer) → IsBest R values a → Says values a
-unfolding Says IsBest
+unfolding Says
 best_says R [] a h = h
 best_says R (v ∷ vs) a h = (h.0, h.1)
 
-module _ (R : ℤ → ℤ → Type 0) (one : (m n : ℤ) → R m n → R n m → m ≡ n) where
+module _ (R : ℤ → ℤ → Type 0) where
   -- an answer that is best is one of its values, and no value is better
   best_found : (values : List ℤ) (a : Answer) (x : ℤ) → IsBest R values a → Contains values x →
       (n : ℤ) × (a ≡ answer.Whole n) × R n x
-  unfolding IsBest
-  best_found [] a x h among = absurd (none_contained x among)
-  best_found (v ∷ vs) a x h among = (h.0, h.1, at_contained (R h.0) (v ∷ vs) x h.3 among)
+  best_found [] a x h among = absurd (Contains-nil x among)
+  best_found (v ∷ vs) a x h among = (h.0, h.1, AllByRecursion-Contains (R h.0) (v ∷ vs) x h.3 among)
 
   best_among : (values : List ℤ) (a : Answer) (n : ℤ) → IsBest R values a → a ≡ answer.Whole n → Contains values n
-  unfolding IsBest
   best_among [] a n h is =
       let clash : answer.Null ≡ answer.Whole n = sym h ∙ is in
       cc
@@ -99,14 +92,14 @@ module _ (values_under : Row → List ℤ) (place : ℕ) where
       Contains (numbers_at place (row ∷ rows)) n
   number_among row rows n is =
       subst (λ a. Contains (cons_option (number_in a) (numbers_at place rows)) n) (sym is)
-      (head_contained n (numbers_at place rows))
+      (Contains-head n (numbers_at place rows))
 
   -- and so do the numbers of the other rows
   other_among : (a : Answer) (numbers : List ℤ) (n : ℤ) → Contains numbers n →
       Contains (cons_option (number_in a) numbers) n
   other_among answer.Null numbers n among = among
   other_among (answer.Count c) numbers n among = among
-  other_among (answer.Whole z) numbers n among = tail_contained z numbers n among
+  other_among (answer.Whole z) numbers n among = Contains-tail z numbers n among
   other_among (answer.Ratio p q) numbers n among = among
 
   -- a number is an answer, or among the other numbers
@@ -114,7 +107,7 @@ module _ (values_under : Row → List ℤ) (place : ℕ) where
       (a ≡ answer.Whole n) ⊎ Contains numbers n
   number_cases answer.Null numbers n among = inr among
   number_cases (answer.Count c) numbers n among = inr among
-  number_cases (answer.Whole z) numbers n among = elim (contained_cases z numbers n among) [
+  number_cases (answer.Whole z) numbers n among = elim (Contains-cases z numbers n among) [
     | inl here ↦ inl (ap answer.Whole here)
     | inr after ↦ inr after
   ]
@@ -129,7 +122,7 @@ module _ (values_under : Row → List ℤ) (place : ℕ) where
     numbers_are_values (row ∷ rows) n h among = elim (number_cases (answer_at place row) (numbers_at place rows) n among) [
       | inl here ↦
           Contains-append_left (values_under row) (flat_map values_under rows) n
-          (best_among R one (values_under row) (answer_at place row) n h.0 here)
+          (best_among R (values_under row) (answer_at place row) n h.0 here)
       | inr after ↦
           Contains-append_right (values_under row) (flat_map values_under rows) n (numbers_are_values rows n h.1 after)
     ]
@@ -138,10 +131,10 @@ module _ (values_under : Row → List ℤ) (place : ℕ) where
     number_as_good : (rows : List Row) (x : ℤ) →
         AllByRecursion (λ row. IsBest R (values_under row) (answer_at place row)) rows →
         Contains (flat_map values_under rows) x → (n : ℤ) × Contains (numbers_at place rows) n × R n x
-    number_as_good [] x h among = absurd (none_contained x among)
+    number_as_good [] x h among = absurd (Contains-nil x among)
     number_as_good (row ∷ rows) x h among = elim (Contains-append_cases (values_under row) (flat_map values_under rows) x among) [
       | inl here ↦
-          let found = best_found R one (values_under row) (answer_at place row) x h.0 here in
+          let found = best_found R (values_under row) (answer_at place row) x h.0 here in
           (found.0, number_among row rows found.0 found.1, found.2)
       | inr after ↦
           let found = number_as_good rows x h.1 after in
@@ -152,18 +145,17 @@ module _ (values_under : Row → List ℤ) (place : ℕ) where
     best_from : (numbers values : List ℤ) (a : Answer) → (length numbers ≡ 0) ↔ (length values ≡ 0) →
         ((n : ℤ) → Contains numbers n → Contains values n) →
         ((x : ℤ) → Contains values x → (n : ℤ) × Contains numbers n × R n x) → IsBest R values a → IsBest R numbers a
-    unfolding IsBest
     best_from [] [] a both within found h = h
     best_from [] (v ∷ vs) a both within found h = absurd (omega (arith, both.0 refl))
     best_from (n ∷ ns) [] a both within found h = absurd (omega (arith, both.1 refl))
     best_from (n ∷ ns) (v ∷ vs) a both within found h =
         let good = found h.0 h.2 in
-        let below : (x : ℤ) → Contains (v ∷ vs) x → R h.0 x = λ x among. at_contained (R h.0) (v ∷ vs) x h.3 among in
+        let below : (x : ℤ) → Contains (v ∷ vs) x → R h.0 x = λ x among. AllByRecursion-Contains (R h.0) (v ∷ vs) x h.3 among in
         let same : h.0 ≡ good.0 = one h.0 good.0 (below good.0 (within good.0 good.1)) good.2 in (
           h.0,
           h.1,
           subst (Contains (n ∷ ns)) (sym same) good.1,
-          each_contained (R h.0) (n ∷ ns) (λ x among. below x (within x among)),
+          Contains-AllByRecursion (R h.0) (n ∷ ns) (λ x among. below x (within x among)),
         )
 
     -- the best of the best is the best of the values
@@ -179,27 +171,6 @@ module _ (values_under : Row → List ℤ) (place : ℕ) where
             AllByRecursion (λ row. Says (values_under row) (answer_at place row)) rows
         says [] each = each
         says (row ∷ rows) each = (best_says R (values_under row) (answer_at place row) each.0, says rows each.1)
-
--- least and greatest values are the best by the order and by its reverse
-pub least_is_best : (values : List ℤ) (a : Answer) → IsLeast values a → IsBest (λ m x. m ≤ℤ x) values a
-unfolding IsBest
-least_is_best [] a h = h
-least_is_best (v ∷ vs) a h = h
-
-pub best_is_least : (values : List ℤ) (a : Answer) → IsBest (λ m x. m ≤ℤ x) values a → IsLeast values a
-unfolding IsBest
-best_is_least [] a h = h
-best_is_least (v ∷ vs) a h = h
-
-pub greatest_is_best : (values : List ℤ) (a : Answer) → IsGreatest values a → IsBest (λ m x. x ≤ℤ m) values a
-unfolding IsBest
-greatest_is_best [] a h = h
-greatest_is_best (v ∷ vs) a h = h
-
-pub best_is_greatest : (values : List ℤ) (a : Answer) → IsBest (λ m x. x ≤ℤ m) values a → IsGreatest values a
-unfolding IsBest
-best_is_greatest [] a h = h
-best_is_greatest (v ∷ vs) a h = h
 
 -- a sum of values is one of numbers with the same sum
 pub sum_from : (numbers values : List ℤ) (a : Answer) → (length numbers ≡ 0) ↔ (length values ≡ 0) →

@@ -1,7 +1,8 @@
 -- The keys that drill down from a key along a dimension share its facts out among them.
-use Rattle.std.proofs.Common.{◌≡◌, ℕ, zero, suc, ◌^◌, ◌<◌, Bool, true, false, not, List, [], ◌∷◌, length, map, filter, get_or, set, slice_get, count_by, Contains, Option, Some, None, refl, sym, ap, ◌∙◌, subst, Ordering, Less, Equal, Greater}
+use Rattle.std.proofs.Common.{◌≡◌, ℕ, zero, suc, ◌+◌, ◌*◌, ◌^◌, Bool, true, false, cond, not, List, [], ◌∷◌, map, filter, get_or, set, slice_get, count_by, Contains, Option, Some, None, refl, sym, ap, ◌∙◌, subst, arith, Ordering, Less, Equal, Greater}
 use Rattle.std.specs.Option.{option_map_or}
 use Rattle.std.specs.Ordering.{eq_by_cmp}
+use Rattle.std.proofs.Math.Nat.{pow-succ'}
 use Rattle.std.proofs.lemmas.Bool.{and_parts, and_from, not-true, false_from_ne_true}
 use Rattle.std.proofs.lemmas.Cmp.{tied_itself}
 use Rattle.std.proofs.lemmas.List.Kept.{IsStrictlySortedBy-filter}
@@ -10,21 +11,21 @@ use Rattle.cube_core.specs.Layout.{Layout}
 use Rattle.cube_core.specs.Covers.{covers, all_stand_for, stands_for}
 use Rattle.cube_core.specs.Cube.{AreRows, key_of}
 use Rattle.cube_core.specs.Group.{group_of}
-use Rattle.cube_core.specs.GroupingSet.{is_all_coord, is_all_at, mask_of}
-use Rattle.cube_laws.specs.Cells.{HaveDimensions}
-use Rattle.cube_laws.specs.Rollup.{rolled_up, drills_down, rows_below}
+use Rattle.cube_core.specs.GroupingSet.{is_all_coord, is_all_at, mask_of, is_among, mask_of_coords}
+use Rattle.cube_core.specs.Query.{rolled_up, drills_down, rows_below}
 use Rattle.cube_core.specs.Order.{key_cmp}
 use Rattle.cube_core.specs.declared.fact.Fact.{Fact}
 use Rattle.cube_core.specs.declared.key.Coord.{Coord}
 use Rattle.cube_core.specs.declared.key.Coord.TheVariants as coord
 use Rattle.cube_core.specs.declared.key.Key.{Key}
 use Rattle.cube_core.specs.declared.key.Row.{Row}
-use Rattle.cube_laws.proofs.RowLaws.{same_key}
 use Rattle.cube_laws.proofs.RowOrderLaws.{Reordered}
-use Rattle.cube_laws.proofs.CountLaws.{dimensions_of, each_contained, was_in, stays_in, key_is_cell, map_filtered}
-use Rattle.cube_laws.proofs.GroupCountLaws.{count_of_one, count_of_none, SharedOut, joined_groups, groups_join}
-use Rattle.cube_core.proofs.PlainKeys.{coord_of, coord_of_is, mask_below, length_standing}
+use Rattle.cube_laws.proofs.CountLaws.{key_is_cell}
+use Rattle.cube_laws.proofs.GroupCountLaws.{count_of_one, SharedOut, joined_groups, groups_join}
+use Rattle.cube_core.proofs.PlainKeys.{coord_of, coord_of_is}
 use Rattle.cube_core.proofs.PlainOrder.{key_cmp_total, exact_keys}
+use Rattle.cube_core.proofs.ListLaws.{Contains-AllByRecursion, Contains-filter, count_by-none, filter-Contains, map-filter}
+use Rattle.cube_core.proofs.PlainCells.{same_key}
 
 -- a value or null stands for itself
 stands_itself : (value : Option (List ℕ)) → stands_for (coord_of value true) value ≡ true
@@ -82,6 +83,20 @@ drilled_not_all [] dimension value = refl
 drilled_not_all (c ∷ coords) zero value = not_all value
 drilled_not_all (c ∷ coords) (suc dimension) value = drilled_not_all coords dimension value
 
+-- a mask with one more dimension above its last
+one_more_bit : (bit mask rest d : ℕ) → rest ≡ mask + 2 ^ d → bit + 2 * rest ≡ (bit + 2 * mask) + 2 ^ suc d
+one_more_bit bit mask rest d is = omega (arith, pow-succ' 2 d, is)
+
+-- a value in place of ALL adds its dimension to the mask
+mask_of_drilled : (coords : List Coord) (dimension : ℕ) (value : Option (List ℕ)) → all_at coords dimension ≡ true →
+    mask_of_coords (set coords dimension (coord_of value true)) ≡ mask_of_coords coords + 2 ^ dimension
+mask_of_drilled [] dimension value all = cc
+mask_of_drilled (coord.All ∷ coords) zero value all = rw (not_all value) (omega arith)
+mask_of_drilled (coord.Null ∷ coords) zero value all = cc
+mask_of_drilled (coord.Text name ∷ coords) zero value all = cc
+mask_of_drilled (c ∷ coords) (suc dimension) value all =
+    one_more_bit (cond (is_all_coord c) 0 1) (mask_of_coords coords) _ dimension (mask_of_drilled coords dimension value all)
+
 -- coordinates that stand for values and are not ALL in a dimension have the value itself there
 drilled_back : (coords : List Coord) (dimension : ℕ) (values : List (Option (List ℕ))) →
     all_stand_for coords values ≡ true → all_at coords dimension ≡ false →
@@ -112,7 +127,7 @@ equals_itself : (key : Key) → eq_by_cmp key_cmp key key ≡ true
 equals_itself key = ap (λ o. eq_by_cmp (λ (x y : ℕ). o) 0 0) (tied_itself key_cmp_total key)
 
 module _ (s : Layout) (facts : List Fact) (rows : List Row) (are : AreRows s facts rows) (above : Key) (dimension : ℕ)
-    (all : is_all_at above dimension ≡ true) where
+    (all : is_all_at above dimension ≡ true) (kept : is_among (mask_of above + 2 ^ dimension) s.grouping_sets ≡ true) where
   -- the key that drills down to a fact
   abbrev drilled_key : Fact → Key
   drilled_key fact = record { coords = drilled above.coords dimension fact.dims }
@@ -132,38 +147,36 @@ module _ (s : Layout) (facts : List Fact) (rows : List Row) (are : AreRows s fac
   keys_below = filter (drills_down dimension above) (map key_of rows)
 
   -- one key below covers a fact that the key above does
-  one_below : (fact : Fact) → Contains facts fact → length fact.dims ≡ length s.dimensions →
-      covers above fact ≡ true → count_by (λ key. covers key fact) keys_below ≡ 1
-  one_below fact among dims covered =
+  one_below : (fact : Fact) → Contains facts fact → covers above fact ≡ true → count_by (λ key. covers key fact) keys_below ≡ 1
+  one_below fact among covered =
       let one = drilled_key fact in
       let drilled_covers : covers one fact ≡ true = drilled_stands above.coords dimension fact.dims covered in
-      let is_set : mask_of one < 2 ^ length s.dimensions
-      = subst (λ n. mask_of one < 2 ^ n) (length_standing one.coords fact.dims drilled_covers ∙ dims) (mask_below one.coords) in
-      let is_cell : Contains (map key_of rows) one = key_is_cell s facts rows are one fact among drilled_covers is_set in
+      let is_kept : is_among (mask_of one) s.grouping_sets ≡ true
+      = ap (λ set. is_among set s.grouping_sets) (mask_of_drilled above.coords dimension (get_or fact.dims dimension None) all) ∙ kept in
+      let is_cell : Contains (map key_of rows) one = key_is_cell s facts rows are one fact among drilled_covers is_kept in
       count_of_one key_cmp_total (λ key. covers key fact) one keys_below
       (IsStrictlySortedBy-filter key_cmp (drills_down dimension above) (map key_of rows) are.ordered)
-      (stays_in (drills_down dimension above) (map key_of rows) one is_cell (drilled_key_drills fact))
+      (filter-Contains (drills_down dimension above) (map key_of rows) one is_cell (drilled_key_drills fact))
       drilled_covers
       (λ key key_among key_covers.
-      let rolled = rolled_to dimension above key (was_in (drills_down dimension above) (map key_of rows) key key_among).1 in
+      let rolled = rolled_to dimension above key (Contains-filter (drills_down dimension above) (map key_of rows) key key_among).1 in
       same_key key one
       (sym (drilled_back key.coords dimension fact.dims key_covers rolled.0)
       ∙ ap (λ (key : Key). drilled key.coords dimension fact.dims) rolled.1))
 
   -- no key below covers another fact
   none_below : (fact : Fact) → covers above fact ≡ false → count_by (λ key. covers key fact) keys_below ≡ 0
-  none_below fact other = count_of_none (λ key. covers key fact) keys_below (λ key key_among.
+  none_below fact other = count_by-none (λ key. covers key fact) keys_below (λ key key_among.
       false_from_ne_true (covers key fact) (λ key_covers.
-      let rolled = rolled_to dimension above key (was_in (drills_down dimension above) (map key_of rows) key key_among).1 in
+      let rolled = rolled_to dimension above key (Contains-filter (drills_down dimension above) (map key_of rows) key key_among).1 in
       let covered : covers above fact ≡ true = subst (λ (key : Key). covers key fact ≡ true) rolled.1 (rolled_stands key.coords dimension fact.dims key_covers) in
       absurd (let both : true ≡ false = sym covered ∙ other in cc)))
 
   -- the groups of the rows below, joined, are the group above up to order
-  pub below_join : HaveDimensions (length s.dimensions) facts →
-      Reordered (joined_groups (map key_of (rows_below dimension above rows)) facts) (group_of above facts)
-  below_join dims =
-      subst (λ keys. Reordered (joined_groups keys facts) (group_of above facts)) (sym (map_filtered key_of (drills_down dimension above) rows))
-      (groups_join keys_below (covers above) facts (each_contained (SharedOut keys_below (covers above)) facts (λ fact among. record {
-        one = one_below fact among (dimensions_of (length s.dimensions) facts fact dims among);
+  pub below_join : Reordered (joined_groups (map key_of (rows_below dimension above rows)) facts) (group_of above facts)
+  below_join =
+      subst (λ keys. Reordered (joined_groups keys facts) (group_of above facts)) (sym (map-filter key_of (drills_down dimension above) rows))
+      (groups_join keys_below (covers above) facts (Contains-AllByRecursion (SharedOut keys_below (covers above)) facts (λ fact among. record {
+        one = one_below fact among;
         no_other = none_below fact;
       })))

@@ -1,14 +1,13 @@
 -- The rows of a cube over one list of facts are one list.
-use Rattle.std.proofs.Common.{◌≡◌, ℕ, ◌≤ℤ◌, ℤ, List, [], ◌∷◌, length, map, Contains, Ordering, Less, Greater, refl, sym, ap, ap₂, ◌∙◌, subst, inl, inr, ◌⊎◌, arith, zero-lt-suc}
+use Rattle.std.proofs.Common.{◌≡◌, ℕ, ◌≤ℤ◌, ℤ, List, [], ◌∷◌, length, map, Contains, Ordering, Less, Greater, refl, sym, ap, ap₂, ◌∙◌, subst, inl, inr, arith, zero-lt-suc}
 use Rattle.std.specs.List.{AllByRecursion}
 use Rattle.std.specs.List.Sorted.{IsStrictlySortedBy}
 use Rattle.std.specs.Cmp.{IsTotalOrder}
 use Rattle.std.specs.Ordering.{ordering_reverse}
 use Rattle.std.proofs.lemmas.Int.{ints}
-use Rattle.std.proofs.lemmas.List.Elements.{Contains-append_right, Contains-append_cases, Contains-push_cases, Contains-push, Contains-append_left, All-contains, All-from_recursion}
 use Rattle.std.proofs.lemmas.Map.Keys.{sorted_head, sorted_tail}
 use Rattle.cube_core.specs.Layout.{Layout}
-use Rattle.cube_core.specs.Answer.{IsSum, IsLeast, IsGreatest, IsMean, IsAnswer, AreAnswers}
+use Rattle.cube_core.specs.Answer.{IsSum, IsBest, IsMean, IsAnswer, AreAnswers}
 use Rattle.cube_core.specs.Cube.{AreRowsOver, HasAnswers, key_of}
 use Rattle.cube_core.specs.Group.{group_of, total_of, values_of}
 use Rattle.cube_core.specs.Printed.{IsPrinted}
@@ -18,42 +17,15 @@ use Rattle.cube_core.specs.declared.aggregate.Agg.TheVariants as agg
 use Rattle.cube_core.specs.declared.aggregate.Answer.{Answer}
 use Rattle.cube_core.specs.declared.aggregate.Answer.TheVariants as answer
 use Rattle.cube_core.specs.declared.fact.Fact.{Fact}
-use Rattle.cube_core.specs.declared.key.Key.{Key}
 use Rattle.cube_core.specs.declared.key.Row.{Row}
 use Rattle.cube_laws.proofs.FractionLaws.{lowest_terms_unique}
 use Rattle.cube_core.proofs.PlainOrder.{key_cmp_total}
-
--- an empty list contains nothing
-pub none_contained : {X : Type 0} (x : X) → Contains [] x → ⊥
-none_contained x h = omega (arith, h.1)
-
--- a list contains its head
-pub head_contained : {X : Type 0} (x : X) (xs : List X) → Contains (x ∷ xs) x
-head_contained x xs = Contains-append_left (x ∷ []) xs x (Contains-push [] x)
-
--- a list contains what its tail does
-pub tail_contained : {X : Type 0} (y : X) (xs : List X) (x : X) → Contains xs x → Contains (y ∷ xs) x
-tail_contained y xs x h = Contains-append_right (y ∷ []) xs x h
-
--- what a list contains is its head, or its tail contains it
-pub contained_cases : {X : Type 0} (y : X) (xs : List X) (x : X) → Contains (y ∷ xs) x → (y ≡ x) ⊎ Contains xs x
-contained_cases y xs x h = elim (Contains-append_cases (y ∷ []) xs x h) [
-  | inl one ↦ elim (Contains-push_cases [] y x one) [ inl none ↦ absurd (none_contained x none) | inr same ↦ inl same ]
-  | inr rest ↦ inr rest
-]
-
--- what holds of each element holds of one that the list contains
-pub at_contained : {X : Type 0} (P : X → Type 0) (xs : List X) (x : X) → AllByRecursion P xs → Contains xs x → P x
-at_contained P xs x each among = All-contains P xs x (All-from_recursion P xs each) among
-
--- keys with the same coordinates are one
-pub same_key : (a b : Key) → a.coords ≡ b.coords → a ≡ b
-same_key a b same = ap (λ coords. let key : Key = record { coords = coords } in key) same
+use Rattle.cube_core.proofs.ListLaws.{AllByRecursion-Contains, Contains-cases, Contains-head, Contains-nil, Contains-tail}
 
 -- an element after the head of a strictly sorted list is above it
 pub above_head : {X : Type 0} (c : X → X → Ordering) (x : X) (xs : List X) (y : X) → IsStrictlySortedBy c (x ∷ xs) →
     Contains xs y → c x y ≡ Less
-above_head c x xs y sorted h = at_contained (λ z. c x z ≡ Less) xs y (sorted_head c x xs sorted) h
+above_head c x xs y sorted h = AllByRecursion-Contains (λ z. c x z ≡ Less) xs y (sorted_head c x xs sorted) h
 
 -- no two elements are below each other
 pub not_both_less : {X : Type 0} {c : X → X → Ordering} → IsTotalOrder c → (x y : X) → c x y ≡ Less → c y x ≡ Less → ⊥
@@ -67,9 +39,9 @@ head_not_after {X} {c} o x xs sorted h = let k = above_head c x xs x sorted h in
 -- two strictly sorted lists that contain the same have the same head
 same_head : {X : Type 0} {c : X → X → Ordering} → IsTotalOrder c → (x y : X) (xs ys : List X) →
     IsStrictlySortedBy c (x ∷ xs) → IsStrictlySortedBy c (y ∷ ys) → Contains (y ∷ ys) x → Contains (x ∷ xs) y → x ≡ y
-same_head {X} {c} o x y xs ys sorted_x sorted_y h k = elim (contained_cases y ys x h) [
+same_head {X} {c} o x y xs ys sorted_x sorted_y h k = elim (Contains-cases y ys x h) [
   | inl same ↦ sym same
-  | inr x_after ↦ elim (contained_cases x xs y k) [
+  | inr x_after ↦ elim (Contains-cases x xs y k) [
     | inl same ↦ same
     | inr y_after ↦ absurd (not_both_less o x y (above_head c x xs y sorted_x y_after) (above_head c y ys x sorted_y x_after))
   ]
@@ -79,7 +51,7 @@ same_head {X} {c} o x y xs ys sorted_x sorted_y h k = elim (contained_cases y ys
 tail_in_tail : {X : Type 0} {c : X → X → Ordering} → IsTotalOrder c → (x y : X) (xs ys : List X) → x ≡ y →
     IsStrictlySortedBy c (x ∷ xs) → ((z : X) → Contains (x ∷ xs) z → Contains (y ∷ ys) z) → (z : X) → Contains xs z →
     Contains ys z
-tail_in_tail {X} {c} o x y xs ys same sorted within z h = elim (contained_cases y ys z (within z (tail_contained x xs z h))) [
+tail_in_tail {X} {c} o x y xs ys same sorted within z h = elim (Contains-cases y ys z (within z (Contains-tail x xs z h))) [
   | inl head ↦ absurd (head_not_after o x xs sorted (subst (Contains xs) (sym (same ∙ head)) h))
   | inr rest ↦ rest
 ]
@@ -89,10 +61,10 @@ pub same_sorted : {X : Type 0} {c : X → X → Ordering} → IsTotalOrder c →
     IsStrictlySortedBy c ys → ((z : X) → Contains xs z → Contains ys z) → ((z : X) → Contains ys z → Contains xs z) →
     xs ≡ ys
 same_sorted o [] [] sorted_x sorted_y to from = refl
-same_sorted o [] (y ∷ ys) sorted_x sorted_y to from = absurd (none_contained y (from y (head_contained y ys)))
-same_sorted o (x ∷ xs) [] sorted_x sorted_y to from = absurd (none_contained x (to x (head_contained x xs)))
+same_sorted o [] (y ∷ ys) sorted_x sorted_y to from = absurd (Contains-nil y (from y (Contains-head y ys)))
+same_sorted o (x ∷ xs) [] sorted_x sorted_y to from = absurd (Contains-nil x (to x (Contains-head x xs)))
 same_sorted {X} {c} o (x ∷ xs) (y ∷ ys) sorted_x sorted_y to from =
-    let same = same_head o x y xs ys sorted_x sorted_y (to x (head_contained x xs)) (from y (head_contained y ys)) in
+    let same = same_head o x y xs ys sorted_x sorted_y (to x (Contains-head x xs)) (from y (Contains-head y ys)) in
     ap₂ (λ z zs. z ∷ zs) same
     (same_sorted o xs ys (sorted_tail c x xs sorted_x) (sorted_tail c y ys sorted_y)
     (tail_in_tail o x y xs ys same sorted_x to)
@@ -103,25 +75,14 @@ one_sum : (values : List ℤ) (a b : Answer) → IsSum values a → IsSum values
 one_sum [] a b h k = h ∙ sym k
 one_sum (v ∷ vs) a b h k = h ∙ sym k
 
--- two values of a list, each of which is no greater than any in it, are one
-one_extreme : (m n : ℤ) → m ≤ℤ n → n ≤ℤ m → m ≡ n
-one_extreme m n h k = omega (arith, ints)
-
--- a least value is determined
-one_least : (values : List ℤ) (a b : Answer) → IsLeast values a → IsLeast values b → a ≡ b
-one_least [] a b h k = h ∙ sym k
-one_least (v ∷ vs) a b h k =
-    let below : h.0 ≤ℤ k.0 = at_contained (λ x. h.0 ≤ℤ x) (v ∷ vs) k.0 h.3 k.2 in
-    let above : k.0 ≤ℤ h.0 = at_contained (λ x. k.0 ≤ℤ x) (v ∷ vs) h.0 k.3 h.2 in
-    h.1 ∙ ap answer.Whole (one_extreme h.0 k.0 below above) ∙ sym k.1
-
--- a greatest value is determined
-one_greatest : (values : List ℤ) (a b : Answer) → IsGreatest values a → IsGreatest values b → a ≡ b
-one_greatest [] a b h k = h ∙ sym k
-one_greatest (v ∷ vs) a b h k =
-    let below : h.0 ≤ℤ k.0 = at_contained (λ x. x ≤ℤ k.0) (v ∷ vs) h.0 k.3 h.2 in
-    let above : k.0 ≤ℤ h.0 = at_contained (λ x. x ≤ℤ h.0) (v ∷ vs) k.0 h.3 k.2 in
-    h.1 ∙ ap answer.Whole (one_extreme h.0 k.0 below above) ∙ sym k.1
+-- what is best is determined, where no two values are as good as each other
+one_best : (IsAsGood : ℤ → ℤ → Type 0) → ((m n : ℤ) → IsAsGood m n → IsAsGood n m → m ≡ n) → (values : List ℤ) (a b : Answer) →
+    IsBest IsAsGood values a → IsBest IsAsGood values b → a ≡ b
+one_best IsAsGood one [] a b h k = h ∙ sym k
+one_best IsAsGood one (v ∷ vs) a b h k =
+    let there : IsAsGood h.0 k.0 = AllByRecursion-Contains (IsAsGood h.0) (v ∷ vs) k.0 h.3 k.2 in
+    let back : IsAsGood k.0 h.0 = AllByRecursion-Contains (IsAsGood k.0) (v ∷ vs) h.0 k.3 h.2 in
+    h.1 ∙ ap answer.Whole (one h.0 k.0 there back) ∙ sym k.1
 
 -- a mean is determined
 one_mean : (values : List ℤ) (a b : Answer) → IsMean values a → IsMean values b → a ≡ b
@@ -136,8 +97,8 @@ one_answer : (group : List Fact) (aggregate : Agg) (a b : Answer) → IsAnswer g
 one_answer group agg.CountAll a b h k = h ∙ sym k
 one_answer group (agg.Count m) a b h k = h ∙ sym k
 one_answer group (agg.Sum m) a b h k = one_sum (values_of m group) a b h k
-one_answer group (agg.Min m) a b h k = one_least (values_of m group) a b h k
-one_answer group (agg.Max m) a b h k = one_greatest (values_of m group) a b h k
+one_answer group (agg.Min m) a b h k = one_best (λ m x. m ≤ℤ x) (λ m n h k. omega (arith, ints)) (values_of m group) a b h k
+one_answer group (agg.Max m) a b h k = one_best (λ m x. x ≤ℤ m) (λ m n h k. omega (arith, ints)) (values_of m group) a b h k
 one_answer group (agg.Avg m) a b h k = one_mean (values_of m group) a b h k
 
 -- the answers over a group are determined
@@ -152,21 +113,12 @@ same_answers group (aggregate ∷ aggregates) (a ∷ as') (b ∷ bs) h k =
     ap₂ (λ x xs. x ∷ xs) (one_answer group aggregate a b h.0 k.0) (same_answers group aggregates as' bs h.1 k.1)
 
 -- rows with the same key over the same facts are one
-same_row : (aggregates : List Agg) (facts : List Fact) (r r' : Row) → r.key ≡ r'.key → HasAnswers aggregates facts r →
+pub same_row : (aggregates : List Agg) (facts : List Fact) (r r' : Row) → r.key ≡ r'.key → HasAnswers aggregates facts r →
     HasAnswers aggregates facts r' → r ≡ r'
 same_row aggregates facts r r' same h k =
     ap₂ (λ key answers. let row : Row = record { key = key; answers = answers } in row) same
     (same_answers (group_of r'.key facts) aggregates r.answers r'.answers
     (subst (λ key. AreAnswers (group_of key facts) aggregates r.answers) same h) k)
-
--- the first element of a list
-head_or : {X : Type 0} → X → List X → X
-head_or d [] = d
-head_or d (x ∷ xs) = x
-
-tail_of : {X : Type 0} → List X → List X
-tail_of [] = []
-tail_of (x ∷ xs) = xs
 
 -- rows with the same keys over the same facts are the same rows
 same_from_keys : (aggregates : List Agg) (facts : List Fact) (rows rows' : List Row) →

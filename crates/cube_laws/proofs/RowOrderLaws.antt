@@ -5,7 +5,7 @@ use Rattle.std.proofs.lemmas.Int.{ints}
 use Rattle.std.proofs.lemmas.List.Elements.{All-from_recursion, recursion_from_All}
 use Rattle.std.proofs.lemmas.List.Sorted.{IsPermutation-keeps, IsPermutation-refl, IsPermutation-cons, IsPermutation-trans, IsPermutation-middle, All-permutation, Contains-permutation, list_any-IsPermutation}
 use Rattle.cube_core.specs.Layout.{Layout}
-use Rattle.cube_core.specs.Answer.{IsSum, IsLeast, IsGreatest, IsMean, IsAnswer, AreAnswers}
+use Rattle.cube_core.specs.Answer.{IsSum, IsBest, IsMean, IsAnswer, AreAnswers}
 use Rattle.cube_core.specs.Covers.{covers}
 use Rattle.cube_core.specs.Cube.{AreRowsOver, HasAnswers, key_of, is_cell, is_total}
 use Rattle.cube_core.specs.Fraction.{IsInLowestTerms}
@@ -147,28 +147,16 @@ sum_stays [] (w ∷ ws) a r h = absurd (omega (arith, length_reordered r))
 sum_stays (v ∷ vs) [] a r h = absurd (omega (arith, length_reordered r))
 sum_stays (v ∷ vs) (w ∷ ws) a r h = h ∙ ap answer.Whole (total_reordered r)
 
-pub least_stays : (values values' : List ℤ) (a : Answer) → Reordered values values' → IsLeast values a →
-    IsLeast values' a
-least_stays [] [] a r h = h
-least_stays [] (w ∷ ws) a r h = absurd (omega (arith, length_reordered r))
-least_stays (v ∷ vs) [] a r h = absurd (omega (arith, length_reordered r))
-least_stays (v ∷ vs) (w ∷ ws) a r h = (
+pub best_stays : (IsAsGood : ℤ → ℤ → Type 0) (values values' : List ℤ) (a : Answer) → Reordered values values' →
+    IsBest IsAsGood values a → IsBest IsAsGood values' a
+best_stays IsAsGood [] [] a r h = h
+best_stays IsAsGood [] (w ∷ ws) a r h = absurd (omega (arith, length_reordered r))
+best_stays IsAsGood (v ∷ vs) [] a r h = absurd (omega (arith, length_reordered r))
+best_stays IsAsGood (v ∷ vs) (w ∷ ws) a r h = (
   h.0,
   h.1,
   Contains-permutation (v ∷ vs) (w ∷ ws) h.0 (permutation r) h.2,
-  each_reordered (λ x. h.0 ≤ℤ x) (v ∷ vs) (w ∷ ws) r h.3,
-)
-
-pub greatest_stays : (values values' : List ℤ) (a : Answer) → Reordered values values' → IsGreatest values a →
-    IsGreatest values' a
-greatest_stays [] [] a r h = h
-greatest_stays [] (w ∷ ws) a r h = absurd (omega (arith, length_reordered r))
-greatest_stays (v ∷ vs) [] a r h = absurd (omega (arith, length_reordered r))
-greatest_stays (v ∷ vs) (w ∷ ws) a r h = (
-  h.0,
-  h.1,
-  Contains-permutation (v ∷ vs) (w ∷ ws) h.0 (permutation r) h.2,
-  each_reordered (λ x. x ≤ℤ h.0) (v ∷ vs) (w ∷ ws) r h.3,
+  each_reordered (IsAsGood h.0) (v ∷ vs) (w ∷ ws) r h.3,
 )
 
 mean_stays : (values values' : List ℤ) (a : Answer) → Reordered values values' → IsMean values a → IsMean values' a
@@ -184,8 +172,8 @@ answer_stays : (group group' : List Fact) (aggregate : Agg) (a : Answer) → Reo
 answer_stays group group' agg.CountAll a r h = h ∙ ap answer.Count (length_reordered r)
 answer_stays group group' (agg.Count m) a r h = h ∙ ap answer.Count (length_reordered (values_reordered m r))
 answer_stays group group' (agg.Sum m) a r h = sum_stays (values_of m group) (values_of m group') a (values_reordered m r) h
-answer_stays group group' (agg.Min m) a r h = least_stays (values_of m group) (values_of m group') a (values_reordered m r) h
-answer_stays group group' (agg.Max m) a r h = greatest_stays (values_of m group) (values_of m group') a (values_reordered m r) h
+answer_stays group group' (agg.Min m) a r h = best_stays (λ m x. m ≤ℤ x) (values_of m group) (values_of m group') a (values_reordered m r) h
+answer_stays group group' (agg.Max m) a r h = best_stays (λ m x. x ≤ℤ m) (values_of m group) (values_of m group') a (values_reordered m r) h
 answer_stays group group' (agg.Avg m) a r h = mean_stays (values_of m group) (values_of m group') a (values_reordered m r) h
 
 answers_stay : (group group' : List Fact) (aggregates : List Agg) (answers : List Answer) → Reordered group group' →

@@ -1,101 +1,65 @@
 -- Filters of lists, of grouping sets and of the rows of a cube.
-use Rattle.std.specs.Prelude.{◌≡◌, ◌⊎◌, ◌==◌, ◌≤◌, ◌%◌, ℕ, Bool, true, List, [], ◌∷◌, map, filter, Contains}
-use Rattle.std.proofs.Common.{refl, sym, ap, subst, ◌∙◌, inl, inr, arith}
-use Rattle.std.proofs.lemmas.List.Elements.{Contains-push, Contains-push_cases, Contains-append_cases, Contains-append_left, Contains-append_right, All-from_recursion, recursion_from_All, All-filter}
+use Rattle.std.specs.Prelude.{◌≡◌, ◌==◌, ◌≤◌, ◌%◌, ℕ, Bool, true, List, [], ◌∷◌, map, filter, ◌<◌, ◌^◌, length}
+use Rattle.std.proofs.Common.{refl, sym, ap, ◌∙◌, inl, inr}
+use Rattle.std.proofs.lemmas.List.Elements.{All-from_recursion, recursion_from_All, All-filter}
 use Rattle.std.proofs.Math.Nat.{mod-lt}
 use Rattle.std.proofs.lemmas.List.Kept.{IsStrictlySortedBy-filter}
 use Rattle.std.proofs.lemmas.Bool.{cases_Bool, or_cases, or_left, or_right, and_parts, and_from, eqb-true, eq-eqb}
+use Rattle.std.specs.List.{AllByRecursion}
+use Rattle.cube_core.specs.Layout.{Layout, IsSchema}
+use Rattle.cube_core.proofs.GroupingLaws.{set_is_among}
 use Rattle.cube_core.specs.Cube.{is_cell, key_of, HasAnswers, AreRowsOver}
 use Rattle.cube_core.specs.Order.{key_cmp}
 use Rattle.cube_core.specs.GroupingSet.{mask_of, all_sets, is_among, sets_of_part}
-use Rattle.cube_laws.specs.Sets.{AreGroupingSets, rows_in, IsTrueOfOne}
+use Rattle.cube_core.specs.GroupingSet.{AreAmong}
+use Rattle.cube_laws.specs.Sets.{rows_in, IsTrueOfOne}
 use Rattle.cube_core.specs.declared.aggregate.Agg.{Agg}
 use Rattle.cube_core.specs.declared.fact.Fact.{Fact}
 use Rattle.cube_core.specs.declared.key.Key.{Key}
 use Rattle.cube_core.specs.declared.key.Row.{Row}
+use Rattle.cube_core.proofs.ListLaws.{Contains-filter, filter-Contains, map-filter}
 
--- what is in a list of one is that one
-in_one : {X : Type 0} (x y : X) → Contains (x ∷ []) y → x ≡ y
-in_one x y here = elim (Contains-push_cases [] x y here) [
-  | inl nowhere ↦ absurd (omega (arith, nowhere.1))
-  | inr same ↦ same
-]
-
--- what is in a list is its head or in the rest
-pub in_cons : {X : Type 0} (x : X) (xs : List X) (y : X) → Contains (x ∷ xs) y → (x ≡ y) ⊎ Contains xs y
-in_cons x xs y here = elim (Contains-append_cases (x ∷ []) xs y here) [
-  | inl first ↦ inl (in_one x y first)
-  | inr later ↦ inr later
-]
-
--- the head is in the list, and so is what is in the rest
-pub in_head : {X : Type 0} (x : X) (xs : List X) (y : X) → x ≡ y → Contains (x ∷ xs) y
-in_head {X} x xs y same = let P : X → Type 0 = λ z. Contains (x ∷ xs) z in subst P same (Contains-append_left (x ∷ []) xs x (Contains-push [] x))
-
-pub in_tail : {X : Type 0} (x : X) (xs : List X) (y : X) → Contains xs y → Contains (x ∷ xs) y
-in_tail x xs y later = Contains-append_right (x ∷ []) xs y later
-
--- what a filter keeps passes, and was there
-pub in_filter : {X : Type 0} (p : X → Bool) (xs : List X) (x : X) → Contains (filter p xs) x → Contains xs x × (p x ≡ true)
-in_filter p [] x here = absurd (omega (arith, here.1))
-in_filter p (y ∷ ys) x here = elim (cases_Bool (p y)) [
-  | inl passes ↦ elim (in_cons y (filter p ys) x (rw passes at here)) [
-    | inl same ↦ (in_head y ys x same, ap p (sym same) ∙ passes)
-    | inr later ↦ let rest = in_filter p ys x later in (in_tail y ys x rest.0, rest.1)
-  ]
-  | inr fails ↦ let rest = in_filter p ys x (rw fails at here) in (in_tail y ys x rest.0, rest.1)
-]
-
--- what passes is kept
-pub kept_in_filter : {X : Type 0} (p : X → Bool) (xs : List X) (x : X) → Contains xs x → p x ≡ true → Contains (filter p xs) x
-kept_in_filter p [] x here passes = here
-kept_in_filter p (y ∷ ys) x here passes = elim (in_cons y ys x here) [
-  | inl same ↦ let head_passes = ap p same ∙ passes in rw head_passes (in_head y (filter p ys) x same)
-  | inr later ↦ elim (cases_Bool (p y)) [
-    | inl first ↦ rw first (in_tail y (filter p ys) x (kept_in_filter p ys x later passes))
-    | inr other ↦ rw other (kept_in_filter p ys x later passes)
-  ]
-]
-
--- the keys of the rows that pass by their key are the keys that pass
-pub keys_in_filter : (p : Key → Bool) (rows : List Row) → map key_of (filter (λ row. p row.key) rows) ≡ filter p (map key_of rows)
-keys_in_filter p [] = refl
-keys_in_filter p (row ∷ rows) = elim (cases_Bool (p row.key)) [
-  | inl passes ↦ rw passes (ap (λ (keys : List Key). row.key ∷ keys) (keys_in_filter p rows))
-  | inr fails ↦ rw fails (keys_in_filter p rows)
-]
-
--- a set that is among sets of so many dimensions is one of them all
-pub among_all_sets : (dimensions : ℕ) (sets : List ℕ) (set : ℕ) → AreGroupingSets dimensions sets → is_among set sets ≡ true
-    → is_among set (all_sets dimensions) ≡ true
-among_all_sets dimensions [] set are among = cc among
-among_all_sets dimensions (first ∷ sets) set are among = elim (or_cases (first == set) (is_among set sets) among) [
-  | inl same ↦ ap (λ (n : ℕ). is_among n (all_sets dimensions)) (sym (eqb-true first set same)) ∙ are.0
-  | inr later ↦ among_all_sets dimensions sets set are.1 later
+-- a set that is among sets that are among others is among these
+among_others : (others sets : List ℕ) (set : ℕ) → AreAmong sets others → is_among set sets ≡ true → is_among set others ≡ true
+among_others others [] set are among = cc among
+among_others others (first ∷ sets) set are among = elim (or_cases (first == set) (is_among set sets) among) [
+  | inl same ↦ ap (λ (n : ℕ). is_among n others) (sym (eqb-true first set same)) ∙ are.0
+  | inr later ↦ among_others others sets set are.1 later
 ]
 
 -- the rows of a cube in some of its grouping sets are those of the cube over these
-pub rows_in_sets : (dimensions : ℕ) (aggregates : List Agg) (facts : List Fact) (rows : List Row) (sets : List ℕ)
-    → AreGroupingSets dimensions sets
-    → AreRowsOver (all_sets dimensions) dimensions aggregates facts rows
+pub rows_in_sets : (dimensions : ℕ) (aggregates : List Agg) (facts : List Fact) (rows : List Row) (others sets : List ℕ)
+    → AreAmong sets others
+    → AreRowsOver others dimensions aggregates facts rows
     → AreRowsOver sets dimensions aggregates facts (rows_in sets rows)
-rows_in_sets dimensions aggregates facts rows sets are whole =
+rows_in_sets dimensions aggregates facts rows others sets are whole =
     let in_sets : Key → Bool = λ key. is_among (mask_of key) sets in
-    let keys : map key_of (rows_in sets rows) ≡ filter in_sets (map key_of rows) = keys_in_filter in_sets rows in
+    let keys : map key_of (rows_in sets rows) ≡ filter in_sets (map key_of rows) = map-filter key_of in_sets rows in
     record {
       cells = λ key. (
         (λ here.
-            let kept = in_filter in_sets (map key_of rows) key (rw keys at here) in
+            let kept = Contains-filter in_sets (map key_of rows) key (rw keys at here) in
             let cell = and_parts _ _ ((whole.cells key).0 kept.0) in
             and_from (in_sets key) _ kept.1 cell.1),
         (λ cell.
             let parts = and_parts _ _ cell in
-            let among = among_all_sets dimensions sets (mask_of key) are parts.0 in
-            rw keys (kept_in_filter in_sets (map key_of rows) key ((whole.cells key).1 (and_from _ _ among parts.1)) parts.0)),
+            let among = among_others others sets (mask_of key) are parts.0 in
+            rw keys (filter-Contains in_sets (map key_of rows) key ((whole.cells key).1 (and_from _ _ among parts.1)) parts.0)),
       );
       ordered = rw keys (IsStrictlySortedBy-filter key_cmp in_sets (map key_of rows) whole.ordered);
       answers = recursion_from_All _ _ (All-filter (λ (row : Row). in_sets row.key) (HasAnswers aggregates facts) rows (All-from_recursion (HasAnswers aggregates facts) rows whole.answers));
     }
+
+-- a schema's sets are among all
+pub each_among : (dimensions : ℕ) (sets : List ℕ) → AllByRecursion (λ set. set < 2 ^ dimensions) sets → AreAmong sets (all_sets dimensions)
+each_among dimensions [] below = tt
+each_among dimensions (set ∷ sets) below =
+    (set_is_among set dimensions (λ other. other == set) below.0 (eq-eqb set set refl), each_among dimensions sets below.1)
+
+pub schema-AreAmong : (s : Layout) → IsSchema s → AreAmong s.grouping_sets (all_sets (length s.dimensions))
+schema-AreAmong s is =
+    each_among (length s.dimensions) s.grouping_sets
+    (recursion_from_All (λ set. set < 2 ^ length s.dimensions) s.grouping_sets is.sets_are_of_dimensions)
 
 -- a set that passes is among those that a filter keeps
 among_kept : (p : ℕ → Bool) (sets : List ℕ) (set : ℕ) → is_among set sets ≡ true → p set ≡ true → is_among set (filter p sets) ≡ true

@@ -9,14 +9,14 @@ use Rattle.csv.specs.Writing.{read_back}
 use Rattle.csv.specs.declared.parser.State.TheVariants as st
 use Rattle.csv.proofs.RoundTrip.{read-write}
 use Rattle.cube_core.specs.Layout.{Layout, IsSchema}
-use Rattle.cube_core.specs.Answer.{AreAnswers}
+use Rattle.cube_core.specs.Answer.{IsAnswer}
 use Rattle.cube_core.specs.Group.{group_of}
 use Rattle.cube_core.specs.Cube.{HasAnswers, AreRows}
 use Rattle.cube_core.specs.Text.{line, header_fields, row_fields, row_line, text_of_rows}
 use Rattle.cube_core.specs.declared.aggregate.Agg.{Agg}
-use Rattle.cube_core.specs.declared.aggregate.Answer.{Answer}
 use Rattle.cube_core.specs.declared.fact.Fact.{Fact}
 use Rattle.cube_core.specs.declared.key.Row.{Row}
+use Rattle.cube_core.proofs.ListLaws.{AllZip-length}
 
 -- a line has a byte, since it ends with LF
 line_some : (fields : List (List ℕ)) → 1 ≤ length (line fields)
@@ -52,13 +52,6 @@ lines_of_rows : (rows : List Row) → flat_map row_line rows ≡ flat_map line (
 lines_of_rows [] = refl
 lines_of_rows (row ∷ rows) = ap (λ (text : List ℕ). row_line row ++ text) (lines_of_rows rows)
 
--- there are as many answers as aggregates
-as_many_answers : (group : List Fact) (aggregates : List Agg) (answers : List Answer) → AreAnswers group aggregates answers → length aggregates ≡ length answers
-as_many_answers group [] [] are = refl
-as_many_answers group [] (answer ∷ answers) are = absurd are
-as_many_answers group (aggregate ∷ aggregates) [] are = absurd are
-as_many_answers group (aggregate ∷ aggregates) (answer ∷ answers) are = ap suc (as_many_answers group aggregates answers are.1)
-
 -- a row of some answer has a field
 row_some : (row : Row) → 1 ≤ length row.answers → 1 ≤ length (row_fields row)
 row_some row some = simp (length-append, length-map) (omega arith)
@@ -67,7 +60,7 @@ rows_some : (aggregates : List Agg) (facts : List Fact) (rows : List Row) → 1 
     → AllByRecursion (λ fields. 1 ≤ length fields) (map row_fields rows)
 rows_some aggregates facts [] some all = tt
 rows_some aggregates facts (row ∷ rows) some all =
-    (row_some row (omega (arith, as_many_answers (group_of row.key facts) aggregates row.answers all.0)), rows_some aggregates facts rows some all.1)
+    (row_some row (omega (arith, AllZip-length (IsAnswer (group_of row.key facts)) aggregates row.answers all.0)), rows_some aggregates facts rows some all.1)
 
 -- the header has a field
 header_some : (s : Layout) → IsSchema s → 1 ≤ length (header_fields s)

@@ -6,11 +6,11 @@ use Rattle.std.specs.Option.{option_map_or}
 use Rattle.std.proofs.lemmas.Bool.{and_parts, le-leb, not_from_true}
 use Rattle.toml.specs.Data.{Members}
 use Rattle.cube_core.specs.Layout.{Layout, IsSchema, spelling_of, is_aggregate_of}
-use Rattle.cube_core.specs.SchemaDocument.{is_some_up_to, aggregate_spelled, are_spellings, dimensions_in, measures_in, spellings_in, max_records_in, default_max_records, document_faults, has_fault, first_fault, layout_of, schema_of}
+use Rattle.cube_core.specs.SchemaDocument.{is_some_up_to, aggregate_spelled, are_spellings, dimensions_in, measures_in, spellings_in, max_records_in, default_max_records, grouping_sets_in, version_in, document_faults, has_fault, first_fault, layout_of, schema_of}
 use Rattle.cube_laws.specs.Written.{Writes}
 use Rattle.cube_core.specs.declared.aggregate.Agg.{Agg}
 use Rattle.cube_core.specs.declared.schema_fault.SchemaFault.{SchemaFault}
-use Rattle.cube_core.specs.declared.schema_fault.SchemaFault.TheVariants.{UnknownKey, Dimensions, Measures, Name, Aggregates, MaxRecords}
+use Rattle.cube_core.specs.declared.schema_fault.SchemaFault.TheVariants.{UnknownKey, Dimensions, Measures, Name, Aggregates, MaxRecords, Grouping, Version}
 use Rattle.cube_laws.proofs.SpellingLaws.{schema_spelled_once}
 
 -- the spellings of aggregates are read as these aggregates
@@ -31,8 +31,8 @@ up_to : (most : ℕ) (texts : List (List ℕ)) → 1 ≤ length texts → length
 up_to most texts least greatest = rw (le-leb 1 (length texts) least, le-leb (length texts) most greatest)
 
 -- no fault, where none of them holds
-none_found : (holds : SchemaFault → Bool) → holds UnknownKey ≡ false → holds Dimensions ≡ false → holds Measures ≡ false → holds Name ≡ false → holds Aggregates ≡ false → holds MaxRecords ≡ false → find holds document_faults ≡ None
-none_found holds a b c d e f = rw (a, b, c, d, e, f)
+none_found : (holds : SchemaFault → Bool) → holds UnknownKey ≡ false → holds Dimensions ≡ false → holds Measures ≡ false → holds Name ≡ false → holds Aggregates ≡ false → holds MaxRecords ≡ false → holds Grouping ≡ false → holds Version ≡ false → find holds document_faults ≡ None
+none_found holds a b c d e f g h = rw (a, b, c, d, e, f, g, h)
 
 pub written_is_read : (document : Members) (s : Layout) → IsSchema s → Writes document s → schema_of document ≡ Ok s
 written_is_read document s is writes =
@@ -40,6 +40,8 @@ written_is_read document s is writes =
     let measures : measures_in document ≡ s.measures = ap (λ o. unwrap_or o []) writes.measures in
     let texts : spellings_in document ≡ s.aggregate_texts = ap (λ o. unwrap_or o []) writes.aggregates in
     let limit : unwrap_or (max_records_in document) default_max_records ≡ s.max_records = ap (λ o. unwrap_or o default_max_records) writes.max_records in
+    let sets : unwrap_or (grouping_sets_in document) [] ≡ s.grouping_sets = ap (λ o. unwrap_or o []) writes.grouping_sets in
+    let version : unwrap_or (version_in document) 1 ≡ s.version = ap (λ o. unwrap_or o 1) writes.version in
     let spelled : spellings_in document ≡ map (spelling_of s.measures) s.aggregates = texts ∙ is.aggregates_are_spelled in
     let as_many : length s.aggregate_texts ≡ length s.aggregates = ap length is.aggregates_are_spelled ∙ length-map s.aggregates (spelling_of s.measures) in
     let all_spelled : are_spellings (measures_in document) (spellings_in document) ≡ true = rw (measures, spelled) (spellings_back s is s.aggregates is.aggregates_are_of_measures) in
@@ -51,6 +53,8 @@ written_is_read document s is writes =
     (not_from_true _ (rw measures (up_to 4 s.measures is.some_measure is.measures_at_most)))
     (not_from_true _ (rw (dimensions, measures, is.names_are_lawful) is.names_are_distinct))
     (not_from_true _ (rw all_spelled (rw texts (rw (up_to 16 s.aggregate_texts (rw as_many is.some_aggregate) (rw as_many is.aggregates_at_most))))))
-    (not_from_true _ (rw writes.max_records)) in
-    let layout : layout_of document ≡ s = λ i. record { dimensions = dimensions i; measures = measures i; aggregates = aggregates i; aggregate_texts = texts i; max_records = limit i } in
+    (not_from_true _ (rw writes.max_records))
+    (not_from_true _ (rw writes.grouping_sets))
+    (not_from_true _ (rw writes.version)) in
+    let layout : layout_of document ≡ s = λ i. record { dimensions = dimensions i; measures = measures i; aggregates = aggregates i; aggregate_texts = texts i; max_records = limit i; grouping_sets = sets i; version = version i } in
     ap (λ fault. option_map_or Err fault (Ok (layout_of document))) no_fault ∙ ap Ok layout

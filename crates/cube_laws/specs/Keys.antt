@@ -1,11 +1,10 @@
 -- The words of the laws on what a row shows of its key (SQL:1999: GROUPING tells ALL from null).
-use Rattle.std.specs.Prelude.{◌≡◌, ◌*◌, ℕ, Bool, true, not, IsTrue, List, length, map, take}
+use Rattle.std.specs.Prelude.{◌≡◌, ◌*◌, ℕ, Bool, true, not, List, length, map, take}
 use Rattle.std.specs.Str.{bytes_eq}
-use Rattle.std.specs.List.{AllByRecursion, list_all}
+use Rattle.std.specs.List.{list_all}
 use Rattle.cube_core.specs.Layout.{Layout}
-use Rattle.cube_core.specs.Takes.{null_text, fits}
+use Rattle.cube_core.specs.Takes.{null_text}
 use Rattle.cube_core.specs.Text.{coord_text, grouping_text, row_fields}
-use Rattle.cube_core.specs.declared.fact.Fact.{Fact}
 use Rattle.cube_core.specs.declared.key.Coord.{Coord}
 use Rattle.cube_core.specs.declared.key.Coord.TheVariants as coord
 use Rattle.cube_core.specs.declared.key.Key.{Key}
@@ -29,7 +28,3 @@ pub record LookAlike (a b : Key) : Type 0 where
 -- the fields of a row's line that show its key: the dimensions, and their GROUPING columns
 abbrev pub key_columns : Layout → Row → List (List ℕ)
 key_columns s row = take (2 * length s.dimensions) (row_fields row)
-
--- each of these facts fits a schema
-abbrev pub AllFit : Layout → List Fact → Type 0
-AllFit s facts = AllByRecursion (λ fact. IsTrue (fits s fact)) facts

@@ -1,12 +1,7 @@
 -- The words of the laws on grouping sets (SQL:1999, grouping sets, of which CUBE has all; parts of them are this project's choice).
 use Rattle.std.specs.Prelude.{◌≡◌, ◌<◌, ℕ, Bool, IsTrue, List, filter}
-use Rattle.std.specs.List.{AllByRecursion}
-use Rattle.cube_core.specs.GroupingSet.{mask_of, all_sets, is_among}
+use Rattle.cube_core.specs.GroupingSet.{mask_of, is_among}
 use Rattle.cube_core.specs.declared.key.Row.{Row}
-
--- each of these is a grouping set of so many dimensions
-abbrev pub AreGroupingSets : ℕ → List ℕ → Type 0
-AreGroupingSets dimensions sets = AllByRecursion (λ set. IsTrue (is_among set (all_sets dimensions))) sets
 
 -- the rows whose grouping set is one of these, in their order
 abbrev pub rows_in : List ℕ → List Row → List Row

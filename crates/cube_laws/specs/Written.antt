@@ -2,7 +2,7 @@
 use Rattle.std.specs.Prelude.{◌≡◌, true, codes, Some}
 use Rattle.toml.specs.Data.{Members}
 use Rattle.cube_core.specs.Layout.{Layout}
-use Rattle.cube_core.specs.SchemaDocument.{has_known_keys, texts_at, max_records_in}
+use Rattle.cube_core.specs.SchemaDocument.{has_known_keys, texts_at, max_records_in, grouping_sets_in, version_in}
 
 -- the document has no other keys than a schema's, and under each what the schema has there
 pub record Writes (document : Members) (s : Layout) : Type 0 where
@@ -11,3 +11,5 @@ pub record Writes (document : Members) (s : Layout) : Type 0 where
   pub measures : texts_at (codes "measures") document ≡ Some s.measures
   pub aggregates : texts_at (codes "aggregates") document ≡ Some s.aggregate_texts
   pub max_records : max_records_in document ≡ Some s.max_records
+  pub grouping_sets : grouping_sets_in document ≡ Some s.grouping_sets
+  pub version : version_in document ≡ Some s.version

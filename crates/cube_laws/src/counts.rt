@@ -2,27 +2,29 @@
 ghost use Rattle.std.specs.Prelude.{◌≡◌, ◌<◌, ◌≤◌, ◌^◌, ℕ, true, List, Option, Some, length, sum_by, slice_get, Contains};
 ghost use Rattle.cube_core.specs.Layout.{Layout};
 ghost use Rattle.cube_core.specs.Cube.{AreRows, is_total};
+ghost use Rattle.cube_core.specs.GroupingSet.{is_among};
 ghost use Rattle.cube_laws.specs.Cells.{HaveDimensions, rows_in_set, group_size, answer_at, count_at, CoveringKeys, HaveValuesAmong, most_cells};
 ghost use Rattle.cube_core.specs.declared.aggregate.Agg.TheVariants as agg;
 ghost use Rattle.cube_core.specs.declared.aggregate.Answer.TheVariants as answer;
 ghost use Rattle.cube_core.specs.declared.fact.Fact.{Fact};
 ghost use Rattle.cube_core.specs.declared.key.Row.{Row};
 
-/// Each fact is in one group of each grouping set (SQL:1999: a grouping set parts the facts into groups): the sizes
-/// of the groups of a set add up to the number of facts.
+/// Each fact is in one group of each grouping set that is kept (SQL:1999: a grouping set parts the facts into
+/// groups): the sizes of the groups of a set add up to the number of facts.
 pub fn groups_part_facts()
     ensures { (s : Layout) (facts : List Fact) (rows : List Row) (set : ℕ) →
         AreRows s facts rows → HaveDimensions (length s.dimensions) facts →
-        set < 2 ^ length s.dimensions →
+        set < 2 ^ length s.dimensions → is_among set s.grouping_sets ≡ true →
         sum_by (group_size facts) (rows_in_set set rows) ≡ length facts }
 {}
 
-/// The answers to `count(*)` of the rows of a grouping set add up to the number of facts (SQL:1999: COUNT(*) counts
-/// the rows of each group).
+/// The answers to `count(*)` of the rows of a grouping set that is kept add up to the number of facts (SQL:1999:
+/// COUNT(*) counts the rows of each group).
 pub fn counts_add_up()
     ensures { (s : Layout) (facts : List Fact) (rows : List Row) (set place : ℕ) →
         AreRows s facts rows → HaveDimensions (length s.dimensions) facts →
-        set < 2 ^ length s.dimensions → slice_get s.aggregates place ≡ Some agg.CountAll →
+        set < 2 ^ length s.dimensions → is_among set s.grouping_sets ≡ true →
+        slice_get s.aggregates place ≡ Some agg.CountAll →
         sum_by (count_at place) (rows_in_set set rows) ≡ length facts }
 {}
 

@@ -11,4 +11,5 @@ pub mod rollup;
 pub mod rows;
 pub mod schema;
 pub mod sets;
+pub mod survivors;
 pub mod text_back;

@@ -3,7 +3,8 @@ ghost use Rattle.std.specs.Prelude.{◌≡◌, ◌↔◌, ℕ, true, List, Some,
 ghost use Rattle.cube_core.specs.Layout.{Layout};
 ghost use Rattle.cube_core.specs.Answer.{IsSum, IsLeast, IsGreatest};
 ghost use Rattle.cube_laws.specs.Cells.{answer_at, count_at};
-ghost use Rattle.cube_laws.specs.Rollup.{IsRolledUp, rows_below, numbers_at, AreNullAt, gives_numbers};
+ghost use Rattle.cube_core.specs.Query.{rows_below};
+ghost use Rattle.cube_laws.specs.Rollup.{IsRolledUp, numbers_at, AreNullAt, gives_numbers};
 ghost use Rattle.cube_core.specs.declared.aggregate.Agg.{Agg};
 ghost use Rattle.cube_core.specs.declared.aggregate.Agg.TheVariants as agg;
 ghost use Rattle.cube_core.specs.declared.aggregate.Answer.TheVariants as answer;

@@ -1,10 +1,15 @@
 //! What a schema file writes: each schema can be written, and each spelling is of one aggregate.
-ghost use Rattle.std.specs.Prelude.{◌≡◌, Some, Ok, length, true};
-ghost use Rattle.toml.specs.Data.{Members};
+ghost use Rattle.std.specs.Prelude.{◌≡◌, ◌+◌, ◌-◌, ◌^◌, Some, None, Ok, List, length, map, codes, true};
+ghost use Rattle.std.specs.List.{range_with_len};
+ghost use Rattle.toml.specs.Data.{Members, string, get_member};
+ghost use Rattle.cube_core.specs.Cube.{AreRows, AreRowsOver};
+ghost use Rattle.cube_core.specs.GroupingSet.{all_sets};
 ghost use Rattle.cube_core.specs.Layout.{Layout, IsSchema, spelling_of, is_aggregate_of};
 ghost use Rattle.cube_core.specs.SchemaDocument.{schema_of, aggregate_spelled};
 ghost use Rattle.cube_laws.specs.Written.{Writes};
 ghost use Rattle.cube_core.specs.declared.aggregate.Agg.{Agg};
+ghost use Rattle.cube_core.specs.declared.fact.Fact.{Fact};
+ghost use Rattle.cube_core.specs.declared.key.Row.{Row};
 
 /// A document that writes a schema is read as that schema and no other: no schema is refused, and none is taken for
 /// another.
@@ -19,4 +24,26 @@ pub fn spelling_is_of_one_aggregate()
     ensures { (s : Layout) (agg : Agg) →
         IsSchema s → is_aggregate_of (length s.measures) agg ≡ true →
         aggregate_spelled s.measures (spelling_of s.measures agg) ≡ Some agg }
+{}
+
+/// A schema of a document without a grouping keeps all grouping sets, so that its rows are those of CUBE (Gray et al.
+/// 1997).
+pub fn no_grouping_is_cube()
+    ensures sets { (document : Members) (s : Layout) →
+        schema_of document ≡ Ok s → get_member (codes "grouping") document ≡ None →
+        s.grouping_sets ≡ all_sets (length s.dimensions) }
+    ensures rows { (document : Members) (s : Layout) (facts : List Fact) (rows : List Row) →
+        schema_of document ≡ Ok s → get_member (codes "grouping") document ≡ None →
+        AreRows s facts rows →
+        AreRowsOver (all_sets (length s.dimensions)) (length s.dimensions) s.aggregates facts rows }
+{}
+
+/// A schema of a document whose grouping is `rollup` keeps the sets of the first dimensions, from none of them to
+/// all: one more than there are dimensions (SQL:1999: ROLLUP). The mask of the first i dimensions is 2 to the
+/// power i, less 1.
+pub fn rollup_keeps_first_dimensions()
+    ensures { (document : Members) (s : Layout) → IsSchema s → schema_of document ≡ Ok s →
+        get_member (codes "grouping") document ≡ Some (string (codes "rollup")) →
+        s.grouping_sets
+        ≡ map (λ first. 2 ^ first - 1) (range_with_len 0 (length s.dimensions + 1)) }
 {}

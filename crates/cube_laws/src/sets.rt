@@ -1,23 +1,37 @@
 //! Limits to grouping sets, and their parts (SQL:1999, grouping sets; the parts are this project's choice).
 ghost use Rattle.std.specs.Prelude.{◌≡◌, ℕ, ◌≤◌, IsTrue, List, length};
-ghost use Rattle.cube_core.specs.Layout.{Layout};
+ghost use Rattle.cube_core.specs.Layout.{Layout, IsSchema};
 ghost use Rattle.cube_core.specs.Cube.{AreRows, AreRowsOver, is_cell};
-ghost use Rattle.cube_core.specs.GroupingSet.{is_among, sets_of_part};
-ghost use Rattle.cube_laws.specs.Sets.{AreGroupingSets, rows_in, IsTrueOfOne};
+ghost use Rattle.cube_core.specs.GroupingSet.{AreAmong, all_sets, is_among, sets_of_part};
+ghost use Rattle.cube_laws.specs.Sets.{rows_in, IsTrueOfOne};
 ghost use Rattle.cube_core.specs.declared.fact.Fact.{Fact};
 ghost use Rattle.cube_core.specs.declared.key.Key.{Key};
 ghost use Rattle.cube_core.specs.declared.key.Row.{Row};
 
-/// The rows of a cube limited to grouping sets are the rows of the whole cube in those sets (SQL:1999: a CUBE
-/// is the union of its grouping sets).
+/// The rows of a cube limited to some of its grouping sets are its rows in those sets (SQL:1999: a cube is the union
+/// of its grouping sets).
 pub fn limited_rows_are_those_in_the_sets()
-    ensures { (s : Layout) (facts : List Fact) (rows : List Row) (sets : List ℕ) → AreGroupingSets (length s.dimensions) sets → AreRows s facts rows → AreRowsOver sets (length s.dimensions) s.aggregates facts (rows_in sets rows) }
+    ensures { (s : Layout) (facts : List Fact) (rows : List Row) (sets : List ℕ) →
+        AreAmong sets s.grouping_sets → AreRows s facts rows →
+        AreRowsOver sets (length s.dimensions) s.aggregates facts (rows_in sets rows) }
 {}
 
-/// Rows of a cube limited to grouping sets are no others than those of the whole cube in those sets (SQL:1999: a
-/// CUBE is the union of its grouping sets).
+/// Rows of a cube limited to some of its grouping sets are no others than its rows in those sets (SQL:1999: a cube is
+/// the union of its grouping sets).
 pub fn no_others_are_the_limited_rows()
-    ensures { (s : Layout) (facts : List Fact) (rows limited : List Row) (sets : List ℕ) → AreGroupingSets (length s.dimensions) sets → AreRows s facts rows → AreRowsOver sets (length s.dimensions) s.aggregates facts limited → limited ≡ rows_in sets rows }
+    ensures { (s : Layout) (facts : List Fact) (rows limited : List Row) (sets : List ℕ) →
+        AreAmong sets s.grouping_sets → AreRows s facts rows →
+        AreRowsOver sets (length s.dimensions) s.aggregates facts limited →
+        limited ≡ rows_in sets rows }
+{}
+
+/// The rows of a schema's cube are those of the whole cube in the grouping sets that the schema keeps (SQL:1999: CUBE
+/// is the union of all grouping sets).
+pub fn rows_are_those_of_the_whole_cube()
+    ensures { (s : Layout) (facts : List Fact) (rows whole : List Row) →
+        IsSchema s → AreRows s facts rows → AreRowsOver (all_sets (length s.dimensions))
+        (length s.dimensions) s.aggregates facts whole →
+        rows ≡ rows_in s.grouping_sets whole }
 {}
 
 /// However many parts there are, each grouping set of a list stands in exactly one of them (this project's choice).

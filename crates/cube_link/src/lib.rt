@@ -41,7 +41,11 @@ impl<T: Drop> Model for Inlet<T> {
 
     ghost Value = { Receiving T };
 
-    ghost view = { λ i. record { link = link_of i.consumer.end; received = received i.consumer; left = known_items i.consumer } };
+    ghost view = { λ i. record {
+      link = link_of i.consumer.end;
+      received = received i.consumer;
+      left = known_items i.consumer;
+    } };
 }
 
 /// Names every item that was sent on a link, once nothing more can be. It can move to another thread where the
@@ -101,7 +105,8 @@ impl<T: Drop> Inlet<T> {
     /// Takes the next item where one is seen. None says nothing of the outlet, which may send more.
     pub fn take(&mut self) -> Option<T>
         ensures link { self.new.link ≡ self.old.link }
-        ensures received { IfSome result (λ item. self.new.received ≡ self.old.received ++ item ∷ []) }
+        ensures received { IfSome result (λ item.
+            self.new.received ≡ self.old.received ++ item ∷ []) }
         ensures next { IfSome result (λ item. IsPrefix self.old.left (item ∷ self.new.left)) }
         ensures none { IfNone result ((self.old.left ≡ []) × (self.new ≡ self.old)) }
     {

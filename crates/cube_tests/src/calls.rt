@@ -1,7 +1,7 @@
 //! Each public call of the values and of the schema, once with ample memory.
 use cube_core::{
-    Agg, Answer, Change, Coord, Fact, Key, LineFault, Schema, Sequence, Text, covers, plain_rows,
-    reduced,
+    Agg, Answer, Change, Coord, Fact, Field, Key, LineFault, Partial, Schema, Sequence, Text,
+    covers, plain_rows, reduced,
 };
 use cube_tool::{Builder, print_rows, write_whole};
 use std::alloc::{AllocError, Global};
@@ -83,6 +83,22 @@ fn copies_equal_their_sources(rt: HostRuntime) -> Result<(), Fail> {
 }
 
 #[test]
+fn an_amendment_puts_what_it_names_and_keeps_the_rest(rt: HostRuntime) -> Result<(), Fail> {
+    let alloc = rt.alloc();
+    let old = fact_of(alloc, Some("w"), "a")?;
+    let part = Partial {
+        dims: Sequence::from_vec(vec![in alloc; Field::Keep, Field::Put(None)]?),
+        measures: Sequence::from_vec(vec![in alloc; Field::Keep]?),
+    };
+    let new = part.over(alloc, &old)?;
+    assert_eq!(rt; new.dims.len(), 2);
+    assert!(rt; new.dims.as_slice()[0] == Some(text(alloc, "w")?));
+    assert!(rt; new.dims.as_slice()[1].is_none());
+    assert!(rt; new.measures.as_slice() == [Some(5)].as_slice());
+    Ok(())
+}
+
+#[test]
 fn texts_stand_before_null_and_null_before_all(rt: HostRuntime) -> Result<(), Fail> {
     let alloc = rt.alloc();
     let west = key_of(alloc, Coord::Text(text(alloc, "west")?), Coord::All)?;
@@ -137,6 +153,7 @@ fn each_line_fault_shows_its_code(rt: HostRuntime) -> Result<(), Fail> {
         (LineFault::Text, "L3"),
         (LineFault::Id, "L4"),
         (LineFault::Measure, "L5"),
+        (LineFault::Keep, "L6"),
     ];
     for (fault, code) in faults {
         assert_eq!(rt; fault.to_string(rt.alloc())?.as_str(), code);

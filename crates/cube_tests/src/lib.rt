@@ -4,7 +4,13 @@
 #[cfg(test)]
 mod calls;
 #[cfg(test)]
+mod cells;
+#[cfg(test)]
 mod failures;
 #[cfg(test)]
 mod runs;
 pub mod sample;
+#[cfg(test)]
+mod sizes;
+#[cfg(test)]
+mod words;

@@ -60,9 +60,9 @@ stands_refused kept items number code what untaken is stands =
 
 -- the code of an insert that is taken is that of its presence
 code_of-taken : (s : Layout) (items : List Item) (id : List ℕ) (fact : Fact) → takes s (Insert id fact) ≡ true
-    → code_of s items (Ok (Insert id fact)) ≡ (if is_some (life_of id (changes_of s items)) then Some present_code else None)
+    → code_of s items (Ok (Insert id fact)) ≡ (if is_some (life_of id (changes_of s items)) then Some (present_code s) else None)
 code_of-taken s items id fact taken =
-    ap (λ b. if not b then Some shape_code else code_by_presence (Insert id fact) (is_some (life_of id (changes_of s items)))) taken
+    ap (λ b. if not b then Some (shape_code s) else code_by_presence s (Insert id fact) (is_some (life_of id (changes_of s items)))) taken
 
 -- the changes after an insert that is taken
 changes-taken : (s : Layout) (items : List Item) (number : ℕ) (id : List ℕ) (fact : Fact) → takes s (Insert id fact) ≡ true
@@ -74,7 +74,7 @@ changes-taken s items number id fact taken =
 -- an insert of an id that is present is refused
 pub stands_present : (kept : Kept) (items : List Item) (number : ℕ) (id : List ℕ) (fact : Fact)
     → takes kept.schema (Insert id fact) ≡ true → list_any (bytes_eq id) kept.ids ≡ true
-    → StandsAt kept items → StandsAt (with_refusal kept number present_code) (items ++ item_of number (Ok (Insert id fact)) ∷ [])
+    → StandsAt kept items → StandsAt (with_refusal kept number (present_code kept.schema)) (items ++ item_of number (Ok (Insert id fact)) ∷ [])
 stands_present kept items number id fact taken there stands =
     let s : Layout = kept.schema in
     let before : List Change = changes_of s items in
@@ -87,8 +87,8 @@ stands_present kept items number id fact taken there stands =
       present = λ other. ap is_some (same other) ∙ stands.present other;
       facts_are_theirs = stands.facts_are_theirs ∙ map-same (λ other. sym (same other)) kept.ids;
       all_fit = stands.all_fit;
-      refused = ap (λ (rs : List Refusal). rs ++ refusal number present_code ∷ []) stands.refused
-          ∙ sym (refusals-refused s items number present_code (Ok (Insert id fact)) (code_of-taken s items id fact taken ∙ ap (λ b. if b then Some present_code else None) lives));
+      refused = ap (λ (rs : List Refusal). rs ++ refusal number (present_code s) ∷ []) stands.refused
+          ∙ sym (refusals-refused s items number (present_code s) (Ok (Insert id fact)) (code_of-taken s items id fact taken ∙ ap (λ b. if b then Some (present_code s) else None) lives));
     }
   where
     map-same : {f g : List ℕ → Option Fact} → ((id' : List ℕ) → f id' ≡ g id') → (ids : List (List ℕ)) → map f ids ≡ map g ids
@@ -115,7 +115,7 @@ stands_put kept items number id fact taken absent stands =
           ∙ ap (λ (cs : List Change). lives_of cs (kept.ids ++ id ∷ [])) (sym more);
       all_fit = list_all-append (fits s) kept.facts (fact ∷ []) ∙ (λ i. stands.all_fit i && (and_second (is_id id) (fits s fact) taken i && true));
       refused = stands.refused
-          ∙ sym (refusals-taken s items number (Ok (Insert id fact)) (code_of-taken s items id fact taken ∙ ap (λ b. if b then Some present_code else None) lifeless));
+          ∙ sym (refusals-taken s items number (Ok (Insert id fact)) (code_of-taken s items id fact taken ∙ ap (λ b. if b then Some (present_code s) else None) lifeless));
     }
 
 -- a builder that has taken nothing stands at no item
@@ -125,16 +125,16 @@ stands_new s = record { each_once = tt; present = λ id. refl; facts_are_theirs 
 
 -- an insert that the schema doesn't take is refused
 pub stands_shape : (kept : Kept) (items : List Item) (number : ℕ) (id : List ℕ) (fact : Fact) → takes kept.schema (Insert id fact) ≡ false
-    → StandsAt kept items → StandsAt (with_refusal kept number shape_code) (items ++ item_of number (Ok (Insert id fact)) ∷ [])
+    → StandsAt kept items → StandsAt (with_refusal kept number (shape_code kept.schema)) (items ++ item_of number (Ok (Insert id fact)) ∷ [])
 stands_shape kept items number id fact untaken =
-    stands_refused kept items number shape_code (Ok (Insert id fact))
+    stands_refused kept items number (shape_code kept.schema) (Ok (Insert id fact))
     (ap (λ b. if b then Some (Insert id fact) else None) untaken)
-    (ap (λ b. if not b then Some shape_code else code_by_presence (Insert id fact) (is_some (life_of id (changes_of kept.schema items)))) untaken)
+    (ap (λ b. if not b then Some (shape_code kept.schema) else code_by_presence kept.schema (Insert id fact) (is_some (life_of id (changes_of kept.schema items)))) untaken)
 
 -- a record that spells no change is refused with the code of its fault
 pub stands_fault : (kept : Kept) (items : List Item) (number : ℕ) (fault : LineFault)
-    → StandsAt kept items → StandsAt (with_refusal kept number (code_of_fault fault)) (items ++ item_of number (Err fault) ∷ [])
-stands_fault kept items number fault = stands_refused kept items number (code_of_fault fault) (Err fault) refl refl
+    → StandsAt kept items → StandsAt (with_refusal kept number (code_of_fault kept.schema fault)) (items ++ item_of number (Err fault) ∷ [])
+stands_fault kept items number fault = stands_refused kept items number (code_of_fault kept.schema fault) (Err fault) refl refl
 
 -- what a `not` says of its argument
 pub not_flips : (a b : Bool) → a ≡ not b → b ≡ not a
@@ -142,14 +142,13 @@ not_flips a true e = sym (ap not e)
 not_flips a false e = sym (ap not e)
 
 -- an item that counts as a fault is refused with its code
-pub stands_noted : (kept : Kept) (new : Kept) (items : List Item) (item : Item) (fault : LineFault) (code : ℕ)
-    → new ≡ with_refusal kept item.number code → code ≡ code_of_fault fault → insert_only item.what ≡ Err fault
+pub stands_noted : (kept : Kept) (new : Kept) (items : List Item) (item : Item) (fault : LineFault)
+    → new ≡ with_refusal kept item.number (code_of_fault kept.schema fault) → insert_only item.what ≡ Err fault
     → StandsAt kept items → StandsAt new (items ++ as_insert item ∷ [])
-stands_noted kept new items item fault code is coded noted stands =
-    let kept_is : with_refusal kept item.number (code_of_fault fault) ≡ new = sym (is ∙ ap (with_refusal kept item.number) coded) in
+stands_noted kept new items item fault is noted stands =
     let item_is : item_of item.number (Err fault) ≡ as_insert item = ap (item_of item.number) (sym noted) in
-    subst (λ (k : Kept). StandsAt k (items ++ as_insert item ∷ [])) kept_is
-    (subst (λ (x : Item). StandsAt (with_refusal kept item.number (code_of_fault fault)) (items ++ x ∷ [])) item_is
+    subst (λ (k : Kept). StandsAt k (items ++ as_insert item ∷ [])) (sym is)
+    (subst (λ (x : Item). StandsAt (with_refusal kept item.number (code_of_fault kept.schema fault)) (items ++ x ∷ [])) item_is
     (stands_fault kept items item.number fault stands))
 
 -- a builder whose parts are empty stands at no item

@@ -1,7 +1,7 @@
--- A step on the way: until each source has a book, only inserts are taken, and an update or a delete is noted as the line fault Op (this project's choice).
+-- A step on the way: until each source has a book, only inserts are taken, and an update, an amendment or a delete is noted as the line fault Op (this project's choice).
 use Rattle.std.specs.Prelude.{List, map, Result, Ok, Err}
 use Rattle.cube_core.specs.declared.change.Change.{Change}
-use Rattle.cube_core.specs.declared.change.Change.TheVariants.{Insert, Update, Delete}
+use Rattle.cube_core.specs.declared.change.Change.TheVariants.{Insert, Update, Amend, Delete}
 use Rattle.cube_core.specs.declared.change.LineFault.{LineFault}
 use Rattle.cube_core.specs.declared.change.LineFault.TheVariants as fault
 use Rattle.cube_core.specs.declared.change.Item.{Item}
@@ -10,6 +10,7 @@ use Rattle.cube_core.specs.declared.change.Item.{Item}
 abbrev pub insert_only : Result Change LineFault → Result Change LineFault
 insert_only (Ok (Insert id fact)) = Ok (Insert id fact)
 insert_only (Ok (Update id fact)) = Err fault.Op
+insert_only (Ok (Amend id part)) = Err fault.Op
 insert_only (Ok (Delete id)) = Err fault.Op
 insert_only (Err line_fault) = Err line_fault
 

@@ -4,7 +4,7 @@ ghost use Rattle.std.specs.List.{list_any};
 ghost use Rattle.std.specs.Str.{bytes_eq};
 ghost use Rattle.std.specs.String.{string_bytes};
 ghost use Rattle.cube_core.specs.Takes.{takes};
-ghost use Rattle.cube_core.specs.Refusals.{code_of_fault};
+ghost use Rattle.cube_core.specs.Refusals.{code_of_fault, present_code, shape_code};
 ghost use Rattle.cube_core.specs.declared.change.Item.{Item as TheItem};
 ghost use Rattle.cube_tool.specs.InsertsOnly.{as_insert};
 ghost use Rattle.cube_tool.specs.Kept.{StandsAt, item_of, with_fact, with_refusal};
@@ -16,12 +16,6 @@ use std::marker::Model;
 
 /// How many sources there are, until each has a book.
 const SOURCES: u32 = 1;
-
-/// The code of an insert of an id that is present.
-const PRESENT: u8 = 6;
-
-/// The code of a change that the schema doesn't take.
-const SHAPE: u8 = 8;
 
 /// What a run keeps of its source: the facts that are present, and the refusals in the order of their records.
 #[derive(Drop)]
@@ -63,7 +57,7 @@ impl Builder {
 
     /// Takes an item: an insert of an absent id puts its fact, and every other item is noted as refused.
     ///
-    /// Updates and deletes are refused with code 1 until each source has a book. The only error is want of
+    /// Updates, amendments and deletes are refused with code 1 until each source has a book. The only error is want of
     /// memory, after which nothing is said of the builder.
     pub fn apply(&mut self, item: Item) -> Result<(), AllocError>
         ensures schema { self.new.schema ≡ self.old.schema }
@@ -73,9 +67,10 @@ impl Builder {
         let Item { number, what } = item;
         match what {
             Ok(Change::Insert { id, fact }) => self.insert(number, id, fact),
-            Ok(Change::Update { .. }) => self.refuse(number, code_of(LineFault::Op)),
-            Ok(Change::Delete { .. }) => self.refuse(number, code_of(LineFault::Op)),
-            Err(fault) => self.refuse(number, code_of(fault)),
+            Ok(Change::Update { .. }) => self.note(number, LineFault::Op),
+            Ok(Change::Amend { .. }) => self.note(number, LineFault::Op),
+            Ok(Change::Delete { .. }) => self.note(number, LineFault::Op),
+            Err(fault) => self.note(number, fault),
         }
     }
 
@@ -115,12 +110,14 @@ impl Builder {
             StandsAt self.new (items ++ item_of number (Ok (Change.Insert id fact)) ∷ [])) }
     {
         if !self.takes(&id, &fact) {
-            return self.refuse(number, SHAPE);
+            let code = self.shape_code();
+            return self.refuse(number, code);
         }
+        let code = self.present_code();
         if self.put(id, fact)? {
             Ok(())
         } else {
-            self.refuse(number, PRESENT)
+            self.refuse(number, code)
         }
     }
 
@@ -142,6 +139,42 @@ impl Builder {
         Ok(true)
     }
 
+    fn note(&mut self, number: u32, fault: LineFault) -> Result<(), AllocError>
+        ensures schema { self.new.schema ≡ self.old.schema }
+        ensures ok { OnOk result (self.new ≡ with_refusal self.old number (code_of_fault self.old.schema fault)) }
+    {
+        let code = self.code_of(fault);
+        self.refuse(number, code)
+    }
+
+    // The code of an insert of an id that is present.
+    fn present_code(&self) -> u8
+        ensures { result ≡ present_code self.now.schema }
+    {
+        if self.schema.version() == 2 { 7 } else { 6 }
+    }
+
+    // The code of a change that the schema doesn't take.
+    fn shape_code(&self) -> u8
+        ensures { result ≡ shape_code self.now.schema }
+    {
+        if self.schema.version() == 2 { 9 } else { 8 }
+    }
+
+    fn code_of(&self, fault: LineFault) -> u8
+        ensures { result ≡ code_of_fault self.now.schema fault }
+    {
+        match fault {
+            LineFault::Op => 1,
+            LineFault::Fields => 2,
+            LineFault::Text => 3,
+            LineFault::Id => 4,
+            LineFault::Measure => 5,
+            LineFault::Keep if self.schema.version() == 2 => 6,
+            LineFault::Keep => self.shape_code(),
+        }
+    }
+
     fn refuse(&mut self, number: u32, code: u8) -> Result<(), AllocError>
         ensures schema { self.new.schema ≡ self.old.schema }
         ensures ok { OnOk result (self.new ≡ with_refusal self.old number code) }
@@ -158,16 +191,4 @@ fn add_id(ids: &mut IndexSet<String>, id: Text) -> Result<bool, AllocError>
 {
     let added = ids.insert(id.into_string())?;
     Ok(added)
-}
-
-fn code_of(fault: LineFault) -> u8
-    ensures { result ≡ code_of_fault fault }
-{
-    match fault {
-        LineFault::Op => 1,
-        LineFault::Fields => 2,
-        LineFault::Text => 3,
-        LineFault::Id => 4,
-        LineFault::Measure => 5,
-    }
 }

@@ -1,11 +1,12 @@
 //! The keys of the cells of a cube.
-ghost use Rattle.std.specs.Prelude.{◌≡◌, ◌≤◌, ◌<◌, ◌^◌, ◌==◌, ◌||◌, ◌&&◌, true, not, IfOk, OnOk, length};
+ghost use Rattle.std.specs.Prelude.{◌≡◌, ◌≤◌, ◌<◌, ◌^◌, ◌==◌, ◌||◌, ◌&&◌, true, not, IfOk, OnOk, length, All};
 ghost use Rattle.std.specs.BTreeSet.{contains};
-ghost use Rattle.std.specs.List.{list_all, list_any};
+ghost use Rattle.std.specs.List.{list_all};
 ghost use Rattle.std.specs.Ordering.{eq_by_cmp};
 ghost use Rattle.cube_core.specs.Covers.{covers, all_stand_for, stands_for};
-ghost use Rattle.cube_core.specs.Cube.{is_total};
-ghost use Rattle.cube_core.specs.GroupingSet.{is_all_coord, mask_of, mask_of_coords};
+ghost use Rattle.cube_core.specs.Cube.{is_total, is_cell};
+ghost use Rattle.cube_core.specs.GroupingSet.{is_all_coord, is_among, mask_of, mask_of_coords};
+ghost use Rattle.cube_core.specs.Layout.{keeps};
 ghost use Rattle.cube_core.specs.Order.{key_cmp};
 ghost use Rattle.cube_core.specs.Takes.{fits};
 ghost use Rattle.cube_core.specs.declared.key.Key.{Key};
@@ -18,7 +19,8 @@ use crate::text::Text;
 use std::alloc::{AllocError, Global};
 use std::collections::BTreeSet;
 
-// The keys of all cells of CUBE: that of the grand total, and each that covers a fact.
+// The keys of all cells of the cube over a schema's grouping sets: that of the grand total and each that covers a
+// fact, of the sets that are kept.
 pub(super) fn cell_keys(
     alloc: Global,
     schema: &Schema,
@@ -27,25 +29,44 @@ pub(super) fn cell_keys(
     requires { list_all (fits schema.now) facts.now ≡ true }
     ensures { IfOk result
         (λ keys. (key : Key) → contains key_cmp keys key
-        ≡ (is_total (length schema.now.dimensions) key || list_any (covers key) facts.now)) }
+        ≡ is_cell schema.now.grouping_sets (length schema.now.dimensions) facts.now key) }
 {
-    let mut keys = BTreeSet::new(alloc);
-    insert_key(&mut keys, total_key(alloc, schema.dimensions().len())?)?;
+    let mut keys = total_keys(alloc, schema)?;
     for fact in facts {
-        insert_ancestors(alloc, fact, &mut keys)?;
+        insert_ancestors(alloc, schema.grouping_sets(), fact, &mut keys)?;
     }
     Ok(keys)
 }
 
-// Adds each key that covers a fact: one for each grouping set.
-fn insert_ancestors(alloc: Global, fact: &Fact, keys: &mut BTreeSet<Key>) -> Result<(), AllocError>
-    requires { length fact.now.dims ≤ 8 }
-    ensures { OnOk result
-        ((key : Key) → contains key_cmp keys.new key ≡ (contains key_cmp keys.old key || covers key fact.now)) }
+// The key of the grand total, where its set is kept.
+fn total_keys(alloc: Global, schema: &Schema) -> Result<BTreeSet<Key>, AllocError>
+    ensures { IfOk result
+        (λ keys. (key : Key) → contains key_cmp keys key
+        ≡ (keeps schema.now key && is_total (length schema.now.dimensions) key)) }
 {
-    let dims = fact.dims.as_slice();
-    for mask in 0..mask_count(dims.len()) {
-        insert_key(keys, ancestor(alloc, dims, mask)?)?;
+    let mut keys = BTreeSet::new(alloc);
+    let total = total_key(alloc, schema.dimensions().len())?;
+    if !schema.keeps(&total) {
+        return Ok(keys);
+    }
+    insert_key(&mut keys, total)?;
+    Ok(keys)
+}
+
+// Adds each key that covers a fact and is of one of these grouping sets.
+fn insert_ancestors(
+    alloc: Global,
+    sets: &[u8],
+    fact: &Fact,
+    keys: &mut BTreeSet<Key>,
+) -> Result<(), AllocError>
+    requires { All (λ set. set < 2 ^ length fact.now.dims) sets.now }
+    ensures { OnOk result
+        ((key : Key) → contains key_cmp keys.new key
+        ≡ (contains key_cmp keys.old key || (is_among (mask_of key) sets.now && covers key fact.now))) }
+{
+    for set in sets {
+        insert_key(keys, ancestor(alloc, fact.dims.as_slice(), *set)?)?;
     }
     Ok(())
 }
@@ -58,17 +79,10 @@ fn insert_key(keys: &mut BTreeSet<Key>, key: Key) -> Result<(), AllocError>
     Ok(())
 }
 
-// How many grouping sets there are of so many dimensions.
-fn mask_count(dimensions: usize) -> u32
-    requires { dimensions ≤ 8 }
-    ensures { result ≡ 2 ^ dimensions }
-{
-    1u32 << dimensions
-}
-
 // The key with ALL in each dimension.
 fn total_key(alloc: Global, dimensions: usize) -> Result<Key, AllocError>
-    ensures { IfOk result (λ key. is_total dimensions key ≡ true) }
+    ensures total { IfOk result (λ key. is_total dimensions key ≡ true) }
+    ensures width { IfOk result (λ key. length key.coords ≡ dimensions) }
 {
     let mut coords = Vec::with_capacity(alloc, dimensions)?;
     for _place in 0..dimensions {
@@ -79,7 +93,7 @@ fn total_key(alloc: Global, dimensions: usize) -> Result<Key, AllocError>
 }
 
 // The key that covers a fact of these values and whose grouping set has this mask.
-fn ancestor(alloc: Global, values: &[Option<Text>], mask: u32) -> Result<Key, AllocError>
+fn ancestor(alloc: Global, values: &[Option<Text>], mask: u8) -> Result<Key, AllocError>
     requires { mask < 2 ^ length values.now }
     ensures covers { IfOk result (λ key. all_stand_for key.coords values.now ≡ true) }
     ensures set { IfOk result (λ key. mask_of key ≡ mask) }

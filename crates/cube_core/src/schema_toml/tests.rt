@@ -1,7 +1,10 @@
 use crate::aggregate::Agg;
+use crate::key::{Coord, Key};
 use crate::schema::Schema;
 use crate::schema_fault::SchemaFault;
+use crate::sequence::Sequence;
 use std::alloc::{AllocError, Global};
+use std::process::Abort;
 use std::test::Fail;
 
 const SAMPLE: &str = "dimensions = ['region', 'kind']
@@ -71,6 +74,8 @@ fn the_text_of_a_fault_is_its_code(rt: HostRuntime) -> Result<(), Fail> {
         (SchemaFault::Name, "S6"),
         (SchemaFault::Aggregates, "S7"),
         (SchemaFault::MaxRecords, "S8"),
+        (SchemaFault::Grouping, "S9"),
+        (SchemaFault::Version, "S10"),
     ];
     for (fault, code) in codes {
         let shown = fault.to_string(rt.alloc())?;
@@ -320,6 +325,80 @@ fn the_number_of_data_records_is_a_whole_number_in_its_range(rt: HostRuntime) ->
 }
 
 #[test]
+fn a_grouping_is_a_word_or_an_array_of_sets_of_dimensions(rt: HostRuntime) -> Result<(), Fail> {
+    let wrong = [
+        "7",
+        "'sets'",
+        "'Rollup'",
+        "[]",
+        "['region']",
+        "[['region', 1]]",
+        "[['colour']]",
+        "[['region', 'region']]",
+        "[['region'], ['region']]",
+        "[['region', 'kind'], ['kind', 'region']]",
+        "{ a = 'cube' }",
+    ];
+    for grouping in wrong {
+        let fault = fault_of(rt.alloc(), &[SAMPLE, "grouping = ", grouping, "\n"])?;
+        assert_eq!(rt; fault, Some(SchemaFault::Grouping), "at {grouping}");
+    }
+    expect_sets(&rt, rt.alloc(), "'cube'", &[0, 1, 2, 3])?;
+    expect_sets(&rt, rt.alloc(), "'rollup'", &[0, 1, 3])?;
+    expect_sets(&rt, rt.alloc(), "[['kind'], ['kind', 'region']]", &[2, 3])?;
+    expect_sets(&rt, rt.alloc(), "[['region', 'kind'], []]", &[0, 3])?;
+    expect_sets(&rt, rt.alloc(), "[[]]", &[0])?;
+    Ok(())
+}
+
+/// The sample schema with this grouping keeps these sets.
+fn expect_sets(
+    rt: &impl Abort,
+    alloc: Global,
+    grouping: &str,
+    sets: &[u8],
+) -> Result<(), SchemaFault> {
+    let mut text = String::from_str(alloc, SAMPLE)?;
+    text.push_str("grouping = ")?;
+    text.push_str(grouping)?;
+    let schema = Schema::from_toml(alloc, text.as_bytes())?;
+    assert_eq!(rt; schema.grouping_sets(), sets, "at {grouping}");
+    Ok(())
+}
+
+#[test]
+fn a_schema_keeps_a_key_of_a_set_that_it_names(rt: HostRuntime) -> Result<(), Fail> {
+    let text = "dimensions = ['d']\nmeasures = ['m']\naggregates = ['sum(m)']\ngrouping = [['d']]";
+    let schema = Schema::from_toml(rt.alloc(), text.as_bytes())?;
+    let coords = vec![in rt.alloc(); Coord::Null]?;
+    let null = Key {
+        coords: Sequence::from_vec(coords),
+    };
+    let coords = vec![in rt.alloc(); Coord::All]?;
+    let total = Key {
+        coords: Sequence::from_vec(coords),
+    };
+    assert_eq!(rt; schema.keeps(&null), true);
+    assert_eq!(rt; schema.keeps(&total), false);
+    Ok(())
+}
+
+#[test]
+fn the_version_is_1_or_2(rt: HostRuntime) -> Result<(), Fail> {
+    for version in ["0", "3", "-1", "4294967297", "'1'", "1.0", "true", "[1]"] {
+        let fault = fault_of(rt.alloc(), &[SAMPLE, "version = ", version, "\n"])?;
+        assert_eq!(rt; fault, Some(SchemaFault::Version), "at {version}");
+    }
+    let two = "version = 2\ndimensions = ['d']\nmeasures = ['m']\naggregates = ['count(m)']";
+    assert_eq!(rt;
+        Schema::from_toml(rt.alloc(), SAMPLE.as_bytes())?.version(),
+        1
+    );
+    assert_eq!(rt; Schema::from_toml(rt.alloc(), two.as_bytes())?.version(), 2);
+    Ok(())
+}
+
+#[test]
 fn of_two_faults_the_first_is_answered(rt: HostRuntime) -> Result<(), Fail> {
     let both = [
         // an unknown key, and no dimension
@@ -337,6 +416,16 @@ fn of_two_faults_the_first_is_answered(rt: HostRuntime) -> Result<(), Fail> {
         (
             "dimensions = ['d']\nmeasures = ['m']\naggregates = []\nmax_records = 0",
             SchemaFault::Aggregates,
+        ),
+        // no lawful number of data records, and no lawful grouping
+        (
+            "dimensions = ['d']\nmeasures = ['m']\naggregates = ['sum(m)']\nmax_records = 0\ngrouping = 7",
+            SchemaFault::MaxRecords,
+        ),
+        // no lawful grouping, and no lawful version
+        (
+            "dimensions = ['d']\nmeasures = ['m']\naggregates = ['sum(m)']\ngrouping = 7\nversion = 3",
+            SchemaFault::Grouping,
         ),
         // no dimension, and no lawful number of data records
         ("dimensions = []\nmax_records = 0", SchemaFault::Dimensions),

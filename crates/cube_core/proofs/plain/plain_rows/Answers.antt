@@ -11,5 +11,5 @@ returns c =
     let same : done ≡ c.in_ok-keys.keys.keys =
     sym (append-nil done) ∙ ap (λ ks. done ++ ks) (sym c.in-None.ensures.steps.0)
     ∙ c.loop-key.invariant.keys ∙ c.into_iter-key-iterator.ensures.into_iter_gives.0 in
-    rows_of_keys c.args.schema.now c.args.facts.now c.in_ok-keys.keys c.loop-key.rows.items c.requires
+    rows_of_keys c.args.schema.now c.args.facts.now c.in_ok-keys.keys c.loop-key.rows.items
     (set_in_order c.in_ok-keys.keys c.len.ensures.ordered) c.in_ok-keys.ensures same c.loop-key.invariant.answers

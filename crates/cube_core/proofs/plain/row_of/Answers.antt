@@ -3,7 +3,7 @@ use Rattle.std.proofs.lemmas.List.{take_more}
 use Rattle.cube_core.specs.Answer.{IsAnswer}
 use Rattle.cube_core.specs.Group.{group_of}
 use Rattle.cube_core.specs.declared.aggregate.Agg.TheVariants as agg
-use Rattle.cube_core.proofs.PlainRows.{all_zip_push}
+use Rattle.cube_core.proofs.ListLaws.{AllZip-push}
 use Rattle.cube_core.proofs.plain.row_of.Goals as goal
 
 pub loop-aggregate-preserved : goal.loop-aggregate-preserved
@@ -11,5 +11,5 @@ loop-aggregate-preserved c =
     let aggregates = c.aggregates-aggregates.result.now in
     let i = c.loop-aggregate.aggregate-index in
     rw (c.in_ok-push.ensures.items, take_more aggregates i agg.CountAll (omega arith))
-    (all_zip_push (IsAnswer (group_of c.args.key c.args.facts.now)) (take i aggregates) c.loop-aggregate.answers.items
+    (AllZip-push (IsAnswer (group_of c.args.key c.args.facts.now)) (take i aggregates) c.loop-aggregate.answers.items
     (get_or aggregates i agg.CountAll) c.in_ok-answer_of.field-0 c.loop-aggregate.invariant c.in_ok-answer_of.ensures)

@@ -11,7 +11,10 @@ use Rattle.cube_tool.proofs.builder.Builder.insert.Goals as goal
 pub returns-then-not-takes-clause-stands : goal.returns-then-not-takes-clause-stands
 returns-then-not-takes-clause-stands c =
     on_ok_weaker c.refuse.result
-    (λ same items stands. rw same (stands_shape _ items _ _ _ (sym c.takes.ensures ∙ c.if-not-takes.true) stands))
+    (λ same items stands.
+    subst (λ (kept : Kept). StandsAt kept (items ++ item_of c.args.number (Ok (Insert c.args.id c.args.fact)) ∷ []))
+    (sym (same ∙ ap (with_refusal c.args.self.now c.args.number) c.shape_code-code.ensures))
+    (stands_shape _ items _ _ _ (sym c.takes.ensures ∙ c.if-not-takes.true) stands))
     c.refuse.ensures.ok
 
 pub returns-then-branch-clause-stands : goal.returns-then-branch-clause-stands
@@ -27,6 +30,6 @@ returns-else-branch-clause-stands c =
     on_ok_weaker c.refuse-else-branch.result
     (λ same items stands.
     subst (λ (kept : Kept). StandsAt kept (items ++ item_of c.args.number (Ok (Insert c.args.id c.args.fact)) ∷ []))
-    (sym (same ∙ ap (λ (kept : Kept). with_refusal kept c.args.number present_code) stayed))
+    (sym (same ∙ (λ i. with_refusal (stayed i) c.args.number (c.present_code-code.ensures i))))
     (stands_present _ items _ _ _ (sym c.takes.ensures ∙ c.if-not-takes.false) there stands))
     c.refuse-else-branch.ensures.ok

@@ -1,0 +1,19 @@
+use Rattle.std.proofs.Common.{◌≡◌, ◌++◌, ◌∷◌, [], Some, None, rules, ◌∙◌, sym, ap}
+use Rattle.toml.specs.View.{view}
+use Rattle.cube_core.specs.SchemaDocument.{set_of_item}
+use Rattle.cube_core.proofs.GroupingReading.{sets_of_items-more, sets_of_items-stop}
+use Rattle.cube_core.proofs.schema_toml.grouping.sets_of_items.Goals as goal
+
+pub loop-value-preserved : goal.loop-value-preserved
+loop-value-preserved c =
+    let pushed : c.push.new.self.items ≡ c.loop-value.sets.items ++ c.in-Some.set ∷ [] = search rules in
+    let read : Some c.in-Some.set ≡ set_of_item c.args.dimensions.now (view c.value-item.result) = search rules in
+    rw pushed
+    (sets_of_items-more c.args.dimensions.now c.args.values.now c.loop-value.value-index c.value-item.result c.in-Some.set c.loop-value.sets.items c.loop-value-test.true (read ∙ ap (λ v. set_of_item c.args.dimensions.now (view v)) c.value-item.is)
+    ∙ c.loop-value.invariant)
+
+pub returns-in_default : goal.returns-in_default
+returns-in_default c =
+    let none : None ≡ set_of_item c.args.dimensions.now (view c.value-item.result) = search rules in
+    sym (sets_of_items-stop c.args.dimensions.now c.args.values.now c.loop-value.value-index c.value-item.result c.loop-value.sets.items c.loop-value-test.true (none ∙ ap (λ v. set_of_item c.args.dimensions.now (view v)) c.value-item.is))
+    ∙ c.loop-value.invariant
