@@ -79,12 +79,17 @@ pub(crate) fn with_builders<
     feeders: Vec<Feeder<'e, R>>,
     roster: &mut Roster<B>,
 ) -> Result<(), NoThread>
-    requires outlets { All (λ feeder. (1 ≤ vec_len feeder.outlets) × (vec_len feeder.outlets ≤ 8)) feeders.items }
+    requires outlets { All
+        (λ feeder. (1 ≤ vec_len feeder.outlets) × (vec_len feeder.outlets ≤ 8)) feeders.items }
     requires start { MayStart (vec_len builders) (vec_len feeders) roster.old }
     requires ready { All (IsReady B.sources B.stands) builders.items }
-    ensures ends { OnOk result (AllZip (λ feeder end. Feeds feeder.feed.to_come feeder.outlets.items end) feeders.entry.items roster.new.ends.items) }
-    ensures gatherers { OnOk result (AllZip (HasGathered B.stands) builders.items roster.new.gatherers.items) }
-    ensures room { OnOk result (vec_capacity roster.old.gatherers ≤ vec_capacity roster.new.gatherers) }
+    ensures ends { OnOk result (AllZip
+        (λ feeder end. Feeds feeder.feed.to_come feeder.outlets.items end)
+        feeders.entry.items roster.new.ends.items) }
+    ensures gatherers { OnOk result
+        (AllZip (HasGathered B.stands) builders.items roster.new.gatherers.items) }
+    ensures room { OnOk result
+        (vec_capacity roster.old.gatherers ≤ vec_capacity roster.new.gatherers) }
 {
     let mut builders = builders;
     let mut gatherer = builders.pop().unwrap();

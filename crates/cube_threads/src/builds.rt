@@ -29,6 +29,9 @@ pub trait Builds: Drop {
         requires source { (1 ≤ source) × (source ≤ sources self.old) }
         requires room { full self.old ≡ false }
         ensures sources { sources self.new ≡ sources self.old }
-        ensures stands { OnOk result ((first : Self) (arrivals : Arrivals) → stands first self.old arrivals → stands first self.new (arrivals ++ (source, item) ∷ [])) }
-        ensures unchanged { OnErr result ((first : Self) (arrivals : Arrivals) → stands first self.old arrivals → stands first self.new arrivals) };
+        ensures stands { OnOk result ((first : Self) (arrivals : Arrivals) →
+            stands first self.old arrivals →
+            stands first self.new (arrivals ++ (source, item) ∷ [])) }
+        ensures unchanged { OnErr result ((first : Self) (arrivals : Arrivals) →
+            stands first self.old arrivals → stands first self.new arrivals) };
 }

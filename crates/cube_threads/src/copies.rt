@@ -39,8 +39,11 @@ pub(crate) fn next_copies<R: Read>(
     copies: &mut Vec<Item>,
 ) -> Result<bool, FeedFault>
     requires { 1 ≤ count }
-    ensures some { IfOk result (λ some. IsTrue some → (item : TheItem) × Gives feed.old.to_come (Ok (Some item)) feed.new.to_come × (vec_len copies.new ≡ count) × All (λ copy. copy ≡ item) copies.new.items) }
-    ensures none { IfOk result (λ some. IsFalse some → Gives feed.old.to_come (Ok None) feed.new.to_come) }
+    ensures some { IfOk result (λ some. IsTrue some → (item : TheItem) ×
+        Gives feed.old.to_come (Ok (Some item)) feed.new.to_come ×
+        (vec_len copies.new ≡ count) × All (λ copy. copy ≡ item) copies.new.items) }
+    ensures none { IfOk result (λ some. IsFalse some →
+        Gives feed.old.to_come (Ok None) feed.new.to_come) }
     ensures err { IfErr result (λ fault. Gives feed.old.to_come (Err fault) feed.new.to_come) }
 {
     let Some(item) = feed.next()? else {

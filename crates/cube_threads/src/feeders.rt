@@ -87,10 +87,13 @@ pub(crate) fn with_feeders<
     own: &mut Gatherer<B>,
     roster: &mut Roster<B>,
 ) -> Result<(), NoThread>
-    requires outlets { All (λ feeder. (1 ≤ vec_len feeder.outlets) × (vec_len feeder.outlets ≤ 8)) feeders.items }
+    requires outlets { All
+        (λ feeder. (1 ≤ vec_len feeder.outlets) × (vec_len feeder.outlets ≤ 8)) feeders.items }
     requires room { HasRoom (vec_len feeders) (vec_len feeders) roster.old }
     requires ready { IsReady B.sources B.stands own.old }
-    ensures ends { OnOk result (AllZip (λ feeder end. Feeds feeder.feed.to_come feeder.outlets.items end) feeders.entry.items roster.new.ends.items) }
+    ensures ends { OnOk result (AllZip
+        (λ feeder end. Feeds feeder.feed.to_come feeder.outlets.items end)
+        feeders.entry.items roster.new.ends.items) }
     ensures room { OnOk result (vec_capacity roster.old.ends ≤ vec_capacity roster.new.ends) }
     ensures own { OnOk result (HasGathered B.stands own.old own.new) }
     ensures gatherers { roster.new.gatherers ≡ roster.old.gatherers }

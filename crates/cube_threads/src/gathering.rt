@@ -27,7 +27,9 @@ fn accept<W: Wait, B: Builds>(
 )
     requires { (1 ≤ source) × (source ≤ B.sources builder.old) }
     ensures sources { B.sources builder.new ≡ B.sources builder.old }
-    ensures stands { (first : B) (arrivals : Arrivals) → StandsAtFirst (B.stands first) builder.old wanting.old arrivals → StandsAtFirst (B.stands first) builder.new wanting.new (arrivals ++ (source, item) ∷ []) }
+    ensures stands { (first : B) (arrivals : Arrivals) →
+        StandsAtFirst (B.stands first) builder.old wanting.old arrivals →
+        StandsAtFirst (B.stands first) builder.new wanting.new (arrivals ++ (source, item) ∷ []) }
 {
     if *wanting {
         return;
@@ -56,7 +58,8 @@ fn look<W: Wait, B: Builds, G: Gate>(
     requires source { (1 ≤ source) × (source ≤ B.sources builder.old) }
     requires open { ended.old ≡ false }
     ensures sources { B.sources builder.new ≡ B.sources builder.old }
-    ensures looks { Looks B.stands source inlet.old inlet.new ended.new builder.old builder.new wanting.old wanting.new }
+    ensures looks { Looks B.stands source inlet.old inlet.new ended.new
+        builder.old builder.new wanting.old wanting.new }
 {
     let Some(parcel) = inlet.take() else {
         return false;
@@ -84,7 +87,9 @@ fn look_round<W: Wait, B: Builds, G: Gate>(
     requires sources { length inlets.old ≡ B.sources builder.old }
     requires most { length inlets.old ≤ 64 }
     ensures sources { B.sources builder.new ≡ B.sources builder.old }
-    ensures gathering { (first : B) (start : List (Receiving TheParcel)) → Gathering (B.stands first) start inlets.old ended.old builder.old wanting.old → Gathering (B.stands first) start inlets.new ended.new builder.new wanting.new }
+    ensures gathering { (first : B) (start : List (Receiving TheParcel)) →
+        Gathering (B.stands first) start inlets.old ended.old builder.old wanting.old →
+        Gathering (B.stands first) start inlets.new ended.new builder.new wanting.new }
 {
     let mut found = false;
     for i in 0..inlets.len() {
@@ -137,7 +142,8 @@ pub fn gather<W: Wait, B: Builds, G: Gate>(
     requires fresh { AreFresh inlets.old }
     requires stands { B.stands builder.old builder.old [] }
     ensures sources { B.sources builder.new ≡ B.sources builder.old }
-    ensures gathers { Gathers (B.stands builder.old) inlets.old inlets.new builder.new (is_err result) }
+    ensures gathers { Gathers (B.stands builder.old) inlets.old inlets.new
+        builder.new (is_err result) }
 {
     let mut ended = [false; MOST_SOURCES];
     let mut taken = [0u64; MOST_SOURCES];

@@ -38,7 +38,8 @@ pub(crate) fn offer_copies<W: Wait, G: Gate>(
 )
     requires count { vec_len copies.old ≡ length outlets.old }
     requires few { length outlets.old ≤ 8 }
-    ensures { (item : TheItem) → All (λ copy. copy ≡ item) copies.old.items → outlets.new ≡ map (sends (Line item ∷ [])) outlets.old }
+    ensures { (item : TheItem) → All (λ copy. copy ≡ item) copies.old.items →
+        outlets.new ≡ map (sends (Line item ∷ [])) outlets.old }
 {
     let mut builder = 0u32;
     for outlet in outlets.iter_mut() {

@@ -30,21 +30,30 @@ pub(crate) fn run_together<
     feeders: Vec<Feeder<'e, R>>,
     roster: Roster<B>,
 ) -> (Roster<B>, Result<(), NoThread>)
-    requires outlets { All (λ feeder. (1 ≤ vec_len feeder.outlets) × (vec_len feeder.outlets ≤ 8)) feeders.items }
+    requires outlets { All
+        (λ feeder. (1 ≤ vec_len feeder.outlets) × (vec_len feeder.outlets ≤ 8)) feeders.items }
     requires start { MayStart (vec_len builders) (vec_len feeders) roster }
     requires ready { All (IsReady B.sources B.stands) builders.items }
-    ensures ends { OnOk result.1 (AllZip (λ feeder end. Feeds feeder.feed.to_come feeder.outlets.items end) feeders.entry.items result.0.ends.items) }
-    ensures gatherers { OnOk result.1 (AllZip (HasGathered B.stands) builders.items result.0.gatherers.items) }
+    ensures ends { OnOk result.1 (AllZip
+        (λ feeder end. Feeds feeder.feed.to_come feeder.outlets.items end)
+        feeders.entry.items result.0.ends.items) }
+    ensures gatherers { OnOk result.1
+        (AllZip (HasGathered B.stands) builders.items result.0.gatherers.items) }
 {
     thread::scope(
         thread::scope_env(),
         rt,
         move |scope| -> (Roster<B>, Result<(), NoThread>)
-            requires outlets { All (λ feeder. (1 ≤ vec_len feeder.outlets) × (vec_len feeder.outlets ≤ 8)) feeders.items }
+            requires outlets { All
+                (λ feeder. (1 ≤ vec_len feeder.outlets) × (vec_len feeder.outlets ≤ 8))
+                feeders.items }
             requires start { MayStart (vec_len builders) (vec_len feeders) roster }
             requires ready { All (IsReady B.sources B.stands) builders.items }
-            ensures ends { OnOk result.1 (AllZip (λ feeder end. Feeds feeder.feed.to_come feeder.outlets.items end) feeders.entry.items result.0.ends.items) }
-            ensures gatherers { OnOk result.1 (AllZip (HasGathered B.stands) builders.items result.0.gatherers.items) }
+            ensures ends { OnOk result.1 (AllZip
+                (λ feeder end. Feeds feeder.feed.to_come feeder.outlets.items end)
+                feeders.entry.items result.0.ends.items) }
+            ensures gatherers { OnOk result.1
+                (AllZip (HasGathered B.stands) builders.items result.0.gatherers.items) }
         {
             let mut roster = roster;
             let answer = with_builders(rt, alloc, scope, gate, builders, feeders, &mut roster);

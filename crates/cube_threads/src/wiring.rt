@@ -41,9 +41,12 @@ pub(crate) fn feeders_of<'e, R: Read + Drop, B: Builds>(
 ) -> Result<Vec<Feeder<'e, R>>, AllocError>
     requires capacity { (1 ≤ capacity) × (capacity ≤ 65536) }
     requires none { All (λ gatherer. gatherer.inlets.items ≡ []) gatherers.old }
-    ensures linked { IfOk result (λ feeders. AreLinked (map (λ feeder. feeder.outlets.items) feeders.items) gatherers.new) }
-    ensures feeds { IfOk result (λ feeders. map (λ feeder. feeder.feed.to_come) feeders.items ≡ map (λ reader. coming_of schema.now (R.Read.remaining reader)) readers.items) }
-    ensures builders { OnOk result (map (λ gatherer. gatherer.builder) gatherers.new ≡ map (λ gatherer. gatherer.builder) gatherers.old) }
+    ensures linked { IfOk result (λ feeders.
+        AreLinked (map (λ feeder. feeder.outlets.items) feeders.items) gatherers.new) }
+    ensures feeds { IfOk result (λ feeders. map (λ feeder. feeder.feed.to_come) feeders.items
+        ≡ map (λ reader. coming_of schema.now (R.Read.remaining reader)) readers.items) }
+    ensures builders { OnOk result (map (λ gatherer. gatherer.builder) gatherers.new
+        ≡ map (λ gatherer. gatherer.builder) gatherers.old) }
 {
     let mut feeders = Vec::with_capacity(alloc, readers.len())?;
     for reader in readers {
@@ -60,8 +63,10 @@ pub(crate) fn gatherers_of<B: Builds>(
     builders: Vec<B>,
     sources: usize,
 ) -> Result<Vec<Gatherer<B>>, AllocError>
-    ensures builders { IfOk result (λ gatherers. map (λ gatherer. gatherer.builder) gatherers.items ≡ builders.items) }
-    ensures none { IfOk result (λ gatherers. All (λ gatherer. gatherer.inlets.items ≡ []) gatherers.items) }
+    ensures builders { IfOk result (λ gatherers.
+        map (λ gatherer. gatherer.builder) gatherers.items ≡ builders.items) }
+    ensures none { IfOk result (λ gatherers.
+        All (λ gatherer. gatherer.inlets.items ≡ []) gatherers.items) }
 {
     let mut gatherers = Vec::with_capacity(alloc, builders.len())?;
     for builder in builders {
