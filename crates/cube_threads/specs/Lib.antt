@@ -1,0 +1,7 @@
+pub mod Arrival
+pub mod Parcels
+pub mod Feeding
+pub mod Ends
+pub mod Gathering
+pub mod Starting
+pub mod Wiring

@@ -1,0 +1,32 @@
+-- What is known of builders and feeders before their threads start, and after they were joined.
+use Rattle.std.specs.Prelude.{◌≡◌, ◌+◌, ◌≤◌, ℕ, [], vec_len, vec_capacity}
+use Rattle.cube_threads.specs.Arrival.{Arrivals}
+use Rattle.cube_threads.specs.Gathering.{AreFresh, Gathers}
+use Rattle.cube_threads.specs.declared.roster.Gatherer.{Gatherer}
+use Rattle.cube_threads.specs.declared.roster.Roster.{Roster}
+
+-- a builder that has taken nothing, with a link from each source, from which nothing was received
+pub record IsReady {B : Type 0} (sources : B → ℕ) (stands : B → B → Arrivals → Type 0) (gatherer : Gatherer B) : Type 0 where
+  pub inlets : vec_len gatherer.inlets ≡ sources gatherer.builder
+  pub most : vec_len gatherer.inlets ≤ 64
+  pub fresh : AreFresh gatherer.inlets.items
+  pub stands_at : stands gatherer.builder gatherer.builder []
+
+-- what a builder has gathered from its links
+abbrev pub HasGathered : {B : Type 0} → (B → B → Arrivals → Type 0) → Gatherer B → Gatherer B → Type 0
+HasGathered stands old new = Gathers (stands old.builder) old.inlets.items new.inlets.items new.builder new.wanting
+
+-- no feeder was joined yet, and there are room for so many ends and a post for each of so many threads
+pub record HasRoom {B : Type 0} (feeders threads : ℕ) (roster : Roster B) : Type 0 where
+  pub most : feeders ≤ 64
+  pub none : vec_len roster.ends ≡ 0
+  pub room : feeders ≤ vec_capacity roster.ends
+  pub posts : threads ≤ vec_len roster.posts
+
+-- so many builders and feeders may be started: none was joined yet, and there are room and posts for all
+pub record MayStart {B : Type 0} (builders feeders : ℕ) (roster : Roster B) : Type 0 where
+  pub one : 1 ≤ builders
+  pub few : builders ≤ 8
+  pub none : vec_len roster.gatherers ≡ 0
+  pub room : builders ≤ vec_capacity roster.gatherers
+  pub for_feeders : HasRoom feeders (feeders + builders) roster

@@ -1,0 +1,27 @@
+//! The threads of a build: a feeder for each source, and builders that gather from the feeders' links.
+//!
+//! [`feed_out`] sends the items of a feed to each builder, as [`Parcel`]s over a link of their own.
+#![tactic(auto)]
+
+mod builders;
+mod builds;
+mod copies;
+mod ends;
+mod feeders;
+mod feeding;
+mod gate;
+mod gathering;
+mod offering;
+mod parcel;
+mod roster;
+mod together;
+mod wiring;
+mod words;
+
+pub use builds::Builds;
+pub use ends::{first_stop, first_unsealed};
+pub use feeding::feed_out;
+pub use gate::{Gate, OpenGate};
+pub use gathering::gather;
+pub use parcel::{FeederEnd, Parcel};
+pub use roster::Gatherer;
