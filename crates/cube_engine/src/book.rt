@@ -118,7 +118,8 @@ impl Book {
     }
 
     fn insert(&mut self, id: Text, fact: Fact) -> Result<Delta, BookFault>
-        ensures taken { IfOk result (λ delta. Takes self.old (Change.Insert id fact) delta self.new) }
+        ensures taken { IfOk result
+            (λ delta. Takes self.old (Change.Insert id fact) delta self.new) }
         ensures refused { IfErr result (Explains self.old (Change.Insert id fact)) }
         ensures unchanged { OnErr result (self.new ≡ self.old) }
     {
@@ -129,7 +130,8 @@ impl Book {
     }
 
     fn update(&mut self, id: Text, fact: Fact) -> Result<Delta, BookFault>
-        ensures taken { IfOk result (λ delta. Takes self.old (Change.Update id fact) delta self.new) }
+        ensures taken { IfOk result
+            (λ delta. Takes self.old (Change.Update id fact) delta self.new) }
         ensures refused { IfErr result (Explains self.old (Change.Update id fact)) }
         ensures unchanged { OnErr result (self.new ≡ self.old) }
     {
@@ -141,7 +143,8 @@ impl Book {
 
     fn amend(&mut self, id: Text, part: &Partial) -> Result<Delta, BookFault>
         requires { AmendsAlike self.old (Change.Amend id part.now) }
-        ensures taken { IfOk result (λ delta. Takes self.old (Change.Amend id part.now) delta self.new) }
+        ensures taken { IfOk result
+            (λ delta. Takes self.old (Change.Amend id part.now) delta self.new) }
         ensures refused { IfErr result (Explains self.old (Change.Amend id part.now)) }
         ensures unchanged { OnErr result (self.new ≡ self.old) }
     {
@@ -155,7 +158,8 @@ impl Book {
     }
 
     fn delete(&mut self, id: &Text) -> Result<Delta, BookFault>
-        ensures taken { IfOk result (λ delta. Takes self.old (Change.Delete id.now) delta self.new) }
+        ensures taken { IfOk result
+            (λ delta. Takes self.old (Change.Delete id.now) delta self.new) }
         ensures refused { IfErr result (Explains self.old (Change.Delete id.now)) }
         ensures unchanged { OnErr result (self.new ≡ self.old) }
     {

@@ -45,7 +45,8 @@ fn take_feed<R: Read + Drop>(
     requires first { 1 ≤ source }
     requires last { source ≤ length ledger.old.accounts }
     requires schema { ledger.old.schema ≡ schema.now }
-    ensures ok { OnOk result (TakesFeed schema.now (R.Read.remaining reader) source ledger.old ledger.new) }
+    ensures ok { OnOk result
+        (TakesFeed schema.now (R.Read.remaining reader) source ledger.old ledger.new) }
     ensures err { IfErr result (StopsFeed schema.now (R.Read.remaining reader) source) }
 {
     let mut feed = Feed::new(alloc, schema, reader);

@@ -8,5 +8,6 @@ ghost use Rattle.cube_engine.specs.Ledger.{LedgerView, LedgerStandsAt, all_facts
 /// source, whatever the order in which the items of different sources came (this project's choice).
 pub fn ledgers_have_the_survivors()
     ensures { (ledger : LedgerView) (arrivals : Arrivals) → LedgerStandsAt ledger arrivals →
-        SurviveTogether ledger.schema (of_sources (length ledger.accounts) arrivals) (all_facts ledger.accounts) }
+        SurviveTogether ledger.schema (of_sources (length ledger.accounts) arrivals)
+        (all_facts ledger.accounts) }
 {}

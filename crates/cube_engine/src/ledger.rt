@@ -72,7 +72,8 @@ impl Ledger {
         requires first { 1 ≤ source }
         requires last { source ≤ length self.now.accounts }
         requires taken { says_taken self.now.schema what ≡ true }
-        ensures ruling { IfOk result (IsRuling self.now.schema (account_of self.now source).book what) }
+        ensures ruling { IfOk result
+            (IsRuling self.now.schema (account_of self.now source).book what) }
         ensures fits { IfOk result (RulingFits self.now.schema) }
     {
         let account = &self.accounts[source as usize - 1];
@@ -121,7 +122,8 @@ impl Ledger {
     pub fn apply(&mut self, source: u32, item: Item) -> Result<(), AllocError>
         requires first { 1 ≤ source }
         requires last { source ≤ length self.old.accounts }
-        ensures enters { OnOk result (AtSource (Enters self.old.schema item) source self.old self.new) }
+        ensures enters { OnOk result
+            (AtSource (Enters self.old.schema item) source self.old self.new) }
         ensures stands { OnOk result ((arrivals : Arrivals) → LedgerStandsAt self.old arrivals →
             LedgerStandsAt self.new (arrivals ++ (source, item) ∷ [])) }
         ensures err { OnErr result (self.new ≡ self.old) }
@@ -134,7 +136,8 @@ impl Ledger {
         requires first { 1 ≤ source }
         requires last { source ≤ length self.old.accounts }
         requires taken { says_taken self.old.schema item.what ≡ true }
-        ensures enters { OnOk result (AtSource (Enters self.old.schema item) source self.old self.new) }
+        ensures enters { OnOk result
+            (AtSource (Enters self.old.schema item) source self.old self.new) }
         ensures stands { OnOk result ((arrivals : Arrivals) → LedgerStandsAt self.old arrivals →
             LedgerStandsAt self.new (arrivals ++ (source, item) ∷ [])) }
         ensures err { OnErr result (self.new ≡ self.old) }
@@ -146,7 +149,8 @@ impl Ledger {
     fn enter(&mut self, source: u32, item: Item) -> Result<(), AllocError>
         requires first { 1 ≤ source }
         requires last { source ≤ length self.old.accounts }
-        ensures enters { OnOk result (AtSource (Enters self.old.schema item) source self.old self.new) }
+        ensures enters { OnOk result
+            (AtSource (Enters self.old.schema item) source self.old self.new) }
         ensures err { OnErr result (self.new ≡ self.old) }
     {
         if !says_taken(&self.schema, &item.what) {
@@ -160,7 +164,8 @@ impl Ledger {
         requires first { 1 ≤ source }
         requires last { source ≤ length self.old.accounts }
         requires taken { says_taken self.old.schema item.what ≡ true }
-        ensures enters { OnOk result (AtSource (Enters self.old.schema item) source self.old self.new) }
+        ensures enters { OnOk result
+            (AtSource (Enters self.old.schema item) source self.old self.new) }
         ensures err { OnErr result (self.new ≡ self.old) }
     {
         let Item { number, what } = item;
