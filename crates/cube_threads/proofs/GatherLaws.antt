@@ -1,11 +1,10 @@
 -- What was gathered grows look by look.
 use Rattle.std.proofs.Common.{append-nil, ◌≡◌, ◌≢◌, ◌<◌, ◌≤◌, ◌+◌, ◌==◌, ℕ, suc, Bool, true, false, List, [], ◌∷◌, ◌++◌, length, get_or, set, replicate, map, refl, ap, sym, ◌∙◌, ◌⊎◌, inl, inr, arith, rules, eq-eqb, append_assoc, length-set, get_or-set_same, get_or-set_other}
-use Rattle.std.specs.Prelude.{if◌then◌else◌, cond, filter}
-use Rattle.std.specs.List.{range_with_len}
+use Rattle.std.specs.Prelude.{cond, filter}
 use Rattle.std.proofs.lemmas.List.{map-append, length-map, get_or-map, get_or_default, get_or-replicate, ext_get_or}
 use Rattle.std.proofs.lemmas.List.FromFn.{get_or-map-range_with_len, length-map-range_with_len}
 use Rattle.cube_core.specs.declared.change.Item.{Item}
-use Rattle.cube_link.specs.Link.{Receiving, Link}
+use Rattle.cube_link.specs.Link.{Receiving}
 use Rattle.cube_threads.specs.Arrival.{Arrivals, of_source, of_sources}
 use Rattle.cube_threads.specs.Parcels.{lines_of, parcels_of}
 use Rattle.cube_threads.specs.Gathering.{AreFresh, StandsAtFirst, Looks, Gathering, Gathers, from, taken_of}
@@ -23,7 +22,8 @@ of_source-append : (a b : Arrivals) (source : ℕ) → of_source (a ++ b) source
 of_source-append [] b source = refl
 of_source-append ((s, item) ∷ a) b source = elim (s == source) as (λ is. map item_of (cond is ((s, item) ∷ filter (is_of source) (a ++ b)) (filter (is_of source) (a ++ b))) ≡ map item_of (cond is ((s, item) ∷ filter (is_of source) a) (filter (is_of source) a)) ++ of_source b source) [
   | true ↦ ap (λ items. item ∷ items) (of_source-append a b source)
-  | false ↦ of_source-append a b source ]
+  | false ↦ of_source-append a b source
+]
 
 of_source-same : (source : ℕ) (items : List Item) → of_source (from source items) source ≡ items
 of_source-same source [] = refl
@@ -81,19 +81,21 @@ gathering-look stands first start now ended before after wanting wanting' i d ne
       arrivals = was.arrivals ++ more;
       same_length = length-set now i new ∙ same;
       links = λ j e inside. elim (same_or_not j i) [
-          inl is ↦ rw (is, get_or-set_same now i new e below)
-              (looks.link ∙ ap (λ (inlet : Receiving Parcel). inlet.link) (get_or_default now i d e below) ∙ was.links i e low)
-        | inr ne ↦ rw (get_or-set_other now i j new e ne) (was.links j e inside) ];
+        | inl is ↦ rw (is, get_or-set_same now i new e below)
+            (looks.link ∙ ap (λ (inlet : Receiving Parcel). inlet.link) (get_or_default now i d e below) ∙ was.links i e low)
+        | inr ne ↦ rw (get_or-set_other now i j new e ne) (was.links j e inside)
+      ];
       received = λ j e inside. elim (same_or_not j i) [
-          inl is ↦
+        | inl is ↦
             let before : (get_or now i d).received ≡ lines_of (of_source was.arrivals (i + 1)) =
-                ap (λ (inlet : Receiving Parcel). inlet.received) (get_or_default now i d e below) ∙ (rw running at (was.received i e low)) in
+            ap (λ (inlet : Receiving Parcel). inlet.received) (get_or_default now i d e below) ∙ (rw running at (was.received i e low)) in
             rw (is, get_or-set_same now i new e below, get_or-set_same ended i last false within, of_source-append was.arrivals more (i + 1), of_source-same (i + 1) items)
-              (looks.received ∙ ap (λ (xs : List Parcel). xs ++ taken_of last items) before ∙ taken_of-append last (of_source was.arrivals (i + 1)) items)
+            (looks.received ∙ ap (λ (xs : List Parcel). xs ++ taken_of last items) before ∙ taken_of-append last (of_source was.arrivals (i + 1)) items)
         | inr ne ↦
             let apart : i + 1 ≢ j + 1 = omega (arith, ne) in
             rw (get_or-set_other now i j new e ne, get_or-set_other ended i j last false ne, of_source-append was.arrivals more (j + 1), of_source-other (j + 1) (i + 1) items apart, append-nil (of_source was.arrivals (j + 1)))
-              (was.received j e inside) ];
+            (was.received j e inside)
+      ];
       stands_at = looks.stands_on first was.arrivals was.stands_at;
     }
 
@@ -129,15 +131,15 @@ gathers-all stands old now ended builder wanting all was =
       links = same_links old now same was.links;
       received = ext_get_or [] received (map parcels_of sources) (length-map now (λ inlet. inlet.received) ∙ same ∙ sym count ∙ sym (length-map sources parcels_of))
           (λ i below.
-              let low : i < length now = omega (arith, length-map now (λ (inlet : Receiving Parcel). inlet.received)) in
-              let low_too : i < length old = omega arith in
-              let d = default now i low in
-              let within : i < length sources = omega (arith, count) in
-              get_or-map (λ (inlet : Receiving Parcel). inlet.received) now i d [] low
-              ∙ was.received i d low_too
-              ∙ ap (λ (last : Bool). taken_of last (of_source was.arrivals (i + 1))) (all i low)
-              ∙ ap parcels_of (sym (get_or-map-range_with_len (of_source was.arrivals) 1 (length old) i (i + 1) [] low_too (omega arith)))
-              ∙ sym (get_or-map parcels_of sources i [] [] within));
+          let low : i < length now = omega (arith, length-map now (λ (inlet : Receiving Parcel). inlet.received)) in
+          let low_too : i < length old = omega arith in
+          let d = default now i low in
+          let within : i < length sources = omega (arith, count) in
+          get_or-map (λ (inlet : Receiving Parcel). inlet.received) now i d [] low
+          ∙ was.received i d low_too
+          ∙ ap (λ (last : Bool). taken_of last (of_source was.arrivals (i + 1))) (all i low)
+          ∙ ap parcels_of (sym (get_or-map-range_with_len (of_source was.arrivals) 1 (length old) i (i + 1) [] low_too (omega arith)))
+          ∙ sym (get_or-map parcels_of sources i [] [] within));
       stands_at = was.stands_at;
     } where
       default : (xs : List (Receiving Parcel)) (i : ℕ) → i < length xs → Receiving Parcel

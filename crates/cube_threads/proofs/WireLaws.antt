@@ -1,5 +1,5 @@
 -- Links are made one by one.
-use Rattle.std.proofs.Common.{◌≡◌, ◌≢◌, ◌<◌, ◌≤◌, ◌+◌, ℕ, suc, List, [], ◌∷◌, ◌++◌, length, get_or, set, map, refl, ap, subst, sym, ◌∙◌, ◌⊎◌, inl, inr, arith, length-set, get_or-set_same, get_or-set_other}
+use Rattle.std.proofs.Common.{◌≡◌, ◌≢◌, ◌<◌, ◌+◌, ℕ, suc, List, [], ◌∷◌, ◌++◌, length, get_or, set, map, refl, ap, subst, sym, ◌∙◌, ◌⊎◌, inl, inr, arith, length-set, get_or-set_same, get_or-set_other}
 use Rattle.std.proofs.lemmas.Grind.{common_steps}
 use Rattle.std.proofs.lemmas.List.{get_or_append_left, get_or_default}
 use Rattle.std.proofs.Math.Seq.{get_or-append_seam}
@@ -41,13 +41,14 @@ connects-more n old now outlets d new outlet was within grows =
       same_length = length-set now n new ∙ same;
       width = length-one_more outlets outlet ∙ ap (λ (k : ℕ). k + 1) wide;
       each = λ j e o low inside. elim (at_or_below j n low) [
-          inl less ↦
+        | inl less ↦
             let ne : j ≢ n = omega arith in
             let short : j < length outlets = omega arith in
             rw (get_or-set_other now n j new e ne, get_or_append_left outlets (outlet ∷ []) o j short) (was.each j e o less inside)
         | inr is ↦
             let here : j ≡ length outlets = omega (arith, is, wide) in
-            rw (at_end outlets outlet o j here, is, get_or-set_same now n new e within, get_or_default old n e d below, ← was.others n d (omega arith)) grows ];
+            rw (at_end outlets outlet o j here, is, get_or-set_same now n new e within, get_or_default old n e d below, ← was.others n d (omega arith)) grows
+      ];
       others = λ j e high. let ne : j ≢ n = omega arith in rw (get_or-set_other now n j new e ne) (was.others j e (omega arith));
     }
 
@@ -83,8 +84,9 @@ linked-more outs old new outlets was more =
     let count = length-one_more outs outlets in
     record {
       widths = λ s below. elim (at_or_below s (length outs) (omega (arith, count))) [
-          inl less ↦ rw (get_or_append_left outs (outlets ∷ []) [] s less) (was.widths s less ∙ sym same)
-        | inr is ↦ rw (at_end outs outlets [] s is) (wide ∙ sym same) ];
+        | inl less ↦ rw (get_or_append_left outs (outlets ∷ []) [] s less) (was.widths s less ∙ sym same)
+        | inr is ↦ rw (at_end outs outlets [] s is) (wide ∙ sym same)
+      ];
       heights = λ j d below.
           let low : j < length old = omega arith in
           let o = some_of outlets j (omega (arith, wide)) in
@@ -94,24 +96,27 @@ linked-more outs old new outlets was more =
           let low : j < length old = omega arith in
           let g = more.each j d o low low in
           elim (at_or_below s (length outs) (omega (arith, count))) [
-            inl less ↦
-              let short : s < length (get_or old j d).inlets.items = rw (was.heights j d low) less in
-              rw (get_or_append_left outs (outlets ∷ []) [] s less, grown-before (get_or old j d) (get_or new j d) (get_or outlets j o) s i g short) (was.links s j d o i less low)
-          | inr is ↦ rw (at_end outs outlets [] s is) (grown-link (get_or old j d) (get_or new j d) (get_or outlets j o) s i g (is ∙ sym (was.heights j d low))) ];
+            | inl less ↦
+                let short : s < length (get_or old j d).inlets.items = rw (was.heights j d low) less in
+                rw (get_or_append_left outs (outlets ∷ []) [] s less, grown-before (get_or old j d) (get_or new j d) (get_or outlets j o) s i g short) (was.links s j d o i less low)
+            | inr is ↦ rw (at_end outs outlets [] s is) (grown-link (get_or old j d) (get_or new j d) (get_or outlets j o) s i g (is ∙ sym (was.heights j d low)))
+          ];
       unsent = λ s j o below inside.
           let low : j < length old = omega arith in
           elim (at_or_below s (length outs) (omega (arith, count))) [
-            inl less ↦ rw (get_or_append_left outs (outlets ∷ []) [] s less) (was.unsent s j o less low)
-          | inr is ↦ rw (at_end outs outlets [] s is) (more.each j (some_of old j low) o low low).unsent ];
+            | inl less ↦ rw (get_or_append_left outs (outlets ∷ []) [] s less) (was.unsent s j o less low)
+            | inr is ↦ rw (at_end outs outlets [] s is) (more.each j (some_of old j low) o low low).unsent
+          ];
       unreceived = λ s j d i below inside.
           let low : j < length old = omega arith in
           let o = some_of outlets j (omega (arith, wide)) in
           let g = more.each j d o low low in
           elim (at_or_below s (length outs) (omega (arith, count))) [
-            inl less ↦
-              let short : s < length (get_or old j d).inlets.items = rw (was.heights j d low) less in
-              rw (grown-before (get_or old j d) (get_or new j d) (get_or outlets j o) s i g short) (was.unreceived s j d i less low)
-          | inr is ↦ grown-unreceived (get_or old j d) (get_or new j d) (get_or outlets j o) s i g (is ∙ sym (was.heights j d low)) ];
+            | inl less ↦
+                let short : s < length (get_or old j d).inlets.items = rw (was.heights j d low) less in
+                rw (grown-before (get_or old j d) (get_or new j d) (get_or outlets j o) s i g short) (was.unreceived s j d i less low)
+            | inr is ↦ grown-unreceived (get_or old j d) (get_or new j d) (get_or outlets j o) s i g (is ∙ sym (was.heights j d low))
+          ];
     }
 
 -- the builders are those they were

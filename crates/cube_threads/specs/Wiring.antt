@@ -38,7 +38,7 @@ pub record AreLinked {B : Type 0} (outlets : List (List (Sending Parcel))) (gath
   pub widths : (s : ℕ) → s < length outlets → length (slice_index_or outlets s []) ≡ length gatherers
   pub heights : (j : ℕ) (d : Gatherer B) → j < length gatherers → length (slice_index_or gatherers j d).inlets.items ≡ length outlets
   pub links : (s j : ℕ) (d : Gatherer B) (o : Sending Parcel) (i : Receiving Parcel) → s < length outlets → j < length gatherers →
-    (slice_index_or (slice_index_or outlets s []) j o).link ≡ (slice_index_or (slice_index_or gatherers j d).inlets.items s i).link
+      (slice_index_or (slice_index_or outlets s []) j o).link ≡ (slice_index_or (slice_index_or gatherers j d).inlets.items s i).link
   pub unsent : (s j : ℕ) (o : Sending Parcel) → s < length outlets → j < length gatherers → (slice_index_or (slice_index_or outlets s []) j o).sent ≡ []
   pub unreceived : (s j : ℕ) (d : Gatherer B) (i : Receiving Parcel) → s < length outlets → j < length gatherers →
-    (slice_index_or (slice_index_or gatherers j d).inlets.items s i).received ≡ []
+      (slice_index_or (slice_index_or gatherers j d).inlets.items s i).received ≡ []

@@ -18,13 +18,7 @@ use std::thread;
 const MOST_SOURCES: usize = 64;
 
 // Applies an item, or drops it where memory was wanting before; waits for good where the builder is full.
-fn accept<W: Wait, B: Builds>(
-    rt: &W,
-    builder: &mut B,
-    source: u32,
-    item: Item,
-    wanting: &mut bool,
-)
+fn accept<W: Wait, B: Builds>(rt: &W, builder: &mut B, source: u32, item: Item, wanting: &mut bool)
     requires { (1 ≤ source) × (source ≤ B.sources builder.old) }
     ensures sources { B.sources builder.new ≡ B.sources builder.old }
     ensures stands { (first : B) (arrivals : Arrivals) →
@@ -152,7 +146,16 @@ pub fn gather<W: Wait, B: Builds, G: Gate>(
         if have_ended(&ended, inlets.len()) {
             return if wanting { Err(AllocError) } else { Ok(()) };
         }
-        if !look_round(rt, number, builder, inlets, &mut ended, &mut taken, &mut wanting, gate) {
+        if !look_round(
+            rt,
+            number,
+            builder,
+            inlets,
+            &mut ended,
+            &mut taken,
+            &mut wanting,
+            gate,
+        ) {
             thread::yield_now();
         }
     }

@@ -3,7 +3,9 @@ use crate::Arrived;
 use cube_core::Schema;
 use cube_feed::{Feed, FeedFault};
 use cube_link::link;
-use cube_threads::{FeederEnd, Gate, OpenGate, Parcel, feed_out, first_stop, first_unsealed, gather};
+use cube_threads::{
+    FeederEnd, Gate, OpenGate, Parcel, feed_out, first_stop, first_unsealed, gather,
+};
 use std::alloc::{AllocError, Global};
 use std::sync::atomic::{AtomicU64, Ordering};
 use std::test::Fail;
@@ -19,8 +21,10 @@ struct Sums {
 
 impl Gate for Sums {
     fn before_offer(&self, _source: u32, builder: u32, k: u64) {
-        self.offered
-            .fetch_add(u64::from(builder).wrapping_mul(100).wrapping_add(k), Ordering::SeqCst);
+        self.offered.fetch_add(
+            u64::from(builder).wrapping_mul(100).wrapping_add(k),
+            Ordering::SeqCst,
+        );
     }
 
     fn after_take(&self, _source: u32, _builder: u32, k: u64) {

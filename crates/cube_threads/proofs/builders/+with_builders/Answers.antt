@@ -1,4 +1,4 @@
-use Rattle.std.proofs.Common.{rules, arith, ap, length, ◌≡◌, ◌++◌, ◌∷◌, [], Some, IfSome}
+use Rattle.std.proofs.Common.{rules, arith, ap, length, ◌≡◌, ◌∷◌, []}
 use Rattle.std.proofs.lemmas.List.{length-append}
 use Rattle.std.proofs.lemmas.Slice.Zip.{AllZip-long}
 use Rattle.cube_threads.specs.Starting.{IsReady, HasGathered}
@@ -29,7 +29,7 @@ returns-then-is_empty-clause-gatherers g t c =
     let last : length c.pop.new.self.items ≡ 0 = search rules in
     let first : length c.with_feeders.new.roster.gatherers.items ≡ 0 = search (rules, c.requires.start.none, c.with_feeders.ensures.gatherers) in
     rw (whole, c.keep.ensures.gatherers)
-      (all_zip_more (HasGathered g.B.Builds.stands) _ _ _ _ (all_zip_empty (HasGathered g.B.Builds.stands) _ _ last first) c.in_ok-with_feeders.ensures.own)
+    (all_zip_more (HasGathered g.B.Builds.stands) _ _ _ _ (all_zip_empty (HasGathered g.B.Builds.stands) _ _ last first) c.in_ok-with_feeders.ensures.own)
 
 pub with_feeders-requires-clause-ready : goal.with_feeders-requires-clause-ready
 with_feeders-requires-clause-ready g t c κs within =

@@ -1,4 +1,4 @@
-use Rattle.std.proofs.Common.{rules, ◌≤◌, ◌∷◌, [], vec_len, Some, IfSome}
+use Rattle.std.proofs.Common.{rules, ◌≤◌, ◌∷◌, [], vec_len}
 use Rattle.std.proofs.lemmas.Slice.Zip.{AllZip-long}
 use Rattle.cube_threads.specs.Feeding.{Feeds}
 use Rattle.cube_threads.proofs.PlaceLaws.{all_front, all_zip_more}

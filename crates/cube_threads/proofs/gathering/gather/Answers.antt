@@ -11,5 +11,6 @@ returns-then-have_ended-clause-gathers g c =
     let loop = c.loop in
     let all = gathers-all (g.B.Builds.stands c.args.builder.now) c.args.inlets.now loop.inlets loop.ended loop.builder loop.wanting (c.if-have_ended.ensures refl) loop.invariant.1 in
     elim c.if-wanting.branch [
-      then-wanting w ↦ rw w.result-is (rw w.if-wanting.true at all)
-    | else-wanting w ↦ rw w.result-is (rw w.if-wanting.false at all) ]
+      | then-wanting w ↦ rw w.result-is (rw w.if-wanting.true at all)
+      | else-wanting w ↦ rw w.result-is (rw w.if-wanting.false at all)
+    ]

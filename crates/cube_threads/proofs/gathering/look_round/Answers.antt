@@ -6,15 +6,16 @@ use Rattle.cube_threads.proofs.gathering.look_round.Goals.{then-not-ended-i, els
 pub loop-i-preserved : goal.loop-i-preserved
 loop-i-preserved g c =
     elim c.if-not-ended-i.branch [
-      then-not-ended-i w ↦
-        let loop = c.loop-i in
-        let below : loop.i < length loop.inlets = omega arith in
-        let within : loop.i < length loop.ended = omega arith in
-        let running : get_or loop.ended loop.i false ≡ false = search rules in (
-          search rules,
-          λ first start was.
-            rw (w.inlets-is, w.ended-is, w.builder-is, w.wanting-is)
-              (gathering-look g.B.Builds.stands first start loop.inlets loop.ended loop.builder w.look-found.new.builder loop.wanting w.look-found.new.wanting loop.i w.index-inlets-i.result
+      | then-not-ended-i w ↦
+          let loop = c.loop-i in
+          let below : loop.i < length loop.inlets = omega arith in
+          let within : loop.i < length loop.ended = omega arith in
+          let running : get_or loop.ended loop.i false ≡ false = search rules in (
+            search rules,
+            λ first start was.
+                rw (w.inlets-is, w.ended-is, w.builder-is, w.wanting-is)
+                (gathering-look g.B.Builds.stands first start loop.inlets loop.ended loop.builder w.look-found.new.builder loop.wanting w.look-found.new.wanting loop.i w.index-inlets-i.result
                 w.look-found.new.inlet w.look-found.new.ended below within running w.look-found.ensures.looks (loop.invariant.1 first start was)),
-        )
-    | else-not-ended-i w ↦ search rules ]
+          )
+      | else-not-ended-i w ↦ search rules
+    ]
