@@ -1,7 +1,7 @@
-//! Queries of a cube: rolling a key up along a dimension, and drilling down from it (Gray et al. 1997).
+//! Queries of a cube: slices, rolling a key up along a dimension, and drilling down from it (Gray et al. 1997).
 ghost use Rattle.std.specs.Prelude.{◌≡◌, ◌<◌, ◌≤◌, ◌+◌, ◌^◌, true, List, IfOk, length};
 ghost use Rattle.cube_core.specs.GroupingSet.{is_all_at, mask_of_coords, is_among};
-ghost use Rattle.cube_core.specs.Query.{rolled_up, drills_down, drill_fault};
+ghost use Rattle.cube_core.specs.Query.{matches, rolled_up, drills_down, drill_fault};
 ghost use Rattle.cube_core.specs.declared.fact.Fact.{Fact};
 ghost use Rattle.cube_cells.specs.Cube.{IsCubeOf};
 ghost use Rattle.cube_cells.specs.Rows.{IsRowAt, IsRowOver, AreRowsOf, AreRowsWhere, GivesUnless, IsWantBelow, AreWantsBelow};
@@ -10,10 +10,23 @@ use super::Cube;
 use super::codes::ALL;
 use super::dictionary::Dictionary;
 use super::rows::{Want, row_of};
-use cube_core::{Coord, Key, QueryFault, Row, Sequence};
+use cube_core::{Coord, Key, Pattern, QueryFault, Row, Sequence};
 use std::alloc::{AllocError, Global};
 
 impl Cube {
+    /// The rows of the cells whose keys a pattern matches, in key order. The only error is want of memory.
+    pub fn slice(&self, pattern: &Pattern) -> Result<Vec<Row>, AllocError>
+        ensures rows { IfOk result (λ rows. AreRowsOf (matches pattern.now)
+            self.now.schema.aggregates self.now.cells rows.items) }
+        ensures cube { IfOk result (λ rows. (facts : List Fact) → IsCubeOf self.now facts →
+            AreRowsWhere (matches pattern.now) self.now.sets (length self.now.schema.dimensions)
+                self.now.schema.aggregates facts rows.items) }
+    {
+        let mut rows = self.rows()?;
+        rows.retain(|row| pattern.matches(&row.key));
+        Ok(rows)
+    }
+
     /// The row of a key with ALL in a dimension, counted from 0; `None` exactly where that is no cell, as where its
     /// grouping set isn't kept. The only error is want of memory.
     pub fn roll_up(&self, key: &Key, dim: usize) -> Result<Option<Row>, AllocError>
