@@ -10,6 +10,7 @@ pub mod KeyLaws
 pub mod GrowthLaws
 pub mod RankLaws
 pub mod RowLaws
+pub mod DrillLaws
 pub mod CubeLaws
 pub mod CodedLaws
 pub mod KeptLaws

@@ -11,7 +11,8 @@ use Rattle.std.specs.declared.cmp.Ordering.TheVariants.{Less}
 use Rattle.std.proofs.lemmas.Bool.{cases_Bool, both_ways, and_from, and_parts}
 use Rattle.std.proofs.lemmas.Cmp.{eq_by_cmp_equiv, tied_itself}
 use Rattle.std.proofs.lemmas.List.{get_or-map, length-map}
-use Rattle.std.proofs.lemmas.List.Elements.{All-from_recursion, recursion_from_All, All-contains, Contains-get_or, All-head, All-tail}
+use Rattle.std.proofs.lemmas.List.Elements.{All-from_recursion, recursion_from_All, All-contains, Contains-get_or, All-filter, All-head, All-tail}
+use Rattle.std.proofs.lemmas.List.Kept.{IsStrictlySortedBy-filter}
 use Rattle.std.proofs.lemmas.List.Sorted.{IsPermutation-sym, IsPermutation-map, Contains-permutation}
 use Rattle.std.proofs.lemmas.Map.Keys.{sorted_from_all_adjacent, IsDistinct-IsPermutation, apart_from_distinct, IsDistinct-head, IsDistinct-tail, IsDistinct-cons}
 use Rattle.std.proofs.lemmas.Map.Made.{IsDistinct-keys_filter}
@@ -19,6 +20,7 @@ use Rattle.std.proofs.lemmas.Map.Views.{lookup-from_Contains, Contains-from_look
 use Rattle.cube_core.specs.Cube.{is_cell, key_of, HasAnswers, AreRowsOver}
 use Rattle.cube_core.specs.Group.{group_of}
 use Rattle.cube_core.specs.Order.{key_cmp}
+use Rattle.cube_core.specs.Query.{Wanted, matches, slice_of}
 use Rattle.cube_core.specs.declared.aggregate.Agg.{Agg}
 use Rattle.cube_core.specs.declared.fact.Fact.{Fact}
 use Rattle.cube_core.specs.declared.key.Key.{Key}
@@ -232,3 +234,31 @@ all_rows_of_cube l facts rows cube are =
       ordered = some.ordered;
       answers = some.answers;
     }
+
+-- ---- slices
+keys_of_slice : (pattern : Wanted) (rows : List Row) → map key_of (slice_of pattern rows) ≡ filter (matches pattern) (map key_of rows)
+keys_of_slice pattern [] = refl
+keys_of_slice pattern (row ∷ rows) = elim (cases_Bool (matches pattern row.key)) [
+  | inl matched ↦ rw (matched, keys_of_slice pattern rows) refl
+  | inr other ↦ rw other (keys_of_slice pattern rows)
+]
+
+-- the slice of all rows is the rows of the cells that the pattern matches
+pub slice_given : (pattern : Wanted) (aggregates : List Agg) (cells : Cells) (rows kept : List Row) → AreRowsOf (λ key. true) aggregates cells rows → kept ≡ slice_of pattern rows → AreRowsOf (matches pattern) aggregates cells kept
+slice_given pattern aggregates cells rows kept are is = rw is (record {
+  keys = λ key. (there key, back key);
+  ordered = rw (keys_of_slice pattern rows) (IsStrictlySortedBy-filter key_cmp (matches pattern) (map key_of rows) are.ordered);
+  answers = All-filter (λ (row : Row). matches pattern row.key) (λ (row : Row). IfSome (cell_at cells row.key) (λ t. AreAnswersOf aggregates t row.answers)) rows are.answers;
+}) where
+  there : (key : Key) → Contains (map key_of (slice_of pattern rows)) key → IsSome (cell_at cells key) × IsTrue (matches pattern key)
+  there key inside =
+      let row = Contains-map key_of (slice_of pattern rows) key inside in
+      let found = Contains-filter (λ (r : Row). matches pattern r.key) rows row.0 row.1 in
+      let P : Key → Type 0 = λ k. IsSome (cell_at cells k) × IsTrue (matches pattern k) in
+      subst P row.2 (((are.keys row.0.key).0 (map-Contains key_of rows row.0 found.0)).0, found.1)
+  back : (key : Key) → IsSome (cell_at cells key) × IsTrue (matches pattern key) → Contains (map key_of (slice_of pattern rows)) key
+  back key cell =
+      let row = Contains-map key_of rows key ((are.keys key).1 (cell.0, refl)) in
+      let P : Key → Type 0 = λ k. matches pattern k ≡ true in
+      let Q : Key → Type 0 = λ k. Contains (map key_of (slice_of pattern rows)) k in
+      subst Q row.2 (map-Contains key_of (slice_of pattern rows) row.0 (filter-Contains (λ (r : Row). matches pattern r.key) rows row.0 row.1 (subst P (sym row.2) cell.1)))

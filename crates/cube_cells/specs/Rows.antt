@@ -1,5 +1,5 @@
 -- The rows of a cube that is kept up to date: those of the cells whose keys pass a test (Gray et al. 1997).
-use Rattle.std.specs.Prelude.{◌≡◌, ◌==◌, ◌&&◌, ◌↔◌, ℕ, Bool, true, false, not, Option, Some, None, List, [], ◌∷◌, length, map, Contains, All, IsTrue, IsSome, IfSome}
+use Rattle.std.specs.Prelude.{◌≡◌, ◌==◌, ◌&&◌, ◌↔◌, ℕ, Bool, true, false, not, Option, Some, None, Result, Ok, Err, get_or, ◌<◌, List, [], ◌∷◌, length, map, Contains, All, IsTrue, IsSome, IfSome}
 use Rattle.std.specs.List.{AllByRecursion}
 use Rattle.std.specs.List.Sorted.{IsStrictlySortedBy}
 use Rattle.cube_core.specs.Answer.{AreAnswers}
@@ -8,9 +8,13 @@ use Rattle.cube_core.specs.Order.{key_cmp}
 use Rattle.cube_core.specs.declared.aggregate.Agg.{Agg}
 use Rattle.cube_core.specs.declared.aggregate.Answer.{Answer}
 use Rattle.cube_core.specs.declared.fact.Fact.{Fact}
+use Rattle.cube_core.specs.declared.key.Coord.{Coord}
+use Rattle.cube_core.specs.declared.key.Coord.TheVariants as coord
 use Rattle.cube_core.specs.declared.key.Key.{Key}
 use Rattle.cube_core.specs.declared.key.Row.{Row}
-use Rattle.cube_cells.specs.Codes.{Dictionaries, are_codes, key_at}
+use Rattle.cube_core.specs.declared.query.QueryFault.{QueryFault}
+use Rattle.cube_core.specs.declared.query.QueryFault.TheVariants.{Memory}
+use Rattle.cube_cells.specs.Codes.{Dictionaries, IsCodeOf, are_codes, key_at, all_code}
 use Rattle.cube_cells.specs.Cube.{Cells, cell_at}
 use Rattle.cube_cells.specs.Tally.{Tally, IsTallyOf}
 use Rattle.cube_cells.specs.declared.cube.rows.Want.{Want}
@@ -47,6 +51,12 @@ abbrev pub IsRowOver : List ℕ → ℕ → List Agg → List Fact → Key → O
 IsRowOver sets dimensions aggregates facts key None = is_cell sets dimensions facts key ≡ false
 IsRowOver sets dimensions aggregates facts key (Some row) = (is_cell sets dimensions facts key ≡ true) × (row.key ≡ key) × HasAnswers aggregates facts row
 
+-- a query is refused for this fault, or gives what is said of its value where there is none; else memory ran out
+abbrev pub GivesUnless : {T : Type 0} → Option QueryFault → (T → Type 0) → Result T QueryFault → Type 0
+GivesUnless (Some fault) Holds result = result ≡ Err fault
+GivesUnless None Holds (Ok value) = Holds value
+GivesUnless None Holds (Err fault) = fault ≡ Memory
+
 -- whether a code is wanted
 abbrev pub is_wanted_code : Want → ℕ → Bool
 is_wanted_code want.Any code = true
@@ -63,3 +73,13 @@ are_wanted_codes (w ∷ wants) (code ∷ codes) = is_wanted_code w code && are_w
 abbrev pub AreWantsOf : Dictionaries → (Key → Bool) → List Want → Type 0
 AreWantsOf dictionaries test wants = (codes : List ℕ) → are_codes dictionaries codes ≡ true → length codes ≡ 8
     → are_wanted_codes wants codes ≡ test (key_at dictionaries codes)
+
+-- what is wanted of the codes of a dimension: any but ALL where it is open, else the code of this coordinate alone
+abbrev pub IsWantBelow : List (List ℕ) → Coord → Bool → Want → Type 0
+IsWantBelow texts c true w = w ≡ want.Not all_code
+IsWantBelow texts c false w = (code : ℕ) × (w ≡ want.Code code) × IsCodeOf texts c code
+
+-- what is wanted of the codes of keys that drill down from these coordinates along a dimension
+pub record AreWantsBelow (dictionaries : Dictionaries) (dimension : ℕ) (coords : List Coord) (wants : List Want) : Type 0 where
+  pub each : (i : ℕ) → i < length wants
+      → IsWantBelow (get_or dictionaries i []) (get_or coords i coord.All) (i == dimension) (get_or wants i want.Any)

@@ -1,0 +1,9 @@
+use Rattle.std.proofs.Common.{◌≡◌, length}
+use Rattle.cube_cells.specs.Rows.{AreWantsBelow}
+use Rattle.cube_cells.proofs.cube.queries.wants_below.Given as goal
+
+abbrev pub invariant-loop-place : goal.invariant-loop-place
+invariant-loop-place l = record {
+  long : length l.wants.items ≡ l.place;
+  wants : AreWantsBelow l.dictionaries l.dim l.coords l.wants.items;
+}
