@@ -116,11 +116,13 @@ wanted_below (texts ∷ dictionaries) (c ∷ above) (w ∷ wants) (code ∷ code
     rw (head, tail) (and_swap (is_eq (coord_cmp (coord_at texts code) c)) open_there (is_eq others) ∙ ap (λ b. open_there && b) (tied_then (coord_cmp (coord_at texts code) c) others)) where
       here : IsWantBelow texts c (0 == suc dimension) w → IsWantBelow texts c false w
       here is = rw (ne_eqb 0 (suc dimension) (λ same. absurd (omega (arith, same)))) at is
+
       next : (i : ℕ) → (suc i == suc dimension) ≡ (i == dimension)
       next i = elim (cases_eq i dimension) [
         | inl same ↦ eq-eqb (suc i) (suc dimension) (ap suc same) ∙ sym (eq-eqb i dimension same)
         | inr apart ↦ ne_eqb (suc i) (suc dimension) (λ same. apart (omega (arith, same))) ∙ sym (ne_eqb i dimension apart)
       ]
+
       later : (i : ℕ) → IsWantBelow (get_or dictionaries i []) (get_or above i coord.All) (suc i == suc dimension) (get_or wants i want.Any) → IsWantBelow (get_or dictionaries i []) (get_or above i coord.All) (i == dimension) (get_or wants i want.Any)
       later i is = rw (next i) at is
 

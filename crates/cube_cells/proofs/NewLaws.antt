@@ -198,8 +198,7 @@ one_new measures cells codes t total one found empty width = record {
 pub new_all : (schema copy : Layout) (part of : ℕ) (sets : List ℕ) (dictionaries : Dictionaries) (total : Bool) (cells : CodedCells) → IsSchema copy → copy ≡ schema → sets ≡ sets_of_part part of copy.grouping_sets → dictionaries ≡ replicate (length copy.dimensions) [] → total ≡ is_among 0 sets → AreNewCells total (length copy.measures) cells → IsCoded copy sets 0 dictionaries cells × IsCubeOf (lattice_of copy sets 0 dictionaries cells) [] × IsNewLattice schema (sets_of_part part of schema.grouping_sets) (lattice_of copy sets 0 dictionaries cells)
 new_all schema copy part of sets dictionaries total cells is same sets_are texts_are total_is new =
     let kept = sets_of_part part of copy.grouping_sets in
-    let as_kept = subst (λ (b : Bool). AreNewCells b (length copy.measures) cells) (total_is ∙ ap (λ (xs : List ℕ). is_among 0 xs) sets_are) new in
-    (
+    let as_kept = subst (λ (b : Bool). AreNewCells b (length copy.measures) cells) (total_is ∙ ap (λ (xs : List ℕ). is_among 0 xs) sets_are) new in (
       rw (sets_are, texts_are) (new_coded copy part of cells is as_kept),
       rw (sets_are, texts_are) (new_cube copy kept cells is.dimensions_at_most as_kept),
       record {

@@ -69,6 +69,7 @@ in_order texts places moved sorted = record {
 } where
   long : length places ≡ length texts
   long = length_permutation (range_with_len 0 (length texts)) places moved ∙ length-range_with_len 0 (length texts)
+
   small : (a : ℕ) → Contains places a → a < length texts
   small a there =
       let back = Contains-permutation places (range_with_len 0 (length texts)) a (IsPermutation-sym (range_with_len 0 (length texts)) places moved) there in
@@ -84,6 +85,7 @@ ranked_all texts order ranks is in_order has = record {
 } where
   text : ℕ → List ℕ
   text a = get_or texts a []
+
   place_of : (a : ℕ) → a < length texts → (get_or order (get_or ranks a 0) 0 ≡ a) × (get_or ranks a 0 < length order)
   place_of a small =
       let at = in_order.each a small in
@@ -91,6 +93,7 @@ ranked_all texts order ranks is in_order has = record {
       let below = has.below at.0 at.1 in
       let P : ℕ → Type 0 = λ p. (get_or order (get_or ranks p 0) 0 ≡ p) × (get_or ranks p 0 < length order) in
       subst P at.2 (back, below)
+
   rising : (a b : ℕ) → a < length texts → b < length texts → get_or ranks a 0 < get_or ranks b 0 → slice_cmp nat_cmp (text a) (text b) ≡ Less
   rising a b small_a small_b up =
       let at_a = place_of a small_a in
@@ -98,8 +101,9 @@ ranked_all texts order ranks is in_order has = record {
       let sorted = in_order.ordered (get_or ranks a 0) (get_or ranks b 0) (omega (arith, up)) at_b.1 in
       let upward : is_lt (slice_cmp nat_cmp (text b) (text a)) ≡ false = rw (at_a.0, at_b.0) at sorted in
       below_from nat_list_cmp_total exact_bytes (text a) (text b) upward (λ same.
-          let one : a ≡ b = one_place (text b) texts a b is.distinct (record { below = small_a; is_text = same }) (record { below = small_b; is_text = refl }) in
-          absurd (omega (arith, up, ap (λ p. get_or ranks p 0) one)))
+      let one : a ≡ b = one_place (text b) texts a b is.distinct (record { below = small_a; is_text = same }) (record { below = small_b; is_text = refl }) in
+      absurd (omega (arith, up, ap (λ p. get_or ranks p 0) one)))
+
   by_rank : (a b : ℕ) → a < length texts → b < length texts → (get_or ranks a 0 < get_or ranks b 0) ⊎ (get_or ranks b 0 ≤ get_or ranks a 0) → (get_or ranks b 0 < get_or ranks a 0) ⊎ (get_or ranks a 0 ≤ get_or ranks b 0) → nat_cmp (get_or ranks a 0) (get_or ranks b 0) ≡ slice_cmp nat_cmp (text a) (text b)
   by_rank a b small_a small_b (inl up) other = nat_less (get_or ranks a 0) (get_or ranks b 0) up ∙ sym (rising a b small_a small_b up)
   by_rank a b small_a small_b (inr not_up) (inl down) = above_from nat_cmp_total (get_or ranks a 0) (get_or ranks b 0) (nat_less (get_or ranks b 0) (get_or ranks a 0) down) ∙ sym (above_from nat_list_cmp_total (text a) (text b) (rising b a small_b small_a down))
@@ -121,14 +125,19 @@ rank_compares : (texts : List (List ℕ)) (ranks : List ℕ) (a b : ℕ) → IsD
 rank_compares texts ranks a b is are valid_a valid_b = by_kind (code_cases texts a valid_a) (code_cases texts b valid_b) where
   text : ℕ → Coord
   text code = coord.Text (get_or texts code [])
+
   between : (ra rb : ℕ) (ca cb : Coord) → rank_of ranks a ≡ ra → rank_of ranks b ≡ rb → coord_at texts a ≡ ca → coord_at texts b ≡ cb → nat_cmp ra rb ≡ coord_cmp ca cb → nat_cmp (rank_of ranks a) (rank_of ranks b) ≡ coord_cmp (coord_at texts a) (coord_at texts b)
   between ra rb ca cb rank_a rank_b coord_a coord_b same = rw (rank_a, rank_b, coord_a, coord_b) same
+
   top_rank : (code top : ℕ) → code ≡ top → null_code ≤ top → rank_of ranks code ≡ top
   top_rank code top same high = rank_of-top texts ranks code are (omega (arith, is.few, same, high)) ∙ same
+
   text_coord : (code : ℕ) → code < length texts → coord_at texts code ≡ text code
   text_coord code below = coord_at-place texts code (omega (arith, below, is.few))
+
   low : (code top : ℕ) → code < length texts → null_code ≤ top → get_or ranks code 0 < top
   low code top below high = omega (arith, are.below code below, is.few, high)
+
   by_kind : (a ≡ all_code) ⊎ ((a ≡ null_code) ⊎ (a < length texts)) → (b ≡ all_code) ⊎ ((b ≡ null_code) ⊎ (b < length texts)) → nat_cmp (rank_of ranks a) (rank_of ranks b) ≡ coord_cmp (coord_at texts a) (coord_at texts b)
   by_kind (inl all_a) (inl all_b) = between all_code all_code coord.All coord.All (top_rank a all_code all_a (omega arith)) (top_rank b all_code all_b (omega arith)) (ap (coord_at texts) all_a) (ap (coord_at texts) all_b) (tied_itself nat_cmp_total all_code)
   by_kind (inl all_a) (inr (inl null_b)) = between all_code null_code coord.All coord.Null (top_rank a all_code all_a (omega arith)) (top_rank b null_code null_b (omega arith)) (ap (coord_at texts) all_a) (ap (coord_at texts) null_b) (above_from nat_cmp_total all_code null_code (nat_less null_code all_code (omega arith)))

@@ -87,36 +87,46 @@ rows_given test aggregates cells placed rows distinct moved sorted all = record 
 } where
   passing : Cells
   passing = filter (λ c. test c.0) cells
+
   from_placed : (c : Key × Tally) → Contains placed c → Contains cells c × (test c.0 ≡ true)
   from_placed c inside = Contains-filter (λ (e : Key × Tally). test e.0) cells c (Contains-permutation placed passing c (IsPermutation-sym passing placed moved) inside)
+
   found : (c : Key × Tally) → Contains placed c → cell_at cells c.0 ≡ Some c.1
   found c inside = finds cells c.0 c.1 distinct (from_placed c inside).0
+
   there : (key : Key) → Contains (keys_of placed) key → IsSome (cell_at cells key) × IsTrue (test key)
   there key inside =
       let c = Contains-map (λ (e : Key × Tally). e.0) placed key inside in
       let P : Key → Type 0 = λ k. IsSome (cell_at cells k) × IsTrue (test k) in
       subst P c.2 (some_is (cell_at cells c.0.0) c.0.1 (found c.0 c.1), (from_placed c.0 c.1).1)
+
   back : (key : Key) → IsSome (cell_at cells key) × IsTrue (test key) → Contains (keys_of placed) key
   back key is =
       let t = some_found (cell_at cells key) is.0 in
       map-Contains (λ (e : Key × Tally). e.0) placed (key, t.0) (Contains-permutation passing placed (key, t.0) moved (filter-Contains (λ (e : Key × Tally). test e.0) cells (key, t.0) (is_found cells key t.0 t.1) is.1))
+
   apart : IsDistinct same_key_as (keys_of placed)
   apart = IsDistinct-IsPermutation same_key_as keys_equiv.symm (keys_of passing) (keys_of placed) (IsPermutation-map (λ (e : Key × Tally). e.0) passing placed moved) (IsDistinct-keys_filter same_key_as (λ (e : Key × Tally). test e.0) cells distinct)
+
   no_key : Key
   no_key = record { coords = [] }
+
   no_cell : Key × Tally
   no_cell = (no_key, record { facts = 0; bags = [] })
+
   key_there : (k : ℕ) → k < length placed → get_or (keys_of placed) k no_key ≡ (get_or placed k no_cell).0
   key_there k inside = get_or-map (λ (e : Key × Tally). e.0) placed k no_cell no_key inside
+
   long : length (keys_of placed) ≡ length placed
   long = length-map placed (λ (e : Key × Tally). e.0)
+
   ordered : IsStrictlySortedBy key_cmp (keys_of placed)
   ordered = sorted_from_all_adjacent key_cmp_total (keys_of placed) no_key (λ k inside.
       let near : k + 1 < length placed = omega (arith, inside, long) in
       let upward : is_lt (key_cmp (get_or (keys_of placed) (k + 1) no_key) (get_or (keys_of placed) k no_key)) ≡ false = rw (key_there (k + 1) near, key_there k (omega (arith, near))) (sorted k no_cell (omega arith) near) in
       below_from key_cmp_total exact_keys (get_or (keys_of placed) k no_key) (get_or (keys_of placed) (k + 1) no_key) upward (λ same.
-          let tied : same_key_as (get_or (keys_of placed) k no_key) (get_or (keys_of placed) (k + 1) no_key) ≡ true = ap (same_key_as (get_or (keys_of placed) k no_key)) (sym same) ∙ keys_equiv.refl (get_or (keys_of placed) k no_key) in
-          both_ways _ (apart_from_distinct same_key_as (keys_of placed) k (k + 1) no_key apart (omega arith) inside) tied))
+      let tied : same_key_as (get_or (keys_of placed) k no_key) (get_or (keys_of placed) (k + 1) no_key) ≡ true = ap (same_key_as (get_or (keys_of placed) k no_key)) (sym same) ∙ keys_equiv.refl (get_or (keys_of placed) k no_key) in
+      both_ways _ (apart_from_distinct same_key_as (keys_of placed) k (k + 1) no_key apart (omega arith) inside) tied))
 
 -- ---- cells kept by codes
 -- codes of the same coordinates are the same
@@ -139,10 +149,11 @@ unfolding IsDistinct
 keys_apart dictionaries measures [] texts room all distinct = distinct
 keys_apart dictionaries measures (c ∷ cells) texts room all distinct =
     IsDistinct-cons same_key_as (key_at dictionaries c.0.codes) (keys_of (decoded dictionaries cells))
-        (head cells (All-tail (IsCodedCell dictionaries measures) c cells all) (IsDistinct-head same_codes c.0 (keys_of cells) distinct))
-        (keys_apart dictionaries measures cells texts room (All-tail (IsCodedCell dictionaries measures) c cells all) (IsDistinct-tail same_codes c.0 (keys_of cells) distinct)) where
+    (head cells (All-tail (IsCodedCell dictionaries measures) c cells all) (IsDistinct-head same_codes c.0 (keys_of cells) distinct))
+    (keys_apart dictionaries measures cells texts room (All-tail (IsCodedCell dictionaries measures) c cells all) (IsDistinct-tail same_codes c.0 (keys_of cells) distinct)) where
       here : IsCodedCell dictionaries measures c
       here = All-head (IsCodedCell dictionaries measures) c cells all
+
       two : (e : Codes × Tally) → IsCodedCell dictionaries measures e → same_codes c.0 e.0 ≡ false → same_key_as (key_at dictionaries c.0.codes) (key_at dictionaries e.0.codes) ≡ false
       two e is other = elim (cases_Bool (same_key_as (key_at dictionaries c.0.codes) (key_at dictionaries e.0.codes))) [
         | inl same ↦
@@ -150,6 +161,7 @@ keys_apart dictionaries measures (c ∷ cells) texts room all distinct =
             absurd (both_ways (same_codes c.0 e.0) other (ap (same_codes c.0) (sym codes) ∙ codes_equiv.refl c.0))
         | inr apart ↦ apart
       ]
+
       head : (es : CodedCells) → All (IsCodedCell dictionaries measures) es → AllByRecursion (λ y. same_codes c.0 y ≡ false) (keys_of es) → AllByRecursion (λ y. same_key_as (key_at dictionaries c.0.codes) y ≡ false) (keys_of (decoded dictionaries es))
       head [] all others = tt
       head (e ∷ es) all others = (two e (All-head (IsCodedCell dictionaries measures) e es all) others.0, head es (All-tail (IsCodedCell dictionaries measures) e es all) others.1)
@@ -160,6 +172,7 @@ wanted_cells dictionaries measures test wants [] are all = refl
 wanted_cells dictionaries measures test wants (c ∷ cells) are all = by_test (are_wanted_codes wants c.0.codes) (test (key_at dictionaries c.0.codes)) refl refl (are c.0.codes here.codes here.eight) (wanted_cells dictionaries measures test wants cells are (All-tail (IsCodedCell dictionaries measures) c cells all)) where
   here : IsCodedCell dictionaries measures c
   here = All-head (IsCodedCell dictionaries measures) c cells all
+
   by_test : (a b : Bool) → are_wanted_codes wants c.0.codes ≡ a → test (key_at dictionaries c.0.codes) ≡ b → are_wanted_codes wants c.0.codes ≡ test (key_at dictionaries c.0.codes) → decoded dictionaries (filter (λ e. are_wanted_codes wants e.0.codes) cells) ≡ filter (λ e. test e.0) (decoded dictionaries cells) → decoded dictionaries (filter (λ e. are_wanted_codes wants e.0.codes) (c ∷ cells)) ≡ filter (λ e. test e.0) (decoded dictionaries (c ∷ cells))
   by_test true true is_a is_b same rest = rw (is_a, is_b, rest) refl
   by_test false false is_a is_b same rest = rw (is_a, is_b) rest
@@ -194,12 +207,16 @@ rows_of_places dictionaries measures ranks test wants aggregates cells f r place
     rows_given test aggregates (decoded dictionaries cells) (map (λ place. decode (f place)) places) rows (keys_apart dictionaries measures cells texts room all distinct) moved_keys sorted_keys zipped where
       decode : Codes × Tally → Key × Tally
       decode c = (key_at dictionaries c.0.codes, c.1)
+
       wanted : CodedCells
       wanted = filter (λ c. are_wanted_codes wants c.0.codes) cells
+
       moved_keys : IsPermutation (filter (λ c. test c.0) (decoded dictionaries cells)) (map (λ place. decode (f place)) places)
       moved_keys = rw (← wanted_cells dictionaries measures test wants cells are all, ← map_map f decode places) (IsPermutation-map decode wanted (map f places) moved)
+
       placed : All (λ place. IsCodedCell dictionaries measures (f place)) places
       placed = placed_cells dictionaries measures wants cells f places all moved
+
       sorted_keys : IsSortedBy (λ x y. is_lt (key_cmp x.0 y.0)) (map (λ place. decode (f place)) places)
       sorted_keys = sorted_through (λ place. decode (f place)) (λ a b. is_lt (slice_cmp nat_cmp (r a) (r b))) (λ x y. is_lt (key_cmp x.0 y.0)) places (λ a b in_a in_b.
           let cell_a = All-contains (λ place. IsCodedCell dictionaries measures (f place)) places a placed in_a in
@@ -222,6 +239,7 @@ rows_of_cube test l facts rows cube are = record {
   by_cell : (row : Row) (o : Option Tally) → IsSome o → IfSome o (λ t. AreAnswersOf l.schema.aggregates t row.answers) → IfSome o (IsTallyOf (group_of row.key facts)) → HasAnswers l.schema.aggregates facts row
   by_cell row None some answers tally = cc some
   by_cell row (Some t) some answers tally = answers (group_of row.key facts) tally
+
   at : (row : Row) → Contains rows row → HasAnswers l.schema.aggregates facts row
   at row inside = by_cell row (cell_at l.cells row.key) ((are.keys row.key).0 (map-Contains key_of rows row inside)).0 (All-contains (λ (row : Row). IfSome (cell_at l.cells row.key) (λ t. AreAnswersOf l.schema.aggregates t row.answers)) rows row are.answers inside) (cube.tallies row.key)
 
@@ -256,6 +274,7 @@ slice_given pattern aggregates cells rows kept are is = rw is (record {
       let found = Contains-filter (λ (r : Row). matches pattern r.key) rows row.0 row.1 in
       let P : Key → Type 0 = λ k. IsSome (cell_at cells k) × IsTrue (matches pattern k) in
       subst P row.2 (((are.keys row.0.key).0 (map-Contains key_of rows row.0 found.0)).0, found.1)
+
   back : (key : Key) → IsSome (cell_at cells key) × IsTrue (matches pattern key) → Contains (map key_of (slice_of pattern rows)) key
   back key cell =
       let row = Contains-map key_of rows key ((are.keys key).1 (cell.0, refl)) in

@@ -20,7 +20,7 @@ impl Cube {
             self.now.schema.aggregates self.now.cells rows.items) }
         ensures cube { IfOk result (λ rows. (facts : List Fact) → IsCubeOf self.now facts →
             AreRowsWhere (matches pattern.now) self.now.sets (length self.now.schema.dimensions)
-                self.now.schema.aggregates facts rows.items) }
+            self.now.schema.aggregates facts rows.items) }
     {
         let mut rows = self.rows()?;
         rows.retain(|row| pattern.matches(&row.key));
@@ -35,7 +35,7 @@ impl Cube {
         ensures row { IfOk result (IsRowAt self.now.schema.aggregates self.now.cells (rolled_up dim key.now)) }
         ensures cube { IfOk result (λ row. (facts : List Fact) → IsCubeOf self.now facts →
             IsRowOver self.now.sets (length self.now.schema.dimensions)
-                self.now.schema.aggregates facts (rolled_up dim key.now) row) }
+            self.now.schema.aggregates facts (rolled_up dim key.now) row) }
     {
         let above = rolled_up(self.alloc, key, dim)?;
         let Some(cell) = self.get(&above) else {
@@ -56,10 +56,10 @@ impl Cube {
         requires width { length key.now.coords ≡ length self.now.schema.dimensions }
         ensures rows { GivesUnless (drill_fault self.now.schema.grouping_sets dim key.now)
             (λ rows. AreRowsOf (drills_down dim key.now)
-                self.now.schema.aggregates self.now.cells rows.items) result }
+            self.now.schema.aggregates self.now.cells rows.items) result }
         ensures cube { IfOk result (λ rows. (facts : List Fact) → IsCubeOf self.now facts →
             AreRowsWhere (drills_down dim key.now) self.now.sets (length self.now.schema.dimensions)
-                self.now.schema.aggregates facts rows.items) }
+            self.now.schema.aggregates facts rows.items) }
     {
         if !key.is_all(dim) {
             return Err(QueryFault::NotRolled);

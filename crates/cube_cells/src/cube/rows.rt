@@ -47,7 +47,7 @@ impl Cube {
             AreRowsOf (λ key. true) self.now.schema.aggregates self.now.cells rows.items) }
         ensures cube { IfOk result (λ rows. (facts : List Fact) → IsCubeOf self.now facts →
             AreRowsOver self.now.sets (length self.now.schema.dimensions)
-                self.now.schema.aggregates facts rows.items) }
+            self.now.schema.aggregates facts rows.items) }
     {
         self.rows_where(&[])
     }

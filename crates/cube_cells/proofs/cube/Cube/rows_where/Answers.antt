@@ -29,7 +29,7 @@ returns c =
     let aggregates = c.self.inside.schema.aggregates in
     let room : length dictionaries ≤ 8 = omega (arith, c.self.invariant.lattice.dictionaries, c.self.invariant.lattice.schema.dimensions_at_most) in
     rw (← c.self.view_is) (IfOk-weaker c.rows_of.result _ _
-        (λ rows zipped. λ test are. rows_of_places dictionaries measures c.in_ok-ranks.ranks.items test c.args.wants.now aggregates entries (λ place. (place.codes.now, place.cell.now)) (λ place. place.ranks) c.in_ok-places.places.items rows.items
-            c.self.invariant.texts room (rw c.deref.ensures.value at c.in_ok-ranks.ensures) c.self.invariant.each c.self.invariant.distinct are
-            c.in_ok-places.ensures.cells (rw c.deref-2.ensures.value at c.in_ok-places.ensures.ranks) c.in_ok-places.ensures.order (rw (c.aggregates.ensures.value, c.deref-3.ensures.value, c.deref-4.ensures.value) at zipped))
-        c.rows_of.ensures)
+    (λ rows zipped. λ test are. rows_of_places dictionaries measures c.in_ok-ranks.ranks.items test c.args.wants.now aggregates entries (λ place. (place.codes.now, place.cell.now)) (λ place. place.ranks) c.in_ok-places.places.items rows.items
+    c.self.invariant.texts room (rw c.deref.ensures.value at c.in_ok-ranks.ensures) c.self.invariant.each c.self.invariant.distinct are
+    c.in_ok-places.ensures.cells (rw c.deref-2.ensures.value at c.in_ok-places.ensures.ranks) c.in_ok-places.ensures.order (rw (c.aggregates.ensures.value, c.deref-3.ensures.value, c.deref-4.ensures.value) at zipped))
+    c.rows_of.ensures)
