@@ -2,7 +2,7 @@
 use Rattle.std.specs.Prelude.{◌≡◌, ⊤, ◌+◌, ◌≤◌, ℕ, Bool, true, false, List, [], ◌∷◌, Option, Some, None, option_map, Result, Ok, Err, IfOk, IfSome}
 use Rattle.cube_core.specs.Layout.{Layout}
 use Rattle.cube_core.specs.Takes.{takes}
-use Rattle.cube_core.specs.Items.{Coming, FeedEnd, Good, WrongHeader, TooManyRecords, coming_after, items_of, items_after}
+use Rattle.cube_core.specs.Items.{Coming, FeedEnd, Good, WrongHeader, TooManyRecords, items_of, items_after}
 use Rattle.cube_core.specs.declared.change.Item.{Item}
 use Rattle.cube_feed.specs.declared.fault.FeedFault.{FeedFault}
 use Rattle.cube_feed.specs.declared.fault.FeedFault.TheVariants.{Memory, Read, Header, TooMany}
@@ -13,24 +13,43 @@ use Rattle.cube_feed.specs.declared.feed.Stage.TheVariants as stage
 abbrev pub Left : Type 0
 Left = Option (List (List (List ℕ)))
 
+-- the items to come, and the fault that follows them, if one does
+pub record ToCome : Type 0 where
+  pub items : List Item
+  pub end : Option FeedFault
+
+-- the fault of a feed's end
+abbrev pub fault_of : FeedEnd → Option FeedFault
+fault_of Good = None
+fault_of WrongHeader = Some Header
+fault_of TooManyRecords = Some TooMany
+
+-- what records give is what is to come of them
+abbrev pub to_come : Coming → ToCome
+to_come coming = record { items = coming.items; end = fault_of coming.end }
+
 -- nothing is to come but this end
-abbrev pub nothing_but : FeedEnd → Coming
+abbrev pub nothing_but : Option FeedFault → ToCome
 nothing_but end = record { items = []; end = end }
 
--- what is to come before the header was read, and after it
-abbrev pub before_header : Layout → Left → Option Coming
-before_header schema left = option_map (items_of schema) left
+-- an item, and what comes after it
+abbrev pub first_then : Item → ToCome → ToCome
+first_then item rest = record { items = item ∷ rest.items; end = rest.end }
 
-abbrev pub after_header : Layout → ℕ → Left → Option Coming
-after_header schema number left = option_map (items_after schema number) left
+-- what is to come before the header was read, and after it
+abbrev pub before_header : Layout → Left → Option ToCome
+before_header schema left = option_map (λ (records : List (List (List ℕ))). to_come (items_of schema records)) left
+
+abbrev pub after_header : Layout → ℕ → Left → Option ToCome
+after_header schema number left = option_map (λ (records : List (List (List ℕ))). to_come (items_after schema number records)) left
 
 -- what a caller sees of a feed: its schema, the number of its last item, its end once it has come there, and what is to come,
--- where its reader tells its bytes and neither memory nor the reader failed
+-- where its reader tells its bytes
 pub record FeedView : Type 0 where
   pub schema : Layout
   pub number : ℕ
   pub ended : Option (Option FeedFault)
-  pub to_come : Option Coming
+  pub to_come : Option ToCome
 
 -- the end that a feed has come to
 abbrev pub ended_of : Stage → Option (Option FeedFault)
@@ -38,23 +57,15 @@ ended_of stage.Start = None
 ended_of stage.Records = None
 ended_of (stage.Ended end) = Some end
 
--- what is to come after an end: nothing but that; want of memory and the reader's own fault tell nothing of it
-abbrev pub coming_at_end : Option FeedFault → Option Coming
-coming_at_end None = Some (nothing_but Good)
-coming_at_end (Some Memory) = None
-coming_at_end (Some Read) = None
-coming_at_end (Some Header) = Some (nothing_but WrongHeader)
-coming_at_end (Some TooMany) = Some (nothing_but TooManyRecords)
-
 -- what is to come at a stage
-abbrev pub to_come_of : Layout → ℕ → Stage → Left → Option Coming
+abbrev pub to_come_of : Layout → ℕ → Stage → Left → Option ToCome
 to_come_of schema number stage.Start left = before_header schema left
 to_come_of schema number stage.Records left = after_header schema number left
-to_come_of schema number (stage.Ended end) left = coming_at_end end
+to_come_of schema number (stage.Ended end) left = Some (nothing_but end)
 
--- the feed has come to this end, and what that leaves is to come
+-- the feed has ended so: nothing is to come but this end
 abbrev pub HasEnded : FeedView → Option FeedFault → Type 0
-HasEnded feed end = (feed.ended ≡ Some end) × (feed.to_come ≡ coming_at_end end)
+HasEnded feed end = (feed.ended ≡ Some end) × (feed.to_come ≡ Some (nothing_but end))
 
 -- what a feed that has ended answers
 abbrev pub end_answer : Option FeedFault → Result (Option Item) FeedFault
@@ -63,14 +74,14 @@ end_answer (Some fault) = Err fault
 
 -- the answer is the first item to come, and the others are left; an end only where nothing but that is to come.
 -- Memory and the reader may fail at any time
-abbrev pub Gives : Option Coming → Result (Option Item) FeedFault → Option Coming → Type 0
+abbrev pub Gives : Option ToCome → Result (Option Item) FeedFault → Option ToCome → Type 0
 Gives None answer new = ⊤
-Gives (Some old) (Ok (Some item)) new = (rest : Coming) × (old ≡ coming_after item rest) × (new ≡ Some rest)
-Gives (Some old) (Ok None) new = old ≡ nothing_but Good
+Gives (Some old) (Ok (Some item)) new = (rest : ToCome) × (old ≡ first_then item rest) × (new ≡ Some rest)
+Gives (Some old) (Ok None) new = old ≡ nothing_but None
 Gives (Some old) (Err Memory) new = ⊤
 Gives (Some old) (Err Read) new = ⊤
-Gives (Some old) (Err Header) new = old ≡ nothing_but WrongHeader
-Gives (Some old) (Err TooMany) new = old ≡ nothing_but TooManyRecords
+Gives (Some old) (Err Header) new = old ≡ nothing_but (Some Header)
+Gives (Some old) (Err TooMany) new = old ≡ nothing_but (Some TooMany)
 
 -- a change that is given is one that the schema takes
 abbrev pub IsTaken : Layout → Result (Option Item) FeedFault → Type 0
@@ -86,10 +97,10 @@ Numbers old (Err fault) new = new.number ≡ old.number
 abbrev pub TakesHeader : Layout → Left → Result Bool FeedFault → Left → Type 0
 TakesHeader schema None answer new = ⊤
 TakesHeader schema (Some records) (Ok true) new = (rest : List (List (List ℕ))) × (items_of schema records ≡ items_after schema 0 rest) × (new ≡ Some rest)
-TakesHeader schema (Some records) (Ok false) new = items_of schema records ≡ nothing_but Good
+TakesHeader schema (Some records) (Ok false) new = items_of schema records ≡ record { items = []; end = Good }
 TakesHeader schema (Some records) (Err Memory) new = ⊤
 TakesHeader schema (Some records) (Err Read) new = ⊤
-TakesHeader schema (Some records) (Err Header) new = items_of schema records ≡ nothing_but WrongHeader
+TakesHeader schema (Some records) (Err Header) new = items_of schema records ≡ record { items = []; end = WrongHeader }
 TakesHeader schema (Some records) (Err TooMany) new = ⊥
 
 -- what is true of every feed: its last item's number is the schema's number of records at most, and 0 before the header was read

@@ -2,7 +2,7 @@
 ghost use Rattle.std.specs.Prelude.{◌≡◌, ◌≤◌, ◌+◌, None, Some, IfOk, IfErr, IfSome, IfNone, option_map};
 ghost use Rattle.cube_core.specs.Records.{records_of};
 ghost use Rattle.cube_core.specs.Items.{items_of};
-ghost use Rattle.cube_feed.specs.Feed.{HasEnded, Gives, IsTaken, Numbers, TakesHeader, IsFeed, after_header, ended_of, end_answer, to_come_of};
+ghost use Rattle.cube_feed.specs.Feed.{HasEnded, Gives, IsTaken, Numbers, TakesHeader, IsFeed, after_header, ended_of, end_answer, to_come, to_come_of};
 
 use crate::fault::FeedFault;
 use crate::header::is_header;
@@ -71,10 +71,8 @@ fn take_item<R: Read>(
     number: u32,
 ) -> Result<Option<Item>, FeedFault>
     requires { number ≤ schema.now.max_records }
-    ensures gives { Gives (after_header schema.now number records.old.left) result
-        (after_header schema.now (number + 1) records.new.left) }
-    ensures item { IfOk result (λ next. IfSome next (λ item.
-        (item.number ≡ number + 1) × (number + 1 ≤ schema.now.max_records))) }
+    ensures gives { Gives (after_header schema.now number records.old.left) result (after_header schema.now (number + 1) records.new.left) }
+    ensures item { IfOk result (λ next. IfSome next (λ item. (item.number ≡ number + 1) × (number + 1 ≤ schema.now.max_records))) }
     ensures taken { IsTaken schema.now result }
 {
     if !records.advance()? {
@@ -102,10 +100,8 @@ fn take_next<R: Read>(
 ) -> Result<Option<Item>, FeedFault>
     requires feed { IsFeed schema.now number stage }
     requires open { ended_of stage ≡ None }
-    ensures gives { Gives (to_come_of schema.now number stage records.old.left) result
-        (after_header schema.now (number + 1) records.new.left) }
-    ensures item { IfOk result (λ next. IfSome next (λ item.
-        (item.number ≡ number + 1) × (number + 1 ≤ schema.now.max_records))) }
+    ensures gives { Gives (to_come_of schema.now number stage records.old.left) result (after_header schema.now (number + 1) records.new.left) }
+    ensures item { IfOk result (λ next. IfSome next (λ item. (item.number ≡ number + 1) × (number + 1 ≤ schema.now.max_records))) }
     ensures taken { IsTaken schema.now result }
 {
     if let Stage::Start = stage {
@@ -124,8 +120,7 @@ impl<'s, R: Read> Feed<'s, R> {
         ensures schema { result.schema ≡ schema.now }
         ensures number { result.number ≡ 0 }
         ensures open { result.ended ≡ None }
-        ensures to_come { result.to_come
-            ≡ option_map (λ bytes. items_of schema.now (records_of bytes)) (R.remaining reader) }
+        ensures to_come { result.to_come ≡ option_map (λ bytes. to_come (items_of schema.now (records_of bytes))) (R.remaining reader) }
     {
         Feed {
             alloc,
@@ -147,8 +142,7 @@ impl<'s, R: Read> Feed<'s, R> {
         ensures numbers { Numbers self.old result self.new }
         ensures done { IfOk result (λ next. IfNone next (HasEnded self.new None)) }
         ensures failed { IfErr result (λ fault. HasEnded self.new (Some fault)) }
-        ensures lasting { IfSome self.old.ended (λ end.
-            (result ≡ end_answer end) × (self.new ≡ self.old)) }
+        ensures lasting { IfSome self.old.ended (λ end. (result ≡ end_answer end) × (self.new ≡ self.old)) }
         ensures schema { self.new.schema ≡ self.old.schema }
     {
         if let Stage::Ended(end) = self.stage {
