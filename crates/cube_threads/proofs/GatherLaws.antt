@@ -5,7 +5,7 @@ use Rattle.std.proofs.lemmas.List.{map-append, length-map, get_or-map, get_or_de
 use Rattle.std.proofs.lemmas.List.FromFn.{get_or-map-range_with_len, length-map-range_with_len}
 use Rattle.cube_core.specs.declared.change.Item.{Item}
 use Rattle.cube_link.specs.Link.{Receiving}
-use Rattle.cube_threads.specs.Arrival.{Arrivals, of_source, of_sources}
+use Rattle.cube_core.specs.Arrival.{Arrivals, of_source, of_sources}
 use Rattle.cube_threads.specs.Parcels.{lines_of, parcels_of}
 use Rattle.cube_threads.specs.Gathering.{AreFresh, StandsAtFirst, Looks, Gathering, Gathers, from, taken_of}
 use Rattle.cube_threads.specs.declared.parcel.Parcel.{Parcel}

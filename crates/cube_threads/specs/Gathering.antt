@@ -2,7 +2,7 @@
 use Rattle.std.specs.Prelude.{◌≡◌, ◌+◌, ◌<◌, ℕ, Bool, true, false, List, [], ◌++◌, length, map, slice_index_or}
 use Rattle.cube_core.specs.declared.change.Item.{Item}
 use Rattle.cube_link.specs.Link.{Receiving}
-use Rattle.cube_threads.specs.Arrival.{Arrivals, of_source, of_sources}
+use Rattle.cube_core.specs.Arrival.{Arrivals, of_source, of_sources}
 use Rattle.cube_threads.specs.Parcels.{lines_of, parcels_of}
 use Rattle.cube_threads.specs.declared.parcel.Parcel.{Parcel}
 

@@ -1,4 +1,3 @@
-pub mod Arrival
 pub mod Parcels
 pub mod Feeding
 pub mod Ends

@@ -1,6 +1,6 @@
 -- What is known of builders and feeders before their threads start, and after they were joined.
 use Rattle.std.specs.Prelude.{◌≡◌, ◌+◌, ◌≤◌, ℕ, [], vec_len, vec_capacity}
-use Rattle.cube_threads.specs.Arrival.{Arrivals}
+use Rattle.cube_core.specs.Arrival.{Arrivals}
 use Rattle.cube_threads.specs.Gathering.{AreFresh, Gathers}
 use Rattle.cube_threads.specs.declared.roster.Gatherer.{Gatherer}
 use Rattle.cube_threads.specs.declared.roster.Roster.{Roster}

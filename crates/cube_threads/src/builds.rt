@@ -1,6 +1,6 @@
 //! What the threads of a run gather items into.
 ghost use Rattle.std.specs.Prelude.{◌≡◌, ◌≤◌, ◌++◌, ◌∷◌, [], ℕ, Bool, false, OnOk, OnErr};
-ghost use Rattle.cube_threads.specs.Arrival.{Arrivals};
+ghost use Rattle.cube_core.specs.Arrival.{Arrivals};
 
 use cube_core::Item;
 use std::alloc::AllocError;

@@ -1,7 +1,7 @@
 //! Taking what the feeders send into a builder.
 ghost use Rattle.std.specs.Prelude.{◌≡◌, ◌≤◌, ◌<◌, ◌++◌, ◌∷◌, [], ℕ, List, length, true, false, IsTrue, is_err, slice_index_or};
 ghost use Rattle.cube_link.specs.Link.{Receiving};
-ghost use Rattle.cube_threads.specs.Arrival.{Arrivals};
+ghost use Rattle.cube_core.specs.Arrival.{Arrivals};
 ghost use Rattle.cube_threads.specs.Gathering.{AreFresh, StandsAtFirst, Looks, Gathering, Gathers};
 ghost use Rattle.cube_threads.specs.declared.parcel.Parcel.{Parcel as TheParcel};
 
