@@ -430,7 +430,8 @@ fn a_copy_of_an_item_equals_its_source(rt: HostRuntime) -> Result<(), Fail> {
     let mut feed = Feed::new(rt.alloc(), &schema, text.as_slice());
     let mut items = String::new(rt.alloc());
     let mut copies = String::new(rt.alloc());
-    while let Some(item) = feed.next()? {
+    for _ in 0..10 {
+        let item = feed.next()?.ok_or("no item")?;
         show_item(&mut items, &item)?;
         show_item(&mut copies, &item.copy(rt.alloc())?)?;
     }
