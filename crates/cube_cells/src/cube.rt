@@ -294,6 +294,3 @@ fn codes_of_coords(dictionaries: &[Dictionary], coords: &[Coord]) -> Codes
     }
     Codes { codes }
 }
-
-#[cfg(test)]
-mod tests;

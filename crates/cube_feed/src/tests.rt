@@ -421,28 +421,6 @@ fn a_feed_of_version_1_reads_the_same_text_as_a_value(rt: HostRuntime) -> Result
     Ok(())
 }
 
-// The copies of each item that the worked faults give, and of an amendment, are shown as the items themselves.
-#[test]
-fn a_copy_of_an_item_equals_its_source(rt: HostRuntime) -> Result<(), Fail> {
-    let text =
-        b"op,id,region,kind,amount\nX,1,w,a\nI,1,w,a\nI,1,w,\xFF,1\nI,,w,a,1.5\nI,1,w,a,1.5\ni,1,w,a,1\nD,1,w\nD,9,x,y,z\nI,1,w,a,+\nU,1,\\=,b,\\N\n";
-    let schema = Schema::from_toml(rt.alloc(), SECOND_VERSION)?;
-    let mut feed = Feed::new(rt.alloc(), &schema, text.as_slice());
-    let mut items = String::new(rt.alloc());
-    let mut copies = String::new(rt.alloc());
-    for _ in 0..10 {
-        let item = feed.next()?.ok_or("no item")?;
-        show_item(&mut items, &item)?;
-        show_item(&mut copies, &item.copy(rt.alloc())?)?;
-    }
-    assert_eq!(rt; copies.as_str(), items.as_str());
-    assert_eq!(rt;
-        copies.as_str(),
-        "1 L1\n2 L2\n3 L3\n4 L4\n5 L5\n6 L1\n7 L2\n8 delete 9\n9 L5\n10 amend 1 keep b null\n"
-    );
-    Ok(())
-}
-
 fn inserted(item: Item) -> Option<(Text, Fact)> {
     match item.what {
         Ok(Change::Insert { id, fact }) => Some((id, fact)),

@@ -1,7 +1,7 @@
 //! Each public call of the values and of the schema, once with ample memory.
 use cube_core::{
-    Agg, Answer, Change, Coord, Fact, Field, Key, LineFault, Partial, Schema, Sequence, Text,
-    covers, plain_rows, reduced,
+    Agg, Answer, Change, Coord, Fact, Key, LineFault, Schema, Sequence, Text, covers, plain_rows,
+    reduced,
 };
 use cube_tool::{Builder, print_rows, write_whole};
 use std::alloc::{AllocError, Global};
@@ -79,22 +79,6 @@ fn copies_equal_their_sources(rt: HostRuntime) -> Result<(), Fail> {
     );
     assert_eq!(rt; schema.aggregate_texts().len(), 5);
     assert_eq!(rt; schema.max_records(), 4294967295);
-    Ok(())
-}
-
-#[test]
-fn an_amendment_puts_what_it_names_and_keeps_the_rest(rt: HostRuntime) -> Result<(), Fail> {
-    let alloc = rt.alloc();
-    let old = fact_of(alloc, Some("w"), "a")?;
-    let part = Partial {
-        dims: Sequence::from_vec(vec![in alloc; Field::Keep, Field::Put(None)]?),
-        measures: Sequence::from_vec(vec![in alloc; Field::Keep]?),
-    };
-    let new = part.over(alloc, &old)?;
-    assert_eq!(rt; new.dims.len(), 2);
-    assert!(rt; new.dims.as_slice()[0] == Some(text(alloc, "w")?));
-    assert!(rt; new.dims.as_slice()[1].is_none());
-    assert!(rt; new.measures.as_slice() == [Some(5)].as_slice());
     Ok(())
 }
 

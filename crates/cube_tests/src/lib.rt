@@ -10,7 +10,3 @@ mod failures;
 #[cfg(test)]
 mod runs;
 pub mod sample;
-#[cfg(test)]
-mod sizes;
-#[cfg(test)]
-mod words;

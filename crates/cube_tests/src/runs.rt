@@ -1,5 +1,5 @@
 //! Runs over one feed under the sample schema: what is printed, and what is refused.
-use crate::sample::{CUBE_HEADER, SAMPLE_SCHEMA, feed_of};
+use crate::sample::{CUBE_HEADER, feed_of};
 use cube_core::Schema;
 use cube_feed::FeedFault;
 use cube_tool::{Builder, RunFault, run_plain};
@@ -49,51 +49,9 @@ fn rows_of(alloc: Global, lines: &str) -> Result<(String, Vec<(u32, u8)>), Fail>
     rows_over(alloc, feed.as_bytes())
 }
 
-/// The rows that a run over the header line and these lines printed below the header line, under the sample schema
-/// with this grouping.
-fn rows_grouped_by(alloc: Global, grouping: &str, lines: &str) -> Result<String, Fail> {
-    let mut text = String::from_str(alloc, SAMPLE_SCHEMA)?;
-    text.push_str("grouping = ")?;
-    text.push_str(grouping)?;
-    let schema = Schema::from_toml(alloc, text.as_bytes())?;
-    let feed = feed_of(alloc, lines)?;
-    let mut out = Vec::new(alloc);
-    let _builder = run_plain(alloc, &schema, vec![in alloc; feed.as_bytes()]?, &mut out)?;
-    let printed = String::from_utf8(out).map_err(|_| "the cube is no text")?;
-    let rows = printed
-        .as_str()
-        .strip_prefix(CUBE_HEADER)
-        .ok_or("the header line is missing")?;
-    Ok(String::from_str(alloc, rows)?)
-}
-
 /// The first line of a text.
 fn first_line(text: &str) -> &str {
     text.lines().next().unwrap_or("")
-}
-
-#[test]
-fn a_rollup_has_no_rows_of_the_last_dimension_alone(rt: HostRuntime) -> Result<(), Fail> {
-    let rows = rows_grouped_by(rt.alloc(), "'rollup'", "I,1,west,a,5\n")?;
-    assert_eq!(rt;
-        rows.as_str(),
-        "west,a,0,0,1,5,5,5,5/1\nwest,\\N,0,1,1,5,5,5,5/1\n\\N,\\N,1,1,1,5,5,5,5/1\n"
-    );
-    Ok(())
-}
-
-#[test]
-fn the_rows_are_those_of_the_sets_that_the_schema_keeps(rt: HostRuntime) -> Result<(), Fail> {
-    let sets = "[['kind'], ['kind', 'region']]";
-    assert_eq!(rt; rows_grouped_by(rt.alloc(), sets, "")?.as_str(), "");
-    let rows = rows_grouped_by(rt.alloc(), sets, "I,1,west,a,5\n")?;
-    assert_eq!(rt;
-        rows.as_str(),
-        "west,a,0,0,1,5,5,5,5/1\n\\N,a,1,0,1,5,5,5,5/1\n"
-    );
-    let total = rows_grouped_by(rt.alloc(), "[[]]", "I,1,west,a,5\n")?;
-    assert_eq!(rt; total.as_str(), "\\N,\\N,1,1,1,5,5,5,5/1\n");
-    Ok(())
 }
 
 #[test]

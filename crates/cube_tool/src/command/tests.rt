@@ -321,32 +321,6 @@ fn a_right_schema_is_told_by_one_line(rt: HostRuntime) -> Result<(), Fail> {
 }
 
 #[test]
-fn a_schema_may_have_a_grouping_and_a_version(rt: HostRuntime) -> Result<(), Fail> {
-    let mut out = Vec::new(rt.alloc());
-    let file = SCHEMA.chain(b"grouping = \"rollup\"\nversion = 2\n".as_slice());
-    assert_eq!(rt; check(rt.alloc(), file, &mut out), Ok(Status::Done));
-    assert_eq!(rt; out.as_slice(), b"ok\n".as_slice());
-    Ok(())
-}
-
-#[test]
-fn an_unlawful_grouping_or_version_is_told(rt: HostRuntime) -> Result<(), Fail> {
-    let table = [
-        (b"grouping = \"none\"\n".as_slice(), SchemaFault::Grouping),
-        (b"version = 3\n".as_slice(), SchemaFault::Version),
-    ];
-    for (line, fault) in table {
-        let mut out = Vec::new(rt.alloc());
-        assert_eq!(rt;
-            check(rt.alloc(), SCHEMA.chain(line), &mut out),
-            Err(Failure::Schema(fault))
-        );
-        assert_eq!(rt; out.as_slice().len(), 0);
-    }
-    Ok(())
-}
-
-#[test]
 fn a_schema_fault_is_told_with_nothing_written(rt: HostRuntime) -> Result<(), Fail> {
     let table = [
         (b"".as_slice(), SchemaFault::Dimensions),

@@ -1,8 +1,0 @@
-//! What feeders and builders do over links, with real feeds.
-#![tactic(auto)]
-
-mod arrived;
-#[cfg(test)]
-mod tests;
-
-pub use arrived::Arrived;
