@@ -17,8 +17,8 @@ use Rattle.cube_core.specs.declared.fact.Fact.{Fact}
 use Rattle.cube_core.specs.declared.key.Coord.{Coord}
 use Rattle.cube_core.specs.declared.key.Coord.TheVariants as coord
 use Rattle.cube_core.specs.declared.key.Key.{Key}
-use Rattle.cube_core.proofs.PlainKeys.{coord_of, ancestor_of, ancestor_of_covers, mask_of_ancestor, same_from_mask, mask_below, length_standing}
-use Rattle.cube_core.proofs.PlainOrder.{exact_keys, key_cmp_total}
+use Rattle.cube_core.proofs.PlainKeyLaws.{coord_of, ancestor_of, ancestor_of_covers, mask_of_ancestor, same_from_mask, mask_below, length_standing}
+use Rattle.cube_core.proofs.PlainOrderLaws.{exact_keys, key_cmp_total}
 use Rattle.cube_cells.specs.Codes.{Dictionaries, IsDictionary, IsCodeOf, AreCodesOf, is_code, are_codes, coord_at, coords_at, key_at, kept_codes, all_code, null_code, coord_of_value}
 use Rattle.cube_cells.specs.Coded.{CodedCells, IsCodedCell, same_codes, coded_at, decoded, is_total_code}
 use Rattle.cube_cells.specs.Cube.{cell_at, is_kept_for}

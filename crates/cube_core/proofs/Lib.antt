@@ -1,19 +1,19 @@
 pub mod ListLaws
-pub mod CommonDivisors
-mod ReducedFraction
-pub mod SchemaReading
-pub mod GroupingReading
+pub mod CommonDivisorLaws
+mod ReducedFractionLaws
+pub mod SchemaReadingLaws
+pub mod GroupingReadingLaws
 pub mod GroupingLaws
-pub mod SchemaSpelling
+pub mod SchemaSpellingLaws
 pub mod SchemaLaws
 pub mod AmendmentLaws
 pub mod ItemLaws
 pub mod LifeLaws
 pub mod RefusalLaws
-pub mod PlainAnswers
-pub mod PlainCells
-pub mod PlainKeys
-pub mod PlainOrder
-pub mod PlainRows
+pub mod PlainAnswerLaws
+pub mod PlainCellLaws
+pub mod PlainKeyLaws
+pub mod PlainOrderLaws
+pub mod PlainRowLaws
 pub mod SetLaws
 pub mod QueryLaws

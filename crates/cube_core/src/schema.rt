@@ -192,7 +192,7 @@ impl Schema {
 }
 
 // The mask of coordinates, which are at most 8.
-#[tactic(auto, using(crate::proofs::PlainKeys::mask_of_eight))]
+#[tactic(auto, using(crate::proofs::PlainKeyLaws::mask_of_eight))]
 fn mask_of_coords(coords: &[Coord]) -> u32
     requires { length coords.now ≤ 8 }
     ensures { result ≡ mask_of_coords coords.now }

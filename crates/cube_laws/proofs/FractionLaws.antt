@@ -5,7 +5,7 @@ use Rattle.std.proofs.lemmas.Int.{unsigned_abs-mul}
 use Rattle.std.proofs.lemmas.Nat.Gcd.{dvd_antisymm, IsGcd-swap}
 use Rattle.std.proofs.Math.Nat.{le-mul_of_pos_right, eq_of_mul-eq-mul_right, dvd-mul_left}
 use Rattle.cube_core.specs.Fraction.{IsInLowestTerms}
-use Rattle.cube_core.proofs.CommonDivisors.{gauss}
+use Rattle.cube_core.proofs.CommonDivisorLaws.{gauss}
 
 -- a number below zero, by its distance from -1
 neg_ℤ-pos : (n : ℕ) → 0 < n → neg_ℤ (pos n) ≡ negsuc (n - 1)

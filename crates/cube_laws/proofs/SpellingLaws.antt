@@ -13,7 +13,7 @@ use Rattle.cube_core.specs.Layout.{Layout, IsSchema, spelling_of, is_aggregate_o
 use Rattle.cube_core.specs.SchemaDocument.{aggregate_spelled}
 use Rattle.cube_core.specs.declared.aggregate.Agg.{Agg}
 use Rattle.cube_core.specs.declared.aggregate.Agg.TheVariants.{CountAll, Count, Sum, Min, Max, Avg}
-use Rattle.cube_core.proofs.SchemaSpelling.{spelled_is, measure_in, position_between, position_between_none, bytes_eq-between}
+use Rattle.cube_core.proofs.SchemaSpellingLaws.{spelled_is, measure_in, position_between, position_between_none, bytes_eq-between}
 
 -- a text that is at a place of a list is listed
 is_listed-get_or : (text : List ℕ) (texts : List (List ℕ)) (m : ℕ) → m < length texts → text ≡ get_or texts m [] → is_listed text texts ≡ true

@@ -1,11 +1,11 @@
-mod Appending
-mod LineFacts
+mod AppendLaws
+mod LineLaws
 mod LifeSteps
 mod Tests
 mod TextKeys
 pub mod StandSteps
-pub mod RowShapes
+pub mod RowShapeLaws
 pub mod Survival
 pub mod RunSteps
-mod CommandFacts
-mod CommandLineFacts
+mod CommandLaws
+mod CommandLineLaws

@@ -98,7 +98,7 @@ fn rolled_up(alloc: Global, key: &Key, dim: usize) -> Result<Key, AllocError>
 }
 
 // The mask of coordinates with a dimension that is ALL in them.
-#[tactic(auto, using(cube_core::proofs::PlainKeys::mask_of_eight))]
+#[tactic(auto, using(cube_core::proofs::PlainKeyLaws::mask_of_eight))]
 fn mask_below(coords: &[Coord], dim: usize) -> u32
     requires few { length coords.now ≤ 8 }
     requires dim { dim < 8 }
@@ -108,7 +108,7 @@ fn mask_below(coords: &[Coord], dim: usize) -> u32
 }
 
 // The mask of coordinates, which are at most 8.
-#[tactic(auto, using(cube_core::proofs::PlainKeys::mask_of_eight))]
+#[tactic(auto, using(cube_core::proofs::PlainKeyLaws::mask_of_eight))]
 fn mask_of(coords: &[Coord]) -> u32
     requires { length coords.now ≤ 8 }
     ensures { result ≡ mask_of_coords coords.now }

@@ -91,7 +91,7 @@ fn total_of(values: &[i64]) -> i128
     total
 }
 
-#[tactic(auto, using(crate::proofs::PlainAnswers::is_best_from_bound))]
+#[tactic(auto, using(crate::proofs::PlainAnswerLaws::is_best_from_bound))]
 fn least_of(values: &[i64]) -> Answer
     ensures { IsLeast values.now result }
 {
@@ -115,7 +115,7 @@ fn whole(value: i64) -> Answer
     Answer::Whole(i128::from(value))
 }
 
-#[tactic(auto, using(crate::proofs::PlainAnswers::is_best_from_bound))]
+#[tactic(auto, using(crate::proofs::PlainAnswerLaws::is_best_from_bound))]
 fn greatest_of(values: &[i64]) -> Answer
     ensures { IsGreatest values.now result }
 {

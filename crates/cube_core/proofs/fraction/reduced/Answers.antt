@@ -2,7 +2,7 @@ use Rattle.std.proofs.Common.{◌≡◌, rules, unsigned_abs, FitsSigned, subst,
 use Rattle.std.specs.Int.{IsGcd, w128}
 use Rattle.std.proofs.lemmas.Int.{to_z-of_z}
 use Rattle.cube_core.specs.Fraction.{IsInLowestTerms}
-use Rattle.cube_core.proofs.ReducedFraction.{lowest_terms_by_divisor}
+use Rattle.cube_core.proofs.ReducedFractionLaws.{lowest_terms_by_divisor}
 use Rattle.cube_core.proofs.fraction.reduced.Goals as goal
 
 pub returns : goal.returns

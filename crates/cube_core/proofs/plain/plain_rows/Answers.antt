@@ -1,8 +1,8 @@
 use Rattle.std.proofs.Common.{◌≡◌, ◌++◌, map, sym, ap, ◌∙◌}
 use Rattle.std.proofs.lemmas.List.{append-nil}
 use Rattle.cube_core.specs.Cube.{key_of}
-use Rattle.cube_core.proofs.PlainOrder.{set_in_order}
-use Rattle.cube_core.proofs.PlainRows.{rows_of_keys}
+use Rattle.cube_core.proofs.PlainOrderLaws.{set_in_order}
+use Rattle.cube_core.proofs.PlainRowLaws.{rows_of_keys}
 use Rattle.cube_core.proofs.plain.plain_rows.Goals as goal
 
 pub returns : goal.returns

@@ -1,6 +1,6 @@
 use Rattle.std.proofs.Common.{rules, lit<, ◌++◌, ◌≡◌}
 use Rattle.std.proofs.lemmas.Str.Pattern.{strip_suffix_char}
-use Rattle.cube_core.proofs.SchemaSpelling.{argument_between}
+use Rattle.cube_core.proofs.SchemaSpellingLaws.{argument_between}
 use Rattle.cube_core.proofs.schema_toml.argument_of.Goals as goal
 
 pub returns : goal.returns

@@ -2,7 +2,7 @@ use Rattle.std.proofs.Common.{◌∙◌, sym, ap, string_bytes}
 use Rattle.std.specs.List.{list_all}
 use Rattle.cube_core.specs.Layout.{is_listed}
 use Rattle.cube_core.specs.SchemaDocument.{known_keys}
-use Rattle.cube_core.proofs.SchemaReading.{has_known_keys-view}
+use Rattle.cube_core.proofs.SchemaReadingLaws.{has_known_keys-view}
 use Rattle.cube_core.proofs.schema_toml.has_known_keys.Goals as goal
 
 pub loop-key-init : goal.loop-key-init

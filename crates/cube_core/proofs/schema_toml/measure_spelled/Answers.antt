@@ -1,5 +1,5 @@
 use Rattle.std.proofs.Common.{◌∙◌, sym}
-use Rattle.cube_core.proofs.SchemaSpelling.{position_between, position_between_none}
+use Rattle.cube_core.proofs.SchemaSpellingLaws.{position_between, position_between_none}
 use Rattle.cube_core.proofs.schema_toml.measure_spelled.Goals as goal
 
 pub returns-in_err-argument_of : goal.returns-in_err-argument_of

@@ -1,7 +1,7 @@
 use Rattle.std.proofs.Common.{◌≡◌, ◌++◌, ◌∷◌, [], rules, ◌∙◌, sym, ap}
 use Rattle.toml.specs.Data.{as_str}
 use Rattle.toml.specs.View.{view}
-use Rattle.cube_core.proofs.SchemaReading.{texts_of-more, texts_of-stop}
+use Rattle.cube_core.proofs.SchemaReadingLaws.{texts_of-more, texts_of-stop}
 use Rattle.cube_core.proofs.schema_toml.texts_of.Goals as goal
 
 pub loop-value-preserved : goal.loop-value-preserved

@@ -1,4 +1,4 @@
-use Rattle.cube_tool.proofs.LineFacts.{line_ended, on_ok_renamed}
+use Rattle.cube_tool.proofs.LineLaws.{line_ended, on_ok_renamed}
 use Rattle.cube_tool.proofs.lines.end_line.Goals as goal
 
 pub returns : goal.returns

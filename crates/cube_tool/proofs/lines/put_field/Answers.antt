@@ -1,4 +1,4 @@
-use Rattle.cube_tool.proofs.LineFacts.{field_taken, on_ok_renamed}
+use Rattle.cube_tool.proofs.LineLaws.{field_taken, on_ok_renamed}
 use Rattle.cube_tool.proofs.lines.put_field.Goals as goal
 
 pub returns : goal.returns

@@ -1,7 +1,7 @@
 use Rattle.std.proofs.Common.{map}
 use Rattle.std.proofs.lemmas.Result.{on_ok_weaker}
 use Rattle.cube_core.specs.Text.{grouping_name}
-use Rattle.cube_tool.proofs.LineFacts.{three_added}
+use Rattle.cube_tool.proofs.LineLaws.{three_added}
 use Rattle.cube_tool.proofs.print.put_header.Goals as goal
 
 pub returns : goal.returns

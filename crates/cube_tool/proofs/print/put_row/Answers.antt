@@ -1,7 +1,7 @@
 use Rattle.std.proofs.Common.{map}
 use Rattle.std.proofs.lemmas.Result.{on_ok_weaker}
 use Rattle.cube_core.specs.Text.{coord_text, grouping_text, answer_text}
-use Rattle.cube_tool.proofs.LineFacts.{three_added}
+use Rattle.cube_tool.proofs.LineLaws.{three_added}
 use Rattle.cube_tool.proofs.print.put_row.Goals as goal
 
 pub returns : goal.returns

@@ -1,4 +1,4 @@
-use Rattle.cube_tool.proofs.RowShapes.{rows_have_shape}
+use Rattle.cube_tool.proofs.RowShapeLaws.{rows_have_shape}
 use Rattle.cube_tool.proofs.run.print_cube.Goals as goal
 
 pub print_rows-requires : goal.print_rows-requires

@@ -1,5 +1,5 @@
 use Rattle.std.proofs.Common.{arith, length-drop, length-take}
-use Rattle.cube_tool.proofs.Appending.{appends_more}
+use Rattle.cube_tool.proofs.AppendLaws.{appends_more}
 use Rattle.cube_tool.proofs.write.write_whole.Goals as goal
 
 pub loop-sent-preserved : goal.loop-sent-preserved

@@ -1,6 +1,6 @@
 use Rattle.std.proofs.Common.{◌≡◌, ◌%◌, ◌==◌, None, get_or, arith, ◌∙◌, ap, sym}
 use Rattle.std.proofs.lemmas.List.{get_or_read}
-use Rattle.cube_core.proofs.PlainKeys.{coord_of, ancestor_of, ancestor_of_more, ancestor_of_all, ancestor_of_covers, mask_of_ancestor, coord_of_is}
+use Rattle.cube_core.proofs.PlainKeyLaws.{coord_of, ancestor_of, ancestor_of_more, ancestor_of_all, ancestor_of_covers, mask_of_ancestor, coord_of_is}
 use Rattle.cube_core.proofs.plain.cells.ancestor.Goals as goal
 
 pub loop-value-preserved : goal.loop-value-preserved

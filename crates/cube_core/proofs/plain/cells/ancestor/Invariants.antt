@@ -1,5 +1,5 @@
 use Rattle.std.proofs.Common.{◌≡◌, ◌++◌, drop}
-use Rattle.cube_core.proofs.PlainKeys.{ancestor_of}
+use Rattle.cube_core.proofs.PlainKeyLaws.{ancestor_of}
 use Rattle.cube_core.proofs.plain.cells.ancestor.Given as goal
 
 abbrev pub invariant-loop-value : goal.invariant-loop-value

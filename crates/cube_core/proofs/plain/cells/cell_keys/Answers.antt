@@ -6,7 +6,7 @@ use Rattle.cube_core.specs.Cube.{is_total}
 use Rattle.cube_core.specs.GroupingSet.{is_among, mask_of}
 use Rattle.cube_core.specs.Layout.{keeps}
 use Rattle.cube_core.specs.Order.{key_cmp}
-use Rattle.cube_core.proofs.PlainCells.{or_false, more_cells}
+use Rattle.cube_core.proofs.PlainCellLaws.{or_false, more_cells}
 use Rattle.cube_core.proofs.plain.cells.cell_keys.Goals as goal
 
 pub loop-fact-init : goal.loop-fact-init

@@ -1,7 +1,7 @@
 use Rattle.std.proofs.Common.{arith}
 use Rattle.std.specs.BTreeSet.{contains}
 use Rattle.cube_core.specs.Order.{key_cmp}
-use Rattle.cube_core.proofs.PlainCells.{more_ancestors, or_false}
+use Rattle.cube_core.proofs.PlainCellLaws.{more_ancestors, or_false}
 use Rattle.cube_core.proofs.plain.cells.insert_ancestors.Goals as goal
 
 pub loop-set-init : goal.loop-set-init

@@ -1,4 +1,4 @@
-use Rattle.cube_core.proofs.PlainOrder.{set_gains_key}
+use Rattle.cube_core.proofs.PlainOrderLaws.{set_gains_key}
 use Rattle.cube_core.proofs.plain.cells.insert_key.Goals as goal
 
 pub returns : goal.returns

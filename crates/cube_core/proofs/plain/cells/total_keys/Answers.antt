@@ -1,7 +1,7 @@
 use Rattle.std.proofs.Common.{◌≡◌, true, false, length, rules}
 use Rattle.cube_core.specs.Cube.{is_total}
 use Rattle.cube_core.specs.Layout.{keeps}
-use Rattle.cube_core.proofs.PlainCells.{total_key_kept, total_key_not_kept}
+use Rattle.cube_core.proofs.PlainCellLaws.{total_key_kept, total_key_not_kept}
 use Rattle.cube_core.proofs.plain.cells.total_keys.Goals as goal
 
 pub returns-then-not-keeps : goal.returns-then-not-keeps

@@ -1,7 +1,7 @@
 use Rattle.std.proofs.Common.{◌≡◌, ◌++◌, ◌∷◌, [], Some, None, rules, ◌∙◌, sym, ap}
 use Rattle.toml.specs.View.{view}
 use Rattle.cube_core.specs.SchemaDocument.{set_of_item}
-use Rattle.cube_core.proofs.GroupingReading.{sets_of_items-more, sets_of_items-stop}
+use Rattle.cube_core.proofs.GroupingReadingLaws.{sets_of_items-more, sets_of_items-stop}
 use Rattle.cube_core.proofs.schema_toml.grouping.sets_of_items.Goals as goal
 
 pub loop-value-preserved : goal.loop-value-preserved

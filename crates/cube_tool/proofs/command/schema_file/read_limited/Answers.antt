@@ -1,5 +1,5 @@
 use Rattle.std.proofs.Common.{rules}
-use Rattle.cube_tool.proofs.CommandFacts.{known_uncut}
+use Rattle.cube_tool.proofs.CommandLaws.{known_uncut}
 use Rattle.cube_tool.proofs.command.schema_file.read_limited.Goals as goal
 
 pub returns-in-Ok-clause-all : goal.returns-in-Ok-clause-all

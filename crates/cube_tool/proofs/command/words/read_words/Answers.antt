@@ -2,7 +2,7 @@ use Rattle.std.proofs.Common.{◌∙◌, map, ap, rules}
 use Rattle.std.proofs.lemmas.List.{length-map}
 use Rattle.clap.specs.Words.{takes}
 use Rattle.cube_tool.specs.CommandLine.{command_line}
-use Rattle.cube_tool.proofs.CommandLineFacts.{no_words_are_taken, check_is_taken, no_words_answer, check_answer}
+use Rattle.cube_tool.proofs.CommandLineLaws.{no_words_are_taken, check_is_taken, no_words_answer, check_answer}
 use Rattle.cube_tool.proofs.command.words.read_words.Goals as goal
 
 pub returns-in_err-matches-clause-no_words : goal.returns-in_err-matches-clause-no_words

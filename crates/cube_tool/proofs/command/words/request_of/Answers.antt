@@ -2,7 +2,7 @@ use Rattle.std.proofs.Common.{◌≡◌, Some, None, subst, sym, refl, rules}
 use Rattle.clap.specs.Words.{subcommand_rows_of}
 use Rattle.cube_tool.specs.CommandLine.{IsRequest, found_command}
 use Rattle.cube_tool.specs.declared.command.words.Request.TheVariants.{Check}
-use Rattle.cube_tool.proofs.CommandLineFacts.{command_found}
+use Rattle.cube_tool.proofs.CommandLineLaws.{command_found}
 use Rattle.cube_tool.proofs.command.words.request_of.Goals as goal
 
 pub returns-in_err-schema : goal.returns-in_err-schema

@@ -4,7 +4,7 @@ use Prim.Native.Nat.{◌∣◌}
 use Rattle.std.specs.Int.{IsGcd}
 use Rattle.std.proofs.Math.Nat.{zero-mul, div-mul_cancel, dvd-mul_right, pos_of_dvd_of_pos}
 use Rattle.cube_core.specs.Fraction.{IsInLowestTerms}
-use Rattle.cube_core.proofs.CommonDivisors.{gcd_divided}
+use Rattle.cube_core.proofs.CommonDivisorLaws.{gcd_divided}
 
 -- the sign comes before or after the product
 negated_times : (n k : ℕ) → neg_ℤ (pos n) *ℤ pos k ≡ neg_ℤ (pos (n * k))

@@ -17,9 +17,9 @@ use Rattle.cube_core.specs.declared.fact.Fact.{Fact}
 use Rattle.cube_core.specs.declared.key.Key.{Key}
 use Rattle.cube_core.specs.declared.key.Row.{Row}
 use Rattle.cube_core.proofs.ListLaws.{list_any-Contains, list_all-Contains}
-use Rattle.cube_core.proofs.PlainCells.{width_of_fitting}
-use Rattle.cube_core.proofs.PlainKeys.{length_standing}
-use Rattle.cube_core.proofs.PlainOrder.{exact_keys, key_cmp_total}
+use Rattle.cube_core.proofs.PlainCellLaws.{width_of_fitting}
+use Rattle.cube_core.proofs.PlainKeyLaws.{length_standing}
+use Rattle.cube_core.proofs.PlainOrderLaws.{exact_keys, key_cmp_total}
 
 -- a key that covers one of some facts that fit has a coordinate for each dimension
 pub width_of_covering : (s : Layout) (key : Key) (facts : List Fact) → list_all (fits s) facts ≡ true → list_any (covers key) facts ≡ true → length key.coords ≡ length s.dimensions

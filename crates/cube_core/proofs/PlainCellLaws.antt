@@ -18,8 +18,8 @@ use Rattle.cube_core.specs.declared.fact.Fact.{Fact}
 use Rattle.cube_core.specs.declared.key.Coord.{Coord}
 use Rattle.cube_core.specs.declared.key.Coord.TheVariants as coord
 use Rattle.cube_core.specs.declared.key.Key.{Key}
-use Rattle.cube_core.proofs.PlainKeys.{same_from_mask}
-use Rattle.cube_core.proofs.PlainOrder.{exact_keys, key_cmp_total}
+use Rattle.cube_core.proofs.PlainKeyLaws.{same_from_mask}
+use Rattle.cube_core.proofs.PlainOrderLaws.{exact_keys, key_cmp_total}
 
 -- keys with the same coordinates are one
 pub same_key : (x y : Key) → x.coords ≡ y.coords → x ≡ y
