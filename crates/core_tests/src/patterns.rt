@@ -1,4 +1,5 @@
 //! Patterns: the words that spell them, the keys that they match, and the cells that they are.
+use crate::reading::expect_equal;
 use crate::rows::{key_of, text};
 use cube_core::{Coord, Key, Pattern, QueryFault, Schema};
 use std::alloc::{AllocError, Global};
@@ -15,7 +16,7 @@ fn expect_words(
     let schema = Schema::sample(alloc)?;
     for word in words {
         let found = Pattern::parse(alloc, &schema, word).err();
-        assert_eq!(rt; found, fault, "at {word}");
+        expect_equal(rt, found, fault, word);
     }
     Ok(())
 }
@@ -31,7 +32,7 @@ fn expect_matches(
     let schema = Schema::sample(alloc)?;
     for word in words {
         let pattern = Pattern::parse(alloc, &schema, word)?;
-        assert_eq!(rt; pattern.matches(key), answer, "at {word}");
+        expect_equal(rt, pattern.matches(key), answer, word);
     }
     Ok(())
 }
@@ -56,7 +57,7 @@ fn the_text_of_a_fault_is_its_code(rt: HostRuntime) -> Result<(), Fail> {
     ];
     for (fault, code) in codes {
         let shown = fault.to_string(rt.alloc())?;
-        assert_eq!(rt; shown.as_str(), code);
+        expect_equal(&rt, shown.as_str(), code, code);
     }
     Ok(())
 }
@@ -109,7 +110,7 @@ fn all_is_matched_by_all_alone_and_by_any(rt: HostRuntime) -> Result<(), Fail> {
 fn a_pattern_that_leaves_something_open_is_no_cell(rt: HostRuntime) -> Result<(), Fail> {
     for word in ["?,\\A", "=west,?", "?,?"] {
         let fault = cell(rt.alloc(), word).err();
-        assert_eq!(rt; fault, Some(QueryFault::NotCell), "at {word}");
+        expect_equal(&rt, fault, Some(QueryFault::NotCell), word);
     }
     Ok(())
 }
@@ -117,25 +118,31 @@ fn a_pattern_that_leaves_something_open_is_no_cell(rt: HostRuntime) -> Result<()
 #[test]
 fn a_cell_is_a_pattern_that_leaves_nothing_open(rt: HostRuntime) -> Result<(), Fail> {
     let west = key_of(rt.alloc(), text(rt.alloc(), "west")?, Coord::All)?;
-    assert_eq!(rt; cell(rt.alloc(), "=west,\\A")?, west);
+    expect_equal(&rt, &cell(rt.alloc(), "=west,\\A")?, &west, "west");
     Ok(())
 }
 
 #[test]
 fn a_quoted_field_has_its_text(rt: HostRuntime) -> Result<(), Fail> {
     let quoted = key_of(rt.alloc(), text(rt.alloc(), "a,\"b\"")?, Coord::Null)?;
-    assert_eq!(rt; cell(rt.alloc(), "\"=a,\"\"b\"\"\",\\N")?, quoted);
+    let word = "\"=a,\"\"b\"\"\",\\N";
+    expect_equal(&rt, &cell(rt.alloc(), word)?, &quoted, word);
     Ok(())
 }
 
 #[test]
 fn a_dimension_has_a_place(rt: HostRuntime) -> Result<(), Fail> {
     let schema = Schema::sample(rt.alloc())?;
-    assert_eq!(rt; schema.dimension_of("region"), Ok(0));
-    assert_eq!(rt; schema.dimension_of("kind"), Ok(1));
-    let fault = QueryFault::UnknownDimension;
-    for name in ["colour", "amount", "Kind", ""] {
-        assert_eq!(rt; schema.dimension_of(name), Err(fault));
+    let places = [
+        ("region", Ok(0)),
+        ("kind", Ok(1)),
+        ("colour", Err(QueryFault::UnknownDimension)),
+        ("amount", Err(QueryFault::UnknownDimension)),
+        ("Kind", Err(QueryFault::UnknownDimension)),
+        ("", Err(QueryFault::UnknownDimension)),
+    ];
+    for (name, place) in places {
+        expect_equal(&rt, schema.dimension_of(name), place, name);
     }
     Ok(())
 }
@@ -144,7 +151,7 @@ fn a_dimension_has_a_place(rt: HostRuntime) -> Result<(), Fail> {
 #[test]
 fn a_refused_growth_is_want_of_memory(rt: HostRuntime) {
     match cell(rt.alloc(), "=west,\\A") {
-        Ok(cell) => assert_eq!(rt; cell.is_all(1), true),
-        Err(fault) => assert_eq!(rt; fault, QueryFault::Memory),
+        Ok(cell) => assert!(rt; cell.is_all(1)),
+        Err(fault) => expect_equal(&rt, fault, QueryFault::Memory, "fault"),
     }
 }

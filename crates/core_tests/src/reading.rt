@@ -1,6 +1,7 @@
 //! What the tests of schemas share: documents made of a few texts, and the fault that each of them has.
 use cube_core::{Schema, SchemaFault};
 use std::alloc::{AllocError, Global};
+use std::fmt::Debug;
 use std::process::Abort;
 
 /// The sample schema.
@@ -8,6 +9,16 @@ pub(crate) const SAMPLE: &str = "dimensions = ['region', 'kind']
 measures = ['amount']
 aggregates = ['count(*)', 'sum(amount)', 'min(amount)', 'max(amount)', 'avg(amount)']
 ";
+
+/// Two values are equal; the text says of which case they are.
+pub(crate) fn expect_equal<T: PartialEq + Debug + Copy>(
+    rt: &impl Abort,
+    found: T,
+    wanted: T,
+    case: &str,
+) {
+    assert_eq!(rt; found, wanted, "at {case}");
+}
 
 /// The document of a text between two others.
 fn document_of(alloc: Global, head: &str, text: &str, tail: &str) -> Result<String, AllocError> {
@@ -34,7 +45,7 @@ pub(crate) fn expect_each(
     for text in texts {
         let document = document_of(alloc, around.0, text, around.1)?;
         let found = Schema::from_toml(alloc, document.as_bytes()).err();
-        assert_eq!(rt; found, fault, "at {text}");
+        expect_equal(rt, found, fault, text);
     }
     Ok(())
 }

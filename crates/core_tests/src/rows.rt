@@ -3,7 +3,7 @@ ghost use Rattle.std.specs.Prelude.{◌≡◌};
 ghost use Rattle.std.specs.List.{list_all};
 ghost use Rattle.cube_core.specs.Takes.{fits};
 
-use crate::reading::sample_with;
+use crate::reading::{expect_equal, sample_with};
 use cube_core::{Answer, Coord, Fact, Key, Pattern, Row, Schema, Sequence, Text, plain_rows};
 use std::alloc::{AllocError, Global};
 use std::process::Abort;
@@ -98,6 +98,6 @@ pub(crate) fn expect_slice(
             show_row(&mut shown, row)?;
         }
     }
-    assert_eq!(rt; shown.as_str(), lines, "of {word} under {grouping}");
+    expect_equal(rt, shown.as_str(), lines, word);
     Ok(())
 }

@@ -1,5 +1,5 @@
 //! Schemas, and the fault of each document that is none.
-use crate::reading::{SAMPLE, expect_each, sample_with};
+use crate::reading::{SAMPLE, expect_each, expect_equal, sample_with};
 use cube_core::{Agg, Schema, SchemaFault};
 use std::test::Fail;
 
@@ -7,11 +7,11 @@ use std::test::Fail;
 fn the_sample_schema_is_read_as_it_is_made(rt: HostRuntime) -> Result<(), Fail> {
     let made = Schema::sample(rt.alloc())?;
     let read = Schema::from_toml(rt.alloc(), SAMPLE.as_bytes())?;
-    assert_eq!(rt; read.dimensions(), made.dimensions());
-    assert_eq!(rt; read.measures(), made.measures());
-    assert_eq!(rt; read.aggregates(), made.aggregates());
-    assert_eq!(rt; read.aggregate_texts(), made.aggregate_texts());
-    assert_eq!(rt; read.max_records(), 4294967295);
+    expect_equal(&rt, read.dimensions(), made.dimensions(), "dimensions");
+    expect_equal(&rt, read.measures(), made.measures(), "measures");
+    expect_equal(&rt, read.aggregates(), made.aggregates(), "aggregates");
+    expect_equal(&rt, read.aggregate_texts(), made.aggregate_texts(), "texts");
+    expect_equal(&rt, read.max_records(), 4294967295, "records");
     Ok(())
 }
 
@@ -19,8 +19,8 @@ fn the_sample_schema_is_read_as_it_is_made(rt: HostRuntime) -> Result<(), Fail> 
 #[test]
 fn a_refused_growth_is_want_of_memory(rt: HostRuntime) {
     match Schema::from_toml(rt.alloc(), SAMPLE.as_bytes()) {
-        Ok(schema) => assert_eq!(rt; schema.max_records(), 4294967295),
-        Err(fault) => assert_eq!(rt; fault, SchemaFault::Memory),
+        Ok(schema) => expect_equal(&rt, schema.max_records(), 4294967295, "records"),
+        Err(fault) => expect_equal(&rt, fault, SchemaFault::Memory, "fault"),
     }
 }
 
@@ -40,7 +40,7 @@ fn the_text_of_a_fault_is_its_code(rt: HostRuntime) -> Result<(), Fail> {
     ];
     for (fault, code) in codes {
         let shown = fault.to_string(rt.alloc())?;
-        assert_eq!(rt; shown.as_str(), code);
+        expect_equal(&rt, shown.as_str(), code, code);
     }
     Ok(())
 }
@@ -58,7 +58,7 @@ fn what_is_no_toml_document_is_refused_as_such(rt: HostRuntime) -> Result<(), Fa
     expect_each(&rt, rt.alloc(), (SAMPLE, ""), &after_the_sample, fault)?;
     expect_each(&rt, rt.alloc(), ("", ""), &["dimensions = ["], fault)?;
     let no_text = Schema::from_toml(rt.alloc(), b"# \xff\n");
-    assert_eq!(rt; no_text.err(), fault);
+    expect_equal(&rt, no_text.err(), fault, "a byte that no text has");
     Ok(())
 }
 
@@ -175,7 +175,7 @@ aggregates = ['sum(m))', 'sum(m)', 'count(*)', 'count(count(*))', 'avg(sum(m))',
         Agg::Max(0),
         Agg::Min(2),
     ];
-    assert_eq!(rt; schema.aggregates(), aggregates.as_slice());
+    expect_equal(&rt, schema.aggregates(), aggregates.as_slice(), text);
     Ok(())
 }
 
@@ -231,7 +231,7 @@ fn the_number_of_data_records_is_a_whole_number_in_its_range(rt: HostRuntime) ->
     ];
     expect_each(&rt, rt.alloc(), (SAMPLE, "\n"), &right, None)?;
     let two = sample_with(rt.alloc(), "max_records = 2")?;
-    assert_eq!(rt; two.max_records(), 2);
+    expect_equal(&rt, two.max_records(), 2, "two");
     Ok(())
 }
 
@@ -251,9 +251,9 @@ fn the_version_is_1_or_2(rt: HostRuntime) -> Result<(), Fail> {
     let fault = Some(SchemaFault::Version);
     expect_each(&rt, rt.alloc(), (SAMPLE, "\n"), &wrong, fault)?;
     let one = sample_with(rt.alloc(), "")?;
-    assert_eq!(rt; one.version(), 1);
+    expect_equal(&rt, one.version(), 1, "one");
     let two = sample_with(rt.alloc(), "version = 2")?;
-    assert_eq!(rt; two.version(), 2);
+    expect_equal(&rt, two.version(), 2, "two");
     Ok(())
 }
 
