@@ -43,28 +43,3 @@ fn quotient(sum: i128, divisor: u64) -> i128
 {
     sum / i128::from(divisor)
 }
-
-#[cfg(test)]
-mod tests {
-    use super::*;
-
-    #[test]
-    fn a_common_divisor_is_taken_out(rt: HostRuntime) {
-        assert_eq!(rt; reduced(6, 4), (3, 2));
-    }
-
-    #[test]
-    fn a_negative_mean_keeps_its_sign_above(rt: HostRuntime) {
-        assert_eq!(rt; reduced(-6, 4), (-3, 2));
-    }
-
-    #[test]
-    fn a_mean_of_zero_is_zero_over_one(rt: HostRuntime) {
-        assert_eq!(rt; reduced(0, 7), (0, 1));
-    }
-
-    #[test]
-    fn the_least_sum_over_one_stays_as_it_is(rt: HostRuntime) {
-        assert_eq!(rt; reduced(i128::MIN, 1), (i128::MIN, 1));
-    }
-}

@@ -8,8 +8,6 @@ ghost use Rattle.cube_core.specs.Layout.{is_listed, are_distinct, is_lawful_name
 ghost use Rattle.cube_core.specs.SchemaDocument.{AnswersBytes, AnswersDocument, known_keys, has_known_keys, texts_of, texts_at, texts_in, is_some_up_to, are_lawful_names, aggregate_spelled, are_spellings, record_limit, max_records_in, feed_version, version_in};
 
 mod grouping;
-#[cfg(test)]
-mod tests;
 
 use crate::aggregate::Agg;
 use crate::schema::Schema;

@@ -12,6 +12,3 @@ mod records;
 
 pub use fault::FeedFault;
 pub use feed::Feed;
-
-#[cfg(test)]
-mod tests;

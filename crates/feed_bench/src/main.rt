@@ -1,4 +1,5 @@
-//! Reads a generated feed of inserts through `Feed::next`, and beside it by the bare `csv` reader.
+//! Reads a generated feed of inserts through `Feed::next`, as a feed of version 1 and as one of version 2, and beside
+//! it by the bare `csv` reader.
 //!
 //! Without an argument it reads three inserts and prints what it counted. With a number of inserts it prints the
 //! processor time of the best of five rounds of each, in records and bytes a second.
@@ -109,21 +110,44 @@ fn report(rt: &impl Print, name: &str, measured: &Measured, bytes: usize) -> Res
     Ok(())
 }
 
-fn run(rt: &(impl CpuClock + AllocGlobal + Print), inserts: u32, is_timed: bool) -> Result<()> {
-    let schema = Schema::sample(rt.alloc())?;
-    let text = feed_of(rt.alloc(), inserts)?;
-    let bytes = text.as_bytes();
-    let bare = measure_csv(rt, bytes)?;
+// The names of the sample schema, for feeds of this version.
+fn schema_of(alloc: Global, version: u32) -> Result<Schema> {
+    let document = format!(in alloc;
+        "dimensions = ['region', 'kind']\nmeasures = ['amount']\naggregates = ['count(*)']\nversion = {version}\n"
+    )?;
+    Ok(Schema::from_toml(alloc, document.as_bytes())?)
+}
+
+fn run_version(
+    rt: &(impl CpuClock + AllocGlobal + Print),
+    version: u32,
+    bytes: &[u8],
+    bare: Option<Measured>,
+) -> Result<()> {
+    let schema = schema_of(rt.alloc(), version)?;
     let feed = measure_feed(rt, &schema, bytes)?;
-    let (length, records, items) = (bytes.len(), bare.count, feed.count);
-    println!(rt; "{length} bytes: {records} records, {items} items")?;
-    if is_timed {
-        report(rt, "csv alone", &bare, length)?;
-        report(rt, "Feed::next", &feed, length)?;
+    let items = feed.count;
+    println!(rt; "version {version}: {items} items")?;
+    if let Some(bare) = bare {
+        report(rt, "Feed::next", &feed, bytes.len())?;
         let ratio = feed.nanos.saturating_mul(100) / bare.nanos.max(1);
         println!(rt; "Feed::next takes {ratio} hundredths of the time of csv alone")?;
     }
     Ok(())
+}
+
+fn run(rt: &(impl CpuClock + AllocGlobal + Print), inserts: u32, is_timed: bool) -> Result<()> {
+    let text = feed_of(rt.alloc(), inserts)?;
+    let bytes = text.as_bytes();
+    let bare = measure_csv(rt, bytes)?;
+    let (length, records) = (bytes.len(), bare.count);
+    println!(rt; "{length} bytes: {records} records")?;
+    if is_timed {
+        report(rt, "csv alone", &bare, length)?;
+    }
+    let bare = if is_timed { Some(bare) } else { None };
+    run_version(rt, 1, bytes, bare)?;
+    run_version(rt, 2, bytes, bare)
 }
 
 fn main(rt: HostRuntime) -> Result<()> {

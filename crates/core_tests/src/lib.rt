@@ -1,0 +1,22 @@
+//! Tests of the schema, its grouping and its faults, of patterns, amendments, means, and the plain cube, over the
+//! public calls of `cube_core`.
+#![tactic(auto)]
+
+#[cfg(test)]
+mod amendments;
+#[cfg(test)]
+mod groupings;
+#[cfg(test)]
+mod means;
+#[cfg(test)]
+mod names;
+#[cfg(test)]
+mod patterns;
+#[cfg(test)]
+mod plain;
+#[cfg(test)]
+mod reading;
+#[cfg(test)]
+mod rows;
+#[cfg(test)]
+mod schemas;
