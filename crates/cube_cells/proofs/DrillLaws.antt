@@ -8,7 +8,6 @@ use Rattle.std.specs.Ordering.{is_eq, ordering_then}
 use Rattle.std.specs.declared.cmp.Ordering.TheVariants.{Less, Equal, Greater}
 use Rattle.std.proofs.lemmas.Bool.{and_parts, cases_eq, eqb-true, eq-eqb, ne_eqb}
 use Rattle.std.proofs.lemmas.Bool.Decides.{same_from_decides}
-use Rattle.std.proofs.lemmas.Cmp.{nat_list_cmp_total, tied_itself}
 use Rattle.std.proofs.lemmas.List.Elements.{All-head, All-tail}
 use Rattle.std.proofs.lemmas.Map.Lookups.{exact_bytes}
 use Rattle.cube_core.specs.GroupingSet.{is_all_coord, is_all_at}
@@ -22,6 +21,7 @@ use Rattle.cube_cells.specs.Rows.{AreWantsOf, AreWantsBelow, IsWantBelow, is_wan
 use Rattle.cube_cells.specs.declared.cube.rows.Want.{Want}
 use Rattle.cube_cells.specs.declared.cube.rows.Want.TheVariants as want
 use Rattle.cube_cells.proofs.DictionaryLaws.{code_cases, coord_at-place}
+use Rattle.cube_cells.proofs.TextLaws.{tied_coord}
 
 -- ---- coordinates
 exact_coord : (a b : Coord) → coord_cmp a b ≡ Equal → a ≡ b
@@ -35,12 +35,7 @@ exact_coord coord.All (coord.Text b) e = cc e
 exact_coord coord.All coord.Null e = cc e
 exact_coord coord.All coord.All e = refl
 
-tied_coord : (a : Coord) → coord_cmp a a ≡ Equal
-tied_coord (coord.Text a) = tied_itself nat_list_cmp_total a
-tied_coord coord.Null = refl
-tied_coord coord.All = refl
-
-same_coord : (a b : Coord) → Decides (is_eq (coord_cmp a b)) (a ≡ b)
+pub same_coord : (a b : Coord) → Decides (is_eq (coord_cmp a b)) (a ≡ b)
 same_coord a b = (λ same. exact_coord a b (equal (coord_cmp a b) same), λ same. ap is_eq (ap (coord_cmp a) (sym same) ∙ tied_coord a)) where
   equal : (r : _) → is_eq r ≡ true → r ≡ Equal
   equal Less is = cc is

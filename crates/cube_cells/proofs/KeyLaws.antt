@@ -138,7 +138,7 @@ look_up-coded dictionaries measures (e ∷ cells) key codes has all =
     let tail = look_up-coded dictionaries measures cells key codes has (All-tail (IsCodedCell dictionaries measures) e cells all) in
     rw (head, tail) refl
 
-coords_width : (dictionaries : Dictionaries) (codes : List ℕ) → length (coords_at dictionaries codes) ≡ length dictionaries
+pub coords_width : (dictionaries : Dictionaries) (codes : List ℕ) → length (coords_at dictionaries codes) ≡ length dictionaries
 coords_width [] codes = refl
 coords_width (texts ∷ dictionaries) [] = ap suc (coords_width dictionaries [])
 coords_width (texts ∷ dictionaries) (code ∷ codes) = ap suc (coords_width dictionaries codes)

@@ -9,8 +9,10 @@ pub mod WalkLaws
 pub mod KeyLaws
 pub mod GrowthLaws
 pub mod RankLaws
+pub mod TextLaws
 pub mod RowLaws
 pub mod DrillLaws
+pub mod SliceLaws
 pub mod CubeLaws
 pub mod CodedLaws
 pub mod KeptLaws

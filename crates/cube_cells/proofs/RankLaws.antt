@@ -42,7 +42,7 @@ below_from {R = R} o exact x y upward apart = by_cases (R x y) refl where
   by_cases Equal is = absurd (apart (exact x y is))
   by_cases Greater is = cc (sym (ap is_lt (o.antisymm y x ∙ ap ordering_reverse is)) ∙ upward)
 
-above_from : {K : Type 0} {R : K → K → Ordering} (o : IsTotalOrder R) (x y : K) → R y x ≡ Less → R x y ≡ Greater
+pub above_from : {K : Type 0} {R : K → K → Ordering} (o : IsTotalOrder R) (x y : K) → R y x ≡ Less → R x y ≡ Greater
 above_from o x y below = o.antisymm x y ∙ ap ordering_reverse below
 
 pub nat_less : (x y : ℕ) → x < y → nat_cmp x y ≡ Less

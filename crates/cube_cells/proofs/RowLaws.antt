@@ -1,5 +1,5 @@
 -- Laws of rows: cells in key order, each with its row, are the rows of the cells.
-use Rattle.std.proofs.Common.{◌≡◌, ℕ, suc, ◌+◌, ◌<◌, ◌≤◌, List, [], ◌∷◌, Bool, true, false, refl, sym, ap, ◌∙◌, subst, arith, inl, inr, length, map, get_or, Option, Some, None}
+use Rattle.std.proofs.Common.{◌≡◌, ℕ, ◌+◌, ◌<◌, ◌≤◌, List, [], ◌∷◌, Bool, true, false, refl, sym, ap, ◌∙◌, subst, arith, inl, inr, length, map, get_or, Option, Some, None}
 use Rattle.std.specs.Prelude.{All, Contains, IsTrue, IsSome, IfSome, filter, is_some}
 use Rattle.std.specs.Cmp.{IsEquivalence}
 use Rattle.std.specs.List.{AllByRecursion, AllZip, IsDistinct}
@@ -10,31 +10,30 @@ use Rattle.std.specs.Cmp.Lexicographic.{slice_cmp}
 use Rattle.std.proofs.lemmas.Bool.{cases_Bool, both_ways}
 use Rattle.std.proofs.lemmas.Cmp.{eq_by_cmp_equiv}
 use Rattle.std.proofs.lemmas.List.{get_or-map, length-map}
-use Rattle.std.proofs.lemmas.List.Elements.{All-from_recursion, recursion_from_All, All-contains, Contains-get_or, All-filter, All-head, All-tail}
-use Rattle.std.proofs.lemmas.List.Kept.{IsStrictlySortedBy-filter}
-use Rattle.std.proofs.lemmas.List.Sorted.{IsPermutation-sym, IsPermutation-map, Contains-permutation}
+use Rattle.std.proofs.lemmas.List.Elements.{All-from_recursion, recursion_from_All, All-contains, Contains-get_or, All-head, All-tail}
+use Rattle.std.proofs.lemmas.List.Sorted.{IsPermutation-refl, IsPermutation-sym, IsPermutation-map, Contains-permutation}
 use Rattle.std.proofs.lemmas.Map.Keys.{sorted_from_all_adjacent, IsDistinct-IsPermutation, apart_from_distinct, IsDistinct-head, IsDistinct-tail, IsDistinct-cons}
 use Rattle.std.proofs.lemmas.Map.Made.{IsDistinct-keys_filter}
 use Rattle.std.proofs.lemmas.Map.Views.{lookup-from_Contains, Contains-from_lookup, tells_apart}
 use Rattle.cube_core.specs.Cube.{key_of, HasAnswers, AreRowsOver}
 use Rattle.cube_core.specs.Group.{group_of}
 use Rattle.cube_core.specs.Order.{key_cmp}
-use Rattle.cube_core.specs.Query.{Wanted, matches, slice_of}
+use Rattle.cube_core.specs.Query.{AreRowsWhere}
 use Rattle.cube_core.specs.declared.aggregate.Agg.{Agg}
 use Rattle.cube_core.specs.declared.fact.Fact.{Fact}
 use Rattle.cube_core.specs.declared.key.Key.{Key}
 use Rattle.cube_core.specs.declared.key.Row.{Row}
 use Rattle.cube_core.proofs.ListLaws.{map-Contains, Contains-map, filter-Contains, Contains-filter}
 use Rattle.cube_core.proofs.PlainOrderLaws.{exact_keys, key_cmp_total}
-use Rattle.cube_cells.specs.Codes.{Dictionaries, IsDictionary, are_codes, coords_at, key_at}
+use Rattle.cube_cells.specs.Codes.{Dictionaries, IsDictionary, are_codes, key_at}
 use Rattle.cube_cells.specs.Coded.{CodedCells, IsCodedCell, same_codes, decoded}
 use Rattle.cube_cells.specs.Cube.{Cells, Lattice, IsCubeOf, cell_at}
 use Rattle.cube_cells.specs.Ranks.{AreAllRanks, ranks_of}
-use Rattle.cube_cells.specs.Rows.{AreRowsOf, AreRowsWhere, IsRowOf, AreAnswersOf, AreWantsOf, are_wanted_codes}
+use Rattle.cube_cells.specs.Rows.{AreRowsOf, IsRowOf, AreAnswersOf, AreWantsOf, are_wanted_codes}
 use Rattle.cube_cells.specs.Tally.{Tally, IsTallyOf}
 use Rattle.cube_cells.specs.declared.cube.codes.Codes.{Codes}
 use Rattle.cube_cells.specs.declared.cube.rows.Want.{Want}
-use Rattle.cube_cells.proofs.KeyLaws.{codes_alone, some_key_codes}
+use Rattle.cube_cells.proofs.KeyLaws.{codes_alone, coords_width, some_key_codes}
 use Rattle.cube_cells.proofs.RankLaws.{below_from, ranks_compare}
 use Rattle.cube_cells.proofs.WalkLaws.{codes_equiv}
 
@@ -136,11 +135,7 @@ one_key dictionaries a b all room valid_a valid_b eight_a eight_b same =
     let is_a : a.codes ≡ codes.0.codes = codes_alone dictionaries key.coords codes.0.codes a.codes codes.1.are valid_a (omega (arith, eight_a, codes.1.eight)) refl in
     let is_b : b.codes ≡ codes.0.codes = codes_alone dictionaries key.coords codes.0.codes b.codes codes.1.are valid_b (omega (arith, eight_b, codes.1.eight)) (ap (λ (k : Key). k.coords) (sym same)) in
     let make : List ℕ → Codes = λ xs. record { codes = xs } in
-    ap make (is_a ∙ sym is_b) where
-      coords_width : (dictionaries : Dictionaries) (codes : List ℕ) → length (coords_at dictionaries codes) ≡ length dictionaries
-      coords_width [] codes = refl
-      coords_width (texts ∷ dictionaries) [] = ap suc (coords_width dictionaries [])
-      coords_width (texts ∷ dictionaries) (code ∷ codes) = ap suc (coords_width dictionaries codes)
+    ap make (is_a ∙ sym is_b)
 
 -- the keys of the cells differ where their codes do
 pub keys_apart : (dictionaries : Dictionaries) (measures : ℕ) (cells : CodedCells) → All IsDictionary dictionaries → length dictionaries ≤ 8 → All (IsCodedCell dictionaries measures) cells → IsDistinct same_codes (keys_of cells) → IsDistinct same_key_as (keys_of (decoded dictionaries cells))
@@ -198,31 +193,56 @@ placed_cells dictionaries measures wants cells f places all moved = each_of _ pl
     let there = Contains-permutation (map f places) wanted (f place) (IsPermutation-sym wanted (map f places) moved) (map-Contains f places place inside) in
     All-contains (IsCodedCell dictionaries measures) cells (f place) all (Contains-filter (λ (c : Codes × Tally). are_wanted_codes wants c.0.codes) cells (f place) there).0)
 
--- wanted cells in the order of their ranks give the rows
+-- a cell by its key
+abbrev pub decode : Dictionaries → Codes × Tally → Key × Tally
+decode dictionaries c = (key_at dictionaries c.0.codes, c.1)
+
+-- wanted cells in key order give the rows
+rows_of_cells : (dictionaries : Dictionaries) (measures : ℕ) (test : Key → Bool) (wants : List Want) (aggregates : List Agg) (cells : CodedCells) {X : Type 0} (f : X → Codes × Tally) (places : List X) (rows : List Row) → All IsDictionary dictionaries → length dictionaries ≤ 8 → All (IsCodedCell dictionaries measures) cells → IsDistinct same_codes (keys_of cells) → AreWantsOf dictionaries test wants
+    → IsPermutation (filter (λ c. are_wanted_codes wants c.0.codes) cells) (map f places) → IsSortedBy (λ x y. is_lt (key_cmp x.0 y.0)) (map (λ place. decode dictionaries (f place)) places)
+    → AllZip (IsRowOf aggregates) (map (λ place. decode dictionaries (f place)) places) rows → AreRowsOf test aggregates (decoded dictionaries cells) rows
+rows_of_cells dictionaries measures test wants aggregates cells f places rows texts room all distinct are moved sorted zipped =
+    rows_given test aggregates (decoded dictionaries cells) (map (λ place. decode dictionaries (f place)) places) rows (keys_apart dictionaries measures cells texts room all distinct) moved_keys sorted zipped where
+      wanted : CodedCells
+      wanted = filter (λ c. are_wanted_codes wants c.0.codes) cells
+
+      moved_keys : IsPermutation (filter (λ c. test c.0) (decoded dictionaries cells)) (map (λ place. decode dictionaries (f place)) places)
+      moved_keys = rw (← wanted_cells dictionaries measures test wants cells are all, ← map_map f (decode dictionaries) places) (IsPermutation-map (decode dictionaries) wanted (map f places) moved)
+
+-- so do wanted cells that are put in order by their keys
+pub rows_of_sorted : (dictionaries : Dictionaries) (measures : ℕ) (test : Key → Bool) (wants : List Want) (aggregates : List Agg) (cells : CodedCells) {X : Type 0} (f : X → Codes × Tally) (places : List X) (rows : List Row) → All IsDictionary dictionaries → length dictionaries ≤ 8 → All (IsCodedCell dictionaries measures) cells → IsDistinct same_codes (keys_of cells) → AreWantsOf dictionaries test wants
+    → IsPermutation (filter (λ c. are_wanted_codes wants c.0.codes) cells) (map f places) → IsSortedBy (λ a b. is_lt (key_cmp (key_at dictionaries (f a).0.codes) (key_at dictionaries (f b).0.codes))) places
+    → AllZip (IsRowOf aggregates) (map (λ place. (key_at dictionaries (f place).0.codes, (f place).1)) places) rows → AreRowsOf test aggregates (decoded dictionaries cells) rows
+rows_of_sorted dictionaries measures test wants aggregates cells f places rows texts room all distinct are moved sorted zipped =
+    rows_of_cells dictionaries measures test wants aggregates cells f places rows texts room all distinct are moved
+    (sorted_through (λ place. decode dictionaries (f place)) (λ a b. is_lt (key_cmp (key_at dictionaries (f a).0.codes) (key_at dictionaries (f b).0.codes))) (λ x y. is_lt (key_cmp x.0 y.0)) places (λ a b in_a in_b. refl) sorted) zipped
+
+-- and by their ranks
 pub rows_of_places : (dictionaries : Dictionaries) (measures : ℕ) (ranks : List (List ℕ)) (test : Key → Bool) (wants : List Want) (aggregates : List Agg) (cells : CodedCells) {X : Type 0} (f : X → Codes × Tally) (r : X → List ℕ) (places : List X) (rows : List Row) → All IsDictionary dictionaries → length dictionaries ≤ 8 → AreAllRanks dictionaries ranks → All (IsCodedCell dictionaries measures) cells → IsDistinct same_codes (keys_of cells) → AreWantsOf dictionaries test wants
     → IsPermutation (filter (λ c. are_wanted_codes wants c.0.codes) cells) (map f places) → All (λ place. r place ≡ ranks_of ranks (f place).0.codes) places → IsSortedBy (λ a b. is_lt (slice_cmp nat_cmp (r a) (r b))) places
     → AllZip (IsRowOf aggregates) (map (λ place. (key_at dictionaries (f place).0.codes, (f place).1)) places) rows → AreRowsOf test aggregates (decoded dictionaries cells) rows
 rows_of_places dictionaries measures ranks test wants aggregates cells f r places rows texts room ranked all distinct are moved ranks_are sorted zipped =
-    rows_given test aggregates (decoded dictionaries cells) (map (λ place. decode (f place)) places) rows (keys_apart dictionaries measures cells texts room all distinct) moved_keys sorted_keys zipped where
-      decode : Codes × Tally → Key × Tally
-      decode c = (key_at dictionaries c.0.codes, c.1)
-
-      wanted : CodedCells
-      wanted = filter (λ c. are_wanted_codes wants c.0.codes) cells
-
-      moved_keys : IsPermutation (filter (λ c. test c.0) (decoded dictionaries cells)) (map (λ place. decode (f place)) places)
-      moved_keys = rw (← wanted_cells dictionaries measures test wants cells are all, ← map_map f decode places) (IsPermutation-map decode wanted (map f places) moved)
-
+    rows_of_cells dictionaries measures test wants aggregates cells f places rows texts room all distinct are moved sorted_keys zipped where
       placed : All (λ place. IsCodedCell dictionaries measures (f place)) places
       placed = placed_cells dictionaries measures wants cells f places all moved
 
-      sorted_keys : IsSortedBy (λ x y. is_lt (key_cmp x.0 y.0)) (map (λ place. decode (f place)) places)
-      sorted_keys = sorted_through (λ place. decode (f place)) (λ a b. is_lt (slice_cmp nat_cmp (r a) (r b))) (λ x y. is_lt (key_cmp x.0 y.0)) places (λ a b in_a in_b.
+      sorted_keys : IsSortedBy (λ x y. is_lt (key_cmp x.0 y.0)) (map (λ place. decode dictionaries (f place)) places)
+      sorted_keys = sorted_through (λ place. decode dictionaries (f place)) (λ a b. is_lt (slice_cmp nat_cmp (r a) (r b))) (λ x y. is_lt (key_cmp x.0 y.0)) places (λ a b in_a in_b.
           let cell_a = All-contains (λ place. IsCodedCell dictionaries measures (f place)) places a placed in_a in
           let cell_b = All-contains (λ place. IsCodedCell dictionaries measures (f place)) places b placed in_b in
           let rank_a = All-contains (λ place. r place ≡ ranks_of ranks (f place).0.codes) places a ranks_are in_a in
           let rank_b = All-contains (λ place. r place ≡ ranks_of ranks (f place).0.codes) places b ranks_are in_b in
           rw (rank_a, rank_b) (ap is_lt (ranks_compare dictionaries ranks (f a).0.codes (f b).0.codes texts ranked cell_a.codes cell_b.codes (cell_a.eight ∙ sym cell_b.eight)))) sorted
+
+none_pass : (dictionaries : Dictionaries) (test : Key → Bool) (cells : CodedCells) → ((codes : List ℕ) → test (key_at dictionaries codes) ≡ false) → filter (λ c. test c.0) (decoded dictionaries cells) ≡ []
+none_pass dictionaries test [] none = refl
+none_pass dictionaries test (c ∷ cells) none = rw (none c.0.codes) (none_pass dictionaries test cells none)
+
+-- there is no row where no key passes
+pub no_rows : (dictionaries : Dictionaries) (measures : ℕ) (test : Key → Bool) (aggregates : List Agg) (cells : CodedCells) → All IsDictionary dictionaries → length dictionaries ≤ 8 → All (IsCodedCell dictionaries measures) cells → IsDistinct same_codes (keys_of cells) → ((codes : List ℕ) → test (key_at dictionaries codes) ≡ false) → AreRowsOf test aggregates (decoded dictionaries cells) []
+no_rows dictionaries measures test aggregates cells texts room all distinct none =
+    rows_given test aggregates (decoded dictionaries cells) [] [] (keys_apart dictionaries measures cells texts room all distinct)
+    (rw (none_pass dictionaries test cells none) (IsPermutation-refl [])) (λ k d low inside. absurd (omega (arith, inside))) tt
 
 -- ---- rows of facts
 -- the rows of cells that are a cube's are the rows of the cube
@@ -251,32 +271,3 @@ all_rows_of_cube l facts rows cube are =
       ordered = some.ordered;
       answers = some.answers;
     }
-
--- ---- slices
-keys_of_slice : (pattern : Wanted) (rows : List Row) → map key_of (slice_of pattern rows) ≡ filter (matches pattern) (map key_of rows)
-keys_of_slice pattern [] = refl
-keys_of_slice pattern (row ∷ rows) = elim (cases_Bool (matches pattern row.key)) [
-  | inl matched ↦ rw (matched, keys_of_slice pattern rows) refl
-  | inr other ↦ rw other (keys_of_slice pattern rows)
-]
-
--- the slice of all rows is the rows of the cells that the pattern matches
-pub slice_given : (pattern : Wanted) (aggregates : List Agg) (cells : Cells) (rows kept : List Row) → AreRowsOf (λ key. true) aggregates cells rows → kept ≡ slice_of pattern rows → AreRowsOf (matches pattern) aggregates cells kept
-slice_given pattern aggregates cells rows kept are is = rw is (record {
-  keys = λ key. (there key, back key);
-  ordered = rw (keys_of_slice pattern rows) (IsStrictlySortedBy-filter key_cmp (matches pattern) (map key_of rows) are.ordered);
-  answers = All-filter (λ (row : Row). matches pattern row.key) (λ (row : Row). IfSome (cell_at cells row.key) (λ t. AreAnswersOf aggregates t row.answers)) rows are.answers;
-}) where
-  there : (key : Key) → Contains (map key_of (slice_of pattern rows)) key → IsSome (cell_at cells key) × IsTrue (matches pattern key)
-  there key inside =
-      let row = Contains-map key_of (slice_of pattern rows) key inside in
-      let found = Contains-filter (λ (r : Row). matches pattern r.key) rows row.0 row.1 in
-      let P : Key → Type 0 = λ k. IsSome (cell_at cells k) × IsTrue (matches pattern k) in
-      subst P row.2 (((are.keys row.0.key).0 (map-Contains key_of rows row.0 found.0)).0, found.1)
-
-  back : (key : Key) → IsSome (cell_at cells key) × IsTrue (matches pattern key) → Contains (map key_of (slice_of pattern rows)) key
-  back key cell =
-      let row = Contains-map key_of rows key ((are.keys key).1 (cell.0, refl)) in
-      let P : Key → Type 0 = λ k. matches pattern k ≡ true in
-      let Q : Key → Type 0 = λ k. Contains (map key_of (slice_of pattern rows)) k in
-      subst Q row.2 (map-Contains key_of (slice_of pattern rows) row.0 (filter-Contains (λ (r : Row). matches pattern r.key) rows row.0 row.1 (subst P (sym row.2) cell.1)))

@@ -1,10 +1,10 @@
 -- The rows of a cube that is kept up to date: those of the cells whose keys pass a test (Gray et al. 1997).
 use Rattle.std.specs.Prelude.{◌≡◌, ◌==◌, ◌&&◌, ◌↔◌, ℕ, Bool, true, false, not, Option, Some, None, Result, Ok, Err, get_or, ◌<◌, List, [], ◌∷◌, length, map, Contains, All, IsTrue, IsSome, IfSome}
-use Rattle.std.specs.List.{AllByRecursion}
 use Rattle.std.specs.List.Sorted.{IsStrictlySortedBy}
 use Rattle.cube_core.specs.Answer.{AreAnswers}
 use Rattle.cube_core.specs.Cube.{is_cell, key_of, HasAnswers}
 use Rattle.cube_core.specs.Order.{key_cmp}
+use Rattle.cube_core.specs.Query.{Wanted}
 use Rattle.cube_core.specs.declared.aggregate.Agg.{Agg}
 use Rattle.cube_core.specs.declared.aggregate.Answer.{Answer}
 use Rattle.cube_core.specs.declared.fact.Fact.{Fact}
@@ -34,12 +34,6 @@ pub record AreRowsOf (test : Key → Bool) (aggregates : List Agg) (cells : Cell
   pub keys : (key : Key) → Contains (map key_of rows) key ↔ (IsSome (cell_at cells key) × IsTrue (test key))
   pub ordered : IsStrictlySortedBy key_cmp (map key_of rows)
   pub answers : All (λ row. IfSome (cell_at cells row.key) (λ t. AreAnswersOf aggregates t row.answers)) rows
-
--- these are the rows of the cube over these grouping sets whose key passes a test: each once, in key order, with the answers of its group
-pub record AreRowsWhere (test : Key → Bool) (sets : List ℕ) (dimensions : ℕ) (aggregates : List Agg) (facts : List Fact) (rows : List Row) : Type 0 where
-  pub cells : (key : Key) → Contains (map key_of rows) key ↔ (IsTrue (is_cell sets dimensions facts key) × IsTrue (test key))
-  pub ordered : IsStrictlySortedBy key_cmp (map key_of rows)
-  pub answers : AllByRecursion (HasAnswers aggregates facts) rows
 
 -- the row of a key's cell, or none where the key is no cell
 abbrev pub IsRowAt : List Agg → Cells → Key → Option Row → Type 0
@@ -83,3 +77,13 @@ IsWantBelow texts c false w = (code : ℕ) × (w ≡ want.Code code) × IsCodeOf
 pub record AreWantsBelow (dictionaries : Dictionaries) (dimension : ℕ) (coords : List Coord) (wants : List Want) : Type 0 where
   pub each : (i : ℕ) → i < length wants
       → IsWantBelow (get_or dictionaries i []) (get_or coords i coord.All) (i == dimension) (get_or wants i want.Any)
+
+-- what is wanted of the codes of a dimension: any where a pattern leaves it open, else the code of its coordinate alone
+abbrev pub IsWantMatched : List (List ℕ) → Option Coord → Want → Type 0
+IsWantMatched texts None w = w ≡ want.Any
+IsWantMatched texts (Some c) w = (code : ℕ) × (w ≡ want.Code code) × IsCodeOf texts c code
+
+-- what is wanted of the codes of keys that a pattern matches
+pub record AreWantsMatched (dictionaries : Dictionaries) (pattern : Wanted) (wants : List Want) : Type 0 where
+  pub each : (i : ℕ) → i < length wants
+      → IsWantMatched (get_or dictionaries i []) (get_or pattern i None) (get_or wants i want.Any)

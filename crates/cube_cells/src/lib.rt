@@ -18,6 +18,3 @@ pub use cell::Cell;
 pub use counted::Counted;
 pub use cube::Cube;
 pub use cube_core::reduced;
-
-#[cfg(test)]
-mod tests;

@@ -1,14 +1,18 @@
 -- Queries of a cube: patterns of keys and the words that spell them, roll-up and drill-down along a dimension (Gray et al. 1997: rolling up replaces the values of a dimension by ALL; the words are this project's choice).
-use Rattle.std.specs.Prelude.{◌≡◌, ◌==◌, ◌&&◌, ◌+◌, ◌^◌, ⊤, ℕ, Bool, true, false, not, if◌then◌else◌, List, [], ◌∷◌, length, filter, find, codes, position, Option, Some, None, is_some, Result, Ok, Err, slice_set}
+use Rattle.std.specs.Prelude.{◌≡◌, ◌==◌, ◌&&◌, ◌↔◌, ◌+◌, ◌^◌, ⊤, ℕ, Bool, true, false, not, if◌then◌else◌, IsTrue, List, [], ◌∷◌, length, map, filter, find, Contains, codes, position, Option, Some, None, is_some, Result, Ok, Err, slice_set}
 use Rattle.std.specs.Str.{bytes_eq, is_utf8}
 use Rattle.std.specs.Option.{option_map_or, ok_or}
-use Rattle.std.specs.List.{list_all, filter_map}
+use Rattle.std.specs.List.{AllByRecursion, list_all, filter_map}
+use Rattle.std.specs.List.Sorted.{IsStrictlySortedBy}
 use Rattle.std.specs.Ordering.{eq_by_cmp}
+use Rattle.cube_core.specs.Cube.{is_cell, key_of, HasAnswers}
 use Rattle.cube_core.specs.Layout.{Layout}
 use Rattle.cube_core.specs.Records.{records_of}
 use Rattle.cube_core.specs.Takes.{null_text}
 use Rattle.cube_core.specs.Order.{coord_cmp, key_cmp}
 use Rattle.cube_core.specs.GroupingSet.{is_all_at, mask_of, is_among}
+use Rattle.cube_core.specs.declared.aggregate.Agg.{Agg}
+use Rattle.cube_core.specs.declared.fact.Fact.{Fact}
 use Rattle.cube_core.specs.declared.key.Coord.{Coord}
 use Rattle.cube_core.specs.declared.key.Coord.TheVariants as coord
 use Rattle.cube_core.specs.declared.key.Key.{Key}
@@ -113,3 +117,9 @@ drill_fault sets dimension key =
     if not (is_all_at key dimension) then Some NotRolled
     else if not (is_among (mask_of key + 2 ^ dimension) sets) then Some NotGrouped
     else None
+
+-- these are the rows of the cube over these grouping sets whose key passes a test: each once, in key order, with the answers of its group
+pub record AreRowsWhere (test : Key → Bool) (sets : List ℕ) (dimensions : ℕ) (aggregates : List Agg) (facts : List Fact) (rows : List Row) : Type 0 where
+  pub cells : (key : Key) → Contains (map key_of rows) key ↔ (IsTrue (is_cell sets dimensions facts key) × IsTrue (test key))
+  pub ordered : IsStrictlySortedBy key_cmp (map key_of rows)
+  pub answers : AllByRecursion (HasAnswers aggregates facts) rows

@@ -50,6 +50,13 @@ impl Pattern {
         spelled_by(alloc, &record)
     }
 
+    /// What is wanted in each dimension: a coordinate, or any where there is none.
+    pub fn wanted(&self) -> &[Option<Coord>]
+        ensures { result.now ≡ self.now }
+    {
+        self.wanted.as_slice()
+    }
+
     /// The key that the pattern is, where it leaves no dimension open.
     ///
     /// The error is `NotCell`, where a field is `?`, or `Memory`, which says nothing of the pattern.

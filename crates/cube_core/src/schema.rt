@@ -1,9 +1,9 @@
 //! The schema of a cube.
-ghost use Rattle.std.specs.Prelude.{◌≡◌, ◌≤◌, ◌<◌, ◌^◌, IfOk, length};
+ghost use Rattle.std.specs.Prelude.{◌≡◌, ◌≤◌, ◌<◌, ◌+◌, ◌^◌, IfOk, length};
 ghost use Rattle.std.specs.List.{list_all};
 ghost use Rattle.cube_core.specs.Layout.{IsSchema, sample_layout, keeps};
 ghost use Rattle.cube_core.specs.Takes.{fits, fits_part, takes, is_id, is_dimension_value, puts_dimension_value};
-ghost use Rattle.cube_core.specs.GroupingSet.{is_among, mask_of_coords};
+ghost use Rattle.cube_core.specs.GroupingSet.{is_among, mask_of, mask_of_coords};
 
 use crate::aggregate::Agg;
 use crate::change::Change;
@@ -159,6 +159,18 @@ impl Schema {
         is_among(mask_of_coords(key.coords.as_slice()), sets)
     }
 
+    /// Whether the schema keeps the grouping set of a key with one more dimension, counted from 0, that is ALL in it: the
+    /// set that a drill-down along the dimension leads to. The key has a coordinate for each dimension.
+    #[tactic(auto, using(crate::proofs::PlainKeyLaws::mask_of_eight))]
+    pub fn keeps_below(&self, key: &Key, dim: usize) -> bool
+        requires width { length key.now.coords ≡ length self.now.dimensions }
+        requires dim { dim < length self.now.dimensions }
+        ensures { result ≡ is_among (mask_of key.now + 2 ^ dim) self.now.grouping_sets }
+    {
+        let sets = self.grouping_sets();
+        is_among(mask_of_coords(key.coords.as_slice()) + bit_of(dim), sets)
+    }
+
     /// Whether a fact has this schema's numbers of dimensions and measures, and no dimension text `\N`, which
     /// would read as null.
     pub fn fits(&self, fact: &Fact) -> bool
@@ -202,6 +214,15 @@ fn mask_of_coords(coords: &[Coord]) -> u32
     };
     let bit = if matches!(coord, Coord::All) { 0 } else { 1 };
     bit + 2 * mask_of_coords(others)
+}
+
+// The mask of a dimension.
+fn bit_of(dim: usize) -> u32
+    requires { dim < 8 }
+    ensures mask { result ≡ 2 ^ dim }
+    ensures small { result ≤ 128 }
+{
+    1u32 << dim
 }
 
 fn is_among(set: u32, sets: &[u8]) -> bool

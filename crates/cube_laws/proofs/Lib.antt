@@ -13,6 +13,7 @@ mod CellCountLaws
 mod RollupKeyLaws
 mod RollupBestLaws
 mod RollupLaws
+mod DrilledLaws
 mod SetLaws
 mod SurvivorLaws
 mod KeyLaws

@@ -121,7 +121,7 @@ HasAnswers-unique aggregates facts r r' same h k =
     (subst (λ key. AreAnswers (group_of key facts) aggregates r.answers) same h) k)
 
 -- rows with the same keys over the same facts are the same rows
-HasAnswers-keys : (aggregates : List Agg) (facts : List Fact) (rows rows' : List Row) →
+pub HasAnswers-keys : (aggregates : List Agg) (facts : List Fact) (rows rows' : List Row) →
     map key_of rows ≡ map key_of rows' → AllByRecursion (HasAnswers aggregates facts) rows →
     AllByRecursion (HasAnswers aggregates facts) rows' → rows ≡ rows'
 HasAnswers-keys aggregates facts [] [] same h k = refl

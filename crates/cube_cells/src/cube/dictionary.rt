@@ -4,12 +4,14 @@ ghost use Rattle.std.specs.Str.{bytes_eq};
 ghost use Rattle.cube_core.specs.declared.key.Coord.TheVariants as coord;
 ghost use Rattle.std.specs.String.{string_bytes};
 ghost use Rattle.cube_core.specs.Layout.{is_listed};
+ghost use Rattle.cube_core.specs.Order.{coord_cmp};
 ghost use Rattle.cube_cells.specs.Codes.{IsDictionary, texts_with, is_code, no_code, IsCodeOf, coord_at, coord_of_value};
 
 use super::codes::{ALL, NONE, NULL};
 use cube_core::{Coord, Text};
 use indexmap::IndexSet;
 use std::alloc::{AllocError, Global};
+use std::cmp::Ordering;
 use std::marker::Model;
 
 /// The different texts of a dimension, in the order in which they came.
@@ -63,6 +65,17 @@ impl Dictionary {
             None => "",
             Some(text) => text.as_str(),
         }
+    }
+
+    /// How the coordinates of two codes stand to each other: texts by their bytes, then null, then ALL.
+    #[tactic(auto, using(crate::proofs::TextLaws::compared_high, crate::proofs::TextLaws::compared_same, crate::proofs::TextLaws::compared_texts))]
+    pub fn compare(&self, left: u32, right: u32) -> Ordering
+        ensures { result ≡ coord_cmp (coord_at self.now left) (coord_at self.now right) }
+    {
+        if left >= NULL || right >= NULL || left == right {
+            return left.cmp(&right);
+        }
+        self.text(left as usize).cmp(self.text(right as usize))
     }
 
     /// A copy of the coordinate of a code; the only error is want of memory.

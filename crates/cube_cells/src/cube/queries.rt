@@ -1,10 +1,10 @@
 //! Queries of a cube: slices, rolling a key up along a dimension, and drilling down from it (Gray et al. 1997).
-ghost use Rattle.std.specs.Prelude.{◌≡◌, ◌<◌, ◌≤◌, ◌+◌, ◌^◌, true, List, IfOk, length};
-ghost use Rattle.cube_core.specs.GroupingSet.{is_all_at, mask_of_coords, is_among};
-ghost use Rattle.cube_core.specs.Query.{matches, rolled_up, drills_down, drill_fault};
+ghost use Rattle.std.specs.Prelude.{◌≡◌, ◌<◌, true, List, IfOk, length};
+ghost use Rattle.cube_core.specs.GroupingSet.{is_all_at};
+ghost use Rattle.cube_core.specs.Query.{AreRowsWhere, matches, rolled_up, drills_down, drill_fault};
 ghost use Rattle.cube_core.specs.declared.fact.Fact.{Fact};
 ghost use Rattle.cube_cells.specs.Cube.{IsCubeOf};
-ghost use Rattle.cube_cells.specs.Rows.{IsRowAt, IsRowOver, AreRowsOf, AreRowsWhere, GivesUnless, IsWantBelow, AreWantsBelow};
+ghost use Rattle.cube_cells.specs.Rows.{IsRowAt, IsRowOver, AreRowsOf, GivesUnless, IsWantBelow, AreWantsBelow, IsWantMatched, AreWantsMatched};
 
 use super::Cube;
 use super::codes::ALL;
@@ -22,9 +22,12 @@ impl Cube {
             AreRowsWhere (matches pattern.now) self.now.sets (length self.now.schema.dimensions)
             self.now.schema.aggregates facts rows.items) }
     {
-        let mut rows = self.rows()?;
-        rows.retain(|row| pattern.matches(&row.key));
-        Ok(rows)
+        let wanted = pattern.wanted();
+        if wanted.len() != self.dictionaries.len() {
+            return Ok(Vec::new(self.alloc));
+        }
+        let wants = wants_of(self.alloc, &self.dictionaries, wanted)?;
+        self.rows_where(&wants)
     }
 
     /// The row of a key with ALL in a dimension, counted from 0; `None` exactly where that is no cell, as where its
@@ -64,8 +67,7 @@ impl Cube {
         if !key.is_all(dim) {
             return Err(QueryFault::NotRolled);
         }
-        let sets = self.schema.grouping_sets();
-        if !is_among(mask_below(key.coords.as_slice(), dim), sets) {
+        if !self.schema.keeps_below(key, dim) {
             return Err(QueryFault::NotGrouped);
         }
         let rows = self.rows_below(key, dim)?;
@@ -81,7 +83,7 @@ impl Cube {
             self.now.schema.aggregates self.now.cells rows.items) }
     {
         let wants = wants_below(self.alloc, &self.dictionaries, key.coords.as_slice(), dim)?;
-        self.rows_where(&wants)
+        self.few_rows_where(&wants)
     }
 }
 
@@ -95,44 +97,6 @@ fn rolled_up(alloc: Global, key: &Key, dim: usize) -> Result<Key, AllocError>
     Ok(Key {
         coords: Sequence::from_vec(coords),
     })
-}
-
-// The mask of coordinates with a dimension that is ALL in them.
-#[tactic(auto, using(cube_core::proofs::PlainKeyLaws::mask_of_eight))]
-fn mask_below(coords: &[Coord], dim: usize) -> u32
-    requires few { length coords.now ≤ 8 }
-    requires dim { dim < 8 }
-    ensures { result ≡ mask_of_coords coords.now + 2 ^ dim }
-{
-    mask_of(coords) + bit_of(dim)
-}
-
-// The mask of coordinates, which are at most 8.
-#[tactic(auto, using(cube_core::proofs::PlainKeyLaws::mask_of_eight))]
-fn mask_of(coords: &[Coord]) -> u32
-    requires { length coords.now ≤ 8 }
-    ensures { result ≡ mask_of_coords coords.now }
-{
-    let Some((coord, others)) = coords.split_first() else {
-        return 0;
-    };
-    let bit = if matches!(coord, Coord::All) { 0 } else { 1 };
-    bit + 2 * mask_of(others)
-}
-
-// The mask of a dimension.
-fn bit_of(dim: usize) -> u32
-    requires { dim < 8 }
-    ensures mask { result ≡ 2 ^ dim }
-    ensures small { result ≤ 128 }
-{
-    1u32 << dim
-}
-
-fn is_among(set: u32, sets: &[u8]) -> bool
-    ensures { result ≡ is_among set sets.now }
-{
-    sets.iter().any(|other| u32::from(*other) == set)
 }
 
 // What is wanted of the keys that drill down from coordinates along a dimension.
@@ -161,5 +125,32 @@ fn want_below(dictionary: &Dictionary, coord: &Coord, is_open: bool) -> Want
         Want::Not(ALL)
     } else {
         Want::Code(dictionary.code_of_coord(coord))
+    }
+}
+
+// What is wanted of the keys that a pattern matches.
+fn wants_of(
+    alloc: Global,
+    dictionaries: &[Dictionary],
+    wanted: &[Option<Coord>],
+) -> Result<Vec<Want>, AllocError>
+    requires { length wanted.now ≡ length dictionaries.now }
+    ensures long { IfOk result (λ wants. length wants.items ≡ length dictionaries.now) }
+    ensures wants { IfOk result (λ wants. AreWantsMatched dictionaries.now wanted.now wants.items) }
+{
+    let mut wants = Vec::with_capacity(alloc, wanted.len())?;
+    for (place, coord) in wanted.iter().enumerate() {
+        wants.push(want_of(&dictionaries[place], coord))?;
+    }
+    Ok(wants)
+}
+
+// Any code where no coordinate is wanted, else the code of the coordinate alone.
+fn want_of(dictionary: &Dictionary, wanted: &Option<Coord>) -> Want
+    ensures { IsWantMatched dictionary.now wanted.now result }
+{
+    match wanted {
+        None => Want::Any,
+        Some(coord) => Want::Code(dictionary.code_of_coord(coord)),
     }
 }

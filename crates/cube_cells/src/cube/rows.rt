@@ -1,5 +1,5 @@
 //! The rows of a cube, in key order.
-ghost use Rattle.std.specs.Prelude.{◌≡◌, ◌≤◌, Bool, true, false, List, IfOk, IsTrue, length, map, filter, All};
+ghost use Rattle.std.specs.Prelude.{◌≡◌, ◌≤◌, Bool, true, false, List, IfOk, IsTrue, length, map, filter, drop, get_or, All};
 ghost use Rattle.std.specs.Cmp.Lexicographic.{slice_cmp};
 ghost use Rattle.std.specs.List.{AllZip, list_all};
 ghost use Rattle.std.specs.List.Sorted.{IsPermutation, IsSortedBy};
@@ -7,21 +7,23 @@ ghost use Rattle.std.specs.Ordering.{nat_cmp, is_lt};
 ghost use Rattle.cube_core.specs.Answer.{AreAnswers};
 ghost use Rattle.cube_core.specs.Cube.{AreRowsOver};
 ghost use Rattle.cube_core.specs.Layout.{is_aggregate_of};
+ghost use Rattle.cube_core.specs.Order.{coord_cmp, key_cmp};
 ghost use Rattle.cube_core.specs.declared.fact.Fact.{Fact};
 ghost use Rattle.cube_core.specs.declared.key.Key.{Key};
-ghost use Rattle.cube_cells.specs.Codes.{are_codes, key_at, IsDictionary};
+ghost use Rattle.cube_cells.specs.Codes.{all_code, are_codes, coords_at, key_at, IsDictionary};
 ghost use Rattle.cube_cells.specs.Coded.{decoded};
 ghost use Rattle.cube_cells.specs.Cube.{IsCubeOf};
 ghost use Rattle.cube_cells.specs.Ranks.{ranks_of};
-ghost use Rattle.cube_cells.specs.Rows.{AreRowsOf, AreRowsWhere, AreAnswersOf, IsRowOf, AreWantsOf, is_wanted_code, are_wanted_codes};
+ghost use Rattle.cube_cells.specs.Rows.{AreRowsOf, AreAnswersOf, IsRowOf, AreWantsOf, is_wanted_code, are_wanted_codes};
 
 use super::Cube;
-use super::codes::Codes;
+use super::codes::{ALL, Codes};
 use super::dictionary::Dictionary;
 use super::ranks::{Ranks, ranks_of, ranks_of_all};
 use crate::cell::Cell;
 use cube_core::{Agg, Key, Row, Sequence};
 use std::alloc::{AllocError, Global};
+use std::cmp::Ordering;
 use std::collections::HashMap;
 
 /// What is wanted of the code of a dimension.
@@ -52,6 +54,21 @@ impl Cube {
         self.rows_where(&[])
     }
 
+    /// The rows of the cells whose codes are wanted, where these are few: no text is looked at but theirs.
+    pub(super) fn few_rows_where(&self, wants: &[Want]) -> Result<Vec<Row>, AllocError>
+        ensures { IfOk result (λ rows. (test : Key → Bool) →
+            AreWantsOf self.now.dictionaries test wants.now →
+            AreRowsOf test self.now.schema.aggregates self.now.cells rows.items) }
+    {
+        let places = few_places_in_order(self.alloc, &self.dictionaries, &self.cells, wants)?;
+        rows_of(
+            self.alloc,
+            self.schema.aggregates(),
+            &self.dictionaries,
+            &places,
+        )
+    }
+
     /// The rows of the cells whose codes are wanted.
     pub(super) fn rows_where(&self, wants: &[Want]) -> Result<Vec<Row>, AllocError>
         ensures { IfOk result (λ rows. (test : Key → Bool) →
@@ -66,6 +83,51 @@ impl Cube {
             &self.dictionaries,
             &places,
         )
+    }
+}
+
+// The cells whose codes are wanted, by their keys.
+fn few_places_in_order<'c>(
+    alloc: Global,
+    dictionaries: &[Dictionary],
+    cells: &'c HashMap<Codes, Cell>,
+    wants: &[Want],
+) -> Result<Vec<Place<'c>>, AllocError>
+    ensures cells { IfOk result (λ places. IsPermutation
+        (filter (λ cell. are_wanted_codes wants.now cell.0.codes) cells.now.entries)
+        (map (λ place. (place.codes.now, place.cell.now)) places.items)) }
+    ensures order { IfOk result (λ places. IsSortedBy (λ a b. is_lt (key_cmp
+        (key_at dictionaries.now a.codes.now.codes)
+        (key_at dictionaries.now b.codes.now.codes))) places.items) }
+{
+    let mut places = places_of(alloc, &[], cells, wants)?;
+    places.sort_unstable_by(|a, b| compare(dictionaries, &a.codes.codes, &b.codes.codes));
+    Ok(places)
+}
+
+// How the keys of codes stand to each other, dimension by dimension.
+#[tactic(auto, using(crate::proofs::TextLaws::first_coord))]
+fn compare(dictionaries: &[Dictionary], left: &[u32], right: &[u32]) -> Ordering
+    ensures { result ≡ slice_cmp coord_cmp
+        (coords_at dictionaries.now left.now) (coords_at dictionaries.now right.now) }
+{
+    let Some((dictionary, others)) = dictionaries.split_first() else {
+        return Ordering::Equal;
+    };
+    let (left, others_left) = first_code(left);
+    let (right, others_right) = first_code(right);
+    let first = dictionary.compare(left, right);
+    first.then(compare(others, others_left, others_right))
+}
+
+// The first code, and the others; ALL where there is none.
+fn first_code(codes: &[u32]) -> (u32, &[u32])
+    ensures first { result.0 ≡ get_or codes.now 0 all_code }
+    ensures others { result.1.now ≡ drop 1 codes.now }
+{
+    match codes.split_first() {
+        None => (ALL, codes),
+        Some((code, others)) => (*code, others),
     }
 }
 

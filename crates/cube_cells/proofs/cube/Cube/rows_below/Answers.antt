@@ -21,4 +21,4 @@ returns c =
     let long : length c.in_ok-wants.wants.items ≡ length dictionaries = rw c.deref.ensures.value at c.in_ok-wants.ensures.long in
     let wants : AreWantsBelow dictionaries dim key.coords c.in_ok-wants.wants.items = rw (c.deref.ensures.value, c.as_slice.ensures) at c.in_ok-wants.ensures.wants in
     let are : AreWantsOf c.args.self.now.dictionaries (drills_down dim key) c.in_ok-wants.wants.items = rw (← c.self.view_is) (wants_drill_down dictionaries key c.in_ok-wants.wants.items dim c.self.invariant.texts (wide ∙ sym c.self.invariant.lattice.dictionaries) long (omega (arith, below, c.self.invariant.lattice.dictionaries)) c.requires.rolled wants) in
-    IfOk-weaker c.rows_where.result _ _ (λ rows given. given (drills_down dim key) (rw c.deref-2.ensures.value are)) c.rows_where.ensures
+    IfOk-weaker c.few_rows_where.result _ _ (λ rows given. given (drills_down dim key) (rw c.deref-2.ensures.value are)) c.few_rows_where.ensures

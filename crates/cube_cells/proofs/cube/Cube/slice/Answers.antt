@@ -1,15 +1,38 @@
-use Rattle.std.proofs.Common.{◌≡◌, rules}
-use Rattle.std.proofs.lemmas.Fn.{filter_same}
-use Rattle.cube_core.specs.Query.{matches, slice_of}
-use Rattle.cube_cells.proofs.RowLaws.{rows_of_cube, slice_given}
+use Rattle.std.proofs.Common.{◌≡◌, ◌≤◌, length, arith, ap, List, ℕ}
+use Rattle.std.proofs.lemmas.Result.{IfOk-weaker}
+use Rattle.cube_core.specs.Query.{matches}
+use Rattle.cube_cells.specs.Rows.{AreWantsOf, AreWantsMatched}
+use Rattle.cube_cells.proofs.RowLaws.{no_rows, rows_of_cube}
+use Rattle.cube_cells.proofs.SliceLaws.{no_match, wants_slice}
 use Rattle.cube_cells.proofs.cube.Cube.slice.Goals as goal
+
+-- a pattern of another width matches no cell
+pub returns-then-wanted-len-clause-rows : goal.returns-then-wanted-len-clause-rows
+returns-then-wanted-len-clause-rows c =
+    let dictionaries = c.self.inside.dictionaries.items in
+    let pattern = c.args.pattern.now in
+    let room : length dictionaries ≤ 8 = omega (arith, c.self.invariant.lattice.dictionaries, c.self.invariant.lattice.schema.dimensions_at_most) in
+    rw (← c.self.view_is, c.new.ensures.items) (no_rows dictionaries (length c.self.inside.schema.measures) (matches pattern) c.self.inside.schema.aggregates c.self.inside.cells.entries
+    c.self.invariant.texts room c.self.invariant.each c.self.invariant.distinct
+    (λ codes. no_match dictionaries pattern codes (λ same. c.if-wanted-len.true (omega (arith, ap (λ ws. length ws) c.wanted-wanted.ensures, same, c.len.ensures)))))
+
+pub returns-then-wanted-len-clause-cube : goal.returns-then-wanted-len-clause-cube
+returns-then-wanted-len-clause-cube c = λ facts cube. rows_of_cube (matches c.args.pattern.now) c.args.self.now facts c.new.result.items cube (returns-then-wanted-len-clause-rows c)
+
+pub wants_of-requires : goal.wants_of-requires
+wants_of-requires c = omega (arith, c.if-wanted-len.false, c.len.ensures, ap (λ (ts : List (List (List ℕ))). length ts) c.deref.ensures.value)
 
 pub returns-clause-rows : goal.returns-clause-rows
 returns-clause-rows c =
-    let kept : c.retain.new.self.items ≡ slice_of c.args.pattern.now c.in_ok-rows.rows.items = filter_same _ (λ row. matches c.args.pattern.now row.key) _ (λ x b f q. search rules) _ _ c.retain.ensures.filtered in
-    slice_given c.args.pattern.now c.args.self.now.schema.aggregates c.args.self.now.cells c.in_ok-rows.rows.items c.retain.new.self.items c.in_ok-rows.ensures.rows kept
+    let dictionaries = c.self.inside.dictionaries.items in
+    let pattern = c.args.pattern.now in
+    let wants = c.in_ok-wants.wants.items in
+    let wide : length pattern ≡ length dictionaries = omega (arith, ap (λ ws. length ws) c.wanted-wanted.ensures, c.if-wanted-len.false, c.len.ensures) in
+    let long : length wants ≡ length dictionaries = rw c.deref.ensures.value at c.in_ok-wants.ensures.long in
+    let matched : AreWantsMatched dictionaries pattern wants = rw (c.deref.ensures.value, c.wanted-wanted.ensures) at c.in_ok-wants.ensures.wants in
+    let are : AreWantsOf c.args.self.now.dictionaries (matches pattern) wants = rw (← c.self.view_is) (wants_slice dictionaries pattern wants wide long matched) in
+    IfOk-weaker c.rows_where.result _ _ (λ rows given. given (matches pattern) (rw c.deref-2.ensures.value are)) c.rows_where.ensures
 
 pub returns-clause-cube : goal.returns-clause-cube
 returns-clause-cube c =
-    let kept : c.retain.new.self.items ≡ slice_of c.args.pattern.now c.in_ok-rows.rows.items = filter_same _ (λ row. matches c.args.pattern.now row.key) _ (λ x b f q. search rules) _ _ c.retain.ensures.filtered in
-    λ facts cube. rows_of_cube (matches c.args.pattern.now) c.args.self.now facts c.retain.new.self.items cube (slice_given c.args.pattern.now c.args.self.now.schema.aggregates c.args.self.now.cells c.in_ok-rows.rows.items c.retain.new.self.items c.in_ok-rows.ensures.rows kept)
+    IfOk-weaker c.rows_where.result _ _ (λ rows are. λ facts cube. rows_of_cube (matches c.args.pattern.now) c.args.self.now facts rows.items cube are) (returns-clause-rows c)
