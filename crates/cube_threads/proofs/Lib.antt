@@ -5,3 +5,4 @@ pub mod WireLaws
 pub mod TakeLaws
 pub mod RunLaws
 pub mod SettleLaws
+pub mod DraftLaws

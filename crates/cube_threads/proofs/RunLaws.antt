@@ -1,8 +1,8 @@
 -- What is known of a run before its threads start, and after they were joined.
-use Rattle.std.proofs.Common.{◌≡◌, ◌<◌, ◌≤◌, ℕ, false, List, [], ◌∷◌, ◌++◌, length, get_or, map, refl, ap, subst, sym, ◌∙◌, arith, Option, Some, None, IfSome}
-use Rattle.std.specs.Prelude.{vec_len, Result, Ok, Err, IfOk, IfErr, OnOk, is_err}
+use Rattle.std.proofs.Common.{◌≡◌, ◌<◌, ◌≤◌, ℕ, false, List, [], ◌∷◌, ◌++◌, length, get_or, map, refl, ap, sym, ◌∙◌, arith, Option, Some, None, IfSome}
+use Rattle.std.specs.Prelude.{Result, Ok, Err, IfOk, IfErr, OnOk, is_err}
 use Rattle.std.specs.List.{All, AllZip}
-use Rattle.std.proofs.lemmas.List.{get_or-map, get_or_default, length-map}
+use Rattle.std.proofs.lemmas.List.{get_or-map, length-map}
 use Rattle.cube_core.proofs.ListLaws.{AllZip-length}
 use Rattle.cube_core.specs.Arrival.{Arrivals}
 use Rattle.cube_core.specs.Layout.{Layout}
@@ -19,7 +19,7 @@ use Rattle.cube_threads.specs.Wiring.{coming_of, AreLinked}
 use Rattle.cube_threads.specs.declared.parcel.Parcel.{Parcel}
 use Rattle.cube_threads.specs.declared.parcel.FeederEnd.{FeederEnd}
 use Rattle.cube_threads.specs.declared.roster.Gatherer.{Gatherer}
-use Rattle.cube_threads.proofs.TakeLaws.{Names, Tells, AllTell, all_zip-at, all_zip-each, taken-settled}
+use Rattle.cube_threads.proofs.TakeLaws.{Names, AllTell, all_zip-at, all_zip-each, taken-settled}
 use Rattle.cube_threads.proofs.WireLaws.{some_of}
 
 -- linked builders that have taken nothing are ready

@@ -1,9 +1,9 @@
 -- Receipts are held against links one by one.
-use Rattle.std.proofs.Common.{◌≡◌, ◌<◌, ◌+◌, ℕ, List, [], length, get_or, set, map, refl, ap, subst, sym, ◌∙◌, ◌⊎◌, inl, inr, arith, IfSome}
+use Rattle.std.proofs.Common.{◌≡◌, ◌<◌, ◌+◌, ℕ, List, [], length, get_or, set, map, ap, subst, sym, ◌∙◌, inl, inr, arith, IfSome}
 use Rattle.std.proofs.lemmas.List.{get_or-map, get_or_default, length-map, set-get_or}
 use Rattle.std.proofs.Math.Seq.{map-set_same}
 use Rattle.cube_link.specs.Link.{Sending, Receiving}
-use Rattle.cube_threads.specs.Settling.{received_on, received_by, Kept, kept_of, receipt_of, IsOfLink, Begins, FitLinks, BeginReceipts, AllBegin}
+use Rattle.cube_threads.specs.Settling.{received_on, received_by, Kept, kept_of, receipt_of, IsOfLink, Begins, FitLinks, BeginReceipts}
 use Rattle.cube_threads.specs.declared.parcel.Parcel.{Parcel}
 use Rattle.cube_threads.specs.declared.parcel.FeederEnd.{FeederEnd}
 use Rattle.cube_threads.specs.declared.roster.Gatherer.{Gatherer}

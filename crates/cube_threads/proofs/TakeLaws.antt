@@ -1,15 +1,14 @@
 -- What ends, receipts and builders say together of the feeds.
-use Rattle.std.proofs.Common.{◌≡◌, ◌<◌, ◌≤◌, ◌+◌, ◌-◌, ℕ, zero, suc, false, List, [], ◌∷◌, ◌++◌, length, get_or, take, map, refl, ap, subst, sym, ◌∙◌, arith, Option, Some, None, IfSome}
+use Rattle.std.proofs.Common.{◌≡◌, ◌<◌, ◌+◌, ◌-◌, ℕ, zero, suc, false, List, [], ◌∷◌, ◌++◌, length, get_or, take, map, refl, ap, subst, sym, ◌∙◌, arith, Option, Some, None, IfSome}
 use Rattle.std.specs.Prelude.{IsSome}
 use Rattle.std.specs.List.{All, AllZip, AllByRecursion}
 use Rattle.std.proofs.lemmas.List.{append-nil, get_or-map, get_or-take, get_or_default, length-map, length-take}
 use Rattle.std.proofs.lemmas.List.FromFn.{get_or-map-range_with_len, length-map-range_with_len}
-use Rattle.cube_core.proofs.ListLaws.{AllZip-length}
 use Rattle.cube_core.specs.Arrival.{Arrivals, of_source, of_sources}
 use Rattle.cube_core.specs.Items.{FeedEnd, Good, WrongHeader, TooManyRecords, items_of}
 use Rattle.cube_core.specs.Layout.{Layout}
 use Rattle.cube_core.specs.Records.{records_of}
-use Rattle.cube_core.specs.Run.{Told, IsGood, AreItemsOf, AreGood, AreTaken}
+use Rattle.cube_core.specs.Run.{Told, IsGood, AreItemsOf, AreGood}
 use Rattle.cube_core.specs.declared.change.Item.{Item}
 use Rattle.cube_engine.specs.Build.{IsFaultOf, IsLowestFault}
 use Rattle.cube_engine.specs.declared.fault.RunFault.{RunFault}
@@ -17,17 +16,15 @@ use Rattle.cube_engine.specs.declared.fault.RunFault.TheVariants as run_fault
 use Rattle.cube_feed.specs.Feed.{ToCome, fault_of}
 use Rattle.cube_feed.specs.declared.fault.FeedFault.{FeedFault}
 use Rattle.cube_feed.specs.declared.fault.FeedFault.TheVariants.{Memory, Read, Header, TooMany}
-use Rattle.cube_link.specs.Link.{Sending, Receiving, Link}
+use Rattle.cube_link.specs.Link.{Sending, Receiving}
 use Rattle.cube_threads.specs.Building.{TakesAll, ExplainsRun, HasReceived}
 use Rattle.cube_threads.specs.Ends.{HasNoStop, IsFirstStop, IsSealed}
-use Rattle.cube_threads.specs.Feeding.{Stops, Feeds, IsReceiptOf}
+use Rattle.cube_threads.specs.Feeding.{Stops}
 use Rattle.cube_threads.specs.Gathering.{Gathers}
-use Rattle.cube_threads.specs.Parcels.{lines_of, parcels_of, sends}
-use Rattle.cube_threads.specs.Settling.{received_on, received_by, Kept, kept_of, receipt_of, Begins, FitLinks, AllFit, AllBegin, Settles, StopsRun}
-use Rattle.cube_threads.specs.Starting.{HasGathered}
-use Rattle.cube_threads.specs.Wiring.{coming_of, AreLinked}
+use Rattle.cube_threads.specs.Parcels.{parcels_of}
+use Rattle.cube_threads.specs.Settling.{received_on, received_by, Kept, kept_of, receipt_of, Begins, AllFit, AllBegin, StopsRun}
+use Rattle.cube_threads.specs.Wiring.{coming_of}
 use Rattle.cube_threads.specs.declared.parcel.Parcel.{Parcel}
-use Rattle.cube_threads.specs.declared.parcel.Parcel.TheVariants.{Line, End}
 use Rattle.cube_threads.specs.declared.parcel.FeederEnd.{FeederEnd}
 use Rattle.cube_threads.specs.declared.roster.Gatherer.{Gatherer}
 use Rattle.cube_threads.proofs.WireLaws.{some_of}

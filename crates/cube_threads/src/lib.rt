@@ -4,8 +4,11 @@
 #![tactic(auto)]
 
 mod builders;
+mod building;
 mod builds;
+mod built;
 mod copies;
+mod draft;
 mod ends;
 mod feeders;
 mod feeding;
@@ -21,7 +24,9 @@ mod together;
 mod wiring;
 mod words;
 
+pub use building::build;
 pub use builds::Builds;
+pub use built::Built;
 pub use ends::{first_stop, first_unsealed};
 pub use feeding::feed_out;
 pub use gate::{Gate, OpenGate};

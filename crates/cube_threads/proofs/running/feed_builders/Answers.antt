@@ -1,4 +1,4 @@
-use Rattle.std.proofs.Common.{rules, arith, ◌≡◌, ◌∙◌, [], sym, ap, length, get_or, map, vec_len}
+use Rattle.std.proofs.Common.{arith, ◌≡◌, ◌∙◌, [], sym, ap, length, get_or, map, vec_len}
 use Rattle.std.proofs.lemmas.List.{get_or-map, length-map}
 use Rattle.cube_core.proofs.ListLaws.{AllZip-length}
 use Rattle.cube_threads.specs.Starting.{HasGathered}

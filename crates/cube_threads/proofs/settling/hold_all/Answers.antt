@@ -1,4 +1,4 @@
-use Rattle.std.proofs.Common.{arith, ◌≡◌, ◌<◌, refl, sym, ap, subst, ◌∙◌, List, [], get_or, map, length}
+use Rattle.std.proofs.Common.{arith, ◌<◌, refl, sym, subst, List, map, length}
 use Rattle.std.proofs.lemmas.List.{length-map}
 use Rattle.cube_link.specs.Link.{Sending}
 use Rattle.cube_threads.specs.Settling.{received_by, FitLinks}
