@@ -9,16 +9,16 @@ use Rattle.cube_threads.specs.Wiring.{Grows, ConnectsFirst, Connects, AreLinked}
 use Rattle.cube_threads.specs.declared.parcel.Parcel.{Parcel}
 use Rattle.cube_threads.specs.declared.roster.Gatherer.{Gatherer}
 
-at_or_below : (i n : ℕ) → i < n + 1 → (i < n) ⊎ (i ≡ n)
+pub at_or_below : (i n : ℕ) → i < n + 1 → (i < n) ⊎ (i ≡ n)
 at_or_below i n below = grind arith
 
-at_end : {A : Type 0} (xs : List A) (x d : A) (i : ℕ) → i ≡ length xs → get_or (xs ++ x ∷ []) i d ≡ x
+pub at_end : {A : Type 0} (xs : List A) (x d : A) (i : ℕ) → i ≡ length xs → get_or (xs ++ x ∷ []) i d ≡ x
 at_end xs x d i e = rw e (get_or-append_seam xs x [] d)
 
-length-one_more : {A : Type 0} (xs : List A) (x : A) → length (xs ++ x ∷ []) ≡ length xs + 1
+pub length-one_more : {A : Type 0} (xs : List A) (x : A) → length (xs ++ x ∷ []) ≡ length xs + 1
 length-one_more xs x = grind (arith, common_steps)
 
-some_of : {A : Type 0} (xs : List A) (j : ℕ) → j < length xs → A
+pub some_of : {A : Type 0} (xs : List A) (j : ℕ) → j < length xs → A
 some_of [] j below = absurd (omega arith)
 some_of (x ∷ xs) j below = x
 

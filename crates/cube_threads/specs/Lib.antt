@@ -4,3 +4,6 @@ pub mod Ends
 pub mod Gathering
 pub mod Starting
 pub mod Wiring
+pub mod Settling
+pub mod Building
+pub mod Drafts

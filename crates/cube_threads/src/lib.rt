@@ -4,8 +4,11 @@
 #![tactic(auto)]
 
 mod builders;
+mod building;
 mod builds;
+mod built;
 mod copies;
+mod draft;
 mod ends;
 mod feeders;
 mod feeding;
@@ -14,11 +17,16 @@ mod gathering;
 mod offering;
 mod parcel;
 mod roster;
+mod running;
+mod settling;
+mod setup;
 mod together;
 mod wiring;
 mod words;
 
+pub use building::build;
 pub use builds::Builds;
+pub use built::Built;
 pub use ends::{first_stop, first_unsealed};
 pub use feeding::feed_out;
 pub use gate::{Gate, OpenGate};

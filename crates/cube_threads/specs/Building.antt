@@ -1,0 +1,39 @@
+-- What feeding all sources to several builders promises, and why it may fail (this project's choice).
+use Rattle.std.specs.Prelude.{◌≡◌, ◌≤◌, ⊤, ℕ, List, [], length, map}
+use Rattle.cube_core.specs.Arrival.{Arrivals, of_sources}
+use Rattle.cube_core.specs.Layout.{Layout}
+use Rattle.cube_core.specs.Run.{Told, AreGood, AreTaken}
+use Rattle.cube_engine.specs.Build.{IsLowestFault}
+use Rattle.cube_engine.specs.declared.fault.RunFault.{RunFault}
+use Rattle.cube_engine.specs.declared.fault.RunFault.TheVariants as run_fault
+use Rattle.cube_link.specs.Link.{Receiving}
+use Rattle.cube_threads.specs.Parcels.{parcels_of}
+use Rattle.cube_threads.specs.declared.parcel.Parcel.{Parcel}
+use Rattle.cube_threads.specs.declared.roster.Gatherer.{Gatherer}
+
+-- a builder of so many sources that has taken nothing
+pub record IsNew {B : Type 0} (all : B → ℕ) (stands : B → B → Arrivals → Type 0) (sources : ℕ) (builder : B) : Type 0 where
+  pub sources_are : all builder ≡ sources
+  pub stands_at : stands builder builder []
+
+-- from the link of each source were received a line for each of the source's arrivals, and then the end
+abbrev pub HasReceived : ℕ → Arrivals → List (Receiving Parcel) → Type 0
+HasReceived sources arrivals inlets = map (λ inlet. inlet.received) inlets ≡ map parcels_of (of_sources sources arrivals)
+
+-- a builder has taken the feeds of all sources: what an arrival list has of each source are the items of its feed, the builder stands at
+-- that list, and from each link were received a line for each of these items, and then the end
+pub record TakesAll {B : Type 0} (stands : B → Arrivals → Type 0) (s : Layout) (sources : Told) (gatherer : Gatherer B) : Type 0 where
+  pub arrivals : Arrivals
+  pub taken : AreTaken s sources arrivals
+  pub stands_at : stands gatherer.builder arrivals
+  pub received : HasReceived (length sources) arrivals gatherer.inlets.items
+
+-- why nothing was built: memory or no thread before a record was read, or the lowest source's own fault; want of memory or of a receipt
+-- only where all feeds are good
+abbrev pub ExplainsRun : Layout → Told → RunFault → Type 0
+ExplainsRun s sources run_fault.Memory = ⊤
+ExplainsRun s sources run_fault.NoThread = ⊤
+ExplainsRun s sources (run_fault.Feed source fault) = IsLowestFault s sources source fault
+ExplainsRun s sources run_fault.Full = AreGood s sources
+ExplainsRun s sources (run_fault.Unsealed source) = AreGood s sources × (1 ≤ source) × (source ≤ length sources)
+ExplainsRun s sources (run_fault.Write sent) = ⊥

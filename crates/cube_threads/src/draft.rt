@@ -1,0 +1,95 @@
+//! What all sources are fed to before a builder is made of it.
+ghost use Rattle.std.specs.Prelude.{◌≡◌, ◌≤◌, ◌<◌, vec_len, IfOk};
+ghost use Rattle.cube_threads.specs.Drafts.{IsNewDraft, AreNewDrafts, IsMadeOf};
+
+use crate::builds::Builds;
+use cube_cells::Cube;
+use cube_core::{Item, Schema};
+use cube_engine::{Builder, Ledger};
+use std::alloc::{AllocError, Global};
+use std::marker::Model;
+
+/// A ledger, and the cube that is filled with the facts of its books when all feeds have ended.
+#[derive(Drop)]
+pub(crate) struct Draft {
+    ledger: Ledger,
+    cube: Cube,
+}
+
+impl Model for Draft {
+    ghost use Rattle.cube_threads.specs.Drafts.{DraftView, IsDraft};
+
+    ghost Value = { DraftView };
+
+    ghost view = { λ d. record { ledger = d.ledger; cube = d.cube } };
+
+    ghost invariant = { λ d. IsDraft d.ledger d.cube };
+}
+
+impl Builds for Draft {
+    ghost use Rattle.std.specs.Prelude.{false, length};
+    ghost use Rattle.cube_threads.specs.Drafts.{StandsFrom};
+
+    ghost sources = { λ draft. length draft.ledger.accounts };
+
+    ghost stands = { λ first draft arrivals. StandsFrom first draft arrivals };
+
+    ghost full = { λ _. false };
+
+    fn sources(&self) -> u32 {
+        self.ledger.sources()
+    }
+
+    fn is_full(&self) -> bool {
+        false
+    }
+
+    fn apply(&mut self, source: u32, item: Item) -> Result<(), AllocError> {
+        self.ledger.apply(source, item)
+    }
+}
+
+impl Draft {
+    // The draft of a part of so many.
+    fn new_part(
+        alloc: Global,
+        schema: &Schema,
+        sources: u32,
+        part: u32,
+        parts: u32,
+    ) -> Result<Draft, AllocError>
+        requires sources { sources ≤ 64 }
+        requires parts { parts ≤ 8 }
+        requires part { part < parts }
+        ensures { IfOk result (IsNewDraft schema.now sources parts part) }
+    {
+        let ledger = Ledger::new(alloc, schema, sources)?;
+        let cube = Cube::new_part(alloc, schema, part, parts)?;
+        Ok(Draft { ledger, cube })
+    }
+
+    /// The builder of the ledger, with the cube filled. The only error is want of memory.
+    pub fn finish(self) -> Result<Builder, AllocError>
+        ensures { IfOk result (IsMadeOf self) }
+    {
+        Builder::of(self.ledger, self.cube)
+    }
+}
+
+/// The drafts of so many parts, in their order. The only error is want of memory.
+pub(crate) fn new_drafts(
+    alloc: Global,
+    schema: &Schema,
+    sources: u32,
+    parts: u32,
+) -> Result<Vec<Draft>, AllocError>
+    requires sources { sources ≤ 64 }
+    requires parts { parts ≤ 8 }
+    ensures { IfOk result (λ drafts. AreNewDrafts schema.now sources parts parts drafts.items) }
+{
+    let mut drafts = Vec::with_capacity(alloc, parts as usize)?;
+    for part in 0..parts {
+        drafts.push(Draft::new_part(alloc, schema, sources, part, parts)?)?;
+    }
+    Ok(drafts)
+}
