@@ -2,8 +2,10 @@
 use Rattle.std.proofs.Common.{◌≡◌, ℕ, suc, ◌<◌, ◌==◌, List, [], ◌∷◌, Bool, true, false, ◌&&◌, ◌||◌, refl, sym, ap, ◌∙◌, arith, inl, inr, length, Option, Some, None, if◌then◌else◌, nat_lt}
 use Rattle.std.specs.Prelude.{IfSome, is_some}
 use Rattle.std.specs.List.{list_any, list_all}
-use Rattle.std.proofs.lemmas.Bool.{cases_Bool, or_left, or_right, or_parts, and_parts, and_from, both_ways, lt-ltb, eqb-true}
-use Rattle.std.proofs.lemmas.List.{length-replicate, get_or-replicate}
+use Rattle.std.specs.List.Sorted.{IsPermutation}
+use Rattle.std.proofs.lemmas.Bool.{cases_Bool, cases_lt, or_left, or_right, or_parts, and_parts, and_from, both_ways, lt-ltb, eqb-true}
+use Rattle.std.proofs.lemmas.List.{length-replicate, get_or-replicate, get_or_past}
+use Rattle.std.proofs.lemmas.List.Sorted.{list_any-IsPermutation}
 use Rattle.cube_core.specs.Covers.{covers}
 use Rattle.cube_core.specs.Cube.{is_cell, is_total}
 use Rattle.cube_core.specs.Group.{group_of}
@@ -13,10 +15,10 @@ use Rattle.cube_core.specs.Layout.{Layout}
 use Rattle.cube_core.specs.declared.fact.Fact.{Fact}
 use Rattle.cube_core.specs.declared.key.Key.{Key}
 use Rattle.cube_core.proofs.ListLaws.{filter-passed, filter-failed}
-use Rattle.cube_cells.specs.Bag.{Bag}
-use Rattle.cube_cells.specs.Cube.{Lattice, IsCubeOf, HoldsFact, AddsFact, TakesFact, SameCell, SameCells, cell_at, cell_holds, is_kept_for, empty_tally, tally_or_empty}
-use Rattle.cube_cells.specs.Tally.{Tally, IsTallyOf, PlusFact}
-use Rattle.cube_cells.proofs.FactLaws.{tally_more, tally_less, tally_same, tally_holds}
+use Rattle.cube_cells.specs.Bag.{Bag, SameHeld}
+use Rattle.cube_cells.specs.Cube.{Lattice, IsCubeOf, HoldsFact, AddsFact, TakesFact, SameCell, SameCells, SameSets, cell_at, cell_holds, is_kept_for, empty_tally, tally_or_empty}
+use Rattle.cube_cells.specs.Tally.{Tally, IsTallyOf, PlusFact, bag_at}
+use Rattle.cube_cells.proofs.FactLaws.{tally_more, tally_less, tally_same, tally_holds, tally_moved-filter}
 
 -- ---- groups
 group_with : (key : Key) (fact : Fact) (facts : List Fact) → covers key fact ≡ true → group_of key (fact ∷ facts) ≡ fact ∷ group_of key facts
@@ -44,6 +46,22 @@ empty_is n = record {
   count = refl;
   bags = λ m inside. record { held = λ x. rw (get_or-replicate {A = Bag} n m [] [] (omega (arith, inside, length-replicate {A = Bag} n []))) refl };
 }
+
+-- ---- measures and bags
+-- the measures of a fact that fits are as many as the schema's
+pub fitting_measures : (s : Layout) (fact : Fact) → fits s fact ≡ true → length fact.measures ≡ length s.measures
+fitting_measures s fact fit =
+    let parts = and_parts ((length fact.dims == length s.dimensions) && (length fact.measures == length s.measures)) (list_all is_dimension_value fact.dims) fit in
+    eqb-true (length fact.measures) (length s.measures) (and_parts (length fact.dims == length s.dimensions) (length fact.measures == length s.measures) parts.0).1
+
+-- where there is a cell it has a bag for each measure
+abbrev pub HasWidth : Layout → Option Tally → Type 0
+HasWidth s cell = IfSome cell (λ t. length t.bags ≡ length s.measures)
+
+-- a tally with a bag for each measure, or of no fact
+width_or_empty : (s : Layout) (old : Option Tally) (measures : ℕ) → measures ≡ length s.measures → HasWidth s old → length (tally_or_empty measures old).bags ≡ length s.measures
+width_or_empty s None measures as_many width = length-replicate {A = Bag} measures [] ∙ as_many
+width_or_empty s (Some t) measures as_many width = width
 
 -- ---- cells of a list of facts with one more
 -- a kept key is a cell
@@ -79,8 +97,8 @@ kept_none sets n fact facts key kept none =
 
 -- ---- a fact more
 -- cells that are the cube of facts are that of one more
-pub cube_more : (fact : Fact) (old new : Lattice) (facts : List Fact) → AddsFact fact old new → IsCubeOf old facts → IsCubeOf new (fact ∷ facts)
-cube_more fact old new facts adds cube =
+pub cube_more : (fact : Fact) (old new : Lattice) (facts : List Fact) → fits old.schema fact ≡ true → AddsFact fact old new → IsCubeOf old facts → IsCubeOf new (fact ∷ facts)
+cube_more fact old new facts fit adds cube =
     let n = length old.schema.dimensions in
     let to_new : (key : Key) → is_cell new.sets (length new.schema.dimensions) (fact ∷ facts) key ≡ is_cell old.sets n (fact ∷ facts) key =
     λ key. ap (λ (sets : List ℕ). is_cell sets (length new.schema.dimensions) (fact ∷ facts) key) adds.same.sets ∙ ap (λ (s : Layout). is_cell old.sets (length s.dimensions) (fact ∷ facts) key) adds.same.schema in
@@ -97,6 +115,12 @@ cube_more fact old new facts adds cube =
             let stands = (and_parts (covers key fact) (is_among (mask_of key) old.sets) kept).0 in
             rw (at.is_cell, group_with key fact facts stands) (with_old key kept (cell_at old.cells key) refl at.tally at.plus)
         | inr unkept ↦ rw (adds.others key unkept) (as_before key unkept (cell_at old.cells key) refl)
+      ];
+      widths = λ key. elim (cases_Bool (is_kept_for old.sets fact key)) [
+        | inl kept ↦
+            let at = adds.covering key kept in
+            rw (at.is_cell, adds.same.schema) (at.plus.bags.same_length ∙ width_or_empty old.schema (cell_at old.cells key) (length fact.measures) (fitting_measures old.schema fact fit) (cube.widths key))
+        | inr unkept ↦ rw (adds.others key unkept, adds.same.schema) (cube.widths key)
       ];
     } where
       with_old : (key : Key) → is_kept_for old.sets fact key ≡ true → (o : Option Tally) → cell_at old.cells key ≡ o → (t : Tally) → PlusFact fact.measures (tally_or_empty (length fact.measures) (cell_at old.cells key)) t → IsTallyOf (fact ∷ group_of key facts) t
@@ -136,6 +160,13 @@ cube_less fact old new facts takes cube =
             rw at.is_left (if_left (is_total n key || nat_lt 0 at.left.facts) at.left (IsTallyOf (group_of key facts)) (without key kept))
         | inr unkept ↦ rw (takes.others key unkept) (as_before key unkept (cell_at old.cells key) refl)
       ];
+      widths = λ key. elim (cases_Bool (is_kept_for old.sets fact key)) [
+        | inl kept ↦
+            let at = takes.covering key kept in
+            let was : length at.tally.bags ≡ length old.schema.measures = rw at.was_cell at (cube.widths key) in
+            rw (at.is_left, takes.same.schema) (if_left (is_total n key || nat_lt 0 at.left.facts) at.left (λ t. length t.bags ≡ length old.schema.measures) (sym at.minus.bags.same_length ∙ was))
+        | inr unkept ↦ rw (takes.others key unkept, takes.same.schema) (cube.widths key)
+      ];
     } where
       some_left : (b : Bool) (t : Tally) → is_some (if b then Some t else None) ≡ b
       some_left true t = refl
@@ -163,7 +194,14 @@ pub cube_same : (old new : Lattice) (facts : List Fact) → SameCells old new �
 cube_same old new facts same cube = record {
   keys = λ key. some_same (cell_at old.cells key) (cell_at new.cells key) (same.cells key) ∙ cube.keys key ∙ sym (ap (λ (sets : List ℕ). is_cell sets (length new.schema.dimensions) facts key) same.same.sets ∙ ap (λ (s : Layout). is_cell old.sets (length s.dimensions) facts key) same.same.schema);
   tallies = λ key. tally_as (group_of key facts) (cell_at old.cells key) (cell_at new.cells key) (same.cells key) (cube.tallies key);
+  widths = λ key. rw same.same.schema (width_as (cell_at old.cells key) (cell_at new.cells key) (same.cells key) (cube.widths key));
 } where
+  width_as : (a b : Option Tally) → SameCell a b → HasWidth old.schema a → HasWidth old.schema b
+  width_as None None h is = tt
+  width_as None (Some b) h is = absurd h
+  width_as (Some a) None h is = absurd h
+  width_as (Some a) (Some b) h is = sym h.bags.same_length ∙ is
+
   some_same : (a b : Option Tally) → SameCell a b → is_some b ≡ is_some a
   some_same None None h = refl
   some_same None (Some b) h = absurd h
@@ -177,14 +215,8 @@ cube_same old new facts same cube = record {
   tally_as group (Some a) (Some b) h is = tally_same group a b is h
 
 -- ---- a fact of the cube is held
--- the measures of a fact that fits are as many as the schema's
-pub fitting_measures : (s : Layout) (fact : Fact) → fits s fact ≡ true → length fact.measures ≡ length s.measures
-fitting_measures s fact fit =
-    let parts = and_parts ((length fact.dims == length s.dimensions) && (length fact.measures == length s.measures)) (list_all is_dimension_value fact.dims) fit in
-    eqb-true (length fact.measures) (length s.measures) (and_parts (length fact.dims == length s.dimensions) (length fact.measures == length s.measures) parts.0).1
-
-pub cube_holds : (fact : Fact) (l : Lattice) (facts : List Fact) → fits l.schema fact ≡ true → 0 < l.facts → ((key : Key) → IfSome (cell_at l.cells key) (λ t. length t.bags ≡ length l.schema.measures)) → IsCubeOf l (fact ∷ facts) → HoldsFact l fact
-cube_holds fact l facts fit some widths cube = record {
+pub cube_holds : (fact : Fact) (l : Lattice) (facts : List Fact) → fits l.schema fact ≡ true → 0 < l.facts → IsCubeOf l (fact ∷ facts) → HoldsFact l fact
+cube_holds fact l facts fit some cube = record {
   fits = fit;
   some = some;
   held = λ key kept. at key kept (cell_at l.cells key) refl;
@@ -194,5 +226,46 @@ cube_holds fact l facts fit some widths cube = record {
   at key kept (Some t) is =
       let stands = (and_parts (covers key fact) (is_among (mask_of key) l.sets) kept).0 in
       let tally : IsTallyOf (fact ∷ group_of key facts) t = rw (is, group_with key fact facts stands) at (cube.tallies key) in
-      let width : length t.bags ≡ length l.schema.measures = rw is at (widths key) in
+      let width : length t.bags ≡ length l.schema.measures = rw is at (cube.widths key) in
       rw is (tally_holds (group_of key facts) fact t tally (fitting_measures l.schema fact fit ∙ sym width))
+
+-- ---- facts in another order
+-- cells that are the cube of facts are that of the same facts in another order
+pub IsCubeOf-permutation : (l : Lattice) (facts moved : List Fact) → IsPermutation facts moved → IsCubeOf l facts → IsCubeOf l moved
+IsCubeOf-permutation l facts moved change cube = record {
+  keys = λ key. cube.keys key ∙ ap (λ (b : Bool). is_among (mask_of key) l.sets && (is_total (length l.schema.dimensions) key || b)) (list_any-IsPermutation (covers key) facts moved change);
+  tallies = λ key. moved_tally key (cell_at l.cells key) (cube.tallies key);
+  widths = cube.widths;
+} where
+  moved_tally : (key : Key) (cell : Option Tally) → IfSome cell (IsTallyOf (group_of key facts)) → IfSome cell (IsTallyOf (group_of key moved))
+  moved_tally key None is = tt
+  moved_tally key (Some t) is = tally_moved-filter (covers key) facts moved t change is
+
+-- ---- two cubes of the same facts
+-- cubes of the same facts over the same sets count the same
+pub SameCells-IsCubeOf : (a b : Lattice) (facts : List Fact) → SameSets a b → b.facts ≡ a.facts → IsCubeOf a facts → IsCubeOf b facts → SameCells a b
+SameCells-IsCubeOf a b facts same number of_a of_b = record {
+  same = same;
+  facts = number;
+  cells = λ key.
+      alike key (cell_at a.cells key) (cell_at b.cells key)
+      (of_a.keys key ∙ sym (of_b.keys key ∙ ap (λ (sets : List ℕ). is_cell sets (length b.schema.dimensions) facts key) same.sets ∙ ap (λ (s : Layout). is_cell a.sets (length s.dimensions) facts key) same.schema))
+      (of_a.tallies key) (of_b.tallies key) (of_a.widths key) (rw same.schema at (of_b.widths key));
+} where
+  bags_alike : (key : Key) (t u : Tally) → IsTallyOf (group_of key facts) t → IsTallyOf (group_of key facts) u → length t.bags ≡ length u.bags → (m : ℕ) → SameHeld (bag_at t.bags m) (bag_at u.bags m)
+  bags_alike key t u is_t is_u widths m = elim (cases_lt m (length t.bags)) [
+    | inl inside ↦ record { held = λ x. (is_t.bags m inside).held x ∙ sym ((is_u.bags m (omega (arith, inside, widths))).held x) }
+    | inr past ↦
+        let none_t : bag_at t.bags m ≡ [] = get_or_past t.bags m [] (omega (arith, past)) in
+        let none_u : bag_at u.bags m ≡ [] = get_or_past u.bags m [] (omega (arith, past, widths)) in
+        rw (none_t, none_u) (record { held = λ x. refl })
+  ]
+
+  alike : (key : Key) (c d : Option Tally) → is_some c ≡ is_some d → IfSome c (IsTallyOf (group_of key facts)) → IfSome d (IsTallyOf (group_of key facts)) → HasWidth a.schema c → HasWidth a.schema d → SameCell c d
+  alike key None None some is_c is_d width_c width_d = tt
+  alike key None (Some u) some is_c is_d width_c width_d = cc some
+  alike key (Some t) None some is_c is_d width_c width_d = cc some
+  alike key (Some t) (Some u) some is_c is_d width_c width_d = record {
+    facts = is_c.count ∙ sym is_d.count;
+    bags = record { same_length = width_c ∙ sym width_d; bags = bags_alike key t u is_c is_d (width_c ∙ sym width_d) };
+  }

@@ -1,10 +1,10 @@
 -- Laws of drill-down: the codes that are wanted below a key are those of the keys that drill down from it.
-use Rattle.std.proofs.Common.{◌≡◌, ℕ, zero, suc, ◌+◌, ◌<◌, ◌≤◌, ◌==◌, List, [], ◌∷◌, ◌++◌, Bool, true, false, not, ◌&&◌, Decides, refl, sym, ap, ◌∙◌, subst, arith, inl, inr, ◌⊎◌, length, get_or, Option, Some, None}
+use Rattle.std.proofs.Common.{◌≡◌, ℕ, zero, suc, ◌<◌, ◌==◌, List, [], ◌∷◌, Bool, true, false, not, ◌&&◌, Decides, refl, sym, ap, ◌∙◌, arith, inl, inr, length, get_or}
 use Rattle.std.specs.Prelude.{All, slice_get, slice_set}
 use Rattle.std.specs.Cmp.{tied_then}
 use Rattle.std.specs.Cmp.Lexicographic.{slice_cmp}
 use Rattle.std.specs.Option.{option_map_or}
-use Rattle.std.specs.Ordering.{nat_cmp, is_eq, ordering_then}
+use Rattle.std.specs.Ordering.{is_eq, ordering_then}
 use Rattle.std.specs.declared.cmp.Ordering.TheVariants.{Less, Equal, Greater}
 use Rattle.std.proofs.lemmas.Bool.{and_parts, cases_eq, eqb-true, eq-eqb, ne_eqb}
 use Rattle.std.proofs.lemmas.Bool.Decides.{same_from_decides}
@@ -17,7 +17,7 @@ use Rattle.cube_core.specs.Query.{drills_down}
 use Rattle.cube_core.specs.declared.key.Coord.{Coord}
 use Rattle.cube_core.specs.declared.key.Coord.TheVariants as coord
 use Rattle.cube_core.specs.declared.key.Key.{Key}
-use Rattle.cube_cells.specs.Codes.{Dictionaries, IsDictionary, IsCodeOf, is_code, are_codes, coord_at, coords_at, key_at, all_code, null_code}
+use Rattle.cube_cells.specs.Codes.{Dictionaries, IsDictionary, is_code, are_codes, coord_at, coords_at, all_code}
 use Rattle.cube_cells.specs.Rows.{AreWantsOf, AreWantsBelow, IsWantBelow, is_wanted_code, are_wanted_codes}
 use Rattle.cube_cells.specs.declared.cube.rows.Want.{Want}
 use Rattle.cube_cells.specs.declared.cube.rows.Want.TheVariants as want

@@ -1,5 +1,5 @@
 -- Laws of the tally of facts, for what keeps cells of facts: a fact more, a fact less, facts in another order.
-use Rattle.std.proofs.Common.{◌≡◌, ℕ, suc, ◌+◌, ◌<◌, ◌≤◌, List, [], ◌∷◌, true, refl, arith, ap, length}
+use Rattle.std.proofs.Common.{◌≡◌, ℕ, suc, ◌+◌, ◌<◌, ◌≤◌, Bool, List, [], ◌∷◌, true, false, refl, sym, ◌∙◌, arith, ap, length, filter, if◌then◌else◌}
 use Rattle.std.specs.Prelude.{ℤ, sum_by, count_by, Option, Some, None}
 use Rattle.std.specs.Cmp.Derive.{both_true}
 use Rattle.std.specs.List.Sorted.{IsPermutation}
@@ -9,6 +9,7 @@ use Rattle.std.proofs.lemmas.List.Sorted.{sum_by-IsPermutation}
 use Rattle.std.proofs.lemmas.List.Sums.{sum_by-cons}
 use Rattle.cube_core.specs.Group.{value_of, values_of}
 use Rattle.cube_core.specs.declared.fact.Fact.{Fact}
+use Rattle.cube_core.proofs.ListLaws.{filter-passed, filter-failed}
 use Rattle.cube_cells.specs.Bag.{Bag, held_of, size_of, one_at}
 use Rattle.cube_cells.specs.Tally.{Tally, bag_at, value_at, one_of, IsTallyOf, AddsValues, PlusFact, SameTally, holds_value, hold_values, holds_fact}
 use Rattle.cube_cells.proofs.BagLaws.{one_at_itself, size_of_same}
@@ -48,15 +49,36 @@ tally_same facts a b is same = record {
   bags = λ m inside. record { held = λ x. omega (arith, (is.bags m (omega (arith, same.bags.same_length))).held x, (same.bags.bags m).held x) };
 }
 
+-- facts, each counted as one
+ones : (facts : List Fact) → sum_by (λ (_ : Fact). 1) facts ≡ length facts
+ones [] = refl
+ones (fact ∷ facts) = omega (arith, sum_by-cons (λ (_ : Fact). 1) fact facts, ones facts)
+
 -- the facts in another order
 pub tally_moved : (facts moved : List Fact) (t : Tally) → IsPermutation facts moved → IsTallyOf facts t → IsTallyOf moved t
 tally_moved facts moved t change is = record {
   count = omega (arith, is.count, ones facts, ones moved, sum_by-IsPermutation (λ (_ : Fact). 1) facts moved change);
   bags = λ m inside. record { held = λ x. omega (arith, (is.bags m inside).held x, values_counted x m facts, values_counted x m moved, sum_by-IsPermutation (λ (f : Fact). one_of x (value_of m f)) facts moved change) };
-} where
-  ones : (fs : List Fact) → sum_by (λ (_ : Fact). 1) fs ≡ length fs
-  ones [] = refl
-  ones (f ∷ fs) = omega (arith, sum_by-cons (λ (_ : Fact). 1) f fs, ones fs)
+}
+
+-- a sum over the facts that pass a test
+sum_by-filter : (test : Fact → Bool) (f : Fact → ℕ) (facts : List Fact) → sum_by f (filter test facts) ≡ sum_by (λ fact. if test fact then f fact else 0) facts
+sum_by-filter test f [] = refl
+sum_by-filter test f (fact ∷ facts) = by_test (test fact) refl (omega (arith, sum_by-cons (λ (x : Fact). if test x then f x else 0) fact facts, sum_by-filter test f facts)) where
+  by_test : (b : Bool) → test fact ≡ b → sum_by (λ x. if test x then f x else 0) (fact ∷ facts) ≡ (if test fact then f fact else 0) + sum_by f (filter test facts)
+      → sum_by f (filter test (fact ∷ facts)) ≡ sum_by (λ x. if test x then f x else 0) (fact ∷ facts)
+  by_test true passes rest = omega (arith, ap (sum_by f) (filter-passed test fact facts passes), sum_by-cons f fact (filter test facts), rest, ap (λ (b : Bool). if b then f fact else 0) passes)
+  by_test false fails rest = omega (arith, ap (sum_by f) (filter-failed test fact facts fails), rest, ap (λ (b : Bool). if b then f fact else 0) fails)
+
+sum_by-filter_moved : (test : Fact → Bool) (f : Fact → ℕ) (facts moved : List Fact) → IsPermutation facts moved → sum_by f (filter test moved) ≡ sum_by f (filter test facts)
+sum_by-filter_moved test f facts moved change = sum_by-filter test f moved ∙ sum_by-IsPermutation (λ (fact : Fact). if test fact then f fact else 0) facts moved change ∙ sym (sum_by-filter test f facts)
+
+-- those of the facts that pass a test, in another order
+pub tally_moved-filter : (test : Fact → Bool) (facts moved : List Fact) (t : Tally) → IsPermutation facts moved → IsTallyOf (filter test facts) t → IsTallyOf (filter test moved) t
+tally_moved-filter test facts moved t change is = record {
+  count = omega (arith, is.count, ones (filter test facts), ones (filter test moved), sum_by-filter_moved test (λ (_ : Fact). 1) facts moved change);
+  bags = λ m inside. record { held = λ x. omega (arith, (is.bags m inside).held x, values_counted x m (filter test facts), values_counted x m (filter test moved), sum_by-filter_moved test (λ (f : Fact). one_of x (value_of m f)) facts moved change) };
+}
 
 -- no more values than facts
 values_few : (m : ℕ) (facts : List Fact) → length (values_of m facts) ≤ length facts

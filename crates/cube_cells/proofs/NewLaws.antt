@@ -86,12 +86,14 @@ new_cube schema sets cells room new = elim (cases_Bool (is_among 0 sets)) [
       record {
         keys = λ key. ap is_some (at key) ∙ keys_total sets n key one.0 kept;
         tallies = λ key. rw (at key) (if_total (is_total n key) one.0 one.2);
+        widths = λ key. rw (at key) (if_width (is_total n key) one.0 one.3);
       }
   | inr none ↦
       let at : (key : Key) → cell_at (decoded (replicate n []) cells) key ≡ None = λ key. ap (λ (cs : CodedCells). cell_at (decoded (replicate n []) cs) key) (new.none none) in
       record {
         keys = λ key. ap is_some (at key) ∙ keys_none sets n key none;
         tallies = λ key. rw (at key) tt;
+        widths = λ key. rw (at key) tt;
       }
 ] where
   n : ℕ
@@ -100,6 +102,10 @@ new_cube schema sets cells room new = elim (cases_Bool (is_among 0 sets)) [
   if_total : (b : Bool) (t : Tally) → IsTallyOf [] t → IfSome (cond b (Some t) None) (IsTallyOf [])
   if_total true t is = is
   if_total false t is = tt
+
+  if_width : (b : Bool) (t : Tally) → length t.bags ≡ length schema.measures → IfSome (cond b (Some t) None) (λ s. length s.bags ≡ length schema.measures)
+  if_width true t is = is
+  if_width false t is = tt
 
 -- one cell is apart from the others, and so is none
 one_apart : (t : Tally) → IsDistinct same_codes (keys_of ((total_codes, t) ∷ []))

@@ -46,10 +46,11 @@ pub record IsLattice (l : Lattice) : Type 0 where
   pub ascending : IsStrictlySortedBy nat_cmp l.sets
   pub dictionaries : length l.dictionaries ≡ length l.schema.dimensions
 
--- the cells are the cube of these facts over the kept sets: a cell at each of its keys and at no other, with the tally of the key's group
+-- the cells are the cube of these facts over the kept sets: a cell at each of its keys and at no other, with the tally of the key's group, of each measure
 pub record IsCubeOf (l : Lattice) (facts : List Fact) : Type 0 where
   pub keys : (key : Key) → is_some (cell_at l.cells key) ≡ is_cell l.sets (length l.schema.dimensions) facts key
   pub tallies : (key : Key) → IfSome (cell_at l.cells key) (IsTallyOf (group_of key facts))
+  pub widths : (key : Key) → IfSome (cell_at l.cells key) (λ t. length t.bags ≡ length l.schema.measures)
 
 -- a cube of this schema over these sets, to which no fact was added
 pub record IsNewLattice (schema : Layout) (sets : List ℕ) (l : Lattice) : Type 0 where

@@ -1,12 +1,13 @@
--- The text of rows: a header line, then a line for each row, as CSV (RFC 4180 with line ends of one LF; GROUPING columns as in SQL:1999).
-use Rattle.std.specs.Prelude.{ℕ, List, ◌++◌, map, codes, decimal}
+-- The text of rows and of refusals: a header line, then a line for each, as CSV (RFC 4180 with line ends of one LF; GROUPING columns as in SQL:1999).
+use Rattle.std.specs.Prelude.{ℕ, ◌-◌, List, [], ◌∷◌, ◌++◌, length, get_or, map, codes, decimal}
 use Rattle.std.specs.Fmt.{signed_decimal}
-use Rattle.std.specs.List.{flat_map}
+use Rattle.std.specs.List.{flat_map, range_with_len}
 use Rattle.csv.specs.Writing.{row_text, default_writer}
 use Rattle.cube_core.specs.Layout.{Layout}
 use Rattle.cube_core.specs.Takes.{null_text}
 use Rattle.cube_core.specs.declared.aggregate.Answer.{Answer}
 use Rattle.cube_core.specs.declared.aggregate.Answer.TheVariants as answer
+use Rattle.cube_core.specs.declared.change.Refusal.{Refusal}
 use Rattle.cube_core.specs.declared.key.Coord.{Coord}
 use Rattle.cube_core.specs.declared.key.Coord.TheVariants as coord
 use Rattle.cube_core.specs.declared.key.Row.{Row}
@@ -53,3 +54,23 @@ row_line row = line (row_fields row)
 -- the text of rows under a schema: the header line, and the line of each row
 abbrev pub text_of_rows : Layout → List Row → List ℕ
 text_of_rows s rows = line (header_fields s) ++ flat_map row_line rows
+
+-- the line of a refusal of a source: the numbers of the source and of the record, and the code
+abbrev pub refusal_line : ℕ → Refusal → List ℕ
+refusal_line source refusal = line (decimal source ∷ decimal refusal.number ∷ decimal refusal.code ∷ [])
+
+-- the lines of the refusals of a source, of the refusals of each source from the first
+abbrev pub lines_of_source : List (List Refusal) → ℕ → List ℕ
+lines_of_source refusals source = flat_map (refusal_line source) (get_or refusals (source - 1) [])
+
+-- the lines of the refusals of all sources, source after source
+abbrev pub lines_of_sources : List (List Refusal) → List ℕ
+lines_of_sources refusals = flat_map (lines_of_source refusals) (range_with_len 1 (length refusals))
+
+-- the header line of refusals
+abbrev pub refusal_header : List ℕ
+refusal_header = line (codes "source" ∷ codes "record" ∷ codes "code" ∷ [])
+
+-- the text of the refusals of each source, from the first: the header line, and the lines
+abbrev pub text_of_refusals : List (List Refusal) → List ℕ
+text_of_refusals refusals = refusal_header ++ lines_of_sources refusals

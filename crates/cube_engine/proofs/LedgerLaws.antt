@@ -15,15 +15,15 @@ use Rattle.cube_engine.specs.Book.{facts_of}
 use Rattle.cube_engine.specs.Ledger.{AccountView, Exchanges, AllFit, IsLedger, all_facts, new_account}
 
 -- what holds of all elements of joined lists holds of those of the first and of the second
-All-append_right : {X : Type 0} (P : X → Type 0) (xs ys : List X) → All P (xs ++ ys) → All P ys
+pub All-append_right : {X : Type 0} (P : X → Type 0) (xs ys : List X) → All P (xs ++ ys) → All P ys
 All-append_right P [] ys all = all
 All-append_right P (x ∷ xs) ys all = All-append_right P xs ys (All-tail P x (xs ++ ys) all)
 
-All-append_left : {X : Type 0} (P : X → Type 0) (xs ys : List X) → All P (xs ++ ys) → All P xs
+pub All-append_left : {X : Type 0} (P : X → Type 0) (xs ys : List X) → All P (xs ++ ys) → All P xs
 All-append_left P xs ys all = subst (All P) (take-append_seam xs ys) (All-take P (length xs) (xs ++ ys) all)
 
 -- the first two of three joined lists change places
-swap-front : {X : Type 0} (xs ys zs : List X) → IsPermutation (xs ++ (ys ++ zs)) (ys ++ (xs ++ zs))
+pub swap-front : {X : Type 0} (xs ys zs : List X) → IsPermutation (xs ++ (ys ++ zs)) (ys ++ (xs ++ zs))
 swap-front xs ys zs =
     subst (λ l. IsPermutation l (ys ++ (xs ++ zs))) (append_assoc xs ys zs)
     (subst (IsPermutation ((xs ++ ys) ++ zs)) (append_assoc ys xs zs)
@@ -61,7 +61,7 @@ AllFit-account s (a ∷ accounts) (suc place) all below =
     AllFit-account s accounts place (All-append_right (λ fact. fits s fact ≡ true) (facts_of a.book) (all_facts accounts) all) (omega arith)
 
 -- a fact that fits, or none, in front of facts that fit
-AllFit-come : (s : Layout) (come : Option Fact) (facts : List Fact) → IfSome come (λ fact. fits s fact ≡ true) → AllFit s facts
+pub AllFit-come : (s : Layout) (come : Option Fact) (facts : List Fact) → IfSome come (λ fact. fits s fact ≡ true) → AllFit s facts
     → AllFit s (option_to_list come ++ facts)
 AllFit-come s None facts fit all = all
 AllFit-come s (Some fact) facts fit all = All-cons (λ f. fits s f ≡ true) fact facts fit all

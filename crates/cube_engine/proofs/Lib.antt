@@ -5,3 +5,6 @@ pub mod StandLaws
 pub mod SurvivorLaws
 pub mod FeedLaws
 pub mod BuildLaws
+pub mod RulingLaws
+pub mod BuilderLaws
+pub mod FillLaws

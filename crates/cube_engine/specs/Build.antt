@@ -8,7 +8,8 @@ use Rattle.cube_core.specs.Run.{Told, IsGood, AreItemsOf, AreGood, AreTaken}
 use Rattle.cube_core.specs.declared.change.Item.{Item}
 use Rattle.cube_feed.specs.declared.fault.FeedFault.{FeedFault}
 use Rattle.cube_feed.specs.declared.fault.FeedFault.TheVariants as feed_fault
-use Rattle.cube_engine.specs.Ledger.{LedgerView, LedgerStandsAt}
+use Rattle.cube_engine.specs.Builder.{BuilderView, HasFacts}
+use Rattle.cube_engine.specs.Ledger.{LedgerView, LedgerStandsAt, all_facts}
 use Rattle.cube_engine.specs.declared.fault.RunFault.{RunFault}
 use Rattle.cube_engine.specs.declared.fault.RunFault.TheVariants as run_fault
 
@@ -20,6 +21,12 @@ pub record Builds (s : Layout) (sources : Told) (ledger : LedgerView) : Type 0 w
   pub schema : ledger.schema ≡ s
   pub all : length ledger.accounts ≡ length sources
   pub stands : LedgerStandsAt ledger arrivals
+
+-- a builder has taken the feeds of these sources: its ledger has, and its cube has the facts of the books, over the schema's grouping sets
+pub record BuildsWhole (s : Layout) (sources : Told) (builder : BuilderView) : Type 0 where
+  pub ledger : Builds s sources builder.ledger
+  pub sets : builder.cube.sets ≡ s.grouping_sets
+  pub cube : HasFacts (all_facts builder.ledger.accounts) builder.cube
 
 -- how the feed of a fault ends; want of memory and the reader's own fault may come at any time
 abbrev pub IsEndOf : FeedEnd → FeedFault → Type 0

@@ -97,6 +97,12 @@ pub record Exchanges (id : List ℕ) (gone come : Option Fact) (old new : Accoun
   pub book : Replaces old.book id gone come new.book
   pub refusals : new.refusals ≡ old.refusals
 
+-- what an item of a number came to was done to an account: it was noted as refused, a fact was put under an id, or the fact there was taken out
+abbrev pub Obeys : ℕ → Ruling → AccountView → AccountView → Type 0
+Obeys number (Refuse code) old new = new ≡ with_refusal old number code
+Obeys number (Put id fact) old new = Exchanges id (fact_at old.book id) (Some fact) old new
+Obeys number (Take id) old new = Exchanges id (fact_at old.book id) None old new
+
 -- an account took an item: one that is refused is noted with its code and changes no fact, and the change of any other is made
 pub record Enters (s : Layout) (item : Item) (old new : AccountView) : Type 0 where
   pub refused : (code : ℕ) → code_in s old.book item.what ≡ Some code → new ≡ with_refusal old item.number code

@@ -1,3 +1,4 @@
 pub mod Book
 pub mod Ledger
+pub mod Builder
 pub mod Build

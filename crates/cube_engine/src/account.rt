@@ -117,6 +117,13 @@ impl Account {
         self.book.get(id)
     }
 
+    /// The facts of the source, each under its id.
+    pub fn book(&self) -> &Book
+        ensures { result.now ≡ self.now.book }
+    {
+        &self.book
+    }
+
     /// The refusals, in the order of the items.
     pub fn refusals(&self) -> &[Refusal]
         ensures { result.now ≡ self.now.refusals }

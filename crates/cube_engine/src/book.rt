@@ -1,11 +1,12 @@
 //! The facts of one source.
 ghost use Rattle.std.specs.Prelude.{◌≡◌, [], Some, None, length, IfOk, IfErr, OnErr, IfNone, is_some};
 ghost use Rattle.std.specs.Option.{option_map};
-ghost use Rattle.cube_engine.specs.Book.{AmendsAlike, IsBook, Replaces, Takes, Explains, fact_at};
+ghost use Rattle.cube_engine.specs.Book.{AmendsAlike, IsBook, Replaces, Takes, Explains, fact_at, facts_of};
 
 use cube_core::{Change, Fact, Partial, Text};
 use std::alloc::Global;
 use std::collections::HashMap;
+use std::collections::hash_map::Values;
 use std::marker::Model;
 use thiserror::Error;
 
@@ -71,6 +72,13 @@ impl Book {
         ensures each_once { IsBook self.now }
     {
         self.facts.len()
+    }
+
+    /// The facts, in no order that is told.
+    pub(crate) fn facts(&self) -> Values<'_, Text, Fact>
+        ensures { result ≡ facts_of self.now }
+    {
+        self.facts.values()
     }
 
     /// Puts a fact under an id; the fact that was there comes out. Where memory is wanting, the book is as it was,

@@ -1,9 +1,11 @@
-//! The ledger of whole feeds, one source after another.
+//! The ledger and the builder of whole feeds, one source after another.
 ghost use Rattle.std.specs.Prelude.{◌≡◌, ◌≤◌, length, map, vec_len, IfOk, IfErr, OnOk};
-ghost use Rattle.cube_engine.specs.Build.{Builds, ExplainsBuild, StopsFeed, TakesFeed};
+ghost use Rattle.cube_engine.specs.Build.{Builds, BuildsWhole, ExplainsBuild, StopsFeed, TakesFeed};
 
+use crate::builder::Builder;
 use crate::fault::RunFault;
 use crate::ledger::Ledger;
+use cube_cells::Cube;
 use cube_core::Schema;
 use cube_feed::Feed;
 use std::alloc::Global;
@@ -32,6 +34,30 @@ pub fn build_ledger<R: Read + Drop>(
         take_feed(alloc, schema, &mut ledger, source, reader)?;
     }
     Ok(ledger)
+}
+
+/// The builder of the feeds of at most 64 sources, taken one after another, over all grouping sets of the schema.
+///
+/// Its ledger and its cube are made before a record is read, and the cube is filled when the feeds have ended. The
+/// first fault ends it: `Memory` where one of them wasn't made, `Full` where a growth was refused later, or the fault
+/// of a source's feed, where the feeds of all lower sources are good.
+pub fn build_plain<R: Read + Drop>(
+    alloc: Global,
+    schema: &Schema,
+    readers: Vec<R>,
+) -> Result<Builder, RunFault>
+    requires { vec_len readers ≤ 64 }
+    ensures ok { IfOk result (BuildsWhole schema.now (map R.Read.remaining readers.items)) }
+    ensures err { IfErr result (ExplainsBuild schema.now (map R.Read.remaining readers.items)) }
+{
+    let Ok(cube) = Cube::new(alloc, schema) else {
+        return Err(RunFault::Memory);
+    };
+    let ledger = build_ledger(alloc, schema, readers)?;
+    match Builder::of(ledger, cube) {
+        Ok(builder) => Ok(builder),
+        Err(_) => Err(RunFault::Full),
+    }
 }
 
 // Takes all items of the feed of a source.

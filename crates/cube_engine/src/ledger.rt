@@ -3,7 +3,7 @@ ghost use Rattle.std.specs.Prelude.{◌≡◌, ◌≤◌, ◌++◌, ◌∷◌, [
 ghost use Rattle.std.specs.Option.{option_map};
 ghost use Rattle.cube_core.specs.Arrival.{Arrivals};
 ghost use Rattle.cube_core.specs.Takes.{fits};
-ghost use Rattle.cube_engine.specs.Ledger.{AtSource, Enters, Exchanges, IsRuling, LedgerStandsAt, RulingFits, account_of, new_account, says_taken, with_refusal};
+ghost use Rattle.cube_engine.specs.Ledger.{AllFit, AtSource, Enters, Exchanges, IsRuling, LedgerStandsAt, Obeys, RulingFits, account_of, all_facts, new_account, says_taken, with_refusal};
 
 use crate::account::Account;
 use crate::code::{says_taken, shape_code};
@@ -61,14 +61,29 @@ impl Ledger {
         self.accounts[source as usize - 1].refusals()
     }
 
-    /// What an item of a source comes to whose change, where it says one, the schema takes: its refusal, a fact that
-    /// is put under an id, or an id whose fact is taken out. The only error is want of memory, and only an amendment
-    /// takes some.
+    /// What an item of a source comes to: its refusal, a fact that is put under an id, or an id whose fact is taken
+    /// out. The only error is want of memory, and only an amendment takes some.
     pub(crate) fn rule(
         &self,
         source: u32,
         what: Result<Change, LineFault>,
     ) -> Result<Ruling, AllocError>
+        requires first { 1 ≤ source }
+        requires last { source ≤ length self.now.accounts }
+        ensures ruling { IfOk result
+            (IsRuling self.now.schema (account_of self.now source).book what) }
+        ensures fits { IfOk result (RulingFits self.now.schema) }
+    {
+        if !says_taken(&self.schema, &what) {
+            return Ok(Ruling::Refuse {
+                code: shape_code(&self.schema),
+            });
+        }
+        self.rule_taken(source, what)
+    }
+
+    /// The same of an item whose change, where it says one, the schema takes, as a feed's items are.
+    fn rule_taken(&self, source: u32, what: Result<Change, LineFault>) -> Result<Ruling, AllocError>
         requires first { 1 ≤ source }
         requires last { source ≤ length self.now.accounts }
         requires taken { says_taken self.now.schema what ≡ true }
@@ -153,11 +168,9 @@ impl Ledger {
             (AtSource (Enters self.old.schema item) source self.old self.new) }
         ensures err { OnErr result (self.new ≡ self.old) }
     {
-        if !says_taken(&self.schema, &item.what) {
-            let code = shape_code(&self.schema);
-            return self.refuse(source, item.number, code);
-        }
-        self.enter_taken(source, item)
+        let Item { number, what } = item;
+        let ruling = self.rule(source, what)?;
+        self.obey(source, number, ruling)
     }
 
     fn enter_taken(&mut self, source: u32, item: Item) -> Result<(), AllocError>
@@ -169,7 +182,19 @@ impl Ledger {
         ensures err { OnErr result (self.new ≡ self.old) }
     {
         let Item { number, what } = item;
-        match self.rule(source, what)? {
+        let ruling = self.rule_taken(source, what)?;
+        self.obey(source, number, ruling)
+    }
+
+    // Does what an item of a number came to.
+    fn obey(&mut self, source: u32, number: u32, ruling: Ruling) -> Result<(), AllocError>
+        requires first { 1 ≤ source }
+        requires last { source ≤ length self.old.accounts }
+        requires fits { RulingFits self.old.schema ruling }
+        ensures obeys { OnOk result (AtSource (Obeys number ruling) source self.old self.new) }
+        ensures err { OnErr result (self.new ≡ self.old) }
+    {
+        match ruling {
             Ruling::Refuse { code } => self.refuse(source, number, code),
             Ruling::Put { id, fact } => match self.put(source, id, fact) {
                 Ok(_) => Ok(()),
@@ -180,6 +205,14 @@ impl Ledger {
                 Ok(())
             }
         }
+    }
+
+    /// The accounts of the sources, from the first.
+    pub(crate) fn accounts(&self) -> &[Account]
+        ensures accounts { result.now ≡ self.now.accounts }
+        ensures fit { AllFit self.now.schema (all_facts self.now.accounts) }
+    {
+        self.accounts.as_slice()
     }
 }
 

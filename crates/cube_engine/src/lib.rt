@@ -1,18 +1,23 @@
-//! Books and ledgers: from the items of many sources to the facts that are present, and the refusals.
+//! Books, ledgers and builders: from the items of many sources to the facts that are present, their cube, and the
+//! refusals.
 //!
-//! A [`Book`] keeps the facts of one source, a [`Ledger`] the books and the refusals of all.
+//! A [`Book`] keeps the facts of one source, a [`Ledger`] the books and the refusals of all, a [`Builder`] a ledger
+//! and the cube of its facts.
 #![tactic(auto)]
 
 mod account;
 mod book;
 mod build;
+mod builder;
 mod code;
 mod fault;
+mod fill;
 pub mod laws;
 mod ledger;
 mod ruling;
 
 pub use book::{Book, BookFault, Delta};
-pub use build::build_ledger;
+pub use build::{build_ledger, build_plain};
+pub use builder::Builder;
 pub use fault::RunFault;
 pub use ledger::Ledger;

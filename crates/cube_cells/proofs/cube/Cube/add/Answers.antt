@@ -175,4 +175,4 @@ returns-clause-added c =
     rw (← c.self.view_is, back) added.1
 
 pub returns-clause-cube : goal.returns-clause-cube
-returns-clause-cube c = λ facts cube. cube_more c.args.fact.now c.args.self.now _ facts (returns-clause-added c) cube
+returns-clause-cube c = λ facts cube. cube_more c.args.fact.now c.args.self.now _ facts c.requires.fits (returns-clause-added c) cube

@@ -2,7 +2,7 @@ use Rattle.std.proofs.Common.{arith, refl, sym, ◌≡◌, true}
 use Rattle.cube_core.specs.Takes.{fits}
 use Rattle.cube_cells.proofs.CubeLaws.{cube_holds}
 use Rattle.cube_cells.proofs.KeyLaws.{HasFactCodes}
-use Rattle.cube_cells.proofs.CodedLaws.{coded_fact, holds_is, key_widths}
+use Rattle.cube_cells.proofs.CodedLaws.{coded_fact, holds_is}
 use Rattle.cube_cells.proofs.cube.Cube.holds.Goals as goal
 
 pub returns-clause-held : goal.returns-clause-held
@@ -21,4 +21,4 @@ returns-clause-held c =
     rw (← c.self.view_is, result) is
 
 pub returns-clause-cube : goal.returns-clause-cube
-returns-clause-cube c = λ facts fit cube some. (returns-clause-held c).1 (cube_holds c.args.fact.now c.args.self.now facts fit some (rw (← c.self.view_is) (key_widths c.self.inside.schema c.self.inside.sets.items c.self.inside.facts c.self.inside.dictionaries.items c.self.inside.cells.entries c.self.invariant)) cube)
+returns-clause-cube c = λ facts fit cube some. (returns-clause-held c).1 (cube_holds c.args.fact.now c.args.self.now facts fit some cube)

@@ -1,4 +1,4 @@
-use Rattle.std.proofs.Common.{◌≡◌, ◌≤◌, length, arith, rules, sym, ap, ◌∙◌, true, List, ℕ}
+use Rattle.std.proofs.Common.{◌≡◌, ◌≤◌, length, arith, ap, true, List, ℕ}
 use Rattle.std.specs.Prelude.{All}
 use Rattle.std.specs.List.{list_all}
 use Rattle.std.proofs.lemmas.Result.{IfOk-weaker}

@@ -1,4 +1,4 @@
-use Rattle.std.proofs.Common.{◌≡◌, ◌<◌, List, ℕ, take, get_or, length, [], arith, subst}
+use Rattle.std.proofs.Common.{◌<◌, List, ℕ, take, get_or, length, [], arith, subst}
 use Rattle.std.proofs.lemmas.List.{get_or_read, take_more}
 use Rattle.cube_cells.specs.Ranks.{AreRanks}
 use Rattle.cube_cells.proofs.RankLaws.{zip_push}

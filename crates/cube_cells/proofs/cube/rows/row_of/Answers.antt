@@ -1,4 +1,4 @@
-use Rattle.std.proofs.Common.{◌≡◌, ◌<◌, take, get_or, length, arith}
+use Rattle.std.proofs.Common.{◌<◌, take, get_or, length, arith}
 use Rattle.std.proofs.lemmas.List.{take_more}
 use Rattle.cube_core.specs.Answer.{IsAnswer}
 use Rattle.cube_core.specs.declared.aggregate.Agg.TheVariants.{CountAll}

@@ -1,4 +1,4 @@
-use Rattle.std.proofs.Common.{◌≡◌, ◌<◌, take, get_or, map, length, arith, sym, ◌∙◌}
+use Rattle.std.proofs.Common.{◌<◌, take, map, length, arith}
 use Rattle.std.proofs.lemmas.List.{get_or_read, take_more, map_push}
 use Rattle.cube_core.specs.declared.key.Key.{Key}
 use Rattle.cube_cells.specs.Tally.{Tally}

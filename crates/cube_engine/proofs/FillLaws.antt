@@ -1,0 +1,69 @@
+-- A cube that is filled, fact after fact and book after book.
+use Rattle.std.proofs.Common.{◌≡◌, ◌<◌, ◌≤◌, ◌+◌, ℕ, List, [], ◌∷◌, ◌++◌, drop, get_or, length, append_assoc, refl, sym, ap, ◌∙◌, subst}
+use Rattle.std.specs.List.Sorted.{IsPermutation}
+use Rattle.std.proofs.lemmas.List.{append-nil, at_drop_more, at_drop_all}
+use Rattle.std.proofs.lemmas.List.Sorted.{IsPermutation-refl, IsPermutation-trans, IsPermutation-append_left}
+use Rattle.cube_core.specs.declared.fact.Fact.{Fact}
+use Rattle.cube_cells.specs.Cube.{Lattice, AddsFact, IsCubeOf}
+use Rattle.cube_engine.specs.Book.{facts_of}
+use Rattle.cube_engine.specs.Builder.{GainsFacts, HasFacts}
+use Rattle.cube_engine.specs.Ledger.{AccountView, all_facts}
+use Rattle.cube_engine.proofs.BuilderLaws.{HasFacts-add, HasFacts-permutation, SameSets-trans}
+use Rattle.cube_engine.proofs.LedgerLaws.{swap-front}
+
+-- while a cube is filled with facts: some of them are in it, and these are left
+pub record IsFilling (all left : List Fact) (old now : Lattice) : Type 0 where
+  pub done : List Fact
+  pub split : IsPermutation (done ++ left) all
+  pub gains : GainsFacts done old now
+
+-- at the start none is
+pub IsFilling-none : (all left : List Fact) (cube : Lattice) → left ≡ all → IsFilling all left cube cube
+IsFilling-none all left cube same = record {
+  done = [];
+  split = subst (IsPermutation left) same (IsPermutation-refl left);
+  gains = record { same = record { schema = refl; sets = refl }; has = λ before has. has };
+}
+
+-- more of them
+pub IsFilling-more : (all left more rest : List Fact) (old now next : Lattice) → left ≡ more ++ rest → GainsFacts more now next
+    → IsFilling all left old now → IsFilling all rest old next
+IsFilling-more all left more rest old now next is gains filling = record {
+  done = more ++ filling.done;
+  split =
+      IsPermutation-trans _ _ _
+      (subst (λ l. IsPermutation l (filling.done ++ (more ++ rest))) (sym (append_assoc more filling.done rest)) (swap-front more filling.done rest))
+      (subst (λ l. IsPermutation (filling.done ++ l) all) is filling.split);
+  gains = record {
+    same = SameSets-trans old now next filling.gains.same gains.same;
+    has = λ before has. subst (λ l. HasFacts l next) (sym (append_assoc more filling.done before)) (gains.has (filling.done ++ before) (filling.gains.has before has));
+  };
+}
+
+-- at the end all are
+pub GainsFacts-all : (all left : List Fact) (old now : Lattice) → left ≡ [] → IsFilling all left old now → GainsFacts all old now
+GainsFacts-all all left old now none filling = record {
+  same = filling.gains.same;
+  has = λ before has.
+      HasFacts-permutation (filling.done ++ before) (all ++ before) now
+      (IsPermutation-append_left before filling.done all (subst (λ l. IsPermutation l all) (ap (λ l. filling.done ++ l) none ∙ append-nil filling.done) filling.split))
+      (filling.gains.has before has);
+}
+
+-- a fact that is added is a fact more
+pub GainsFacts-add : (fact : Fact) (old new : Lattice) → AddsFact fact old new
+    → ((before : List Fact) → IsCubeOf old before → IsCubeOf new (fact ∷ before)) → GainsFacts (fact ∷ []) old new
+GainsFacts-add fact old new adds cells = record {
+  same = adds.same;
+  has = λ before has. HasFacts-add fact before old new adds cells has;
+}
+
+-- the facts of the accounts from a place on: those of the account there, and those of the others
+pub all_facts-drop : (accounts : List AccountView) (i : ℕ) (account : AccountView) → i < length accounts → account ≡ get_or accounts i account
+    → all_facts (drop i accounts) ≡ facts_of account.book ++ all_facts (drop (i + 1) accounts)
+all_facts-drop accounts i account below is =
+    at_drop_more (λ l. all_facts l) accounts i account below ∙ ap (λ (a : AccountView). facts_of a.book ++ all_facts (drop (i + 1) accounts)) (sym is)
+
+-- past the last account there are none
+pub all_facts-past : (accounts : List AccountView) (i : ℕ) → length accounts ≤ i → all_facts (drop i accounts) ≡ []
+all_facts-past accounts i past = at_drop_all (λ l. all_facts l) accounts i past

@@ -1,0 +1,72 @@
+-- What an item comes to, and what an account does when it takes the item.
+use Rattle.std.proofs.Common.{◌≡◌, ℕ, List, length, sym, ap, ◌∙◌, subst}
+use Rattle.std.specs.Prelude.{Option, Some, None}
+use Rattle.std.proofs.Math.ListN.{length-set}
+use Rattle.std.proofs.lemmas.Option.{same_Some}
+use Rattle.cube_core.specs.Layout.{Layout}
+use Rattle.cube_core.specs.Life.{id_of}
+use Rattle.cube_core.specs.declared.fact.Fact.{Fact}
+use Rattle.cube_core.specs.declared.change.Item.{Item}
+use Rattle.cube_engine.specs.Book.{fact_at, fact_put}
+use Rattle.cube_engine.specs.Ledger.{AccountView, LedgerView, AtSource, Enters, Exchanges, IsRuling, Obeys, Puts, account_of, with_refusal}
+use Rattle.cube_engine.specs.declared.ruling.Ruling.{Ruling}
+use Rattle.cube_engine.specs.declared.ruling.Ruling.TheVariants.{Refuse, Put, Take}
+
+-- a change that puts this fact or none under an id was made, where what is there gave way to it
+Enters-Puts : (s : Layout) (item : Item) (old new : AccountView) (id : List ℕ) (come : Option Fact) → Puts s old.book item.what id come
+    → Exchanges id (fact_at old.book id) come old new → Enters s item old new
+Enters-Puts s item old new id come puts exchanged = record {
+  refused = λ code is. cc (sym puts.lawful ∙ is);
+  taken = λ change says lawful.
+      let same : puts.change ≡ change = cc (sym puts.says ∙ says) in
+      let at : id_of change ≡ id = ap id_of (sym same) ∙ puts.of_id in
+      let comes : fact_put change (fact_at old.book (id_of change)) ≡ come = (λ i. fact_put (sym same i) (fact_at old.book (at i))) ∙ puts.comes in
+      rw (comes, at) exchanged;
+}
+
+-- an account that did what an item came to took the item
+pub Enters-Obeys : (s : Layout) (item : Item) (old new : AccountView) (ruling : Ruling) → IsRuling s old.book item.what ruling
+    → Obeys item.number ruling old new → Enters s item old new
+Enters-Obeys s item old new (Refuse code) is obeys = record {
+  refused = λ other refused. obeys ∙ ap (with_refusal old item.number) (same_Some code other (sym is ∙ refused));
+  taken = λ change says lawful. cc (sym is ∙ lawful);
+}
+Enters-Obeys s item old new (Put id fact) is obeys = Enters-Puts s item old new id (Some fact) is obeys
+Enters-Obeys s item old new (Take id) is obeys = Enters-Puts s item old new id None is obeys
+
+-- what is put or taken out gives way, whatever it is named
+pub Exchanges-was : (id : List ℕ) (out come : Option Fact) (old new : AccountView) → Exchanges id out come old new
+    → Exchanges id (fact_at old.book id) come old new
+Exchanges-was id out come old new exchanged = subst (λ o. Exchanges id o come old new) exchanged.book.was exchanged
+
+-- a change of an account is a weaker one of it
+pub AtSource-weaker : (P Q : AccountView → AccountView → Type 0) (source : ℕ) (old new : LedgerView)
+    → ((account : AccountView) → P (account_of old source) account → Q (account_of old source) account)
+    → AtSource P source old new → AtSource Q source old new
+AtSource-weaker P Q source old new weaker at = record {
+  account = at.account;
+  changed = weaker at.account at.changed;
+  accounts = at.accounts;
+  schema = at.schema;
+}
+
+-- a source that put a fact, or took one out, did what the item came to
+pub AtSource-put : (number : ℕ) (id : List ℕ) (out : Option Fact) (fact : Fact) (source : ℕ) (old new : LedgerView)
+    → AtSource (Exchanges id out (Some fact)) source old new → AtSource (Obeys number (Put id fact)) source old new
+AtSource-put number id out fact source old new at =
+    AtSource-weaker (Exchanges id out (Some fact)) (Obeys number (Put id fact)) source old new (λ account exchanged. Exchanges-was id out (Some fact) _ account exchanged) at
+
+pub AtSource-take : (number : ℕ) (id : List ℕ) (out : Option Fact) (source : ℕ) (old new : LedgerView)
+    → AtSource (Exchanges id out None) source old new → AtSource (Obeys number (Take id)) source old new
+AtSource-take number id out source old new at =
+    AtSource-weaker (Exchanges id out None) (Obeys number (Take id)) source old new (λ account exchanged. Exchanges-was id out None _ account exchanged) at
+
+-- and so took the item
+pub AtSource-Obeys : (item : Item) (source : ℕ) (old new : LedgerView) (ruling : Ruling) → IsRuling old.schema (account_of old source).book item.what ruling
+    → AtSource (Obeys item.number ruling) source old new → AtSource (Enters old.schema item) source old new
+AtSource-Obeys item source old new ruling is at =
+    AtSource-weaker (Obeys item.number ruling) (Enters old.schema item) source old new (λ account obeys. Enters-Obeys old.schema item (account_of old source) account ruling is obeys) at
+
+-- a change of one account leaves as many
+pub AtSource-length : (P : AccountView → AccountView → Type 0) (source : ℕ) (old new : LedgerView) → AtSource P source old new → length new.accounts ≡ length old.accounts
+AtSource-length P source old new at = ap length at.accounts ∙ length-set old.accounts (source - 1) at.account

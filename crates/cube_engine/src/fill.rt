@@ -1,0 +1,46 @@
+//! Filling a cube with the facts of a ledger's books.
+ghost use Rattle.std.specs.Prelude.{◌≡◌, ◌∷◌, [], true, OnOk};
+ghost use Rattle.cube_core.specs.Takes.{fits};
+ghost use Rattle.cube_engine.specs.Book.{facts_of};
+ghost use Rattle.cube_engine.specs.Builder.{GainsFacts};
+ghost use Rattle.cube_engine.specs.Ledger.{AllFit, all_facts};
+
+use crate::book::Book;
+use crate::ledger::Ledger;
+use cube_cells::Cube;
+use cube_core::Fact;
+use std::alloc::AllocError;
+
+/// Adds the facts of all books of a ledger to a cube of the same schema. The only error is want of memory, or of
+/// numbers to count the facts with.
+pub fn fill(cube: &mut Cube, ledger: &Ledger) -> Result<(), AllocError>
+    requires { cube.old.schema ≡ ledger.now.schema }
+    ensures { OnOk result (GainsFacts (all_facts ledger.now.accounts) cube.old cube.new) }
+{
+    for account in ledger.accounts() {
+        fill_from_book(cube, account.book())?;
+    }
+    Ok(())
+}
+
+// Adds the facts of a book.
+fn fill_from_book(cube: &mut Cube, book: &Book) -> Result<(), AllocError>
+    requires { AllFit cube.old.schema (facts_of book.now) }
+    ensures { OnOk result (GainsFacts (facts_of book.now) cube.old cube.new) }
+{
+    for fact in book.facts() {
+        add_counted(cube, fact)?;
+    }
+    Ok(())
+}
+
+// Adds a fact, unless it couldn't be counted.
+fn add_counted(cube: &mut Cube, fact: &Fact) -> Result<(), AllocError>
+    requires { fits cube.old.schema fact.now ≡ true }
+    ensures { OnOk result (GainsFacts (fact.now ∷ []) cube.old cube.new) }
+{
+    if cube.facts() == u64::MAX {
+        return Err(AllocError);
+    }
+    cube.add(fact)
+}
