@@ -1,5 +1,5 @@
 -- The fields of a record, one by one and in parts.
-use Rattle.std.proofs.Common.{◌≡◌, ◌<◌, ◌≤◌, ◌+◌, ◌-◌, ℕ, Bool, true, false, List, [], ◌∷◌, ◌++◌, append_assoc, ℤ, length, get_or, drop, map, Option, Some, None, refl, sym, arith, add-one, drop-cons}
+use Rattle.std.proofs.Common.{◌≡◌, ◌<◌, ◌≤◌, ◌+◌, ◌-◌, ℕ, Bool, true, false, List, [], ◌∷◌, ◌++◌, append_assoc, length, get_or, drop, Option, Some, None, refl, sym, arith, add-one, drop-cons}
 use Rattle.std.specs.Prelude.{zero, suc, slice_range, IsUtf8}
 use Rattle.std.specs.Str.{is_utf8, IsAscii}
 use Rattle.std.specs.List.{list_all, filter_map}

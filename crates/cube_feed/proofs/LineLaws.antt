@@ -1,6 +1,6 @@
 -- What a record spells, by its parts.
 use Rattle.std.proofs.Common.{◌≡◌, ◌<◌, ◌≤◌, ◌+◌, ◌-◌, ℕ, ℤ, Bool, true, false, List, [], ◌∷◌, ◌++◌, length, get_or, drop, map, refl, sym, ap, ◌∙◌, inl, inr, arith, drop-cons}
-use Rattle.std.specs.Prelude.{◌&&◌, ◌==◌, not, slice_range, Option, Some, None, is_some, option_map, Result, Ok, Err, if◌then◌else◌}
+use Rattle.std.specs.Prelude.{◌&&◌, ◌==◌, not, slice_range, Option, Some, is_some, option_map, Result, Ok, Err, if◌then◌else◌}
 use Rattle.std.specs.Str.{bytes_eq, is_utf8}
 use Rattle.std.specs.List.{list_all, list_any, filter_map}
 use Rattle.std.proofs.lemmas.List.{take-append-drop, drop-drop, take_all, length-drop}
