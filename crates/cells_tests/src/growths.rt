@@ -1,4 +1,4 @@
-//! Growths that are refused. To refuse each in turn, run `rt try --test --fail-alloc 1..`.
+//! Growths that are refused. To refuse each in turn, run `rt try --test --fail-alloc N` for each N from 1.
 use crate::sample::{add, cube_of, fact_of, line};
 use crate::words::rows_of;
 use cube_core::{QueryFault, Schema};

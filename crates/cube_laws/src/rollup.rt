@@ -82,8 +82,8 @@ pub fn drilled_answers_add_up()
         AreRowsWhere (drills_down dimension row.key) s.grouping_sets (length s.dimensions)
         s.aggregates facts drilled → slice_get s.aggregates place ≡ Some agg.CountAll →
         count_at place row ≡ sum_by (count_at place) drilled }
-    ensures counts_of_values { (s : Layout) (facts : List Fact) (rows drilled : List Row) (row : Row)
-        (dimension place m : ℕ) → IsRolledUp s facts rows row dimension →
+    ensures counts_of_values { (s : Layout) (facts : List Fact) (rows drilled : List Row)
+        (row : Row) (dimension place m : ℕ) → IsRolledUp s facts rows row dimension →
         AreRowsWhere (drills_down dimension row.key) s.grouping_sets (length s.dimensions)
         s.aggregates facts drilled → slice_get s.aggregates place ≡ Some (agg.Count m) →
         count_at place row ≡ sum_by (count_at place) drilled }

@@ -35,7 +35,8 @@ impl Cube {
     pub fn roll_up(&self, key: &Key, dim: usize) -> Result<Option<Row>, AllocError>
         requires dim { dim < length self.now.schema.dimensions }
         requires width { length key.now.coords ≡ length self.now.schema.dimensions }
-        ensures row { IfOk result (IsRowAt self.now.schema.aggregates self.now.cells (rolled_up dim key.now)) }
+        ensures row { IfOk result
+            (IsRowAt self.now.schema.aggregates self.now.cells (rolled_up dim key.now)) }
         ensures cube { IfOk result (λ row. (facts : List Fact) → IsCubeOf self.now facts →
             IsRowOver self.now.sets (length self.now.schema.dimensions)
             self.now.schema.aggregates facts (rolled_up dim key.now) row) }
@@ -108,7 +109,8 @@ fn wants_below(
 ) -> Result<Vec<Want>, AllocError>
     requires { length coords.now ≡ length dictionaries.now }
     ensures long { IfOk result (λ wants. length wants.items ≡ length dictionaries.now) }
-    ensures wants { IfOk result (λ wants. AreWantsBelow dictionaries.now dim coords.now wants.items) }
+    ensures wants { IfOk result
+        (λ wants. AreWantsBelow dictionaries.now dim coords.now wants.items) }
 {
     let mut wants = Vec::with_capacity(alloc, coords.len())?;
     for (place, coord) in coords.iter().enumerate() {
