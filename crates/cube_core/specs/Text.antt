@@ -63,10 +63,14 @@ refusal_line source refusal = line (decimal source ∷ decimal refusal.number �
 abbrev pub lines_of_source : List (List Refusal) → ℕ → List ℕ
 lines_of_source refusals source = flat_map (refusal_line source) (get_or refusals (source - 1) [])
 
+-- the lines of the refusals of all sources, source after source
+abbrev pub lines_of_sources : List (List Refusal) → List ℕ
+lines_of_sources refusals = flat_map (lines_of_source refusals) (range_with_len 1 (length refusals))
+
 -- the header line of refusals
 abbrev pub refusal_header : List ℕ
 refusal_header = line (codes "source" ∷ codes "record" ∷ codes "code" ∷ [])
 
--- the text of the refusals of each source, from the first: the header line, and source after source the line of each refusal
+-- the text of the refusals of each source, from the first: the header line, and the lines
 abbrev pub text_of_refusals : List (List Refusal) → List ℕ
-text_of_refusals refusals = refusal_header ++ flat_map (lines_of_source refusals) (range_with_len 1 (length refusals))
+text_of_refusals refusals = refusal_header ++ lines_of_sources refusals

@@ -1,6 +1,7 @@
 -- What an item comes to, and what an account does when it takes the item.
-use Rattle.std.proofs.Common.{◌≡◌, ℕ, List, sym, ap, ◌∙◌, subst}
+use Rattle.std.proofs.Common.{◌≡◌, ℕ, List, length, sym, ap, ◌∙◌, subst}
 use Rattle.std.specs.Prelude.{Option, Some, None}
+use Rattle.std.proofs.Math.ListN.{length-set}
 use Rattle.std.proofs.lemmas.Option.{same_Some}
 use Rattle.cube_core.specs.Layout.{Layout}
 use Rattle.cube_core.specs.Life.{id_of}
@@ -65,3 +66,7 @@ pub AtSource-Obeys : (item : Item) (source : ℕ) (old new : LedgerView) (ruling
     → AtSource (Obeys item.number ruling) source old new → AtSource (Enters old.schema item) source old new
 AtSource-Obeys item source old new ruling is at =
     AtSource-weaker (Obeys item.number ruling) (Enters old.schema item) source old new (λ account obeys. Enters-Obeys old.schema item (account_of old source) account ruling is obeys) at
+
+-- a change of one account leaves as many
+pub AtSource-length : (P : AccountView → AccountView → Type 0) (source : ℕ) (old new : LedgerView) → AtSource P source old new → length new.accounts ≡ length old.accounts
+AtSource-length P source old new at = ap length at.accounts ∙ length-set old.accounts (source - 1) at.account

@@ -100,6 +100,8 @@ impl Builder {
             (AtSource (Enters self.old.ledger.schema item) source self.old.ledger self.new.ledger) }
         ensures stands { OnOk result ((arrivals : Arrivals) → StandsAt self.old arrivals →
             StandsAt self.new (arrivals ++ (source, item) ∷ [])) }
+        ensures sources { OnOk result
+            (length self.new.ledger.accounts ≡ length self.old.ledger.accounts) }
         ensures same { OnOk result (SameSets self.old.cube self.new.cube) }
         ensures err { OnErr result (SameBuilder self.old self.new) }
     {
@@ -164,7 +166,8 @@ impl Builder {
 
     /// How many facts are present in the books of all sources.
     pub fn facts(&self) -> u64
-        ensures { result ≡ length (all_facts self.now.ledger.accounts) }
+        ensures books { result ≡ length (all_facts self.now.ledger.accounts) }
+        ensures cube { result ≡ self.now.cube.facts }
     {
         self.cube.facts()
     }

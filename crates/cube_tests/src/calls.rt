@@ -3,7 +3,8 @@ use cube_core::{
     Agg, Answer, Change, Coord, Fact, Key, LineFault, Schema, Sequence, Text, covers, plain_rows,
     reduced,
 };
-use cube_tool::{Builder, print_rows, write_whole};
+use cube_engine::Builder;
+use cube_tool::{print_rows, write_whole};
 use std::alloc::{AllocError, Global};
 use std::cmp::Ordering;
 use std::test::Fail;
@@ -179,10 +180,10 @@ fn no_rows_print_the_header_line_alone(rt: HostRuntime) -> Result<(), Fail> {
 }
 
 #[test]
-fn a_new_builder_has_one_source_no_fact_and_no_refusal(rt: HostRuntime) -> Result<(), Fail> {
+fn a_new_builder_has_no_fact_and_no_refusal(rt: HostRuntime) -> Result<(), Fail> {
     let alloc = rt.alloc();
-    let builder = Builder::new(alloc, &Schema::sample(alloc)?)?;
-    assert_eq!(rt; builder.sources(), 1);
+    let builder = Builder::new(alloc, &Schema::sample(alloc)?, 2)?;
+    assert_eq!(rt; builder.sources(), 2);
     assert_eq!(rt; builder.facts(), 0);
     assert!(rt; builder.refusals(1).is_empty());
     Ok(())

@@ -1,8 +1,9 @@
 //! Runs whose reader or writer fails: nothing is written, or just what the fault tells.
 use crate::sample::feed_of;
 use cube_core::Schema;
+use cube_engine::RunFault;
 use cube_feed::FeedFault;
-use cube_tool::{RunFault, run_plain};
+use cube_tool::run_plain;
 use std::alloc::{AllocError, Global};
 use std::io::{self, Read, Write};
 use std::test::Fail;

@@ -1,11 +1,7 @@
 mod AppendLaws
 mod LineLaws
-mod LifeSteps
-mod Tests
-mod TextKeys
-pub mod StandSteps
 pub mod RowShapeLaws
-pub mod Survival
-pub mod RunSteps
+pub mod RefusalLaws
+pub mod RunLaws
 mod CommandLaws
 mod CommandLineLaws

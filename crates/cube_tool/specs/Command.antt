@@ -1,17 +1,20 @@
 -- How the program ends: its statuses, and what a command leaves written (this project's choice).
 use Rattle.std.specs.Prelude.{◌≡◌, ◌≤◌, ⊤, ℕ, List, [], ◌∷◌, ◌++◌, length, take, codes, Option, IfSome, Result, Ok, Err}
 use Rattle.std.specs.Io.KnownBytes.{Appends}
+use Rattle.std.specs.List.{flat_map}
 use Rattle.cube_core.specs.Layout.{Layout}
+use Rattle.cube_core.specs.Run.{Told}
 use Rattle.cube_core.specs.SchemaDocument.{AnswersBytes}
 use Rattle.cube_core.specs.declared.change.Refusal.{Refusal}
 use Rattle.cube_core.specs.declared.schema_fault.SchemaFault.TheVariants as schema_fault
-use Rattle.cube_tool.specs.Kept.{Kept}
-use Rattle.cube_tool.specs.Run.{RunsFeed, FaultLeaves}
+use Rattle.cube_engine.specs.Builder.{BuilderView, StandsAt}
+use Rattle.cube_engine.specs.Ledger.{AccountView}
+use Rattle.cube_engine.specs.declared.fault.RunFault.TheVariants as run_fault
+use Rattle.cube_tool.specs.Run.{Runs, FaultLeaves}
 use Rattle.cube_tool.specs.declared.command.status.Status.{Status}
 use Rattle.cube_tool.specs.declared.command.status.Status.TheVariants.{Done, Failed, WrongWords, WrongSchema, LinesRefused}
 use Rattle.cube_tool.specs.declared.command.failure.Failure.{Failure}
 use Rattle.cube_tool.specs.declared.command.failure.Failure.TheVariants.{Unreadable, Schema, Run}
-use Rattle.cube_tool.specs.declared.fault.RunFault.TheVariants as run_fault
 
 -- the number of a status
 abbrev pub status_code : Status → ℕ
@@ -27,21 +30,25 @@ status_of Unreadable = WrongSchema
 status_of (Schema fault) = WrongSchema
 status_of (Run fault) = Failed
 
+-- the refusals of all sources, source after source
+abbrev pub all_refusals : List AccountView → List Refusal
+all_refusals accounts = flat_map (λ account. account.refusals) accounts
+
 -- the status of a run that was written whole, by the lines that it refused
 abbrev pub status_after : List Refusal → Status
 status_after [] = Done
 status_after (refusal ∷ refusals) = LinesRefused
 
--- a run over a feed of these bytes was written whole, and its status tells whether a line was refused
-abbrev pub EndsRun : Layout → Option (List ℕ) → Status → Option (List ℕ) → Option (List ℕ) → Type 0
-EndsRun s bytes status old new =
-    (kept : Kept) × RunsFeed s bytes kept old new × (status ≡ status_after kept.refusals)
+-- a run over feeds of these bytes was written whole, and its status tells whether a line was refused
+abbrev pub EndsRun : Layout → Told → Status → Option (List ℕ) → Option (List ℕ) → Type 0
+EndsRun s sources status old new = (builder : BuilderView)
+    × Runs s sources (StandsAt builder) old new × (builder.ledger.schema ≡ s) × (status ≡ status_after (all_refusals builder.ledger.accounts))
 
--- what a failure of a run over a feed of these bytes leaves written; of the sample schema nothing but memory can fail
-abbrev pub FailureLeaves : Layout → Option (List ℕ) → Failure → Option (List ℕ) → Option (List ℕ) → Type 0
-FailureLeaves s bytes Unreadable old new = ⊥
-FailureLeaves s bytes (Schema fault) old new = (fault ≡ schema_fault.Memory) × (new ≡ old)
-FailureLeaves s bytes (Run fault) old new = FaultLeaves s bytes fault old new
+-- what a failure of a run over feeds of these bytes leaves written; of a schema that is had nothing but memory can fail
+abbrev pub FailureLeaves : Layout → Told → Failure → Option (List ℕ) → Option (List ℕ) → Type 0
+FailureLeaves s sources Unreadable old new = ⊥
+FailureLeaves s sources (Schema fault) old new = (fault ≡ schema_fault.Memory) × (new ≡ old)
+FailureLeaves s sources (Run fault) old new = FaultLeaves s sources fault old new
 
 -- the most bytes that a schema file may have
 abbrev pub schema_limit : ℕ

@@ -3,8 +3,8 @@ ghost use Rattle.std.specs.Prelude.{◌≡◌};
 ghost use Rattle.cube_tool.specs.Command.{status_of};
 
 use crate::command::status::Status;
-use crate::fault::RunFault;
 use cube_core::SchemaFault;
+use cube_engine::RunFault;
 use std::fmt;
 
 /// Why a command failed. Its text is the line for standard error, without the line end.

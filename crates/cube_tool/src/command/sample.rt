@@ -1,14 +1,13 @@
 //! The program without words: a run under the sample schema.
-ghost use Rattle.std.specs.Prelude.{◌≡◌, IfOk, IfErr};
+ghost use Rattle.std.specs.Prelude.{◌≡◌, [], ◌∷◌, IfOk, IfErr};
 ghost use Rattle.cube_core.specs.Layout.{sample_layout};
-ghost use Rattle.cube_tool.specs.Command.{EndsRun, FailureLeaves, status_after};
+ghost use Rattle.cube_tool.specs.Command.{EndsRun, FailureLeaves, all_refusals, status_after};
 
-use crate::builder::Builder;
 use crate::command::failure::Failure;
 use crate::command::status::Status;
-use crate::fault::RunFault;
 use crate::run::run_plain;
 use cube_core::{Schema, SchemaFault};
+use cube_engine::{Builder, RunFault};
 use std::alloc::Global;
 use std::io::{Read, Write};
 
@@ -22,9 +21,9 @@ pub fn run_sample<R: Read + Drop, W: Write>(
     out: &mut W,
 ) -> Result<Status, Failure>
     ensures ok { IfOk result (λ status.
-        EndsRun sample_layout (R.Read.remaining feed) status (W.contents out.old) (W.contents out.new)) }
+        EndsRun sample_layout (R.Read.remaining feed ∷ []) status (W.contents out.old) (W.contents out.new)) }
     ensures err { IfErr result (λ failure.
-        FailureLeaves sample_layout (R.Read.remaining feed) failure (W.contents out.old) (W.contents out.new)) }
+        FailureLeaves sample_layout (R.Read.remaining feed ∷ []) failure (W.contents out.old) (W.contents out.new)) }
 {
     let Ok(schema) = Schema::sample(alloc) else {
         return Err(Failure::Schema(SchemaFault::Memory));
@@ -41,11 +40,12 @@ pub fn run_sample<R: Read + Drop, W: Write>(
 
 /// The status of a run that was written whole.
 fn status_after(builder: &Builder) -> Status
-    ensures { result ≡ status_after builder.now.refusals }
+    ensures { result ≡ status_after (all_refusals builder.now.ledger.accounts) }
 {
-    if builder.refusals(1).is_empty() {
-        Status::Done
-    } else {
-        Status::LinesRefused
+    for place in 0..builder.sources() {
+        if !builder.refusals(place + 1).is_empty() {
+            return Status::LinesRefused;
+        }
     }
+    Status::Done
 }

@@ -1,8 +1,8 @@
 //! What each command ends with and prints, by its library call.
 
 use super::*;
-use crate::fault::RunFault;
 use cube_core::SchemaFault;
+use cube_engine::RunFault;
 use cube_feed::FeedFault;
 use std::alloc::Global;
 use std::io;

@@ -7,10 +7,10 @@ ghost use Rattle.cube_tool.specs.CommandLine.{AsksToCheck, IsRequest, begins_as_
 
 use crate::command::failure::Failure;
 use crate::command::status::Status;
-use crate::fault::RunFault;
 use crate::write::write_whole;
 use clap::error::ErrorKind;
 use clap::{Arg, ArgMatches, Command, Error};
+use cube_engine::RunFault;
 use std::alloc::{AllocError, Global};
 use std::convert::AsStr;
 use std::io;

@@ -1,7 +1,7 @@
 use Rattle.std.proofs.Common.{◌≤◌, length}
 use Rattle.std.proofs.lemmas.Result.{on_ok_weaker}
 use Rattle.cube_engine.proofs.BuilderLaws.{IsBuilder-refuse, StandsAt-Enters, on_ok_weaker_both}
-use Rattle.cube_engine.proofs.RulingLaws.{AtSource-Obeys, AtSource-put, AtSource-take}
+use Rattle.cube_engine.proofs.RulingLaws.{AtSource-Obeys, AtSource-length, AtSource-put, AtSource-take}
 use Rattle.cube_engine.specs.declared.ruling.Ruling.TheVariants.{Refuse, Put, Take}
 use Rattle.cube_engine.proofs.builder.Builder.apply.Goals as goal
 
@@ -44,3 +44,13 @@ returns-in-Take-clause-stands c =
     (StandsAt-Enters (record { ledger = old; cube = c.self.inside.cube }) c.take.new.self c.args.source c.args.item c.requires.first last
     (AtSource-Obeys c.args.item c.args.source old c.take.new.self.ledger (Take c.in-Take.id) ruling
     (AtSource-take c.args.item.number c.in-Take.id taken.0 c.args.source old c.take.new.self.ledger taken.1)) c.take.ensures.has)
+
+pub returns-in-Refuse-clause-sources : goal.returns-in-Refuse-clause-sources
+returns-in-Refuse-clause-sources c =
+    rw (← c.self.view_is) (on_ok_weaker c.refuse.result (λ at. AtSource-length _ c.args.source c.self.inside.ledger c.refuse.new.self at) c.refuse.ensures.ok)
+
+pub returns-in-Put-clause-sources : goal.returns-in-Put-clause-sources
+returns-in-Put-clause-sources c = on_ok_weaker c.put.result (λ put. AtSource-length _ c.args.source c.args.self.now.ledger c.put.new.self.ledger put.1) c.put.ensures.put
+
+pub returns-in-Take-clause-sources : goal.returns-in-Take-clause-sources
+returns-in-Take-clause-sources c = AtSource-length _ c.args.source c.args.self.now.ledger c.take.new.self.ledger c.take.ensures.take.1

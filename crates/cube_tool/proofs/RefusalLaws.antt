@@ -1,0 +1,80 @@
+-- The refusals of sources one after another: their lines, and whether there are any.
+use Rattle.std.proofs.Common.{◌≡◌, ◌<◌, ◌≤◌, ◌+◌, ◌-◌, ℕ, zero, suc, List, [], ◌∷◌, ◌++◌, length, get_or, map, take, refl, sym, ap, ◌∙◌, subst, arith, append_assoc}
+use Rattle.std.specs.List.{flat_map, range_with_len}
+use Rattle.std.proofs.lemmas.Grind.{flat_map-append}
+use Rattle.std.proofs.lemmas.List.{append-nil, get_or-map, length-map, take_all}
+use Rattle.cube_core.proofs.SetLaws.{range_with_len-more}
+use Rattle.cube_core.specs.Text.{lines_of_source, lines_of_sources, refusal_line}
+use Rattle.cube_core.specs.declared.change.Refusal.{Refusal}
+use Rattle.cube_engine.specs.Ledger.{AccountView, new_account}
+use Rattle.cube_tool.specs.Command.{all_refusals, status_after}
+use Rattle.cube_tool.specs.declared.command.status.Status.TheVariants.{LinesRefused}
+use Rattle.cube_tool.specs.Lines.{Lines, AddsText, Holds}
+
+-- the refusals of each account
+abbrev pub refusals_of_accounts : List AccountView → List (List Refusal)
+refusals_of_accounts accounts = map (λ account. account.refusals) accounts
+
+-- the lines of the sources up to a place
+abbrev pub lines_up_to : List AccountView → ℕ → List ℕ
+lines_up_to accounts place = flat_map (lines_of_source (refusals_of_accounts accounts)) (range_with_len 1 place)
+
+-- text added, and then more
+pub AddsText-both : (first second : List ℕ) (old mid new : Lines) → AddsText first old mid → AddsText second mid new → AddsText (first ++ second) old new
+AddsText-both first second old mid new before after text holds =
+    subst (λ t. Holds t [] new) (append_assoc text first second) (after (text ++ first) (before text holds))
+
+-- one source more
+pub lines_up_to-more : (accounts : List AccountView) (place : ℕ) → place < length accounts
+    → lines_up_to accounts (place + 1) ≡ lines_up_to accounts place ++ flat_map (refusal_line (place + 1)) (get_or accounts place new_account).refusals
+lines_up_to-more accounts place below =
+    let of_source = lines_of_source (refusals_of_accounts accounts) in
+    let here : get_or (refusals_of_accounts accounts) (place + 1 - 1) [] ≡ (get_or accounts place new_account).refusals =
+    ap (λ n. get_or (refusals_of_accounts accounts) n []) (omega arith)
+    ∙ get_or-map (λ (account : AccountView). account.refusals) accounts place new_account [] below in
+    ap (flat_map of_source) (range_with_len-more 1 place ∙ ap (λ n. range_with_len 1 place ++ n ∷ []) (omega arith))
+    ∙ flat_map-append of_source (range_with_len 1 place) ((place + 1) ∷ [])
+    ∙ ap (λ l. lines_up_to accounts place ++ l) (append-nil (of_source (place + 1)) ∙ ap (flat_map (refusal_line (place + 1))) here)
+
+-- at the end those of all sources
+pub lines_up_to-all : (accounts : List AccountView) → lines_up_to accounts (length accounts) ≡ lines_of_sources (refusals_of_accounts accounts)
+lines_up_to-all accounts =
+    ap (λ n. flat_map (lines_of_source (refusals_of_accounts accounts)) (range_with_len 1 n)) (sym (length-map accounts (λ (account : AccountView). account.refusals)))
+
+-- ---- whether there are any
+
+-- the refusals of the sources up to a place and the next
+pub all_refusals-more : (accounts : List AccountView) (place : ℕ) → place < length accounts
+    → all_refusals (take (place + 1) accounts) ≡ all_refusals (take place accounts) ++ (get_or accounts place new_account).refusals
+all_refusals-more [] place below = absurd (omega arith)
+all_refusals-more (a ∷ accounts) zero below = append-nil a.refusals
+all_refusals-more (a ∷ accounts) (suc place) below =
+    let later : suc place + 1 ≡ suc (place + 1) = omega arith in
+    ap (λ (n : ℕ). all_refusals (take n (a ∷ accounts))) later
+    ∙ ap (λ l. a.refusals ++ l) (all_refusals-more accounts place (omega arith)) ∙ sym (append_assoc a.refusals (all_refusals (take place accounts)) (get_or accounts place new_account).refusals)
+
+-- a source without refusals adds none
+pub all_refusals-none : (accounts : List AccountView) (place : ℕ) → place < length accounts → length (get_or accounts place new_account).refusals ≡ 0
+    → all_refusals (take place accounts) ≡ [] → all_refusals (take (place + 1) accounts) ≡ []
+all_refusals-none accounts place below none before =
+    all_refusals-more accounts place below ∙ (λ i. before i ++ empty (get_or accounts place new_account).refusals none i) where
+      empty : (refusals : List Refusal) → length refusals ≡ 0 → refusals ≡ []
+      empty [] is = refl
+      empty (r ∷ refusals) is = absurd (omega (arith, is))
+
+-- one with refusals makes the status
+pub status_after-some : (accounts : List AccountView) (place : ℕ) → place < length accounts → 0 < length (get_or accounts place new_account).refusals
+    → status_after (all_refusals accounts) ≡ LinesRefused
+status_after-some [] place below some = absurd (omega arith)
+status_after-some (a ∷ accounts) zero below some = first a.refusals some where
+  first : (refusals : List Refusal) → 0 < length refusals → status_after (refusals ++ all_refusals accounts) ≡ LinesRefused
+  first [] some = absurd (omega (arith, some))
+  first (r ∷ refusals) some = refl
+status_after-some (a ∷ accounts) (suc place) below some = later a.refusals (status_after-some accounts place (omega arith) some) where
+  later : (refusals : List Refusal) → status_after (all_refusals accounts) ≡ LinesRefused → status_after (refusals ++ all_refusals accounts) ≡ LinesRefused
+  later [] is = is
+  later (r ∷ refusals) is = refl
+
+-- where no source up to the last has any there are none
+pub all_refusals-all : (accounts : List AccountView) (place : ℕ) → length accounts ≤ place → all_refusals (take place accounts) ≡ [] → all_refusals accounts ≡ []
+all_refusals-all accounts place past none = ap all_refusals (sym (take_all place accounts past)) ∙ none
