@@ -7,6 +7,7 @@ use Rattle.cube_core.specs.Run.{Told}
 use Rattle.cube_core.specs.SchemaDocument.{AnswersBytes}
 use Rattle.cube_core.specs.declared.change.Refusal.{Refusal}
 use Rattle.cube_core.specs.declared.schema_fault.SchemaFault.TheVariants as schema_fault
+use Rattle.cube_engine.specs.Build.{ExplainsBuild}
 use Rattle.cube_engine.specs.Builder.{BuilderView, StandsAt}
 use Rattle.cube_engine.specs.Ledger.{AccountView}
 use Rattle.cube_engine.specs.declared.fault.RunFault.TheVariants as run_fault
@@ -48,7 +49,7 @@ EndsRun s sources status old new = (builder : BuilderView)
 abbrev pub FailureLeaves : Layout → Told → Failure → Option (List ℕ) → Option (List ℕ) → Type 0
 FailureLeaves s sources Unreadable old new = ⊥
 FailureLeaves s sources (Schema fault) old new = (fault ≡ schema_fault.Memory) × (new ≡ old)
-FailureLeaves s sources (Run fault) old new = FaultLeaves s sources fault old new
+FailureLeaves s sources (Run fault) old new = FaultLeaves ExplainsBuild s sources fault old new
 
 -- the most bytes that a schema file may have
 abbrev pub schema_limit : ℕ

@@ -1,6 +1,7 @@
 //! A run: from the bytes of feeds to the printed cube.
 ghost use Rattle.std.specs.Prelude.{◌≡◌, ◌≤◌, length, map, vec_len, IfOk, IfErr};
 ghost use Rattle.cube_core.specs.Printed.{IsPrinted};
+ghost use Rattle.cube_engine.specs.Build.{ExplainsBuild};
 ghost use Rattle.cube_engine.specs.Builder.{StandsAt};
 ghost use Rattle.cube_engine.specs.Ledger.{all_facts};
 ghost use Rattle.cube_tool.specs.Run.{FaultLeaves, Runs};
@@ -27,8 +28,8 @@ pub fn run_plain<R: Read + Drop, W: Write>(
         (StandsAt builder) (W.contents out.old) (W.contents out.new)) }
     ensures schema { IfOk result (λ builder. builder.ledger.schema ≡ schema.now) }
     ensures sources { IfOk result (λ builder. length builder.ledger.accounts ≡ vec_len readers) }
-    ensures err { IfErr result (λ fault. FaultLeaves schema.now (map R.Read.remaining readers.items)
-        fault (W.contents out.old) (W.contents out.new)) }
+    ensures err { IfErr result (λ fault. FaultLeaves ExplainsBuild schema.now
+        (map R.Read.remaining readers.items) fault (W.contents out.old) (W.contents out.new)) }
 {
     let builder = build_plain(alloc, schema, readers)?;
     let Ok(text) = print_cube(alloc, schema, &builder) else {
