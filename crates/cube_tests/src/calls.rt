@@ -1,10 +1,10 @@
 //! Each public call of the values and of the schema, once with ample memory.
 use cube_core::{
-    Agg, Answer, Change, Coord, Fact, Key, LineFault, Schema, Sequence, Text, covers, plain_rows,
-    reduced,
+    Agg, Answer, Change, Coord, Fact, Key, LineFault, Schema, Sequence, Text, covers, reduced,
 };
 use cube_engine::Builder;
 use cube_tool::{print_rows, write_whole};
+use plain_cube::plain_rows;
 use std::alloc::{AllocError, Global};
 use std::cmp::Ordering;
 use std::test::Fail;
