@@ -33,6 +33,9 @@ MIXED = [
     [b"D", b"2"],
 ]
 STATUS = {"S": 3, "P": 2, "G": 1}
+MEMORY = [r"S1", r"G1", r"G2", r"G3 \d+ F1", r"G4", r"P6"]
+# (what is said where there is no memory for the words themselves)
+NO_WORDS = b"error: out of memory\n"
 
 
 class Answer:
@@ -80,6 +83,8 @@ def why_wrong(answer, whole, codes):
         if answer.out == whole.out and answer.err == whole.err:
             return None
         return f"status {answer.status} with other text"
+    if (answer.status, answer.err, answer.out) == (2, NO_WORDS, b"") and MEMORY[0] in codes:
+        return None
     code = answer.code()
     if code is None:
         return f"status {answer.status}, {answer.err[:200]!r}"
@@ -125,9 +130,6 @@ class Trials:
             if not answer.was_refused:
                 return turn - 1
         return f"more than {limit} calls"
-
-
-MEMORY = [r"S1", r"G1", r"G2", r"G3 \d+ F1", r"G4", r"P6", r"out of memory"]
 
 
 def feeds(program, schema, records, count):
