@@ -160,17 +160,17 @@ pub data FeedEnd : Type 0 where
   WrongHeader : FeedEnd
   TooManyRecords : FeedEnd
 
--- what a feed gives: its items, and how it ends
-pub record Coming : Type 0 where
+-- what comes of a feed: its items, and its end, as one tells ends
+pub record Coming (End : Type 0) : Type 0 where
   pub items : List Item
-  pub end : FeedEnd
+  pub end : End
 
 -- an item before what comes after it
-abbrev pub coming_after : Item → Coming → Coming
+abbrev pub coming_after : {End : Type 0} → Item → Coming End → Coming End
 coming_after item rest = record { items = item ∷ rest.items; end = rest.end }
 
 -- what data records give after so many of them: an item each, up to the schema's number of records
-abbrev pub items_after : Layout → ℕ → List (List (List ℕ)) → Coming
+abbrev pub items_after : Layout → ℕ → List (List (List ℕ)) → Coming FeedEnd
 items_after s number [] = record { items = []; end = Good }
 items_after s number (fields ∷ records) =
     if nat_lt number s.max_records
@@ -178,7 +178,7 @@ items_after s number (fields ∷ records) =
     else record { items = []; end = TooManyRecords }
 
 -- what the records of a feed give: nothing where there is none, and only after a right header an item for each data record
-abbrev pub items_of : Layout → List (List (List ℕ)) → Coming
+abbrev pub items_of : Layout → List (List (List ℕ)) → Coming FeedEnd
 items_of s [] = record { items = []; end = Good }
 items_of s (header ∷ records) =
     if is_header s header then items_after s 0 records else record { items = []; end = WrongHeader }

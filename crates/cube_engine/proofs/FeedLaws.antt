@@ -7,25 +7,25 @@ use Rattle.cube_core.specs.Arrival.{Arrivals}
 use Rattle.cube_core.specs.Layout.{Layout}
 use Rattle.cube_core.specs.Records.{records_of}
 use Rattle.cube_core.specs.Run.{IsGood, AreItemsOf}
-use Rattle.cube_core.specs.Items.{FeedEnd, Good, WrongHeader, TooManyRecords, items_of}
+use Rattle.cube_core.specs.Items.{Coming, FeedEnd, Good, WrongHeader, TooManyRecords, items_of}
 use Rattle.cube_core.specs.Takes.{takes}
 use Rattle.cube_core.specs.declared.change.Change.{Change}
 use Rattle.cube_core.specs.declared.change.LineFault.{LineFault}
 use Rattle.cube_core.specs.declared.change.Item.{Item}
-use Rattle.cube_feed.specs.Feed.{ToCome, FeedView, Gives, to_come, fault_of, nothing_but}
+use Rattle.cube_feed.specs.Feed.{Ahead, FeedView, Gives, to_come, fault_of, nothing_but}
 use Rattle.cube_feed.specs.declared.fault.FeedFault.{FeedFault}
 use Rattle.cube_feed.specs.declared.fault.FeedFault.TheVariants.{Memory, Read, Header, TooMany}
 use Rattle.cube_engine.specs.Build.{TakesFeed, IsFaultOf}
 use Rattle.cube_engine.specs.Ledger.{LedgerView, AtSource, Enters, LedgerStandsAt, says_taken}
 
 -- what is to come of a feed at its start, where its bytes are told
-abbrev pub start_of : Layout → Option (List ℕ) → Option ToCome
+abbrev pub start_of : Layout → Option (List ℕ) → Ahead
 start_of s bytes = option_map (λ (known : List ℕ). to_come (items_of s (records_of known))) bytes
 
 -- what was to come at the start are the items done, and then what is to come now
-abbrev pub LeftOf : Option ToCome → List Item → Option ToCome → Type 0
+abbrev pub LeftOf : Ahead → List Item → Ahead → Type 0
 LeftOf None done now = ⊤
-LeftOf (Some all) done now = (rest : ToCome) × (now ≡ Some rest) × (all.items ≡ done ++ rest.items) × (all.end ≡ rest.end)
+LeftOf (Some all) done now = (rest : Coming (Option FeedFault)) × (now ≡ Some rest) × (all.items ≡ done ++ rest.items) × (all.end ≡ rest.end)
 
 -- items, each with the number of their source
 abbrev pub from_source : ℕ → List Item → Arrivals
@@ -41,7 +41,7 @@ pub record HasTaken (s : Layout) (bytes : Option (List ℕ)) (source : ℕ) (old
   pub stands : (arrivals : Arrivals) → LedgerStandsAt old arrivals → LedgerStandsAt now (arrivals ++ from_source source done)
 
 -- at the start nothing was taken
-left-start : (start : Option ToCome) → LeftOf start [] start
+left-start : (start : Ahead) → LeftOf start [] start
 left-start None = tt
 left-start (Some all) = (all, refl, refl, refl)
 
@@ -49,7 +49,7 @@ pub HasTaken-none : (s : Layout) (bytes : Option (List ℕ)) (source : ℕ) (led
     → feed.to_come ≡ start_of s bytes → feed.schema ≡ s → ledger.schema ≡ s → HasTaken s bytes source ledger feed ledger
 HasTaken-none s bytes source ledger feed comes feed_schema schema = record {
   done = [];
-  left = subst (λ (now : Option ToCome). LeftOf (start_of s bytes) [] now) (sym comes) (left-start (start_of s bytes));
+  left = subst (λ (now : Ahead). LeftOf (start_of s bytes) [] now) (sym comes) (left-start (start_of s bytes));
   of_schema = feed_schema ∙ sym schema;
   schema = refl;
   sources = refl;
@@ -57,15 +57,15 @@ HasTaken-none s bytes source ledger feed comes feed_schema schema = record {
 }
 
 -- one item more
-left-more : (start now next : Option ToCome) (done : List Item) (item : Item) → LeftOf start done now → Gives now (Ok (Some item)) next
+left-more : (start now next : Ahead) (done : List Item) (item : Item) → LeftOf start done now → Gives now (Ok (Some item)) next
     → LeftOf start (done ++ item ∷ []) next
 left-more None now next done item left gives = tt
 left-more (Some all) now next done item left gives =
-    let given : Gives (Some left.0) (Ok (Some item)) next = subst (λ (n : Option ToCome). Gives n (Ok (Some item)) next) left.1 gives in (
+    let given : Gives (Some left.0) (Ok (Some item)) next = subst (λ (n : Ahead). Gives n (Ok (Some item)) next) left.1 gives in (
       given.0,
       given.2,
-      left.2 ∙ ap (λ (t : ToCome). done ++ t.items) given.1 ∙ sym (append_assoc done (item ∷ []) given.0.items),
-      left.3 ∙ ap (λ (t : ToCome). t.end) given.1,
+      left.2 ∙ ap (λ (t : Coming (Option FeedFault)). done ++ t.items) given.1 ∙ sym (append_assoc done (item ∷ []) given.0.items),
+      left.3 ∙ ap (λ (t : Coming (Option FeedFault)). t.end) given.1,
     )
 
 -- the arrivals with one item more of a source
@@ -97,13 +97,13 @@ good_from_none WrongHeader none = cc
 good_from_none TooManyRecords none = cc
 
 -- the end: all items were taken
-items-all : (s : Layout) (bytes : Option (List ℕ)) (now : Option ToCome) (done : List Item) (next : Option ToCome) → LeftOf (start_of s bytes) done now → Gives now (Ok None) next
+items-all : (s : Layout) (bytes : Option (List ℕ)) (now : Ahead) (done : List Item) (next : Ahead) → LeftOf (start_of s bytes) done now → Gives now (Ok None) next
     → AreItemsOf s bytes done × IsGood s bytes
 items-all s None now done next left gives = (tt, tt)
 items-all s (Some bytes) now done next left gives =
-    let ended : left.0 ≡ nothing_but None = subst (λ (n : Option ToCome). Gives n (Ok None) next) left.1 gives in (
-      sym (left.2 ∙ ap (λ (t : ToCome). done ++ t.items) ended ∙ append-nil done),
-      good_from_none (items_of s (records_of bytes)).end (left.3 ∙ ap (λ (t : ToCome). t.end) ended),
+    let ended : left.0 ≡ nothing_but None = subst (λ (n : Ahead). Gives n (Ok None) next) left.1 gives in (
+      sym (left.2 ∙ ap (λ (t : Coming (Option FeedFault)). done ++ t.items) ended ∙ append-nil done),
+      good_from_none (items_of s (records_of bytes)).end (left.3 ∙ ap (λ (t : Coming (Option FeedFault)). t.end) ended),
     )
 
 pub TakesFeed-all : (s : Layout) (bytes : Option (List ℕ)) (source : ℕ) (old : LedgerView) (feed next : FeedView) (now : LedgerView)
@@ -123,17 +123,17 @@ end_from_too_many Good is = cc
 end_from_too_many WrongHeader is = cc
 end_from_too_many TooManyRecords is = refl
 
-ends-by : (s : Layout) (bytes : Option (List ℕ)) (now next : Option ToCome) (done : List Item) (fault : FeedFault) → LeftOf (start_of s bytes) done now → Gives now (Err fault) next
+ends-by : (s : Layout) (bytes : Option (List ℕ)) (now next : Ahead) (done : List Item) (fault : FeedFault) → LeftOf (start_of s bytes) done now → Gives now (Err fault) next
     → IsFaultOf s bytes fault
 ends-by s None now next done fault left gives = tt
 ends-by s (Some bytes) now next done Memory left gives = tt
 ends-by s (Some bytes) now next done Read left gives = tt
 ends-by s (Some bytes) now next done Header left gives =
-    let ended : left.0 ≡ nothing_but (Some Header) = subst (λ (n : Option ToCome). Gives n (Err Header) next) left.1 gives in
-    end_from_header (items_of s (records_of bytes)).end (left.3 ∙ ap (λ (t : ToCome). t.end) ended)
+    let ended : left.0 ≡ nothing_but (Some Header) = subst (λ (n : Ahead). Gives n (Err Header) next) left.1 gives in
+    end_from_header (items_of s (records_of bytes)).end (left.3 ∙ ap (λ (t : Coming (Option FeedFault)). t.end) ended)
 ends-by s (Some bytes) now next done TooMany left gives =
-    let ended : left.0 ≡ nothing_but (Some TooMany) = subst (λ (n : Option ToCome). Gives n (Err TooMany) next) left.1 gives in
-    end_from_too_many (items_of s (records_of bytes)).end (left.3 ∙ ap (λ (t : ToCome). t.end) ended)
+    let ended : left.0 ≡ nothing_but (Some TooMany) = subst (λ (n : Ahead). Gives n (Err TooMany) next) left.1 gives in
+    end_from_too_many (items_of s (records_of bytes)).end (left.3 ∙ ap (λ (t : Coming (Option FeedFault)). t.end) ended)
 
 pub IsFaultOf-taken : (s : Layout) (bytes : Option (List ℕ)) (source : ℕ) (old : LedgerView) (feed next : FeedView) (now : LedgerView) (fault : FeedFault)
     → Gives feed.to_come (Err fault) next.to_come → HasTaken s bytes source old feed now → IsFaultOf s bytes fault

@@ -2,7 +2,7 @@
 use Rattle.std.specs.Prelude.{◌≡◌, ⊤, ◌+◌, ◌≤◌, ℕ, Bool, true, false, List, [], ◌∷◌, Option, Some, None, option_map, Result, Ok, Err, IfOk, IfSome}
 use Rattle.cube_core.specs.Layout.{Layout}
 use Rattle.cube_core.specs.Takes.{takes}
-use Rattle.cube_core.specs.Items.{Coming, FeedEnd, Good, WrongHeader, TooManyRecords, items_of, items_after}
+use Rattle.cube_core.specs.Items.{Coming, FeedEnd, Good, WrongHeader, TooManyRecords, coming_after, items_of, items_after}
 use Rattle.cube_core.specs.declared.change.Item.{Item}
 use Rattle.cube_feed.specs.declared.fault.FeedFault.{FeedFault}
 use Rattle.cube_feed.specs.declared.fault.FeedFault.TheVariants.{Memory, Read, Header, TooMany}
@@ -13,10 +13,9 @@ use Rattle.cube_feed.specs.declared.feed.Stage.TheVariants as stage
 abbrev pub Left : Type 0
 Left = Option (List (List (List ℕ)))
 
--- the items to come, and the fault that follows them, if one does
-pub record ToCome : Type 0 where
-  pub items : List Item
-  pub end : Option FeedFault
+-- what lies ahead in a feed, where its reader tells its bytes: the items to come, and the fault that follows them, if one does
+abbrev pub Ahead : Type 0
+Ahead = Option (Coming (Option FeedFault))
 
 -- the fault of a feed's end
 abbrev pub fault_of : FeedEnd → Option FeedFault
@@ -25,22 +24,18 @@ fault_of WrongHeader = Some Header
 fault_of TooManyRecords = Some TooMany
 
 -- what records give is what is to come of them
-abbrev pub to_come : Coming → ToCome
+abbrev pub to_come : Coming FeedEnd → Coming (Option FeedFault)
 to_come coming = record { items = coming.items; end = fault_of coming.end }
 
 -- nothing is to come but this end
-abbrev pub nothing_but : Option FeedFault → ToCome
+abbrev pub nothing_but : Option FeedFault → Coming (Option FeedFault)
 nothing_but end = record { items = []; end = end }
 
--- an item, and what comes after it
-abbrev pub first_then : Item → ToCome → ToCome
-first_then item rest = record { items = item ∷ rest.items; end = rest.end }
-
 -- what is to come before the header was read, and after it
-abbrev pub before_header : Layout → Left → Option ToCome
+abbrev pub before_header : Layout → Left → Ahead
 before_header schema left = option_map (λ (records : List (List (List ℕ))). to_come (items_of schema records)) left
 
-abbrev pub after_header : Layout → ℕ → Left → Option ToCome
+abbrev pub after_header : Layout → ℕ → Left → Ahead
 after_header schema number left = option_map (λ (records : List (List (List ℕ))). to_come (items_after schema number records)) left
 
 -- what a caller sees of a feed: its schema, the number of its last item, its end once it has come there, and what is to come,
@@ -49,7 +44,7 @@ pub record FeedView : Type 0 where
   pub schema : Layout
   pub number : ℕ
   pub ended : Option (Option FeedFault)
-  pub to_come : Option ToCome
+  pub to_come : Ahead
 
 -- the end that a feed has come to
 abbrev pub ended_of : Stage → Option (Option FeedFault)
@@ -58,7 +53,7 @@ ended_of stage.Records = None
 ended_of (stage.Ended end) = Some end
 
 -- what is to come at a stage
-abbrev pub to_come_of : Layout → ℕ → Stage → Left → Option ToCome
+abbrev pub to_come_of : Layout → ℕ → Stage → Left → Ahead
 to_come_of schema number stage.Start left = before_header schema left
 to_come_of schema number stage.Records left = after_header schema number left
 to_come_of schema number (stage.Ended end) left = Some (nothing_but end)
@@ -74,9 +69,9 @@ end_answer (Some fault) = Err fault
 
 -- the answer is the first item to come, and the others are left; an end only where nothing but that is to come.
 -- Memory and the reader may fail at any time
-abbrev pub Gives : Option ToCome → Result (Option Item) FeedFault → Option ToCome → Type 0
+abbrev pub Gives : Ahead → Result (Option Item) FeedFault → Ahead → Type 0
 Gives None answer new = ⊤
-Gives (Some old) (Ok (Some item)) new = (rest : ToCome) × (old ≡ first_then item rest) × (new ≡ Some rest)
+Gives (Some old) (Ok (Some item)) new = (rest : Coming (Option FeedFault)) × (old ≡ coming_after item rest) × (new ≡ Some rest)
 Gives (Some old) (Ok None) new = old ≡ nothing_but None
 Gives (Some old) (Err Memory) new = ⊤
 Gives (Some old) (Err Read) new = ⊤

@@ -8,7 +8,15 @@ mod calls;
 #[cfg(test)]
 mod cells;
 #[cfg(test)]
+mod commands;
+#[cfg(test)]
+mod expect;
+#[cfg(test)]
 mod failures;
+#[cfg(test)]
+mod groupings;
 #[cfg(test)]
 mod runs;
 pub mod sample;
+#[cfg(test)]
+mod sizes;

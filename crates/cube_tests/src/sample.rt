@@ -11,6 +11,12 @@ pub const FEED_HEADER: &str = "op,id,region,kind,amount\n";
 pub const CUBE_HEADER: &str =
     "region,kind,grouping(region),grouping(kind),count(*),sum(amount),min(amount),max(amount),avg(amount)\n";
 
+/// The file of the sample schema.
+pub const SAMPLE_SCHEMA: &str = "dimensions = ['region', 'kind']
+measures = ['amount']
+aggregates = ['count(*)', 'sum(amount)', 'min(amount)', 'max(amount)', 'avg(amount)']
+";
+
 /// The feed of the header line and these lines. The only error is want of memory.
 pub fn feed_of(alloc: Global, lines: &str) -> Result<String, AllocError>
     ensures { IfOk result (λ feed. string_bytes feed ≡ codes "op,id,region,kind,amount\n" ++ lines.now) }

@@ -9,7 +9,7 @@ use Rattle.cube_core.specs.Arrival.{Arrivals, of_source, of_sources}
 use Rattle.cube_core.specs.Layout.{Layout}
 use Rattle.cube_core.specs.Run.{Told}
 use Rattle.cube_core.specs.declared.change.Item.{Item}
-use Rattle.cube_feed.specs.Feed.{ToCome}
+use Rattle.cube_feed.specs.Feed.{Ahead}
 use Rattle.cube_link.specs.Link.{Sending, Receiving, Link}
 use Rattle.cube_threads.specs.Building.{IsNew, TakesFeeds, TakeAll}
 use Rattle.cube_threads.specs.Feeding.{Feeds, IsReceiptOf}
@@ -41,12 +41,12 @@ ready-linked {B} all stands sources builders outs gatherers linked count most sa
     }
 
 -- the end of each feeder, by what was to come of its feed and by its outlets
-pub record EndsOf (comings : List (Option ToCome)) (outs : List (List (Sending Parcel))) (ends : List FeederEnd) : Type 0 where
+pub record EndsOf (comings : List Ahead) (outs : List (List (Sending Parcel))) (ends : List FeederEnd) : Type 0 where
   pub same_outs : length outs ≡ length ends
   pub same_comings : length comings ≡ length ends
   pub each : (k : ℕ) (e : FeederEnd) → k < length ends → Feeds (get_or comings k None) (get_or outs k []) (get_or ends k e)
 
-pub ends-joined : {P : Type 0} (feed : P → Option ToCome) (outs : P → List (Sending Parcel)) (feeders : List P) (ends : List FeederEnd) →
+pub ends-joined : {P : Type 0} (feed : P → Ahead) (outs : P → List (Sending Parcel)) (feeders : List P) (ends : List FeederEnd) →
     AllZip (λ feeder end. Feeds (feed feeder) (outs feeder) end) feeders ends → EndsOf (map feed feeders) (map outs feeders) ends
 ends-joined feed outs feeders ends joined =
     let same = AllZip-length (λ feeder end. Feeds (feed feeder) (outs feeder) end) feeders ends joined in
@@ -79,7 +79,7 @@ length-gathered : (old new : List (Receiving Parcel)) → map (λ (inlet : Recei
 length-gathered old new same = sym (length-map new (λ (inlet : Receiving Parcel). inlet.link)) ∙ ap length same ∙ length-map old (λ (inlet : Receiving Parcel). inlet.link)
 
 -- what ends tell after the joins
-pub tell-joined : {B : Type 0} (stands : B → B → Arrivals → Type 0) (s : Layout) (sources : Told) (comings : List (Option ToCome)) (outs : List (List (Sending Parcel))) (ends : List FeederEnd) (old mid : List (Gatherer B)) →
+pub tell-joined : {B : Type 0} (stands : B → B → Arrivals → Type 0) (s : Layout) (sources : Told) (comings : List Ahead) (outs : List (List (Sending Parcel))) (ends : List FeederEnd) (old mid : List (Gatherer B)) →
     AreLinked outs old → comings ≡ map (coming_of s) sources → EndsOf comings outs ends → AllZip (HasGathered stands) old mid → AllTell s sources (map received_by mid) ends
 tell-joined stands s sources comings outs ends old mid linked come joined gathered =
     let count = AllZip-length (HasGathered stands) old mid gathered in
@@ -174,7 +174,7 @@ map-told f g [] = refl
 map-told f g (x ∷ xs) = ap (λ rest. g (f x) ∷ rest) (map-told f g xs)
 
 -- what ends tell after the joins of a run whose threads were started
-pub tell-run : {B P R E : Type 0} (stands : B → B → Arrivals → Type 0) (s : Layout) (remaining : R → Option (List ℕ)) (readers : List R) (feed : P → Option ToCome) (outs : P → List (Sending Parcel)) (feeders : List P) (ends : List FeederEnd)
+pub tell-run : {B P R E : Type 0} (stands : B → B → Arrivals → Type 0) (s : Layout) (remaining : R → Option (List ℕ)) (readers : List R) (feed : P → Ahead) (outs : P → List (Sending Parcel)) (feeders : List P) (ends : List FeederEnd)
     (old mid : List (Gatherer B)) (answer : Result Unit E) → is_err answer ≡ false → AreLinked (map outs feeders) old → map feed feeders ≡ map (λ reader. coming_of s (remaining reader)) readers →
     OnOk answer (AllZip (λ feeder end. Feeds (feed feeder) (outs feeder) end) feeders ends) → OnOk answer (AllZip (HasGathered stands) old mid) → AllTell s (map remaining readers) (map received_by mid) ends
 tell-run stands s remaining readers feed outs feeders ends old mid answer fine linked feeds joined gathered =

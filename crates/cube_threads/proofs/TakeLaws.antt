@@ -5,7 +5,7 @@ use Rattle.std.specs.List.{All, AllZip, AllByRecursion}
 use Rattle.std.proofs.lemmas.List.{append-nil, ext_get_or, get_or-map, get_or-take, get_or_default, length-map, length-take}
 use Rattle.std.proofs.lemmas.List.FromFn.{get_or-map-range_with_len, length-map-range_with_len}
 use Rattle.cube_core.specs.Arrival.{Arrivals, of_source, of_sources}
-use Rattle.cube_core.specs.Items.{FeedEnd, Good, WrongHeader, TooManyRecords, items_of}
+use Rattle.cube_core.specs.Items.{Coming, FeedEnd, Good, WrongHeader, TooManyRecords, items_of}
 use Rattle.cube_core.specs.Layout.{Layout}
 use Rattle.cube_core.specs.Records.{records_of}
 use Rattle.cube_core.specs.Run.{Told, IsGood, AreItemsOf, AreGood}
@@ -13,7 +13,7 @@ use Rattle.cube_core.specs.declared.change.Item.{Item}
 use Rattle.cube_engine.specs.Build.{IsFaultOf, IsLowestFault}
 use Rattle.cube_engine.specs.declared.fault.RunFault.{RunFault}
 use Rattle.cube_engine.specs.declared.fault.RunFault.TheVariants as run_fault
-use Rattle.cube_feed.specs.Feed.{ToCome, fault_of}
+use Rattle.cube_feed.specs.Feed.{Ahead, fault_of}
 use Rattle.cube_feed.specs.declared.fault.FeedFault.{FeedFault}
 use Rattle.cube_feed.specs.declared.fault.FeedFault.TheVariants.{Memory, Read, Header, TooMany}
 use Rattle.cube_link.specs.Link.{Sending, Receiving}
@@ -69,8 +69,8 @@ end_from_too_many TooManyRecords is = refl
 stops-none : (s : Layout) (bytes : Option (List ℕ)) (items : List Item) → Stops (coming_of s bytes) items None → AreItemsOf s bytes items × IsGood s bytes
 stops-none s None items stops = (tt, tt)
 stops-none s (Some bytes) items stops = (
-  sym (ap (λ (c : ToCome). c.items) stops),
-  good_from_none (items_of s (records_of bytes)).end (ap (λ (c : ToCome). c.end) stops),
+  sym (ap (λ (c : Coming (Option FeedFault)). c.items) stops),
+  good_from_none (items_of s (records_of bytes)).end (ap (λ (c : Coming (Option FeedFault)). c.end) stops),
 )
 
 -- a stop is the feed's own fault
@@ -78,8 +78,8 @@ stops-fault : (s : Layout) (bytes : Option (List ℕ)) (items : List Item) (faul
 stops-fault s None items fault stops = tt
 stops-fault s (Some bytes) items Memory stops = tt
 stops-fault s (Some bytes) items Read stops = tt
-stops-fault s (Some bytes) items Header stops = end_from_header (items_of s (records_of bytes)).end (ap (λ (c : ToCome). c.end) stops)
-stops-fault s (Some bytes) items TooMany stops = end_from_too_many (items_of s (records_of bytes)).end (ap (λ (c : ToCome). c.end) stops)
+stops-fault s (Some bytes) items Header stops = end_from_header (items_of s (records_of bytes)).end (ap (λ (c : Coming (Option FeedFault)). c.end) stops)
+stops-fault s (Some bytes) items TooMany stops = end_from_too_many (items_of s (records_of bytes)).end (ap (λ (c : Coming (Option FeedFault)). c.end) stops)
 
 -- ---- what an end says of the links of its source
 
@@ -99,7 +99,7 @@ abbrev pub Names : List Item → Sending Parcel → Sending Parcel → Type 0
 Names items received receipt = (receipt.link ≡ received.link) × (receipt.sent ≡ parcels_of items)
 
 -- an end has items, of which its stop tells, and whose parcels each of its receipts names
-pub record Tells (coming : Option ToCome) (received : List (List (Sending Parcel))) (k : ℕ) (end : FeederEnd) : Type 0 where
+pub record Tells (coming : Ahead) (received : List (List (Sending Parcel))) (k : ℕ) (end : FeederEnd) : Type 0 where
   pub items : List Item
   pub stops : Stops coming items end.stop
   pub names : (j : ℕ) (d : Sending Parcel) → j < length received → IfSome (receipt_of end j) (Names items (get_or (get_or received j []) k d))
