@@ -1,6 +1,7 @@
 pub mod BagLaws
 pub mod SumLaws
 pub mod TallyLaws
+pub mod MergeLaws
 pub mod ValueLaws
 pub mod FactLaws
 pub mod DictionaryLaws
