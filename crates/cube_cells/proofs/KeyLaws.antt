@@ -33,7 +33,7 @@ pub key_is : (a b : Key) → a.coords ≡ b.coords → a ≡ b
 key_is a b same = let make : List Coord → Key = λ coords. record { coords = coords } in ap make same
 
 -- whether a key is another, by key order
-same_key : (a b : Key) → Decides (eq_by_cmp key_cmp a b) (a ≡ b)
+pub same_key : (a b : Key) → Decides (eq_by_cmp key_cmp a b) (a ≡ b)
 same_key a b = (
   λ same. tells_apart exact_keys a b same,
   λ same. let P : Key → Type 0 = λ k. eq_by_cmp key_cmp a k ≡ true in subst P same (ap is_eq (tied_itself key_cmp_total a)),

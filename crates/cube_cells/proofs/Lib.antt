@@ -19,3 +19,6 @@ pub mod CodedLaws
 pub mod KeptLaws
 pub mod StepLaws
 pub mod NewLaws
+pub mod FillLaws
+pub mod GroupLaws
+pub mod FilledLaws

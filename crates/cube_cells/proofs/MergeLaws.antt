@@ -1,11 +1,12 @@
 -- Laws of tallies that are joined: the bags of one added to those of another, and the tally of the facts of both.
+use Rattle.std.specs.Prelude.{ℤ, All}
 use Rattle.std.proofs.Common.{◌≡◌, ℕ, ◌+◌, ◌<◌, ◌≤◌, List, [], refl, arith, ap, sym, ◌∙◌, subst, length, set, take}
 use Rattle.std.proofs.lemmas.Bool.{cases_lt, cases_eq}
 use Rattle.std.proofs.Math.Logic.{⊎_elim}
 use Rattle.std.proofs.lemmas.List.{get_or-set_same, get_or-set_other, get_or-take, get_or_default, get_or_past, length-set, length-take, take_all}
 use Rattle.cube_cells.specs.Bag.{Bag, AddsBag, held_of, size_of}
-use Rattle.cube_cells.specs.Tally.{bag_at, AddsBags}
-use Rattle.cube_cells.proofs.BagLaws.{size_of-bag}
+use Rattle.cube_cells.specs.Tally.{bag_at, AddsBags, SameBags}
+use Rattle.cube_cells.proofs.BagLaws.{held_le_size, size_of-bag}
 use Rattle.cube_cells.proofs.ValueLaws.{AreWithin}
 
 -- past the first bags there is none
@@ -81,3 +82,27 @@ within_both facts others old new more within_old within_more sizes = λ k d insi
 -- and both fit where the facts do
 pub bags_fit : (facts others : ℕ) (old more : List Bag) → AreWithin facts old → AreWithin others more → (m : ℕ) → size_of (bag_at old m) + size_of (bag_at more m) ≤ facts + others
 bags_fit facts others old more within_old within_more m = omega (arith, within_at facts old m within_old, within_at others more m within_more)
+
+-- bags that were added to empty ones are the same
+pub bags_copied : (empty new more : List Bag) → length empty ≡ length more → All (λ bag. size_of bag ≡ 0) empty → AddsBags empty new more → SameBags more new
+bags_copied empty new more widths none adds = record {
+  same_length = omega (arith, widths, adds.same_length);
+  bags = λ m. record { held = λ x. omega (arith, (adds.each m).held x, nothing m x) };
+} where
+  nothing : (m : ℕ) (x : ℤ) → held_of (bag_at empty m) x ≡ 0
+  nothing m x = ⊎_elim
+      (λ inside. omega (arith, held_le_size (bag_at empty m) x, none m [] inside))
+      (λ past. ap (λ (bag : Bag). held_of bag x) (get_or_past empty m [] past))
+      (cases_lt m (length empty))
+
+-- and no larger than the facts
+pub within_copied : (facts : ℕ) (empty new more : List Bag) → All (λ bag. size_of bag ≡ 0) empty → AreWithin facts more → ((m : ℕ) → size_of (bag_at new m) ≤ size_of (bag_at empty m) + size_of (bag_at more m)) → AreWithin facts new
+within_copied facts empty new more none within sizes =
+    let nothing : AreWithin 0 empty = λ k d inside. omega (arith, none k d inside) in
+    λ k d inside. omega (arith, within_both 0 facts empty new more nothing within sizes k d inside)
+
+-- and both fit where the facts do
+pub fits_copied : (facts : ℕ) (empty more : List Bag) → All (λ bag. size_of bag ≡ 0) empty → AreWithin facts more → (m : ℕ) → size_of (bag_at empty m) + size_of (bag_at more m) ≤ facts
+fits_copied facts empty more none within m =
+    let nothing : AreWithin 0 empty = λ k d inside. omega (arith, none k d inside) in
+    omega (arith, bags_fit 0 facts empty more nothing within m)

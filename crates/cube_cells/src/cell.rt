@@ -66,6 +66,16 @@ impl Cell {
         Ok(())
     }
 
+    /// A cell of the same facts. The only error is want of memory.
+    pub fn copy(&self, alloc: Global) -> Result<Cell, AllocError>
+        ensures { IfOk result (SameTally self.now) }
+    {
+        let facts = self.count();
+        let mut measures = empty_measures(alloc, self.measures.len())?;
+        merge_measures(&mut measures, &self.measures)?;
+        Ok(Cell { facts, measures })
+    }
+
     /// Adds the facts of another cell. Where memory is wanting, the cell has lost some of its values.
     pub fn merge(&mut self, more: &Cell) -> Result<(), AllocError>
         requires width { length more.now.bags ≡ length self.old.bags }
