@@ -10,11 +10,11 @@ use Rattle.std.proofs.lemmas.Cmp.{int_eq_equiv}
 use Rattle.std.proofs.lemmas.Bool.Decides.{Decides-int_eq}
 use Rattle.std.proofs.lemmas.Map.Views.{All-map-IsPermutation, All-map-remove_entry, All-values-set_value, IfSome-lookup_from_All, Contains-keys_from_lookup, IsSome-lookup_from_Contains}
 use Rattle.std.proofs.lemmas.Map.Entries.{All-lookup}
-use Rattle.std.proofs.lemmas.List.{get_or_default, drop_all}
-use Rattle.std.proofs.lemmas.List.Elements.{All-cons, All-head, All-contains, All-map}
+use Rattle.std.proofs.lemmas.List.{get_or_default, drop_all, at_drop_more}
+use Rattle.std.proofs.lemmas.List.Elements.{All-cons, All-nil, All-head, All-tail, All-contains, All-map}
 use Rattle.std.proofs.lemmas.List.Sorted.{sum_by-IsPermutation}
 use Rattle.std.proofs.lemmas.List.Sums.{sum_by-append, sum_by-drop_more, sum_by-cons, sum_by-set, sum_by-swap_remove, sum_by_push, sum_by-le, get_or-le-sum_by}
-use Rattle.cube_cells.specs.Bag.{Bag, weight_of, one_at, held_of, size_of, SameHeld, AddsTimes, AddsOne, HasLeast, HasGreatest}
+use Rattle.cube_cells.specs.Bag.{Bag, weight_of, one_at, held_of, size_of, SameHeld, AddsBag, AddsTimes, AddsOne, HasLeast, HasGreatest}
 
 -- what one pair comes to
 abbrev pub part : (ℤ → ℕ) → ℤ × ℕ → ℕ
@@ -58,13 +58,17 @@ pub held_of_absent : (bag : Bag) (x : ℤ) → All (λ e. int_eq x e.0 ≡ false
 held_of_absent bag x none =
     omega (arith, sum_by-le (part (one_at x)) 0 bag (λ k d within. omega (arith, ap (λ n. n * (get_or bag k d).1) (one_at_apart x (get_or bag k d).0 (none k d within)))))
 
--- the pair at i is of v, and one of v is added there
-pub adds_at : (bag : Bag) (i : ℕ) (e : ℤ × ℕ) (v : ℤ) → i < length bag → e ≡ get_or bag i e → e.0 ≡ v → AddsOne bag (set bag i (e.0, e.1 + 1)) v
-adds_at bag i e v within is same = record { held = λ x. omega (arith, weight_of-set (one_at x) bag i e (e.1 + 1) within is, ap (one_at x) same) }
+-- the pair at i is of v, and n of v are added there
+pub adds_at : (bag : Bag) (i : ℕ) (e : ℤ × ℕ) (v : ℤ) (n : ℕ) → i < length bag → e ≡ get_or bag i e → e.0 ≡ v → AddsTimes bag (set bag i (e.0, e.1 + n)) v n
+adds_at bag i e v n within is same = record { held = λ x. omega (arith, weight_of-set (one_at x) bag i e (e.1 + n) within is, ap (λ y. one_at x y * n) same) }
 
 -- a pair of v is put at the end
-pub adds_pair : (bag : Bag) (v : ℤ) → AddsOne bag (bag ++ (v, 1) ∷ []) v
-adds_pair bag v = record { held = λ x. omega (arith, sum_by_push (part (one_at x)) bag (v, 1)) }
+pub adds_pair : (bag : Bag) (v : ℤ) (n : ℕ) → AddsTimes bag (bag ++ (v, n) ∷ []) v n
+adds_pair bag v n = record { held = λ x. omega (arith, sum_by_push (part (one_at x)) bag (v, n)) }
+
+-- once is one
+pub adds_once : (old new : Bag) (v : ℤ) → AddsTimes old new v 1 → AddsOne old new v
+adds_once old new v adds = record { held = λ x. omega (arith, adds.held x) }
 
 -- the pair at i is of v, and one of v is taken there
 pub takes_at : (bag : Bag) (i : ℕ) (e : ℤ × ℕ) (v : ℤ) → i < length bag → e ≡ get_or bag i e → e.0 ≡ v → 1 < e.1 → AddsOne (set bag i (e.0, e.1 - 1)) bag v
@@ -211,6 +215,10 @@ weight_of-times f old new v n adds =
 pub weight_of-one : (f : ℤ → ℕ) (old new : Bag) (v : ℤ) → AddsOne old new v → weight_of f new ≡ weight_of f old + f v
 weight_of-one f old new v adds = omega (arith, weight_of-times f old new v 1 (record { held = λ x. omega (arith, adds.held x) }))
 
+-- what is added once is one more
+pub size_of_once : (old new : Bag) (v : ℤ) → AddsTimes old new v 1 → size_of new ≡ size_of old + 1
+size_of_once old new v adds = weight_of-times (λ _. 1) old new v 1 adds
+
 pub size_of_one : (old new : Bag) (v : ℤ) → AddsOne old new v → size_of new ≡ size_of old + 1
 size_of_one old new v adds = weight_of-one (λ _. 1) old new v adds
 
@@ -300,8 +308,8 @@ pub size_of_same : (a b : Bag) → SameHeld a b → size_of a ≡ size_of b
 size_of_same a b same = weight_of-same (λ _. 1) a b same
 
 -- what is added to one of two equal bags is added to the other
-pub adds_to_same : (a b new : Bag) (v : ℤ) → SameHeld a b → AddsTimes b new v 1 → AddsOne a new v
-adds_to_same a b new v same adds = record { held = λ x. omega (arith, same.held x, adds.held x) }
+pub adds_to_same : (a b new : Bag) (v : ℤ) (n : ℕ) → SameHeld a b → AddsTimes b new v n → AddsTimes a new v n
+adds_to_same a b new v n same adds = record { held = λ x. omega (arith, same.held x, adds.held x) }
 
 -- what was taken was held
 pub held_before : (old new : Bag) (v : ℤ) → AddsOne new old v → 0 < held_of old v
@@ -327,3 +335,74 @@ held_by_place bag v (Some i) some inside of = held_at bag i v inside of some
 pub absent_by_place : (bag : Bag) (v : ℤ) (place : Option ℕ) → IfNone place (All (λ e. int_eq v e.0 ≡ false) bag) → OnFalse (is_some place) (held_of bag v ≡ 0)
 absent_by_place bag v None none = held_of_absent bag v none
 absent_by_place bag v (Some i) none = tt
+
+-- ---- a bag that is added to another, part by part
+-- what is in it now with what is left is the whole
+pub record IsMerging (old more left now : Bag) : Type 0 where
+  pub held : (x : ℤ) → held_of now x + held_of left x ≡ held_of old x + held_of more x
+
+-- two bags as one
+both_as_one : (f : ℤ → ℕ) (a b : Bag) → weight_of f (a ++ b) ≡ weight_of f a + weight_of f b
+both_as_one f a b = sum_by-append (part f) a b
+
+-- every weight
+weight_of-merging : (f : ℤ → ℕ) (old more left now : Bag) → IsMerging old more left now → weight_of f now + weight_of f left ≡ weight_of f old + weight_of f more
+weight_of-merging f old more left now is =
+    let same : SameHeld (now ++ left) (old ++ more) = record { held = λ x. omega (arith, is.held x, both_as_one (one_at x) now left, both_as_one (one_at x) old more) } in
+    omega (arith, weight_of-same f (now ++ left) (old ++ more) same, both_as_one f now left, both_as_one f old more)
+
+-- nothing was added yet
+pub merging_none : (old more : Bag) → IsMerging old more more old
+merging_none old more = record { held = λ x. refl }
+
+-- a pair more
+pub merging_more : (old more left now new : Bag) (e : ℤ × ℕ) → IsMerging old more (e ∷ left) now → AddsTimes now new e.0 e.1 → IsMerging old more left new
+merging_more old more left now new e is adds = record { held = λ x. omega (arith, is.held x, adds.held x, weight_of-cons (one_at x) e left) }
+
+-- which has room
+pub merging_fits : (old more left now : Bag) (e : ℤ × ℕ) → IsMerging old more (e ∷ left) now → size_of now + e.1 ≤ size_of old + size_of more
+merging_fits old more left now e is = omega (arith, weight_of-merging (λ _. 1) old more (e ∷ left) now is, weight_of-cons (λ _. 1) e left)
+
+-- all was added
+pub merging_end : (old more now : Bag) → IsMerging old more [] now → AddsBag old now more
+merging_end old more now is = record { held = λ x. omega (arith, is.held x) }
+
+-- what a bag adds to every weight
+pub weight_of-bag : (f : ℤ → ℕ) (old new more : Bag) → AddsBag old new more → weight_of f new ≡ weight_of f old + weight_of f more
+weight_of-bag f old new more adds = omega (arith, weight_of-merging f old more [] new (record { held = λ x. omega (arith, adds.held x) }))
+
+pub size_of-bag : (old new more : Bag) → AddsBag old new more → size_of new ≡ size_of old + size_of more
+size_of-bag old new more adds = weight_of-bag (λ _. 1) old new more adds
+
+-- a bag of one pair
+pub adds_pair_alone : (old new : Bag) (e : ℤ × ℕ) → AddsTimes old new e.0 e.1 → AddsBag old new (e ∷ [])
+adds_pair_alone old new e adds = record { held = λ x. omega (arith, adds.held x, weight_of-cons (one_at x) e []) }
+
+-- a number held no times changes nothing
+pub adds_no_times : (bag : Bag) (v : ℤ) (n : ℕ) → n ≡ 0 → AddsTimes bag bag v n
+adds_no_times bag v n none = record { held = λ x. omega (arith, ap (λ m. one_at x v * m) none) }
+
+-- the pairs from a place on: the one there, and those after it
+pairs_from : (pairs : Bag) (i : ℕ) (d : ℤ × ℕ) → i < length pairs → drop i pairs ≡ get_or pairs i d ∷ drop (i + 1) pairs
+pairs_from pairs i d within = at_drop_more (λ (bag : Bag). bag) pairs i d within
+
+-- the pair at a place is added
+pub merging_at : (old pairs now new : Bag) (i : ℕ) (d : ℤ × ℕ) → i < length pairs → IsMerging old pairs (drop i pairs) now → AddsTimes now new (get_or pairs i d).0 (get_or pairs i d).1 → IsMerging old pairs (drop (i + 1) pairs) new
+merging_at old pairs now new i d within is adds =
+    let P : Bag → Type 0 = λ left. IsMerging old pairs left now in
+    merging_more old pairs (drop (i + 1) pairs) now new (get_or pairs i d) (subst P (pairs_from pairs i d within) is) adds
+
+-- which has room
+pub merging_fits_at : (old pairs now : Bag) (i : ℕ) (d : ℤ × ℕ) → i < length pairs → IsMerging old pairs (drop i pairs) now → size_of now + (get_or pairs i d).1 ≤ size_of old + size_of pairs
+merging_fits_at old pairs now i d within is =
+    let P : Bag → Type 0 = λ left. IsMerging old pairs left now in
+    merging_fits old pairs (drop (i + 1) pairs) now (get_or pairs i d) (subst P (pairs_from pairs i d within) is)
+
+-- past the last pair all were
+pub merging_past : (old pairs now : Bag) (i : ℕ) → length pairs ≤ i → IsMerging old pairs (drop i pairs) now → AddsBag old now pairs
+merging_past old pairs now i past is = let P : Bag → Type 0 = λ left. IsMerging old pairs left now in merging_end old pairs now (subst P (drop_all i pairs past) is)
+
+-- no count of entries is 0
+pub some_entries : (bag : Bag) → All (λ n. 0 < n) (values_of bag) → All (λ e. 0 < e.1) bag
+some_entries [] all = All-nil (λ (e : ℤ × ℕ). 0 < e.1)
+some_entries (e ∷ bag) all = All-cons (λ (e : ℤ × ℕ). 0 < e.1) e bag (All-head (λ n. 0 < n) e.1 (values_of bag) all) (some_entries bag (All-tail (λ n. 0 < n) e.1 (values_of bag) all))

@@ -69,7 +69,7 @@ all_from_among p [] each = refl
 all_from_among p (first ∷ sets) each = and_from (p first) (list_all p sets) (each first (or_left (first == first) (is_among first sets) (eq-eqb first first refl))) (all_from_among p sets (λ set among. each set (or_right (first == set) (is_among set sets) among)))
 
 -- the cell of a key that is kept for a fact, by codes
-kept_look_up : (sets : List ℕ) (dictionaries : Dictionaries) (measures : ℕ) (cells : CodedCells) (fact : Fact) (codes : Codes) (key : Key) → IsCodedFact sets dictionaries fact codes → All (IsCodedCell dictionaries measures) cells → is_kept_for sets fact key ≡ true → cell_at (decoded dictionaries cells) key ≡ coded_at cells (key_in codes (mask_of key))
+pub kept_look_up : (sets : List ℕ) (dictionaries : Dictionaries) (measures : ℕ) (cells : CodedCells) (fact : Fact) (codes : Codes) (key : Key) → IsCodedFact sets dictionaries fact codes → All (IsCodedCell dictionaries measures) cells → is_kept_for sets fact key ≡ true → cell_at (decoded dictionaries cells) key ≡ coded_at cells (key_in codes (mask_of key))
 kept_look_up sets dictionaries measures cells fact codes key of each kept = look_up-coded dictionaries measures cells key (key_in codes (mask_of key)) (kept_key_codes dictionaries sets fact codes key of.all of.has kept) each
 
 set_look_up : (sets : List ℕ) (dictionaries : Dictionaries) (measures : ℕ) (cells : CodedCells) (fact : Fact) (codes : Codes) (set : ℕ) → IsCodedFact sets dictionaries fact codes → All (IsCodedCell dictionaries measures) cells → cell_at (decoded dictionaries cells) (covering_key fact set) ≡ coded_at cells (key_in codes set)
@@ -114,7 +114,7 @@ held_cells schema sets facts dictionaries cells fact codes is of holds key insid
 
 -- ---- other keys
 -- where look-ups by other codes give the same, so do those by other keys
-other_keys : (sets : List ℕ) (dictionaries : Dictionaries) (measures : ℕ) (old new : CodedCells) (fact : Fact) (codes : Codes) → IsCodedFact sets dictionaries fact codes → AreValidIn sets dictionaries codes → All (IsCodedCell dictionaries measures) old → All (IsCodedCell dictionaries measures) new → ((key : Codes) → is_in (codes_in sets codes) key ≡ false → coded_at new key ≡ coded_at old key) → (key : Key) → is_kept_for sets fact key ≡ false → cell_at (decoded dictionaries new) key ≡ cell_at (decoded dictionaries old) key
+pub other_keys : (sets : List ℕ) (dictionaries : Dictionaries) (measures : ℕ) (old new : CodedCells) (fact : Fact) (codes : Codes) → IsCodedFact sets dictionaries fact codes → AreValidIn sets dictionaries codes → All (IsCodedCell dictionaries measures) old → All (IsCodedCell dictionaries measures) new → ((key : Codes) → is_in (codes_in sets codes) key ≡ false → coded_at new key ≡ coded_at old key) → (key : Key) → is_kept_for sets fact key ≡ false → cell_at (decoded dictionaries new) key ≡ cell_at (decoded dictionaries old) key
 other_keys sets dictionaries measures old new fact codes of valid each_old each_new others key unkept = elim (cases_eq (length key.coords) (length dictionaries)) [
   | inl same ↦
       let found = some_key_codes dictionaries key of.all same of.room in

@@ -41,7 +41,7 @@ some_group key (fact ∷ facts) = elim (cases_Bool (covers key fact)) [
 ]
 
 -- the tally of no fact is that of no fact
-empty_is : (n : ℕ) → IsTallyOf [] (empty_tally n)
+pub empty_is : (n : ℕ) → IsTallyOf [] (empty_tally n)
 empty_is n = record {
   count = refl;
   bags = λ m inside. record { held = λ x. rw (get_or-replicate {A = Bag} n m [] [] (omega (arith, inside, length-replicate {A = Bag} n []))) refl };
@@ -86,7 +86,7 @@ other_group sets n fact facts key unkept cell = elim (cases_Bool (covers key fac
 ]
 
 -- what a kept key that is no cell has: an empty group
-kept_none : (sets : List ℕ) (n : ℕ) (fact : Fact) (facts : List Fact) (key : Key) → is_kept_for sets fact key ≡ true → is_cell sets n facts key ≡ false → group_of key facts ≡ []
+pub kept_none : (sets : List ℕ) (n : ℕ) (fact : Fact) (facts : List Fact) (key : Key) → is_kept_for sets fact key ≡ true → is_cell sets n facts key ≡ false → group_of key facts ≡ []
 kept_none sets n fact facts key kept none =
     let parts = and_parts (covers key fact) (is_among (mask_of key) sets) kept in
     no_group key facts (later (is_among (mask_of key) sets) (is_total n key) (list_any (covers key) facts) parts.1 none) where

@@ -177,7 +177,7 @@ sum_of_none weight codes set (first ∷ sets) at_each among = elim (cases_Bool (
   later_among : (x y : ℕ) (xs : List ℕ) → is_among y xs ≡ true → is_among y (x ∷ xs) ≡ true
   later_among x y xs later = elim (cases_Bool (x == y)) [ inl same ↦ rw same refl | inr apart ↦ rw apart later ]
 
-not_among_later : (set : ℕ) (sets : List ℕ) → All (λ other. set < other) sets → is_among set sets ≡ false
+pub not_among_later : (set : ℕ) (sets : List ℕ) → All (λ other. set < other) sets → is_among set sets ≡ false
 not_among_later set sets above = false_from_ne_true (is_among set sets) (λ among. absurd (omega (arith, among_all (λ other. set < other) sets set above among)))
 
 pub sum_of_one : (weight : Codes → ℕ) (codes : Codes) (set : ℕ) (sets : List ℕ) → ((other : ℕ) → is_among other sets ≡ true → weight (key_in codes other) ≡ (if other == set then 1 else 0)) → IsStrictlySortedBy nat_cmp sets → is_among set sets ≡ true → sum_by weight (codes_in sets codes) ≡ 1

@@ -26,13 +26,13 @@ use Rattle.cube_cells.proofs.WalkLaws.{codes_equiv, weight-remove}
 
 -- ---- each cell
 -- what is true of each codes that are found is true of each cell, where codes differ
-each_found : (P : Codes × Tally → Type 0) (cells : CodedCells) → AreApart cells → ((codes : Codes) (t : Tally) → coded_at cells codes ≡ Some t → P (codes, t)) → All P cells
+pub each_found : (P : Codes × Tally → Type 0) (cells : CodedCells) → AreApart cells → ((codes : Codes) (t : Tally) → coded_at cells codes ≡ Some t → P (codes, t)) → All P cells
 each_found P cells apart found = λ k d inside.
     let cell = get_or cells k d in
     found cell.0 cell.1 (lookup-from_Contains codes_equiv cell.0 cell.1 cells apart (Contains-get_or cells k d inside))
 
 -- a cell in a list where it is as it was
-as_it_was : (dictionaries : Dictionaries) (measures : ℕ) (old new : CodedCells) (codes : Codes) (t : Tally) → All (IsCodedCell dictionaries measures) old → coded_at new codes ≡ coded_at old codes → coded_at new codes ≡ Some t → IsCodedCell dictionaries measures (codes, t)
+pub as_it_was : (dictionaries : Dictionaries) (measures : ℕ) (old new : CodedCells) (codes : Codes) (t : Tally) → All (IsCodedCell dictionaries measures) old → coded_at new codes ≡ coded_at old codes → coded_at new codes ≡ Some t → IsCodedCell dictionaries measures (codes, t)
 as_it_was dictionaries measures old new codes t each same is = found_cell dictionaries measures old codes t each (sym same ∙ is)
 
 key_eight : (sets : List ℕ) (dictionaries : Dictionaries) (fact : Fact) (codes : Codes) (set : ℕ) → IsCodedFact sets dictionaries fact codes → length (key_in codes set).codes ≡ 8

@@ -1,6 +1,7 @@
 pub mod BagLaws
 pub mod SumLaws
 pub mod TallyLaws
+pub mod MergeLaws
 pub mod ValueLaws
 pub mod FactLaws
 pub mod DictionaryLaws
@@ -18,3 +19,6 @@ pub mod CodedLaws
 pub mod KeptLaws
 pub mod StepLaws
 pub mod NewLaws
+pub mod FillLaws
+pub mod GroupLaws
+pub mod FilledLaws

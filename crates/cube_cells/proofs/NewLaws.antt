@@ -1,9 +1,10 @@
 -- Laws of the new cube: its kept sets, its empty dictionaries, and its one cell or none.
-use Rattle.std.proofs.Common.{◌≡◌, ℕ, zero, suc, ◌^◌, ◌<◌, ◌≤◌, ◌==◌, ◌%◌, List, [], ◌∷◌, ◌++◌, Bool, true, false, cond, ◌||◌, refl, sym, ap, ◌∙◌, subst, arith, inl, inr, length, filter, get_or, replicate, Some, None, if◌then◌else◌}
+use Rattle.std.proofs.Common.{◌≡◌, ℕ, zero, suc, ◌^◌, ◌<◌, ◌≤◌, ◌==◌, ◌%◌, List, [], ◌∷◌, ◌++◌, Bool, true, false, cond, ◌||◌, refl, sym, ap, ◌∙◌, subst, arith, inl, inr, length, filter, replicate, Some, None, if◌then◌else◌}
 use Rattle.std.specs.Prelude.{All, IfSome, is_some}
 use Rattle.std.specs.Cmp.{eq_by_cmp_equiv}
 use Rattle.std.specs.List.{list_all, IsDistinct}
 use Rattle.std.specs.Map.{keys_of}
+use Rattle.std.specs.List.Sorted.{IsStrictlySortedBy}
 use Rattle.std.specs.Ordering.{nat_cmp, eq_by_cmp}
 use Rattle.std.proofs.lemmas.Bool.{cases_Bool, and_parts, and_from, and_left, and_right, both_ways, eq-eqb}
 use Rattle.std.proofs.lemmas.List.{length-replicate, get_or-replicate, get_or_past}
@@ -53,7 +54,7 @@ no_dimensions (c ∷ coords) all =
     rw (parts.0, no_dimensions coords parts.1) refl
 
 -- the key of the grand total is in the empty set
-total_mask : (n : ℕ) (key : Key) → is_total n key ≡ true → mask_of key ≡ 0
+pub total_mask : (n : ℕ) (key : Key) → is_total n key ≡ true → mask_of key ≡ 0
 total_mask n key total = no_dimensions key.coords (and_parts (length key.coords == n) (list_all is_all_coord key.coords) total).1
 
 -- whether a key is that of the grand total
@@ -117,22 +118,19 @@ unfolding IsDistinct
 none_apart = tt
 
 -- it is a cube
-pub new_coded : (schema : Layout) (part of : ℕ) (cells : CodedCells) → IsSchema schema → AreNewCells (is_among 0 (sets_of_part part of schema.grouping_sets)) (length schema.measures) cells → IsCoded schema (sets_of_part part of schema.grouping_sets) 0 (replicate (length schema.dimensions) []) cells
-new_coded schema part of cells is new = elim (cases_Bool (is_among 0 sets)) [
+pub new_coded : (schema : Layout) (sets : List ℕ) (cells : CodedCells) → IsSchema schema → All (λ set. set < 2 ^ length schema.dimensions) sets → IsStrictlySortedBy nat_cmp sets → AreNewCells (is_among 0 sets) (length schema.measures) cells → IsCoded schema sets 0 (replicate (length schema.dimensions) []) cells
+new_coded schema sets cells is within ascending new = elim (cases_Bool (is_among 0 sets)) [
   | inl kept ↦ let one = new.total kept in subst (λ (cs : CodedCells). IsCoded schema sets 0 (replicate n []) cs) (sym one.1) (with_total one.0 one.2 one.3)
   | inr none ↦ subst (λ (cs : CodedCells). IsCoded schema sets 0 (replicate n []) cs) (sym (new.none none)) (without none)
 ] where
   n : ℕ
   n = length schema.dimensions
 
-  sets : List ℕ
-  sets = sets_of_part part of schema.grouping_sets
-
   lattice : (others : CodedCells) → IsLattice (lattice_of schema sets 0 (replicate n []) others)
   lattice others = record {
     schema = is;
-    sets = All-filter (λ set. set % of == part) (λ set. set < 2 ^ n) schema.grouping_sets is.sets_are_of_dimensions;
-    ascending = IsStrictlySortedBy-filter nat_cmp (λ set. set % of == part) schema.grouping_sets (sorted_from_strictly_increasing schema.grouping_sets is.sets_are_ascending);
+    sets = within;
+    ascending = ascending;
     dictionaries = length-replicate {A = List (List ℕ)} n [];
   }
 
@@ -201,19 +199,25 @@ one_new measures cells codes t total one found empty width = record {
   alone (e ∷ f ∷ es) len at = absurd (omega (arith, len))
 
 -- ---- the whole
-pub new_all : (schema copy : Layout) (part of : ℕ) (sets : List ℕ) (dictionaries : Dictionaries) (total : Bool) (cells : CodedCells) → IsSchema copy → copy ≡ schema → sets ≡ sets_of_part part of copy.grouping_sets → dictionaries ≡ replicate (length copy.dimensions) [] → total ≡ is_among 0 sets → AreNewCells total (length copy.measures) cells → IsCoded copy sets 0 dictionaries cells × IsCubeOf (lattice_of copy sets 0 dictionaries cells) [] × IsNewLattice schema (sets_of_part part of schema.grouping_sets) (lattice_of copy sets 0 dictionaries cells)
-new_all schema copy part of sets dictionaries total cells is same sets_are texts_are total_is new =
-    let kept = sets_of_part part of copy.grouping_sets in
-    let as_kept = subst (λ (b : Bool). AreNewCells b (length copy.measures) cells) (total_is ∙ ap (λ (xs : List ℕ). is_among 0 xs) sets_are) new in (
-      rw (sets_are, texts_are) (new_coded copy part of cells is as_kept),
-      rw (sets_are, texts_are) (new_cube copy kept cells is.dimensions_at_most as_kept),
-      record {
-        schema_is = same;
-        sets_are = sets_are ∙ ap (λ (s : Layout). sets_of_part part of s.grouping_sets) same;
-        no_facts = refl;
-        no_texts = λ d. ap (λ (ds : Dictionaries). get_or ds d []) texts_are ∙ (new_lattice copy kept cells).no_texts d;
-      },
+pub new_all : (schema : Layout) (sets : List ℕ) (dictionaries : Dictionaries) (total : Bool) (cells : CodedCells) → IsSchema schema → All (λ set. set < 2 ^ length schema.dimensions) sets → IsStrictlySortedBy nat_cmp sets → dictionaries ≡ replicate (length schema.dimensions) [] → total ≡ is_among 0 sets → AreNewCells total (length schema.measures) cells → IsCoded schema sets 0 dictionaries cells × IsCubeOf (lattice_of schema sets 0 dictionaries cells) [] × IsNewLattice schema sets (lattice_of schema sets 0 dictionaries cells)
+new_all schema sets dictionaries total cells is within ascending texts_are total_is new =
+    let as_kept = subst (λ (b : Bool). AreNewCells b (length schema.measures) cells) total_is new in (
+      rw texts_are (new_coded schema sets cells is within ascending as_kept),
+      rw texts_are (new_cube schema sets cells is.dimensions_at_most as_kept),
+      rw texts_are (new_lattice schema sets cells),
     )
+
+-- the sets of a part are grouping sets of the dimensions, in ascending order
+pub part_within : (schema : Layout) (part of : ℕ) → IsSchema schema → All (λ set. set < 2 ^ length schema.dimensions) (sets_of_part part of schema.grouping_sets)
+part_within schema part of is = All-filter (λ set. set % of == part) (λ set. set < 2 ^ length schema.dimensions) schema.grouping_sets is.sets_are_of_dimensions
+
+pub part_ascending : (schema : Layout) (part of : ℕ) → IsSchema schema → IsStrictlySortedBy nat_cmp (sets_of_part part of schema.grouping_sets)
+part_ascending schema part of is = IsStrictlySortedBy-filter nat_cmp (λ set. set % of == part) schema.grouping_sets (sorted_from_strictly_increasing schema.grouping_sets is.sets_are_ascending)
+
+-- one set is in order
+pub one_ascending : (set : ℕ) → IsStrictlySortedBy nat_cmp (set ∷ [])
+unfolding IsStrictlySortedBy
+one_ascending set = (tt, tt)
 
 -- the only part of one is the whole
 pub part_of_one : (sets : List ℕ) → sets_of_part 0 1 sets ≡ sets

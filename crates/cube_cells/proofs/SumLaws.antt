@@ -1,14 +1,15 @@
 -- Laws of the sum of a bag.
-use Rattle.std.proofs.Common.{◌≡◌, ℕ, suc, zero, ◌*◌, ◌^◌, ◌<◌, ◌≤◌, [], ◌∷◌, true, false, refl, arith, ap, sym, subst, FitsSigned}
+use Rattle.std.proofs.lemmas.Bool.{cases_lt}
+use Rattle.std.proofs.Common.{inl, inr, ◌≡◌, ℕ, suc, zero, ◌*◌, ◌^◌, ◌<◌, ◌≤◌, [], ◌∷◌, true, false, refl, arith, ap, sym, subst, FitsSigned}
 use Rattle.std.specs.Int.{w64, w128}
 use Rattle.std.proofs.Math.Nat.{mul-le-mul_left}
 use Rattle.std.specs.Ordering.{int_eq}
 use Rattle.std.specs.Prelude.{ℤ, pos, ◌+ℤ◌, ◌-ℤ◌}
 use Rattle.std.proofs.lemmas.Int.{ints}
 use borrow.Author.Differences.{up, down}
-use Rattle.cube_cells.specs.Bag.{Bag, weight_of, held_of, size_of, one_at, AddsOne}
+use Rattle.cube_cells.specs.Bag.{Bag, weight_of, held_of, size_of, one_at, AddsBag, AddsOne}
 use Rattle.cube_cells.specs.Sum.{IsSumOf}
-use Rattle.cube_cells.proofs.BagLaws.{weight_of-cons, weight_of-one, weight_of-nothing, one_at_itself, one_at_apart, same_number}
+use Rattle.cube_cells.proofs.BagLaws.{weight_of-bag, weight_of-cons, weight_of-one, weight_of-nothing, one_at_itself, one_at_apart, same_number}
 
 -- where each number that is held counts m at most
 weight_bound : (f : ℤ → ℕ) (m : ℕ) (bag : Bag) → ((x : ℤ) → 0 < held_of bag x → f x ≤ m) → weight_of f bag ≤ size_of bag * m
@@ -42,6 +43,16 @@ pub sum_taken : (old new : Bag) (sum v : ℤ) → IsSumOf old sum → AddsOne ne
 sum_taken old new sum v s adds = record {
   is_sum = omega (arith, ints, s.is_sum, weight_of-one up new old v adds, weight_of-one down new old v adds);
   fits = λ x held. s.fits x (omega (arith, adds.held x));
+}
+
+-- the numbers of both
+pub sum_joined : (old new more : Bag) (sum other : ℤ) → IsSumOf old sum → IsSumOf more other → AddsBag old new more → IsSumOf new (sum +ℤ other)
+sum_joined old new more sum other s o adds = record {
+  is_sum = omega (arith, ints, s.is_sum, o.is_sum, weight_of-bag up old new more adds, weight_of-bag down old new more adds);
+  fits = λ x held. elim (cases_lt 0 (held_of old x)) [
+    | inl here ↦ s.fits x here
+    | inr none ↦ o.fits x (omega (arith, held, none, adds.held x))
+  ];
 }
 
 -- the sum of nothing

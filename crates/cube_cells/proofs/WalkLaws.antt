@@ -54,7 +54,7 @@ pub coded_at-set : (k q : Codes) (t : Tally) (cells : CodedCells) → IsSome (co
 coded_at-set k q t cells there = lookup-set_value codes_equiv (same_codes k) (λ x y. codes_equiv.congr k x y) q t cells there
 
 -- what one cell weighs
-abbrev weigh : (Codes → ℕ) → Codes × Tally → ℕ
+abbrev pub weigh : (Codes → ℕ) → Codes × Tally → ℕ
 weigh weight cell = weight cell.0 * cell.1.facts
 
 -- the weight after a tally is set
@@ -263,7 +263,7 @@ on_ok_both (Ok x) both p q = both p q
 on_ok_both (Err e) both p q = tt
 
 -- an empty bag, however it is reached
-no_bag : (n m : ℕ) → bag_at (replicate n []) m ≡ []
+pub no_bag : (n m : ℕ) → bag_at (replicate n []) m ≡ []
 no_bag n m = elim (cases_lt m n) [
   | inl inside ↦ get_or-replicate n m [] [] inside
   | inr past ↦ get_or_past (replicate n []) m [] (omega (arith, length-replicate {A = Bag} n [], past))

@@ -34,6 +34,10 @@ pub record AddsTimes (old new : Bag) (v : ℤ) (n : ℕ) : Type 0 where
 pub record AddsOne (old new : Bag) (v : ℤ) : Type 0 where
   pub held : (x : ℤ) → held_of new x ≡ held_of old x + one_at x v
 
+-- the new bag holds each number as often as the old one and the other together
+pub record AddsBag (old new more : Bag) : Type 0 where
+  pub held : (x : ℤ) → held_of new x ≡ held_of old x + held_of more x
+
 -- the bag holds m, and nothing below it
 pub record HasLeast (bag : Bag) (m : ℤ) : Type 0 where
   pub held : 0 < held_of bag m

@@ -3,7 +3,7 @@ use Rattle.std.specs.Prelude.{◌≡◌, ◌+◌, ◌<◌, ◌&&◌, ℕ, ℤ, B
 use Rattle.std.specs.Ordering.{int_eq}
 use Rattle.cube_core.specs.Group.{values_of}
 use Rattle.cube_core.specs.declared.fact.Fact.{Fact}
-use Rattle.cube_cells.specs.Bag.{Bag, held_of, size_of, one_at, SameHeld}
+use Rattle.cube_cells.specs.Bag.{Bag, AddsBag, held_of, size_of, one_at, SameHeld}
 
 -- how many facts a group has, and the bag of its values of each measure
 pub record Tally : Type 0 where
@@ -45,6 +45,16 @@ pub record AddsValues (old new : List Bag) (values : List (Option ℤ)) : Type 0
 pub record PlusFact (values : List (Option ℤ)) (old new : Tally) : Type 0 where
   pub facts : new.facts ≡ old.facts + 1
   pub bags : AddsValues old.bags new.bags values
+
+-- the new bags hold what others hold besides, measure by measure
+pub record AddsBags (old new more : List Bag) : Type 0 where
+  pub same_length : length new ≡ length old
+  pub each : (m : ℕ) → AddsBag (bag_at old m) (bag_at new m) (bag_at more m)
+
+-- the new tally has the facts of another besides
+pub record PlusTally (old new more : Tally) : Type 0 where
+  pub facts : new.facts ≡ old.facts + more.facts
+  pub bags : AddsBags old.bags new.bags more.bags
 
 -- the two lists have the same bags, whatever stands how inside
 pub record SameBags (a b : List Bag) : Type 0 where

@@ -5,7 +5,7 @@ ghost use Rattle.cube_core.specs.Answer.{IsAnswer};
 ghost use Rattle.cube_core.specs.Layout.{is_aggregate_of};
 ghost use Rattle.cube_core.specs.declared.fact.Fact.{Fact};
 ghost use Rattle.cube_cells.specs.Bag.{size_of, held_of};
-ghost use Rattle.cube_cells.specs.Tally.{IsTallyOf, AddsValues, PlusFact, SameBags, SameTally, bag_at, value_at, hold_values, holds_fact};
+ghost use Rattle.cube_cells.specs.Tally.{IsTallyOf, AddsBags, AddsValues, PlusFact, PlusTally, SameBags, SameTally, bag_at, value_at, hold_values, holds_fact};
 
 use crate::measure::Measure;
 use cube_core::{Agg, Answer};
@@ -66,6 +66,26 @@ impl Cell {
         Ok(())
     }
 
+    /// A cell of the same facts. The only error is want of memory.
+    pub fn copy(&self, alloc: Global) -> Result<Cell, AllocError>
+        ensures { IfOk result (SameTally self.now) }
+    {
+        let facts = self.count();
+        let mut measures = empty_measures(alloc, self.measures.len())?;
+        merge_measures(&mut measures, &self.measures)?;
+        Ok(Cell { facts, measures })
+    }
+
+    /// Adds the facts of another cell. Where memory is wanting, the cell has lost some of its values.
+    pub fn merge(&mut self, more: &Cell) -> Result<(), AllocError>
+        requires width { length more.now.bags ≡ length self.old.bags }
+        requires fits { self.old.facts + more.now.facts < 2 ^ 64 }
+        ensures { OnOk result (PlusTally self.old self.new more.now) }
+    {
+        self.facts += more.facts;
+        merge_measures(&mut self.measures, &more.measures)
+    }
+
     /// Whether the cell has a fact, and for each measure holds the value given; a null is held where some fact of
     /// the cell has no value of the measure.
     pub fn holds(&self, values: &[Option<i64>]) -> bool
@@ -124,6 +144,22 @@ fn add_values(measures: &mut [Measure], values: &[Option<i64>]) -> Result<(), Al
             take_values(measures, &values[..place]);
             return Err(error);
         }
+    }
+    Ok(())
+}
+
+// Adds the values of other measures.
+fn merge_measures(measures: &mut [Measure], more: &[Measure]) -> Result<(), AllocError>
+    requires width { length more.now ≡ length measures.old }
+    requires fits { (m : ℕ) → size_of (bag_at measures.old m) + size_of (bag_at more.now m) < 2 ^ 64 }
+    ensures merged { OnOk result (AddsBags measures.old measures.new more.now) }
+    ensures width { length measures.new ≡ length measures.old }
+    ensures sizes { (m : ℕ) → size_of (bag_at measures.new m)
+        ≤ size_of (bag_at measures.old m) + size_of (bag_at more.now m) }
+{
+    for (place, other) in more.iter().enumerate() {
+        let measure = &mut measures[place];
+        measure.merge(other)?;
     }
     Ok(())
 }

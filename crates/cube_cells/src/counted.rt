@@ -1,13 +1,14 @@
 //! A multiset of numbers.
-ghost use Rattle.std.specs.Prelude.{nat_lt, ◌==◌, ℤ, ◌≡◌, ◌<◌, ◌≤◌, ◌+◌, ◌^◌, ◌↔◌, IsTrue, IsNone, IfSome, IfOk, OnOk, OnErr};
+ghost use Rattle.std.specs.Prelude.{nat_lt, ◌==◌, ℤ, ◌≡◌, ◌<◌, ◌≤◌, ◌+◌, ◌^◌, ◌↔◌, All, IsTrue, IsNone, IfSome, IfOk, OnOk, OnErr};
 ghost use Rattle.std.specs.Bool.{OnTrue, OnFalse};
-ghost use Rattle.cube_cells.specs.Bag.{Bag, AddsOne, held_of, size_of, HasLeast, HasGreatest};
+ghost use Rattle.cube_cells.specs.Bag.{Bag, AddsBag, AddsOne, AddsTimes, held_of, size_of, HasLeast, HasGreatest};
 ghost use Rattle.cube_cells.specs.Values.{bag_of};
 
 use crate::short::Short;
 use crate::single::Single;
 use crate::table::Table;
 use std::alloc::{AllocError, Global};
+use std::collections::HashMap;
 use std::marker::Model;
 
 /// A multiset of numbers: how often each is held.
@@ -55,14 +56,29 @@ impl Counted {
     }
 
     /// Adds one `value`. Where memory is wanting, the multiset stays as it was.
-    #[tactic(auto, using(crate::proofs::BagLaws::size_of_one))]
+    #[tactic(auto, using(crate::proofs::BagLaws::size_of_once, crate::proofs::BagLaws::adds_once))]
     pub fn add(&mut self, value: i64) -> Result<(), AllocError>
         requires { size_of self.old + 1 < 2 ^ 64 }
         ensures added { OnOk result (AddsOne self.old self.new value) }
         ensures err { OnErr result (self.new ≡ self.old) }
     {
-        add_value(self.alloc, &mut self.values, value)?;
+        add_value(self.alloc, &mut self.values, value, 1)?;
         self.len += 1;
+        Ok(())
+    }
+
+    /// Adds all numbers of another multiset, each different one at once. Where memory is wanting, the multiset is
+    /// left empty.
+    pub fn merge(&mut self, more: &Counted) -> Result<(), AllocError>
+        requires { size_of self.old + size_of more.now < 2 ^ 64 }
+        ensures merged { OnOk result (AddsBag self.old self.new more.now) }
+        ensures err { OnErr result (size_of self.new ≡ 0) }
+    {
+        if let Err(error) = merge_values(self.alloc, &mut self.values, &more.values) {
+            *self = Counted::new(self.alloc);
+            return Err(error);
+        }
+        self.len += more.len;
         Ok(())
     }
 
@@ -133,48 +149,103 @@ impl Counted {
     }
 }
 
-fn add_value(alloc: Global, values: &mut Values, value: i64) -> Result<(), AllocError>
-    requires { size_of (bag_of values.old) + 1 < 2 ^ 64 }
-    ensures added { OnOk result (AddsOne (bag_of values.old) (bag_of values.new) value) }
+// Adds all numbers of other values.
+fn merge_values(alloc: Global, values: &mut Values, more: &Values) -> Result<(), AllocError>
+    requires { size_of (bag_of values.old) + size_of (bag_of more.now) < 2 ^ 64 }
+    ensures { OnOk result (AddsBag (bag_of values.old) (bag_of values.new) (bag_of more.now)) }
+{
+    match more {
+        Values::One(single) => merge_pair(alloc, values, single.pair()),
+        Values::Few(short) => merge_pairs(alloc, values, short.pairs()),
+        Values::Many(table) => merge_counts(alloc, values, table.counts()),
+    }
+}
+
+// Adds a number as often as its pair says; a pair of no count changes nothing.
+fn merge_pair(alloc: Global, values: &mut Values, pair: (i64, u64)) -> Result<(), AllocError>
+    requires { size_of (bag_of values.old) + pair.1 < 2 ^ 64 }
+    ensures { OnOk result (AddsTimes (bag_of values.old) (bag_of values.new) pair.0 pair.1) }
+{
+    if pair.1 == 0 {
+        return Ok(());
+    }
+    add_value(alloc, values, pair.0, pair.1)
+}
+
+// Adds the numbers of pairs.
+fn merge_pairs(alloc: Global, values: &mut Values, pairs: &[(i64, u64)]) -> Result<(), AllocError>
+    requires some { All (λ e. 0 < e.1) pairs.now }
+    requires fits { size_of (bag_of values.old) + size_of pairs.now < 2 ^ 64 }
+    ensures { OnOk result (AddsBag (bag_of values.old) (bag_of values.new) pairs.now) }
+{
+    for (value, count) in pairs {
+        add_value(alloc, values, *value, *count)?;
+    }
+    Ok(())
+}
+
+// Adds the numbers of a table.
+fn merge_counts(
+    alloc: Global,
+    values: &mut Values,
+    counts: &HashMap<i64, u64>,
+) -> Result<(), AllocError>
+    requires some { All (λ e. 0 < e.1) counts.now.entries }
+    requires fits { size_of (bag_of values.old) + size_of counts.now.entries < 2 ^ 64 }
+    ensures { OnOk result (AddsBag (bag_of values.old) (bag_of values.new) counts.now.entries) }
+{
+    for (value, count) in counts {
+        add_value(alloc, values, *value, *count)?;
+    }
+    Ok(())
+}
+
+// Adds a number so many times.
+fn add_value(alloc: Global, values: &mut Values, value: i64, times: u64) -> Result<(), AllocError>
+    requires some { 0 < times }
+    requires fits { size_of (bag_of values.old) + times < 2 ^ 64 }
+    ensures added { OnOk result (AddsTimes (bag_of values.old) (bag_of values.new) value times) }
     ensures err { OnErr result (bag_of values.new ≡ bag_of values.old) }
 {
     let grown = match values {
         Values::One(single) => {
-            if single.add(value) {
+            if single.add(value, times) {
                 return Ok(());
             }
-            Values::Few(short_of(alloc, single, value)?)
+            Values::Few(short_of(alloc, single, (value, times))?)
         }
         Values::Few(short) => {
-            if short.add(value)? {
+            if short.add(value, times)? {
                 return Ok(());
             }
-            Values::Many(table_of(alloc, short, value)?)
+            Values::Many(table_of(alloc, short, (value, times))?)
         }
-        Values::Many(table) => return table.add(value, 1),
+        Values::Many(table) => return table.add(value, times),
     };
     *values = grown;
     Ok(())
 }
 
-// A list of the number that is held alone and one more.
-fn short_of(alloc: Global, single: &Single, value: i64) -> Result<Box<Short>, AllocError>
-    requires { 0 < size_of single.now }
-    ensures { IfOk result (λ short. AddsOne single.now short.value value) }
+// A list of the number that is held alone and another, so many times.
+fn short_of(alloc: Global, single: &Single, more: (i64, u64)) -> Result<Box<Short>, AllocError>
+    requires held { 0 < size_of single.now }
+    requires some { 0 < more.1 }
+    ensures { IfOk result (λ short. AddsTimes single.now short.value more.0 more.1) }
 {
-    let short = Short::of_two(alloc, single.pair(), value)?;
+    let short = Short::of_two(alloc, single.pair(), more)?;
     let short = Box::new(alloc, short)?;
     Ok(short)
 }
 
-// A table of the numbers of a list and one more.
+// A table of the numbers of a list and another, so many times.
 #[tactic(auto, using(crate::proofs::BagLaws::size_of_same, crate::proofs::BagLaws::adds_to_same))]
-fn table_of(alloc: Global, short: &Short, value: i64) -> Result<Box<Table>, AllocError>
-    requires { size_of short.now + 1 < 2 ^ 64 }
-    ensures { IfOk result (λ table. AddsOne short.now table.value value) }
+fn table_of(alloc: Global, short: &Short, more: (i64, u64)) -> Result<Box<Table>, AllocError>
+    requires some { 0 < more.1 }
+    requires fits { size_of short.now + more.1 < 2 ^ 64 }
+    ensures { IfOk result (λ table. AddsTimes short.now table.value more.0 more.1) }
 {
     let mut table = Table::of_pairs(alloc, short.pairs())?;
-    table.add(value, 1)?;
+    table.add(more.0, more.1)?;
     let table = Box::new(alloc, table)?;
     Ok(table)
 }

@@ -1,6 +1,8 @@
 //! A data cube: the cells of the kept grouping sets, kept right under adds and removes.
 ghost use Rattle.std.specs.Prelude.{◌≡◌, ◌+◌, ◌<◌, ◌≤◌, ◌^◌, ◌↔◌, [], ◌∷◌, ◌++◌, replicate, if◌then◌else◌, ℕ, List, IsTrue, IfOk, IfSome, OnOk, OnErr, true, false, length, map, get_or, position, All};
+ghost use Rattle.std.specs.List.Sorted.{IsStrictlySortedBy};
 ghost use Rattle.std.specs.Option.{option_map};
+ghost use Rattle.std.specs.Ordering.{nat_cmp};
 ghost use Rattle.std.specs.Str.{bytes_eq};
 ghost use Rattle.cube_core.specs.GroupingSet.{sets_of_part, is_among};
 ghost use Rattle.cube_core.specs.Takes.{fits};
@@ -12,6 +14,7 @@ ghost use Rattle.cube_cells.specs.Cube.{Lattice, IsLattice, IsCubeOf, HoldsFact,
 
 mod codes;
 mod dictionary;
+mod fill;
 mod queries;
 mod ranks;
 mod rows;
@@ -73,6 +76,16 @@ impl Cube {
     {
         let schema = schema.copy(alloc)?;
         let sets = kept_sets(alloc, &schema, part, of)?;
+        Cube::over(alloc, schema, sets)
+    }
+
+    // The cube of no fact over these grouping sets.
+    fn over(alloc: Global, schema: Schema, sets: Vec<u8>) -> Result<Cube, AllocError>
+        requires within { All (λ set. set < 2 ^ length schema.dimensions) sets.items }
+        requires ascending { IsStrictlySortedBy nat_cmp sets.items }
+        ensures new { IfOk result (IsNewLattice schema sets.items) }
+        ensures cube { IfOk result (λ cube. IsCubeOf cube []) }
+    {
         let dictionaries = new_dictionaries(alloc, schema.dimensions().len())?;
         let cells = new_cells(alloc, schema.measures().len(), has_total(&sets))?;
         Ok(Cube {

@@ -4,7 +4,7 @@ ghost use Rattle.std.specs.Int.{w128};
 ghost use Rattle.std.specs.Option.{ForSome};
 ghost use Rattle.cube_core.specs.Answer.{IsSum, IsLeast, IsGreatest, IsMean};
 ghost use Rattle.cube_core.specs.declared.aggregate.Answer.TheVariants.{Null, Whole};
-ghost use Rattle.cube_cells.specs.Bag.{size_of, held_of};
+ghost use Rattle.cube_cells.specs.Bag.{AddsBag, size_of, held_of};
 ghost use Rattle.cube_cells.specs.Tally.{AddsValue, IsBagOf, holds_value};
 
 use crate::counted::Counted;
@@ -52,6 +52,20 @@ impl Measure {
             self.values.add(value)?;
             self.sum = sum_with(self.sum, value);
         }
+        Ok(())
+    }
+
+    /// Adds the values of another measure. Where memory is wanting, no value is left.
+    pub fn merge(&mut self, more: &Measure) -> Result<(), AllocError>
+        requires { size_of self.old + size_of more.now < 2 ^ 64 }
+        ensures merged { OnOk result (AddsBag self.old self.new more.now) }
+        ensures err { OnErr result (size_of self.new ≡ 0) }
+    {
+        if let Err(error) = self.values.merge(&more.values) {
+            self.sum = 0;
+            return Err(error);
+        }
+        self.sum = sum_of_both(self.sum, more.sum);
         Ok(())
     }
 
@@ -136,6 +150,13 @@ fn sum_with(sum: i128, value: i64) -> i128
     ensures { result ≡ sum +ℤ value }
 {
     sum + i128::from(value)
+}
+
+fn sum_of_both(sum: i128, more: i128) -> i128
+    requires { FitsSigned w128 (sum +ℤ more) }
+    ensures { result ≡ sum +ℤ more }
+{
+    sum + more
 }
 
 fn sum_without(sum: i128, value: i64) -> i128

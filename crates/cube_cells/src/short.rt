@@ -3,7 +3,7 @@ ghost use Rattle.std.specs.Prelude.{true, false, Ok, ◌≡◌, ◌<◌, ◌≤�
 ghost use Rattle.std.specs.Ordering.{int_eq};
 ghost use Rattle.std.specs.Bool.{OnTrue, OnFalse};
 ghost use Rattle.std.specs.List.{HoldsAt};
-ghost use Rattle.cube_cells.specs.Bag.{Bag, AddsOne, held_of, size_of, HasLeast, HasGreatest};
+ghost use Rattle.cube_cells.specs.Bag.{Bag, AddsOne, AddsTimes, held_of, size_of, HasLeast, HasGreatest};
 
 use std::alloc::{AllocError, Global};
 use std::marker::Model;
@@ -29,15 +29,16 @@ impl Model for Short {
 }
 
 impl Short {
-    /// Two numbers, the first held so often and the second once.
+    /// Two numbers, each with how often it is held.
     #[tactic(auto, using(crate::proofs::BagLaws::adds_pair))]
-    pub fn of_two(alloc: Global, first: (i64, u64), second: i64) -> Result<Short, AllocError>
-        requires { 0 < first.1 }
-        ensures { IfOk result (λ short. AddsOne (first ∷ []) short second) }
+    pub fn of_two(alloc: Global, first: (i64, u64), second: (i64, u64)) -> Result<Short, AllocError>
+        requires first { 0 < first.1 }
+        requires second { 0 < second.1 }
+        ensures { IfOk result (λ short. AddsTimes (first ∷ []) short second.0 second.1) }
     {
         let mut pairs = Vec::with_capacity(alloc, ROOM)?;
         pairs.push(first)?;
-        pairs.push((second, 1))?;
+        pairs.push(second)?;
         Ok(Short { pairs })
     }
 
@@ -49,23 +50,24 @@ impl Short {
         &self.pairs
     }
 
-    /// Adds one `value` where it is held already, or where there is place for it; answers whether it did.
+    /// Adds `value` `times` times where it is held already, or where there is place for it; answers whether it did.
     #[tactic(auto, using(crate::proofs::BagLaws::adds_at, crate::proofs::BagLaws::adds_pair, crate::proofs::BagLaws::count_at))]
-    pub fn add(&mut self, value: i64) -> Result<bool, AllocError>
-        requires { size_of self.old + 1 < 2 ^ 64 }
-        ensures added { result ≡ Ok true → AddsOne self.old self.new value }
+    pub fn add(&mut self, value: i64, times: u64) -> Result<bool, AllocError>
+        requires some { 0 < times }
+        requires fits { size_of self.old + times < 2 ^ 64 }
+        ensures added { result ≡ Ok true → AddsTimes self.old self.new value times }
         ensures full { result ≡ Ok false → self.new ≡ self.old }
         ensures only_where_full { result ≡ Ok false → FEW ≤ length self.old }
         ensures err { OnErr result (self.new ≡ self.old) }
     {
         if let Some(place) = place_of(&self.pairs, value) {
-            self.pairs[place].1 += 1;
+            self.pairs[place].1 += times;
             return Ok(true);
         }
         if self.pairs.len() >= FEW {
             return Ok(false);
         }
-        self.pairs.push((value, 1))?;
+        self.pairs.push((value, times))?;
         Ok(true)
     }
 

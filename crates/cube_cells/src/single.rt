@@ -1,7 +1,7 @@
 //! A bag of one number, held any number of times.
 ghost use Rattle.std.specs.Prelude.{◌∷◌, ◌≡◌, ◌<◌, ◌+◌, ◌^◌, ◌↔◌, [], IsNone, IfSome, ℤ};
 ghost use Rattle.std.specs.Bool.{OnTrue, OnFalse};
-ghost use Rattle.cube_cells.specs.Bag.{AddsOne, held_of, size_of, HasLeast, HasGreatest};
+ghost use Rattle.cube_cells.specs.Bag.{AddsOne, AddsTimes, held_of, size_of, HasLeast, HasGreatest};
 
 use std::marker::Model;
 
@@ -30,10 +30,10 @@ impl Single {
         Single { value: 0, count: 0 }
     }
 
-    /// Adds one `value` where no other number is held; answers whether it did.
-    pub fn add(&mut self, value: i64) -> bool
-        requires { size_of self.old + 1 < 2 ^ 64 }
-        ensures added { OnTrue result (AddsOne self.old self.new value) }
+    /// Adds `value` `times` times where no other number is held; answers whether it did.
+    pub fn add(&mut self, value: i64, times: u64) -> bool
+        requires { size_of self.old + times < 2 ^ 64 }
+        ensures added { OnTrue result (AddsTimes self.old self.new value times) }
         ensures other { OnFalse result (self.new ≡ self.old) }
         ensures some { OnFalse result (0 < size_of self.old) }
     {
@@ -42,7 +42,7 @@ impl Single {
         }
         let is_same = self.value == value;
         if is_same {
-            self.count += 1;
+            self.count += times;
         }
         is_same
     }

@@ -48,6 +48,15 @@ impl Table {
         Ok(table)
     }
 
+    /// The numbers, each with how often it is held.
+    #[tactic(auto, using(crate::proofs::BagLaws::some_entries))]
+    pub fn counts(&self) -> &HashMap<i64, u64>
+        ensures counts { result.now.entries ≡ self.now }
+        ensures some { All (λ e. 0 < e.1) self.now }
+    {
+        &self.counts
+    }
+
     /// Adds `value` `times` times.
     #[tactic(auto, using(crate::proofs::BagLaws::count_found, crate::proofs::BagLaws::adds_found, crate::proofs::BagLaws::adds_entry, crate::proofs::BagLaws::some_put, crate::proofs::BagLaws::some_set))]
     pub fn add(&mut self, value: i64, times: u64) -> Result<(), AllocError>

@@ -4,10 +4,12 @@ use Rattle.std.specs.List.Sorted.{IsPermutation}
 use Rattle.std.proofs.lemmas.List.{append-nil, at_drop_more, at_drop_all}
 use Rattle.std.proofs.lemmas.List.Sorted.{IsPermutation-refl, IsPermutation-trans, IsPermutation-append_left}
 use Rattle.cube_core.specs.declared.fact.Fact.{Fact}
-use Rattle.cube_cells.specs.Cube.{Lattice, AddsFact, IsCubeOf}
+use Rattle.cube_core.specs.Layout.{Layout}
+use Rattle.cube_cells.specs.Cube.{Lattice, AddsFact, IsCubeOf, IsNewLattice}
+use Rattle.cube_cells.specs.Fill.{IsCubeOfAll}
 use Rattle.cube_engine.specs.Book.{facts_of}
 use Rattle.cube_engine.specs.Builder.{GainsFacts, HasFacts}
-use Rattle.cube_engine.specs.Ledger.{AccountView, all_facts}
+use Rattle.cube_engine.specs.Ledger.{AccountView, AllFit, all_facts}
 use Rattle.cube_engine.proofs.BuilderLaws.{HasFacts-add, HasFacts-permutation, SameSets-trans}
 use Rattle.cube_engine.proofs.LedgerLaws.{swap-front}
 
@@ -67,3 +69,23 @@ all_facts-drop accounts i account below is =
 -- past the last account there are none
 pub all_facts-past : (accounts : List AccountView) (i : ℕ) → length accounts ≤ i → all_facts (drop i accounts) ≡ []
 all_facts-past accounts i past = at_drop_all (λ l. all_facts l) accounts i past
+
+-- ---- by way of the finest set
+-- a cube over the finest set that gained facts which fit is one of them all
+pub IsCubeOfAll-gained : (s : Layout) (facts : List Fact) (cube fresh finest : Lattice) (sets : List ℕ) → AllFit s facts → cube.schema ≡ s → IsNewLattice cube.schema sets fresh → IsCubeOf fresh []
+    → GainsFacts facts fresh finest → IsCubeOfAll facts finest
+IsCubeOfAll-gained s facts cube fresh finest sets fit same new empty gains =
+    let schema : finest.schema ≡ s = gains.same.schema ∙ new.schema_is ∙ same in
+    let has : HasFacts facts finest = subst (λ l. HasFacts l finest) (append-nil facts) (gains.has [] (record { cells = empty; facts_are = new.no_facts })) in
+    record {
+      fit = subst (λ l. AllFit l facts) (sym schema) fit;
+      cells = has.cells;
+      facts_are = has.facts_are;
+    }
+
+-- and so is one that is filled from it
+pub HasFacts-filled : (s : Layout) (facts : List Fact) (cube fresh finest filled : Lattice) (sets : List ℕ) → AllFit s facts → cube.schema ≡ s → IsNewLattice cube.schema sets fresh → IsCubeOf fresh []
+    → GainsFacts facts fresh finest → ((of : List Fact) → IsCubeOfAll of finest → IsCubeOfAll of filled) → HasFacts facts filled
+HasFacts-filled s facts cube fresh finest filled sets fit same new empty gains fills =
+    let all : IsCubeOfAll facts filled = fills facts (IsCubeOfAll-gained s facts cube fresh finest sets fit same new empty gains) in
+    record { cells = all.cells; facts_are = all.facts_are }

@@ -82,8 +82,10 @@ impl Builder {
         ensures same { IfOk result (λ builder. SameSets cube builder.cube) }
         ensures has { IfOk result (λ builder. HasFacts (all_facts ledger.accounts) builder.cube) }
     {
+        let mut finest = cube.finest()?;
+        fill(&mut finest, &ledger)?;
         let mut cube = cube;
-        fill(&mut cube, &ledger)?;
+        cube.fill(finest)?;
         Ok(Builder { ledger, cube })
     }
 

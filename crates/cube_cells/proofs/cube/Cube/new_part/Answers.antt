@@ -1,23 +1,10 @@
-use Rattle.cube_cells.proofs.NewLaws.{new_all}
+use Rattle.std.proofs.Common.{subst}
+use Rattle.cube_core.specs.Layout.{IsSchema}
+use Rattle.cube_cells.proofs.NewLaws.{part_within, part_ascending}
 use Rattle.cube_cells.proofs.cube.Cube.new_part.Goals as goal
 
-pub invariant_of-result : goal.invariant_of-result
-invariant_of-result c =
-    let texts = rw c.dimensions.ensures.value at c.in_ok-dictionaries.ensures in
-    let total = rw c.deref.ensures.value at c.has_total.ensures in
-    let cells = rw c.measures.ensures.value at c.in_ok-cells.ensures in
-    (new_all c.args.schema.now c.in_ok-schema.schema c.args.part c.args.of c.in_ok-sets.sets.items c.in_ok-dictionaries.dictionaries.items c.has_total.result c.in_ok-cells.cells.entries c.dimensions.ensures.schema c.in_ok-schema.ensures c.in_ok-sets.ensures texts total cells).0
+pub over-requires-clause-within : goal.over-requires-clause-within
+over-requires-clause-within c = rw c.in_ok-sets.ensures (part_within c.in_ok-schema.schema c.args.part c.args.of (subst IsSchema c.schema.view_is c.schema.invariant))
 
-pub returns-clause-new : goal.returns-clause-new
-returns-clause-new c =
-    let texts = rw c.dimensions.ensures.value at c.in_ok-dictionaries.ensures in
-    let total = rw c.deref.ensures.value at c.has_total.ensures in
-    let cells = rw c.measures.ensures.value at c.in_ok-cells.ensures in
-    (new_all c.args.schema.now c.in_ok-schema.schema c.args.part c.args.of c.in_ok-sets.sets.items c.in_ok-dictionaries.dictionaries.items c.has_total.result c.in_ok-cells.cells.entries c.dimensions.ensures.schema c.in_ok-schema.ensures c.in_ok-sets.ensures texts total cells).2
-
-pub returns-clause-cube : goal.returns-clause-cube
-returns-clause-cube c =
-    let texts = rw c.dimensions.ensures.value at c.in_ok-dictionaries.ensures in
-    let total = rw c.deref.ensures.value at c.has_total.ensures in
-    let cells = rw c.measures.ensures.value at c.in_ok-cells.ensures in
-    (new_all c.args.schema.now c.in_ok-schema.schema c.args.part c.args.of c.in_ok-sets.sets.items c.in_ok-dictionaries.dictionaries.items c.has_total.result c.in_ok-cells.cells.entries c.dimensions.ensures.schema c.in_ok-schema.ensures c.in_ok-sets.ensures texts total cells).1
+pub over-requires-clause-ascending : goal.over-requires-clause-ascending
+over-requires-clause-ascending c = rw c.in_ok-sets.ensures (part_ascending c.in_ok-schema.schema c.args.part c.args.of (subst IsSchema c.schema.view_is c.schema.invariant))
