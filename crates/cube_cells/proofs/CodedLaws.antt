@@ -10,8 +10,8 @@ use Rattle.cube_core.specs.Layout.{Layout}
 use Rattle.cube_core.specs.Takes.{fits}
 use Rattle.cube_core.specs.declared.fact.Fact.{Fact}
 use Rattle.cube_core.specs.declared.key.Key.{Key}
-use Rattle.cube_core.proofs.CellKeyLaws.{width_of_fitting}
-use Rattle.cube_core.proofs.AncestorLaws.{ancestor_of_covers, mask_of_ancestor, length_standing}
+use Rattle.cube_core.proofs.CellKeyLaws.{fits-length}
+use Rattle.cube_core.proofs.AncestorLaws.{all_stand_for-ancestor_of, mask_of_coords-ancestor_of, all_stand_for-length}
 use Rattle.cube_cells.specs.Codes.{Dictionaries, IsDictionary, are_codes}
 use Rattle.cube_cells.specs.Coded.{CodedCells, IsCodedCell, IsCoded, coded_at, decoded, lattice_of, is_total_code}
 use Rattle.cube_cells.specs.Cube.{Cells, HoldsFact, AddsFact, TakesFact, SameCells, cell_at, cell_holds, is_kept_for}
@@ -38,14 +38,14 @@ pub coded_fact : (schema : Layout) (sets : List ℕ) (facts : ℕ) (old new : Di
 coded_fact schema sets facts old new cells fact codes is fit lengths all has = record {
   all = all;
   has = has;
-  width = width_of_fitting schema fact fit ∙ sym is.lattice.dictionaries ∙ sym lengths;
+  width = fits-length schema fact fit ∙ sym is.lattice.dictionaries ∙ sym lengths;
   room = omega (arith, is.lattice.dictionaries, is.lattice.schema.dimensions_at_most, lengths);
-  below = λ set among. subst (λ (n : ℕ). set < 2 ^ n) (sym (width_of_fitting schema fact fit)) (among_all (λ s. s < 2 ^ length schema.dimensions) sets set is.lattice.sets among);
+  below = λ set among. subst (λ (n : ℕ). set < 2 ^ n) (sym (fits-length schema fact fit)) (among_all (λ s. s < 2 ^ length schema.dimensions) sets set is.lattice.sets among);
 }
 
 -- the key that covers the fact in a kept set is kept for it
 covering_kept : (sets : List ℕ) (dictionaries : Dictionaries) (fact : Fact) (codes : Codes) (set : ℕ) → IsCodedFact sets dictionaries fact codes → is_among set sets ≡ true → is_kept_for sets fact (covering_key fact set) ≡ true
-covering_kept sets dictionaries fact codes set of among = and_from (covers (covering_key fact set) fact) (is_among (mask_of (covering_key fact set)) sets) (ancestor_of_covers fact.dims set) (ap (λ (s : ℕ). is_among s sets) (mask_of_ancestor fact.dims set (of.below set among)) ∙ among)
+covering_kept sets dictionaries fact codes set of among = and_from (covers (covering_key fact set) fact) (is_among (mask_of (covering_key fact set)) sets) (all_stand_for-ancestor_of fact.dims set) (ap (λ (s : ℕ). is_among s sets) (mask_of_coords-ancestor_of fact.dims set (of.below set among)) ∙ among)
 
 -- the kept set of a key that is kept
 kept_set : (sets : List ℕ) (fact : Fact) (key : Key) → is_kept_for sets fact key ≡ true → is_among (mask_of key) sets ≡ true
@@ -153,7 +153,7 @@ takes_fact schema sets facts less dictionaries cells left fact codes is count of
   total_of : (key : Key) → is_kept_for sets fact key ≡ true → HasCodes dictionaries key (key_in codes (mask_of key)) → are_codes dictionaries (key_in codes (mask_of key)).codes ≡ true → is_total (length schema.dimensions) key ≡ is_total_code (key_in codes (mask_of key))
   total_of key kept has valid_here =
       let stands = (and_parts (covers key fact) (is_among (mask_of key) sets) kept).0 in
-      let width : length key.coords ≡ length schema.dimensions = length_standing key.coords fact.dims stands ∙ of.width ∙ is.lattice.dictionaries in
+      let width : length key.coords ≡ length schema.dimensions = all_stand_for-length key.coords fact.dims stands ∙ of.width ∙ is.lattice.dictionaries in
       rw (eq-eqb (length key.coords) (length schema.dimensions) width) (total_key dictionaries key (key_in codes (mask_of key)) of.all has valid_here)
 
 -- where the walk changed no count

@@ -17,7 +17,7 @@ use Rattle.cube_core.specs.declared.fact.Fact.{Fact}
 use Rattle.cube_core.specs.declared.key.Coord.{Coord}
 use Rattle.cube_core.specs.declared.key.Coord.TheVariants as coord
 use Rattle.cube_core.specs.declared.key.Key.{Key}
-use Rattle.cube_core.proofs.AncestorLaws.{ancestor_of, mask_of_ancestor}
+use Rattle.cube_core.proofs.AncestorLaws.{ancestor_of, mask_of_coords-ancestor_of}
 use Rattle.cube_cells.specs.Codes.{Dictionaries, IsDictionary, IsCodeOf, AreCodesOf, is_code, are_codes, coord_at, coords_at, key_at, kept_codes, all_code, null_code, coord_of_value, texts_with}
 use Rattle.cube_cells.specs.Coded.{CodedCells, IsCodedCell, same_codes, decoded}
 use Rattle.cube_cells.specs.Cube.{Cells, count_in, MayAddTexts, AddsTexts}
@@ -203,7 +203,7 @@ pub key_weight : (dictionaries : Dictionaries) (fact : Fact) (codes : Codes) (se
 key_weight dictionaries fact codes set other all has valid below =
     let of_set = covering_codes dictionaries fact codes other all has in
     let coords = codes_have dictionaries (ancestor_of fact.dims other) (key_in codes other).codes of_set.are valid in
-    ap (λ (cs : List Coord). if mask_of_coords cs == set then 1 else 0) coords ∙ ap (λ (m : ℕ). if m == set then 1 else 0) (mask_of_ancestor fact.dims other below)
+    ap (λ (cs : List Coord). if mask_of_coords cs == set then 1 else 0) coords ∙ ap (λ (m : ℕ). if m == set then 1 else 0) (mask_of_coords-ancestor_of fact.dims other below)
 
 -- ---- sets have codes of their own
 not_all : (texts : List (List ℕ)) (value : Option (List ℕ)) (code : ℕ) → IsCodeOf texts (coord_of_value value) code → code ≡ all_code → ⊥

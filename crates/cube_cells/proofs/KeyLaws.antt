@@ -16,8 +16,8 @@ use Rattle.cube_core.specs.declared.fact.Fact.{Fact}
 use Rattle.cube_core.specs.declared.key.Coord.{Coord}
 use Rattle.cube_core.specs.declared.key.Coord.TheVariants as coord
 use Rattle.cube_core.specs.declared.key.Key.{Key}
-use Rattle.cube_core.proofs.AncestorLaws.{coord_of, ancestor_of, ancestor_of_covers, mask_of_ancestor, same_from_mask, mask_below, length_standing}
-use Rattle.cube_core.proofs.CellKeyLaws.{same_key, key_cmp-Decides}
+use Rattle.cube_core.proofs.AncestorLaws.{coord_of, ancestor_of, all_stand_for-ancestor_of, mask_of_coords-ancestor_of, all_stand_for-mask_of_coords, mask_of_coords-length, all_stand_for-length}
+use Rattle.cube_core.proofs.CellKeyLaws.{Key-coords, key_cmp-Decides}
 use Rattle.cube_cells.specs.Codes.{Dictionaries, IsDictionary, IsCodeOf, AreCodesOf, is_code, are_codes, coord_at, coords_at, key_at, kept_codes, all_code, null_code, coord_of_value}
 use Rattle.cube_cells.specs.Coded.{CodedCells, IsCodedCell, same_codes, coded_at, decoded, is_total_code}
 use Rattle.cube_cells.specs.Cube.{cell_at, is_kept_for}
@@ -108,7 +108,7 @@ same_entry dictionaries key codes other has valid eight =
       λ same.
           let at : codes ≡ other = codes_is codes other same in
           let are : AreCodesOf dictionaries key.coords other.codes = subst (λ (x : Codes). AreCodesOf dictionaries key.coords x.codes) at has.are in
-          same_key key (key_at dictionaries other.codes) (sym (codes_have dictionaries key.coords other.codes are valid)),
+          Key-coords key (key_at dictionaries other.codes) (sym (codes_have dictionaries key.coords other.codes are valid)),
       λ same.
           let coords : coords_at dictionaries other.codes ≡ key.coords = sym (ap (λ (k : Key). k.coords) same) in
           let lists : other.codes ≡ codes.codes = codes_alone dictionaries key.coords codes.codes other.codes has.are valid (omega (arith, eight, has.eight)) coords in
@@ -197,8 +197,8 @@ covering_codes dictionaries fact codes set all has = record {
 
 pub covering_is : (fact : Fact) (key : Key) → covers key fact ≡ true → key ≡ covering_key fact (mask_of key)
 covering_is fact key stands =
-    let below : mask_of key < 2 ^ length fact.dims = subst (λ (n : ℕ). mask_of key < 2 ^ n) (length_standing key.coords fact.dims stands) (mask_below key.coords) in
-    same_key key (covering_key fact (mask_of key)) (same_from_mask key.coords (ancestor_of fact.dims (mask_of key)) fact.dims stands (ancestor_of_covers fact.dims (mask_of key)) (sym (mask_of_ancestor fact.dims (mask_of key) below)))
+    let below : mask_of key < 2 ^ length fact.dims = subst (λ (n : ℕ). mask_of key < 2 ^ n) (all_stand_for-length key.coords fact.dims stands) (mask_of_coords-length key.coords) in
+    Key-coords key (covering_key fact (mask_of key)) (all_stand_for-mask_of_coords key.coords (ancestor_of fact.dims (mask_of key)) fact.dims stands (all_stand_for-ancestor_of fact.dims (mask_of key)) (sym (mask_of_coords-ancestor_of fact.dims (mask_of key) below)))
 
 -- a key that covers a fact in a kept set has the fact's codes in that set
 pub kept_key_codes : (dictionaries : Dictionaries) (sets : List ℕ) (fact : Fact) (codes : Codes) (key : Key) → All IsDictionary dictionaries → HasFactCodes dictionaries fact codes → is_kept_for sets fact key ≡ true → HasCodes dictionaries key (key_in codes (mask_of key))
@@ -230,8 +230,8 @@ other_codes dictionaries sets fact codes key other all has valid below of unkept
     let of_set = covering_codes dictionaries fact codes set all has in
     let coords : coords_at dictionaries (key_in codes set).codes ≡ ancestor_of fact.dims set = codes_have dictionaries (ancestor_of fact.dims set) (key_in codes set).codes of_set.are (valid set found.1) in
     let mine : coords_at dictionaries (key_in codes set).codes ≡ key.coords = codes_have dictionaries key.coords (key_in codes set).codes (subst (λ (x : Codes). AreCodesOf dictionaries key.coords x.codes) found.2 of.are) (valid set found.1) in
-    let is : key ≡ covering_key fact set = same_key key (covering_key fact set) (sym mine ∙ coords) in
-    let kept : is_kept_for sets fact (covering_key fact set) ≡ true = and_from (covers (covering_key fact set) fact) (is_among (mask_of (covering_key fact set)) sets) (ancestor_of_covers fact.dims set) (ap (λ (s : ℕ). is_among s sets) (mask_of_ancestor fact.dims set (below set found.1)) ∙ found.1) in
+    let is : key ≡ covering_key fact set = Key-coords key (covering_key fact set) (sym mine ∙ coords) in
+    let kept : is_kept_for sets fact (covering_key fact set) ≡ true = and_from (covers (covering_key fact set) fact) (is_among (mask_of (covering_key fact set)) sets) (all_stand_for-ancestor_of fact.dims set) (ap (λ (s : ℕ). is_among s sets) (mask_of_coords-ancestor_of fact.dims set (below set found.1)) ∙ found.1) in
     both_ways (is_kept_for sets fact key) unkept (ap (is_kept_for sets fact) is ∙ kept))
 
 -- ---- the grand total

@@ -19,8 +19,8 @@ use Rattle.cube_core.specs.Layout.{Layout, IsSchema}
 use Rattle.cube_core.specs.Order.{key_cmp}
 use Rattle.cube_core.specs.declared.key.Coord.{Coord}
 use Rattle.cube_core.specs.declared.key.Key.{Key}
-use Rattle.cube_core.proofs.CellKeyLaws.{same_total}
-use Rattle.cube_core.proofs.KeyOrderLaws.{key_cmp_total}
+use Rattle.cube_core.proofs.CellKeyLaws.{key_cmp-is_total}
+use Rattle.cube_core.proofs.KeyOrderLaws.{key_cmp-IsTotalOrder}
 use Rattle.cube_cells.specs.Codes.{Dictionaries, IsDictionary, are_codes, coords_at, key_at, all_code}
 use Rattle.cube_cells.specs.Coded.{CodedCells, IsCodedCell, IsCoded, AreNewCells, same_codes, coded_at, decoded, lattice_of, total_codes}
 use Rattle.cube_cells.specs.Cube.{IsLattice, IsCubeOf, IsNewLattice, cell_at}
@@ -63,7 +63,7 @@ total_is n key room =
     let total = key_at (replicate n []) (replicate 8 all_code) in
     let coords = total_coords n 8 room in
     let is : is_total n total ≡ true = and_from (length total.coords == n) (list_all is_all_coord total.coords) (eq-eqb (length total.coords) n coords.1) coords.0 in
-    (eq_by_cmp_equiv key_cmp_total).symm key total ∙ same_total total key n is
+    (eq_by_cmp_equiv key_cmp-IsTotalOrder).symm key total ∙ key_cmp-is_total total key n is
 
 -- ---- the new cube
 -- its cells are those of CUBE of nothing

@@ -24,7 +24,7 @@ use Rattle.cube_core.specs.declared.fact.Fact.{Fact}
 use Rattle.cube_core.specs.declared.key.Key.{Key}
 use Rattle.cube_core.specs.declared.key.Row.{Row}
 use Rattle.cube_core.proofs.ListLaws.{map-Contains, Contains-map, filter-Contains, Contains-filter}
-use Rattle.cube_core.proofs.KeyOrderLaws.{exact_keys, key_cmp_total}
+use Rattle.cube_core.proofs.KeyOrderLaws.{key_cmp-exact, key_cmp-IsTotalOrder}
 use Rattle.cube_cells.specs.Codes.{Dictionaries, IsDictionary, are_codes, key_at}
 use Rattle.cube_cells.specs.Coded.{CodedCells, IsCodedCell, same_codes, decoded}
 use Rattle.cube_cells.specs.Cube.{Cells, Lattice, IsCubeOf, cell_at}
@@ -42,14 +42,14 @@ abbrev pub same_key_as : Key → Key → Bool
 same_key_as = eq_by_cmp key_cmp
 
 keys_equiv : IsEquivalence same_key_as
-keys_equiv = eq_by_cmp_equiv key_cmp_total
+keys_equiv = eq_by_cmp_equiv key_cmp-IsTotalOrder
 
 -- a cell is found by its key
 finds : (cells : Cells) (key : Key) (t : Tally) → IsDistinct same_key_as (keys_of cells) → Contains cells (key, t) → cell_at cells key ≡ Some t
 finds cells key t distinct there = lookup-from_Contains keys_equiv key t cells distinct there
 
 is_found : (cells : Cells) (key : Key) (t : Tally) → cell_at cells key ≡ Some t → Contains cells (key, t)
-is_found cells key t found = Contains-from_lookup (λ a b same. tells_apart exact_keys a b same) key t cells found
+is_found cells key t found = Contains-from_lookup (λ a b same. tells_apart key_cmp-exact a b same) key t cells found
 
 keys_of_rows : (aggregates : List Agg) (placed : Cells) (rows : List Row) → AllZip (IsRowOf aggregates) placed rows → map key_of rows ≡ keys_of placed
 keys_of_rows aggregates [] [] all = refl
@@ -119,10 +119,10 @@ rows_given test aggregates cells placed rows distinct moved sorted all = record 
   long = length-map placed (λ (e : Key × Tally). e.0)
 
   ordered : IsStrictlySortedBy key_cmp (keys_of placed)
-  ordered = sorted_from_all_adjacent key_cmp_total (keys_of placed) no_key (λ k inside.
+  ordered = sorted_from_all_adjacent key_cmp-IsTotalOrder (keys_of placed) no_key (λ k inside.
       let near : k + 1 < length placed = omega (arith, inside, long) in
       let upward : is_lt (key_cmp (get_or (keys_of placed) (k + 1) no_key) (get_or (keys_of placed) k no_key)) ≡ false = rw (key_there (k + 1) near, key_there k (omega (arith, near))) (sorted k no_cell (omega arith) near) in
-      below_from key_cmp_total exact_keys (get_or (keys_of placed) k no_key) (get_or (keys_of placed) (k + 1) no_key) upward (λ same.
+      below_from key_cmp-IsTotalOrder key_cmp-exact (get_or (keys_of placed) k no_key) (get_or (keys_of placed) (k + 1) no_key) upward (λ same.
       let tied : same_key_as (get_or (keys_of placed) k no_key) (get_or (keys_of placed) (k + 1) no_key) ≡ true = ap (same_key_as (get_or (keys_of placed) k no_key)) (sym same) ∙ keys_equiv.refl (get_or (keys_of placed) k no_key) in
       both_ways _ (apart_from_distinct same_key_as (keys_of placed) k (k + 1) no_key apart (omega arith) inside) tied))
 
@@ -151,7 +151,7 @@ keys_apart dictionaries measures (c ∷ cells) texts room all distinct =
       two : (e : Codes × Tally) → IsCodedCell dictionaries measures e → same_codes c.0 e.0 ≡ false → same_key_as (key_at dictionaries c.0.codes) (key_at dictionaries e.0.codes) ≡ false
       two e is other = elim (cases_Bool (same_key_as (key_at dictionaries c.0.codes) (key_at dictionaries e.0.codes))) [
         | inl same ↦
-            let codes : c.0 ≡ e.0 = one_key dictionaries c.0 e.0 texts room here.codes is.codes here.eight is.eight (tells_apart exact_keys _ _ same) in
+            let codes : c.0 ≡ e.0 = one_key dictionaries c.0 e.0 texts room here.codes is.codes here.eight is.eight (tells_apart key_cmp-exact _ _ same) in
             absurd (both_ways (same_codes c.0 e.0) other (ap (same_codes c.0) (sym codes) ∙ codes_equiv.refl c.0))
         | inr apart ↦ apart
       ]

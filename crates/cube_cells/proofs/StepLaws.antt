@@ -5,7 +5,7 @@ use Rattle.std.specs.List.{IsDistinct}
 use Rattle.cube_core.specs.Layout.{Layout}
 use Rattle.cube_core.specs.Takes.{fits}
 use Rattle.cube_core.specs.declared.fact.Fact.{Fact}
-use Rattle.cube_core.proofs.CellKeyLaws.{width_of_fitting}
+use Rattle.cube_core.proofs.CellKeyLaws.{fits-length}
 use Rattle.cube_cells.specs.Codes.{Dictionaries, IsDictionary, are_codes}
 use Rattle.cube_cells.specs.Coded.{CodedCells, IsCoded, same_codes, coded_at, lattice_of}
 use Rattle.cube_cells.specs.Cube.{HoldsFact, AddsFact, TakesFact, SameCells, cell_holds}
@@ -20,7 +20,7 @@ use Rattle.cube_cells.proofs.WalkLaws.{same_cells}
 
 -- the keys of a fact that fits differ
 fact_apart : (schema : Layout) (sets : List ℕ) (facts : ℕ) (old new : Dictionaries) (cells : CodedCells) (fact : Fact) (codes : Codes) → IsCoded schema sets facts old cells → fits schema fact ≡ true → HasFactCodes new fact codes → IsDistinct same_codes (codes_in sets codes)
-fact_apart schema sets facts old new cells fact codes is fit has = keys_apart new fact codes sets has is.lattice.ascending (subst (λ (n : ℕ). All (λ set. set < 2 ^ n) sets) (sym (width_of_fitting schema fact fit)) is.lattice.sets)
+fact_apart schema sets facts old new cells fact codes is fit has = keys_apart new fact codes sets has is.lattice.ascending (subst (λ (n : ℕ). All (λ set. set < 2 ^ n) sets) (sym (fits-length schema fact fit)) is.lattice.sets)
 
 -- ---- a fact is taken
 pub can_take : (schema : Layout) (sets : List ℕ) (facts : ℕ) (dictionaries : Dictionaries) (cells : CodedCells) (fact : Fact) (codes : Codes) → IsCoded schema sets facts dictionaries cells → HoldsFact (lattice_of schema sets facts dictionaries cells) fact → HasFactCodes dictionaries fact codes → IsDistinct same_codes (codes_in sets codes) × ((key : Codes) → is_in (codes_in sets codes) key ≡ true → cell_holds fact.measures (coded_at cells key) ≡ true)

@@ -16,8 +16,8 @@ use Rattle.cube_core.specs.declared.key.Key.{Key}
 order_at : (x y : Key) → (KeyOrd.cmp-value).it x y ≡ key_cmp x y
 order_at x y = search rules
 
-pub key_order_is : (KeyOrd.cmp-value).it ≡ key_cmp
-key_order_is = λ i x y. order_at x y i
+pub cmp-key_cmp : (KeyOrd.cmp-value).it ≡ key_cmp
+cmp-key_cmp = λ i x y. order_at x y i
 
 then_equal : (a b : Ordering) → ordering_then a b ≡ Equal → (a ≡ Equal) × (b ≡ Equal)
 then_equal Less b e = absurd (cc)
@@ -46,9 +46,9 @@ exact_coords (x ∷ xs) (y ∷ ys) e =
     cc
 
 -- keys that compare equal are the same
-pub exact_keys : CmpEqualImpliesEq key_cmp
-exact_keys x y e = ap (λ (coords : List Coord). let key : Key = record { coords = coords } in key) (exact_coords x.coords y.coords e)
+pub key_cmp-exact : CmpEqualImpliesEq key_cmp
+key_cmp-exact x y e = ap (λ (coords : List Coord). let key : Key = record { coords = coords } in key) (exact_coords x.coords y.coords e)
 
 -- key order is a total order
-pub key_cmp_total : IsTotalOrder key_cmp
-key_cmp_total = let P : (Key → Key → Ordering) → Type 0 = λ R. IsTotalOrder R in subst P key_order_is (KeyOrd.Laws.total-law)
+pub key_cmp-IsTotalOrder : IsTotalOrder key_cmp
+key_cmp-IsTotalOrder = let P : (Key → Key → Ordering) → Type 0 = λ R. IsTotalOrder R in subst P cmp-key_cmp (KeyOrd.Laws.total-law)

@@ -1,5 +1,5 @@
 -- How the refusals of a list grow with one more item.
-use Rattle.std.proofs.Common.{◌≡◌, ℕ, zero, suc, ◌+◌, ◌<◌, List, [], ◌∷◌, ◌++◌, length, take, refl, sym, ap, ◌∙◌, arith, length-append, add-zero, zero-add}
+use Rattle.std.proofs.Common.{◌≡◌, ℕ, zero, suc, ◌+◌, ◌<◌, List, [], ◌∷◌, ◌++◌, length, take, refl, ap, ◌∙◌, arith, length-append, zero-add}
 use Rattle.std.specs.Prelude.{Option, Some, None, slice_get, option_and_then}
 use Rattle.std.specs.Option.{option_to_list}
 use Rattle.std.specs.List.{filter_map, cons_option, range_with_len}
@@ -9,12 +9,7 @@ use Rattle.std.proofs.lemmas.List.Elements.{filter_map-append}
 use Rattle.cube_core.specs.Layout.{Layout}
 use Rattle.cube_core.specs.Refusals.{refusal_of, refusal_at, refusals_of}
 use Rattle.cube_core.specs.declared.change.Item.{Item}
-
--- one more number at the end of a range
-range_with_len-more : (a n : ℕ) → range_with_len a (suc n) ≡ range_with_len a n ++ (a + n) ∷ []
-range_with_len-more a zero = ap (λ k. k ∷ []) (sym (add-zero a))
-range_with_len-more a (suc n) =
-    ap (λ ks. a ∷ ks) (range_with_len-more (a + 1) n ∙ ap (λ k. range_with_len (a + 1) n ++ k ∷ []) (omega arith))
+use Rattle.cube_core.proofs.SetLaws.{range_with_len-more}
 
 -- a filter map over a range asks of its numbers alone
 filter_map-same_in_range : {B : Type 0} (f g : ℕ → Option B) (a n : ℕ) → ((k : ℕ) → k < a + n → f k ≡ g k) → filter_map f (range_with_len a n) ≡ filter_map g (range_with_len a n)
@@ -59,7 +54,7 @@ pub refusals_of-more : (s : Layout) (items : List Item) (item : Item) → refusa
 refusals_of-more s items item =
     let all : List Item = items ++ item ∷ [] in
     let n : ℕ = length items in
-    let longer : length all ≡ suc n = omega (arith, length-append items (item ∷ [])) in
+    let longer : length all ≡ n + 1 = omega (arith, length-append items (item ∷ [])) in
     ap (λ k. filter_map (refusal_at s all) (range_with_len 0 k)) longer
     ∙ ap (filter_map (refusal_at s all)) (range_with_len-more 0 n)
     ∙ filter_map-append (refusal_at s all) (range_with_len 0 n) ((0 + n) ∷ [])

@@ -270,14 +270,14 @@ fn is_dimension_value(value: &Option<Text>) -> bool
 fn sample_aggregates(alloc: Global) -> Result<Vec<Agg>, AllocError>
     ensures { IfOk result (λ aggregates. aggregates.items ≡ sample_layout.aggregates) }
 {
-    let aggregates = vec![in alloc;
+    let aggregates = [
         Agg::CountAll,
         Agg::Sum(0),
         Agg::Min(0),
         Agg::Max(0),
         Agg::Avg(0),
-    ]?;
-    Ok(aggregates)
+    ];
+    Vec::from_slice(alloc, &aggregates)
 }
 
 fn sample_sets(alloc: Global) -> Result<Vec<u8>, AllocError>

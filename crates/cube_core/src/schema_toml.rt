@@ -96,10 +96,12 @@ fn has_known_keys(document: &Table) -> bool
 fn is_known_key(key: &str) -> bool
     ensures { result ≡ is_listed key.now known_keys }
 {
-    matches!(
-        key,
-        "dimensions" | "measures" | "aggregates" | "max_records" | "grouping" | "version"
-    )
+    key == "dimensions"
+        || key == "measures"
+        || key == "aggregates"
+        || key == "max_records"
+        || key == "grouping"
+        || key == "version"
 }
 
 /// The texts of the array at a key, where there is at least one and at most `most`.

@@ -22,10 +22,10 @@ use Rattle.cube_core.specs.declared.key.Coord.TheVariants as coord
 use Rattle.cube_core.specs.declared.key.Key.{Key}
 use Rattle.cube_core.specs.declared.key.Row.{Row}
 use Rattle.cube_laws.proofs.CountLaws.{key_in_set}
-use Rattle.cube_core.proofs.KeyOrderLaws.{key_cmp_total}
-use Rattle.cube_core.proofs.AncestorLaws.{coord_of, coord_of_is, ancestor_of, ancestor_of_covers, mask_of_ancestor, same_from_mask, mask_below, length_standing}
+use Rattle.cube_core.proofs.KeyOrderLaws.{key_cmp-IsTotalOrder}
+use Rattle.cube_core.proofs.AncestorLaws.{coord_of, coord_of-stands_for, ancestor_of, all_stand_for-ancestor_of, mask_of_coords-ancestor_of, all_stand_for-mask_of_coords, mask_of_coords-length, all_stand_for-length}
 use Rattle.cube_core.proofs.ListLaws.{AllByRecursion-Contains, Contains-AllByRecursion, Contains-head, Contains-list_any, Contains-map, Contains-tail, flat_map-Contains, list_any-Contains, map-Contains}
-use Rattle.cube_core.proofs.CellKeyLaws.{same_key}
+use Rattle.cube_core.proofs.CellKeyLaws.{Key-coords}
 
 -- what g takes back is as it was
 map-inverse : {X Y : Type 0} (f : X → Y) (g : Y → X) (xs : List X) → AllByRecursion (λ x. g (f x) ≡ x) xs →
@@ -55,23 +55,23 @@ CoveringKeys-all_sets fact = record {
   count = length-map (all_sets (length fact.dims)) (λ set. key_in_set set fact) ∙ length-range_with_len 0 (2 ^ length fact.dims);
   sets = map-inverse (λ set. key_in_set set fact) mask_of (all_sets (length fact.dims))
       (Contains-AllByRecursion (λ set. mask_of (key_in_set set fact) ≡ set) (all_sets (length fact.dims))
-      (λ set among. mask_of_ancestor fact.dims set (Contains-range_with_len (2 ^ length fact.dims) set among)));
+      (λ set among. mask_of_coords-ancestor_of fact.dims set (Contains-range_with_len (2 ^ length fact.dims) set among)));
 }
   where
     covers_if_contained : (key : Key) → Contains (covering fact) key → IsTrue (covers key fact)
     covers_if_contained key among =
         let found = Contains-map (λ set. key_in_set set fact) (all_sets (length fact.dims)) key among in
-        subst (λ (key : Key). covers key fact ≡ true) found.2 (ancestor_of_covers fact.dims found.0)
+        subst (λ (key : Key). covers key fact ≡ true) found.2 (all_stand_for-ancestor_of fact.dims found.0)
 
     contained_if_covers : (key : Key) → IsTrue (covers key fact) → Contains (covering fact) key
     contained_if_covers key covered =
         let set = mask_of key in
         let below : set < 2 ^ length fact.dims
-        = subst (λ n. set < 2 ^ n) (length_standing key.coords fact.dims covered) (mask_below key.coords) in
+        = subst (λ n. set < 2 ^ n) (all_stand_for-length key.coords fact.dims covered) (mask_of_coords-length key.coords) in
         let same : ancestor_of fact.dims set ≡ key.coords
-        = same_from_mask (ancestor_of fact.dims set) key.coords fact.dims (ancestor_of_covers fact.dims set) covered
-        (mask_of_ancestor fact.dims set below) in
-        subst (Contains (covering fact)) (same_key (key_in_set set fact) key same)
+        = all_stand_for-mask_of_coords (ancestor_of fact.dims set) key.coords fact.dims (all_stand_for-ancestor_of fact.dims set) covered
+        (mask_of_coords-ancestor_of fact.dims set below) in
+        subst (Contains (covering fact)) (Key-coords (key_in_set set fact) key same)
         (map-Contains (λ set. key_in_set set fact) (all_sets (length fact.dims)) set (range_with_len-Contains (2 ^ length fact.dims) set below))
 
 -- values and null, as coordinates
@@ -129,9 +129,9 @@ coords_for-stands_for : (c : Coord) (value : Option (List ℕ)) (values : List (
     Contains values value → Contains (coords_for values) c
 coords_for-stands_for coord.All value values stands among = Contains-head coord.All (as_coords values)
 coords_for-stands_for coord.Null value values stands among =
-    coords_for-coord_of coord.Null value values (coord_of_is coord.Null value true stands refl) among
+    coords_for-coord_of coord.Null value values (coord_of-stands_for coord.Null value true stands refl) among
 coords_for-stands_for (coord.Text name) value values stands among =
-    coords_for-coord_of (coord.Text name) value values (coord_of_is (coord.Text name) value true stands refl) among
+    coords_for-coord_of (coord.Text name) value values (coord_of-stands_for (coord.Text name) value true stands refl) among
 
 -- a key that covers a fact with listed values
 StandAmong-all_stand_for : (values : List (List (Option (List ℕ)))) (coords : List Coord) (dims : List (Option (List ℕ))) →
@@ -162,7 +162,7 @@ pub AreRows-most_cells : (s : Layout) (facts : List Fact) (rows : List Row) (val
     length rows ≤ most_cells values
 AreRows-most_cells s facts rows values are long among =
     let at_most : length (map key_of rows) ≤ length (map key_with (coords_over values))
-    = length-le_from_is_member (eq_by_cmp_equiv key_cmp_total) (map key_of rows) (map key_with (coords_over values))
+    = length-le_from_is_member (eq_by_cmp_equiv key_cmp-IsTotalOrder) (map key_of rows) (map key_with (coords_over values))
     (IsDistinct-from_sorted key_cmp (map key_of rows) are.ordered) member in
     omega (arith, at_most, length-map rows key_of, length-map (coords_over values) key_with, length-coords_over values)
   where

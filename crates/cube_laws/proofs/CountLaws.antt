@@ -23,10 +23,10 @@ use Rattle.cube_core.specs.declared.key.Key.{Key}
 use Rattle.cube_core.specs.declared.key.Row.{Row}
 use Rattle.cube_laws.proofs.RowOrderLaws.{length-Reordered}
 use Rattle.cube_laws.proofs.GroupCountLaws.{count_by-one, SharedOut, joined_groups-filter}
-use Rattle.cube_core.proofs.KeyOrderLaws.{key_cmp_total}
-use Rattle.cube_core.proofs.AncestorLaws.{ancestor_of, ancestor_of_covers, mask_of_ancestor, same_from_mask}
+use Rattle.cube_core.proofs.KeyOrderLaws.{key_cmp-IsTotalOrder}
+use Rattle.cube_core.proofs.AncestorLaws.{ancestor_of, all_stand_for-ancestor_of, mask_of_coords-ancestor_of, all_stand_for-mask_of_coords}
 use Rattle.cube_core.proofs.ListLaws.{AllByRecursion-Contains, Contains-AllByRecursion, Contains-filter, Contains-list_any, filter-Contains, filter-all, map-filter, sum_by-map, sum_by-same}
-use Rattle.cube_core.proofs.CellKeyLaws.{same_key}
+use Rattle.cube_core.proofs.CellKeyLaws.{Key-coords}
 
 -- a fact has as many values and nulls as there are dimensions
 pub HaveDimensions-Contains : (dimensions : ℕ) (facts : List Fact) (fact : Fact) → HaveDimensions dimensions facts →
@@ -62,16 +62,16 @@ module _ (s : Layout) (facts : List Fact) (rows : List Row) (are : AreRows s fac
       count_by (λ key. covers key fact) (keys_in_set set) ≡ 1
   keys_in_set-one set fact below kept among dims =
       let one : Key = key_in_set set fact in
-      let mask : mask_of one ≡ set = mask_of_ancestor fact.dims set (subst (λ n. set < 2 ^ n) (sym dims) below) in
-      let covered : covers one fact ≡ true = ancestor_of_covers fact.dims set in
+      let mask : mask_of one ≡ set = mask_of_coords-ancestor_of fact.dims set (subst (λ n. set < 2 ^ n) (sym dims) below) in
+      let covered : covers one fact ≡ true = all_stand_for-ancestor_of fact.dims set in
       let is_kept : is_among (mask_of one) s.grouping_sets ≡ true = ap (λ n. is_among n s.grouping_sets) mask ∙ kept in
-      count_by-one key_cmp_total (λ key. covers key fact) one (keys_in_set set)
+      count_by-one key_cmp-IsTotalOrder (λ key. covers key fact) one (keys_in_set set)
       (IsStrictlySortedBy-filter key_cmp (is_in_set set) (map key_of rows) are.ordered)
       (filter-Contains (is_in_set set) (map key_of rows) one (AreRows-covers one fact among covered is_kept) (eq-eqb (mask_of one) set mask))
       covered
       (λ key key_among key_covers.
       let in_set : mask_of key ≡ set = eqb-true (mask_of key) set (Contains-filter (is_in_set set) (map key_of rows) key key_among).1 in
-      same_key key one (same_from_mask key.coords one.coords fact.dims key_covers covered (in_set ∙ sym mask)))
+      Key-coords key one (all_stand_for-mask_of_coords key.coords one.coords fact.dims key_covers covered (in_set ∙ sym mask)))
 
   -- the groups of the rows of a grouping set have each fact once
   pub rows_in_set-group_size : (set : ℕ) → HaveDimensions (length s.dimensions) facts → set < 2 ^ length s.dimensions → is_among set s.grouping_sets ≡ true →

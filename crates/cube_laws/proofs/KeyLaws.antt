@@ -20,7 +20,7 @@ use Rattle.cube_core.specs.declared.key.Coord.TheVariants as coord
 use Rattle.cube_core.specs.declared.key.Key.{Key}
 use Rattle.cube_core.specs.declared.key.Row.{Row}
 use Rattle.cube_laws.proofs.RowLaws.{HasAnswers-unique}
-use Rattle.cube_core.proofs.CellKeyLaws.{width_of_cell}
+use Rattle.cube_core.proofs.CellKeyLaws.{is_cell-length}
 use Rattle.cube_core.proofs.ListLaws.{AllByRecursion-Contains, list_all-Contains, list_any-Contains, map-Contains}
 
 -- a text that is the one for null isn't told
@@ -111,7 +111,7 @@ IsTold-is_cell s sets facts key fit cell =
       | inl total ↦ is_no_null_text-is_all_coord key.coords (and_parts _ _ total).1
       | inr some ↦ has_no_null_text-covers s facts key fit some
     ] in
-    (told, width_of_cell s facts key fit parts.1)
+    (told, is_cell-length s facts key fit parts.1)
 
 -- lists of one length that begin two equal lists are equal, and so is what comes after
 append-front : {X : Type 0} (a b as' bs : List X) → length a ≡ length b → a ++ as' ≡ b ++ bs → a ≡ b

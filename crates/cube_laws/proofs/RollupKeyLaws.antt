@@ -6,7 +6,6 @@ use Rattle.std.proofs.Math.Nat.{pow-succ'}
 use Rattle.std.proofs.lemmas.Bool.{and_parts, and_from, not-true, false_from_ne_true}
 use Rattle.std.proofs.lemmas.Cmp.{tied_itself}
 use Rattle.std.proofs.lemmas.List.Kept.{IsStrictlySortedBy-filter}
-use Rattle.std.proofs.lemmas.Slice.Eq.{bytes_eq-Decides}
 use Rattle.cube_core.specs.Layout.{Layout}
 use Rattle.cube_core.specs.Covers.{covers, all_stand_for, stands_for}
 use Rattle.cube_core.specs.Cube.{AreRows, key_of}
@@ -22,20 +21,10 @@ use Rattle.cube_core.specs.declared.key.Row.{Row}
 use Rattle.cube_laws.proofs.RowOrderLaws.{Reordered}
 use Rattle.cube_laws.proofs.CountLaws.{AreRows-covers}
 use Rattle.cube_laws.proofs.GroupCountLaws.{count_by-one, SharedOut, joined_groups, joined_groups-filter}
-use Rattle.cube_core.proofs.AncestorLaws.{coord_of, coord_of_is}
-use Rattle.cube_core.proofs.KeyOrderLaws.{key_cmp_total, exact_keys}
+use Rattle.cube_core.proofs.AncestorLaws.{coord_of, coord_of-stands_for, stands_for-coord_of, is_all_coord-coord_of}
+use Rattle.cube_core.proofs.KeyOrderLaws.{key_cmp-IsTotalOrder, key_cmp-exact}
 use Rattle.cube_core.proofs.ListLaws.{Contains-AllByRecursion, Contains-filter, count_by-none, filter-Contains, map-filter}
-use Rattle.cube_core.proofs.CellKeyLaws.{same_key}
-
--- a value or null stands for itself
-stands_for-coord_of : (value : Option (List ℕ)) → stands_for (coord_of value true) value ≡ true
-stands_for-coord_of None = refl
-stands_for-coord_of (Some text) = (bytes_eq-Decides text text).1 refl
-
--- and is not ALL
-is_all_coord-coord_of : (value : Option (List ℕ)) → is_all_coord (coord_of value true) ≡ false
-is_all_coord-coord_of None = refl
-is_all_coord-coord_of (Some text) = refl
+use Rattle.cube_core.proofs.CellKeyLaws.{Key-coords}
 
 -- coordinates with a fact's own value in a dimension
 abbrev pub drilled : List Coord → ℕ → List (Option (List ℕ)) → List Coord
@@ -48,7 +37,7 @@ all_stand_for-drilled [] dimension [] stand = refl
 all_stand_for-drilled [] dimension (v ∷ values) stand = cc
 all_stand_for-drilled (c ∷ coords) dimension [] stand = cc
 all_stand_for-drilled (c ∷ coords) zero (v ∷ values) stand =
-    and_from (stands_for (coord_of v true) v) (all_stand_for coords values) (stands_for-coord_of v) (and_parts (stands_for c v) (all_stand_for coords values) stand).1
+    and_from (stands_for (coord_of v true) v) (all_stand_for coords values) (stands_for-coord_of v true) (and_parts (stands_for c v) (all_stand_for coords values) stand).1
 all_stand_for-drilled (c ∷ coords) (suc dimension) (v ∷ values) stand =
     let parts = and_parts (stands_for c v) (all_stand_for coords values) stand in
     and_from (stands_for c v) (all_stand_for (drilled coords dimension values) values) parts.0 (all_stand_for-drilled coords dimension values parts.1)
@@ -80,7 +69,7 @@ set-all_at (d ∷ coords) (suc dimension) c all = ap (λ ds. d ∷ ds) (set-all_
 all_at-coord_of : (coords : List Coord) (dimension : ℕ) (value : Option (List ℕ)) →
     all_at (set coords dimension (coord_of value true)) dimension ≡ false
 all_at-coord_of [] dimension value = refl
-all_at-coord_of (c ∷ coords) zero value = is_all_coord-coord_of value
+all_at-coord_of (c ∷ coords) zero value = is_all_coord-coord_of value true
 all_at-coord_of (c ∷ coords) (suc dimension) value = all_at-coord_of coords dimension value
 
 -- a mask with one more dimension above its last
@@ -91,7 +80,7 @@ mask-bit bit mask rest d is = omega (arith, pow-succ' 2 d, is)
 mask_of_coords-set : (coords : List Coord) (dimension : ℕ) (value : Option (List ℕ)) → all_at coords dimension ≡ true →
     mask_of_coords (set coords dimension (coord_of value true)) ≡ mask_of_coords coords + 2 ^ dimension
 mask_of_coords-set [] dimension value all = cc
-mask_of_coords-set (coord.All ∷ coords) zero value all = rw (is_all_coord-coord_of value) (omega arith)
+mask_of_coords-set (coord.All ∷ coords) zero value all = rw (is_all_coord-coord_of value true) (omega arith)
 mask_of_coords-set (coord.Null ∷ coords) zero value all = cc
 mask_of_coords-set (coord.Text name ∷ coords) zero value all = cc
 mask_of_coords-set (c ∷ coords) (suc dimension) value all =
@@ -104,7 +93,7 @@ drilled-All : (coords : List Coord) (dimension : ℕ) (values : List (Option (Li
 drilled-All [] dimension values stand other = refl
 drilled-All (c ∷ coords) dimension [] stand other = cc
 drilled-All (c ∷ coords) zero (v ∷ values) stand other =
-    ap (λ d. d ∷ coords) (sym (coord_of_is c v true (and_parts (stands_for c v) (all_stand_for coords values) stand).0 other))
+    ap (λ d. d ∷ coords) (sym (coord_of-stands_for c v true (and_parts (stands_for c v) (all_stand_for coords values) stand).0 other))
 drilled-All (c ∷ coords) (suc dimension) (v ∷ values) stand other =
     ap (λ ds. c ∷ ds) (drilled-All coords dimension values (and_parts (stands_for c v) (all_stand_for coords values) stand).1 other)
 
@@ -119,12 +108,12 @@ drills_down-rolled_up : (dimension : ℕ) (above key : Key) → drills_down dime
 drills_down-rolled_up dimension above key h =
     let parts = and_parts (not (is_all_at key dimension)) (eq_by_cmp key_cmp (rolled_up dimension key) above) h in (
       not-true (is_all_at key dimension) parts.0,
-      exact_keys (rolled_up dimension key) above (eq_by_cmp-Equal (key_cmp (rolled_up dimension key) above) parts.1),
+      key_cmp-exact (rolled_up dimension key) above (eq_by_cmp-Equal (key_cmp (rolled_up dimension key) above) parts.1),
     )
 
 -- a key equals itself
 eq_by_cmp-refl : (key : Key) → eq_by_cmp key_cmp key key ≡ true
-eq_by_cmp-refl key = ap (λ o. eq_by_cmp (λ (x y : ℕ). o) 0 0) (tied_itself key_cmp_total key)
+eq_by_cmp-refl key = ap (λ o. eq_by_cmp (λ (x y : ℕ). o) 0 0) (tied_itself key_cmp-IsTotalOrder key)
 
 module _ (s : Layout) (facts : List Fact) (rows : List Row) (are : AreRows s facts rows) (above : Key) (dimension : ℕ)
     (all : is_all_at above dimension ≡ true) (kept : is_among (mask_of above + 2 ^ dimension) s.grouping_sets ≡ true) where
@@ -136,7 +125,7 @@ module _ (s : Layout) (facts : List Fact) (rows : List Row) (are : AreRows s fac
   drills_down-drilled_key : (fact : Fact) → drills_down dimension above (drilled_key fact) ≡ true
   drills_down-drilled_key fact =
       let back : rolled_up dimension (drilled_key fact) ≡ above
-      = same_key (rolled_up dimension (drilled_key fact)) above
+      = Key-coords (rolled_up dimension (drilled_key fact)) above
       (set-all_at above.coords dimension (coord_of (get_or fact.dims dimension None) true) all) in
       and_from (not (is_all_at (drilled_key fact) dimension)) (eq_by_cmp key_cmp (rolled_up dimension (drilled_key fact)) above)
       (ap not (all_at-coord_of above.coords dimension (get_or fact.dims dimension None)))
@@ -154,13 +143,13 @@ module _ (s : Layout) (facts : List Fact) (rows : List Row) (are : AreRows s fac
       let is_kept : is_among (mask_of one) s.grouping_sets ≡ true
       = ap (λ set. is_among set s.grouping_sets) (mask_of_coords-set above.coords dimension (get_or fact.dims dimension None) all) ∙ kept in
       let is_cell : Contains (map key_of rows) one = AreRows-covers s facts rows are one fact among drilled_covers is_kept in
-      count_by-one key_cmp_total (λ key. covers key fact) one keys_below
+      count_by-one key_cmp-IsTotalOrder (λ key. covers key fact) one keys_below
       (IsStrictlySortedBy-filter key_cmp (drills_down dimension above) (map key_of rows) are.ordered)
       (filter-Contains (drills_down dimension above) (map key_of rows) one is_cell (drills_down-drilled_key fact))
       drilled_covers
       (λ key key_among key_covers.
       let rolled = drills_down-rolled_up dimension above key (Contains-filter (drills_down dimension above) (map key_of rows) key key_among).1 in
-      same_key key one
+      Key-coords key one
       (sym (drilled-All key.coords dimension fact.dims key_covers rolled.0)
       ∙ ap (λ (key : Key). drilled key.coords dimension fact.dims) rolled.1))
 

@@ -19,7 +19,7 @@ use Rattle.cube_core.specs.declared.aggregate.Answer.TheVariants as answer
 use Rattle.cube_core.specs.declared.fact.Fact.{Fact}
 use Rattle.cube_core.specs.declared.key.Row.{Row}
 use Rattle.cube_laws.proofs.FractionLaws.{IsInLowestTerms-unique}
-use Rattle.cube_core.proofs.KeyOrderLaws.{key_cmp_total}
+use Rattle.cube_core.proofs.KeyOrderLaws.{key_cmp-IsTotalOrder}
 use Rattle.cube_core.proofs.ListLaws.{AllByRecursion-Contains, Contains-cases, Contains-head, Contains-nil, Contains-tail}
 
 -- an element after the head of a strictly sorted list is above it
@@ -138,7 +138,7 @@ pub AreRowsOver-unique : (sets : List ℕ) (dimensions : ℕ) (aggregates : List
     rows ≡ rows'
 AreRowsOver-unique sets dimensions aggregates facts rows rows' h k =
     HasAnswers-keys aggregates facts rows rows'
-    (IsStrictlySortedBy-unique key_cmp_total (map key_of rows) (map key_of rows') h.ordered k.ordered
+    (IsStrictlySortedBy-unique key_cmp-IsTotalOrder (map key_of rows) (map key_of rows') h.ordered k.ordered
     (λ key among. (k.cells key).1 ((h.cells key).0 among))
     (λ key among. (h.cells key).1 ((k.cells key).0 among)))
     h.answers k.answers

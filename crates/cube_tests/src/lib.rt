@@ -16,6 +16,8 @@ mod failures;
 #[cfg(test)]
 mod groupings;
 #[cfg(test)]
+mod growths;
+#[cfg(test)]
 mod runs;
 pub mod sample;
 #[cfg(test)]

@@ -12,7 +12,7 @@ use Rattle.cube_core.specs.declared.key.Row.{Row}
 use Rattle.cube_core.specs.declared.fact.Fact.{Fact}
 use Rattle.cube_tool.specs.Shape.{HasShapeOf}
 use Rattle.cube_core.proofs.ListLaws.{AllZip-length, Contains-AllByRecursion}
-use Rattle.cube_core.proofs.CellKeyLaws.{width_of_cell}
+use Rattle.cube_core.proofs.CellKeyLaws.{is_cell-length}
 
 -- each row has a coordinate for each dimension, by its key, and an answer for each aggregate
 shapes : (s : Layout) (facts : List Fact) (rows : List Row) → AllByRecursion (λ (key : Key). length key.coords ≡ length s.dimensions) (map key_of rows)
@@ -27,5 +27,5 @@ rows_have_shape s facts rows fit are =
     All-from_recursion (HasShapeOf s) rows
     (shapes s facts rows
     (Contains-AllByRecursion (λ (key : Key). length key.coords ≡ length s.dimensions) (map key_of rows)
-    (λ key among. width_of_cell s facts key fit (and_parts _ _ ((are.cells key).0 among)).1))
+    (λ key among. is_cell-length s facts key fit (and_parts _ _ ((are.cells key).0 among)).1))
     are.answers)

@@ -12,11 +12,11 @@ use Rattle.cube_core.specs.declared.fact.Fact.{Fact}
 use Rattle.cube_core.specs.declared.key.Key.{Key}
 use Rattle.cube_core.specs.declared.key.Row.{Row}
 use Rattle.cube_core.specs.contracts.key.KeyOrd.TheImpl as KeyOrd
-use Rattle.cube_core.proofs.KeyOrderLaws.{exact_keys, key_cmp_total, key_order_is}
+use Rattle.cube_core.proofs.KeyOrderLaws.{key_cmp-exact, key_cmp-IsTotalOrder, cmp-key_cmp}
 
 -- a set of keys is in key order
 pub set_in_order : (keys : BTreeSet Key) → IsOrdered (KeyOrd.cmp-value).it keys → IsOrdered key_cmp keys
-set_in_order keys ordered = let P : (Key → Key → Ordering) → Type 0 = λ R. IsOrdered R keys in subst P key_order_is ordered
+set_in_order keys ordered = let P : (Key → Key → Ordering) → Type 0 = λ R. IsOrdered R keys in subst P cmp-key_cmp ordered
 
 -- rows that have the keys of all cells, in order, and their answers
 pub rows_of_keys : (s : Layout) (facts : List Fact) (keys : BTreeSet Key) (rows : List Row) → IsOrdered key_cmp keys → ((key : Key) → contains key_cmp keys key ≡ is_cell s.grouping_sets (length s.dimensions) facts key) → map key_of rows ≡ keys.keys → AllByRecursion (HasAnswers s.aggregates facts) rows → AreRows s facts rows
@@ -25,7 +25,7 @@ rows_of_keys s facts keys rows ordered has same answers =
     let InOrder : List Key → Type 0 = λ ks. IsStrictlySortedBy key_cmp ks in
     record {
       cells = λ key.
-          let member = btree_set_contains_iff key_cmp_total exact_keys keys key in
+          let member = btree_set_contains_iff key_cmp-IsTotalOrder key_cmp-exact keys key in
           (λ there. sym (has key) ∙ member.1 (subst (Has key) same there), λ is. subst (Has key) (sym same) (member.0 (has key ∙ is)));
       ordered = subst InOrder (sym same) ordered;
       answers = answers;

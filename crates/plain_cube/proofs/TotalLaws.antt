@@ -10,7 +10,7 @@ use Rattle.cube_core.specs.Layout.{Layout, keeps}
 use Rattle.cube_core.specs.Order.{key_cmp}
 use Rattle.cube_core.specs.declared.key.Coord.{Coord}
 use Rattle.cube_core.specs.declared.key.Key.{Key}
-use Rattle.cube_core.proofs.CellKeyLaws.{same_total}
+use Rattle.cube_core.proofs.CellKeyLaws.{key_cmp-is_total}
 
 -- ALL in each dimension is the empty set
 mask_of_all : (coords : List Coord) → list_all is_all_coord coords ≡ true → mask_of_coords coords ≡ 0
@@ -50,7 +50,7 @@ pub total_key_kept : (s : Layout) (old new : BTreeSet Key) (total : Key) (dimens
     → (key : Key) → contains key_cmp new key ≡ (keeps s key && is_total dimensions key)
 total_key_kept s old new total dimensions empty t kept h key =
     let none : contains key_cmp old key ≡ false = rw empty refl in
-    h key ∙ ap (λ b. b || eq_by_cmp key_cmp total key) none ∙ same_total total key dimensions t
+    h key ∙ ap (λ b. b || eq_by_cmp key_cmp total key) none ∙ key_cmp-is_total total key dimensions t
     ∙ same_kept (keeps s key) (keeps s total) (is_total dimensions key) kept (keeps_total s total key dimensions t)
 
 -- and no key, where it isn't

@@ -19,9 +19,9 @@ use Rattle.cube_core.specs.Cube.{is_total, is_cell}
 use Rattle.cube_core.specs.Layout.{Layout, keeps}
 use Rattle.cube_core.specs.declared.fact.Fact.{Fact}
 use Rattle.cube_core.specs.contracts.key.KeyOrd.TheImpl as KeyOrd
-use Rattle.cube_core.proofs.AncestorLaws.{same_from_mask, coord_of, ancestor_of}
-use Rattle.cube_core.proofs.KeyOrderLaws.{key_order_is}
-use Rattle.cube_core.proofs.CellKeyLaws.{key_cmp-Decides, same_key}
+use Rattle.cube_core.proofs.AncestorLaws.{all_stand_for-mask_of_coords, coord_of, ancestor_of}
+use Rattle.cube_core.proofs.KeyOrderLaws.{cmp-key_cmp}
+use Rattle.cube_core.proofs.CellKeyLaws.{key_cmp-Decides, Key-coords}
 
 -- one more value of a walk over the values
 pub ancestor_of_more : (coords : List Coord) (c : Coord) (values : List (Option (List ℕ))) (i mask : ℕ) → i < length values → c ≡ coord_of (get_or values i None) (mask % 2 == 1) → (coords ++ c ∷ []) ++ ancestor_of (drop (i + 1) values) (mask / 2) ≡ coords ++ ancestor_of (drop i values) mask
@@ -47,7 +47,7 @@ cond_or false false = refl
 pub set_gains_key : (old new : BTreeSet Key) (key : Key) → ((other : Key) → contains (KeyOrd.cmp-value).it new other ≡ cond (is_at ((KeyOrd.cmp-value).it key) other) true (contains (KeyOrd.cmp-value).it old other)) → (other : Key) → contains key_cmp new other ≡ (contains key_cmp old other || eq_by_cmp key_cmp key other)
 set_gains_key old new key h other =
     let P : (Key → Key → Ordering) → Type 0 = λ R. contains R new other ≡ cond (is_at (R key) other) true (contains R old other) in
-    subst P key_order_is (h other) ∙ cond_or (eq_by_cmp key_cmp key other) (contains key_cmp old other)
+    subst P cmp-key_cmp (h other) ∙ cond_or (eq_by_cmp key_cmp key other) (contains key_cmp old other)
 
 -- a key that covers a fact is that of its grouping set that does
 same_ancestor : (ancestor key : Key) (fact : Fact) (set : ℕ) → covers ancestor fact ≡ true → mask_of ancestor ≡ set → eq_by_cmp key_cmp ancestor key ≡ ((set == mask_of key) && covers key fact)
@@ -57,7 +57,7 @@ same_ancestor ancestor key fact set c m =
       λ e.
           let parts = and_parts (set == mask_of key) (covers key fact) e in
           let sets : set ≡ mask_of key = exact_unsigned_eq set (mask_of key) parts.0 in
-          same_key ancestor key (same_from_mask ancestor.coords key.coords fact.dims c parts.1 (m ∙ sets)),
+          Key-coords ancestor key (all_stand_for-mask_of_coords ancestor.coords key.coords fact.dims c parts.1 (m ∙ sets)),
       λ e. subst P e (and_from _ _ (eq-eqb set (mask_of ancestor) (sym m)) c),
     ) in
     same_from_decides _ _ (key_cmp-Decides ancestor key) by_set
