@@ -21,8 +21,8 @@ use Rattle.cube_core.specs.Takes.{fits}
 use Rattle.cube_core.specs.declared.fact.Fact.{Fact}
 use Rattle.cube_core.specs.declared.key.Key.{Key}
 use Rattle.cube_core.proofs.ListLaws.{filter-passed, filter-failed}
-use Rattle.cube_core.proofs.PlainCellLaws.{width_of_fitting}
-use Rattle.cube_core.proofs.PlainKeyLaws.{ancestor_of_covers, mask_of_ancestor}
+use Rattle.cube_core.proofs.CellKeyLaws.{fits-length}
+use Rattle.cube_core.proofs.AncestorLaws.{all_stand_for-ancestor_of, mask_of_coords-ancestor_of}
 use Rattle.cube_cells.specs.Bag.{Bag}
 use Rattle.cube_cells.specs.Codes.{Dictionaries, IsDictionary, AreCodesOf, are_codes, coord_of_value, coords_at}
 use Rattle.cube_cells.specs.Coded.{CodedCells, IsCoded, IsCodedCell, AreNewCells, same_codes, coded_at, decoded, is_total_code, lattice_of, total_codes}
@@ -114,7 +114,7 @@ coded_first schema sets dictionaries set cell group old new m = record {
   ];
 } where
   width : length m.has.first.dims ≡ length schema.dimensions
-  width = width_of_fitting schema m.has.first m.has.fit
+  width = fits-length schema m.has.first m.has.fit
 
   small : set < 2 ^ length m.has.first.dims
   small = subst (λ (n : ℕ). set < 2 ^ n) (sym width) (among_all (λ s. s < 2 ^ length schema.dimensions) sets set m.frame.within m.among)
@@ -464,10 +464,10 @@ all_found schema dictionaries cells facts is = λ k d inside. found (get_or fact
   found : (fact : Fact) → ((p : Fact → Bool) → p fact ≡ true → list_any p facts ≡ true) → fits schema fact ≡ true → one_covers dictionaries cells fact ≡ true
   found fact any_of fit =
       let key : Key = covering_key fact (finest_set n) in
-      let width : length fact.dims ≡ n = width_of_fitting schema fact fit in
+      let width : length fact.dims ≡ n = fits-length schema fact fit in
       let small : finest_set n < 2 ^ length fact.dims = omega (arith, two_power n, ap (λ (k : ℕ). 2 ^ k) width) in
-      let stands : covers key fact ≡ true = ancestor_of_covers fact.dims (finest_set n) in
-      let mask : mask_of key ≡ finest_set n = mask_of_ancestor fact.dims (finest_set n) small in
+      let stands : covers key fact ≡ true = all_stand_for-ancestor_of fact.dims (finest_set n) in
+      let mask : mask_of key ≡ finest_set n = mask_of_coords-ancestor_of fact.dims (finest_set n) small in
       let among : is_among (mask_of key) (finest_set n ∷ []) ≡ true = or_left (finest_set n == mask_of key) false (eq-eqb (finest_set n) (mask_of key) (sym mask)) in
       let any : list_any (covers key) facts ≡ true = any_of (covers key) stands in
       let cell : is_cell (finest_set n ∷ []) n facts key ≡ true = and_from (is_among (mask_of key) (finest_set n ∷ [])) (is_total n key || list_any (covers key) facts) among (or_right (is_total n key) (list_any (covers key) facts) any) in

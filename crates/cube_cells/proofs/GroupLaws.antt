@@ -20,7 +20,7 @@ use Rattle.cube_core.specs.declared.key.Coord.{Coord}
 use Rattle.cube_core.specs.declared.key.Coord.TheVariants as coord
 use Rattle.cube_core.specs.declared.key.Key.{Key}
 use Rattle.cube_core.proofs.ListLaws.{filter-passed, filter-failed}
-use Rattle.cube_core.proofs.PlainKeyLaws.{length_standing}
+use Rattle.cube_core.proofs.AncestorLaws.{all_stand_for-length}
 use Rattle.cube_cells.specs.Codes.{Dictionaries, IsDictionary, IsCodeOf, AreCodesOf, is_code, are_codes, coord_at, coords_at, key_at, null_code, coord_of_value}
 use Rattle.cube_cells.specs.Coded.{CodedCells, same_codes}
 use Rattle.cube_cells.specs.Tally.{Tally, IsTallyOf, PlusTally, one_of}
@@ -116,7 +116,7 @@ pub record IsFull (dictionaries : Dictionaries) (cell : Codes × Tally) : Type 0
 -- the key of one that covers a fact has the fact's values
 pub full_key : (dictionaries : Dictionaries) (cell : Codes × Tally) (fact : Fact) → IsFull dictionaries cell → covers (cell_key dictionaries cell) fact ≡ true → coords_at dictionaries cell.0.codes ≡ map coord_of_value fact.dims
 full_key dictionaries cell fact is stands =
-    let width : length dictionaries ≡ length fact.dims = sym (coords_width dictionaries cell.0.codes) ∙ length_standing (coords_at dictionaries cell.0.codes) fact.dims stands in
+    let width : length dictionaries ≡ length fact.dims = sym (coords_width dictionaries cell.0.codes) ∙ all_stand_for-length (coords_at dictionaries cell.0.codes) fact.dims stands in
     full_coords (coords_at dictionaries cell.0.codes) fact.dims stands (is.full ∙ ap (λ (n : ℕ). 2 ^ n) width)
 
 -- no fact is covered by the keys of two

@@ -22,7 +22,7 @@ use Rattle.cube_core.specs.declared.fact.Fact.{Fact}
 use Rattle.cube_core.specs.declared.key.Key.{Key}
 use Rattle.cube_core.specs.declared.key.Row.{Row}
 use Rattle.cube_core.proofs.ListLaws.{AllByRecursion-Contains, Contains-AllByRecursion, Contains-head, Contains-tail}
-use Rattle.cube_core.proofs.PlainOrderLaws.{exact_keys, key_cmp_total}
+use Rattle.cube_core.proofs.KeyOrderLaws.{key_cmp-exact, key_cmp-IsTotalOrder}
 use Rattle.cube_cells.proofs.RankLaws.{below_from}
 use Rattle.cube_threads.proofs.WireLaws.{at_or_below}
 
@@ -51,7 +51,7 @@ abbrev pub same_key : Key → Key → Bool
 same_key = eq_by_cmp key_cmp
 
 keys_equiv : IsEquivalence same_key
-keys_equiv = eq_by_cmp_equiv key_cmp_total
+keys_equiv = eq_by_cmp_equiv key_cmp-IsTotalOrder
 
 -- these rows have these keys, each once, with the answers of the facts; nothing speaks of their order
 pub record AreRowsAt (IsKey : Key → Type 0) (aggregates : List Agg) (facts : List Fact) (rows : List Row) : Type 0 where
@@ -75,7 +75,7 @@ apart-append (x ∷ xs) ys once_x once_y apart =
     (Contains-AllByRecursion (λ y. same_key x y ≡ false) (xs ++ ys) (λ y inside. elim (Contains-append_cases xs ys y inside) [
       | inl left ↦ AllByRecursion-Contains (λ y. same_key x y ≡ false) xs y (IsDistinct-head same_key x xs once_x) left
       | inr right ↦ elim (cases_Bool (same_key x y)) [
-        | inl same ↦ let is : x ≡ y = tells_apart exact_keys x y same in absurd (apart x (Contains-head x xs) (subst (Contains ys) (sym is) right))
+        | inl same ↦ let is : x ≡ y = tells_apart key_cmp-exact x y same in absurd (apart x (Contains-head x xs) (subst (Contains ys) (sym is) right))
         | inr differs ↦ differs
       ]
     ]))
@@ -137,12 +137,12 @@ rows-sorted P aggregates facts rows sorted moved order are = (
   long = length-map sorted key_of
 
   ascending : IsStrictlySortedBy key_cmp (map key_of sorted)
-  ascending = sorted_from_all_adjacent key_cmp_total (map key_of sorted) no_key (λ k inside.
+  ascending = sorted_from_all_adjacent key_cmp-IsTotalOrder (map key_of sorted) no_key (λ k inside.
       let near : k + 1 < length sorted = omega (arith, inside, long) in
       let here = get_or (map key_of sorted) k no_key in
       let next = get_or (map key_of sorted) (k + 1) no_key in
       let upward : is_lt (key_cmp next here) ≡ false = rw (key_there (k + 1) near, key_there k (omega (arith, near))) (order k no_row (omega arith) near) in
-      below_from key_cmp_total exact_keys here next upward (λ same.
+      below_from key_cmp-IsTotalOrder key_cmp-exact here next upward (λ same.
       let tied : same_key here next ≡ true = ap (same_key here) (sym same) ∙ keys_equiv.refl here in
       both_ways _ (apart_from_distinct same_key (map key_of sorted) k (k + 1) no_key once (omega arith) inside) tied))
 
