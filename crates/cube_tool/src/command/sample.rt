@@ -5,7 +5,7 @@ ghost use Rattle.cube_tool.specs.Command.{EndsRun, FailureLeaves, all_refusals, 
 
 use crate::command::failure::Failure;
 use crate::command::status::Status;
-use crate::run::run_plain;
+use crate::runs::run_plain;
 use cube_core::{Schema, SchemaFault};
 use cube_engine::{Builder, RunFault};
 use std::alloc::Global;
