@@ -12,13 +12,15 @@ use Rattle.std.proofs.lemmas.Slice.Eq.{bytes_eq-Decides}
 use Rattle.cube_core.proofs.ListLaws.{AllByRecursion-Contains, Contains-cases, Contains-head, Contains-nil, Contains-tail, map-Contains}
 use Rattle.cube_core.specs.Arrival.{Arrivals, of_sources}
 use Rattle.cube_core.specs.Layout.{Layout}
+use Rattle.cube_core.specs.Run.{Told}
 use Rattle.cube_core.specs.declared.fact.Fact.{Fact}
 use Rattle.cube_core.specs.declared.change.Item.{Item}
 use Rattle.cube_cells.proofs.CubeLaws.{IsCubeOf-permutation}
 use Rattle.cube_engine.specs.Book.{Entries, IsBook, fact_at, facts_of}
 use Rattle.cube_engine.specs.Builder.{BuilderView}
 use Rattle.cube_engine.specs.Ledger.{AccountView, LedgerView, AccountStandsAt, LedgerStandsAt, all_facts}
-use Rattle.cube_threads.specs.Parts.{BuiltView, first_ledger, IsPartOf, AreParts, StandsInParts}
+use Rattle.cube_threads.specs.Parts.{BuiltView, first_ledger, schema_of_run, IsPartOf, AreParts, StandsInParts, BuildsParts}
+use Rattle.cube_threads.proofs.WireLaws.{some_of}
 
 -- an entry of a book isn't among those after it
 entry-once : (e : List ℕ × Fact) (es : Entries) → IsBook (e ∷ es) → Contains es e → ⊥
@@ -100,3 +102,10 @@ are-parts s sources parts built arrivals some stands =
                 own.stands.cube.cells;
           });
     }
+
+-- the schema of builders that have taken the feeds of all sources
+pub schema-run : (s : Layout) (sources : Told) (parts : ℕ) (built : BuiltView) → 1 ≤ parts → BuildsParts s sources parts built → schema_of_run built ≡ s
+schema-run s sources parts built some builds =
+    let count = builds.stands.builders in
+    let d = some_of built.builders 0 (omega arith) in
+    ap (λ (l : LedgerView). l.schema) (first-is built.builders d (omega arith)) ∙ (builds.stands.each 0 d (omega arith)).schema

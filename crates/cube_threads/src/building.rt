@@ -2,7 +2,7 @@
 ghost use Rattle.std.specs.Prelude.{◌≡◌, ◌≤◌, [], map, vec_len, IfOk, IfErr};
 ghost use Rattle.cube_threads.specs.Building.{ExplainsRun};
 ghost use Rattle.cube_threads.specs.Drafts.{AreNewDrafts};
-ghost use Rattle.cube_threads.specs.Parts.{BuildsParts};
+ghost use Rattle.cube_threads.specs.Parts.{BuildsParts, schema_of_run};
 
 use crate::built::{Built, Making};
 use crate::draft::{Draft, new_drafts};
@@ -55,6 +55,7 @@ pub fn build<T: Threads + Wait + Sync, R: Read + Drop + Send, G: Gate + Sync>(
     requires builders { (1 ≤ builders) × (builders ≤ 8) }
     ensures ok { IfOk result
         (BuildsParts schema.now (map R.Read.remaining readers.items) builders) }
+    ensures schema { IfOk result (λ built. schema_of_run built ≡ schema.now) }
     ensures err { IfErr result (ExplainsRun schema.now (map R.Read.remaining readers.items)) }
 {
     let Ok(made) = start(alloc, schema, readers.len() as u32, builders) else {

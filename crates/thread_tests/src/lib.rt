@@ -1,12 +1,21 @@
 //! Builds in threads, from texts.
 #![tactic(auto)]
 
+mod feeds;
 mod gates;
+#[cfg(test)]
+mod parts;
+mod rows;
 #[cfg(test)]
 mod tests;
 mod texts;
 mod turn;
 
+pub use feeds::{Torn, thousand_of};
 pub use gates::{Apart, Flow, Late, Meet};
-pub use texts::{build_texts, counts_facts, counts_rows, has_refusals};
+pub use rows::{are_same, is_row};
+pub use texts::{
+    build_texts, counts_facts, counts_rows, drilled, has_refusals, plain_rows_of_texts,
+    rows_of_texts,
+};
 pub use turn::Turn;

@@ -3,7 +3,7 @@ use Rattle.std.proofs.lemmas.List.{length-map}
 use Rattle.cube_threads.specs.Drafts.{AreNewDrafts}
 use Rattle.cube_threads.specs.Parts.{BuiltView, BuildsParts}
 use Rattle.cube_threads.proofs.DraftLaws.{builds-parts}
-use Rattle.cube_threads.proofs.PartLaws.{are-parts}
+use Rattle.cube_threads.proofs.PartLaws.{are-parts, schema-run}
 use Rattle.cube_threads.proofs.building.build.Goals as goal
 
 pub of-requires : goal.of-requires
@@ -27,3 +27,14 @@ returns-in-Ok-finish_all-clause-ok g c =
     builds-parts c.args.schema.now told c.args.builders c.in-Ok.made.0.items c.in_ok-gatherers.gatherers.items c.of.result known.good c.requires.builders.0
     (subst (λ (n : ℕ). AreNewDrafts c.args.schema.now n c.args.builders c.args.builders c.in-Ok.made.0.items) count c.in-Ok.ensures.drafts) known.taken
     (rw c.of.ensures.builders made.builders) (c.of.ensures.inlets ∙ made.links)
+
+pub returns-in-Ok-finish_all-clause-schema : goal.returns-in-Ok-finish_all-clause-schema
+returns-in-Ok-finish_all-clause-schema g c =
+    let told = map g.R.Read.remaining c.args.readers.items in
+    let count : c.len.result ≡ length told = c.len.ensures ∙ c.args.readers.ok.0 ∙ sym (length-map c.args.readers.items g.R.Read.remaining) in
+    let known = c.in_ok-gatherers.ensures in
+    let made = c.in-Ok-finish_all.ensures in
+    schema-run c.args.schema.now told c.args.builders c.of.result c.requires.builders.0
+    (builds-parts c.args.schema.now told c.args.builders c.in-Ok.made.0.items c.in_ok-gatherers.gatherers.items c.of.result known.good c.requires.builders.0
+    (subst (λ (n : ℕ). AreNewDrafts c.args.schema.now n c.args.builders c.args.builders c.in-Ok.made.0.items) count c.in-Ok.ensures.drafts) known.taken
+    (rw c.of.ensures.builders made.builders) (c.of.ensures.inlets ∙ made.links))

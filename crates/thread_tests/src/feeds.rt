@@ -1,0 +1,39 @@
+//! Feeds that are made for tests, and a reader that fails.
+use std::alloc::{AllocError, Global};
+use std::io;
+use std::io::Read;
+
+/// The feed of a source: an insert of each id from 1 to 1000, in region `w` followed by the id modulo 7 and kind `k`
+/// followed by the source, with the id as its amount, and then deletes of the even ids.
+pub fn thousand_of(alloc: Global, source: u32) -> Result<String, AllocError> {
+    let mut feed = String::from_str(alloc, "op,id,region,kind,amount\n")?;
+    for id in 1..1001u32 {
+        let region = id % 7;
+        writeln!(feed, "I,{id},w{region},k{source},{id}")?;
+    }
+    for half in 1..501u32 {
+        let id = half * 2;
+        writeln!(feed, "D,{id}")?;
+    }
+    Ok(feed)
+}
+
+/// Hands its bytes out, and then fails where it is torn.
+#[derive(Drop)]
+pub struct Torn<'a> {
+    pub bytes: &'a [u8],
+    pub is_torn: bool,
+}
+
+impl<'a> Read for Torn<'a> {
+    fn read(&mut self, buf: &mut [u8]) -> io::Result<usize> {
+        if self.bytes.is_empty() && self.is_torn {
+            return Err(io::Error::from(io::ErrorKind::BrokenPipe));
+        }
+        let count = buf.len().min(self.bytes.len());
+        let (piece, rest) = self.bytes.split_at(count);
+        buf[..count].copy_from_slice(piece);
+        self.bytes = rest;
+        Ok(count)
+    }
+}
