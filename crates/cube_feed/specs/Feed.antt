@@ -1,5 +1,5 @@
 -- What a feed has to come, and what each call of it gives (this project's choice).
-use Rattle.std.specs.Prelude.{◌≡◌, ⊤, ◌+◌, ◌≤◌, ℕ, Bool, true, false, List, [], ◌∷◌, Option, Some, None, option_map, Result, Ok, Err, IfOk, IfSome}
+use Rattle.std.specs.Prelude.{◌≡◌, ⊤, ◌+◌, ◌≤◌, ℕ, Bool, true, false, List, [], Option, Some, None, option_map, Result, Ok, Err, IfOk, IfSome}
 use Rattle.cube_core.specs.Layout.{Layout}
 use Rattle.cube_core.specs.Takes.{takes}
 use Rattle.cube_core.specs.Items.{Coming, FeedEnd, Good, WrongHeader, TooManyRecords, coming_after, items_of, items_after}
