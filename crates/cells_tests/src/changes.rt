@@ -3,7 +3,8 @@ ghost use Rattle.std.specs.Prelude.{◌≡◌, OnOk, true};
 ghost use Rattle.std.specs.List.{list_all};
 ghost use Rattle.cube_core.specs.Takes.{fits};
 
-use crate::sample::{add, cube_of, fact_of, holds, line, remove, remove_line, schema_of};
+use crate::facts::line;
+use crate::sample::{add, cube_of, holds, remove, remove_line, schema_of};
 use crate::text::text_of;
 use crate::words::rows_of;
 use cube_cells::Cube;

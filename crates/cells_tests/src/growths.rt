@@ -1,5 +1,6 @@
 //! Growths that are refused. To refuse each in turn, run `rt try --test --fail-alloc N` for each N from 1.
-use crate::sample::{add, cube_of, fact_of, line};
+use crate::facts::{fact_of, line};
+use crate::sample::{add, cube_of};
 use crate::words::rows_of;
 use cube_core::{QueryFault, Schema};
 use std::alloc::{AllocError, Global};

@@ -1,5 +1,5 @@
 //! Tests of counted values, of cells and of the cube: worked values, lists of adds and removes beside the plain
-//! cube, and growths that are refused.
+//! cube, and growths that are refused. Tests of other crates take facts by lines, and rows as text, from here.
 #![tactic(auto)]
 
 #[cfg(test)]
@@ -8,6 +8,7 @@ mod cells;
 mod changes;
 #[cfg(test)]
 mod counted;
+mod facts;
 #[cfg(test)]
 mod growths;
 #[cfg(test)]
@@ -16,7 +17,9 @@ mod queries;
 mod sample;
 #[cfg(test)]
 mod sets;
-#[cfg(test)]
 mod text;
 #[cfg(test)]
 mod words;
+
+pub use facts::{FactLine, fact_of, line};
+pub use text::text_of;

@@ -1,5 +1,6 @@
 //! Rows, slices, roll-up and drill-down of small cubes.
-use crate::sample::{FactLine, cube_of, line};
+use crate::facts::{FactLine, line};
+use crate::sample::cube_of;
 use crate::words::{drilled, rolled_up, rows_of, sliced};
 use cube_core::{QueryFault, Schema};
 use std::alloc::Global;

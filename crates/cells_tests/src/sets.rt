@@ -1,5 +1,6 @@
 //! Parts of the lattice, and chosen grouping sets.
-use crate::sample::{FactLine, add_lines, cube_of, line, remove_line, schema_of};
+use crate::facts::{FactLine, line};
+use crate::sample::{add_lines, cube_of, remove_line, schema_of};
 use crate::words::{drilled, rolled_up, rows_of, sliced};
 use cube_cells::Cube;
 use cube_core::{QueryFault, Schema};

@@ -1,10 +1,11 @@
-//! Times a cube: adds, removes and rows.
+//! Times a cube: adds, removes and rows; and a builder: inserts, updates and deletes.
 //!
 //! With four words, the number of facts, of dimensions (2, 4 or 8), of measures (1 or 2) and of different values in a
 //! dimension, it makes facts, and prints nanoseconds of processor time for each fact and kept set, nanoseconds a row,
-//! and bytes a cell. With no word it checks a small case.
+//! bytes a cell, and nanoseconds a change of a builder. With no word it checks a small case.
 #![tactic(auto)]
 
+mod changes;
 mod facts;
 mod timing;
 

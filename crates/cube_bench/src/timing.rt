@@ -1,6 +1,7 @@
 //! Processor time and memory of a cube.
 ghost use Rattle.std.specs.Prelude.{◌≡◌};
 
+use crate::changes::time_changes;
 use crate::facts::{Shape, facts_of, schema_of};
 use anyhow::{Result, ensure};
 use cube_cells::Cube;
@@ -28,7 +29,7 @@ pub fn check<R: Print + AllocGlobal>(rt: &R) -> Result<()> {
     Ok(())
 }
 
-/// Times the adds of made facts, rows, and the removal of all facts.
+/// Times the adds of made facts, rows, the removal of all facts, and a builder that takes changes of them.
 pub fn time_made<R: Print + AllocGlobal + Files + CpuClock>(rt: &R, shape: Shape) -> Result<()> {
     let schema = schema_of(rt.alloc(), shape)?;
     let facts = facts_of(rt.alloc(), shape)?;
@@ -40,7 +41,8 @@ pub fn time_made<R: Print + AllocGlobal + Files + CpuClock>(rt: &R, shape: Shape
     println!(rt; "{rows} cells of {size} bytes")?;
     let (first, second) = facts.split_at(facts.len() / 2);
     time_removals(rt, &mut cube, first, sets, 1)?;
-    time_removals(rt, &mut cube, second, sets, 2)
+    time_removals(rt, &mut cube, second, sets, 2)?;
+    time_changes(rt, &schema, &facts)
 }
 
 // Times adds, and answers by how many bytes the memory grew.
@@ -127,7 +129,8 @@ fn remove(cube: &mut Cube, fact: &Fact, times: u32) -> Result<()>
     Ok(())
 }
 
-fn cpu_nanos<R: CpuClock>(rt: &R) -> Result<u128> {
+/// The processor time of the process so far.
+pub fn cpu_nanos<R: CpuClock>(rt: &R) -> Result<u128> {
     let time = rt.process_cpu_time()?;
     Ok(time.as_nanos())
 }
@@ -143,8 +146,8 @@ fn resident_bytes<R: AllocGlobal + Files>(rt: &R) -> Result<u64> {
     Ok(pages.saturating_mul(4096))
 }
 
-// The share of one of so many changes in so many sets.
-fn per(total: u128, changes: usize, sets: usize) -> u128 {
+/// The share of one of so many changes in so many sets.
+pub fn per(total: u128, changes: usize, sets: usize) -> u128 {
     let parts = (changes as u128).saturating_mul(sets as u128).max(1);
     total / parts
 }

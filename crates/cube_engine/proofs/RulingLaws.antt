@@ -1,14 +1,17 @@
 -- What an item comes to, and what an account does when it takes the item.
 use Rattle.std.proofs.Common.{◌≡◌, ◌-◌, ℕ, List, length, sym, ap, ◌∙◌, subst}
-use Rattle.std.specs.Prelude.{Option, Some, None}
+use Rattle.std.specs.Prelude.{Option, Some, None, Result, true}
 use Rattle.std.proofs.Math.ListN.{length-set}
 use Rattle.std.proofs.lemmas.Option.{same_Some}
 use Rattle.cube_core.specs.Layout.{Layout}
 use Rattle.cube_core.specs.Life.{id_of}
 use Rattle.cube_core.specs.declared.fact.Fact.{Fact}
+use Rattle.cube_core.specs.declared.change.Change.{Change}
+use Rattle.cube_core.specs.declared.change.Change.TheVariants.{Delete}
 use Rattle.cube_core.specs.declared.change.Item.{Item}
-use Rattle.cube_engine.specs.Book.{fact_at, fact_put}
-use Rattle.cube_engine.specs.Ledger.{AccountView, LedgerView, AtSource, Enters, Exchanges, IsRuling, Obeys, Puts, account_of, with_refusal}
+use Rattle.cube_core.specs.declared.change.LineFault.{LineFault}
+use Rattle.cube_engine.specs.Book.{Entries, fact_at, fact_put}
+use Rattle.cube_engine.specs.Ledger.{AccountView, LedgerView, AtSource, Enters, Exchanges, IsRemoval, IsRuling, Obeys, Puts, account_of, code_in, says_amendment, with_refusal}
 use Rattle.cube_engine.specs.declared.ruling.Ruling.{Ruling}
 use Rattle.cube_engine.specs.declared.ruling.Ruling.TheVariants.{Refuse, Put, Take}
 
@@ -70,3 +73,15 @@ AtSource-Obeys item source old new ruling is at =
 -- a change of one account leaves as many
 pub AtSource-length : (P : AccountView → AccountView → Type 0) (source : ℕ) (old new : LedgerView) → AtSource P source old new → length new.accounts ≡ length old.accounts
 AtSource-length P source old new at = ap length at.accounts ∙ length-set old.accounts (source - 1) at.account
+
+-- a removal is no amendment, no refusal, and puts no fact
+pub IsRemoval-amends : (s : Layout) (book : Entries) (what : Result Change LineFault) → says_amendment what ≡ true → IsRemoval s book what → ⊥
+IsRemoval-amends s book what amends removal = cc (ap says_amendment (sym removal.says) ∙ amends)
+
+pub IsRemoval-refused : (s : Layout) (book : Entries) (what : Result Change LineFault) (code : ℕ) → code_in s book what ≡ Some code → IsRemoval s book what → ⊥
+IsRemoval-refused s book what code refused removal = cc (sym removal.lawful ∙ refused)
+
+pub IsRemoval-puts : (s : Layout) (book : Entries) (what : Result Change LineFault) (id : List ℕ) (fact : Fact) → Puts s book what id (Some fact) → IsRemoval s book what → ⊥
+IsRemoval-puts s book what id fact puts removal =
+    let same : Delete removal.id ≡ puts.change = cc (sym removal.says ∙ puts.says) in
+    cc (ap (λ change. fact_put change (fact_at book id)) same ∙ puts.comes)

@@ -1,5 +1,5 @@
 -- The books and the refusals of all sources, and what an item does to them (this project's choice).
-use Rattle.std.specs.Prelude.{◌≡◌, ◌≤◌, ⊤, true, All, ◌++◌, ◌∷◌, ◌-◌, ℕ, Bool, List, [], length, get_or, flat_map, slice_set, Option, Some, None, is_some, Result, Ok, Err, not, if◌then◌else◌}
+use Rattle.std.specs.Prelude.{◌≡◌, ◌≤◌, ⊤, true, All, ◌++◌, ◌∷◌, ◌-◌, ℕ, Bool, false, List, [], length, get_or, flat_map, slice_set, Option, Some, None, is_some, Result, Ok, Err, not, if◌then◌else◌}
 use Rattle.std.specs.List.{AllZip}
 use Rattle.cube_core.specs.Arrival.{Arrivals, of_sources}
 use Rattle.cube_core.specs.Layout.{Layout}
@@ -8,6 +8,7 @@ use Rattle.cube_core.specs.Refusals.{code_of_fault, shape_code, code_by_presence
 use Rattle.cube_core.specs.Takes.{takes, fits}
 use Rattle.cube_core.specs.declared.fact.Fact.{Fact}
 use Rattle.cube_core.specs.declared.change.Change.{Change}
+use Rattle.cube_core.specs.declared.change.Change.TheVariants.{Insert, Update, Amend, Delete}
 use Rattle.cube_core.specs.declared.change.LineFault.{LineFault}
 use Rattle.cube_core.specs.declared.change.Item.{Item}
 use Rattle.cube_core.specs.declared.change.Refusal.{Refusal}
@@ -33,6 +34,18 @@ new_account = record { book = []; refusals = [] }
 abbrev pub account_of : LedgerView → ℕ → AccountView
 account_of ledger source = get_or ledger.accounts (source - 1) new_account
 
+-- whether a change is an amendment
+abbrev pub is_amendment : Change → Bool
+is_amendment (Insert id fact) = false
+is_amendment (Update id fact) = false
+is_amendment (Amend id part) = true
+is_amendment (Delete id) = false
+
+-- whether an item says an amendment
+abbrev pub says_amendment : Result Change LineFault → Bool
+says_amendment (Err fault) = false
+says_amendment (Ok change) = is_amendment change
+
 -- the facts of all sources, source after source
 abbrev pub all_facts : List AccountView → List Fact
 all_facts accounts = flat_map (λ account. facts_of account.book) accounts
@@ -51,6 +64,12 @@ pub record Puts (s : Layout) (book : Entries) (what : Result Change LineFault) (
   pub lawful : code_in s book what ≡ None
   pub of_id : id_of change ≡ id
   pub comes : fact_put change (fact_at book id) ≡ come
+
+-- an item says a delete that a source with this book doesn't refuse
+pub record IsRemoval (s : Layout) (book : Entries) (what : Result Change LineFault) : Type 0 where
+  pub id : List ℕ
+  pub says : what ≡ Ok (Delete id)
+  pub lawful : code_in s book what ≡ None
 
 -- what a change comes to that isn't refused: this fact or none comes under this id
 abbrev pub Settles : Entries → Change → Ruling → Type 0

@@ -2,7 +2,7 @@
 ghost use Rattle.std.specs.Prelude.{◌≡◌, Ok, None, Some, true, IfOk, IfErr, OnOk, OnErr, IfNone};
 ghost use Rattle.std.specs.Option.{option_map};
 ghost use Rattle.cube_engine.specs.Book.{AmendsAlike, fact_at, facts_of, refused_by};
-ghost use Rattle.cube_engine.specs.Ledger.{AllFit, Exchanges, IsRuling, RulingFits, Settles, says_taken, new_account, with_refusal};
+ghost use Rattle.cube_engine.specs.Ledger.{AllFit, Exchanges, IsRuling, RulingFits, Settles, is_amendment, says_amendment, says_taken, new_account, with_refusal};
 
 use crate::book::Book;
 use crate::code::{code_by_presence, code_of_fault, id_of};
@@ -49,6 +49,7 @@ impl Account {
         requires taken { says_taken schema.now what ≡ true }
         ensures ruling { IfOk result (IsRuling schema.now self.now.book what) }
         ensures fits { IfOk result (RulingFits schema.now) }
+        ensures amends { OnErr result (says_amendment what ≡ true) }
     {
         let change = match what {
             Ok(change) => change,
@@ -69,7 +70,8 @@ impl Account {
     fn settle(&self, alloc: Global, change: Change) -> Result<Ruling, AllocError>
         requires alike { AmendsAlike self.now.book change }
         requires lawful { refused_by self.now.book change ≡ None }
-        ensures { IfOk result (Settles self.now.book change) }
+        ensures settles { IfOk result (Settles self.now.book change) }
+        ensures amends { OnErr result (is_amendment change ≡ true) }
     {
         match change {
             Change::Insert { id, fact } => Ok(Ruling::Put { id, fact }),

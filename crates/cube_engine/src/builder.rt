@@ -6,7 +6,7 @@ ghost use Rattle.cube_core.specs.Takes.{fits};
 ghost use Rattle.cube_core.specs.declared.fact.Fact.{Fact as TheFact};
 ghost use Rattle.cube_cells.specs.Cube.{SameSets};
 ghost use Rattle.cube_engine.specs.Builder.{HasFacts, SameBuilder, StandsAt};
-ghost use Rattle.cube_engine.specs.Ledger.{AllFit, AtSource, Enters, Exchanges, account_of, all_facts};
+ghost use Rattle.cube_engine.specs.Ledger.{AllFit, AtSource, Enters, Exchanges, IsRemoval, account_of, all_facts};
 
 use crate::fill::fill;
 use crate::ledger::Ledger;
@@ -93,7 +93,7 @@ impl Builder {
     /// and the cells.
     ///
     /// The only error is want of memory; then books and refusals are as they were, the cells count what they counted,
-    /// and the item is given up. A delete of an id that is present takes no memory.
+    /// and the item is given up. A delete that isn't refused never answers it.
     pub fn apply(&mut self, source: u32, item: Item) -> Result<(), AllocError>
         requires first { 1 ≤ source }
         requires last { source ≤ length self.old.ledger.accounts }
@@ -106,6 +106,8 @@ impl Builder {
             (length self.new.ledger.accounts ≡ length self.old.ledger.accounts) }
         ensures same { OnOk result (SameSets self.old.cube self.new.cube) }
         ensures err { OnErr result (SameBuilder self.old self.new) }
+        ensures removal { OnErr result (IsRemoval self.old.ledger.schema
+            (account_of self.old.ledger source).book item.what → ⊥) }
     {
         let Item { number, what } = item;
         match self.ledger.rule(source, what)? {

@@ -3,7 +3,7 @@ ghost use Rattle.std.specs.Prelude.{◌≡◌, ◌≤◌, ◌++◌, ◌∷◌, [
 ghost use Rattle.std.specs.Option.{option_map};
 ghost use Rattle.cube_core.specs.Arrival.{Arrivals};
 ghost use Rattle.cube_core.specs.Takes.{fits};
-ghost use Rattle.cube_engine.specs.Ledger.{AllFit, AtSource, Enters, Exchanges, IsRuling, LedgerStandsAt, Obeys, RulingFits, account_of, all_facts, new_account, says_taken, with_refusal};
+ghost use Rattle.cube_engine.specs.Ledger.{AllFit, AtSource, Enters, Exchanges, IsRuling, LedgerStandsAt, Obeys, RulingFits, account_of, all_facts, new_account, says_amendment, says_taken, with_refusal};
 
 use crate::account::Account;
 use crate::code::{says_taken, shape_code};
@@ -73,6 +73,7 @@ impl Ledger {
         ensures ruling { IfOk result
             (IsRuling self.now.schema (account_of self.now source).book what) }
         ensures fits { IfOk result (RulingFits self.now.schema) }
+        ensures amends { OnErr result (says_amendment what ≡ true) }
     {
         if !says_taken(&self.schema, &what) {
             return Ok(Ruling::Refuse {
@@ -90,6 +91,7 @@ impl Ledger {
         ensures ruling { IfOk result
             (IsRuling self.now.schema (account_of self.now source).book what) }
         ensures fits { IfOk result (RulingFits self.now.schema) }
+        ensures amends { OnErr result (says_amendment what ≡ true) }
     {
         let account = &self.accounts[source as usize - 1];
         account.rule(self.alloc, &self.schema, what)

@@ -9,4 +9,4 @@ pub returns-in-None-clause-fits : goal.returns-in-None-clause-fits
 returns-in-None-clause-fits c =
     IfOk-weaker c.settle.result _ _
     (RulingFits-Settles c.args.schema.now _ c.in-Ok.change (rw c.in-Ok.is at c.requires.taken) c.requires.all_fit)
-    c.settle.ensures
+    c.settle.ensures.settles

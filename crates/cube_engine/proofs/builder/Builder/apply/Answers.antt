@@ -1,7 +1,8 @@
 use Rattle.std.proofs.Common.{◌≤◌, length}
-use Rattle.std.proofs.lemmas.Result.{on_ok_weaker}
+use Rattle.std.proofs.lemmas.Result.{on_ok_weaker, on_err_weaker}
 use Rattle.cube_engine.proofs.BuilderLaws.{IsBuilder-refuse, StandsAt-Enters, on_ok_weaker_both}
-use Rattle.cube_engine.proofs.RulingLaws.{AtSource-Obeys, AtSource-length, AtSource-put, AtSource-take}
+use Rattle.cube_engine.proofs.RulingLaws.{AtSource-Obeys, AtSource-length, AtSource-put, AtSource-take, IsRemoval-refused, IsRemoval-puts}
+use Rattle.cube_engine.specs.Ledger.{account_of}
 use Rattle.cube_engine.specs.declared.ruling.Ruling.TheVariants.{Refuse, Put, Take}
 use Rattle.cube_engine.proofs.builder.Builder.apply.Goals as goal
 
@@ -54,3 +55,17 @@ returns-in-Put-clause-sources c = on_ok_weaker c.put.result (λ put. AtSource-le
 
 pub returns-in-Take-clause-sources : goal.returns-in-Take-clause-sources
 returns-in-Take-clause-sources c = AtSource-length _ c.args.source c.args.self.now.ledger c.take.new.self.ledger c.take.ensures.take.1
+
+pub returns-in-Refuse-clause-removal : goal.returns-in-Refuse-clause-removal
+returns-in-Refuse-clause-removal c =
+    let old = c.self.inside.ledger in
+    let ruling = rw c.in-Refuse.is at c.in_ok-code.ensures.ruling in
+    rw (← c.self.view_is)
+    (on_err_weaker c.refuse.result (λ same. IsRemoval-refused old.schema (account_of old c.args.source).book c.args.item.what c.in-Refuse.code ruling) c.refuse.ensures.err)
+
+pub returns-in-Put-clause-removal : goal.returns-in-Put-clause-removal
+returns-in-Put-clause-removal c =
+    let old = c.self.inside.ledger in
+    let ruling = rw c.in-Put.is at c.in_ok-code.ensures.ruling in
+    rw (← c.self.view_is)
+    (on_err_weaker c.put.result (λ same. IsRemoval-puts old.schema (account_of old c.args.source).book c.args.item.what c.in-Put.id c.in-Put.fact ruling) c.put.ensures.err)
