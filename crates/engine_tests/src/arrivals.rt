@@ -5,8 +5,9 @@ ghost use Rattle.cube_core.specs.Takes.{fits};
 
 use crate::items::{apply, delete, expect_shown, insert, push_refusal, update};
 use cells_tests::{FactLine, fact_of, text_of};
-use cube_core::{Change, Fact, LineFault, Schema, plain_rows};
+use cube_core::{Change, Fact, LineFault, Schema};
 use cube_engine::Builder;
+use plain_cube::plain_rows;
 use std::alloc::{AllocError, Global};
 use std::process::Abort;
 use std::test::Fail;
