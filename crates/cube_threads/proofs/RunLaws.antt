@@ -1,6 +1,7 @@
 -- What is known of a run before its threads start, and after they were joined.
 use Rattle.std.proofs.Common.{◌≡◌, ◌<◌, ◌≤◌, ◌+◌, ℕ, false, List, [], ◌∷◌, ◌++◌, length, get_or, map, refl, ap, sym, ◌∙◌, arith, Option, Some, None, IfSome}
 use Rattle.std.specs.Prelude.{Result, Ok, Err, IfOk, IfErr, OnOk, is_err}
+use Rattle.std.specs.Result.{result_ok}
 use Rattle.std.specs.List.{All, AllZip}
 use Rattle.std.proofs.lemmas.List.{get_or-map, length-map}
 use Rattle.cube_core.proofs.ListLaws.{AllZip-length}
@@ -193,3 +194,10 @@ on_ok-then (Err e) P Q then holds = tt
 pub if_err-then : {A E : Type 0} (r : Result A E) (P Q : E → Type 0) → ((e : E) → P e → Q e) → IfErr r P → IfErr r Q
 if_err-then (Ok x) P Q then holds = tt
 if_err-then (Err e) P Q then holds = then e holds
+
+-- what holds of an answer that is kept where there is one
+pub ok-holds : {H F : Type 0} (r : Result H F) (o : Option H) (P : H → Type 0) → o ≡ result_ok r → IfOk r P → IfSome o P
+ok-holds {H} {F} r o P is holds = rw is (turn r holds) where
+  turn : (r : Result H F) → IfOk r P → IfSome (result_ok r) P
+  turn (Ok h) holds = holds
+  turn (Err e) holds = tt

@@ -1,5 +1,5 @@
 -- What is known of builders and feeders before their threads start, and after they were joined.
-use Rattle.std.specs.Prelude.{◌≡◌, ◌+◌, ◌≤◌, ℕ, [], vec_len, vec_capacity}
+use Rattle.std.specs.Prelude.{◌≡◌, ◌+◌, ◌≤◌, ℕ, List, [], ◌∷◌, ◌++◌, vec_len, vec_capacity}
 use Rattle.cube_core.specs.Arrival.{Arrivals}
 use Rattle.cube_threads.specs.Gathering.{AreFresh, Gathers}
 use Rattle.cube_threads.specs.declared.roster.Gatherer.{Gatherer}
@@ -30,3 +30,9 @@ pub record MayStart {B : Type 0} (builders feeders : ℕ) (roster : Roster B) : 
   pub none : vec_len roster.gatherers ≡ 0
   pub room : builders ≤ vec_capacity roster.gatherers
   pub for_feeders : HasRoom feeders (feeders + builders) roster
+
+-- the last of these was started, as its thread promises, and the others were given back
+pub record StartsLast {P : Type 0} (feeders rest : List P) (Promises : P → Type 0) : Type 0 where
+  pub feeder : P
+  pub split : feeders ≡ rest ++ feeder ∷ []
+  pub promises : Promises feeder

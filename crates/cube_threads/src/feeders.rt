@@ -2,7 +2,7 @@
 ghost use Rattle.std.specs.Prelude.{◌≡◌, ◌≤◌, [], vec_len, vec_capacity, OnOk, IfSome};
 ghost use Rattle.std.specs.List.{All, AllZip};
 ghost use Rattle.cube_threads.specs.Feeding.{Feeds};
-ghost use Rattle.cube_threads.specs.Starting.{HasRoom, IsReady, HasGathered};
+ghost use Rattle.cube_threads.specs.Starting.{HasRoom, IsReady, HasGathered, StartsLast};
 
 use crate::builds::Builds;
 use crate::feeding::feed_out;
@@ -17,7 +17,7 @@ use std::alloc::Global;
 use std::io::Read;
 use std::snapshot::Snapshot;
 use std::sync::Wait;
-use std::thread::{Promise, Scope, Threads};
+use std::thread::{Promise, PromisedHandle, Scope, Threads};
 
 // What a feeder's thread promises of its end.
 #[derive(Drop)]
@@ -68,6 +68,50 @@ pub(crate) fn gather_all<W: Wait, B: Builds, G: Gate>(
     gatherer.wanting = answer.is_err();
 }
 
+// Starts the last of the feeders, and gives back the others. What a feeder holds is large, so it is in no call of the
+// recursion over the feeders.
+#[inline(never)]
+fn start_last<
+    's,
+    'e: 's,
+    T: Threads + Wait + Sync + 'e,
+    R: Read + Drop + Send + 'e,
+    G: Gate + Sync + 'e,
+>(
+    rt: &'e T,
+    alloc: Global,
+    scope: &Scope<'s, &'e ()>,
+    gate: &'e G,
+    feeders: Vec<Feeder<'e, R>>,
+    post: Inlet<Word>,
+) -> (
+    Vec<Feeder<'e, R>>,
+    Option<PromisedHandle<Option<FeederEnd>, PromisesFeed<'e, R>>>,
+)
+    requires some { 1 ≤ vec_len feeders }
+    requires most { vec_len feeders ≤ 64 }
+    requires outlets { All
+        (λ feeder. (1 ≤ vec_len feeder.outlets) × (vec_len feeder.outlets ≤ 8)) feeders.items }
+    ensures { StartsLast feeders.entry.items result.0.items (λ feeder. IfSome result.1 (λ child.
+        (child.promise.feed.value ≡ feeder.feed) × (child.promise.outlets.value ≡ feeder.outlets))) }
+{
+    let mut feeders = feeders;
+    let feeder = feeders.pop().unwrap();
+    let source = feeders.len() as u32 + 1;
+    let promise = PromisesFeed {
+        feed: Snapshot::of(&feeder.feed),
+        outlets: Snapshot::of(&feeder.outlets),
+    };
+    let started = scope.spawn_with(
+        promise,
+        move || -> Option<FeederEnd>
+            requires { (1 ≤ vec_len feeder.outlets) × (vec_len feeder.outlets ≤ 8) }
+            ensures { IfSome result (Feeds feeder.entry.feed.to_come feeder.entry.outlets.items) }
+        { feed_on_word(rt, alloc, source, post, feeder, gate) },
+    );
+    (feeders, started.ok())
+}
+
 /// Starts the feeders, the last source's first, gathers beside them into the first builder, and joins them.
 ///
 /// Where a thread couldn't be started those that were are told to stop, and nothing is read.
@@ -98,26 +142,14 @@ pub(crate) fn with_feeders<
     ensures own { OnOk result (HasGathered B.stands own.old own.new) }
     ensures gatherers { roster.new.gatherers ≡ roster.old.gatherers }
 {
-    let mut feeders = feeders;
-    let Some(feeder) = feeders.pop() else {
+    if feeders.is_empty() {
         tell_all(&mut roster.words, Word::Go);
         gather_all(rt, 0, own, gate);
         return Ok(());
-    };
-    let source = feeders.len() as u32 + 1;
+    }
     let post = roster.posts.pop().unwrap();
-    let promise = PromisesFeed {
-        feed: Snapshot::of(&feeder.feed),
-        outlets: Snapshot::of(&feeder.outlets),
-    };
-    let started = scope.spawn_with(
-        promise,
-        move || -> Option<FeederEnd>
-            requires { (1 ≤ vec_len feeder.outlets) × (vec_len feeder.outlets ≤ 8) }
-            ensures { IfSome result (Feeds feeder.entry.feed.to_come feeder.entry.outlets.items) }
-        { feed_on_word(rt, alloc, source, post, feeder, gate) },
-    );
-    let Ok(child) = started else {
+    let (feeders, started) = start_last(rt, alloc, scope, gate, feeders, post);
+    let Some(child) = started else {
         tell_all(&mut roster.words, Word::Stop);
         return Err(NoThread);
     };

@@ -18,6 +18,11 @@ pub fn thousand_of(alloc: Global, source: u32) -> Result<String, AllocError> {
     Ok(feed)
 }
 
+/// The feed of one insert, whose amount is the source.
+pub fn one_of(alloc: Global, source: u32) -> Result<String, AllocError> {
+    format!(in alloc; "op,id,region,kind,amount\nI,1,w,a,{source}\n")
+}
+
 /// Hands its bytes out, and then fails where it is torn.
 #[derive(Drop)]
 pub struct Torn<'a> {

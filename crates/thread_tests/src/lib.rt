@@ -11,7 +11,7 @@ mod tests;
 mod texts;
 mod turn;
 
-pub use feeds::{Torn, thousand_of};
+pub use feeds::{Torn, one_of, thousand_of};
 pub use gates::{Apart, Flow, Late, Meet};
 pub use rows::{are_same, is_row};
 pub use texts::{

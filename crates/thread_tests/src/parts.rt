@@ -1,6 +1,7 @@
 //! The rows of all parts, joined.
 use crate::{
-    Torn, are_same, build_texts, drilled, is_row, plain_rows_of_texts, rows_of_texts, thousand_of,
+    Torn, are_same, build_texts, drilled, is_row, one_of, plain_rows_of_texts, rows_of_texts,
+    thousand_of,
 };
 use cube_core::{Answer, Pattern, QueryFault, Schema};
 use cube_engine::RunFault;
@@ -178,5 +179,37 @@ fn three_sources_give_the_rows_of_one_thread(rt: HostRuntime) -> Result<(), Fail
         };
         assert!(rt; are_same(&rows, &plain));
     }
+    Ok(())
+}
+
+#[test]
+fn sixty_four_sources_feed_eight_builders(rt: HostRuntime) -> Result<(), Fail> {
+    let alloc = rt.alloc();
+    let schema = Schema::sample(alloc)?;
+    let mut texts = Vec::with_capacity(alloc, 64)?;
+    for source in 1..65 {
+        texts.push(one_of(alloc, source)?)?;
+    }
+    let mut feeds = Vec::with_capacity(alloc, 64)?;
+    for text in &texts {
+        feeds.push(text.as_str())?;
+    }
+    let first = [
+        Answer::Count(64),
+        Answer::Whole(2080),
+        Answer::Whole(1),
+        Answer::Whole(64),
+        Answer::Ratio { p: 65, q: 2 },
+    ];
+    if feeds.len() != 64 {
+        return Err(Fail::new("64 feeds"));
+    }
+    let Ok(rows) = rows_of_texts(&rt, alloc, &schema, &feeds, 1, 8) else {
+        return Err(Fail::new("rows"));
+    };
+    let Some(row) = rows.first() else {
+        return Err(Fail::new("a row"));
+    };
+    assert!(rt; is_row(row, &["w", "a"], &first));
     Ok(())
 }
