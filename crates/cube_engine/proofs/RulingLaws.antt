@@ -1,6 +1,6 @@
 -- What an item comes to, and what an account does when it takes the item.
 use Rattle.std.proofs.Common.{◌≡◌, ◌-◌, ℕ, List, length, sym, ap, ◌∙◌, subst}
-use Rattle.std.specs.Prelude.{Option, Some, None, Result, true}
+use Rattle.std.specs.Prelude.{Option, Some, None, Result}
 use Rattle.std.proofs.Math.ListN.{length-set}
 use Rattle.std.proofs.lemmas.Option.{same_Some}
 use Rattle.cube_core.specs.Layout.{Layout}
@@ -11,7 +11,7 @@ use Rattle.cube_core.specs.declared.change.Change.TheVariants.{Delete}
 use Rattle.cube_core.specs.declared.change.Item.{Item}
 use Rattle.cube_core.specs.declared.change.LineFault.{LineFault}
 use Rattle.cube_engine.specs.Book.{Entries, fact_at, fact_put}
-use Rattle.cube_engine.specs.Ledger.{AccountView, LedgerView, AtSource, Enters, Exchanges, IsRemoval, IsRuling, Obeys, Puts, account_of, code_in, says_amendment, with_refusal}
+use Rattle.cube_engine.specs.Ledger.{AccountView, LedgerView, AtSource, Enters, Exchanges, IsRemoval, IsRuling, Obeys, Puts, account_of, code_in, with_refusal}
 use Rattle.cube_engine.specs.declared.ruling.Ruling.{Ruling}
 use Rattle.cube_engine.specs.declared.ruling.Ruling.TheVariants.{Refuse, Put, Take}
 
@@ -74,10 +74,7 @@ AtSource-Obeys item source old new ruling is at =
 pub AtSource-length : (P : AccountView → AccountView → Type 0) (source : ℕ) (old new : LedgerView) → AtSource P source old new → length new.accounts ≡ length old.accounts
 AtSource-length P source old new at = ap length at.accounts ∙ length-set old.accounts (source - 1) at.account
 
--- a removal is no amendment, no refusal, and puts no fact
-pub IsRemoval-amends : (s : Layout) (book : Entries) (what : Result Change LineFault) → says_amendment what ≡ true → IsRemoval s book what → ⊥
-IsRemoval-amends s book what amends removal = cc (ap says_amendment (sym removal.says) ∙ amends)
-
+-- a removal is no refusal, and puts no fact
 pub IsRemoval-refused : (s : Layout) (book : Entries) (what : Result Change LineFault) (code : ℕ) → code_in s book what ≡ Some code → IsRemoval s book what → ⊥
 IsRemoval-refused s book what code refused removal = cc (sym removal.lawful ∙ refused)
 
