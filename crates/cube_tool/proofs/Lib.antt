@@ -5,3 +5,4 @@ pub mod RefusalLaws
 pub mod RunLaws
 mod CommandLaws
 mod CommandLineLaws
+pub mod QueryWordLaws

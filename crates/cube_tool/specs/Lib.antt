@@ -3,3 +3,4 @@ pub mod Shape
 pub mod Run
 pub mod CommandLine
 pub mod Command
+pub mod Explain
