@@ -7,7 +7,8 @@ use crate::sample::{add, cube_of, fact_of, holds, line, remove, remove_line, sch
 use crate::text::text_of;
 use crate::words::rows_of;
 use cube_cells::Cube;
-use cube_core::{Fact, Row, Schema, Sequence, Text, plain_rows};
+use cube_core::{Fact, Row, Schema, Sequence, Text};
+use plain_cube::plain_rows;
 use std::alloc::{AllocError, Global};
 use std::process::Abort;
 

@@ -1,5 +1,5 @@
 //! Tests of the schema, its grouping and its faults, of patterns, amendments, means, and the plain cube, over the
-//! public calls of `cube_core`.
+//! public calls of `cube_core` and `plain_cube`.
 #![tactic(auto)]
 
 #[cfg(test)]

@@ -4,7 +4,8 @@ ghost use Rattle.std.specs.List.{list_all};
 ghost use Rattle.cube_core.specs.Takes.{fits};
 
 use crate::reading::{expect_equal, sample_with};
-use cube_core::{Answer, Coord, Fact, Key, Pattern, Row, Schema, Sequence, Text, plain_rows};
+use cube_core::{Answer, Coord, Fact, Key, Pattern, Row, Schema, Sequence, Text};
+use plain_cube::plain_rows;
 use std::alloc::{AllocError, Global};
 use std::process::Abort;
 use std::test::Fail;

@@ -10,8 +10,8 @@ use Rattle.cube_core.specs.Layout.{Layout}
 use Rattle.cube_core.specs.Takes.{fits}
 use Rattle.cube_core.specs.declared.fact.Fact.{Fact}
 use Rattle.cube_core.specs.declared.key.Key.{Key}
-use Rattle.cube_core.proofs.PlainCellLaws.{width_of_fitting}
-use Rattle.cube_core.proofs.PlainKeyLaws.{ancestor_of_covers, mask_of_ancestor, length_standing}
+use Rattle.cube_core.proofs.CellKeyLaws.{width_of_fitting}
+use Rattle.cube_core.proofs.AncestorLaws.{ancestor_of_covers, mask_of_ancestor, length_standing}
 use Rattle.cube_cells.specs.Codes.{Dictionaries, IsDictionary, are_codes}
 use Rattle.cube_cells.specs.Coded.{CodedCells, IsCodedCell, IsCoded, coded_at, decoded, lattice_of, is_total_code}
 use Rattle.cube_cells.specs.Cube.{Cells, HoldsFact, AddsFact, TakesFact, SameCells, cell_at, cell_holds, is_kept_for}

@@ -17,7 +17,7 @@ use Rattle.cube_core.specs.declared.fact.Fact.{Fact}
 use Rattle.cube_core.specs.declared.key.Coord.{Coord}
 use Rattle.cube_core.specs.declared.key.Coord.TheVariants as coord
 use Rattle.cube_core.specs.declared.key.Key.{Key}
-use Rattle.cube_core.proofs.PlainKeyLaws.{ancestor_of, mask_of_ancestor}
+use Rattle.cube_core.proofs.AncestorLaws.{ancestor_of, mask_of_ancestor}
 use Rattle.cube_cells.specs.Codes.{Dictionaries, IsDictionary, IsCodeOf, AreCodesOf, is_code, are_codes, coord_at, coords_at, key_at, kept_codes, all_code, null_code, coord_of_value, texts_with}
 use Rattle.cube_cells.specs.Coded.{CodedCells, IsCodedCell, same_codes, decoded}
 use Rattle.cube_cells.specs.Cube.{Cells, count_in, MayAddTexts, AddsTexts}

@@ -3,13 +3,12 @@ use Rattle.std.proofs.Common.{◌≡◌, ℕ, zero, suc, ◌^◌, ◌<◌, ◌�
 use Rattle.std.specs.Prelude.{All, IfSome}
 use Rattle.std.specs.Option.{option_copied}
 use Rattle.std.specs.List.{list_all}
-use Rattle.std.specs.Ordering.{eq_by_cmp, is_eq}
+use Rattle.std.specs.Ordering.{eq_by_cmp}
 use Rattle.std.proofs.lemmas.Bool.{or_cases, or_left, or_right, and_parts, and_from, both_ways, eqb-true, eq-eqb, ne_eqb, false_from_ne_true}
 use Rattle.std.proofs.lemmas.Bool.Decides.{same_from_decides}
-use Rattle.std.proofs.lemmas.Cmp.{tied_itself}
 use Rattle.std.proofs.lemmas.List.{length-replicate}
 use Rattle.std.proofs.lemmas.List.Elements.{All-head, All-tail, All-contains}
-use Rattle.std.proofs.lemmas.Map.Views.{tells_apart, Contains-from_lookup}
+use Rattle.std.proofs.lemmas.Map.Views.{Contains-from_lookup}
 use Rattle.cube_core.specs.Covers.{covers}
 use Rattle.cube_core.specs.GroupingSet.{mask_of, is_among, is_all_coord}
 use Rattle.cube_core.specs.Order.{key_cmp}
@@ -17,8 +16,8 @@ use Rattle.cube_core.specs.declared.fact.Fact.{Fact}
 use Rattle.cube_core.specs.declared.key.Coord.{Coord}
 use Rattle.cube_core.specs.declared.key.Coord.TheVariants as coord
 use Rattle.cube_core.specs.declared.key.Key.{Key}
-use Rattle.cube_core.proofs.PlainKeyLaws.{coord_of, ancestor_of, ancestor_of_covers, mask_of_ancestor, same_from_mask, mask_below, length_standing}
-use Rattle.cube_core.proofs.PlainOrderLaws.{exact_keys, key_cmp_total}
+use Rattle.cube_core.proofs.AncestorLaws.{coord_of, ancestor_of, ancestor_of_covers, mask_of_ancestor, same_from_mask, mask_below, length_standing}
+use Rattle.cube_core.proofs.CellKeyLaws.{same_key, key_cmp-Decides}
 use Rattle.cube_cells.specs.Codes.{Dictionaries, IsDictionary, IsCodeOf, AreCodesOf, is_code, are_codes, coord_at, coords_at, key_at, kept_codes, all_code, null_code, coord_of_value}
 use Rattle.cube_cells.specs.Coded.{CodedCells, IsCodedCell, same_codes, coded_at, decoded, is_total_code}
 use Rattle.cube_cells.specs.Cube.{cell_at, is_kept_for}
@@ -27,17 +26,6 @@ use Rattle.cube_cells.specs.Walk.{key_in, codes_in, is_in}
 use Rattle.cube_cells.specs.declared.cube.codes.Codes.{Codes}
 use Rattle.cube_cells.proofs.DictionaryLaws.{first_place, code_cases, coord_at-place, code_of_all, code_of_null, code_of_place, code_of_none}
 use Rattle.cube_cells.proofs.WalkLaws.{codes_is, codes_equiv}
-
--- ---- keys
-pub key_is : (a b : Key) → a.coords ≡ b.coords → a ≡ b
-key_is a b same = let make : List Coord → Key = λ coords. record { coords = coords } in ap make same
-
--- whether a key is another, by key order
-same_key : (a b : Key) → Decides (eq_by_cmp key_cmp a b) (a ≡ b)
-same_key a b = (
-  λ same. tells_apart exact_keys a b same,
-  λ same. let P : Key → Type 0 = λ k. eq_by_cmp key_cmp a k ≡ true in subst P same (ap is_eq (tied_itself key_cmp_total a)),
-)
 
 -- ---- codes of coordinates
 -- nothing but ALL
@@ -120,14 +108,14 @@ same_entry dictionaries key codes other has valid eight =
       λ same.
           let at : codes ≡ other = codes_is codes other same in
           let are : AreCodesOf dictionaries key.coords other.codes = subst (λ (x : Codes). AreCodesOf dictionaries key.coords x.codes) at has.are in
-          key_is key (key_at dictionaries other.codes) (sym (codes_have dictionaries key.coords other.codes are valid)),
+          same_key key (key_at dictionaries other.codes) (sym (codes_have dictionaries key.coords other.codes are valid)),
       λ same.
           let coords : coords_at dictionaries other.codes ≡ key.coords = sym (ap (λ (k : Key). k.coords) same) in
           let lists : other.codes ≡ codes.codes = codes_alone dictionaries key.coords codes.codes other.codes has.are valid (omega (arith, eight, has.eight)) coords in
           let make : List ℕ → Codes = λ xs. record { codes = xs } in
           subst (λ (x : Codes). same_codes codes x ≡ true) (ap make (sym lists)) (codes_equiv.refl codes),
     ) in
-    same_from_decides (eq_by_cmp key_cmp key (key_at dictionaries other.codes)) (same_codes codes other) (same_key key (key_at dictionaries other.codes)) by_codes
+    same_from_decides (eq_by_cmp key_cmp key (key_at dictionaries other.codes)) (same_codes codes other) (key_cmp-Decides key (key_at dictionaries other.codes)) by_codes
 
 -- a look-up by key is one by its codes
 pub look_up-coded : (dictionaries : Dictionaries) (measures : ℕ) (cells : CodedCells) (key : Key) (codes : Codes) → HasCodes dictionaries key codes → All (IsCodedCell dictionaries measures) cells → cell_at (decoded dictionaries cells) key ≡ coded_at cells codes
@@ -147,7 +135,7 @@ coords_width (texts ∷ dictionaries) (code ∷ codes) = ap suc (coords_width di
 pub no_cell-width : (dictionaries : Dictionaries) (cells : CodedCells) (key : Key) → (length key.coords ≡ length dictionaries → ⊥) → cell_at (decoded dictionaries cells) key ≡ None
 no_cell-width dictionaries [] key other = refl
 no_cell-width dictionaries (e ∷ cells) key other =
-    let apart : eq_by_cmp key_cmp key (key_at dictionaries e.0.codes) ≡ false = false_from_ne_true (eq_by_cmp key_cmp key (key_at dictionaries e.0.codes)) (λ same. other (ap (λ (k : Key). length k.coords) ((same_key key (key_at dictionaries e.0.codes)).0 same) ∙ coords_width dictionaries e.0.codes)) in
+    let apart : eq_by_cmp key_cmp key (key_at dictionaries e.0.codes) ≡ false = false_from_ne_true (eq_by_cmp key_cmp key (key_at dictionaries e.0.codes)) (λ same. other (ap (λ (k : Key). length k.coords) ((key_cmp-Decides key (key_at dictionaries e.0.codes)).0 same) ∙ coords_width dictionaries e.0.codes)) in
     rw apart (no_cell-width dictionaries cells key other)
 
 -- ---- the key of a fact in a set
@@ -210,7 +198,7 @@ covering_codes dictionaries fact codes set all has = record {
 pub covering_is : (fact : Fact) (key : Key) → covers key fact ≡ true → key ≡ covering_key fact (mask_of key)
 covering_is fact key stands =
     let below : mask_of key < 2 ^ length fact.dims = subst (λ (n : ℕ). mask_of key < 2 ^ n) (length_standing key.coords fact.dims stands) (mask_below key.coords) in
-    key_is key (covering_key fact (mask_of key)) (same_from_mask key.coords (ancestor_of fact.dims (mask_of key)) fact.dims stands (ancestor_of_covers fact.dims (mask_of key)) (sym (mask_of_ancestor fact.dims (mask_of key) below)))
+    same_key key (covering_key fact (mask_of key)) (same_from_mask key.coords (ancestor_of fact.dims (mask_of key)) fact.dims stands (ancestor_of_covers fact.dims (mask_of key)) (sym (mask_of_ancestor fact.dims (mask_of key) below)))
 
 -- a key that covers a fact in a kept set has the fact's codes in that set
 pub kept_key_codes : (dictionaries : Dictionaries) (sets : List ℕ) (fact : Fact) (codes : Codes) (key : Key) → All IsDictionary dictionaries → HasFactCodes dictionaries fact codes → is_kept_for sets fact key ≡ true → HasCodes dictionaries key (key_in codes (mask_of key))
@@ -242,7 +230,7 @@ other_codes dictionaries sets fact codes key other all has valid below of unkept
     let of_set = covering_codes dictionaries fact codes set all has in
     let coords : coords_at dictionaries (key_in codes set).codes ≡ ancestor_of fact.dims set = codes_have dictionaries (ancestor_of fact.dims set) (key_in codes set).codes of_set.are (valid set found.1) in
     let mine : coords_at dictionaries (key_in codes set).codes ≡ key.coords = codes_have dictionaries key.coords (key_in codes set).codes (subst (λ (x : Codes). AreCodesOf dictionaries key.coords x.codes) found.2 of.are) (valid set found.1) in
-    let is : key ≡ covering_key fact set = key_is key (covering_key fact set) (sym mine ∙ coords) in
+    let is : key ≡ covering_key fact set = same_key key (covering_key fact set) (sym mine ∙ coords) in
     let kept : is_kept_for sets fact (covering_key fact set) ≡ true = and_from (covers (covering_key fact set) fact) (is_among (mask_of (covering_key fact set)) sets) (ancestor_of_covers fact.dims set) (ap (λ (s : ℕ). is_among s sets) (mask_of_ancestor fact.dims set (below set found.1)) ∙ found.1) in
     both_ways (is_kept_for sets fact key) unkept (ap (is_kept_for sets fact) is ∙ kept))
 

@@ -18,8 +18,8 @@ use Rattle.cube_core.specs.Layout.{Layout, IsSchema}
 use Rattle.cube_core.specs.Order.{key_cmp}
 use Rattle.cube_core.specs.declared.key.Coord.{Coord}
 use Rattle.cube_core.specs.declared.key.Key.{Key}
-use Rattle.cube_core.proofs.PlainCellLaws.{same_total}
-use Rattle.cube_core.proofs.PlainOrderLaws.{key_cmp_total}
+use Rattle.cube_core.proofs.CellKeyLaws.{same_total}
+use Rattle.cube_core.proofs.KeyOrderLaws.{key_cmp_total}
 use Rattle.cube_cells.specs.Codes.{Dictionaries, IsDictionary, are_codes, coords_at, key_at, all_code}
 use Rattle.cube_cells.specs.Coded.{CodedCells, IsCodedCell, IsCoded, AreNewCells, same_codes, coded_at, decoded, lattice_of, total_codes}
 use Rattle.cube_cells.specs.Cube.{IsLattice, IsCubeOf, IsNewLattice, cell_at}

@@ -24,7 +24,7 @@ use Rattle.cube_core.specs.declared.fact.Fact.{Fact}
 use Rattle.cube_core.specs.declared.key.Key.{Key}
 use Rattle.cube_core.specs.declared.key.Row.{Row}
 use Rattle.cube_core.proofs.ListLaws.{map-Contains, Contains-map, filter-Contains, Contains-filter}
-use Rattle.cube_core.proofs.PlainOrderLaws.{exact_keys, key_cmp_total}
+use Rattle.cube_core.proofs.KeyOrderLaws.{exact_keys, key_cmp_total}
 use Rattle.cube_cells.specs.Codes.{Dictionaries, IsDictionary, are_codes, key_at}
 use Rattle.cube_cells.specs.Coded.{CodedCells, IsCodedCell, same_codes, decoded}
 use Rattle.cube_cells.specs.Cube.{Cells, Lattice, IsCubeOf, cell_at}

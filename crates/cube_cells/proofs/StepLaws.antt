@@ -5,7 +5,7 @@ use Rattle.std.specs.List.{IsDistinct}
 use Rattle.cube_core.specs.Layout.{Layout}
 use Rattle.cube_core.specs.Takes.{fits}
 use Rattle.cube_core.specs.declared.fact.Fact.{Fact}
-use Rattle.cube_core.proofs.PlainCellLaws.{width_of_fitting}
+use Rattle.cube_core.proofs.CellKeyLaws.{width_of_fitting}
 use Rattle.cube_cells.specs.Codes.{Dictionaries, IsDictionary, are_codes}
 use Rattle.cube_cells.specs.Coded.{CodedCells, IsCoded, same_codes, coded_at, lattice_of}
 use Rattle.cube_cells.specs.Cube.{HoldsFact, AddsFact, TakesFact, SameCells, cell_holds}

@@ -10,10 +10,8 @@ pub mod AmendmentLaws
 pub mod ItemLaws
 pub mod LifeLaws
 pub mod RefusalLaws
-pub mod PlainAnswerLaws
-pub mod PlainCellLaws
-pub mod PlainKeyLaws
-pub mod PlainOrderLaws
-pub mod PlainRowLaws
+pub mod KeyOrderLaws
+pub mod AncestorLaws
+pub mod CellKeyLaws
 pub mod SetLaws
 pub mod QueryLaws

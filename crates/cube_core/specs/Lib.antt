@@ -1,3 +1,4 @@
+pub mod Stored
 pub mod Layout
 pub mod SchemaDocument
 pub mod Records

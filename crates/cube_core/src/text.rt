@@ -7,26 +7,38 @@ ghost use Rattle.std.specs.Ordering.{nat_cmp, as_partial_cmp};
 ghost use Rattle.std.specs.Hash as fed;
 ghost use Rattle.std.proofs.Common.{rules};
 
+use arrayvec::ArrayString;
 use std::alloc::{AllocError, Global};
 use std::cmp::Ordering;
 use std::hash::{Hash, Hasher};
 use std::marker::Model;
 
+/// The most bytes of a text that lie in the value itself.
+const SHORT: usize = 24;
+
+// Where the bytes of a text lie.
+#[derive(Debug, Drop)]
+enum Stored {
+    Short(ArrayString<SHORT>),
+    Long(String),
+}
+
 /// A text: a name, an id, or a value of a dimension.
 ///
-/// Texts are ordered by their bytes.
+/// A text that is made of at most 24 bytes lies in the value itself, a longer one on the heap. Texts are ordered by
+/// their bytes.
 #[derive(Debug, Drop)]
 pub struct Text {
-    string: String,
+    stored: Stored,
 }
 
 impl Model for Text {
     ghost use Rattle.std.specs.Prelude.{List, ℕ};
-    ghost use Rattle.std.specs.String.{string_bytes};
+    ghost use Rattle.cube_core.specs.Stored.{stored_bytes};
 
     ghost Value = { List ℕ };
 
-    ghost view = { λ t. string_bytes t.string };
+    ghost view = { λ t. stored_bytes t.stored };
 }
 
 impl Text {
@@ -34,23 +46,21 @@ impl Text {
     pub fn from_string(string: String) -> Text
         ensures { result ≡ string_bytes string }
     {
-        Text { string }
+        Text {
+            stored: Stored::Long(string),
+        }
     }
 
     /// A copy of `text`; the only error is want of memory.
     pub fn from_str(alloc: Global, text: &str) -> Result<Text, AllocError>
         ensures { IfOk result (λ copy. copy ≡ text.now) }
     {
-        let string = String::from_str(alloc, text)?;
-        Ok(Text::from_string(string))
-    }
-
-    /// The `String` of this text, which is moved out.
-    pub fn into_string(self) -> String
-        ensures { string_bytes result ≡ self }
-    {
-        let Text { string } = self;
-        string
+        let Ok(short) = ArrayString::from(text) else {
+            return Ok(Text::from_string(String::from_str(alloc, text)?));
+        };
+        Ok(Text {
+            stored: Stored::Short(short),
+        })
     }
 
     /// The text itself.
@@ -58,7 +68,10 @@ impl Text {
         ensures value { result.now ≡ self.now }
         ensures utf8 { IsUtf8 self.now }
     {
-        self.string.as_str()
+        match &self.stored {
+            Stored::Short(text) => text.as_str(),
+            Stored::Long(text) => text.as_str(),
+        }
     }
 
     /// A copy; the only error is want of memory.

@@ -90,10 +90,7 @@ impl Book {
     {
         match self.facts.insert(id, fact) {
             Ok(gone) => Ok(gone),
-            Err(refused) => {
-                let (_, fact) = refused.value;
-                Err(fact)
-            }
+            Err(refused) => Err(fact_of(refused.value)),
         }
     }
 
@@ -202,4 +199,11 @@ impl Book {
             Err(_) => Err(BookFault::Memory),
         }
     }
+}
+
+// The fact of an entry.
+fn fact_of(entry: (Text, Fact)) -> Fact
+    ensures { result ≡ entry.1 }
+{
+    entry.1
 }

@@ -22,10 +22,10 @@ use Rattle.cube_core.specs.declared.key.Coord.TheVariants as coord
 use Rattle.cube_core.specs.declared.key.Key.{Key}
 use Rattle.cube_core.specs.declared.key.Row.{Row}
 use Rattle.cube_laws.proofs.CountLaws.{key_in_set}
-use Rattle.cube_core.proofs.PlainOrderLaws.{key_cmp_total}
-use Rattle.cube_core.proofs.PlainKeyLaws.{coord_of, coord_of_is, ancestor_of, ancestor_of_covers, mask_of_ancestor, same_from_mask, mask_below, length_standing}
+use Rattle.cube_core.proofs.KeyOrderLaws.{key_cmp_total}
+use Rattle.cube_core.proofs.AncestorLaws.{coord_of, coord_of_is, ancestor_of, ancestor_of_covers, mask_of_ancestor, same_from_mask, mask_below, length_standing}
 use Rattle.cube_core.proofs.ListLaws.{AllByRecursion-Contains, Contains-AllByRecursion, Contains-head, Contains-list_any, Contains-map, Contains-tail, flat_map-Contains, list_any-Contains, map-Contains}
-use Rattle.cube_core.proofs.PlainCellLaws.{same_key}
+use Rattle.cube_core.proofs.CellKeyLaws.{same_key}
 
 -- what g takes back is as it was
 map-inverse : {X Y : Type 0} (f : X → Y) (g : Y → X) (xs : List X) → AllByRecursion (λ x. g (f x) ≡ x) xs →

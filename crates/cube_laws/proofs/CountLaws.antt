@@ -23,10 +23,10 @@ use Rattle.cube_core.specs.declared.key.Key.{Key}
 use Rattle.cube_core.specs.declared.key.Row.{Row}
 use Rattle.cube_laws.proofs.RowOrderLaws.{length-Reordered}
 use Rattle.cube_laws.proofs.GroupCountLaws.{count_by-one, SharedOut, joined_groups-filter}
-use Rattle.cube_core.proofs.PlainOrderLaws.{key_cmp_total}
-use Rattle.cube_core.proofs.PlainKeyLaws.{ancestor_of, ancestor_of_covers, mask_of_ancestor, same_from_mask}
+use Rattle.cube_core.proofs.KeyOrderLaws.{key_cmp_total}
+use Rattle.cube_core.proofs.AncestorLaws.{ancestor_of, ancestor_of_covers, mask_of_ancestor, same_from_mask}
 use Rattle.cube_core.proofs.ListLaws.{AllByRecursion-Contains, Contains-AllByRecursion, Contains-filter, Contains-list_any, filter-Contains, filter-all, map-filter, sum_by-map, sum_by-same}
-use Rattle.cube_core.proofs.PlainCellLaws.{same_key}
+use Rattle.cube_core.proofs.CellKeyLaws.{same_key}
 
 -- a fact has as many values and nulls as there are dimensions
 pub HaveDimensions-Contains : (dimensions : ℕ) (facts : List Fact) (fact : Fact) → HaveDimensions dimensions facts →

@@ -9,7 +9,7 @@ use Rattle.cube_core.specs.declared.fact.Fact.{Fact}
 use Rattle.cube_core.specs.declared.key.Key.{Key}
 use Rattle.cube_core.specs.declared.key.Row.{Row}
 use Rattle.cube_core.proofs.ListLaws.{AllByRecursion-Contains, Contains-AllByRecursion, Contains-filter, filter-Contains, map-filter}
-use Rattle.cube_core.proofs.PlainOrderLaws.{key_cmp_total}
+use Rattle.cube_core.proofs.KeyOrderLaws.{key_cmp_total}
 use Rattle.cube_laws.proofs.RowLaws.{HasAnswers-keys, IsStrictlySortedBy-unique}
 
 -- the rows of a cube that drill down from a key are those among all its rows

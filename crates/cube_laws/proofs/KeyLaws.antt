@@ -20,7 +20,7 @@ use Rattle.cube_core.specs.declared.key.Coord.TheVariants as coord
 use Rattle.cube_core.specs.declared.key.Key.{Key}
 use Rattle.cube_core.specs.declared.key.Row.{Row}
 use Rattle.cube_laws.proofs.RowLaws.{HasAnswers-unique}
-use Rattle.cube_core.proofs.PlainRowLaws.{width_of_cell}
+use Rattle.cube_core.proofs.CellKeyLaws.{width_of_cell}
 use Rattle.cube_core.proofs.ListLaws.{AllByRecursion-Contains, list_all-Contains, list_any-Contains, map-Contains}
 
 -- a text that is the one for null isn't told

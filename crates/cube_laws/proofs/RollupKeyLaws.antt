@@ -22,10 +22,10 @@ use Rattle.cube_core.specs.declared.key.Row.{Row}
 use Rattle.cube_laws.proofs.RowOrderLaws.{Reordered}
 use Rattle.cube_laws.proofs.CountLaws.{AreRows-covers}
 use Rattle.cube_laws.proofs.GroupCountLaws.{count_by-one, SharedOut, joined_groups, joined_groups-filter}
-use Rattle.cube_core.proofs.PlainKeyLaws.{coord_of, coord_of_is}
-use Rattle.cube_core.proofs.PlainOrderLaws.{key_cmp_total, exact_keys}
+use Rattle.cube_core.proofs.AncestorLaws.{coord_of, coord_of_is}
+use Rattle.cube_core.proofs.KeyOrderLaws.{key_cmp_total, exact_keys}
 use Rattle.cube_core.proofs.ListLaws.{Contains-AllByRecursion, Contains-filter, count_by-none, filter-Contains, map-filter}
-use Rattle.cube_core.proofs.PlainCellLaws.{same_key}
+use Rattle.cube_core.proofs.CellKeyLaws.{same_key}
 
 -- a value or null stands for itself
 stands_for-coord_of : (value : Option (List ℕ)) → stands_for (coord_of value true) value ≡ true

@@ -19,7 +19,7 @@ use Rattle.cube_core.specs.declared.aggregate.Answer.TheVariants as answer
 use Rattle.cube_core.specs.declared.fact.Fact.{Fact}
 use Rattle.cube_core.specs.declared.key.Row.{Row}
 use Rattle.cube_laws.proofs.FractionLaws.{IsInLowestTerms-unique}
-use Rattle.cube_core.proofs.PlainOrderLaws.{key_cmp_total}
+use Rattle.cube_core.proofs.KeyOrderLaws.{key_cmp_total}
 use Rattle.cube_core.proofs.ListLaws.{AllByRecursion-Contains, Contains-cases, Contains-head, Contains-nil, Contains-tail}
 
 -- an element after the head of a strictly sorted list is above it

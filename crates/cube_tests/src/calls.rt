@@ -1,10 +1,10 @@
 //! Each public call of the values and of the schema, once with ample memory.
 use cube_core::{
-    Agg, Answer, Change, Coord, Fact, Key, LineFault, Schema, Sequence, Text, covers, plain_rows,
-    reduced,
+    Agg, Answer, Change, Coord, Fact, Key, LineFault, Schema, Sequence, Text, covers, reduced,
 };
 use cube_engine::Builder;
 use cube_tool::{print_rows, write_whole};
+use plain_cube::plain_rows;
 use std::alloc::{AllocError, Global};
 use std::cmp::Ordering;
 use std::test::Fail;
@@ -47,7 +47,9 @@ fn texts_and_sequences_give_back_what_they_hold(rt: HostRuntime) -> Result<(), F
     assert_eq!(rt; west.as_str(), "west");
     assert!(rt; west == west.copy(alloc)?);
     assert!(rt; text(alloc, "east")? < west);
-    assert_eq!(rt; Text::from_string(west.into_string()).as_str(), "west");
+    assert_eq!(rt; Text::from_string(String::from_str(alloc, "west")?).as_str(), "west");
+    let long = "a text of more than four and twenty bytes";
+    assert_eq!(rt; text(alloc, long)?.as_str(), long);
     let numbers = Sequence::from_vec([3u8, 1].to_vec(alloc)?);
     assert_eq!(rt; numbers.len(), 2);
     assert!(rt; !numbers.is_empty());

@@ -6,3 +6,6 @@ pub mod TakeLaws
 pub mod RunLaws
 pub mod SettleLaws
 pub mod DraftLaws
+pub mod PartLaws
+pub mod JoinLaws
+pub mod QueryLaws

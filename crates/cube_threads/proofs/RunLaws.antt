@@ -1,16 +1,17 @@
 -- What is known of a run before its threads start, and after they were joined.
-use Rattle.std.proofs.Common.{◌≡◌, ◌<◌, ◌≤◌, ℕ, false, List, [], ◌∷◌, ◌++◌, length, get_or, map, refl, ap, sym, ◌∙◌, arith, Option, Some, None, IfSome}
+use Rattle.std.proofs.Common.{◌≡◌, ◌<◌, ◌≤◌, ◌+◌, ℕ, false, List, [], ◌∷◌, ◌++◌, length, get_or, map, refl, ap, sym, ◌∙◌, arith, Option, Some, None, IfSome}
 use Rattle.std.specs.Prelude.{Result, Ok, Err, IfOk, IfErr, OnOk, is_err}
 use Rattle.std.specs.List.{All, AllZip}
 use Rattle.std.proofs.lemmas.List.{get_or-map, length-map}
 use Rattle.cube_core.proofs.ListLaws.{AllZip-length}
-use Rattle.cube_core.specs.Arrival.{Arrivals}
+use Rattle.std.proofs.lemmas.List.FromFn.{length-map-range_with_len}
+use Rattle.cube_core.specs.Arrival.{Arrivals, of_source, of_sources}
 use Rattle.cube_core.specs.Layout.{Layout}
 use Rattle.cube_core.specs.Run.{Told}
 use Rattle.cube_core.specs.declared.change.Item.{Item}
 use Rattle.cube_feed.specs.Feed.{ToCome}
 use Rattle.cube_link.specs.Link.{Sending, Receiving, Link}
-use Rattle.cube_threads.specs.Building.{IsNew, TakesAll}
+use Rattle.cube_threads.specs.Building.{IsNew, TakesFeeds, TakeAll}
 use Rattle.cube_threads.specs.Feeding.{Feeds, IsReceiptOf}
 use Rattle.cube_threads.specs.Parcels.{parcels_of, sends}
 use Rattle.cube_threads.specs.Settling.{received_on, received_by, kept_of, receipt_of, Settles}
@@ -19,7 +20,7 @@ use Rattle.cube_threads.specs.Wiring.{coming_of, AreLinked}
 use Rattle.cube_threads.specs.declared.parcel.Parcel.{Parcel}
 use Rattle.cube_threads.specs.declared.parcel.FeederEnd.{FeederEnd}
 use Rattle.cube_threads.specs.declared.roster.Gatherer.{Gatherer}
-use Rattle.cube_threads.proofs.TakeLaws.{Names, AllTell, all_zip-at, all_zip-each, taken-settled}
+use Rattle.cube_threads.proofs.TakeLaws.{Names, AllTell, all_zip-at, all_zip-each, came-from, items-settled, same-settled, takes-feeds}
 use Rattle.cube_threads.proofs.WireLaws.{some_of}
 
 -- linked builders that have taken nothing are ready
@@ -127,27 +128,41 @@ tell-joined stands s sources comings outs ends old mid linked come joined gather
           };
     }
 
--- settled builders have taken all feeds
+-- settled builders have all taken the same feeds
 pub takes-settled : {B : Type 0} (stands : B → B → Arrivals → Type 0) (s : Layout) (sources : Told) (outs : List (List (Sending Parcel))) (ends : List FeederEnd) (builders : List B) (old mid new : List (Gatherer B)) →
     AreLinked outs old → length outs ≡ length sources → map (λ gatherer. gatherer.builder) old ≡ builders → AllZip (HasGathered stands) old mid → AllTell s sources (map received_by mid) ends → Settles ends mid new →
-    AllZip (λ first gatherer. TakesAll (stands first) s sources gatherer) builders new
-takes-settled {B} stands s sources outs ends builders old mid new linked as_many same gathered tell settles =
+    1 ≤ length mid → TakeAll stands s sources builders new
+takes-settled {B} stands s sources outs ends builders old mid new linked as_many same gathered tell settles some =
     let rows = map received_by mid in
     let number : length rows ≡ length mid = length-map mid received_by in
     let count = AllZip-length (HasGathered stands) old mid gathered in
     let news : length new ≡ length mid = sym (length-map new kept_of) ∙ ap length settles.kept ∙ length-map mid kept_of in
     let bs : length builders ≡ length old = sym (ap length same) ∙ length-map old (λ (g : Gatherer B). g.builder) in
-    all_zip-each (λ first gatherer. TakesAll (stands first) s sources gatherer) builders new (omega arith) (λ j b d below.
-    let at : j < length old = omega arith in
-    let low : j < length mid = omega arith in
-    let fresh : j < length new = omega arith in
-    let g = all_zip-at (HasGathered stands) old mid j d d gathered at in
-    let first : get_or builders j b ≡ (get_or old j d).builder = ap (λ (xs : List B). get_or xs j b) (sym same) ∙ get_or-map (λ (x : Gatherer B). x.builder) old j d b at in
-    let kept : kept_of (get_or new j d) ≡ kept_of (get_or mid j d) =
-    sym (get_or-map kept_of new j d (kept_of d) fresh) ∙ ap (λ xs. get_or xs j (kept_of d)) settles.kept ∙ get_or-map kept_of mid j d (kept_of d) low in
-    rw first
-    (taken-settled (stands (get_or old j d).builder) s sources rows ends (get_or old j d).inlets.items (get_or mid j d) (get_or new j d) j
-    tell (linked.heights j d at ∙ as_many) g (omega arith) (get_or-map received_by mid j d [] low) (settles.enough j d low) settles.good (rw number settles.sealed) settles.begin kept))
+    let sealed = rw (← number) at settles.sealed in
+    let arrive : (j : ℕ) (d : Gatherer B) → (at : j < length old) → (k : ℕ) (e : FeederEnd) (low : k < length ends) → of_source (all_zip-at (HasGathered stands) old mid j d d gathered at).arrivals (k + 1) ≡ (tell.each k e low).items =
+    λ j d at.
+    came-from (stands (get_or old j d).builder) s sources rows ends (get_or old j d).inlets.items (get_or mid j d) j tell (linked.heights j d at ∙ as_many) (all_zip-at (HasGathered stands) old mid j d d gathered at)
+    (omega arith) (get_or-map received_by mid j d [] (omega arith)) sealed settles.begin in
+    let one : 0 < length old = omega arith in
+    let m = some_of mid 0 (omega arith) in
+    let arrivals = (all_zip-at (HasGathered stands) old mid 0 m m gathered one).arrivals in
+    let feeds = of_sources (length sources) arrivals in
+    let long : length feeds ≡ length sources = length-map-range_with_len (of_source arrivals) 1 (length sources) in
+    record {
+      feeds = feeds;
+      items = items-settled s sources rows ends arrivals tell settles.good (arrive 0 m one);
+      each = all_zip-each (λ builder gatherer. TakesFeeds (stands builder) feeds gatherer) builders new (omega arith) (λ j b d below.
+          let at : j < length old = omega arith in
+          let low : j < length mid = omega arith in
+          let fresh : j < length new = omega arith in
+          let g = all_zip-at (HasGathered stands) old mid j d d gathered at in
+          let first : get_or builders j b ≡ (get_or old j d).builder = ap (λ (xs : List B). get_or xs j b) (sym same) ∙ get_or-map (λ (x : Gatherer B). x.builder) old j d b at in
+          let kept : kept_of (get_or new j d) ≡ kept_of (get_or mid j d) =
+          sym (get_or-map kept_of new j d (kept_of d) fresh) ∙ ap (λ xs. get_or xs j (kept_of d)) settles.kept ∙ get_or-map kept_of mid j d (kept_of d) low in
+          rw first
+          (takes-feeds (stands (get_or old j d).builder) (length sources) feeds (get_or old j d).inlets.items (get_or mid j d) (get_or new j d) (linked.heights j d at ∙ as_many) long g
+          (same-settled s sources rows ends g.arrivals arrivals tell (arrive j d at) (arrive 0 m one)) (settles.enough j d low) kept));
+    }
 
 -- a call that answered Ok did what it promises
 pub on_ok-holds : {A E : Type 0} (r : Result A E) (P : Type 0) → is_err r ≡ false → OnOk r P → P

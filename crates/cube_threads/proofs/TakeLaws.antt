@@ -2,7 +2,7 @@
 use Rattle.std.proofs.Common.{◌≡◌, ◌<◌, ◌+◌, ◌-◌, ℕ, zero, suc, false, List, [], ◌∷◌, ◌++◌, length, get_or, take, map, refl, ap, subst, sym, ◌∙◌, arith, Option, Some, None, IfSome}
 use Rattle.std.specs.Prelude.{IsSome}
 use Rattle.std.specs.List.{All, AllZip, AllByRecursion}
-use Rattle.std.proofs.lemmas.List.{append-nil, get_or-map, get_or-take, get_or_default, length-map, length-take}
+use Rattle.std.proofs.lemmas.List.{append-nil, ext_get_or, get_or-map, get_or-take, get_or_default, length-map, length-take}
 use Rattle.std.proofs.lemmas.List.FromFn.{get_or-map-range_with_len, length-map-range_with_len}
 use Rattle.cube_core.specs.Arrival.{Arrivals, of_source, of_sources}
 use Rattle.cube_core.specs.Items.{FeedEnd, Good, WrongHeader, TooManyRecords, items_of}
@@ -17,7 +17,7 @@ use Rattle.cube_feed.specs.Feed.{ToCome, fault_of}
 use Rattle.cube_feed.specs.declared.fault.FeedFault.{FeedFault}
 use Rattle.cube_feed.specs.declared.fault.FeedFault.TheVariants.{Memory, Read, Header, TooMany}
 use Rattle.cube_link.specs.Link.{Sending, Receiving}
-use Rattle.cube_threads.specs.Building.{TakesAll, ExplainsRun, HasReceived}
+use Rattle.cube_threads.specs.Building.{TakesFeeds, ExplainsRun, HasReceived}
 use Rattle.cube_threads.specs.Ends.{HasNoStop, IsFirstStop, IsSealed}
 use Rattle.cube_threads.specs.Feeding.{Stops}
 use Rattle.cube_threads.specs.Gathering.{Gathers}
@@ -205,32 +205,65 @@ received-at inlets arrivals sources k d received below =
     ∙ get_or-map parcels_of items k [] [] within
     ∙ ap parcels_of (get_or-map-range_with_len (of_source arrivals) 1 sources k (k + 1) [] below (omega arith))
 
--- a builder that gathered, and is settled with its receipts, has taken all feeds
-pub taken-settled : {B : Type 0} (stands : B → Arrivals → Type 0) (s : Layout) (sources : Told) (received : List (List (Sending Parcel))) (ends : List FeederEnd) (old : List (Receiving Parcel)) (mid new : Gatherer B) (j : ℕ) →
-    AllTell s sources received ends → length old ≡ length sources → Gathers stands old mid.inlets.items mid.builder mid.wanting → j < length received → get_or received j [] ≡ received_by mid →
-    mid.wanting ≡ false → All HasNoStop ends → All (IsSealed (length received)) ends → AllBegin ends received → kept_of new ≡ kept_of mid → TakesAll stands s sources new
-taken-settled {B} stands s sources received ends old mid new j tell count gathers inside row enough good sealed begin kept =
+-- what arrived from a source at a builder that gathered, and is settled with its receipts, are the items of the source's end
+pub came-from : {B : Type 0} (stands : B → Arrivals → Type 0) (s : Layout) (sources : Told) (received : List (List (Sending Parcel))) (ends : List FeederEnd) (old : List (Receiving Parcel)) (mid : Gatherer B) (j : ℕ) →
+    (tell : AllTell s sources received ends) → length old ≡ length sources → (gathers : Gathers stands old mid.inlets.items mid.builder mid.wanting) → j < length received → get_or received j [] ≡ received_by mid →
+    All (IsSealed (length received)) ends → AllBegin ends received → (k : ℕ) (e : FeederEnd) (low : k < length ends) → of_source gathers.arrivals (k + 1) ≡ (tell.each k e low).items
+came-from stands s sources received ends old mid j tell count gathers inside row sealed begin k e low =
     let all = tell.all in
+    let below : k < length sources = omega arith in
     let arrivals = gathers.arrivals in
-    let at = gathers.stands_at in
     let whole : HasReceived (length sources) arrivals mid.inlets.items = rw (← count) gathers.received in
+    let t = tell.each k e low in
+    let wide : k < length (get_or received j []) = omega (arith, tell.links j inside) in
+    let d = some_of (get_or received j []) k wide in
+    let came : (get_or (get_or received j []) k d).sent ≡ parcels_of (of_source arrivals (k + 1)) =
+    subst (λ (links : List (Sending Parcel)). (get_or links k d).sent ≡ parcels_of (of_source arrivals (k + 1))) (sym row) (received-at mid.inlets.items arrivals (length sources) k d whole below) in
+    arrived t.items (of_source arrivals (k + 1)) (get_or (get_or received j []) k d) (receipt_of (get_or ends k e) j) (sealed k e low j inside) came (t.names j d inside) (begin j inside k e d low)
+
+-- arrivals that have of each source the items of its end have those of its feed
+pub items-settled : (s : Layout) (sources : Told) (received : List (List (Sending Parcel))) (ends : List FeederEnd) (arrivals : Arrivals) → (tell : AllTell s sources received ends) → All HasNoStop ends →
+    ((k : ℕ) (e : FeederEnd) (low : k < length ends) → of_source arrivals (k + 1) ≡ (tell.each k e low).items) → AllZip (AreItemsOf s) sources (of_sources (length sources) arrivals)
+items-settled s sources received ends arrivals tell good came =
+    let all = tell.all in
     let items = of_sources (length sources) arrivals in
     let number : length items ≡ length sources = length-map-range_with_len (of_source arrivals) 1 (length sources) in
+    all_zip-each (AreItemsOf s) sources items (sym number) (λ k b is below.
+    let low : k < length ends = omega arith in
+    let e = some_of ends k low in
+    let t = tell.each k e low in
+    let sent = (stops-none s (get_or sources k None) t.items (rw (good k e low) at t.stops)).0 in
+    let place : get_or items k [] ≡ t.items = get_or-map-range_with_len (of_source arrivals) 1 (length sources) k (k + 1) [] below (omega arith) ∙ came k e low in
+    rw (get_or_default sources k b None below, get_or_default items k is [] (omega arith), place) sent)
+
+-- two lists of arrivals that have of each source the items of its end have the same of each
+pub same-settled : (s : Layout) (sources : Told) (received : List (List (Sending Parcel))) (ends : List FeederEnd) (a b : Arrivals) → (tell : AllTell s sources received ends) →
+    ((k : ℕ) (e : FeederEnd) (low : k < length ends) → of_source a (k + 1) ≡ (tell.each k e low).items) → ((k : ℕ) (e : FeederEnd) (low : k < length ends) → of_source b (k + 1) ≡ (tell.each k e low).items) →
+    of_sources (length sources) a ≡ of_sources (length sources) b
+same-settled s sources received ends a b tell came_a came_b =
+    let all = tell.all in
+    let number_a : length (of_sources (length sources) a) ≡ length sources = length-map-range_with_len (of_source a) 1 (length sources) in
+    let number_b : length (of_sources (length sources) b) ≡ length sources = length-map-range_with_len (of_source b) 1 (length sources) in
+    ext_get_or [] (of_sources (length sources) a) (of_sources (length sources) b) (number_a ∙ sym number_b) (λ k inside.
+    let below : k < length sources = omega arith in
+    let low : k < length ends = omega arith in
+    let e = some_of ends k low in
+    get_or-map-range_with_len (of_source a) 1 (length sources) k (k + 1) [] below (omega arith)
+    ∙ came_a k e low
+    ∙ sym (came_b k e low)
+    ∙ sym (get_or-map-range_with_len (of_source b) 1 (length sources) k (k + 1) [] below (omega arith)))
+
+-- a builder that gathered, and is settled with its receipts, has taken the feeds
+pub takes-feeds : {B : Type 0} (stands : B → Arrivals → Type 0) (sources : ℕ) (feeds : List (List Item)) (old : List (Receiving Parcel)) (mid new : Gatherer B) → length old ≡ sources → length feeds ≡ sources →
+    (gathers : Gathers stands old mid.inlets.items mid.builder mid.wanting) → of_sources sources gathers.arrivals ≡ feeds → mid.wanting ≡ false → kept_of new ≡ kept_of mid → TakesFeeds stands feeds new
+takes-feeds {B} stands sources feeds old mid new count long gathers same enough kept =
+    let arrivals = gathers.arrivals in
+    let at = gathers.stands_at in
     let stood : stands mid.builder arrivals = subst (stands mid.builder) (sym (at.split ∙ ap (λ (rest : Arrivals). at.first ++ rest) (at.at_all enough) ∙ append-nil at.first)) at.stands_at in
+    let whole : HasReceived sources arrivals mid.inlets.items = rw (← count) gathers.received in
     record {
       arrivals = arrivals;
-      taken = all_zip-each (AreItemsOf s) sources items (sym number) (λ k b is below.
-          let low : k < length ends = omega arith in
-          let e = some_of ends k low in
-          let t = tell.each k e low in
-          let wide : k < length (get_or received j []) = omega (arith, tell.links j inside) in
-          let d = some_of (get_or received j []) k wide in
-          let came : (get_or (get_or received j []) k d).sent ≡ parcels_of (of_source arrivals (k + 1)) =
-          subst (λ (links : List (Sending Parcel)). (get_or links k d).sent ≡ parcels_of (of_source arrivals (k + 1))) (sym row) (received-at mid.inlets.items arrivals (length sources) k d whole below) in
-          let same = arrived t.items (of_source arrivals (k + 1)) (get_or (get_or received j []) k d) (receipt_of (get_or ends k e) j) (sealed k e low j inside) came (t.names j d inside) (begin j inside k e d low) in
-          let sent = (stops-none s (get_or sources k None) t.items (rw (good k e low) at t.stops)).0 in
-          let place : get_or items k [] ≡ t.items = get_or-map-range_with_len (of_source arrivals) 1 (length sources) k (k + 1) [] below (omega arith) ∙ same in
-          rw (get_or_default sources k b None below, get_or_default items k is [] (omega arith), place) sent);
+      same = rw long same;
       stands_at = subst (λ (b : B). stands b arrivals) (sym (ap (λ (k : Kept B). k.builder) kept)) stood;
-      received = received-kept mid.inlets.items new.inlets.items (ap (λ (k : Kept B). k.received) kept) ∙ whole;
+      received = rw long (received-kept mid.inlets.items new.inlets.items (ap (λ (k : Kept B). k.received) kept) ∙ whole);
     }

@@ -1,8 +1,10 @@
 -- What feeding all sources to several builders promises, and why it may fail (this project's choice).
 use Rattle.std.specs.Prelude.{◌≡◌, ◌≤◌, ⊤, ℕ, List, [], length, map}
+use Rattle.std.specs.List.{AllZip}
 use Rattle.cube_core.specs.Arrival.{Arrivals, of_sources}
 use Rattle.cube_core.specs.Layout.{Layout}
-use Rattle.cube_core.specs.Run.{Told, AreGood, AreTaken}
+use Rattle.cube_core.specs.Run.{Told, AreItemsOf, AreGood}
+use Rattle.cube_core.specs.declared.change.Item.{Item}
 use Rattle.cube_engine.specs.Build.{IsLowestFault}
 use Rattle.cube_engine.specs.declared.fault.RunFault.{RunFault}
 use Rattle.cube_engine.specs.declared.fault.RunFault.TheVariants as run_fault
@@ -20,13 +22,19 @@ pub record IsNew {B : Type 0} (all : B → ℕ) (stands : B → B → Arrivals �
 abbrev pub HasReceived : ℕ → Arrivals → List (Receiving Parcel) → Type 0
 HasReceived sources arrivals inlets = map (λ inlet. inlet.received) inlets ≡ map parcels_of (of_sources sources arrivals)
 
--- a builder has taken the feeds of all sources: what an arrival list has of each source are the items of its feed, the builder stands at
--- that list, and from each link were received a line for each of these items, and then the end
-pub record TakesAll {B : Type 0} (stands : B → Arrivals → Type 0) (s : Layout) (sources : Told) (gatherer : Gatherer B) : Type 0 where
+-- a builder has taken these feeds: it stands at an arrival list that has of each source the items of its feed, and from each link were
+-- received a line for each of these items, and then the end
+pub record TakesFeeds {B : Type 0} (stands : B → Arrivals → Type 0) (feeds : List (List Item)) (gatherer : Gatherer B) : Type 0 where
   pub arrivals : Arrivals
-  pub taken : AreTaken s sources arrivals
+  pub same : of_sources (length feeds) arrivals ≡ feeds
   pub stands_at : stands gatherer.builder arrivals
-  pub received : HasReceived (length sources) arrivals gatherer.inlets.items
+  pub received : HasReceived (length feeds) arrivals gatherer.inlets.items
+
+-- builders have all taken the same feeds, those of all sources
+pub record TakeAll {B : Type 0} (stands : B → B → Arrivals → Type 0) (s : Layout) (sources : Told) (builders : List B) (gatherers : List (Gatherer B)) : Type 0 where
+  pub feeds : List (List Item)
+  pub items : AllZip (AreItemsOf s) sources feeds
+  pub each : AllZip (λ builder gatherer. TakesFeeds (stands builder) feeds gatherer) builders gatherers
 
 -- why nothing was built: memory or no thread before a record was read, or the lowest source's own fault; want of memory or of a receipt
 -- only where all feeds are good

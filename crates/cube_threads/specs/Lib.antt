@@ -7,3 +7,4 @@ pub mod Wiring
 pub mod Settling
 pub mod Building
 pub mod Drafts
+pub mod Parts

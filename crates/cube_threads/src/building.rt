@@ -1,9 +1,10 @@
 //! The build: builders of the feeds of all sources, in threads.
 ghost use Rattle.std.specs.Prelude.{◌≡◌, ◌≤◌, [], map, vec_len, IfOk, IfErr};
 ghost use Rattle.cube_threads.specs.Building.{ExplainsRun};
-ghost use Rattle.cube_threads.specs.Drafts.{AreNewDrafts, BuildsParts};
+ghost use Rattle.cube_threads.specs.Drafts.{AreNewDrafts};
+ghost use Rattle.cube_threads.specs.Parts.{BuildsParts};
 
-use crate::built::Built;
+use crate::built::{Built, Making};
 use crate::draft::{Draft, new_drafts};
 use crate::gate::Gate;
 use crate::running::feed_builders;
@@ -20,17 +21,17 @@ fn start(
     schema: &Schema,
     sources: u32,
     parts: u32,
-) -> Result<(Vec<Draft>, Built), AllocError>
+) -> Result<(Vec<Draft>, Making), AllocError>
     requires sources { sources ≤ 64 }
     requires parts { parts ≤ 8 }
     ensures drafts { IfOk result (λ made.
         AreNewDrafts schema.now sources parts parts made.0.items) }
-    ensures builders { IfOk result (λ made. made.1.builders ≡ []) }
-    ensures inlets { IfOk result (λ made. made.1.inlets ≡ []) }
+    ensures builders { IfOk result (λ made. made.1.builders.items ≡ []) }
+    ensures links { IfOk result (λ made. made.1.links.items ≡ []) }
 {
     let drafts = new_drafts(alloc, schema, sources, parts)?;
-    let built = Built::with_room(alloc, parts as usize)?;
-    Ok((drafts, built))
+    let making = Making::with_room(alloc, parts as usize)?;
+    Ok((drafts, making))
 }
 
 /// Builds the feeds of 1 to 64 sources, one reader each, in 1 to 8 builders, each over its part of the schema's
@@ -59,10 +60,10 @@ pub fn build<T: Threads + Wait + Sync, R: Read + Drop + Send, G: Gate + Sync>(
     let Ok(made) = start(alloc, schema, readers.len() as u32, builders) else {
         return Err(RunFault::Memory);
     };
-    let (drafts, mut built) = made;
+    let (drafts, mut making) = made;
     let gatherers = feed_builders(rt, alloc, schema, readers, capacity, drafts, gate)?;
-    match built.finish_all(gatherers) {
-        Ok(()) => Ok(built),
+    match making.finish_all(gatherers) {
+        Ok(()) => Ok(Built::of(making)),
         Err(_) => Err(RunFault::Full),
     }
 }

@@ -1,12 +1,18 @@
-//! The builders of a run, with the links by which the feeds came.
+//! The builders of a run, with the links by which the feeds came, and queries of all their cubes.
 ghost use Rattle.std.specs.Prelude.{◌≡◌, ◌<◌, ◌++◌, ◌∷◌, [], length, map, slice_index_or, vec_len, IfOk, OnOk};
 ghost use Rattle.std.specs.List.{AllZip};
+ghost use Rattle.cube_core.specs.Cube.{AreRows};
+ghost use Rattle.cube_core.specs.Query.{matches, drills_down, drill_fault};
+ghost use Rattle.cube_cells.specs.Rows.{GivesUnless};
 ghost use Rattle.cube_engine.specs.Builder.{BuilderView};
 ghost use Rattle.cube_threads.specs.Drafts.{IsMadeOf};
+ghost use Rattle.cube_threads.specs.Parts.{AreParts, AreRowsOfRun, schema_of_run, facts_of_run};
 
 use crate::draft::Draft;
+use crate::joining::in_key_order;
 use crate::parcel::Parcel;
 use crate::roster::Gatherer;
+use cube_core::{Key, Pattern, QueryFault, Row};
 use cube_engine::Builder;
 use cube_link::Inlet;
 use std::alloc::{AllocError, Global};
@@ -14,50 +20,38 @@ use std::marker::Model;
 
 // The inlets of a builder, from the first source's.
 #[derive(Drop)]
-struct Links {
+pub(crate) struct Links {
     inlets: Vec<Inlet<Parcel>>,
 }
 
-/// The builders of a run, each over the grouping sets of its part, with their inlets, from which all was taken.
+/// The builders that were made so far, in the order of their parts, with their inlets.
 #[derive(Drop)]
-pub struct Built {
-    builders: Vec<Builder>,
-    links: Vec<Links>,
+pub(crate) struct Making {
+    pub builders: Vec<Builder>,
+    pub links: Vec<Links>,
 }
 
-impl Model for Built {
-    ghost use Rattle.std.specs.Prelude.{map};
-    ghost use Rattle.cube_threads.specs.Drafts.{BuiltView};
-
-    ghost Value = { BuiltView };
-
-    ghost view = { λ b. record {
-      builders = b.builders.items;
-      inlets = map (λ links. links.inlets.items) b.links.items;
-    } };
-}
-
-impl Built {
+impl Making {
     /// No builder, and room for so many. The only error is want of memory.
-    pub(crate) fn with_room(alloc: Global, builders: usize) -> Result<Built, AllocError>
-        ensures builders { IfOk result (λ built. built.builders ≡ []) }
-        ensures inlets { IfOk result (λ built. built.inlets ≡ []) }
+    pub fn with_room(alloc: Global, builders: usize) -> Result<Making, AllocError>
+        ensures builders { IfOk result (λ making. making.builders.items ≡ []) }
+        ensures links { IfOk result (λ making. making.links.items ≡ []) }
     {
-        Ok(Built {
+        Ok(Making {
             builders: Vec::with_capacity(alloc, builders)?,
             links: Vec::with_capacity(alloc, builders)?,
         })
     }
 
     /// Makes a builder of each draft, in their order, and keeps its links. The only error is want of memory.
-    pub(crate) fn finish_all(&mut self, gatherers: Vec<Gatherer<Draft>>) -> Result<(), AllocError>
-        requires none { self.old.builders ≡ [] }
-        requires no_inlets { self.old.inlets ≡ [] }
+    pub fn finish_all(&mut self, gatherers: Vec<Gatherer<Draft>>) -> Result<(), AllocError>
+        requires none { self.old.builders.items ≡ [] }
+        requires no_links { self.old.links.items ≡ [] }
         ensures builders { OnOk result (AllZip
             (λ gatherer builder. IsMadeOf gatherer.builder builder)
-            gatherers.items self.new.builders) }
-        ensures inlets { OnOk result
-            (self.new.inlets ≡ map (λ gatherer. gatherer.inlets.items) gatherers.items) }
+            gatherers.items self.new.builders.items) }
+        ensures links { OnOk result (map (λ links. links.inlets.items) self.new.links.items
+            ≡ map (λ gatherer. gatherer.inlets.items) gatherers.items) }
     {
         for gatherer in gatherers {
             self.finish(gatherer)?;
@@ -68,9 +62,10 @@ impl Built {
     fn finish(&mut self, gatherer: Gatherer<Draft>) -> Result<(), AllocError>
         ensures builders { OnOk result ((builder : BuilderView) ×
             IsMadeOf gatherer.builder builder ×
-            (self.new.builders ≡ self.old.builders ++ builder ∷ [])) }
-        ensures inlets { OnOk result
-            (self.new.inlets ≡ self.old.inlets ++ gatherer.inlets.items ∷ []) }
+            (self.new.builders.items ≡ self.old.builders.items ++ builder ∷ [])) }
+        ensures links { OnOk result (map (λ links. links.inlets.items) self.new.links.items
+            ≡ map (λ links. links.inlets.items) self.old.links.items
+            ++ gatherer.inlets.items ∷ []) }
     {
         let Gatherer {
             builder,
@@ -81,10 +76,47 @@ impl Built {
         self.links.push(Links { inlets })?;
         Ok(())
     }
+}
+
+/// The builders of a run, each over the grouping sets of its part, with their inlets, from which all was taken.
+///
+/// There is at least one, and their cubes are the parts of one cube: that of the facts in the books of builder 0, over
+/// all grouping sets of their schema. The queries answer as that cube would.
+#[derive(Drop)]
+pub struct Built {
+    builders: Vec<Builder>,
+    links: Vec<Links>,
+}
+
+impl Model for Built {
+    ghost use Rattle.std.specs.Prelude.{map};
+    ghost use Rattle.cube_threads.specs.Parts.{BuiltView, AreParts};
+
+    ghost Value = { BuiltView };
+
+    ghost view = { λ b. record {
+      builders = b.builders.items;
+      inlets = map (λ links. links.inlets.items) b.links.items;
+    } };
+
+    ghost invariant = { λ b. AreParts b.builders.items };
+}
+
+impl Built {
+    /// The builders that were made.
+    pub(crate) fn of(making: Making) -> Built
+        requires { AreParts making.builders.items }
+        ensures builders { result.builders ≡ making.builders.items }
+        ensures inlets { result.inlets ≡ map (λ links. links.inlets.items) making.links.items }
+    {
+        Built {
+            builders: making.builders,
+            links: making.links,
+        }
+    }
 
     /// The builder of part 0.
     pub fn builder(&self) -> &Builder
-        requires { 0 < length self.now.builders }
         ensures { result.now ≡ slice_index_or self.now.builders 0 result.now }
     {
         &self.builders[0]
@@ -92,7 +124,8 @@ impl Built {
 
     /// The builders, in the order of their parts.
     pub fn builders(&self) -> &[Builder]
-        ensures { result.now ≡ self.now.builders }
+        ensures builders { result.now ≡ self.now.builders }
+        ensures parts { AreParts result.now }
     {
         self.builders.as_slice()
     }
@@ -103,5 +136,56 @@ impl Built {
         ensures { result.now ≡ slice_index_or self.now.inlets builder [] }
     {
         self.links[builder].inlets.as_slice()
+    }
+
+    /// The rows of all parts in key order. The only error is want of memory.
+    pub fn rows(&self) -> Result<Vec<Row>, AllocError>
+        ensures { IfOk result (λ rows.
+            AreRows (schema_of_run self.now) (facts_of_run self.now) rows.items) }
+    {
+        if self.builders.len() == 1 {
+            return self.builders[0].cube().rows();
+        }
+        let mut rows = self.builders[0].cube().rows()?;
+        for part in 1..self.builders.len() {
+            rows.append(&mut self.builders[part].cube().rows()?)?;
+        }
+        in_key_order(rows)
+    }
+
+    /// The rows of all parts whose keys a pattern matches, in key order. The only error is want of memory.
+    pub fn slice(&self, pattern: &Pattern) -> Result<Vec<Row>, AllocError>
+        ensures { IfOk result (λ rows.
+            AreRowsOfRun (matches pattern.now) self.now rows.items) }
+    {
+        if self.builders.len() == 1 {
+            return self.builders[0].cube().slice(pattern);
+        }
+        let mut rows = self.builders[0].cube().slice(pattern)?;
+        for part in 1..self.builders.len() {
+            rows.append(&mut self.builders[part].cube().slice(pattern)?)?;
+        }
+        in_key_order(rows)
+    }
+
+    /// The rows of all parts whose keys drill down from a key along a dimension, counted from 0, in key order.
+    ///
+    /// The error is `NotRolled` exactly where the key isn't ALL in the dimension, else `NotGrouped` where the key's
+    /// grouping set with the dimension isn't one of the schema's, both before any growth, else `Memory`.
+    pub fn drill_down(&self, key: &Key, dim: usize) -> Result<Vec<Row>, QueryFault>
+        requires dim { dim < length (schema_of_run self.now).dimensions }
+        requires width { length key.now.coords ≡ length (schema_of_run self.now).dimensions }
+        ensures { GivesUnless (drill_fault (schema_of_run self.now).grouping_sets dim key.now)
+            (λ rows. AreRowsOfRun (drills_down dim key.now) self.now rows.items) result }
+    {
+        if self.builders.len() == 1 {
+            return self.builders[0].cube().drill_down(key, dim);
+        }
+        let mut rows = self.builders[0].cube().drill_down(key, dim)?;
+        for part in 1..self.builders.len() {
+            rows.append(&mut self.builders[part].cube().drill_down(key, dim)?)?;
+        }
+        let rows = in_key_order(rows)?;
+        Ok(rows)
     }
 }

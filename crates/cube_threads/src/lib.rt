@@ -14,6 +14,7 @@ mod feeders;
 mod feeding;
 mod gate;
 mod gathering;
+mod joining;
 mod offering;
 mod parcel;
 mod roster;

@@ -1,8 +1,8 @@
 //! Feeding all sources to several builders.
 ghost use Rattle.std.specs.Prelude.{◌≡◌, ◌≤◌, map, vec_len, IfOk, IfErr, OnOk};
-ghost use Rattle.std.specs.List.{All, AllZip};
+ghost use Rattle.std.specs.List.{All};
 ghost use Rattle.cube_core.specs.Run.{AreGood};
-ghost use Rattle.cube_threads.specs.Building.{IsNew, TakesAll, ExplainsRun};
+ghost use Rattle.cube_threads.specs.Building.{IsNew, TakeAll, ExplainsRun};
 
 use crate::builds::Builds;
 use crate::gate::Gate;
@@ -20,7 +20,7 @@ use std::thread::Threads;
 /// Feeds 1 to 64 sources to 1 to 8 builders, each feeder on a thread of its own, and gives back the builders with
 /// their links, in their order.
 ///
-/// On Ok every feed is good and each builder has taken all of them. The first fault that holds is the answer: `Memory`
+/// On Ok every feed is good and the builders have all taken the same items of them. The first fault that holds is the answer: `Memory`
 /// or `NoThread`, where no record was read; the fault of the lowest source whose feed is at fault; `Full` where memory
 /// was wanting for a builder; `Unsealed` of the lowest source that lacks a receipt.
 pub(crate) fn feed_builders<
@@ -42,9 +42,8 @@ pub(crate) fn feed_builders<
     requires builders { (1 ≤ vec_len builders) × (vec_len builders ≤ 8) }
     requires new { All (IsNew B.sources B.stands (vec_len readers)) builders.items }
     ensures good { OnOk result (AreGood schema.now (map R.Read.remaining readers.items)) }
-    ensures taken { IfOk result (λ gatherers. AllZip (λ first gatherer.
-        TakesAll (B.stands first) schema.now (map R.Read.remaining readers.items) gatherer)
-        builders.items gatherers.items) }
+    ensures taken { IfOk result (λ gatherers. TakeAll B.stands schema.now
+        (map R.Read.remaining readers.items) builders.items gatherers.items) }
     ensures err { IfErr result (ExplainsRun schema.now (map R.Read.remaining readers.items)) }
 {
     let Ok(setup) = set_up(alloc, schema, readers, capacity, builders) else {

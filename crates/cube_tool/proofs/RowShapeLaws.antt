@@ -12,7 +12,7 @@ use Rattle.cube_core.specs.declared.key.Row.{Row}
 use Rattle.cube_core.specs.declared.fact.Fact.{Fact}
 use Rattle.cube_tool.specs.Shape.{HasShapeOf}
 use Rattle.cube_core.proofs.ListLaws.{AllZip-length, Contains-AllByRecursion}
-use Rattle.cube_core.proofs.PlainRowLaws.{width_of_cell}
+use Rattle.cube_core.proofs.CellKeyLaws.{width_of_cell}
 
 -- each row has a coordinate for each dimension, by its key, and an answer for each aggregate
 shapes : (s : Layout) (facts : List Fact) (rows : List Row) → AllByRecursion (λ (key : Key). length key.coords ≡ length s.dimensions) (map key_of rows)

@@ -10,6 +10,7 @@ use Rattle.cube_core.specs.declared.change.Refusal.{Refusal}
 use Rattle.cube_core.specs.declared.key.Key.{Key}
 use Rattle.cube_core.specs.declared.query.QueryFault.{QueryFault}
 use Rattle.cube_core.specs.declared.schema_fault.SchemaFault.TheVariants as schema_fault
+use Rattle.cube_engine.specs.Build.{ExplainsBuild}
 use Rattle.cube_engine.specs.Builder.{BuilderView, StandsAt}
 use Rattle.cube_engine.specs.Ledger.{AccountView}
 use Rattle.cube_engine.specs.declared.fault.RunFault.TheVariants as run_fault
@@ -54,7 +55,7 @@ EndsRun s sources status old new = (builder : BuilderView)
 -- what a failure of a run over feeds of these bytes leaves written; of a schema that is had nothing but memory can fail
 abbrev pub FailureLeaves : Layout → Told → Failure → Option (List ℕ) → Option (List ℕ) → Type 0
 FailureLeaves s sources (Schema fault) old new = (fault ≡ schema_fault.Memory) × (new ≡ old)
-FailureLeaves s sources (Run fault) old new = FaultLeaves s sources fault old new
+FailureLeaves s sources (Run fault) old new = FaultLeaves ExplainsBuild s sources fault old new
 FailureLeaves s sources _ old new = ⊥
 
 -- the most bytes that a schema file may have

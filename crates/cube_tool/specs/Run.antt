@@ -4,7 +4,6 @@ use Rattle.std.specs.Io.KnownBytes.{Appends}
 use Rattle.cube_core.specs.Arrival.{Arrivals}
 use Rattle.cube_core.specs.Layout.{Layout}
 use Rattle.cube_core.specs.Run.{Told, AreGood, AreTaken, IsPrintedAt}
-use Rattle.cube_engine.specs.Build.{IsLowestFault}
 use Rattle.cube_engine.specs.declared.fault.RunFault.{RunFault}
 use Rattle.cube_engine.specs.declared.fault.RunFault.TheVariants as run_fault
 
@@ -28,11 +27,11 @@ pub record RunsPart (s : Layout) (sources : Told) (sent : ℕ) (old new : Option
   pub within : sent ≤ length text
   pub written : Appends old new (take sent text)
 
--- what a fault of a run on one thread leaves: nothing was written, but by a failed write, which tells how much of the text went out
-abbrev pub FaultLeaves : Layout → Told → RunFault → Option (List ℕ) → Option (List ℕ) → Type 0
-FaultLeaves s sources run_fault.Memory old new = new ≡ old
-FaultLeaves s sources run_fault.NoThread old new = ⊥
-FaultLeaves s sources (run_fault.Feed source fault) old new = (new ≡ old) × IsLowestFault s sources source fault
-FaultLeaves s sources run_fault.Full old new = new ≡ old
-FaultLeaves s sources (run_fault.Unsealed source) old new = ⊥
-FaultLeaves s sources (run_fault.Write sent) old new = RunsPart s sources sent old new
+-- what a fault of a run leaves, where this explains the faults of what was built: nothing was written, but by a failed write, which tells how much of the text went out
+abbrev pub FaultLeaves : (Layout → Told → RunFault → Type 0) → Layout → Told → RunFault → Option (List ℕ) → Option (List ℕ) → Type 0
+FaultLeaves Explains s sources run_fault.Memory old new = (new ≡ old) × Explains s sources run_fault.Memory
+FaultLeaves Explains s sources run_fault.NoThread old new = (new ≡ old) × Explains s sources run_fault.NoThread
+FaultLeaves Explains s sources (run_fault.Feed source fault) old new = (new ≡ old) × Explains s sources (run_fault.Feed source fault)
+FaultLeaves Explains s sources run_fault.Full old new = (new ≡ old) × Explains s sources run_fault.Full
+FaultLeaves Explains s sources (run_fault.Unsealed source) old new = (new ≡ old) × Explains s sources (run_fault.Unsealed source)
+FaultLeaves Explains s sources (run_fault.Write sent) old new = RunsPart s sources sent old new

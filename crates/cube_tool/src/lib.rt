@@ -10,5 +10,5 @@ mod write;
 
 pub use print::print_rows;
 pub use refusals::print_refusals;
-pub use run::run_plain;
+pub use run::{run, run_plain};
 pub use write::{WriteFault, write_whole};

@@ -1,7 +1,7 @@
 //! Items by themselves: how much memory they hold, and copies of them.
 use crate::reading::{answers, schema_with};
 use crate::shown::show_item;
-use cube_core::{Change, Fact, Item, Schema, Text};
+use cube_core::{Change, Fact, Item, Schema};
 use cube_feed::Feed;
 use std::alloc::{AllocError, Global};
 use std::test::Fail;
@@ -42,35 +42,12 @@ fn a_copy_of_an_item_equals_its_source(rt: HostRuntime) -> Result<(), Fail> {
     Ok(())
 }
 
-fn room_of_text(text: Text) -> usize {
-    text.into_string().capacity()
-}
-
-// The room of the first of two values, where that is a text and the other is null.
-fn room_of_first(values: Vec<Option<Text>>) -> Option<usize> {
-    let mut values = values;
-    if values.pop()?.is_some() || values.len() != 1 {
-        return None;
-    }
-    let text = values.pop()??;
-    Some(room_of_text(text))
-}
-
-// The room that the list of dimensions, the first of them, and the list of measures have.
-fn room_of_fact(fact: Fact) -> Option<(usize, usize, usize)> {
-    let Fact { dims, measures } = fact;
-    let dims = dims.into_vec();
-    let room = dims.capacity();
-    let first = room_of_first(dims)?;
-    Some((room, first, measures.into_vec().capacity()))
-}
-
-// The room of the id and of the fact of an insert.
-fn room_of(item: Item) -> Option<(usize, (usize, usize, usize))> {
+// The room that the list of dimensions and the list of measures have.
+fn room_of(item: Item) -> Option<(usize, usize)> {
     match item.what {
-        Ok(Change::Insert { id, fact }) => {
-            let room = room_of_fact(fact)?;
-            Some((room_of_text(id), room))
+        Ok(Change::Insert { fact, .. }) => {
+            let Fact { dims, measures } = fact;
+            Some((dims.into_vec().capacity(), measures.into_vec().capacity()))
         }
         _ => None,
     }
@@ -85,10 +62,10 @@ fn first_item(alloc: Global, schema: &Schema, bytes: &[u8]) -> Option<Item> {
 }
 
 #[test]
-fn an_item_has_no_more_memory_than_its_texts_and_lists(rt: HostRuntime) -> Result<(), Fail> {
+fn an_item_has_no_more_memory_than_its_lists(rt: HostRuntime) -> Result<(), Fail> {
     let schema = Schema::sample(rt.alloc())?;
     let bytes = b"op,id,region,kind,amount\nI,12,west,\\N,5\n";
     let item = first_item(rt.alloc(), &schema, bytes).ok_or("no item")?;
-    assert_eq!(rt; room_of(item), Some((2, (2, 4, 1))));
+    assert_eq!(rt; room_of(item), Some((2, 1)));
     Ok(())
 }

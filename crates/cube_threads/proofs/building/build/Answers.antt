@@ -1,8 +1,22 @@
-use Rattle.std.proofs.Common.{◌≡◌, ℕ, map, length, sym, subst, ◌∙◌}
+use Rattle.std.proofs.Common.{◌≡◌, ◌≤◌, ℕ, map, length, sym, subst, ◌∙◌}
 use Rattle.std.proofs.lemmas.List.{length-map}
 use Rattle.cube_threads.specs.Drafts.{AreNewDrafts}
+use Rattle.cube_threads.specs.Parts.{BuiltView, BuildsParts}
 use Rattle.cube_threads.proofs.DraftLaws.{builds-parts}
+use Rattle.cube_threads.proofs.PartLaws.{are-parts}
 use Rattle.cube_threads.proofs.building.build.Goals as goal
+
+pub of-requires : goal.of-requires
+of-requires g c =
+    let told = map g.R.Read.remaining c.args.readers.items in
+    let count : c.len.result ≡ length told = c.len.ensures ∙ c.args.readers.ok.0 ∙ sym (length-map c.args.readers.items g.R.Read.remaining) in
+    let known = c.in_ok-gatherers.ensures in
+    let making = c.finish_all.new.self in
+    let built : BuiltView = record { builders = making.builders.items; inlets = map (λ links. links.inlets.items) making.links.items } in
+    let builds =
+    builds-parts c.args.schema.now told c.args.builders c.in-Ok.made.0.items c.in_ok-gatherers.gatherers.items built known.good c.requires.builders.0
+    (subst (λ (n : ℕ). AreNewDrafts c.args.schema.now n c.args.builders c.args.builders c.in-Ok.made.0.items) count c.in-Ok.ensures.drafts) known.taken c.in-Ok-finish_all.ensures.builders c.in-Ok-finish_all.ensures.links in
+    are-parts c.args.schema.now (length told) c.args.builders built builds.arrivals c.requires.builders.0 builds.stands
 
 pub returns-in-Ok-finish_all-clause-ok : goal.returns-in-Ok-finish_all-clause-ok
 returns-in-Ok-finish_all-clause-ok g c =
@@ -10,5 +24,6 @@ returns-in-Ok-finish_all-clause-ok g c =
     let count : c.len.result ≡ length told = c.len.ensures ∙ c.args.readers.ok.0 ∙ sym (length-map c.args.readers.items g.R.Read.remaining) in
     let known = c.in_ok-gatherers.ensures in
     let made = c.in-Ok-finish_all.ensures in
-    builds-parts c.args.schema.now told c.args.builders c.in-Ok.made.0.items c.in_ok-gatherers.gatherers.items c.finish_all.new.self known.good
-    (subst (λ (n : ℕ). AreNewDrafts c.args.schema.now n c.args.builders c.args.builders c.in-Ok.made.0.items) count c.in-Ok.ensures.drafts) known.taken made.builders made.inlets
+    builds-parts c.args.schema.now told c.args.builders c.in-Ok.made.0.items c.in_ok-gatherers.gatherers.items c.of.result known.good c.requires.builders.0
+    (subst (λ (n : ℕ). AreNewDrafts c.args.schema.now n c.args.builders c.args.builders c.in-Ok.made.0.items) count c.in-Ok.ensures.drafts) known.taken
+    (rw c.of.ensures.builders made.builders) (c.of.ensures.inlets ∙ made.links)

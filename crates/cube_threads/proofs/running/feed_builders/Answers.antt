@@ -1,4 +1,4 @@
-use Rattle.std.proofs.Common.{arith, ◌≡◌, ◌∙◌, [], sym, ap, length, get_or, map, vec_len}
+use Rattle.std.proofs.Common.{arith, ◌≡◌, ◌≤◌, ◌∙◌, [], sym, ap, length, get_or, map, vec_len}
 use Rattle.std.proofs.lemmas.List.{get_or-map, length-map}
 use Rattle.cube_core.proofs.ListLaws.{AllZip-length}
 use Rattle.cube_threads.specs.Starting.{HasGathered}
@@ -100,8 +100,10 @@ returns-clause-taken g c =
     ∙ ap length known.feeds
     ∙ length-map c.args.readers.items (λ reader. coming_of c.args.schema.now (g.R.Read.remaining reader))
     ∙ sym (length-map c.args.readers.items g.R.Read.remaining) in
+    let count = AllZip-length (HasGathered g.B.Builds.stands) setup.gatherers.items joined.result.0.gatherers.items (on_ok-holds joined.result.1 _ fine joined.ensures.gatherers) in
+    let some : 1 ≤ length joined.result.0.gatherers.items = omega (arith, count, known.count, setup.gatherers.ok.0, c.requires.builders) in
     if_ok-then c.settle.result _ _
     (λ settled settles.
     takes-settled g.B.Builds.stands c.args.schema.now told outs joined.result.0.ends.items c.args.builders.items setup.gatherers.items joined.result.0.gatherers.items settled.items
-    known.linked as_many known.builders (on_ok-holds joined.result.1 _ fine joined.ensures.gatherers) tell settles)
+    known.linked as_many known.builders (on_ok-holds joined.result.1 _ fine joined.ensures.gatherers) tell settles some)
     c.settle.ensures.ok

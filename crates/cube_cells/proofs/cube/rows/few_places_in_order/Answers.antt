@@ -1,6 +1,6 @@
 use Rattle.std.proofs.Common.{rules}
 use Rattle.std.proofs.lemmas.List.Sorted.{IsPermutation-map}
-use Rattle.cube_core.proofs.PlainOrderLaws.{key_cmp_total}
+use Rattle.cube_core.proofs.KeyOrderLaws.{key_cmp_total}
 use Rattle.cube_cells.specs.Codes.{key_at}
 use Rattle.cube_cells.proofs.RankLaws.{sorted_by}
 use Rattle.cube_cells.proofs.cube.rows.few_places_in_order.Goals as goal

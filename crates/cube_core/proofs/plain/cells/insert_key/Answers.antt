@@ -1,5 +1,0 @@
-use Rattle.cube_core.proofs.PlainOrderLaws.{set_gains_key}
-use Rattle.cube_core.proofs.plain.cells.insert_key.Goals as goal
-
-pub returns : goal.returns
-returns c = set_gains_key c.args.keys.now c.insert.new.self c.args.key c.in_ok-insert.ensures.updates.0

@@ -1,0 +1,102 @@
+-- The answers of the builders of a run, part by part.
+use Rattle.std.proofs.Common.{◌≡◌, ◌<◌, ◌≤◌, ◌+◌, ℕ, Bool, true, List, length, get_or, ◌++◌, arith, IsPermutation, sym, ap, subst, ◌∙◌}
+use Rattle.std.specs.Prelude.{Option, Some, None, Result, Ok, Err, IfOk}
+use Rattle.std.specs.List.Sorted.{IsSortedBy}
+use Rattle.std.specs.Ordering.{is_lt}
+use Rattle.cube_core.specs.Cube.{AreRows, AreRowsOver}
+use Rattle.cube_core.specs.GroupingSet.{sets_of_part}
+use Rattle.cube_core.specs.Layout.{Layout}
+use Rattle.cube_core.specs.Order.{key_cmp}
+use Rattle.cube_core.specs.Query.{AreRowsWhere}
+use Rattle.cube_core.specs.declared.fact.Fact.{Fact}
+use Rattle.cube_core.specs.declared.key.Key.{Key}
+use Rattle.cube_core.specs.declared.key.Row.{Row}
+use Rattle.cube_core.specs.declared.query.QueryFault.{QueryFault}
+use Rattle.cube_cells.specs.Rows.{GivesUnless}
+use Rattle.cube_cells.specs.Cube.{Lattice, IsCubeOf}
+use Rattle.cube_engine.specs.Builder.{BuilderView}
+use Rattle.cube_engine.specs.Ledger.{all_facts}
+use Rattle.cube_threads.specs.Parts.{first_ledger, AreParts}
+use Rattle.cube_threads.proofs.JoinLaws.{AreRowsBelow, rows-first, rows-more, rows-all, rows-one, rows-over, over-rows}
+
+-- these are the rows of the first so many parts, in any order, whose keys pass a test
+abbrev pub AreRowsOfParts : ℕ → (Key → Bool) → List BuilderView → List Row → Type 0
+AreRowsOfParts count test builders rows =
+    AreRowsBelow count (length builders) test (first_ledger builders).schema.grouping_sets (length (first_ledger builders).schema.dimensions) (first_ledger builders).schema.aggregates (all_facts (first_ledger builders).accounts) rows
+
+-- and those of all parts, in key order
+abbrev pub AreRowsOfAll : (Key → Bool) → List BuilderView → List Row → Type 0
+AreRowsOfAll test builders rows =
+    AreRowsWhere test (first_ledger builders).schema.grouping_sets (length (first_ledger builders).schema.dimensions) (first_ledger builders).schema.aggregates (all_facts (first_ledger builders).accounts) rows
+
+-- what a query of a cube promises
+abbrev pub Answers : (Key → Bool) → Lattice → List Row → Type 0
+Answers test cube rows = (facts : List Fact) → IsCubeOf cube facts → AreRowsWhere test cube.sets (length cube.schema.dimensions) cube.schema.aggregates facts rows
+
+-- a query of all rows
+pub answers-all : (cube : Lattice) (rows : List Row) → ((facts : List Fact) → IsCubeOf cube facts → AreRowsOver cube.sets (length cube.schema.dimensions) cube.schema.aggregates facts rows) → Answers (λ key. true) cube rows
+answers-all cube rows are facts cells = over-rows cube.sets (length cube.schema.dimensions) cube.schema.aggregates facts rows (are facts cells)
+
+-- the answer of the builder of a part
+of-part : (test : Key → Bool) (builders : List BuilderView) (part : ℕ) (d : BuilderView) (cube : Lattice) (rows : List Row) → AreParts builders → part < length builders → cube ≡ (get_or builders part d).cube → Answers test cube rows →
+    AreRowsWhere test (sets_of_part part (length builders) (first_ledger builders).schema.grouping_sets) (length (first_ledger builders).schema.dimensions) (first_ledger builders).schema.aggregates (all_facts (first_ledger builders).accounts) rows
+of-part test builders part d cube rows parts below is answers =
+    let p = parts.each part d below in
+    rw (← p.sets, ← p.schema, ← is) (answers (all_facts (first_ledger builders).accounts) (rw is p.cells))
+
+-- the schema of the builder of a part
+pub schema-at : (builders : List BuilderView) (part : ℕ) (d : BuilderView) (cube : Lattice) → AreParts builders → part < length builders → cube ≡ (get_or builders part d).cube → cube.schema ≡ (first_ledger builders).schema
+schema-at builders part d cube parts below is = ap (λ (l : Lattice). l.schema) is ∙ (parts.each part d below).schema
+
+-- of builder 0
+pub parts-first : (test : Key → Bool) (builders : List BuilderView) (d : BuilderView) (cube : Lattice) (rows : List Row) → AreParts builders → cube ≡ (get_or builders 0 d).cube → Answers test cube rows → AreRowsOfParts 1 test builders rows
+parts-first test builders d cube rows parts is answers =
+    let some = parts.some in
+    rows-first (length builders) test _ _ _ _ rows (of-part test builders 0 d cube rows parts (omega arith) is answers)
+
+-- of one builder more
+pub parts-more : (test : Key → Bool) (builders : List BuilderView) (part : ℕ) (d : BuilderView) (cube : Lattice) (rows more : List Row) → AreParts builders → part < length builders → cube ≡ (get_or builders part d).cube → Answers test cube more →
+    AreRowsOfParts part test builders rows → AreRowsOfParts (part + 1) test builders (rows ++ more)
+parts-more test builders part d cube rows more parts below is answers are =
+    rows-more part (length builders) test _ _ _ _ rows more are (of-part test builders part d cube more parts below is answers)
+
+-- the rows of all, put in key order
+pub parts-all : {V E : Type 0} (items : V → List Row) (r : Result V E) (test : Key → Bool) (builders : List BuilderView) (count : ℕ) (rows : List Row) → AreParts builders → count ≡ length builders → AreRowsOfParts count test builders rows →
+    IfOk r (λ sorted. IsPermutation rows (items sorted)) → IfOk r (λ sorted. IsSortedBy (λ a b. is_lt (key_cmp a.key b.key)) (items sorted)) → IfOk r (λ sorted. AreRowsOfAll test builders (items sorted))
+parts-all items (Ok sorted) test builders count rows parts all are same order =
+    rows-all (length builders) test _ _ _ _ rows (items sorted) parts.some (subst (λ (n : ℕ). AreRowsOfParts n test builders rows) all are) same order
+parts-all items (Err e) test builders count rows parts all are same order = tt
+
+-- the answer of a builder that is alone
+pub parts-alone : {V E : Type 0} (items : V → List Row) (r : Result V E) (test : Key → Bool) (builders : List BuilderView) (d : BuilderView) (cube : Lattice) → AreParts builders → length builders ≡ 1 → cube ≡ (get_or builders 0 d).cube →
+    IfOk r (λ rows. Answers test cube (items rows)) → IfOk r (λ rows. AreRowsOfAll test builders (items rows))
+parts-alone items (Ok rows) test builders d cube parts one is answers =
+    let some = parts.some in
+    let of = of-part test builders 0 d cube (items rows) parts (omega arith) is answers in
+    rows-one test _ _ _ _ (items rows) (rw one at of)
+parts-alone items (Err e) test builders d cube parts one is answers = tt
+
+-- a query of all rows gives the rows
+pub if_ok-rows : {V E : Type 0} (items : V → List Row) (r : Result V E) (s : Layout) (facts : List Fact) → IfOk r (λ rows. AreRowsWhere (λ key. true) s.grouping_sets (length s.dimensions) s.aggregates facts (items rows)) → IfOk r (λ rows. AreRows s facts (items rows))
+if_ok-rows items (Ok rows) s facts are = rows-over _ _ _ _ (items rows) are
+if_ok-rows items (Err e) s facts are = tt
+
+pub if_ok-all : {V E : Type 0} (items : V → List Row) (r : Result V E) (cube : Lattice) → IfOk r (λ rows. (facts : List Fact) → IsCubeOf cube facts → AreRowsOver cube.sets (length cube.schema.dimensions) cube.schema.aggregates facts (items rows)) → IfOk r (λ rows. Answers (λ key. true) cube (items rows))
+if_ok-all items (Ok rows) cube are = answers-all cube (items rows) are
+if_ok-all items (Err e) cube are = tt
+
+-- a drill-down that was answered had no fault
+pub gives-ok : {V W : Type 0} (fault other : Option QueryFault) (P : V → Type 0) (Q : W → Type 0) (v : V) (w : W) → fault ≡ other → GivesUnless fault P (Ok v) → Q w → GivesUnless other Q (Ok w)
+gives-ok {V} {W} fault other P Q v w same gives holds = subst (λ (f : Option QueryFault). GivesUnless f Q (Ok w)) same (turn fault gives) where
+  turn : (f : Option QueryFault) → GivesUnless f P (Ok v) → GivesUnless f Q (Ok w)
+  turn (Some f) gives = cc
+  turn None gives = holds
+
+-- a drill-down with something else to say of its answer
+pub gives-other : {V : Type 0} (fault other : Option QueryFault) (P Q : V → Type 0) (r : Result V QueryFault) → fault ≡ other → GivesUnless fault P r → IfOk r Q → GivesUnless other Q r
+gives-other {V} fault other P Q r same gives holds = subst (λ (f : Option QueryFault). GivesUnless f Q r) same (turn fault r gives holds) where
+  turn : (f : Option QueryFault) (r : Result V QueryFault) → GivesUnless f P r → IfOk r Q → GivesUnless f Q r
+  turn (Some f) (Ok v) gives holds = gives
+  turn (Some f) (Err e) gives holds = gives
+  turn None (Ok v) gives holds = holds
+  turn None (Err e) gives holds = gives

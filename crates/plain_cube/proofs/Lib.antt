@@ -1,0 +1,4 @@
+mod AnswerLaws
+mod WalkLaws
+mod TotalLaws
+mod RowLaws

@@ -1,0 +1,112 @@
+//! What runs in threads print, whatever the number of builders.
+ghost use Rattle.std.specs.Prelude.{◌≤◌};
+
+use crate::run_texts;
+use cube_core::Schema;
+use cube_engine::RunFault;
+use cube_feed::FeedFault;
+use std::io;
+use std::io::Write;
+use std::test::Fail;
+
+const ONE: &str = "op,id,region,kind,amount\nI,1,w,a,1\n";
+
+const TWO: &str = "op,id,region,kind,amount\nI,1,w,a,2\n";
+
+const TURNED: &str = "op,id,kind,region,amount\n";
+
+const BOTH: &str = "\
+region,kind,grouping(region),grouping(kind),count(*),sum(amount),min(amount),max(amount),avg(amount)
+w,a,0,0,2,3,1,2,3/2
+w,\\N,0,1,2,3,1,2,3/2
+\\N,a,1,0,2,3,1,2,3/2
+\\N,\\N,1,1,2,3,1,2,3/2
+";
+
+// A writer that takes some bytes and then fails.
+#[derive(Drop)]
+struct Narrow {
+    taken: Vec<u8>,
+    room: usize,
+}
+
+impl Write for Narrow {
+    fn write(&mut self, bytes: &[u8]) -> io::Result<usize> {
+        let room = self.room.saturating_sub(self.taken.len());
+        if room == 0 {
+            return Err(io::Error::from(io::ErrorKind::BrokenPipe));
+        }
+        let count = bytes.len().min(room);
+        self.taken.extend_from_slice(&bytes[..count])?;
+        Ok(count)
+    }
+
+    fn flush(&mut self) -> io::Result<()> {
+        Ok(())
+    }
+}
+
+// What a run of so many builders over two sources writes.
+fn printed(rt: &HostRuntime, builders: u32) -> Result<Vec<u8>, Fail>
+    requires { (1 ≤ builders) × (builders ≤ 8) }
+{
+    let alloc = rt.alloc();
+    let schema = Schema::sample(alloc)?;
+    let mut out = Vec::new(alloc);
+    let ran = run_texts(rt, alloc, &schema, &[ONE, TWO], builders, &mut out);
+    ran.ok().ok_or("the run failed")?;
+    Ok(out)
+}
+
+#[test]
+fn one_builder_prints_the_cube(rt: HostRuntime) -> Result<(), Fail> {
+    assert_eq!(rt; printed(&rt, 1)?.as_slice(), BOTH.as_bytes());
+    Ok(())
+}
+
+#[test]
+fn two_builders_print_the_cube(rt: HostRuntime) -> Result<(), Fail> {
+    assert_eq!(rt; printed(&rt, 2)?.as_slice(), BOTH.as_bytes());
+    Ok(())
+}
+
+#[test]
+fn three_builders_print_the_cube(rt: HostRuntime) -> Result<(), Fail> {
+    assert_eq!(rt; printed(&rt, 3)?.as_slice(), BOTH.as_bytes());
+    Ok(())
+}
+
+#[test]
+fn eight_builders_print_the_cube(rt: HostRuntime) -> Result<(), Fail> {
+    assert_eq!(rt; printed(&rt, 8)?.as_slice(), BOTH.as_bytes());
+    Ok(())
+}
+
+#[test]
+fn a_wrong_header_of_the_second_source_is_named(rt: HostRuntime) -> Result<(), Fail> {
+    let alloc = rt.alloc();
+    let schema = Schema::sample(alloc)?;
+    let mut out = Vec::new(alloc);
+    let fault = run_texts(&rt, alloc, &schema, &[ONE, TURNED], 2, &mut out).err();
+    let wanted = RunFault::Feed {
+        source: 2,
+        fault: FeedFault::Header,
+    };
+    assert_eq!(rt; fault, Some(wanted));
+    assert!(rt; out.is_empty());
+    Ok(())
+}
+
+#[test]
+fn a_failed_write_tells_how_much_went_out(rt: HostRuntime) -> Result<(), Fail> {
+    let alloc = rt.alloc();
+    let schema = Schema::sample(alloc)?;
+    let mut out = Narrow {
+        taken: Vec::new(alloc),
+        room: 10,
+    };
+    let fault = run_texts(&rt, alloc, &schema, &[ONE, TWO], 2, &mut out).err();
+    assert_eq!(rt; fault, Some(RunFault::Write { sent: 10 }));
+    assert_eq!(rt; out.taken.as_slice(), b"region,kin".as_slice());
+    Ok(())
+}

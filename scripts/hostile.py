@@ -1,0 +1,413 @@
+"""Hostile use of the built program: memory, reads, writes and threads refused in turn, and feeds that lie.
+
+    scripts/hostile.sh [--program FILE] [--only WORD] [--cases N] [--seed N]
+
+Each trial is a line; the last line is `N passed, M failed`. A trial fails where the program answers what its formats
+don't allow for the cause, where standard output is neither empty nor whole (or, under G6, the first bytes that the
+number says), where it crashes, or where it runs past its time. Needs python3 and cc.
+"""
+import argparse
+import os
+import random
+import re
+import resource
+import subprocess
+import sys
+import tempfile
+import threading
+
+import oracle
+
+HERE = os.path.dirname(os.path.abspath(__file__))
+SAMPLE = oracle.Schema(
+    ["region", "kind"], ["amount"], [("count", None), ("sum", 0), ("min", 0), ("max", 0), ("avg", 0)]
+)
+ONE = [b"I", b"1", b"west", b"a", b"5"]
+MIXED = [
+    ONE,
+    [b"I", b"2", b"\\N", b"a", b"7"],
+    [b"I", b"2", b"w", b"a", b"1"],
+    [b"U", b"1", b'a,"b"', b"b", b"-9"],
+    [b"D", b"9"],
+    [b"I", b"3", b"a name of more than four and twenty bytes", b"b", b"\\N"],
+    [b"D", b"2"],
+]
+STATUS = {"S": 3, "P": 2, "G": 1}
+MEMORY = [r"S1", r"G1", r"G2", r"G3 \d+ F1", r"G4", r"P6"]
+# (what is said where there is no memory for the words themselves)
+NO_WORDS = b"error: out of memory\n"
+
+
+class Answer:
+    def __init__(self, status, out, err, was_refused):
+        self.status, self.out, self.err, self.was_refused = status, out, err, was_refused
+
+    def code(self):
+        """The code that standard error tells, where it is one line of the program's own."""
+        told = re.fullmatch(rb"datacube: (.+)\n", self.err)
+        return told[1].decode(errors="replace") if told else None
+
+
+class Program:
+    def __init__(self, path, shim, folder):
+        self.path, self.shim, self.folder = path, shim, folder
+
+    def write(self, name, data):
+        with open(os.path.join(self.folder, name), "wb") as file:
+            file.write(data)
+        return name
+
+    def run(self, words, given=b"", refuse=None, short=None, out=None, limit=60):
+        told, tell = os.pipe()
+        env = {"PATH": "/usr/bin:/bin", "LD_PRELOAD": self.shim, "TOLD": str(tell)}
+        env.update({"REFUSE": refuse} if refuse else {})
+        env.update({"SHORT": short} if short else {})
+        how = {"stdin": subprocess.PIPE, "stdout": out or subprocess.PIPE, "stderr": subprocess.PIPE}
+        ran = subprocess.Popen([self.path, *words], cwd=self.folder, env=env, pass_fds=(tell,), **how)
+        os.close(tell)
+        try:
+            text, err = ran.communicate(given, timeout=limit)
+        except subprocess.TimeoutExpired:
+            ran.kill()
+            ran.communicate()
+            return Answer("ran past its time", b"", b"", False)
+        finally:
+            was_refused = bool(os.read(told, 1)) if ran.poll() is not None else False
+            os.close(told)
+        return Answer(ran.returncode, text or b"", err, was_refused)
+
+
+def why_wrong(answer, whole, codes):
+    """Why an answer isn't one that is allowed: the whole answer, or one of these codes with nothing written."""
+    if answer.status == whole.status and answer.status in (0, 4):
+        if answer.out == whole.out and answer.err == whole.err:
+            return None
+        return f"status {answer.status} with other text"
+    if (answer.status, answer.err, answer.out) == (2, NO_WORDS, b"") and MEMORY[0] in codes:
+        return None
+    code = answer.code()
+    if code is None:
+        return f"status {answer.status}, {answer.err[:200]!r}"
+    if not any(re.fullmatch(it, code) for it in codes):
+        return f"answered {code}"
+    sent = re.fullmatch(r"G6 (\d+)", code)
+    if answer.status != (3 if code == "schema unreadable" else STATUS.get(code[0], 1)):
+        return f"{code} with status {answer.status}"
+    if answer.out != (whole.out[: int(sent[1])] if sent else b""):
+        return f"{code} with {len(answer.out)} bytes written"
+    return None
+
+
+class Trials:
+    def __init__(self, program, only):
+        self.program, self.only, self.passed, self.failed = program, only, 0, 0
+
+    def trial(self, name, call):
+        if self.only not in name:
+            return
+        try:
+            why = call()
+        except Exception as error:
+            why = f"the trial itself failed: {error!r}"
+        counted = isinstance(why, int)
+        if why is None or counted:
+            self.passed += 1
+            print(f"ok      {name}{f' ({why})' if counted else ''}", flush=True)
+        else:
+            self.failed += 1
+            print(f"FAILED  {name}: {why}", flush=True)
+
+    def in_turn(self, kind, words, codes, given=b"", whole=None, limit=20000):
+        """Refuses each call of a kind in turn until a run meets no refusal; how many there were, or why it fails."""
+        whole = whole or self.program.run(words, given)
+        if whole.status not in (0, 4):
+            return f"without a refusal: status {whole.status}, {whole.err[:200]!r}"
+        for turn in range(1, limit):
+            answer = self.program.run(words, given, refuse=f"{kind} {turn}")
+            why = why_wrong(answer, whole, codes)
+            if why:
+                return f"{kind} {turn}: {why}"
+            if not answer.was_refused:
+                return turn - 1
+        return f"more than {limit} calls"
+
+
+def feeds(program, schema, records, count):
+    data = oracle.encode([schema.header(), *records])
+    return [program.write(f"feed{at}.csv", data) for at in range(1, count + 1)]
+
+
+def commands(program):
+    """Each command over feeds, by a name, with few and with many of them."""
+    program.write("schema.toml", SAMPLE.toml())
+    files = feeds(program, SAMPLE, MIXED, 64)
+    made = {"no words": ([], oracle.encode([SAMPLE.header(), *MIXED])), "check": (["check", "schema.toml"], b"")}
+    for builders in (1, 2, 8):
+        for count in (1, 3):
+            made[f"print, {count} feeds, {builders} builders"] = (
+                ["print", "--builders", str(builders), "schema.toml", *files[:count]], b"")
+    made["slice"] = (["slice", "schema.toml", "?,=a", *files[:2]], b"")
+    made["drill"] = (["drill", "schema.toml", "\\A,\\A", "kind", *files[:2]], b"")
+    made["refusals"] = (["refusals", "schema.toml", *files[:2]], b"")
+    return made, files
+
+
+def refusals_in_turn(trials):
+    program = trials.program
+    made, files = commands(program)
+    reads = [r"G3 \d+ F2", r"schema unreadable"]
+    for name, (words, given) in made.items():
+        trials.trial(f"memory refused in turn: {name}", lambda: trials.in_turn("alloc", words, MEMORY, given))
+        trials.trial(f"reads failing in turn: {name}", lambda: trials.in_turn("read", words, reads, given))
+        trials.trial(f"writes failing in turn: {name}", lambda: trials.in_turn("write", words, [r"G6 \d+"], given))
+        trials.trial(f"writes that take nothing: {name}", lambda: trials.in_turn("none", words, [r"G6 \d+"], given))
+        trials.trial(f"threads refused in turn: {name}", lambda: trials.in_turn("thread", words, [r"G2"], given))
+        trials.trial(f"one byte a read: {name}", lambda: short(program, words, given, "read 1"))
+        trials.trial(f"one byte a write: {name}", lambda: short(program, words, given, "write 1"))
+    many = ["print", "--ring", "1", "--builders", "8", "schema.toml", *files]
+    trials.trial("threads refused in turn: print, 64 feeds, 8 builders", lambda: trials.in_turn("thread", many, [r"G2"]))
+    few = [program.write("one.csv", oracle.encode([SAMPLE.header(), ONE]))] * 64
+    for builders in ("1", "2", "8"):
+        words = ["print", "--ring", "1", "--builders", builders, "schema.toml", *few]
+        trials.trial(f"memory refused in turn: print, 64 feeds, {builders} builders",
+                     lambda: trials.in_turn("alloc", words, MEMORY))
+
+
+def short(program, words, given, how):
+    whole, cut = program.run(words, given), program.run(words, given, short=how)
+    same = (whole.status, whole.out, whole.err) == (cut.status, cut.out, cut.err)
+    return None if same else f"status {cut.status}, {cut.err[:200]!r}"
+
+
+def ends_of_output(trials):
+    program = trials.program
+    made, _ = commands(program)
+    for name, (words, given) in made.items():
+        if name.startswith("print") and not name.endswith("2 builders"):
+            continue
+        trials.trial(f"standard output full: {name}", lambda: full(program, words, given))
+        trials.trial(f"standard output closed: {name}", lambda: closed(program, words, given))
+        trials.trial(f"a reader that goes away: {name}", lambda: gone(program, words, given))
+
+
+def full(program, words, given):
+    with open("/dev/full", "wb") as file:
+        answer = program.run(words, given, out=file)
+    return None if (answer.status, answer.err) == (1, b"datacube: G6 0\n") else f"{answer.status}, {answer.err[:200]!r}"
+
+
+def closed(program, words, given):
+    shell = ["/bin/sh", "-c", 'exec "$0" "$@" >&-', program.path, *words]
+    ran = subprocess.run(shell, cwd=program.folder, input=given, stderr=subprocess.PIPE, timeout=60)
+    return None if (ran.returncode, ran.stderr) == (1, b"datacube: G6 0\n") else f"{ran.returncode}, {ran.stderr[:200]!r}"
+
+
+def gone(program, words, given):
+    reader, writer = os.pipe()
+    os.close(reader)
+    with os.fdopen(writer, "wb") as file:
+        answer = program.run(words, given, out=file)
+    return None if (answer.status, answer.err) == (1, b"datacube: G6 0\n") else f"{answer.status}, {answer.err[:200]!r}"
+
+
+def cut_feeds(trials):
+    program = trials.program
+    program.write("schema.toml", SAMPLE.toml())
+    data = oracle.encode([SAMPLE.header(), *MIXED])
+    trials.trial("a feed cut at each byte, 1 and 3 builders", lambda: cut_in_turn(program, data))
+
+
+def cut_in_turn(program, data):
+    head = len(oracle.encode([SAMPLE.header()])) - 1
+    for size in range(len(data) + 1):
+        program.write("cut.csv", data[:size])
+        plain = program.run([], data[:size])
+        one = program.run(["print", "schema.toml", "cut.csv"])
+        more = program.run(["print", "--builders", "3", "--ring", "1", "schema.toml", "cut.csv"])
+        answers = {(it.status, it.out, it.err) for it in (plain, one, more)}
+        wanted = (1,) if 0 < size < head else (0, 4)
+        if len(answers) > 1 or plain.status not in wanted:
+            return f"{size} bytes: {sorted((it[0], it[2]) for it in answers)}"
+    return len(data) + 1
+
+
+def endless(program):
+    """A feed that never ends, behind a pipe by name."""
+    program.write("few.toml", oracle.Schema(SAMPLE.dimensions, SAMPLE.measures, SAMPLE.aggregates, max_records=1000).toml())
+    path = os.path.join(program.folder, "endless.csv")
+    os.mkfifo(path)
+
+    def feed():
+        try:
+            with open(path, "wb") as file:
+                file.write(oracle.encode([SAMPLE.header()]))
+                for at in range(1, 10**9):
+                    file.write(b"I,%d,w,a,1\n" % at)
+        except BrokenPipeError:
+            pass
+
+    threading.Thread(target=feed, daemon=True).start()
+    answer = program.run(["print", "few.toml", "endless.csv"])
+    os.unlink(path)
+    return None if (answer.status, answer.code(), answer.out) == (1, "G3 1 F4", b"") else f"{answer.status}, {answer.err!r}"
+
+
+def big_inputs(trials):
+    program = trials.program
+    program.write("schema.toml", SAMPLE.toml())
+    head = oracle.encode([SAMPLE.header()])
+    trials.trial("a feed that never ends", lambda: endless(program))
+    refused = lambda code: oracle.text_of(SAMPLE, oracle.rows_of(SAMPLE, []))
+
+    def prints(data, status):
+        program.write("big.csv", data)
+        answer = program.run(["print", "--builders", "2", "schema.toml", "big.csv"])
+        return None if (answer.status, answer.out) == (status, refused(2)) else f"{answer.status}, {answer.err[:200]!r}"
+
+    trials.trial("32 MB of one quoted field never closed", lambda: prints(head + b'I,1,"' + b"w" * 2**25, 4))
+    trials.trial("a million fields in one record", lambda: prints(head + b"I" + b",x" * 10**6 + b"\n", 4))
+    trials.trial("four million blank lines", lambda: prints(head + b"\n" * 2**22, 0))
+    limit = 1048576
+    text = SAMPLE.toml()
+
+    def sized(size):
+        program.write("long.toml", text + b"#" * (size - len(text)))
+        return program.run(["check", "long.toml"])
+
+    trials.trial("a schema of the longest length", lambda: None if sized(limit).out == b"ok\n" else "refused")
+    trials.trial("a schema of one byte more",
+                 lambda: None if sized(limit + 1).code() == "schema unreadable" else "not refused")
+    os.makedirs(os.path.join(program.folder, "folder"), exist_ok=True)
+    unread = lambda: program.run(["print", "schema.toml", "folder"])
+    trials.trial("a folder in place of a feed",
+                 lambda: None if unread().code() in ("G3 1 F2", "feed 1 unreadable") else repr(unread().err))
+
+
+NAMES = ["region", "kind", "a,b", 'say "so"', "two\nlines", "café", "count(*)", "m)", "\\N", "x" * 40, "Op", "?"]
+TEXTS = [b"", b"a", b"b", b"west", b"\\N", b"\\A", b"?", b"a,b", b'"', b"two\r\nlines", "grüße".encode(), b"x" * 30,
+         b"y" * 3000, b"\\=", b"=a", b" a "]
+NUMBERS = [b"0", b"1", b"-1", b"+5", b"007", b"-0", b"9223372036854775807", b"-9223372036854775808", b"\\N", b"12", b"-12"]
+WRONG_NUMBERS = [b"", b"9223372036854775808", b"1.5", b"x", b"+", b"--1", b" 1", b"\\="]
+
+
+def random_schema(rng):
+    names = rng.sample(NAMES, rng.choice([1, 2, 2, 3, 3, 4, 5, 8]) + rng.choice([1, 1, 2, 3, 4]))
+    measures = [names.pop() for _ in range(min(len(names) - 1, rng.choice([1, 1, 2, 4])))]
+    aggregates = [("count", None)] + [
+        (rng.choice(["count", "sum", "min", "max", "avg"]), rng.randrange(len(measures))) for _ in range(rng.choice([0, 1, 4, 15]))]
+    rng.shuffle(aggregates)
+    dimensions = names[:8]
+    grouping = rng.choice(["cube", "cube", "rollup", "sets"])
+    if grouping == "sets":
+        masks = rng.sample(range(2 ** len(dimensions)), rng.randint(1, min(5, 2 ** len(dimensions))))
+        grouping = [rng.sample(it, len(it)) for it in ([d for at, d in enumerate(dimensions) if mask >> at & 1] for mask in masks)]
+    return oracle.Schema(dimensions, measures, aggregates, grouping, rng.choice([1, 2]), rng.choice([2**32 - 1] * 8 + [5]))
+
+
+def random_record(rng, schema, texts, ids):
+    keeps = [b"\\="] if rng.random() < 0.3 else []
+    dims = [rng.choice(texts + keeps * 3) for _ in schema.dimensions]
+    measures = [rng.choice(NUMBERS + keeps * 3) for _ in schema.measures]
+    kind = rng.random()
+    record = [rng.choice([b"I", b"I", b"I", b"U", b"U"]), b"%d" % rng.randrange(ids), *dims, *measures]
+    if kind < 0.15:
+        return [b"D", record[1]]
+    if kind < 0.18:
+        return [b"D", *record[1:]]
+    if kind < 0.22:
+        record[rng.randrange(len(record))] = rng.choice([b"", b"\xff", b"X", *WRONG_NUMBERS])
+    elif kind < 0.24:
+        record.append(b"more")
+    elif kind < 0.25:
+        return [b""]
+    return record
+
+
+def random_case(rng):
+    """A schema, the records of its feeds, and the bytes of these with their headers."""
+    schema = random_schema(rng)
+    texts = rng.sample(TEXTS, rng.randint(2, len(TEXTS)))
+    sources = rng.choice([1, 1, 2, 3, 5, 64])
+    most = rng.choice([3, 20, 20, 60, 400]) if sources < 10 else 5
+    feeds = [[random_record(rng, schema, texts, rng.choice([2, 10, 100])) for _ in range(rng.randint(0, most))] for _ in range(sources)]
+    return schema, feeds
+
+
+def expected(schema, feeds, headers):
+    """The code of the fault of the lowest source, where one is at fault."""
+    for source, (records, is_right) in enumerate(zip(feeds, headers), 1):
+        if not is_right:
+            return f"G3 {source} F3"
+        if len(records) > schema.max_records:
+            return f"G3 {source} F4"
+    return None
+
+
+def compare(program, rng):
+    schema, feeds = random_case(rng)
+    program.write("case.toml", schema.toml())
+    headers = [rng.random() > 0.01 for _ in feeds]
+    files = []
+    for at, (records, is_right) in enumerate(zip(feeds, headers)):
+        head = schema.header() if is_right else schema.header()[::-1]
+        mark = b"\xef\xbb\xbf" if is_right and rng.random() < 0.05 else b""
+        files.append(program.write(f"case{at}.csv", mark + oracle.encode([head]) + oracle.encode(records, rng)))
+    options = ["--ring", str(rng.choice([1, 2, 64, 65536])), "--builders", str(rng.choice([1, 1, 2, 3, 8]))]
+    fault = expected(schema, feeds, headers)
+    run = oracle.Run(schema, feeds) if not fault else None
+    pattern = [rng.choice(["any", "any", None, oracle.ALL, rng.choice(TEXTS[:4])]) for _ in schema.dimensions]
+    key = [rng.choice([oracle.ALL, oracle.ALL, None, rng.choice(TEXTS[:4])]) for _ in schema.dimensions]
+    place = rng.randrange(len(schema.dimensions))
+    name = schema.dimensions[place].encode()
+    wanted = [
+        (["print", *options, "case.toml", *files], run and run.print()),
+        (["refusals", *options, "case.toml", *files], run and run.refusals()),
+        (["slice", *options, "case.toml", oracle.word_of(pattern), *files], run and run.slice(pattern)),
+        (["drill", *options, "case.toml", oracle.word_of(key), name, *files], run and run.drill(key, place)),
+    ]
+    for words, text in wanted:
+        words = words[:1] + [it if isinstance(it, bytes) else it.encode() for it in words[1:]]
+        answer = program.run(words, limit=120)
+        code = fault or (text if isinstance(text, str) else None)
+        if code:
+            if answer.code() != code or answer.out:
+                return f"{words[0]}: {code} was to come, and {answer.err[:100]!r} came"
+        elif (answer.status, answer.out, answer.err) != (run.status, text, b""):
+            return f"{words}: status {answer.status}, {answer.err[:200]!r}, or other text"
+    return None
+
+
+def generated(trials, cases, seed):
+    def all_cases():
+        for at in range(cases):
+            why = compare(trials.program, random.Random(f"{seed} {at}"))
+            if why:
+                return f"case {at} of seed {seed}: {why}"
+        return cases
+
+    trials.trial("generated schemas and feeds, against a slow program of its own", all_cases)
+
+
+def main():
+    asks = argparse.ArgumentParser(description=__doc__, formatter_class=argparse.RawDescriptionHelpFormatter)
+    asks.add_argument("--program", default=os.path.join(HERE, "..", "crates", "datacube", "out", "datacube"))
+    asks.add_argument("--only", default="", help="only the trials whose name has this word")
+    asks.add_argument("--cases", type=int, default=1000, help="how many generated cases")
+    asks.add_argument("--seed", type=int, default=1)
+    given = asks.parse_args()
+    resource.setrlimit(resource.RLIMIT_CORE, (0, 0))
+    with tempfile.TemporaryDirectory(prefix="hostile-") as folder:
+        shim = os.path.join(folder, "refuse.so")
+        subprocess.run(["cc", "-O2", "-shared", "-fPIC", "-o", shim, os.path.join(HERE, "refuse.c"), "-ldl"], check=True)
+        trials = Trials(Program(os.path.abspath(given.program), shim, folder), given.only)
+        refusals_in_turn(trials)
+        ends_of_output(trials)
+        cut_feeds(trials)
+        big_inputs(trials)
+        generated(trials, given.cases, given.seed)
+    print(f"{trials.passed} passed, {trials.failed} failed")
+    return 1 if trials.failed else 0
+
+
+if __name__ == "__main__":
+    sys.exit(main())
