@@ -22,7 +22,7 @@ use Rattle.cube_core.specs.declared.fact.Fact.{Fact}
 use Rattle.cube_core.specs.declared.key.Key.{Key}
 use Rattle.cube_core.specs.declared.key.Row.{Row}
 use Rattle.cube_core.proofs.ListLaws.{AllByRecursion-Contains, Contains-AllByRecursion, Contains-head, Contains-tail}
-use Rattle.cube_core.proofs.PlainOrderLaws.{exact_keys, key_cmp_total}
+use Rattle.cube_core.proofs.KeyOrderLaws.{exact_keys, key_cmp_total}
 use Rattle.cube_cells.proofs.RankLaws.{below_from}
 use Rattle.cube_threads.proofs.WireLaws.{at_or_below}
 

@@ -1,5 +1,5 @@
 use Rattle.std.proofs.Common.{rules}
-use Rattle.cube_core.proofs.PlainOrderLaws.{key_cmp_total}
+use Rattle.cube_core.proofs.KeyOrderLaws.{key_cmp_total}
 use Rattle.cube_cells.proofs.RankLaws.{sorted_by}
 use Rattle.cube_threads.proofs.joining.in_key_order.Goals as goal
 
