@@ -6,3 +6,4 @@ pub mod RunLaws
 mod CommandLaws
 mod CommandLineLaws
 pub mod QueryWordLaws
+mod AnsweringLaws

@@ -4,3 +4,4 @@ pub mod Run
 pub mod CommandLine
 pub mod Command
 pub mod Explain
+pub mod Answering

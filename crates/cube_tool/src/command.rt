@@ -6,6 +6,7 @@
 mod command_line;
 mod explanation;
 mod failure;
+mod feeds;
 mod notes;
 mod query;
 mod request;
@@ -16,6 +17,7 @@ mod words;
 
 pub use explanation::explain;
 pub use failure::Failure;
+pub use feeds::{drill, print, refusals, slice};
 pub use notes::{NOTES, Note};
 pub use query::{read_cell, read_dimension, read_pattern};
 pub use request::{Request, RunWords};

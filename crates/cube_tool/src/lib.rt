@@ -5,10 +5,10 @@ pub mod command;
 mod lines;
 mod print;
 mod refusals;
-mod run;
+mod runs;
 mod write;
 
 pub use print::print_rows;
 pub use refusals::print_refusals;
-pub use run::{run, run_plain};
+pub use runs::{run, run_plain};
 pub use write::{WriteFault, write_whole};

@@ -5,7 +5,7 @@ ghost use Rattle.cube_tool.specs.Command.{EndsRun, FailureLeaves, all_refusals, 
 
 use crate::command::failure::Failure;
 use crate::command::status::Status;
-use crate::run::run_plain;
+use crate::runs::run_plain;
 use cube_core::{Schema, SchemaFault};
 use cube_engine::{Builder, RunFault};
 use std::alloc::Global;
@@ -39,7 +39,7 @@ pub fn run_sample<R: Read + Drop, W: Write>(
 }
 
 /// The status of a run that was written whole.
-fn status_after(builder: &Builder) -> Status
+pub(crate) fn status_after(builder: &Builder) -> Status
     ensures { result ≡ status_after (all_refusals builder.now.ledger.accounts) }
 {
     for place in 0..builder.sources() {

@@ -7,7 +7,7 @@ use Rattle.cube_core.specs.Takes.{fits}
 use Rattle.cube_engine.specs.Ledger.{AllFit}
 use Rattle.cube_threads.specs.Parts.{facts_of_run}
 use Rattle.cube_tool.proofs.RowShapeLaws.{rows_have_shape}
-use Rattle.cube_tool.proofs.run.print_built.Goals as goal
+use Rattle.cube_tool.proofs.runs.print_built.Goals as goal
 
 pub print_rows-requires : goal.print_rows-requires
 print_rows-requires c =

@@ -4,7 +4,7 @@ use Rattle.cube_core.specs.Printed.{IsPrinted}
 use Rattle.cube_threads.specs.Parts.{StandsInParts, facts_of_run}
 use Rattle.cube_tool.specs.Run.{Runs}
 use Rattle.cube_tool.proofs.RunLaws.{ledger-BuildsParts, Runs-BuildsParts, RunsPart-BuildsParts}
-use Rattle.cube_tool.proofs.run.run.Goals as goal
+use Rattle.cube_tool.proofs.runs.run.Goals as goal
 
 pub print_built-requires : goal.print_built-requires
 print_built-requires g c =

@@ -2,7 +2,7 @@ use Rattle.std.proofs.Common.{List, ℕ, map, subst, sym}
 use Rattle.cube_core.specs.Printed.{IsPrinted}
 use Rattle.cube_engine.specs.Ledger.{all_facts}
 use Rattle.cube_tool.proofs.RunLaws.{Runs-BuildsWhole, RunsPart-BuildsWhole}
-use Rattle.cube_tool.proofs.run.run_plain.Goals as goal
+use Rattle.cube_tool.proofs.runs.run_plain.Goals as goal
 
 pub returns-in-Ok-write_whole-clause-ok : goal.returns-in-Ok-write_whole-clause-ok
 returns-in-Ok-write_whole-clause-ok g c =
