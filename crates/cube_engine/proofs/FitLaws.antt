@@ -74,7 +74,7 @@ fits_part-parts s part fit =
     (eqb-true (length part.dims) (length s.dimensions) three.0, eqb-true (length part.measures) (length s.measures) three.1, three.2)
 
 -- an amendment of a fact fits where both do
-fits-over : (s : Layout) (part : Partial) (fact : Fact) → fits_part s part ≡ true → fits s fact ≡ true → fits s (over part fact) ≡ true
+pub fits-over : (s : Layout) (part : Partial) (fact : Fact) → fits_part s part ≡ true → fits s fact ≡ true → fits s (over part fact) ≡ true
 fits-over s part fact part_fits fact_fits =
     let p = fits_part-parts s part part_fits in
     let f = fits-parts s fact fact_fits in
@@ -88,7 +88,7 @@ fact_at-fits : (s : Layout) (book : Entries) (id : List ℕ) → AllFit s (facts
 fact_at-fits s book id all = IfSome-lookup_from_All (λ (fact : Fact). fits s fact ≡ true) (bytes_eq id) book all
 
 -- an amendment that a schema takes fits
-amend-fits : (s : Layout) (id : List ℕ) (part : Partial) → takes s (Amend id part) ≡ true → fits_part s part ≡ true
+pub amend-fits : (s : Layout) (id : List ℕ) (part : Partial) → takes s (Amend id part) ≡ true → fits_part s part ≡ true
 amend-fits s id part taken = (and-three (may_amend s) (is_id id) (fits_part s part) taken).2
 
 -- an amendment that a schema takes has as many fields as each fact of a book whose facts fit

@@ -3,6 +3,7 @@ pub mod FitLaws
 pub mod LedgerLaws
 pub mod StandLaws
 pub mod SurvivorLaws
+pub mod SurvivorFitLaws
 pub mod FeedLaws
 pub mod BuildLaws
 pub mod RulingLaws

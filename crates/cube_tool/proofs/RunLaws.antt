@@ -13,8 +13,9 @@ use Rattle.cube_core.specs.declared.key.Row.{Row}
 use Rattle.cube_cells.specs.Cube.{Lattice}
 use Rattle.cube_engine.specs.Build.{BuildsWhole}
 use Rattle.cube_engine.specs.Builder.{BuilderView, StandsAt}
-use Rattle.cube_engine.specs.Ledger.{LedgerView, LedgerStandsAt, all_facts}
+use Rattle.cube_engine.specs.Ledger.{AllFit, LedgerView, LedgerStandsAt, all_facts}
 use Rattle.cube_engine.proofs.SurvivorLaws.{SurviveTogether-stands}
+use Rattle.cube_engine.proofs.SurvivorFitLaws.{AllFit-survivors}
 use Rattle.cube_link.specs.Link.{Receiving}
 use Rattle.cube_threads.specs.Parts.{BuiltView, BuildsParts, PartStandsAt, StandsInParts, first_ledger, schema_of_run, facts_of_run}
 use Rattle.cube_threads.specs.declared.parcel.Parcel.{Parcel}
@@ -27,15 +28,20 @@ AreRows-AreRowsOver s cube facts rows schema sets are =
     subst (λ (l : Layout). AreRowsOver s.grouping_sets (length l.dimensions) l.aggregates facts rows) schema
     (subst (λ (kept : List ℕ). AreRowsOver kept (length cube.schema.dimensions) cube.schema.aggregates facts rows) sets are)
 
--- the printed cube of the facts of a ledger that stands at an arrival list is printed at that list
+-- the facts of a ledger that stands at an arrival list survive in what the list has of its sources
+survive : (s : Layout) (sources : ℕ) (ledger : LedgerView) (arrivals : Arrivals) → ledger.schema ≡ s → length ledger.accounts ≡ sources
+    → LedgerStandsAt ledger arrivals → SurviveTogether s (of_sources sources arrivals) (all_facts ledger.accounts)
+survive s sources ledger arrivals schema all stands =
+    subst (λ (l : Layout). SurviveTogether l (of_sources sources arrivals) (all_facts ledger.accounts)) schema
+    (subst (λ (n : ℕ). SurviveTogether ledger.schema (of_sources n arrivals) (all_facts ledger.accounts)) all
+    (SurviveTogether-stands ledger arrivals stands))
+
+-- their printed cube is printed at that list
 printed_at : (s : Layout) (sources : ℕ) (ledger : LedgerView) (arrivals : Arrivals) (text : List ℕ) → ledger.schema ≡ s → length ledger.accounts ≡ sources
     → LedgerStandsAt ledger arrivals → IsPrinted s (all_facts ledger.accounts) text → IsPrintedAt s sources arrivals text
 printed_at s sources ledger arrivals text schema all stands printed = record {
   facts = all_facts ledger.accounts;
-  survive =
-      subst (λ (l : Layout). SurviveTogether l (of_sources sources arrivals) (all_facts ledger.accounts)) schema
-      (subst (λ (n : ℕ). SurviveTogether ledger.schema (of_sources n arrivals) (all_facts ledger.accounts)) all
-      (SurviveTogether-stands ledger arrivals stands));
+  survive = survive s sources ledger arrivals schema all stands;
   printed = printed;
 }
 
@@ -77,10 +83,20 @@ first-stands s sources parts arrivals [] inlets some stands = absurd (omega arit
 first-stands s sources parts arrivals (builder ∷ builders) inlets some stands =
     ((stands builder).schema, (stands builder).all, (stands builder).stands.ledger)
 
-pub ledger-BuildsParts : (s : Layout) (sources : Told) (parts : ℕ) (built : BuiltView) → 1 ≤ parts → (builds : BuildsParts s sources parts built)
+ledger-BuildsParts : (s : Layout) (sources : Told) (parts : ℕ) (built : BuiltView) → 1 ≤ parts → (builds : BuildsParts s sources parts built)
     → (schema_of_run built ≡ s) × (length (first_ledger built.builders).accounts ≡ length sources) × LedgerStandsAt (first_ledger built.builders) builds.arrivals
 ledger-BuildsParts s sources parts built some builds =
     first-stands s (length sources) parts builds.arrivals built.builders built.inlets (rw builds.stands.builders some) (λ d. builds.stands.each 0 d some)
+
+pub schema-BuildsParts : (s : Layout) (sources : Told) (parts : ℕ) (built : BuiltView) → 1 ≤ parts → BuildsParts s sources parts built → schema_of_run built ≡ s
+schema-BuildsParts s sources parts built some builds = (ledger-BuildsParts s sources parts built some builds).0
+
+-- the facts of a run's builders fit
+pub AllFit-BuildsParts : (s : Layout) (sources : Told) (parts : ℕ) (built : BuiltView) → 1 ≤ parts → BuildsParts s sources parts built → AllFit s (facts_of_run built)
+AllFit-BuildsParts s sources parts built some builds =
+    let first = ledger-BuildsParts s sources parts built some builds in
+    AllFit-survivors s (of_sources (length sources) builds.arrivals) (facts_of_run built)
+    (survive s (length sources) (first_ledger built.builders) builds.arrivals first.0 first.1 first.2)
 
 -- the printed cube of the facts of a run's builders is printed at the arrival list at which they stand
 printed_in_parts : (s : Layout) (sources : Told) (parts : ℕ) (built : BuiltView) (text : List ℕ) → 1 ≤ parts → (builds : BuildsParts s sources parts built)

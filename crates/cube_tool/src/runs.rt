@@ -3,7 +3,7 @@ ghost use Rattle.std.specs.Prelude.{◌≡◌, ◌≤◌, length, map, vec_len, 
 ghost use Rattle.cube_core.specs.Printed.{IsPrinted};
 ghost use Rattle.cube_engine.specs.Build.{ExplainsBuild};
 ghost use Rattle.cube_engine.specs.Builder.{StandsAt};
-ghost use Rattle.cube_engine.specs.Ledger.{all_facts};
+ghost use Rattle.cube_engine.specs.Ledger.{AllFit, all_facts};
 ghost use Rattle.cube_threads.specs.Building.{ExplainsRun};
 ghost use Rattle.cube_threads.specs.Parts.{StandsInParts, schema_of_run, facts_of_run};
 ghost use Rattle.cube_tool.specs.Run.{FaultLeaves, Runs};
@@ -55,7 +55,8 @@ pub fn run<T: Threads + Wait + Sync, R: Read + Drop + Send, G: Gate + Sync, W: W
 
 // The text of the rows of all builders of a run.
 fn print_built(alloc: Global, schema: &Schema, built: &Built) -> Result<Vec<u8>, AllocError>
-    requires { schema_of_run built.now ≡ schema.now }
+    requires schema { schema_of_run built.now ≡ schema.now }
+    requires fit { AllFit schema.now (facts_of_run built.now) }
     ensures { IfOk result (λ text. IsPrinted schema.now (facts_of_run built.now) text.items) }
 {
     let rows = built.rows()?;
