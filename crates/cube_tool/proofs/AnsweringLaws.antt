@@ -1,18 +1,22 @@
 -- From builders that have taken good feeds to what a command over feeds promises.
 use Rattle.std.proofs.Common.{◌≡◌, ◌≤◌, ◌<◌, ◌∙◌, true, ℕ, List, [], ◌∷◌, ◌++◌, length, map, take, get_or, refl, sym, ap, ap₂, subst, arith}
-use Rattle.std.specs.Prelude.{Option, Result, Ok, Err, IfOk, IfErr}
+use Rattle.std.specs.Prelude.{Option, Some, None, Result, Ok, Err, IfOk, IfErr}
 use Rattle.std.specs.Io.KnownBytes.{Appends}
 use Rattle.std.specs.List.{AllZip, flat_map, list_all}
 use Rattle.std.proofs.lemmas.List.Sums.{list_all-from_AllPass}
 use Rattle.std.proofs.lemmas.Result.{IfOk-weaker, IfErr-weaker}
 use Rattle.cube_core.specs.Arrival.{of_sources}
 use Rattle.cube_core.specs.Layout.{Layout}
+use Rattle.cube_core.specs.Query.{drill_fault, drills_down}
 use Rattle.cube_core.specs.Refusals.{refusals_of}
-use Rattle.cube_core.specs.Run.{Told}
+use Rattle.cube_core.specs.Run.{Told, AreGood}
 use Rattle.cube_core.specs.Sources.{SurviveTogether}
 use Rattle.cube_core.specs.Takes.{fits}
 use Rattle.cube_core.specs.declared.change.Item.{Item}
 use Rattle.cube_core.specs.declared.change.Refusal.{Refusal}
+use Rattle.cube_core.specs.declared.key.Key.{Key}
+use Rattle.cube_core.specs.declared.query.QueryFault.{QueryFault}
+use Rattle.cube_cells.specs.Rows.{GivesUnless}
 use Rattle.cube_engine.specs.Builder.{BuilderView}
 use Rattle.cube_engine.specs.Ledger.{AccountView, AccountStandsAt, LedgerView, LedgerStandsAt, AllFit}
 use Rattle.cube_engine.proofs.SurvivorLaws.{SurviveTogether-stands}
@@ -21,7 +25,7 @@ use Rattle.cube_engine.specs.declared.fault.RunFault.TheVariants as run_fault
 use Rattle.cube_threads.specs.Building.{ExplainsRun}
 use Rattle.cube_threads.specs.Parts.{BuiltView, BuildsParts, StandsInParts, first_ledger, schema_of_run, facts_of_run}
 use Rattle.cube_threads.proofs.PartLaws.{first-is}
-use Rattle.cube_tool.specs.Answering.{AreFeeds, EndsWith, EndsAmid, Leaves, ShowsCube, WritesPart}
+use Rattle.cube_tool.specs.Answering.{AreFeeds, DrillLeaves, EndsWith, EndsAmid, FailsToDrill, Leaves, ShowsCube, ShowsRows, WritesPart}
 use Rattle.cube_tool.specs.Command.{all_refusals, status_after}
 use Rattle.cube_tool.specs.Run.{Runs, FaultLeaves}
 use Rattle.cube_tool.specs.declared.command.status.Status.{Status}
@@ -30,8 +34,7 @@ use Rattle.cube_tool.specs.declared.command.failure.Failure.TheVariants as failu
 use Rattle.cube_tool.proofs.RunLaws.{ledger-BuildsParts}
 
 -- what is known of builders that have taken the feeds of these sources, by the items of the feeds
-pub record HasTaken (s : Layout) (sources : Told) (built : BuiltView) : Type 0 where
-  pub feeds : List (List Item)
+pub record HasTaken (s : Layout) (sources : Told) (feeds : List (List Item)) (built : BuiltView) : Type 0 where
   pub are_feeds : AreFeeds s sources feeds
   pub schema : schema_of_run built ≡ s
   pub survive : SurviveTogether s feeds (facts_of_run built)
@@ -54,7 +57,8 @@ all-refused s [] (account ∷ accounts) stand = absurd stand
 all-refused s (items ∷ feeds) [] stand = absurd stand
 all-refused s (items ∷ feeds) (account ∷ accounts) stand = ap₂ (λ r rs. r ++ rs) stand.0.refused (all-refused s feeds accounts stand.1)
 
-pub has_taken : (s : Layout) (sources : Told) (parts : ℕ) (built : BuiltView) → 1 ≤ parts → BuildsParts s sources parts built → HasTaken s sources built
+pub has_taken : (s : Layout) (sources : Told) (parts : ℕ) (built : BuiltView) → 1 ≤ parts → (builds : BuildsParts s sources parts built)
+    → HasTaken s sources (of_sources (length sources) builds.arrivals) built
 has_taken s sources parts built some builds =
     let first = ledger-BuildsParts s sources parts built some builds in
     let ledger = first_ledger built.builders in
@@ -63,7 +67,6 @@ has_taken s sources parts built some builds =
     subst (λ (l : Layout). AllZip (AccountStandsAt l) feeds ledger.accounts) first.0
     (subst (λ (n : ℕ). AllZip (AccountStandsAt ledger.schema) (of_sources n builds.arrivals) ledger.accounts) first.1 first.2) in
     record {
-      feeds = feeds;
       are_feeds = record { good = builds.good; items = builds.taken };
       schema = first.0;
       survive =
@@ -82,19 +85,19 @@ first-builder s sources parts built builder some builds is =
     first-is built.builders builder counted ∙ sym (ap (λ (b : BuilderView). b.ledger) is)
 
 -- the status by the refusals of builder 0 is that of the feeds
-pub status-of : (s : Layout) (sources : Told) (built : BuiltView) (builder : BuilderView) (status : Status) → (taken : HasTaken s sources built)
+pub status-of : (s : Layout) (sources : Told) (feeds : List (List Item)) (built : BuiltView) (builder : BuilderView) (status : Status) → HasTaken s sources feeds built
     → first_ledger built.builders ≡ builder.ledger → status ≡ status_after (all_refusals builder.ledger.accounts)
-    → status ≡ status_after (flat_map (refusals_of s) taken.feeds)
-status-of s sources built builder status taken first is =
+    → status ≡ status_after (flat_map (refusals_of s) feeds)
+status-of s sources feeds built builder status taken first is =
     is ∙ ap (λ (l : LedgerView). status_after (all_refusals l.accounts)) (sym first) ∙ ap status_after taken.all_refused
 
 -- a text that was written whole, with the status of its feeds
-pub ends-with : (Shows : Layout → List (List Item) → List ℕ → Type 0) (s : Layout) (sources : Told) (built : BuiltView) (text : List ℕ) (status : Status) (result : Result Status Failure) (old new : Option (List ℕ))
-    → (taken : HasTaken s sources built) → Shows s taken.feeds text → status ≡ status_after (flat_map (refusals_of s) taken.feeds)
+pub ends-with : (Shows : Layout → List (List Item) → List ℕ → Type 0) (s : Layout) (sources : Told) (feeds : List (List Item)) (text : List ℕ) (status : Status) (result : Result Status Failure) (old new : Option (List ℕ))
+    → AreFeeds s sources feeds → Shows s feeds text → status ≡ status_after (flat_map (refusals_of s) feeds)
     → IfOk result (λ ended. (ended ≡ status) × Appends old new text) → IfOk result (λ ended. EndsWith Shows s sources ended old new)
-ends-with Shows s sources built text status result old new taken shows is written =
+ends-with Shows s sources feeds text status result old new are shows is written =
     IfOk-weaker result _ _
-    (λ ended done. record { feeds = taken.feeds; are_feeds = taken.are_feeds; text = text; shows = shows; written = done.1; status_is = done.0 ∙ is })
+    (λ ended done. record { feeds = feeds; are_feeds = are; text = text; shows = shows; written = done.1; status_is = done.0 ∙ is })
     written
 
 -- a text of which a part was written
@@ -113,6 +116,40 @@ leaves-part Shows s sources feeds text old new are shows failure.TooManyFeeds pa
 leaves-part Shows s sources feeds text old new are shows (failure.FeedUnreadable source) part = absurd part
 leaves-part Shows s sources feeds text old new are shows (failure.Query fault) part = absurd part
 leaves-part Shows s sources feeds text old new are shows failure.UnknownCode part = absurd part
+
+-- the same of a drill-down
+pub drill-part : (dimension : ℕ) (key : Key) (s : Layout) (sources : Told) (feeds : List (List Item)) (text : List ℕ) (old new : Option (List ℕ))
+    → AreFeeds s sources feeds → ShowsRows (drills_down dimension key) s feeds text → (fault : Failure) → WritesPart text fault old new
+    → DrillLeaves dimension key s sources fault old new
+drill-part dimension key s sources feeds text old new are shows (failure.Run fault) part =
+    leaves-part (ShowsRows (drills_down dimension key)) s sources feeds text old new are shows (failure.Run fault) part
+drill-part dimension key s sources feeds text old new are shows failure.Unreadable part = absurd part
+drill-part dimension key s sources feeds text old new are shows (failure.Schema fault) part = absurd part
+drill-part dimension key s sources feeds text old new are shows failure.TooManyFeeds part = absurd part
+drill-part dimension key s sources feeds text old new are shows (failure.FeedUnreadable source) part = absurd part
+drill-part dimension key s sources feeds text old new are shows (failure.Query fault) part = absurd part
+drill-part dimension key s sources feeds text old new are shows failure.UnknownCode part = absurd part
+
+-- a drill-down that gives no text leaves what was written
+pub drill-fails : (dimension : ℕ) (key : Key) (s : Layout) (sources : Told) (old : Option (List ℕ)) → AreGood s sources
+    → (fault : Failure) → FailsToDrill (drill_fault s.grouping_sets dimension key) fault → DrillLeaves dimension key s sources fault old old
+drill-fails dimension key s sources old good (failure.Query fault) fails = (refl, good, fails)
+drill-fails dimension key s sources old good (failure.Run run_fault.Full) fails = (refl, good)
+drill-fails dimension key s sources old good (failure.Run run_fault.Memory) fails = absurd fails
+drill-fails dimension key s sources old good (failure.Run run_fault.NoThread) fails = absurd fails
+drill-fails dimension key s sources old good (failure.Run (run_fault.Feed source fault)) fails = absurd fails
+drill-fails dimension key s sources old good (failure.Run (run_fault.Unsealed source)) fails = absurd fails
+drill-fails dimension key s sources old good (failure.Run (run_fault.Write sent)) fails = absurd fails
+drill-fails dimension key s sources old good failure.Unreadable fails = absurd fails
+drill-fails dimension key s sources old good (failure.Schema fault) fails = absurd fails
+drill-fails dimension key s sources old good failure.TooManyFeeds fails = absurd fails
+drill-fails dimension key s sources old good (failure.FeedUnreadable source) fails = absurd fails
+drill-fails dimension key s sources old good failure.UnknownCode fails = absurd fails
+
+-- rows that are given hold
+pub given : {T : Type 0} (said : Option QueryFault) (Holds : T → Type 0) (value : T) → GivesUnless said Holds (Ok value) → Holds value
+given None Holds value holds = holds
+given (Some fault) Holds value refused = let bad : Ok value ≡ Err fault = refused in cc
 
 -- a fault of the build leaves what was written
 pub leaves-built : (Shows : Layout → List (List Item) → List ℕ → Type 0) (s : Layout) (sources : Told) (fault : RunFault) (old : Option (List ℕ))
@@ -137,7 +174,7 @@ ends-with_run s sources parts built builder status old new some runs first is =
       text = runs.text;
       shows = record { facts = runs.printed.facts; survive = runs.printed.survive; printed = runs.printed.printed };
       written = runs.written;
-      status_is = status-of s sources built builder status taken (first-builder s sources parts built builder some builds first) is;
+      status_is = status-of s sources (of_sources (length sources) runs.arrivals) built builder status taken (first-builder s sources parts built builder some builds first) is;
     }
 
 -- what a fault of a run leaves

@@ -1,14 +1,15 @@
 //! The program `datacube`: it reads the words, opens what they name, and ends with the status of the one call of
 //! `cube_tool` that does the work.
 #![tactic(auto)]
+
 ghost use Rattle.std.specs.Prelude.{◌≡◌, ◌≤◌, length, vec_len, IfOk};
 ghost use Rattle.cube_tool.specs.CommandLine.{HasRoom, IsInBounds};
 
 use cube_core::Schema;
 use cube_engine::RunFault;
 use cube_tool::command::{
-    Failure, NOTES, Request, RunWords, Status, answer_words, check, drill, explain, print, read_cell,
-    read_dimension, read_pattern, read_schema, read_words, refusals, run_sample, slice,
+    Failure, NOTES, Request, RunWords, Status, answer_words, check, drill, explain, print,
+    read_cell, read_dimension, read_pattern, read_schema, read_words, refusals, run_sample, slice,
     unreadable_words,
 };
 use std::fs::File;
@@ -94,7 +95,16 @@ fn obey_slice(rt: &HostRuntime, words: RunWords, cell: &str) -> Result<Status, F
     let pattern = read_pattern(alloc, &schema, cell)?;
     let feeds = open_feeds(rt, &words.feeds)?;
     let out = &mut rt.stdout();
-    slice(rt, alloc, &schema, &pattern, feeds, words.ring, words.builders, out)
+    slice(
+        rt,
+        alloc,
+        &schema,
+        &pattern,
+        feeds,
+        words.ring,
+        words.builders,
+        out,
+    )
 }
 
 fn obey_drill(
@@ -111,7 +121,17 @@ fn obey_drill(
     let dim = read_dimension(&schema, dimension)?;
     let feeds = open_feeds(rt, &words.feeds)?;
     let out = &mut rt.stdout();
-    drill(rt, alloc, &schema, &key, dim, feeds, words.ring, words.builders, out)
+    drill(
+        rt,
+        alloc,
+        &schema,
+        &key,
+        dim,
+        feeds,
+        words.ring,
+        words.builders,
+        out,
+    )
 }
 
 /// The schema of a command with feeds, once it is seen that there are at most 64 feeds.

@@ -1,9 +1,8 @@
 //! The commands over feeds: the printed cube, its slices and drill-downs, and the refusals.
-ghost use Rattle.std.specs.Prelude.{◌≡◌, ◌≤◌, ◌<◌, length, map, vec_len, true, IfOk, IfErr};
+ghost use Rattle.std.specs.Prelude.{◌≡◌, ◌≤◌, ◌<◌, length, map, vec_len, IfOk, IfErr};
 ghost use Rattle.std.specs.Io.KnownBytes.{Appends};
-ghost use Rattle.std.specs.List.{list_all};
 ghost use Rattle.cube_core.specs.Query.{drill_fault, drills_down, matches};
-ghost use Rattle.cube_core.specs.Takes.{fits};
+ghost use Rattle.cube_engine.specs.Ledger.{AllFit};
 ghost use Rattle.cube_threads.specs.Parts.{facts_of_run, schema_of_run};
 ghost use Rattle.cube_tool.specs.Answering.{DrillLeaves, EndsWith, FailsToDrill, IsTextWhere, Leaves, ShowsCube, ShowsRefusals, ShowsRows, WritesPart};
 
@@ -44,7 +43,9 @@ pub fn print<T: Threads + Wait + Sync, R: Read + Drop + Send, W: Write>(
     ensures err { IfErr result (λ failure. Leaves ShowsCube schema.now
         (map R.Read.remaining readers.items) failure (W.contents out.old) (W.contents out.new)) }
 {
-    match run(rt, alloc, schema, readers, capacity, builders, &OpenGate, out) {
+    match run(
+        rt, alloc, schema, readers, capacity, builders, &OpenGate, out,
+    ) {
         Ok(built) => Ok(status_after(built.builder())),
         Err(fault) => Err(Failure::Run(fault)),
     }
@@ -153,7 +154,7 @@ fn slice_text(
     pattern: &Pattern,
 ) -> Result<Vec<u8>, AllocError>
     requires schema { schema_of_run built.now ≡ schema.now }
-    requires fit { list_all (fits schema.now) (facts_of_run built.now) ≡ true }
+    requires fit { AllFit schema.now (facts_of_run built.now) }
     ensures { IfOk result (λ text. IsTextWhere (matches pattern.now) schema.now
         (facts_of_run built.now) text.items) }
 {
@@ -170,7 +171,7 @@ fn drill_text(
     dim: usize,
 ) -> Result<Vec<u8>, Failure>
     requires schema { schema_of_run built.now ≡ schema.now }
-    requires fit { list_all (fits schema.now) (facts_of_run built.now) ≡ true }
+    requires fit { AllFit schema.now (facts_of_run built.now) }
     requires dim { dim < length schema.now.dimensions }
     requires width { length key.now.coords ≡ length schema.now.dimensions }
     ensures ok { IfOk result (λ text. IsTextWhere (drills_down dim key.now) schema.now
