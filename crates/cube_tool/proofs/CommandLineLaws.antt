@@ -1,37 +1,32 @@
 -- What clap makes of the program's command line.
 use Rattle.std.proofs.Common.{◌≡◌, ◌≤◌, ◌∙◌, List, [], ◌∷◌, false, true, length, refl, sym, ap, ap₂, subst, arith}
-use Rattle.std.specs.Prelude.{Option, Some, None, Result, Ok, IfSome, MatchResult, codes}
+use Rattle.std.specs.Prelude.{Option, Some, None, Result, Ok, IfSome, MatchResult, codes, slice_index}
 use Rattle.std.specs.Prelude.{Box, option_map, unwrap_or}
 use Rattle.std.specs.Box.{box_value}
 use Rattle.std.specs.declared.alloc.Global.{Global}
-use Rattle.clap.specs.Words.{HasMatchesOf, Text, first_of, first_value, found_of, is_simple, rows_of, subcommand_name_of, subcommand_of, subcommand_rows, subcommand_rows_of, takes}
+use Rattle.clap.specs.Words.{HasMatchesOf, Row, Text, first_of, found_of, is_simple, rows_of, subcommand_name_of, subcommand_of, subcommand_rows, subcommand_rows_of, takes}
 use Rattle.clap.specs.declared.Error.{Error}
 use Rattle.clap.specs.declared.parser.matches.ArgMatches.{ArgMatches}
 use Rattle.clap.specs.declared.parser.matches.ArgMatches.TheViews.{out-ArgMatches, out-SubCommand}
 use Rattle.clap.specs.declared.parser.matches.SubCommand.{SubCommand}
-use Rattle.clap.proofs.WalkLemmas.{first_value-rows}
 use Rattle.clap.proofs.OnLiterals.{clap_on_literals}
-use Rattle.cube_tool.specs.CommandLine.{AsksToCheck, IsRequest, begins_as_flag, command_line, found_command}
-use Rattle.cube_tool.specs.declared.command.words.Request.{Request}
-use Rattle.cube_tool.specs.declared.command.words.Request.TheVariants.{Sample, Check}
+use Rattle.cube_tool.specs.CommandLine.{AsksToCheck, AsksToExplain, IsInBounds, IsRequest, begins_as_flag, command_line}
+use Rattle.cube_tool.specs.declared.command.request.Request.{Request}
+use Rattle.cube_tool.specs.declared.command.request.Request.TheVariants.{Sample, Check, Explain, Print, Refusals, Slice, Drill}
 
--- the command that clap found, by its name and the value of its word
-pub command_found : (m words : ArgMatches) (name : Text) (schema : Option Text) → Some name ≡ subcommand_name_of m
+-- the command that clap found, by its name and its words
+pub command_found : (m words : ArgMatches) (name : Text) → Some name ≡ subcommand_name_of m
     → Some (rows_of (found_of words)) ≡ option_map (λ found. found.1) (subcommand_rows_of m)
-    → schema ≡ first_value (found_of words) (codes "SCHEMA")
-    → found_command (subcommand_rows_of m) ≡ Some (name, schema)
-command_found m words name schema named rowed valued = go (out-ArgMatches m).subcommand named rowed
+    → subcommand_rows_of m ≡ Some (name, rows_of (found_of words))
+command_found m words name named rowed = go (out-ArgMatches m).subcommand named rowed
   where
-    value : schema ≡ first_of (codes "SCHEMA") (rows_of (found_of words))
-    value = valued ∙ first_value-rows (found_of words) (codes "SCHEMA")
-
     go : (sub : Option (Box SubCommand Global)) → Some name ≡ option_map (λ b. (out-SubCommand (box_value b)).name.now) sub
         → Some (rows_of (found_of words)) ≡ option_map (λ found. found.1) (subcommand_rows sub)
-        → found_command (subcommand_rows sub) ≡ Some (name, schema)
+        → subcommand_rows sub ≡ Some (name, rows_of (found_of words))
     go None named rowed = cc
-    go (Some b) named rowed = ap₂ (λ found_name found_value. Some (found_name, found_value))
+    go (Some b) named rowed = ap₂ (λ found_name found_rows. Some (found_name, found_rows))
         (sym (ap (λ found. unwrap_or found name) named))
-        (sym (value ∙ ap (λ found. first_of (codes "SCHEMA") (unwrap_or found (rows_of (found_of words)))) rowed))
+        (sym (ap (λ found. unwrap_or found (rows_of (found_of words))) rowed))
 
 line_is_simple : is_simple command_line ≡ true
 unfolding clap_on_literals
@@ -45,11 +40,15 @@ no_words_are_taken (name ∷ []) few = refl
 no_words_are_taken (name ∷ word ∷ words) few = absurd (omega arith)
 
 -- and then it finds no command
-no_command_found : (words : List Text) → length words ≤ 1 → found_command (subcommand_of command_line words) ≡ None
+no_command_found : (words : List Text) → length words ≤ 1 → subcommand_of command_line words ≡ None
 unfolding clap_on_literals
 no_command_found [] few = refl
 no_command_found (name ∷ []) few = refl
 no_command_found (name ∷ word ∷ words) few = absurd (omega arith)
+
+-- a found command with the first of its words of this name
+abbrev pub with_word_of : Text → Option (Text × List Row) → Option (Text × Option Text)
+with_word_of word = option_map (λ found. (found.0, first_of word found.1))
 
 -- clap takes `check` and one word that isn't a flag
 pub check_is_taken : (name path : Text) → begins_as_flag path ≡ false → takes command_line (name ∷ codes "check" ∷ path ∷ []) ≡ true
@@ -59,35 +58,143 @@ check_is_taken name (b ∷ rest) plain = simp plain refl
 
 -- and then it finds `check` with that word
 check_found : (name path : Text) → begins_as_flag path ≡ false
-    → found_command (subcommand_of command_line (name ∷ codes "check" ∷ path ∷ [])) ≡ Some (codes "check", Some path)
+    → with_word_of (codes "SCHEMA") (subcommand_of command_line (name ∷ codes "check" ∷ path ∷ [])) ≡ Some (codes "check", Some path)
 unfolding clap_on_literals
 check_found name [] plain = refl
 check_found name (b ∷ rest) plain = simp plain refl
 
+-- clap takes `explain` alone
+pub explain_is_taken : (name : Text) → takes command_line (name ∷ codes "explain" ∷ []) ≡ true
+unfolding clap_on_literals
+explain_is_taken name = refl
+
+-- and then it finds `explain` without a word
+explain_found : (name : Text) → with_word_of (codes "CODE") (subcommand_of command_line (name ∷ codes "explain" ∷ [])) ≡ Some (codes "explain", None)
+unfolding clap_on_literals
+explain_found name = refl
+
+-- clap takes `explain` and one word that isn't a flag
+pub explain_code_is_taken : (name code : Text) → begins_as_flag code ≡ false → takes command_line (name ∷ codes "explain" ∷ code ∷ []) ≡ true
+unfolding clap_on_literals
+explain_code_is_taken name [] plain = refl
+explain_code_is_taken name (b ∷ rest) plain = simp plain refl
+
+-- and then it finds `explain` with that word
+explain_code_found : (name code : Text) → begins_as_flag code ≡ false
+    → with_word_of (codes "CODE") (subcommand_of command_line (name ∷ codes "explain" ∷ code ∷ [])) ≡ Some (codes "explain", Some code)
+unfolding clap_on_literals
+explain_code_found name [] plain = refl
+explain_code_found name (b ∷ rest) plain = simp plain refl
+
 -- so no words ask for the sample run
 pub no_words_answer : (words : List Text) (m : ArgMatches) (request : Option Request) (result : Result Request Error)
-    → length words ≤ 1 → HasMatchesOf command_line words m → IsRequest (found_command (subcommand_rows_of m)) request
+    → length words ≤ 1 → HasMatchesOf command_line words m → IsRequest (subcommand_rows_of m) request
     → IfSome request (λ asked. result ≡ Ok asked) → result ≡ Ok Sample
 no_words_answer words m request result few matches is done =
-    let found : found_command (subcommand_rows_of m) ≡ None =
-    ap found_command (matches line_is_simple).1 ∙ no_command_found words few in
+    let found : subcommand_rows_of m ≡ None = (matches line_is_simple).1 ∙ no_command_found words few in
     let asked : request ≡ Some Sample = subst (λ found. IsRequest found request) found is in
     subst (λ request. IfSome request (λ asked. result ≡ Ok asked)) asked done
 
--- and `check` with a word asks to check that file
-pub check_answer : (Q : Error → Type 0) (name path : Text) (words : List Text) (m : ArgMatches) (request : Option Request) (result : Result Request Error)
-    → begins_as_flag path ≡ false → words ≡ name ∷ codes "check" ∷ path ∷ [] → HasMatchesOf command_line words m
-    → IsRequest (found_command (subcommand_rows_of m)) request → IfSome request (λ asked. result ≡ Ok asked)
+-- what clap found is what its definition finds
+pub found_as_defined : (words : List Text) (m : ArgMatches) (request : Request) → HasMatchesOf command_line words m
+    → IsRequest (subcommand_rows_of m) (Some request) → IsRequest (subcommand_of command_line words) (Some request)
+found_as_defined words m request matches is = subst (λ found. IsRequest found (Some request)) (matches line_is_simple).1 is
+
+-- a request that clap's words make has at least one feed, and its options are in their bounds
+pub request_bounds : (found : Option (Text × List Row)) (request : Request) → IsRequest found (Some request) → IsInBounds request
+request_bounds None Sample is = tt
+request_bounds None (Check schema) is = tt
+request_bounds None (Explain code) is = tt
+request_bounds None (Print run) is = let bad : Sample ≡ Print run = sym (ap (λ (o : Option Request). unwrap_or o Sample) is) in cc
+request_bounds None (Refusals run) is = let bad : Sample ≡ Refusals run = sym (ap (λ (o : Option Request). unwrap_or o Sample) is) in cc
+request_bounds None (Slice run cell) is = let bad : Sample ≡ Slice run cell = sym (ap (λ (o : Option Request). unwrap_or o Sample) is) in cc
+request_bounds None (Drill run cell dimension) is = let bad : Sample ≡ Drill run cell dimension = sym (ap (λ (o : Option Request). unwrap_or o Sample) is) in cc
+request_bounds (Some found) Sample is = tt
+request_bounds (Some found) (Check schema) is = tt
+request_bounds (Some found) (Explain code) is = tt
+request_bounds (Some found) (Print run) is = is.2
+request_bounds (Some found) (Refusals run) is = is.2
+request_bounds (Some found) (Slice run cell) is = is.0.2
+request_bounds (Some found) (Drill run cell dimension) is = is.0.2
+
+-- a name isn't that of two commands
+apart : {X : Type 0} (name a b : Text) → name ≡ a → name ≡ b → (slice_index a 0 ≡ slice_index b 0 → X) → X
+apart name a b is_a is_b differ = differ (ap (λ t. slice_index t 0) (sym is_a ∙ is_b))
+
+-- a request that `check` makes with a word asks to check that file
+asks_to_check : (Q : Error → Type 0) (found : Option (Text × List Row)) (path : Text) (request : Option Request) (result : Result Request Error)
+    → with_word_of (codes "SCHEMA") found ≡ Some (codes "check", Some path) → IsRequest found request → IfSome request (λ asked. result ≡ Ok asked)
     → MatchResult result (AsksToCheck path) Q
-check_answer Q name path words m request result plain are matches is done =
-    let found : found_command (subcommand_rows_of m) ≡ Some (codes "check", Some path) =
-    ap found_command (matches line_is_simple).1
-    ∙ ap (λ words. found_command (subcommand_of command_line words)) are ∙ check_found name path plain in
-    go request (subst (λ found. IsRequest found request) found is) done
+asks_to_check Q None path request result is_found is done = cc
+asks_to_check Q (Some found) path request result is_found is done = go request is done
   where
-    go : (request : Option Request) → IsRequest (Some (codes "check", Some path)) request
+    named : found.0 ≡ codes "check"
+    named = ap (λ (o : Option (Text × Option Text)). (unwrap_or o (found.0, first_of (codes "SCHEMA") found.1)).0) is_found
+
+    worded : first_of (codes "SCHEMA") found.1 ≡ Some path
+    worded = ap (λ (o : Option (Text × Option Text)). (unwrap_or o (found.0, first_of (codes "SCHEMA") found.1)).1) is_found
+
+    go : (request : Option Request) → IsRequest (Some found) request
         → IfSome request (λ asked. result ≡ Ok asked) → MatchResult result (AsksToCheck path) Q
-    go None is done = let bad : Some path ≡ None = is refl in cc
+    go None is done = let bad : Some path ≡ None = sym worded ∙ is.0 named in cc
     go (Some Sample) is done = absurd is
     go (Some (Check schema)) is done =
-        subst (λ answer. MatchResult answer (AsksToCheck path) Q) (sym done) (sym (ap (λ found. unwrap_or found path) is.1))
+        subst (λ answer. MatchResult answer (AsksToCheck path) Q) (sym done)
+        (ap (λ (o : Option Text). unwrap_or o path) (sym is.1 ∙ worded))
+    go (Some (Explain code)) is done = apart found.0 (codes "check") (codes "explain") named is.0 (λ same. absurd (omega arith))
+    go (Some (Print run)) is done = apart found.0 (codes "check") (codes "print") named is.0 (λ same. absurd (omega arith))
+    go (Some (Refusals run)) is done = apart found.0 (codes "check") (codes "refusals") named is.0 (λ same. absurd (omega arith))
+    go (Some (Slice run cell)) is done = apart found.0 (codes "check") (codes "slice") named is.0.0 (λ same. absurd (omega arith))
+    go (Some (Drill run cell dimension)) is done = apart found.0 (codes "check") (codes "drill") named is.0.0 (λ same. absurd (omega arith))
+
+-- a request that `explain` makes asks for the code that is its word, or for all
+asks_to_explain : (Q : Error → Type 0) (found : Option (Text × List Row)) (code : Option Text) (request : Option Request) (result : Result Request Error)
+    → with_word_of (codes "CODE") found ≡ Some (codes "explain", code) → IsRequest found request → IfSome request (λ asked. result ≡ Ok asked)
+    → MatchResult result (AsksToExplain code) Q
+asks_to_explain Q None code request result is_found is done = cc
+asks_to_explain Q (Some found) code request result is_found is done = go request is done
+  where
+    named : found.0 ≡ codes "explain"
+    named = ap (λ (o : Option (Text × Option Text)). (unwrap_or o (found.0, first_of (codes "CODE") found.1)).0) is_found
+
+    worded : first_of (codes "CODE") found.1 ≡ code
+    worded = ap (λ (o : Option (Text × Option Text)). (unwrap_or o (found.0, first_of (codes "CODE") found.1)).1) is_found
+
+    go : (request : Option Request) → IsRequest (Some found) request
+        → IfSome request (λ asked. result ≡ Ok asked) → MatchResult result (AsksToExplain code) Q
+    go None is done = absurd (is.1 named)
+    go (Some Sample) is done = absurd is
+    go (Some (Check schema)) is done = apart found.0 (codes "explain") (codes "check") named is.0 (λ same. absurd (omega arith))
+    go (Some (Explain asked)) is done =
+        subst (λ answer. MatchResult answer (AsksToExplain code) Q) (sym done) (sym is.1 ∙ worded)
+    go (Some (Print run)) is done = apart found.0 (codes "explain") (codes "print") named is.0 (λ same. absurd (omega arith))
+    go (Some (Refusals run)) is done = apart found.0 (codes "explain") (codes "refusals") named is.0 (λ same. absurd (omega arith))
+    go (Some (Slice run cell)) is done = apart found.0 (codes "explain") (codes "slice") named is.0.0 (λ same. absurd (omega arith))
+    go (Some (Drill run cell dimension)) is done = apart found.0 (codes "explain") (codes "drill") named is.0.0 (λ same. absurd (omega arith))
+
+-- so `check` with a word asks to check that file
+pub check_answer : (Q : Error → Type 0) (name path : Text) (words : List Text) (m : ArgMatches) (request : Option Request) (result : Result Request Error)
+    → begins_as_flag path ≡ false → words ≡ name ∷ codes "check" ∷ path ∷ [] → HasMatchesOf command_line words m
+    → IsRequest (subcommand_rows_of m) request → IfSome request (λ asked. result ≡ Ok asked)
+    → MatchResult result (AsksToCheck path) Q
+check_answer Q name path words m request result plain are matches is done =
+    asks_to_check Q (subcommand_rows_of m) path request result
+    (ap (with_word_of (codes "SCHEMA")) ((matches line_is_simple).1 ∙ ap (subcommand_of command_line) are) ∙ check_found name path plain) is done
+
+-- `explain` alone asks for all codes
+pub explain_answer : (Q : Error → Type 0) (name : Text) (words : List Text) (m : ArgMatches) (request : Option Request) (result : Result Request Error)
+    → words ≡ name ∷ codes "explain" ∷ [] → HasMatchesOf command_line words m
+    → IsRequest (subcommand_rows_of m) request → IfSome request (λ asked. result ≡ Ok asked)
+    → MatchResult result (AsksToExplain None) Q
+explain_answer Q name words m request result are matches is done =
+    asks_to_explain Q (subcommand_rows_of m) None request result
+    (ap (with_word_of (codes "CODE")) ((matches line_is_simple).1 ∙ ap (subcommand_of command_line) are) ∙ explain_found name) is done
+
+-- and with a word for that code
+pub explain_code_answer : (Q : Error → Type 0) (name code : Text) (words : List Text) (m : ArgMatches) (request : Option Request) (result : Result Request Error)
+    → begins_as_flag code ≡ false → words ≡ name ∷ codes "explain" ∷ code ∷ [] → HasMatchesOf command_line words m
+    → IsRequest (subcommand_rows_of m) request → IfSome request (λ asked. result ≡ Ok asked)
+    → MatchResult result (AsksToExplain (Some code)) Q
+explain_code_answer Q name code words m request result plain are matches is done =
+    asks_to_explain Q (subcommand_rows_of m) (Some code) request result
+    (ap (with_word_of (codes "CODE")) ((matches line_is_simple).1 ∙ ap (subcommand_of command_line) are) ∙ explain_code_found name code plain) is done

@@ -5,3 +5,5 @@ pub mod RefusalLaws
 pub mod RunLaws
 mod CommandLaws
 mod CommandLineLaws
+pub mod QueryWordLaws
+mod AnsweringLaws

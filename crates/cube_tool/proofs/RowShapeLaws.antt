@@ -1,10 +1,11 @@
 -- The rows of a cube over facts that fit have the shape of their schema.
-use Rattle.std.proofs.Common.{◌≡◌, true, List, [], ◌∷◌, length, map, sym}
+use Rattle.std.proofs.Common.{◌≡◌, true, Bool, List, [], ◌∷◌, length, map, sym}
 use Rattle.std.specs.Prelude.{All}
 use Rattle.std.specs.List.{AllByRecursion, list_all}
 use Rattle.std.proofs.lemmas.Bool.{and_parts}
 use Rattle.std.proofs.lemmas.List.Elements.{All-from_recursion}
 use Rattle.cube_core.specs.Layout.{Layout}
+use Rattle.cube_core.specs.Query.{AreRowsWhere}
 use Rattle.cube_core.specs.Takes.{fits}
 use Rattle.cube_core.specs.Cube.{AreRows, HasAnswers, key_of}
 use Rattle.cube_core.specs.declared.key.Key.{Key}
@@ -28,4 +29,14 @@ rows_have_shape s facts rows fit are =
     (shapes s facts rows
     (Contains-AllByRecursion (λ (key : Key). length key.coords ≡ length s.dimensions) (map key_of rows)
     (λ key among. is_cell-length s facts key fit (and_parts _ _ ((are.cells key).0 among)).1))
+    are.answers)
+
+-- so does each of those whose keys pass a test
+pub rows_where_have_shape : (test : Key → Bool) (s : Layout) (facts : List Fact) (rows : List Row) → list_all (fits s) facts ≡ true
+    → AreRowsWhere test s.grouping_sets (length s.dimensions) s.aggregates facts rows → All (HasShapeOf s) rows
+rows_where_have_shape test s facts rows fit are =
+    All-from_recursion (HasShapeOf s) rows
+    (shapes s facts rows
+    (Contains-AllByRecursion (λ (key : Key). length key.coords ≡ length s.dimensions) (map key_of rows)
+    (λ key among. width_of_cell s facts key fit (and_parts _ _ ((are.cells key).0 among).0).1))
     are.answers)

@@ -83,7 +83,8 @@ first-stands s sources parts arrivals [] inlets some stands = absurd (omega arit
 first-stands s sources parts arrivals (builder ∷ builders) inlets some stands =
     ((stands builder).schema, (stands builder).all, (stands builder).stands.ledger)
 
-ledger-BuildsParts : (s : Layout) (sources : Told) (parts : ℕ) (built : BuiltView) → 1 ≤ parts → (builds : BuildsParts s sources parts built)
+-- the ledger of builder 0 stands at the arrival list of all builders
+pub ledger-BuildsParts : (s : Layout) (sources : Told) (parts : ℕ) (built : BuiltView) → 1 ≤ parts → (builds : BuildsParts s sources parts built)
     → (schema_of_run built ≡ s) × (length (first_ledger built.builders).accounts ≡ length sources) × LedgerStandsAt (first_ledger built.builders) builds.arrivals
 ledger-BuildsParts s sources parts built some builds =
     first-stands s (length sources) parts builds.arrivals built.builders built.inlets (rw builds.stands.builders some) (λ d. builds.stands.each 0 d some)

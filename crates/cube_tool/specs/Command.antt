@@ -3,9 +3,12 @@ use Rattle.std.specs.Prelude.{◌≡◌, ◌≤◌, ⊤, ℕ, List, [], ◌∷�
 use Rattle.std.specs.Io.KnownBytes.{Appends}
 use Rattle.std.specs.List.{flat_map}
 use Rattle.cube_core.specs.Layout.{Layout}
+use Rattle.cube_core.specs.Query.{Says, Wanted, cell_of, pattern_of}
 use Rattle.cube_core.specs.Run.{Told}
 use Rattle.cube_core.specs.SchemaDocument.{AnswersBytes}
 use Rattle.cube_core.specs.declared.change.Refusal.{Refusal}
+use Rattle.cube_core.specs.declared.key.Key.{Key}
+use Rattle.cube_core.specs.declared.query.QueryFault.{QueryFault}
 use Rattle.cube_core.specs.declared.schema_fault.SchemaFault.TheVariants as schema_fault
 use Rattle.cube_engine.specs.Build.{ExplainsBuild}
 use Rattle.cube_engine.specs.Builder.{BuilderView, StandsAt}
@@ -15,7 +18,7 @@ use Rattle.cube_tool.specs.Run.{Runs, FaultLeaves}
 use Rattle.cube_tool.specs.declared.command.status.Status.{Status}
 use Rattle.cube_tool.specs.declared.command.status.Status.TheVariants.{Done, Failed, WrongWords, WrongSchema, LinesRefused}
 use Rattle.cube_tool.specs.declared.command.failure.Failure.{Failure}
-use Rattle.cube_tool.specs.declared.command.failure.Failure.TheVariants.{Unreadable, Schema, Run}
+use Rattle.cube_tool.specs.declared.command.failure.Failure.TheVariants.{Unreadable, Schema, TooManyFeeds, FeedUnreadable, Query, UnknownCode, Run}
 
 -- the number of a status
 abbrev pub status_code : Status → ℕ
@@ -29,6 +32,10 @@ status_code LinesRefused = 4
 abbrev pub status_of : Failure → Status
 status_of Unreadable = WrongSchema
 status_of (Schema fault) = WrongSchema
+status_of TooManyFeeds = WrongWords
+status_of (FeedUnreadable source) = Failed
+status_of (Query fault) = WrongWords
+status_of UnknownCode = WrongWords
 status_of (Run fault) = Failed
 
 -- the refusals of all sources, source after source
@@ -47,9 +54,9 @@ EndsRun s sources status old new = (builder : BuilderView)
 
 -- what a failure of a run over feeds of these bytes leaves written; of a schema that is had nothing but memory can fail
 abbrev pub FailureLeaves : Layout → Told → Failure → Option (List ℕ) → Option (List ℕ) → Type 0
-FailureLeaves s sources Unreadable old new = ⊥
 FailureLeaves s sources (Schema fault) old new = (fault ≡ schema_fault.Memory) × (new ≡ old)
 FailureLeaves s sources (Run fault) old new = FaultLeaves ExplainsBuild s sources fault old new
+FailureLeaves s sources _ old new = ⊥
 
 -- the most bytes that a schema file may have
 abbrev pub schema_limit : ℕ
@@ -61,7 +68,7 @@ AnswersFile bytes (Ok schema) = (length bytes ≤ schema_limit) × AnswersBytes 
 AnswersFile bytes (Err Unreadable) = ⊤
 AnswersFile bytes (Err (Schema schema_fault.Memory)) = ⊤
 AnswersFile bytes (Err (Schema fault)) = (length bytes ≤ schema_limit) × AnswersBytes bytes (Err fault)
-AnswersFile bytes (Err (Run fault)) = ⊥
+AnswersFile bytes (Err _) = ⊥
 
 -- a schema file is right: it writes a schema
 abbrev pub IsRightFile : List ℕ → Type 0
@@ -71,13 +78,13 @@ IsRightFile bytes = (schema : Layout) × AnswersFile bytes (Ok schema)
 abbrev pub IsReadFailure : Failure → Type 0
 IsReadFailure Unreadable = ⊤
 IsReadFailure (Schema fault) = fault ≡ schema_fault.Memory
-IsReadFailure (Run fault) = ⊥
+IsReadFailure _ = ⊥
 
 -- a schema isn't had for a cause of its own: no run failed, and nothing was written
 abbrev pub IsSchemaFailure : Failure → Type 0
 IsSchemaFailure Unreadable = ⊤
 IsSchemaFailure (Schema fault) = ⊤
-IsSchemaFailure (Run fault) = ⊥
+IsSchemaFailure _ = ⊥
 
 -- the line that tells that a schema is right
 abbrev pub ok_line : List ℕ
@@ -88,4 +95,19 @@ abbrev pub CheckLeaves : Option (List ℕ) → Failure → Option (List ℕ) →
 CheckLeaves file Unreadable old new = new ≡ old
 CheckLeaves file (Schema fault) old new = (new ≡ old) × IfSome file (λ bytes. AnswersFile bytes (Err (Schema fault)))
 CheckLeaves file (Run (run_fault.Write sent)) old new = (sent ≤ length ok_line) × Appends old new (take sent ok_line) × IfSome file IsRightFile
-CheckLeaves file (Run fault) old new = ⊥
+CheckLeaves file _ old new = ⊥
+
+-- what may be answered to a query's word: what is said of it, or that memory ran out
+abbrev pub AnswersQuery : {T : Type 0} → Result T QueryFault → Result T Failure → Type 0
+AnswersQuery said (Ok value) = Says said (Ok value)
+AnswersQuery said (Err (Query fault)) = Says said (Err fault)
+AnswersQuery said (Err _) = ⊥
+
+-- the key of a pattern, where there is a pattern
+abbrev pub key_of_pattern : Result Wanted QueryFault → Result Key QueryFault
+key_of_pattern (Ok pattern) = cell_of pattern
+key_of_pattern (Err fault) = Err fault
+
+-- the cell that a word spells under a schema: a pattern that leaves no dimension open
+abbrev pub key_of_word : Layout → List ℕ → Result Key QueryFault
+key_of_word s word = key_of_pattern (pattern_of s word)

@@ -1,8 +1,12 @@
 -- The words that the program takes, as clap reads them, and the requests that they make (this project's choice).
-use Rattle.std.specs.Prelude.{◌≡◌, ◌==◌, Bool, false, true, List, [], ◌∷◌, Option, Some, None, option_map, codes}
-use Rattle.clap.specs.Words.{App, Row, Rule, Text, first_of, new_app, new_rule, with_rule, with_subcommand}
-use Rattle.cube_tool.specs.declared.command.words.Request.{Request}
-use Rattle.cube_tool.specs.declared.command.words.Request.TheVariants.{Sample, Check}
+use Rattle.std.specs.Prelude.{◌≡◌, ◌≤◌, ◌==◌, ⊤, ℕ, Bool, false, true, List, [], ◌∷◌, Option, Some, None, IfSome, length, map, option_map, codes}
+use Rattle.std.specs.Str.Parse.{digits_value, without_leading_plus}
+use Rattle.clap.specs.Lexer.{usize_max}
+use Rattle.clap.specs.Words.{App, Row, Rule, Text, all_of, first_of, new_app, new_rule, one_of, with_rule, with_subcommand}
+use Rattle.clap.specs.declared.builder.value_parser.ValueParser.TheVariants as value_parser
+use Rattle.cube_tool.specs.declared.command.request.RunWords.{RunWords}
+use Rattle.cube_tool.specs.declared.command.request.Request.{Request}
+use Rattle.cube_tool.specs.declared.command.request.Request.TheVariants.{Sample, Check, Explain, Print, Refusals, Slice, Drill}
 
 -- the program's own settings: `help` is no command
 abbrev pub named_line : App
@@ -10,17 +14,79 @@ named_line = record (new_app (codes "datacube")) {
   top = record (new_app (codes "datacube")).top { disable_help_subcommand = true };
 }
 
--- the word that names a schema file: it has to be there
-abbrev pub schema_word : Rule
-schema_word = record (new_rule (codes "SCHEMA")) { required = true }
+-- a word that has to be there
+abbrev pub needed_word : Text → Rule
+needed_word name = record (new_rule name) { required = true }
 
--- `check` and its word
+-- the word that names a schema file
+abbrev pub schema_word : Rule
+schema_word = needed_word (codes "SCHEMA")
+
+-- the word that is a pattern of keys or a cell: any text, the empty one too
+abbrev pub cell_word : Rule
+cell_word = needed_word (codes "CELL")
+
+-- the word that names a dimension
+abbrev pub dimension_word : Rule
+dimension_word = needed_word (codes "DIM")
+
+-- the words that name feeds: at least one, and no bound on how many
+abbrev pub feed_words : Rule
+feed_words = record (needed_word (codes "FEED")) { range = Some (record { start_inclusive = 1; end_inclusive = usize_max }) }
+
+-- the word that names a code; it may be left out
+abbrev pub code_word : Rule
+code_word = new_rule (codes "CODE")
+
+-- an option that has one number, from 1 to a bound, or its default where it is left out
+abbrev pub number_option : Text → ℕ → Text → Rule
+number_option name most default = record (new_rule name) {
+  long = Some name;
+  value_names = 1;
+  parser = Some (value_parser.Unsigned 1 most);
+  defaults = default ∷ [];
+}
+
+-- `--ring`, the capacity of each link
+abbrev pub ring_option : Rule
+ring_option = number_option (codes "ring") 65536 (codes "64")
+
+-- `--builders`, the number of builders
+abbrev pub builders_option : Rule
+builders_option = number_option (codes "builders") 8 (codes "1")
+
+-- a command with the feeds and the options of a run behind its words
+abbrev pub with_feeds : App → App
+with_feeds line = with_rule (with_rule (with_rule line feed_words) ring_option) builders_option
+
+-- each command and its words
 abbrev pub check_line : App
 check_line = with_rule (new_app (codes "check")) schema_word
 
+abbrev pub print_line : App
+print_line = with_feeds (with_rule (new_app (codes "print")) schema_word)
+
+abbrev pub refusals_line : App
+refusals_line = with_feeds (with_rule (new_app (codes "refusals")) schema_word)
+
+abbrev pub slice_line : App
+slice_line = with_feeds (with_rule (with_rule (new_app (codes "slice")) schema_word) cell_word)
+
+abbrev pub drill_line : App
+drill_line = with_feeds (with_rule (with_rule (with_rule (new_app (codes "drill")) schema_word) cell_word) dimension_word)
+
+abbrev pub explain_line : App
+explain_line = with_rule (new_app (codes "explain")) code_word
+
 -- no words, or one of the commands
 abbrev pub command_line : App
-command_line = with_subcommand named_line check_line.top
+command_line =
+    with_subcommand
+    (with_subcommand
+    (with_subcommand
+    (with_subcommand
+    (with_subcommand
+    (with_subcommand named_line check_line.top) print_line.top) refusals_line.top) slice_line.top) drill_line.top) explain_line.top
 
 -- a word begins with a hyphen, as a flag does
 abbrev pub begins_as_flag : Text → Bool
@@ -29,16 +95,56 @@ begins_as_flag (b ∷ rest) = b == 45
 
 -- a request is the one to check the schema file at this path
 abbrev pub AsksToCheck : Text → Request → Type 0
-AsksToCheck path Sample = ⊥
 AsksToCheck path (Check schema) = schema.now ≡ path
+AsksToCheck path _ = ⊥
 
--- the command that clap found, with the schema file that it names
-abbrev pub found_command : Option (Text × List Row) → Option (Text × Option Text)
-found_command = option_map (λ found. (found.0, first_of (codes "SCHEMA") found.1))
+-- a request is the one to explain a code, or all where there is none
+abbrev pub AsksToExplain : Option Text → Request → Type 0
+AsksToExplain code (Explain asked) = option_map (λ text. text.now) asked ≡ code
+AsksToExplain code _ = ⊥
+
+-- the number that an option has, in decimal
+abbrev pub IsNumberOf : Text → List Row → ℕ → Type 0
+IsNumberOf name rows number = IfSome (one_of name rows) (λ text. number ≡ digits_value 10 (without_leading_plus text))
+
+-- the files and the options of a run are those that clap found, each under its name, and the feeds in their order
+pub record AreRunWords (rows : List Row) (run : RunWords) : Type 0 where
+  pub schema : first_of (codes "SCHEMA") rows ≡ Some run.schema.now
+  pub feeds : all_of (codes "FEED") rows ≡ Some (map (λ path. path.now) run.feeds.items)
+  pub ring : IsNumberOf (codes "ring") rows run.ring
+  pub builders : IsNumberOf (codes "builders") rows run.builders
+
+-- a run has at least one feed, and its options are in their bounds
+pub record HasRoom (run : RunWords) : Type 0 where
+  pub feeds : 1 ≤ length run.feeds.items
+  pub least_ring : 1 ≤ run.ring
+  pub most_ring : run.ring ≤ 65536
+  pub least_builders : 1 ≤ run.builders
+  pub most_builders : run.builders ≤ 8
+
+-- a request to run has at least one feed, and its options are in their bounds
+abbrev pub IsInBounds : Request → Type 0
+IsInBounds (Print run) = HasRoom run
+IsInBounds (Refusals run) = HasRoom run
+IsInBounds (Slice run cell) = HasRoom run
+IsInBounds (Drill run cell dimension) = HasRoom run
+IsInBounds _ = ⊤
+
+-- the run of a command with this name is had from what clap found
+abbrev pub IsRun : Text → Text → List Row → RunWords → Type 0
+IsRun name command rows run = (name ≡ command) × AreRunWords rows run × HasRoom run
 
 -- the request that a found command makes; none where a word is missing
-abbrev pub IsRequest : Option (Text × Option Text) → Option Request → Type 0
+abbrev pub IsRequest : Option (Text × List Row) → Option Request → Type 0
 IsRequest None request = request ≡ Some Sample
-IsRequest (Some found) None = found.0 ≡ codes "check" → found.1 ≡ None
+IsRequest (Some found) None = (found.0 ≡ codes "check" → first_of (codes "SCHEMA") found.1 ≡ None) × (found.0 ≡ codes "explain" → ⊥)
 IsRequest (Some found) (Some Sample) = ⊥
-IsRequest (Some found) (Some (Check schema)) = (found.0 ≡ codes "check") × (found.1 ≡ Some schema.now)
+IsRequest (Some found) (Some (Check schema)) = (found.0 ≡ codes "check") × (first_of (codes "SCHEMA") found.1 ≡ Some schema.now)
+IsRequest (Some found) (Some (Explain code)) = (found.0 ≡ codes "explain") × (first_of (codes "CODE") found.1 ≡ option_map (λ text. text.now) code)
+IsRequest (Some found) (Some (Print run)) = IsRun found.0 (codes "print") found.1 run
+IsRequest (Some found) (Some (Refusals run)) = IsRun found.0 (codes "refusals") found.1 run
+IsRequest (Some found) (Some (Slice run cell)) =
+    IsRun found.0 (codes "slice") found.1 run × (first_of (codes "CELL") found.1 ≡ Some cell.now)
+IsRequest (Some found) (Some (Drill run cell dimension)) =
+    IsRun found.0 (codes "drill") found.1 run
+    × (first_of (codes "CELL") found.1 ≡ Some cell.now) × (first_of (codes "DIM") found.1 ≡ Some dimension.now)

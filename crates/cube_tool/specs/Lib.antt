@@ -3,3 +3,5 @@ pub mod Shape
 pub mod Run
 pub mod CommandLine
 pub mod Command
+pub mod Explain
+pub mod Answering

@@ -2,8 +2,15 @@
 //! `cube_tool` that does the work.
 #![tactic(auto)]
 
+ghost use Rattle.std.specs.Prelude.{◌≡◌, ◌≤◌, length, vec_len, IfOk};
+ghost use Rattle.cube_tool.specs.CommandLine.{HasRoom, IsInBounds};
+
+use cube_core::Schema;
+use cube_engine::RunFault;
 use cube_tool::command::{
-    Failure, Request, Status, answer_words, check, read_words, run_sample, unreadable_words,
+    Failure, NOTES, Request, RunWords, Status, answer_words, check, drill, explain, print,
+    read_cell, read_dimension, read_pattern, read_schema, read_words, refusals, run_sample, slice,
+    unreadable_words,
 };
 use std::fs::File;
 use std::process::ExitCode;
@@ -30,11 +37,7 @@ fn run(rt: &HostRuntime) -> Result<Status, Failure> {
         }
     };
     match read_words(alloc, words.as_slice()) {
-        Ok(Request::Sample) => run_sample(alloc, rt.stdin(), &mut rt.stdout()),
-        Ok(Request::Check { schema }) => match File::open(rt, schema) {
-            Ok(file) => check(alloc, file, &mut rt.stdout()),
-            Err(_) => Err(Failure::Unreadable),
-        },
+        Ok(request) => obey(rt, request),
         Err(answer) => answer_words(alloc, &answer, &mut rt.stdout(), &mut rt.stderr()),
     }
 }
@@ -42,4 +45,126 @@ fn run(rt: &HostRuntime) -> Result<Status, Failure> {
 /// The words of the command line, of which the first is the program's name.
 fn words_of(rt: &HostRuntime) -> io::Result<Vec<String>> {
     Ok(env::args(rt)?.collect(rt.alloc())?)
+}
+
+/// Does what is asked for.
+fn obey(rt: &HostRuntime, request: Request) -> Result<Status, Failure>
+    requires { IsInBounds request }
+{
+    let alloc = rt.alloc();
+    match request {
+        Request::Sample => run_sample(alloc, rt.stdin(), &mut rt.stdout()),
+        Request::Check { schema } => check(alloc, open_schema(rt, schema)?, &mut rt.stdout()),
+        Request::Explain { code } => explain(alloc, &NOTES, code, &mut rt.stdout()),
+        Request::Print { run } => obey_print(rt, run),
+        Request::Refusals { run } => obey_refusals(rt, run),
+        Request::Slice { run, cell } => obey_slice(rt, run, cell),
+        Request::Drill {
+            run,
+            cell,
+            dimension,
+        } => obey_drill(rt, run, cell, dimension),
+    }
+}
+
+fn obey_print(rt: &HostRuntime, words: RunWords) -> Result<Status, Failure>
+    requires { HasRoom words }
+{
+    let alloc = rt.alloc();
+    let schema = schema_of(rt, &words)?;
+    let feeds = open_feeds(rt, &words.feeds)?;
+    let out = &mut rt.stdout();
+    print(rt, alloc, &schema, feeds, words.ring, words.builders, out)
+}
+
+fn obey_refusals(rt: &HostRuntime, words: RunWords) -> Result<Status, Failure>
+    requires { HasRoom words }
+{
+    let alloc = rt.alloc();
+    let schema = schema_of(rt, &words)?;
+    let feeds = open_feeds(rt, &words.feeds)?;
+    let out = &mut rt.stdout();
+    refusals(rt, alloc, &schema, feeds, words.ring, words.builders, out)
+}
+
+fn obey_slice(rt: &HostRuntime, words: RunWords, cell: &str) -> Result<Status, Failure>
+    requires { HasRoom words }
+{
+    let alloc = rt.alloc();
+    let schema = schema_of(rt, &words)?;
+    let pattern = read_pattern(alloc, &schema, cell)?;
+    let feeds = open_feeds(rt, &words.feeds)?;
+    let out = &mut rt.stdout();
+    slice(
+        rt,
+        alloc,
+        &schema,
+        &pattern,
+        feeds,
+        words.ring,
+        words.builders,
+        out,
+    )
+}
+
+fn obey_drill(
+    rt: &HostRuntime,
+    words: RunWords,
+    cell: &str,
+    dimension: &str,
+) -> Result<Status, Failure>
+    requires { HasRoom words }
+{
+    let alloc = rt.alloc();
+    let schema = schema_of(rt, &words)?;
+    let key = read_cell(alloc, &schema, cell)?;
+    let dim = read_dimension(&schema, dimension)?;
+    let feeds = open_feeds(rt, &words.feeds)?;
+    let out = &mut rt.stdout();
+    drill(
+        rt,
+        alloc,
+        &schema,
+        &key,
+        dim,
+        feeds,
+        words.ring,
+        words.builders,
+        out,
+    )
+}
+
+/// The schema of a command with feeds, once it is seen that there are at most 64 feeds.
+fn schema_of(rt: &HostRuntime, words: &RunWords) -> Result<Schema, Failure>
+    ensures { IfOk result (λ _. length words.now.feeds.items ≤ 64) }
+{
+    if words.feeds.len() > 64 {
+        return Err(Failure::TooManyFeeds);
+    }
+    read_schema(rt.alloc(), open_schema(rt, words.schema)?)
+}
+
+fn open_schema(rt: &HostRuntime, path: &str) -> Result<File, Failure> {
+    match File::open(rt, path) {
+        Ok(file) => Ok(file),
+        Err(_) => Err(Failure::Unreadable),
+    }
+}
+
+/// The files of the feeds, opened in their order.
+fn open_feeds(rt: &HostRuntime, paths: &[&str]) -> Result<Vec<File>, Failure>
+    requires { length paths.now ≤ 64 }
+    ensures { IfOk result (λ files. vec_len files ≡ length paths.now) }
+{
+    let mut files = Vec::new(rt.alloc());
+    for path in paths {
+        let source = files.len() as u32 + 1;
+        let Ok(file) = File::open(rt, path) else {
+            return Err(Failure::FeedUnreadable { source });
+        };
+        if files.push(file).is_err() {
+            return Err(Failure::Run(RunFault::Memory));
+        }
+    }
+    Ok(files)
 }

@@ -3,7 +3,7 @@ ghost use Rattle.std.specs.Prelude.{◌≡◌};
 ghost use Rattle.cube_tool.specs.Command.{status_of};
 
 use crate::command::status::Status;
-use cube_core::SchemaFault;
+use cube_core::{QueryFault, SchemaFault};
 use cube_engine::RunFault;
 use std::fmt;
 
@@ -14,6 +14,14 @@ pub enum Failure {
     Unreadable,
     /// The schema is refused, or there was no memory for it.
     Schema(SchemaFault),
+    /// There are more than 64 feeds.
+    TooManyFeeds,
+    /// The file of a feed couldn't be opened; its source is counted from 1.
+    FeedUnreadable { source: u32 },
+    /// The cell, the pattern or the dimension that was asked for is refused.
+    Query(QueryFault),
+    /// There is no such code to explain.
+    UnknownCode,
     /// The run failed, or its text couldn't be written.
     Run(RunFault),
 }
@@ -25,7 +33,8 @@ impl Failure {
     {
         match self {
             Failure::Unreadable | Failure::Schema(_) => Status::WrongSchema,
-            Failure::Run(_) => Status::Failed,
+            Failure::TooManyFeeds | Failure::Query(_) | Failure::UnknownCode => Status::WrongWords,
+            Failure::FeedUnreadable { source: _ } | Failure::Run(_) => Status::Failed,
         }
     }
 }
@@ -36,6 +45,10 @@ impl fmt::Display for Failure {
         match self {
             Failure::Unreadable => f.write_str("schema unreadable"),
             Failure::Schema(fault) => write!(f, "{fault}"),
+            Failure::TooManyFeeds => f.write_str("too many feeds"),
+            Failure::FeedUnreadable { source } => write!(f, "feed {source} unreadable"),
+            Failure::Query(fault) => write!(f, "{fault}"),
+            Failure::UnknownCode => f.write_str("unknown code"),
             Failure::Run(fault) => write_run_fault(*fault, f),
         }
     }

@@ -39,7 +39,7 @@ pub fn run_sample<R: Read + Drop, W: Write>(
 }
 
 /// The status of a run that was written whole.
-fn status_after(builder: &Builder) -> Status
+pub(crate) fn status_after(builder: &Builder) -> Status
     ensures { result ≡ status_after (all_refusals builder.now.ledger.accounts) }
 {
     for place in 0..builder.sources() {

@@ -1,7 +1,7 @@
 //! What each command ends with and prints, by its library call.
 
 use super::*;
-use cube_core::SchemaFault;
+use cube_core::{QueryFault, SchemaFault};
 use cube_engine::RunFault;
 use cube_feed::FeedFault;
 use std::alloc::Global;
@@ -153,6 +153,15 @@ fn each_failure_has_its_line_and_status(rt: HostRuntime) -> Result<(), Fail> {
         (Failure::Schema(SchemaFault::MaxRecords), "datacube: S8", 3),
         (Failure::Schema(SchemaFault::Grouping), "datacube: S9", 3),
         (Failure::Schema(SchemaFault::Version), "datacube: S10", 3),
+        (Failure::TooManyFeeds, "datacube: too many feeds", 2),
+        (
+            Failure::FeedUnreadable { source: 2 },
+            "datacube: feed 2 unreadable",
+            1,
+        ),
+        (Failure::Query(QueryFault::Fields), "datacube: P1", 2),
+        (Failure::Query(QueryFault::NotGrouped), "datacube: P7", 2),
+        (Failure::UnknownCode, "datacube: unknown code", 2),
         (Failure::Run(RunFault::Memory), "datacube: G1", 1),
         (Failure::Run(RunFault::NoThread), "datacube: G2", 1),
         (Failure::Run(feed), "datacube: G3 1 F4", 1),
@@ -296,6 +305,112 @@ fn check_without_or_with_two_files_is_refused(rt: HostRuntime) -> Result<(), Fai
         assert!(rt; err.as_str().starts_with("error: "), "{err}");
         assert!(rt; err.as_str().contains("Usage: datacube"), "{err}");
     }
+    Ok(())
+}
+
+// What a run is asked for over these feeds.
+fn run_of<'a>(
+    alloc: Global,
+    paths: &[&'a str],
+    ring: usize,
+    builders: u32,
+) -> Result<RunWords<'a>, Fail> {
+    let mut feeds = Vec::new(alloc);
+    feeds.extend_from_slice(paths)?;
+    Ok(RunWords {
+        schema: "s",
+        feeds,
+        ring,
+        builders,
+    })
+}
+
+#[test]
+fn commands_with_feeds_are_asked_with_their_words(rt: HostRuntime) -> Result<(), Fail> {
+    let alloc = rt.alloc();
+    let table: [(&[&str], Request); 4] = [
+        (
+            &["datacube", "print", "s", "a", "b"],
+            Request::Print {
+                run: run_of(alloc, &["a", "b"], 64, 1)?,
+            },
+        ),
+        (
+            &[
+                "datacube",
+                "refusals",
+                "--ring=65536",
+                "s",
+                "a",
+                "--builders",
+                "8",
+            ],
+            Request::Refusals {
+                run: run_of(alloc, &["a"], 65536, 8)?,
+            },
+        ),
+        (
+            &["datacube", "slice", "s", "", "a", "a"],
+            Request::Slice {
+                run: run_of(alloc, &["a", "a"], 64, 1)?,
+                cell: "",
+            },
+        ),
+        (
+            &["datacube", "drill", "--ring", "1", "s", "?", "kind", "a"],
+            Request::Drill {
+                run: run_of(alloc, &["a"], 1, 1)?,
+                cell: "?",
+                dimension: "kind",
+            },
+        ),
+    ];
+    for (words, wanted) in table {
+        let request = read_words(alloc, words)?;
+        assert!(rt; request == wanted, "{request:?}");
+    }
+    Ok(())
+}
+
+#[test]
+fn options_out_of_bounds_and_missing_feeds_are_refused(rt: HostRuntime) -> Result<(), Fail> {
+    let table: [&[&str]; 8] = [
+        &["datacube", "print", "--ring", "0", "s", "a"],
+        &["datacube", "print", "--ring", "65537", "s", "a"],
+        &["datacube", "refusals", "--builders", "0", "s", "a"],
+        &["datacube", "refusals", "--builders", "9", "s", "a"],
+        &["datacube", "print", "s"],
+        &["datacube", "slice", "s", "?"],
+        &["datacube", "drill", "s", "?", "kind"],
+        &["datacube", "explain", "S1", "S2"],
+    ];
+    for words in table {
+        let (status, out, err) = answer(rt.alloc(), words)?;
+        assert_eq!(rt; status, Status::WrongWords);
+        assert_eq!(rt; out.as_str(), "");
+        assert!(rt; err.as_str().starts_with("error: "), "{err}");
+    }
+    Ok(())
+}
+
+#[test]
+fn a_code_is_explained_by_its_notes(rt: HostRuntime) -> Result<(), Fail> {
+    let alloc = rt.alloc();
+    let mut out = Vec::new(alloc);
+    assert_eq!(rt;
+        explain(alloc, &NOTES, Some("L4"), &mut out),
+        Ok(Status::Done)
+    );
+    assert_eq!(rt;
+        String::from_utf8(out)?.as_str(),
+        "L4: line of a feed\n  means: The id is empty.\n  mend: Give each fact an id.\n"
+    );
+    let mut none = Vec::new(alloc);
+    assert_eq!(rt;
+        explain(alloc, &NOTES, Some("L7"), &mut none),
+        Err(Failure::UnknownCode)
+    );
+    assert_eq!(rt; none.as_slice().len(), 0);
     Ok(())
 }
 

@@ -1,66 +1,43 @@
-//! The command line.
-ghost use Rattle.std.specs.Prelude.{◌≡◌, ◌≢◌, ◌≤◌, ◌⊎◌, ◌∷◌, [], ℕ, List, codes, false, true, length, map, Ok, IfOk, IfErr, IfSome, MatchResult};
-ghost use Rattle.clap.specs.Words.{HasMatchesOf, app_of, kind_of, subcommand_rows_of, takes};
-ghost use Rattle.clap.specs.declared.builder.command.Command.TheViews.{out-Command as fields_of};
+//! The words of a command line, and what is answered to those that ask for nothing that can be done.
+ghost use Rattle.std.specs.Prelude.{◌≡◌, ◌≢◌, ◌≤◌, ◌⊎◌, ◌∷◌, [], ℕ, List, codes, false, true, length, map, Ok, Some, None, IfOk, IfErr, IfSome, MatchResult};
+ghost use Rattle.clap.specs.Words.{HasMatchesOf, kind_of, subcommand_of, takes};
 ghost use Rattle.clap.specs.declared.error.kind.ErrorKind.TheVariants as kind;
-ghost use Rattle.cube_tool.specs.CommandLine.{AsksToCheck, IsRequest, begins_as_flag, check_line, command_line, found_command};
+ghost use Rattle.cube_tool.specs.CommandLine.{AsksToCheck, AsksToExplain, IsInBounds, IsRequest, begins_as_flag, command_line};
 
+use crate::command::command_line::program;
 use crate::command::failure::Failure;
+use crate::command::request::{Request, request_of};
 use crate::command::status::Status;
 use crate::write::write_whole;
 use clap::error::ErrorKind;
-use clap::{Arg, ArgMatches, Command, Error};
+use clap::{ArgMatches, Error};
 use cube_engine::RunFault;
 use std::alloc::{AllocError, Global};
 use std::convert::AsStr;
 use std::io;
 use std::io::Write;
 
-/// What the program does.
-const ABOUT: &str =
-    "Prints the data cube of a feed of facts: the aggregates of every group, over every choice of dimensions.";
-
-/// The forms of a command line.
-const USAGE: &str = "datacube\n       datacube check SCHEMA";
-
-/// What the help says below the commands.
-const AFTER_HELP: &str = "\
-Without a command, the feed on standard input is read under the sample schema (the
-dimensions region and kind, the measure amount), and its cube goes to standard output:
-
-  datacube < examples/first/feed.csv
-
-Exit status:
-  0  done
-  1  a feed was refused, or the writing failed
-  2  the command line was refused
-  3  the schema couldn't be read, or was refused
-  4  done, but at least one line of the feed was refused
-
-A failure prints one line on standard error, `datacube: CODE`.
-docs/FORMATS.md explains the codes, and the formats of schemas, feeds and cubes.";
-
-/// What the words of a command line ask for.
-#[derive(Clone, Copy, Debug, PartialEq, Eq)]
-pub enum Request<'a> {
-    /// No words: the cube of the feed on standard input, under the sample schema.
-    Sample,
-    /// `check SCHEMA`: whether the schema file at this path is right.
-    Check { schema: &'a str },
-}
-
 /// What the words ask for; the first of them is the program's name.
 ///
 /// The error is what `clap` has to say of them: a refusal, or the help that they ask for.
 pub fn read_words<'a, S: AsStr>(alloc: Global, words: &'a [S]) -> Result<Request<'a>, Error>
+    ensures asked { IfOk result (λ request.
+        IsRequest (subcommand_of command_line (map S.text words.entry.now)) (Some request)) }
+    ensures bounds { IfOk result IsInBounds }
     ensures no_words { length words.entry.now ≤ 1 →
         MatchResult result (λ request. request ≡ Request.Sample) (λ error. kind_of error ≡ kind.OutOfMemory) }
     ensures check { (name path : List ℕ) → begins_as_flag path ≡ false →
         map S.text words.entry.now ≡ name ∷ codes "check" ∷ path ∷ [] →
         MatchResult result (AsksToCheck path) (λ error. kind_of error ≡ kind.OutOfMemory) }
+    ensures explain { (name : List ℕ) →
+        map S.text words.entry.now ≡ name ∷ codes "explain" ∷ [] →
+        MatchResult result (AsksToExplain None) (λ error. kind_of error ≡ kind.OutOfMemory) }
+    ensures explain_code { (name code : List ℕ) → begins_as_flag code ≡ false →
+        map S.text words.entry.now ≡ name ∷ codes "explain" ∷ code ∷ [] →
+        MatchResult result (AsksToExplain (Some code)) (λ error. kind_of error ≡ kind.OutOfMemory) }
 {
     let matches = parse_words(alloc, words)?;
-    complete(alloc, request_of(&matches))
+    complete(alloc, request_of(alloc, &matches)?)
 }
 
 fn parse_words<'a, S: AsStr>(alloc: Global, words: &'a [S]) -> Result<ArgMatches<'a>, Error>
@@ -71,50 +48,10 @@ fn parse_words<'a, S: AsStr>(alloc: Global, words: &'a [S]) -> Result<ArgMatches
     program(alloc)?.try_get_matches_from(words)
 }
 
-/// The program's command line.
-fn program<'a>(alloc: Global) -> Result<Command<'a>, AllocError>
-    ensures { IfOk result (λ command. app_of command ≡ command_line) }
-{
-    let check = check_command(alloc)?;
-    let named = Command::new(alloc, "datacube")
-        .about(ABOUT)
-        .override_usage(USAGE)
-        .after_help(AFTER_HELP)
-        .disable_help_subcommand(true)
-        .bin_name("datacube")?;
-    named.subcommand(check)
-}
-
-/// The command `check` with its words.
-fn check_command<'a>(alloc: Global) -> Result<Command<'a>, AllocError>
-    ensures line { IfOk result (λ command. app_of command ≡ check_line) }
-    ensures local { IfOk result (λ command. (fields_of command).has_globals ≡ false) }
-{
-    let schema = Arg::new(alloc, "SCHEMA")
-        .help("The schema file: TOML, at most 1048576 bytes")
-        .required(true);
-    Command::new(alloc, "check")
-        .about("Says whether a schema file is right: `ok`, or the code of its first fault")
-        .arg(schema)
-}
-
-/// The request that parsed words make; none where a command lacks a word.
-fn request_of<'a>(matches: &ArgMatches<'a>) -> Option<Request<'a>>
-    ensures { IsRequest (found_command (subcommand_rows_of matches.now)) result }
-{
-    let Some((name, words)) = matches.subcommand() else {
-        return Some(Request::Sample);
-    };
-    if name != "check" {
-        return None;
-    }
-    let schema = words.get_str("SCHEMA")?;
-    Some(Request::Check { schema })
-}
-
 /// The request, where there is one.
 fn complete<'a>(alloc: Global, request: Option<Request<'a>>) -> Result<Request<'a>, Error>
-    ensures { IfSome request.entry (λ asked. result ≡ Ok asked) }
+    ensures some { IfSome request.entry (λ asked. result ≡ Ok asked) }
+    ensures ok { IfOk result (λ asked. request.entry ≡ Some asked) }
 {
     match request {
         Some(request) => Ok(request),

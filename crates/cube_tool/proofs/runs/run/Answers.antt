@@ -22,7 +22,7 @@ returns-in-Ok-write_whole-clause-ok g c =
     let count : length told ≡ length c.args.readers.items = length-map c.args.readers.items g.R.Read.remaining in
     let printed : IsPrinted s (facts_of_run built) c.deref.result.now =
     subst (λ (text : List ℕ). IsPrinted s (facts_of_run built) text) (sym c.deref.ensures.value) c.in-Ok.ensures in
-    subst (λ (n : ℕ). Runs s told (StandsInParts s n c.args.builders built) _ _) (count ∙ sym c.args.readers.ok.0)
+    subst (λ (n : ℕ). Runs s told (StandsInParts s n c.args.builders built) (g.W.Write.contents c.args.out.now) (g.W.Write.contents c.write_whole.new.w)) (count ∙ sym c.args.readers.ok.0)
     (Runs-BuildsParts s told c.args.builders built c.deref.result.now _ _ c.requires.builders.0 c.in_ok-built.ensures.ok printed c.in-Ok-write_whole.ensures.whole)
 
 pub returns-in-Err-clause-err : goal.returns-in-Err-clause-err

@@ -1,8 +1,11 @@
-use Rattle.std.proofs.Common.{◌∙◌, map, ap, rules}
+use Rattle.std.proofs.Common.{◌∙◌, map, ap, subst, rules}
+use Rattle.std.specs.Prelude.{Option}
 use Rattle.std.proofs.lemmas.List.{length-map}
-use Rattle.clap.specs.Words.{takes}
-use Rattle.cube_tool.specs.CommandLine.{command_line}
-use Rattle.cube_tool.proofs.CommandLineLaws.{no_words_are_taken, check_is_taken, no_words_answer, check_answer}
+use Rattle.clap.specs.Words.{subcommand_rows_of, takes}
+use Rattle.cube_tool.specs.CommandLine.{IsRequest, command_line}
+use Rattle.cube_tool.specs.declared.command.request.Request.{Request}
+use Rattle.std.proofs.lemmas.Result.{IfOk-weaker}
+use Rattle.cube_tool.proofs.CommandLineLaws.{no_words_are_taken, check_is_taken, explain_is_taken, explain_code_is_taken, no_words_answer, check_answer, explain_answer, explain_code_answer, found_as_defined, request_bounds}
 use Rattle.cube_tool.proofs.command.words.read_words.Goals as goal
 
 pub returns-in_err-matches-clause-no_words : goal.returns-in_err-matches-clause-no_words
@@ -16,14 +19,48 @@ returns-in_err-matches-clause-check g c name path plain are =
     let taken = ap (λ words. takes command_line words) are ∙ check_is_taken name path plain in
     search (rules, taken)
 
+pub returns-in_err-matches-clause-explain : goal.returns-in_err-matches-clause-explain
+returns-in_err-matches-clause-explain g c name are =
+    let taken = ap (λ words. takes command_line words) are ∙ explain_is_taken name in
+    search (rules, taken)
+
+pub returns-in_err-matches-clause-explain_code : goal.returns-in_err-matches-clause-explain_code
+returns-in_err-matches-clause-explain_code g c name code plain are =
+    let taken = ap (λ words. takes command_line words) are ∙ explain_code_is_taken name code plain in
+    search (rules, taken)
+
 pub returns-clause-no_words : goal.returns-clause-no_words
 returns-clause-no_words g c few =
     let words = map g.S.AsStr.text c.args.words.now in
-    let done = no_words_answer words c.in_ok-matches.matches c.request_of.result c.complete.result (rw length-map few)
-    c.in_ok-matches.ensures.ok c.request_of.ensures c.complete.ensures in
+    let done = no_words_answer words c.in_ok-matches.matches c.in_ok-request_of.field-0 c.complete.result (rw length-map few)
+    c.in_ok-matches.ensures.ok c.in_ok-request_of.ensures c.complete.ensures.some in
     rw done
+
+pub returns-clause-asked : goal.returns-clause-asked
+returns-clause-asked g c =
+    IfOk-weaker c.complete.result _ _
+    (λ request is. found_as_defined (map g.S.AsStr.text c.args.words.now) c.in_ok-matches.matches request c.in_ok-matches.ensures.ok
+    (subst (λ (asked : Option Request). IsRequest (subcommand_rows_of c.in_ok-matches.matches) asked) is c.in_ok-request_of.ensures))
+    c.complete.ensures.ok
 
 pub returns-clause-check : goal.returns-clause-check
 returns-clause-check g c name path plain are =
-    check_answer _ name path _ c.in_ok-matches.matches c.request_of.result c.complete.result plain are
-    c.in_ok-matches.ensures.ok c.request_of.ensures c.complete.ensures
+    check_answer _ name path _ c.in_ok-matches.matches c.in_ok-request_of.field-0 c.complete.result plain are
+    c.in_ok-matches.ensures.ok c.in_ok-request_of.ensures c.complete.ensures.some
+
+pub returns-clause-explain : goal.returns-clause-explain
+returns-clause-explain g c name are =
+    explain_answer _ name _ c.in_ok-matches.matches c.in_ok-request_of.field-0 c.complete.result are
+    c.in_ok-matches.ensures.ok c.in_ok-request_of.ensures c.complete.ensures.some
+
+pub returns-clause-explain_code : goal.returns-clause-explain_code
+returns-clause-explain_code g c name code plain are =
+    explain_code_answer _ name code _ c.in_ok-matches.matches c.in_ok-request_of.field-0 c.complete.result plain are
+    c.in_ok-matches.ensures.ok c.in_ok-request_of.ensures c.complete.ensures.some
+
+pub returns-clause-bounds : goal.returns-clause-bounds
+returns-clause-bounds g c =
+    IfOk-weaker c.complete.result _ _
+    (λ request is. request_bounds (subcommand_rows_of c.in_ok-matches.matches) request
+    (subst (λ (asked : Option Request). IsRequest (subcommand_rows_of c.in_ok-matches.matches) asked) is c.in_ok-request_of.ensures))
+    c.complete.ensures.ok

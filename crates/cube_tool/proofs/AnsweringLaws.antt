@@ -1,0 +1,195 @@
+-- From builders that have taken good feeds to what a command over feeds promises.
+use Rattle.std.proofs.Common.{◌≡◌, ◌≤◌, ◌<◌, ◌∙◌, true, ℕ, List, [], ◌∷◌, ◌++◌, length, map, take, get_or, refl, sym, ap, ap₂, subst, arith}
+use Rattle.std.specs.Prelude.{Option, Some, None, Result, Ok, Err, IfOk, IfErr}
+use Rattle.std.specs.Io.KnownBytes.{Appends}
+use Rattle.std.specs.List.{AllZip, flat_map, list_all}
+use Rattle.std.proofs.lemmas.List.Sums.{list_all-from_AllPass}
+use Rattle.std.proofs.lemmas.Result.{IfOk-weaker, IfErr-weaker}
+use Rattle.cube_core.specs.Arrival.{of_sources}
+use Rattle.cube_core.specs.Layout.{Layout}
+use Rattle.cube_core.specs.Query.{drill_fault, drills_down}
+use Rattle.cube_core.specs.Refusals.{refusals_of}
+use Rattle.cube_core.specs.Run.{Told, AreGood}
+use Rattle.cube_core.specs.Sources.{SurviveTogether}
+use Rattle.cube_core.specs.Takes.{fits}
+use Rattle.cube_core.specs.declared.change.Item.{Item}
+use Rattle.cube_core.specs.declared.change.Refusal.{Refusal}
+use Rattle.cube_core.specs.declared.key.Key.{Key}
+use Rattle.cube_core.specs.declared.query.QueryFault.{QueryFault}
+use Rattle.cube_cells.specs.Rows.{GivesUnless}
+use Rattle.cube_engine.specs.Builder.{BuilderView}
+use Rattle.cube_engine.specs.Ledger.{AccountView, AccountStandsAt, LedgerView, LedgerStandsAt, AllFit}
+use Rattle.cube_engine.proofs.SurvivorLaws.{SurviveTogether-stands}
+use Rattle.cube_engine.specs.declared.fault.RunFault.{RunFault}
+use Rattle.cube_engine.specs.declared.fault.RunFault.TheVariants as run_fault
+use Rattle.cube_threads.specs.Building.{ExplainsRun}
+use Rattle.cube_threads.specs.Parts.{BuiltView, BuildsParts, StandsInParts, first_ledger, schema_of_run, facts_of_run}
+use Rattle.cube_threads.proofs.PartLaws.{first-is}
+use Rattle.cube_tool.specs.Answering.{AreFeeds, DrillLeaves, EndsWith, EndsAmid, FailsToDrill, Leaves, ShowsCube, ShowsRows, WritesPart}
+use Rattle.cube_tool.specs.Command.{all_refusals, status_after}
+use Rattle.cube_tool.specs.Run.{Runs, FaultLeaves}
+use Rattle.cube_tool.specs.declared.command.status.Status.{Status}
+use Rattle.cube_tool.specs.declared.command.failure.Failure.{Failure}
+use Rattle.cube_tool.specs.declared.command.failure.Failure.TheVariants as failure
+use Rattle.cube_tool.proofs.RunLaws.{ledger-BuildsParts}
+
+-- what is known of builders that have taken the feeds of these sources, by the items of the feeds
+pub record HasTaken (s : Layout) (sources : Told) (feeds : List (List Item)) (built : BuiltView) : Type 0 where
+  pub are_feeds : AreFeeds s sources feeds
+  pub schema : schema_of_run built ≡ s
+  pub survive : SurviveTogether s feeds (facts_of_run built)
+  pub each_refused : map (λ (account : AccountView). account.refusals) (first_ledger built.builders).accounts ≡ map (refusals_of s) feeds
+  pub all_refused : all_refusals (first_ledger built.builders).accounts ≡ flat_map (refusals_of s) feeds
+
+-- accounts that stand at the items of feeds have their refusals
+each-refused : (s : Layout) (feeds : List (List Item)) (accounts : List AccountView) → AllZip (AccountStandsAt s) feeds accounts
+    → map (λ (account : AccountView). account.refusals) accounts ≡ map (refusals_of s) feeds
+each-refused s [] [] stand = refl
+each-refused s [] (account ∷ accounts) stand = absurd stand
+each-refused s (items ∷ feeds) [] stand = absurd stand
+each-refused s (items ∷ feeds) (account ∷ accounts) stand = ap₂ (λ r rs. r ∷ rs) stand.0.refused (each-refused s feeds accounts stand.1)
+
+-- and one after another
+all-refused : (s : Layout) (feeds : List (List Item)) (accounts : List AccountView) → AllZip (AccountStandsAt s) feeds accounts
+    → all_refusals accounts ≡ flat_map (refusals_of s) feeds
+all-refused s [] [] stand = refl
+all-refused s [] (account ∷ accounts) stand = absurd stand
+all-refused s (items ∷ feeds) [] stand = absurd stand
+all-refused s (items ∷ feeds) (account ∷ accounts) stand = ap₂ (λ r rs. r ++ rs) stand.0.refused (all-refused s feeds accounts stand.1)
+
+pub has_taken : (s : Layout) (sources : Told) (parts : ℕ) (built : BuiltView) → 1 ≤ parts → (builds : BuildsParts s sources parts built)
+    → HasTaken s sources (of_sources (length sources) builds.arrivals) built
+has_taken s sources parts built some builds =
+    let first = ledger-BuildsParts s sources parts built some builds in
+    let ledger = first_ledger built.builders in
+    let feeds = of_sources (length sources) builds.arrivals in
+    let stands : AllZip (AccountStandsAt s) feeds ledger.accounts =
+    subst (λ (l : Layout). AllZip (AccountStandsAt l) feeds ledger.accounts) first.0
+    (subst (λ (n : ℕ). AllZip (AccountStandsAt ledger.schema) (of_sources n builds.arrivals) ledger.accounts) first.1 first.2) in
+    record {
+      are_feeds = record { good = builds.good; items = builds.taken };
+      schema = first.0;
+      survive =
+          subst (λ (l : Layout). SurviveTogether l feeds (facts_of_run built)) first.0
+          (subst (λ (n : ℕ). SurviveTogether ledger.schema (of_sources n builds.arrivals) (facts_of_run built)) first.1
+          (SurviveTogether-stands ledger builds.arrivals first.2));
+      each_refused = each-refused s feeds ledger.accounts stands;
+      all_refused = all-refused s feeds ledger.accounts stands;
+    }
+
+-- builder 0 has the first ledger
+pub first-builder : (s : Layout) (sources : Told) (parts : ℕ) (built : BuiltView) (builder : BuilderView) → 1 ≤ parts → BuildsParts s sources parts built
+    → builder ≡ get_or built.builders 0 builder → first_ledger built.builders ≡ builder.ledger
+first-builder s sources parts built builder some builds is =
+    let counted : 0 < length built.builders = rw builds.stands.builders some in
+    first-is built.builders builder counted ∙ sym (ap (λ (b : BuilderView). b.ledger) is)
+
+-- the status by the refusals of builder 0 is that of the feeds
+pub status-of : (s : Layout) (sources : Told) (feeds : List (List Item)) (built : BuiltView) (builder : BuilderView) (status : Status) → HasTaken s sources feeds built
+    → first_ledger built.builders ≡ builder.ledger → status ≡ status_after (all_refusals builder.ledger.accounts)
+    → status ≡ status_after (flat_map (refusals_of s) feeds)
+status-of s sources feeds built builder status taken first is =
+    is ∙ ap (λ (l : LedgerView). status_after (all_refusals l.accounts)) (sym first) ∙ ap status_after taken.all_refused
+
+-- a text that was written whole, with the status of its feeds
+pub ends-with : (Shows : Layout → List (List Item) → List ℕ → Type 0) (s : Layout) (sources : Told) (feeds : List (List Item)) (text : List ℕ) (status : Status) (result : Result Status Failure) (old new : Option (List ℕ))
+    → AreFeeds s sources feeds → Shows s feeds text → status ≡ status_after (flat_map (refusals_of s) feeds)
+    → IfOk result (λ ended. (ended ≡ status) × Appends old new text) → IfOk result (λ ended. EndsWith Shows s sources ended old new)
+ends-with Shows s sources feeds text status result old new are shows is written =
+    IfOk-weaker result _ _
+    (λ ended done. record { feeds = feeds; are_feeds = are; text = text; shows = shows; written = done.1; status_is = done.0 ∙ is })
+    written
+
+-- a text of which a part was written
+pub leaves-part : (Shows : Layout → List (List Item) → List ℕ → Type 0) (s : Layout) (sources : Told) (feeds : List (List Item)) (text : List ℕ) (old new : Option (List ℕ))
+    → AreFeeds s sources feeds → Shows s feeds text → (fault : Failure) → WritesPart text fault old new → Leaves Shows s sources fault old new
+leaves-part Shows s sources feeds text old new are shows (failure.Run (run_fault.Write sent)) part =
+    record { feeds = feeds; are_feeds = are; text = text; shows = shows; within = part.0; written = part.1 }
+leaves-part Shows s sources feeds text old new are shows (failure.Run run_fault.Memory) part = absurd part
+leaves-part Shows s sources feeds text old new are shows (failure.Run run_fault.NoThread) part = absurd part
+leaves-part Shows s sources feeds text old new are shows (failure.Run (run_fault.Feed source fault)) part = absurd part
+leaves-part Shows s sources feeds text old new are shows (failure.Run run_fault.Full) part = absurd part
+leaves-part Shows s sources feeds text old new are shows (failure.Run (run_fault.Unsealed source)) part = absurd part
+leaves-part Shows s sources feeds text old new are shows failure.Unreadable part = absurd part
+leaves-part Shows s sources feeds text old new are shows (failure.Schema fault) part = absurd part
+leaves-part Shows s sources feeds text old new are shows failure.TooManyFeeds part = absurd part
+leaves-part Shows s sources feeds text old new are shows (failure.FeedUnreadable source) part = absurd part
+leaves-part Shows s sources feeds text old new are shows (failure.Query fault) part = absurd part
+leaves-part Shows s sources feeds text old new are shows failure.UnknownCode part = absurd part
+
+-- the same of a drill-down
+pub drill-part : (dimension : ℕ) (key : Key) (s : Layout) (sources : Told) (feeds : List (List Item)) (text : List ℕ) (old new : Option (List ℕ))
+    → AreFeeds s sources feeds → ShowsRows (drills_down dimension key) s feeds text → (fault : Failure) → WritesPart text fault old new
+    → DrillLeaves dimension key s sources fault old new
+drill-part dimension key s sources feeds text old new are shows (failure.Run fault) part =
+    leaves-part (ShowsRows (drills_down dimension key)) s sources feeds text old new are shows (failure.Run fault) part
+drill-part dimension key s sources feeds text old new are shows failure.Unreadable part = absurd part
+drill-part dimension key s sources feeds text old new are shows (failure.Schema fault) part = absurd part
+drill-part dimension key s sources feeds text old new are shows failure.TooManyFeeds part = absurd part
+drill-part dimension key s sources feeds text old new are shows (failure.FeedUnreadable source) part = absurd part
+drill-part dimension key s sources feeds text old new are shows (failure.Query fault) part = absurd part
+drill-part dimension key s sources feeds text old new are shows failure.UnknownCode part = absurd part
+
+-- a drill-down that gives no text leaves what was written
+pub drill-fails : (dimension : ℕ) (key : Key) (s : Layout) (sources : Told) (old : Option (List ℕ)) → AreGood s sources
+    → (fault : Failure) → FailsToDrill (drill_fault s.grouping_sets dimension key) fault → DrillLeaves dimension key s sources fault old old
+drill-fails dimension key s sources old good (failure.Query fault) fails = (refl, good, fails)
+drill-fails dimension key s sources old good (failure.Run run_fault.Full) fails = (refl, good)
+drill-fails dimension key s sources old good (failure.Run run_fault.Memory) fails = absurd fails
+drill-fails dimension key s sources old good (failure.Run run_fault.NoThread) fails = absurd fails
+drill-fails dimension key s sources old good (failure.Run (run_fault.Feed source fault)) fails = absurd fails
+drill-fails dimension key s sources old good (failure.Run (run_fault.Unsealed source)) fails = absurd fails
+drill-fails dimension key s sources old good (failure.Run (run_fault.Write sent)) fails = absurd fails
+drill-fails dimension key s sources old good failure.Unreadable fails = absurd fails
+drill-fails dimension key s sources old good (failure.Schema fault) fails = absurd fails
+drill-fails dimension key s sources old good failure.TooManyFeeds fails = absurd fails
+drill-fails dimension key s sources old good (failure.FeedUnreadable source) fails = absurd fails
+drill-fails dimension key s sources old good failure.UnknownCode fails = absurd fails
+
+-- rows that are given hold
+pub given : {T : Type 0} (said : Option QueryFault) (Holds : T → Type 0) (value : T) → GivesUnless said Holds (Ok value) → Holds value
+given None Holds value holds = holds
+given (Some fault) Holds value refused = let bad : Ok value ≡ Err fault = refused in cc
+
+-- a fault of the build leaves what was written
+pub leaves-built : (Shows : Layout → List (List Item) → List ℕ → Type 0) (s : Layout) (sources : Told) (fault : RunFault) (old : Option (List ℕ))
+    → ExplainsRun s sources fault → Leaves Shows s sources (failure.Run fault) old old
+leaves-built Shows s sources run_fault.Memory old explains = (refl, explains)
+leaves-built Shows s sources run_fault.NoThread old explains = (refl, explains)
+leaves-built Shows s sources (run_fault.Feed source fault) old explains = (refl, explains)
+leaves-built Shows s sources run_fault.Full old explains = (refl, explains)
+leaves-built Shows s sources (run_fault.Unsealed source) old explains = (refl, explains)
+leaves-built Shows s sources (run_fault.Write sent) old explains = absurd explains
+
+-- a run that went well ends with the status of its feeds
+pub ends-with_run : (s : Layout) (sources : Told) (parts : ℕ) (built : BuiltView) (builder : BuilderView) (status : Status) (old new : Option (List ℕ)) → 1 ≤ parts
+    → Runs s sources (StandsInParts s (length sources) parts built) old new → builder ≡ get_or built.builders 0 builder
+    → status ≡ status_after (all_refusals builder.ledger.accounts) → EndsWith ShowsCube s sources status old new
+ends-with_run s sources parts built builder status old new some runs first is =
+    let builds : BuildsParts s sources parts built = record { good = runs.good; arrivals = runs.arrivals; taken = runs.taken; stands = runs.stands } in
+    let taken = has_taken s sources parts built some builds in
+    record {
+      feeds = of_sources (length sources) runs.arrivals;
+      are_feeds = record { good = runs.good; items = runs.taken };
+      text = runs.text;
+      shows = record { facts = runs.printed.facts; survive = runs.printed.survive; printed = runs.printed.printed };
+      written = runs.written;
+      status_is = status-of s sources (of_sources (length sources) runs.arrivals) built builder status taken (first-builder s sources parts built builder some builds first) is;
+    }
+
+-- what a fault of a run leaves
+pub leaves-run : (s : Layout) (sources : Told) (fault : RunFault) (old new : Option (List ℕ)) → FaultLeaves ExplainsRun s sources fault old new
+    → Leaves ShowsCube s sources (failure.Run fault) old new
+leaves-run s sources run_fault.Memory old new leaves = leaves
+leaves-run s sources run_fault.NoThread old new leaves = leaves
+leaves-run s sources (run_fault.Feed source fault) old new leaves = leaves
+leaves-run s sources run_fault.Full old new leaves = leaves
+leaves-run s sources (run_fault.Unsealed source) old new leaves = leaves
+leaves-run s sources (run_fault.Write sent) old new part = record {
+  feeds = of_sources (length sources) part.arrivals;
+  are_feeds = record { good = part.good; items = part.taken };
+  text = part.text;
+  shows = record { facts = part.printed.facts; survive = part.printed.survive; printed = part.printed.printed };
+  within = part.within;
+  written = part.written;
+}

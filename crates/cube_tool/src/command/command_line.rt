@@ -1,0 +1,282 @@
+//! The command line as clap reads it: the commands, their words and options, and what their help says.
+ghost use Rattle.std.specs.Prelude.{◌≡◌, IfOk, false};
+ghost use Rattle.clap.specs.Words.{app_of, rule_of, shape_of, with_rule, with_subcommand};
+ghost use Rattle.clap.specs.declared.builder.command.Command.TheViews.{out-Command as fields_of};
+ghost use Rattle.cube_tool.specs.CommandLine.{builders_option, cell_word, check_line, code_word, command_line, dimension_word, drill_line, explain_line, feed_words, named_line, print_line, refusals_line, ring_option, schema_word, slice_line, with_feeds};
+
+use clap::builder::ValueParser;
+use clap::{Arg, Command};
+use std::alloc::{AllocError, Global};
+
+/// What the program does.
+const ABOUT: &str = "\
+Prints the data cube of feeds of facts: the aggregates of every group, over every choice of
+dimensions. Each feed is a CSV file of inserts, updates and deletes; the cube is that of the facts
+which are present in the end.";
+
+/// The forms of a command line.
+const USAGE: &str = "datacube < FEED
+       datacube check SCHEMA
+       datacube print [OPTIONS] SCHEMA FEED...
+       datacube refusals [OPTIONS] SCHEMA FEED...
+       datacube slice [OPTIONS] SCHEMA CELL FEED...
+       datacube drill [OPTIONS] SCHEMA CELL DIM FEED...
+       datacube explain [CODE]";
+
+/// What the help says below the commands.
+const AFTER_HELP: &str = "\
+Without a command, the feed on standard input is read under the sample schema (the
+dimensions region and kind, the measure amount), and its cube goes to standard output:
+
+  datacube < examples/first/feed.csv
+
+Exit status:
+  0  done
+  1  a feed was refused, a run failed, or the writing failed
+  2  the command line, CELL, DIM or CODE was refused
+  3  the schema couldn't be read, or was refused
+  4  done, but at least one line of a feed was refused: `datacube refusals` says which
+
+A failure prints one line on standard error, `datacube: CODE`, and `datacube explain CODE`
+says what the code means and how to mend it. Each command has its own `--help`.
+docs/FORMATS.md describes the formats of schemas, feeds, cells and cubes.";
+
+/// What the help of a command with feeds says of them.
+const AFTER_FEEDS: &str = "\
+Each FEED is a source of its own, numbered from 1: the same id in two feeds names two facts.
+Exit status: 0 done, 1 a run failed, 2 wrong words, 3 wrong schema, 4 done, with lines refused.
+`datacube explain CODE` explains what a failure prints.";
+
+/// What the help of `slice` says below its words.
+const AFTER_SLICE: &str = "\
+CELL is one CSV record with a field for each dimension of the schema, in their order:
+  =TEXT  this text (`=` alone is the empty text)
+  \\N     null
+  \\A     ALL, the dimension is aggregated over
+  ?      anything, ALL and null too
+
+For the dimensions region and kind:
+  datacube slice shop.toml '=west,?' feed.csv    every line of region west
+  datacube slice shop.toml '?,\\A' feed.csv       every line that aggregates over kind
+
+Put CELL in single quotes, so that the shell leaves it as it is.
+Exit status: 0 done, 1 a run failed, 2 wrong words, 3 wrong schema, 4 done, with lines refused.
+`datacube explain CODE` explains what a failure prints.";
+
+/// What the help of `drill` says below its words.
+const AFTER_DRILL: &str = "\
+CELL is one CSV record with a field for each dimension of the schema, in their order:
+  =TEXT  this text (`=` alone is the empty text)
+  \\N     null
+  \\A     ALL, the dimension is aggregated over
+It has to be ALL in the dimension DIM, and the lines that are printed have each value there.
+
+For the dimensions region and kind:
+  datacube drill shop.toml '=west,\\A' kind feed.csv    region west, kind by kind
+  datacube drill shop.toml '\\A,\\A' region feed.csv     the grand total, region by region
+
+Put CELL in single quotes, so that the shell leaves it as it is.
+Exit status: 0 done, 1 a run failed, 2 wrong words, 3 wrong schema, 4 done, with lines refused.
+`datacube explain CODE` explains what a failure prints.";
+
+/// What the help of `explain` says below its word.
+const AFTER_EXPLAIN: &str = "\
+CODE is what stands behind `datacube: ` on standard error, as S4, G3 or 'schema unreadable', a code
+that G3 ends with, as F3, or a number in the last column of `datacube refusals`, as 6.
+Without it, all codes are explained.
+
+Exit status: 0 done, 2 there is no such code.";
+
+/// The program's command line.
+pub(crate) fn program<'a>(alloc: Global) -> Result<Command<'a>, AllocError>
+    ensures { IfOk result (λ command. app_of command ≡ command_line) }
+{
+    let plain = with_command(named(alloc)?, check_command(alloc)?)?;
+    let printing = with_command(plain, print_command(alloc)?)?;
+    let noting = with_command(printing, refusals_command(alloc)?)?;
+    let slicing = with_command(noting, slice_command(alloc)?)?;
+    let drilling = with_command(slicing, drill_command(alloc)?)?;
+    with_command(drilling, explain_command(alloc)?)
+}
+
+// The program's own settings.
+fn named<'a>(alloc: Global) -> Result<Command<'a>, AllocError>
+    ensures { IfOk result (λ command. app_of command ≡ named_line) }
+{
+    Command::new(alloc, "datacube")
+        .about(ABOUT)
+        .override_usage(USAGE)
+        .after_help(AFTER_HELP)
+        .disable_help_subcommand(true)
+        .bin_name("datacube")
+}
+
+// The command line with one more command.
+fn with_command<'a>(line: Command<'a>, command: Command<'a>) -> Result<Command<'a>, AllocError>
+    requires { (fields_of command).has_globals ≡ false }
+    ensures { IfOk result (λ all. app_of all ≡ with_subcommand (app_of line.entry) (shape_of command.entry)) }
+{
+    line.subcommand(command)
+}
+
+// A command with one more word or option.
+fn with_word<'a>(command: Command<'a>, word: Arg<'a>) -> Result<Command<'a>, AllocError>
+    requires own { word.global ≡ false }
+    requires local { (fields_of command).has_globals ≡ false }
+    ensures line { IfOk result (λ all. app_of all ≡ with_rule (app_of command.entry) (rule_of word.entry)) }
+    ensures local { IfOk result (λ all. (fields_of all).has_globals ≡ false) }
+{
+    command.arg(word)
+}
+
+// The command `check` with its words.
+fn check_command<'a>(alloc: Global) -> Result<Command<'a>, AllocError>
+    ensures line { IfOk result (λ command. app_of command ≡ check_line) }
+    ensures local { IfOk result (λ command. (fields_of command).has_globals ≡ false) }
+{
+    let command = Command::new(alloc, "check").about(
+        "Says whether a schema file is right: `ok`, or the code of its first fault",
+    );
+    with_word(command, schema(alloc))
+}
+
+// The command `print` with its words.
+fn print_command<'a>(alloc: Global) -> Result<Command<'a>, AllocError>
+    ensures line { IfOk result (λ command. app_of command ≡ print_line) }
+    ensures local { IfOk result (λ command. (fields_of command).has_globals ≡ false) }
+{
+    let command = Command::new(alloc, "print")
+        .about("Prints the whole cube of all feeds, as CSV")
+        .after_help(AFTER_FEEDS);
+    with_all_feeds(alloc, with_word(command, schema(alloc))?)
+}
+
+// The command `refusals` with its words.
+fn refusals_command<'a>(alloc: Global) -> Result<Command<'a>, AllocError>
+    ensures line { IfOk result (λ command. app_of command ≡ refusals_line) }
+    ensures local { IfOk result (λ command. (fields_of command).has_globals ≡ false) }
+{
+    let command = Command::new(alloc, "refusals")
+        .about("Lists the refused lines of all feeds, as CSV: source, record, code")
+        .after_help(AFTER_FEEDS);
+    with_all_feeds(alloc, with_word(command, schema(alloc))?)
+}
+
+// The command `slice` with its words.
+fn slice_command<'a>(alloc: Global) -> Result<Command<'a>, AllocError>
+    ensures line { IfOk result (λ command. app_of command ≡ slice_line) }
+    ensures local { IfOk result (λ command. (fields_of command).has_globals ≡ false) }
+{
+    let command = Command::new(alloc, "slice")
+        .about("Prints the lines of the cube that CELL matches, as CSV")
+        .after_help(AFTER_SLICE);
+    let cell = cell(
+        alloc,
+        "What the lines have in each dimension, as '=west,?'; see below",
+    );
+    let sliced = with_word(with_word(command, schema(alloc))?, cell)?;
+    with_all_feeds(alloc, sliced)
+}
+
+// The command `drill` with its words.
+fn drill_command<'a>(alloc: Global) -> Result<Command<'a>, AllocError>
+    ensures line { IfOk result (λ command. app_of command ≡ drill_line) }
+    ensures local { IfOk result (λ command. (fields_of command).has_globals ≡ false) }
+{
+    let command = Command::new(alloc, "drill")
+        .about(
+            "Prints the lines one step below CELL: those with each value of dimension DIM, as CSV",
+        )
+        .after_help(AFTER_DRILL);
+    let cell = cell(alloc, "The line to start from, as '=west,\\A'; see below");
+    let named = with_word(with_word(command, schema(alloc))?, cell)?;
+    with_all_feeds(alloc, with_word(named, dimension(alloc))?)
+}
+
+// The command `explain` with its word.
+fn explain_command<'a>(alloc: Global) -> Result<Command<'a>, AllocError>
+    ensures line { IfOk result (λ command. app_of command ≡ explain_line) }
+    ensures local { IfOk result (λ command. (fields_of command).has_globals ≡ false) }
+{
+    let command = Command::new(alloc, "explain")
+        .about("Says what a code means, what causes it, and how to mend it")
+        .after_help(AFTER_EXPLAIN);
+    let code = Arg::new(alloc, "CODE").help("The code, as S4; all codes where it is left out");
+    with_word(command, code)
+}
+
+// A command with the feeds and the options of a run behind its words.
+fn with_all_feeds<'a>(alloc: Global, command: Command<'a>) -> Result<Command<'a>, AllocError>
+    requires { (fields_of command).has_globals ≡ false }
+    ensures line { IfOk result (λ all. app_of all ≡ with_feeds (app_of command.entry)) }
+    ensures local { IfOk result (λ all. (fields_of all).has_globals ≡ false) }
+{
+    let fed = with_word(command, feeds(alloc))?;
+    let ringed = with_word(fed, ring(alloc))?;
+    with_word(ringed, builders(alloc))
+}
+
+// The word that names the schema file.
+fn schema<'a>(alloc: Global) -> Arg<'a>
+    ensures rule { rule_of result ≡ schema_word }
+    ensures own { result.global ≡ false }
+{
+    Arg::new(alloc, "SCHEMA")
+        .help("The schema file: TOML, at most 1048576 bytes")
+        .required(true)
+}
+
+// The word that is a pattern or a cell.
+fn cell<'a>(alloc: Global, help: &'a str) -> Arg<'a>
+    ensures rule { rule_of result ≡ cell_word }
+    ensures own { result.global ≡ false }
+{
+    Arg::new(alloc, "CELL").help(help).required(true)
+}
+
+// The word that names a dimension.
+fn dimension<'a>(alloc: Global) -> Arg<'a>
+    ensures rule { rule_of result ≡ dimension_word }
+    ensures own { result.global ≡ false }
+{
+    Arg::new(alloc, "DIM")
+        .help("The name of the dimension to drill down along")
+        .required(true)
+}
+
+// The words that name the feeds.
+fn feeds<'a>(alloc: Global) -> Arg<'a>
+    ensures rule { rule_of result ≡ feed_words }
+    ensures own { result.global ≡ false }
+{
+    Arg::new(alloc, "FEED")
+        .help("The feeds: CSV files, 1 to 64")
+        .num_args(1..)
+        .required(true)
+}
+
+// The option for the room of the links.
+fn ring<'a>(alloc: Global) -> Arg<'a>
+    ensures rule { rule_of result ≡ ring_option }
+    ensures own { result.global ≡ false }
+{
+    Arg::new(alloc, "ring")
+        .long("ring")
+        .value_name("N")
+        .value_parser(ValueParser::Unsigned(1, 65536))
+        .default_value("64")
+        .help("How many records may wait between a feed and a builder, 1 to 65536")
+}
+
+// The option for the number of builders.
+fn builders<'a>(alloc: Global) -> Arg<'a>
+    ensures rule { rule_of result ≡ builders_option }
+    ensures own { result.global ≡ false }
+{
+    Arg::new(alloc, "builders")
+        .long("builders")
+        .value_name("N")
+        .value_parser(ValueParser::Unsigned(1, 8))
+        .default_value("1")
+        .help("How many threads build the cube, 1 to 8; what is printed is the same")
+}

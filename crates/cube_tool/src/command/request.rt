@@ -1,0 +1,180 @@
+//! What a command line asks for.
+ghost use Rattle.std.specs.Prelude.{◌≡◌, ◌≤◌, Some, IfOk, IfSome, codes, map, option_map};
+ghost use Rattle.clap.specs.Words.{all_of, first_of, found_of, rows_of, subcommand_rows_of};
+ghost use Rattle.cube_tool.specs.CommandLine.{AreRunWords, HasRoom, IsNumberOf, IsRequest};
+
+use clap::ArgMatches;
+use std::alloc::{AllocError, Global};
+
+/// The files and the options of a command with feeds.
+#[derive(Debug, Drop, PartialEq, Eq)]
+pub struct RunWords<'a> {
+    /// The path of the schema file.
+    pub schema: &'a str,
+    /// The paths of the feeds, of which the first is source 1.
+    pub feeds: Vec<&'a str>,
+    /// The capacity of each link, 1 to 65536.
+    pub ring: usize,
+    /// The number of builders, 1 to 8.
+    pub builders: u32,
+}
+
+/// What the words of a command line ask for.
+#[derive(Debug, Drop, PartialEq, Eq)]
+pub enum Request<'a> {
+    /// No words: the cube of the feed on standard input, under the sample schema.
+    Sample,
+    /// `check SCHEMA`: whether the schema file at this path is right.
+    Check {
+        schema: &'a str,
+    },
+    /// `explain [CODE]`: what a code means, or what all mean.
+    Explain {
+        code: Option<&'a str>,
+    },
+    /// `print SCHEMA FEED...`: the cube of the feeds.
+    Print {
+        run: RunWords<'a>,
+    },
+    /// `refusals SCHEMA FEED...`: the refused lines of the feeds.
+    Refusals {
+        run: RunWords<'a>,
+    },
+    /// `slice SCHEMA CELL FEED...`: the lines of the cube that a pattern matches.
+    Slice {
+        run: RunWords<'a>,
+        cell: &'a str,
+    },
+    /// `drill SCHEMA CELL DIM FEED...`: the lines below a cell along a dimension.
+    Drill {
+        run: RunWords<'a>,
+        cell: &'a str,
+        dimension: &'a str,
+    },
+}
+
+/// The request that parsed words make; none where a command lacks a word. The only error is want of memory.
+pub(crate) fn request_of<'a>(
+    alloc: Global,
+    matches: &ArgMatches<'a>,
+) -> Result<Option<Request<'a>>, AllocError>
+    ensures { IfOk result (IsRequest (subcommand_rows_of matches.now)) }
+{
+    match matches.subcommand() {
+        Some((name, words)) => command_of(alloc, name, words),
+        None => Ok(Some(Request::Sample)),
+    }
+}
+
+// The request that a command makes with its words.
+fn command_of<'a>(
+    alloc: Global,
+    name: &str,
+    words: &ArgMatches<'a>,
+) -> Result<Option<Request<'a>>, AllocError>
+    ensures { IfOk result (IsRequest (Some (name.now, rows_of (found_of words.now)))) }
+{
+    if name == "check" {
+        return Ok(check_request(words));
+    }
+    if name == "explain" {
+        let code = word_of(words, "CODE");
+        return Ok(Some(Request::Explain { code }));
+    }
+    match run_words(alloc, words)? {
+        Some(run) => Ok(run_request(name, run, words)),
+        None => Ok(None),
+    }
+}
+
+// The request that `check` makes.
+fn check_request<'a>(words: &ArgMatches<'a>) -> Option<Request<'a>>
+    ensures { IsRequest (Some (codes "check", rows_of (found_of words.now))) result }
+{
+    let schema = word_of(words, "SCHEMA")?;
+    Some(Request::Check { schema })
+}
+
+// The request that a command with feeds makes.
+fn run_request<'a>(name: &str, run: RunWords<'a>, words: &ArgMatches<'a>) -> Option<Request<'a>>
+    requires words { AreRunWords (rows_of (found_of words.now)) run }
+    requires room { HasRoom run }
+    ensures { IfSome result
+        (λ asked. IsRequest (Some (name.now, rows_of (found_of words.now))) (Some asked)) }
+{
+    match name {
+        "print" => Some(Request::Print { run }),
+        "refusals" => Some(Request::Refusals { run }),
+        "slice" => {
+            let cell = word_of(words, "CELL")?;
+            Some(Request::Slice { run, cell })
+        }
+        "drill" => {
+            let cell = word_of(words, "CELL")?;
+            let dimension = word_of(words, "DIM")?;
+            Some(Request::Drill {
+                run,
+                cell,
+                dimension,
+            })
+        }
+        _ => None,
+    }
+}
+
+// The files and the options of a command with feeds; none where one is missing or out of bounds.
+fn run_words<'a>(alloc: Global, words: &ArgMatches<'a>) -> Result<Option<RunWords<'a>>, AllocError>
+    ensures words { IfOk result
+        (λ run. IfSome run (AreRunWords (rows_of (found_of words.now)))) }
+    ensures room { IfOk result (λ run. IfSome run HasRoom) }
+{
+    let (Some(schema), Some(paths)) = (word_of(words, "SCHEMA"), paths_of(words)) else {
+        return Ok(None);
+    };
+    let (Some(ring), Some(builders)) = (
+        number_of(words, "ring", 65536),
+        number_of(words, "builders", 8),
+    ) else {
+        return Ok(None);
+    };
+    if paths.is_empty() {
+        return Ok(None);
+    }
+    let mut feeds = Vec::new(alloc);
+    feeds.extend_from_slice(paths)?;
+    Ok(Some(RunWords {
+        schema,
+        feeds,
+        ring,
+        builders: builders as u32,
+    }))
+}
+
+// The word of this name, if there is one.
+fn word_of<'a>(words: &ArgMatches<'a>, name: &str) -> Option<&'a str>
+    ensures { option_map (λ text. text.now) result
+        ≡ first_of name.now (rows_of (found_of words.now)) }
+{
+    words.get_str(name)
+}
+
+// The paths of the feeds.
+fn paths_of<'w, 'a>(words: &'w ArgMatches<'a>) -> Option<&'w [&'a str]>
+    ensures { option_map (λ paths. map (λ path. path.now) paths.now) result
+        ≡ all_of (codes "FEED") (rows_of (found_of words.now)) }
+{
+    words.get_strs("FEED")
+}
+
+// The number that an option has, where it is from 1 to this bound.
+fn number_of<'a>(words: &ArgMatches<'a>, option: &str, most: usize) -> Option<usize>
+    ensures number { IfSome result (IsNumberOf option.now (rows_of (found_of words.now))) }
+    ensures bounds { IfSome result (λ number. (1 ≤ number) × (number ≤ most)) }
+{
+    let number = words.get_one::<usize>(option)?;
+    if 1 <= number && number <= most {
+        Some(number)
+    } else {
+        None
+    }
+}
