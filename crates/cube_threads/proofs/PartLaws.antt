@@ -1,5 +1,5 @@
 -- Builders that stand at one arrival list have the same facts, and their cubes are the parts of one.
-use Rattle.std.proofs.Common.{◌≡◌, ◌<◌, ◌≤◌, ℕ, false, List, [], ◌∷◌, length, map, get_or, remove, Contains, IsPermutation, refl, sym, ap, subst, ◌∙◌, arith, inl, inr}
+use Rattle.std.proofs.Common.{◌≡◌, ◌<◌, ◌≤◌, ℕ, false, List, [], ◌∷◌, length, get_or, remove, Contains, IsPermutation, refl, sym, ap, subst, ◌∙◌, arith, inl, inr}
 use Rattle.std.specs.List.{AllZip}
 use Rattle.std.specs.Str.{bytes_eq}
 use Rattle.std.specs.Map.{keys_of}
@@ -19,7 +19,7 @@ use Rattle.cube_cells.proofs.CubeLaws.{IsCubeOf-permutation}
 use Rattle.cube_engine.specs.Book.{Entries, IsBook, fact_at, facts_of}
 use Rattle.cube_engine.specs.Builder.{BuilderView}
 use Rattle.cube_engine.specs.Ledger.{AccountView, LedgerView, AccountStandsAt, LedgerStandsAt, all_facts}
-use Rattle.cube_threads.specs.Parts.{BuiltView, first_ledger, schema_of_run, IsPartOf, AreParts, StandsInParts, BuildsParts}
+use Rattle.cube_threads.specs.Parts.{BuiltView, first_ledger, schema_of_run, AreParts, StandsInParts, BuildsParts}
 use Rattle.cube_threads.proofs.WireLaws.{some_of}
 
 -- an entry of a book isn't among those after it

@@ -1,7 +1,7 @@
-use Rattle.std.proofs.Common.{◌≡◌, ◌≤◌, ℕ, map, length, sym, subst, ◌∙◌}
+use Rattle.std.proofs.Common.{◌≡◌, ℕ, map, length, sym, subst, ◌∙◌}
 use Rattle.std.proofs.lemmas.List.{length-map}
 use Rattle.cube_threads.specs.Drafts.{AreNewDrafts}
-use Rattle.cube_threads.specs.Parts.{BuiltView, BuildsParts}
+use Rattle.cube_threads.specs.Parts.{BuiltView}
 use Rattle.cube_threads.proofs.DraftLaws.{builds-parts}
 use Rattle.cube_threads.proofs.PartLaws.{are-parts, schema-run}
 use Rattle.cube_threads.proofs.building.build.Goals as goal

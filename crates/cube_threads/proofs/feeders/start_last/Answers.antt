@@ -1,4 +1,4 @@
-use Rattle.std.proofs.Common.{arith, ◌≤◌, ◌∷◌, [], ◌∙◌, ap, vec_len}
+use Rattle.std.proofs.Common.{arith, ◌≤◌, ◌∙◌, ap, vec_len}
 use Rattle.std.proofs.lemmas.Result.{IfOk-weaker}
 use Rattle.cube_threads.proofs.PlaceLaws.{all_last}
 use Rattle.cube_threads.proofs.RunLaws.{ok-holds}

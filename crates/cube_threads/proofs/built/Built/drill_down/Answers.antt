@@ -1,9 +1,8 @@
-use Rattle.std.proofs.Common.{rules, arith, true, ◌≡◌, ◌<◌, List, length, get_or, subst, sym, ap, ◌∙◌, IfOk}
+use Rattle.std.proofs.Common.{rules, arith, ◌≡◌, ◌<◌, length, get_or, subst, ap}
 use Rattle.cube_core.specs.Query.{drills_down, drill_fault}
 use Rattle.std.specs.Prelude.{Ok}
 use Rattle.std.specs.declared.alloc.AllocError.{AllocError}
-use Rattle.cube_engine.specs.Builder.{BuilderView}
-use Rattle.cube_threads.specs.Parts.{BuiltView, AreParts, schema_of_run, facts_of_run}
+use Rattle.cube_threads.specs.Parts.{BuiltView, AreParts}
 use Rattle.cube_threads.proofs.QueryLaws.{gives-ok, gives-other, schema-at, parts-first, parts-more, parts-all, parts-alone}
 use Rattle.cube_threads.proofs.built.Built.drill_down.Goals as goal
 

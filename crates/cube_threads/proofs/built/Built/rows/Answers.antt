@@ -1,5 +1,4 @@
-use Rattle.std.proofs.Common.{rules, arith, true, ◌≡◌, ◌<◌, List, length, get_or, subst, sym, ap, ◌∙◌, IfOk}
-use Rattle.cube_engine.specs.Builder.{BuilderView}
+use Rattle.std.proofs.Common.{rules, true, ◌≡◌, ◌<◌, length, get_or, subst}
 use Rattle.cube_threads.specs.Parts.{BuiltView, AreParts, schema_of_run, facts_of_run}
 use Rattle.cube_threads.proofs.QueryLaws.{answers-all, if_ok-all, if_ok-rows, parts-first, parts-more, parts-all, parts-alone}
 use Rattle.cube_threads.proofs.built.Built.rows.Goals as goal

@@ -1,7 +1,6 @@
-use Rattle.std.proofs.Common.{rules, arith, true, ◌≡◌, ◌<◌, List, length, get_or, subst, sym, ap, ◌∙◌, IfOk}
+use Rattle.std.proofs.Common.{rules, ◌≡◌, ◌<◌, length, get_or, subst}
 use Rattle.cube_core.specs.Query.{matches}
-use Rattle.cube_engine.specs.Builder.{BuilderView}
-use Rattle.cube_threads.specs.Parts.{BuiltView, AreParts, schema_of_run, facts_of_run}
+use Rattle.cube_threads.specs.Parts.{BuiltView, AreParts}
 use Rattle.cube_threads.proofs.QueryLaws.{parts-first, parts-more, parts-all, parts-alone}
 use Rattle.cube_threads.proofs.built.Built.slice.Goals as goal
 
