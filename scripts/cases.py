@@ -28,6 +28,7 @@ import subprocess
 import sys
 import tempfile
 
+sys.dont_write_bytecode = True
 import documents
 
 ROOT = os.path.dirname(os.path.dirname(os.path.realpath(__file__)))
@@ -78,7 +79,7 @@ def read_line(case, word, rest, place):
     """Takes a line of a case, and gives the list for the lines below it."""
     lines = []
     if word == "words":
-        case.words = [bytes_of(it) for it in shlex.split(rest.replace("\\x", "\\\\x")))]
+        case.words = [bytes_of(it) for it in shlex.split(rest.replace("\\x", "\\\\x"))]
     elif word in ("file", "folder", "locked"):
         case.made.append((word, rest, lines))
     elif word == "bytes":

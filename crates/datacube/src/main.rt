@@ -14,10 +14,12 @@ use cube_tool::command::{
 };
 use std::fs::File;
 use std::process::ExitCode;
+use std::sync::Wait;
+use std::thread::Threads;
 use std::{env, io};
 
 fn main(rt: HostRuntime) -> ExitCode {
-    let status = match run(&rt) {
+    let status = match run(&rt, &rt) {
         Ok(status) => status,
         Err(failure) => {
             let _ = rt.eprintln(failure);
@@ -27,7 +29,8 @@ fn main(rt: HostRuntime) -> ExitCode {
     ExitCode::from(status.code())
 }
 
-fn run(rt: &HostRuntime) -> Result<Status, Failure> {
+// `threads` is the runtime too, as what starts threads.
+fn run<T: Threads + Wait + Sync>(rt: &HostRuntime, threads: &T) -> Result<Status, Failure> {
     let alloc = rt.alloc();
     let words = match words_of(rt) {
         Ok(words) => words,
@@ -37,7 +40,7 @@ fn run(rt: &HostRuntime) -> Result<Status, Failure> {
         }
     };
     match read_words(alloc, words.as_slice()) {
-        Ok(request) => obey(rt, request),
+        Ok(request) => obey(rt, threads, request),
         Err(answer) => answer_words(alloc, &answer, &mut rt.stdout(), &mut rt.stderr()),
     }
 }
@@ -48,7 +51,11 @@ fn words_of(rt: &HostRuntime) -> io::Result<Vec<String>> {
 }
 
 /// Does what is asked for.
-fn obey(rt: &HostRuntime, request: Request) -> Result<Status, Failure>
+fn obey<T: Threads + Wait + Sync>(
+    rt: &HostRuntime,
+    threads: &T,
+    request: Request,
+) -> Result<Status, Failure>
     requires { IsInBounds request }
 {
     let alloc = rt.alloc();
@@ -56,38 +63,67 @@ fn obey(rt: &HostRuntime, request: Request) -> Result<Status, Failure>
         Request::Sample => run_sample(alloc, rt.stdin(), &mut rt.stdout()),
         Request::Check { schema } => check(alloc, open_schema(rt, schema)?, &mut rt.stdout()),
         Request::Explain { code } => explain(alloc, &NOTES, code, &mut rt.stdout()),
-        Request::Print { run } => obey_print(rt, run),
-        Request::Refusals { run } => obey_refusals(rt, run),
-        Request::Slice { run, cell } => obey_slice(rt, run, cell),
+        Request::Print { run } => obey_print(rt, threads, run),
+        Request::Refusals { run } => obey_refusals(rt, threads, run),
+        Request::Slice { run, cell } => obey_slice(rt, threads, run, cell),
         Request::Drill {
             run,
             cell,
             dimension,
-        } => obey_drill(rt, run, cell, dimension),
+        } => obey_drill(rt, threads, run, cell, dimension),
     }
 }
 
-fn obey_print(rt: &HostRuntime, words: RunWords) -> Result<Status, Failure>
+fn obey_print<T: Threads + Wait + Sync>(
+    rt: &HostRuntime,
+    threads: &T,
+    words: RunWords,
+) -> Result<Status, Failure>
     requires { HasRoom words }
 {
     let alloc = rt.alloc();
     let schema = schema_of(rt, &words)?;
     let feeds = open_feeds(rt, &words.feeds)?;
     let out = &mut rt.stdout();
-    print(rt, alloc, &schema, feeds, words.ring, words.builders, out)
+    print(
+        threads,
+        alloc,
+        &schema,
+        feeds,
+        words.ring,
+        words.builders,
+        out,
+    )
 }
 
-fn obey_refusals(rt: &HostRuntime, words: RunWords) -> Result<Status, Failure>
+fn obey_refusals<T: Threads + Wait + Sync>(
+    rt: &HostRuntime,
+    threads: &T,
+    words: RunWords,
+) -> Result<Status, Failure>
     requires { HasRoom words }
 {
     let alloc = rt.alloc();
     let schema = schema_of(rt, &words)?;
     let feeds = open_feeds(rt, &words.feeds)?;
     let out = &mut rt.stdout();
-    refusals(rt, alloc, &schema, feeds, words.ring, words.builders, out)
+    refusals(
+        threads,
+        alloc,
+        &schema,
+        feeds,
+        words.ring,
+        words.builders,
+        out,
+    )
 }
 
-fn obey_slice(rt: &HostRuntime, words: RunWords, cell: &str) -> Result<Status, Failure>
+fn obey_slice<T: Threads + Wait + Sync>(
+    rt: &HostRuntime,
+    threads: &T,
+    words: RunWords,
+    cell: &str,
+) -> Result<Status, Failure>
     requires { HasRoom words }
 {
     let alloc = rt.alloc();
@@ -96,7 +132,7 @@ fn obey_slice(rt: &HostRuntime, words: RunWords, cell: &str) -> Result<Status, F
     let feeds = open_feeds(rt, &words.feeds)?;
     let out = &mut rt.stdout();
     slice(
-        rt,
+        threads,
         alloc,
         &schema,
         &pattern,
@@ -107,8 +143,9 @@ fn obey_slice(rt: &HostRuntime, words: RunWords, cell: &str) -> Result<Status, F
     )
 }
 
-fn obey_drill(
+fn obey_drill<T: Threads + Wait + Sync>(
     rt: &HostRuntime,
+    threads: &T,
     words: RunWords,
     cell: &str,
     dimension: &str,
@@ -122,7 +159,7 @@ fn obey_drill(
     let feeds = open_feeds(rt, &words.feeds)?;
     let out = &mut rt.stdout();
     drill(
-        rt,
+        threads,
         alloc,
         &schema,
         &key,
