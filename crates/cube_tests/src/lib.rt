@@ -12,3 +12,5 @@ mod failures;
 #[cfg(test)]
 mod runs;
 pub mod sample;
+#[cfg(test)]
+mod sources;
