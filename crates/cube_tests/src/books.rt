@@ -109,6 +109,17 @@ fn an_amendment_keeps_the_fields_that_it_does_not_put(rt: HostRuntime) -> Result
 }
 
 #[test]
+fn an_amendment_that_keeps_every_field_changes_no_row(rt: HostRuntime) -> Result<(), Fail> {
+    let (rows, refusals) = rows_amended(rt.alloc(), "I,1,west,a,5\nU,1,\\=,\\=,\\=\n")?;
+    assert_eq!(rt;
+        rows.as_str(),
+        "west,a,0,0,1,5,5,5,5/1\nwest,\\N,0,1,1,5,5,5,5/1\n\\N,a,1,0,1,5,5,5,5/1\n\\N,\\N,1,1,1,5,5,5,5/1\n"
+    );
+    assert_eq!(rt; refusals.as_str(), "source,record,code\n");
+    Ok(())
+}
+
+#[test]
 fn the_second_version_has_codes_of_its_own(rt: HostRuntime) -> Result<(), Fail> {
     let (rows, refusals) = rows_amended(
         rt.alloc(),

@@ -31,15 +31,31 @@ impl Write for Full {
     }
 }
 
-/// A reader that gives its bytes, and then fails.
+/// A reader that gives its bytes, and then ends or fails.
 #[derive(Drop)]
-struct Cut<'a> {
+pub struct Cut<'a> {
     bytes: &'a [u8],
+    fails: bool,
+}
+
+impl<'a> Cut<'a> {
+    /// Ends after these bytes.
+    pub fn whole(bytes: &'a [u8]) -> Cut<'a> {
+        Cut {
+            bytes,
+            fails: false,
+        }
+    }
+
+    /// Fails after these bytes.
+    pub fn failing(bytes: &'a [u8]) -> Cut<'a> {
+        Cut { bytes, fails: true }
+    }
 }
 
 impl<'a> Read for Cut<'a> {
     fn read(&mut self, buf: &mut [u8]) -> io::Result<usize> {
-        if self.bytes.is_empty() {
+        if self.bytes.is_empty() && self.fails {
             return Err(io::Error::from(io::ErrorKind::BrokenPipe));
         }
         let count = buf.len().min(self.bytes.len());
@@ -88,14 +104,8 @@ fn a_reader_that_fails_inside_a_record_is_the_fault_of_its_source(
         taken: Vec::new(alloc),
         room: 1000,
     };
-    let fault = outcome_over(
-        alloc,
-        Cut {
-            bytes: feed.as_bytes(),
-        },
-        &mut out,
-    )?
-    .ok_or("the run went well")?;
+    let reader = Cut::failing(feed.as_bytes());
+    let fault = outcome_over(alloc, reader, &mut out)?.ok_or("the run went well")?;
     assert_eq!(rt;
         fault,
         RunFault::Feed {

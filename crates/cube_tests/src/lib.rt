@@ -22,3 +22,5 @@ mod runs;
 pub mod sample;
 #[cfg(test)]
 mod sizes;
+#[cfg(test)]
+mod sources;
