@@ -47,7 +47,10 @@ fn texts_and_sequences_give_back_what_they_hold(rt: HostRuntime) -> Result<(), F
     assert_eq!(rt; west.as_str(), "west");
     assert!(rt; west == west.copy(alloc)?);
     assert!(rt; text(alloc, "east")? < west);
-    assert_eq!(rt; Text::from_string(String::from_str(alloc, "west")?).as_str(), "west");
+    assert_eq!(rt;
+        Text::from_string(String::from_str(alloc, "west")?).as_str(),
+        "west"
+    );
     let long = "a text of more than four and twenty bytes";
     assert_eq!(rt; text(alloc, long)?.as_str(), long);
     let numbers = Sequence::from_vec([3u8, 1].to_vec(alloc)?);

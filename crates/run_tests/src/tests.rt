@@ -5,9 +5,12 @@ use crate::run_texts;
 use cube_core::Schema;
 use cube_engine::RunFault;
 use cube_feed::FeedFault;
+use std::alloc::Global;
 use std::io;
 use std::io::Write;
+use std::sync::Wait;
 use std::test::Fail;
+use std::thread::Threads;
 
 const ONE: &str = "op,id,region,kind,amount\nI,1,w,a,1\n";
 
@@ -47,10 +50,9 @@ impl Write for Narrow {
 }
 
 // What a run of so many builders over two sources writes.
-fn printed(rt: &HostRuntime, builders: u32) -> Result<Vec<u8>, Fail>
+fn printed<T: Threads + Wait + Sync>(rt: &T, alloc: Global, builders: u32) -> Result<Vec<u8>, Fail>
     requires { (1 ≤ builders) × (builders ≤ 8) }
 {
-    let alloc = rt.alloc();
     let schema = Schema::sample(alloc)?;
     let mut out = Vec::new(alloc);
     let ran = run_texts(rt, alloc, &schema, &[ONE, TWO], builders, &mut out);
@@ -60,25 +62,25 @@ fn printed(rt: &HostRuntime, builders: u32) -> Result<Vec<u8>, Fail>
 
 #[test]
 fn one_builder_prints_the_cube(rt: HostRuntime) -> Result<(), Fail> {
-    assert_eq!(rt; printed(&rt, 1)?.as_slice(), BOTH.as_bytes());
+    assert_eq!(rt; printed(&rt, rt.alloc(), 1)?.as_slice(), BOTH.as_bytes());
     Ok(())
 }
 
 #[test]
 fn two_builders_print_the_cube(rt: HostRuntime) -> Result<(), Fail> {
-    assert_eq!(rt; printed(&rt, 2)?.as_slice(), BOTH.as_bytes());
+    assert_eq!(rt; printed(&rt, rt.alloc(), 2)?.as_slice(), BOTH.as_bytes());
     Ok(())
 }
 
 #[test]
 fn three_builders_print_the_cube(rt: HostRuntime) -> Result<(), Fail> {
-    assert_eq!(rt; printed(&rt, 3)?.as_slice(), BOTH.as_bytes());
+    assert_eq!(rt; printed(&rt, rt.alloc(), 3)?.as_slice(), BOTH.as_bytes());
     Ok(())
 }
 
 #[test]
 fn eight_builders_print_the_cube(rt: HostRuntime) -> Result<(), Fail> {
-    assert_eq!(rt; printed(&rt, 8)?.as_slice(), BOTH.as_bytes());
+    assert_eq!(rt; printed(&rt, rt.alloc(), 8)?.as_slice(), BOTH.as_bytes());
     Ok(())
 }
 
