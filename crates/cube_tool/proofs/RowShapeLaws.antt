@@ -38,5 +38,5 @@ rows_where_have_shape test s facts rows fit are =
     All-from_recursion (HasShapeOf s) rows
     (shapes s facts rows
     (Contains-AllByRecursion (λ (key : Key). length key.coords ≡ length s.dimensions) (map key_of rows)
-    (λ key among. width_of_cell s facts key fit (and_parts _ _ ((are.cells key).0 among).0).1))
+    (λ key among. is_cell-length s facts key fit (and_parts _ _ ((are.cells key).0 among).0).1))
     are.answers)
