@@ -80,10 +80,10 @@ length-gathered : (old new : List (Receiving Parcel)) → map (λ (inlet : Recei
 length-gathered old new same = sym (length-map new (λ (inlet : Receiving Parcel). inlet.link)) ∙ ap length same ∙ length-map old (λ (inlet : Receiving Parcel). inlet.link)
 
 -- what ends tell after the joins
-pub tell-joined : {B : Type 0} (stands : B → B → Arrivals → Type 0) (s : Layout) (sources : Told) (comings : List Ahead) (outs : List (List (Sending Parcel))) (ends : List FeederEnd) (old mid : List (Gatherer B)) →
-    AreLinked outs old → comings ≡ map (coming_of s) sources → EndsOf comings outs ends → AllZip (HasGathered stands) old mid → AllTell s sources (map received_by mid) ends
-tell-joined stands s sources comings outs ends old mid linked come joined gathered =
-    let count = AllZip-length (HasGathered stands) old mid gathered in
+pub tell-joined : {B : Type 0} (completes : B → B → Arrivals → Type 0) (s : Layout) (sources : Told) (comings : List Ahead) (outs : List (List (Sending Parcel))) (ends : List FeederEnd) (old mid : List (Gatherer B)) →
+    AreLinked outs old → comings ≡ map (coming_of s) sources → EndsOf comings outs ends → AllZip (HasGathered completes) old mid → AllTell s sources (map received_by mid) ends
+tell-joined completes s sources comings outs ends old mid linked come joined gathered =
+    let count = AllZip-length (HasGathered completes) old mid gathered in
     let outs_too = joined.same_outs in
     let comings_too = joined.same_comings in
     let rows = map received_by mid in
@@ -95,7 +95,7 @@ tell-joined stands s sources comings outs ends old mid linked come joined gather
           let low : j < length mid = omega arith in
           let at : j < length old = omega arith in
           let d = some_of mid j low in
-          let g = all_zip-at (HasGathered stands) old mid j d d gathered at in
+          let g = all_zip-at (HasGathered completes) old mid j d d gathered at in
           rw (get_or-map received_by mid j d [] low)
           (length-map (get_or mid j d).inlets.items received_on
           ∙ length-gathered (get_or old j d).inlets.items (get_or mid j d).inlets.items g.links
@@ -113,7 +113,7 @@ tell-joined stands s sources comings outs ends old mid linked come joined gather
                 let low : j < length mid = omega arith in
                 let at : j < length old = omega arith in
                 let m = some_of mid j low in
-                let g = all_zip-at (HasGathered stands) old mid j m m gathered at in
+                let g = all_zip-at (HasGathered completes) old mid j m m gathered at in
                 let wide : j < length (get_or outs k []) = rw (linked.widths k reach) at in
                 let o = some_of (get_or outs k []) j wide in
                 let tall : k < length (get_or old j m).inlets.items = rw (linked.heights j m at) reach in
@@ -130,38 +130,38 @@ tell-joined stands s sources comings outs ends old mid linked come joined gather
     }
 
 -- settled builders have all taken the same feeds
-pub takes-settled : {B : Type 0} (stands : B → B → Arrivals → Type 0) (s : Layout) (sources : Told) (outs : List (List (Sending Parcel))) (ends : List FeederEnd) (builders : List B) (old mid new : List (Gatherer B)) →
-    AreLinked outs old → length outs ≡ length sources → map (λ gatherer. gatherer.builder) old ≡ builders → AllZip (HasGathered stands) old mid → AllTell s sources (map received_by mid) ends → Settles ends mid new →
-    1 ≤ length mid → TakeAll stands s sources builders new
-takes-settled {B} stands s sources outs ends builders old mid new linked as_many same gathered tell settles some =
+pub takes-settled : {B : Type 0} (completes : B → B → Arrivals → Type 0) (s : Layout) (sources : Told) (outs : List (List (Sending Parcel))) (ends : List FeederEnd) (builders : List B) (old mid new : List (Gatherer B)) →
+    AreLinked outs old → length outs ≡ length sources → map (λ gatherer. gatherer.builder) old ≡ builders → AllZip (HasGathered completes) old mid → AllTell s sources (map received_by mid) ends → Settles ends mid new →
+    1 ≤ length mid → TakeAll completes s sources builders new
+takes-settled {B} completes s sources outs ends builders old mid new linked as_many same gathered tell settles some =
     let rows = map received_by mid in
     let number : length rows ≡ length mid = length-map mid received_by in
-    let count = AllZip-length (HasGathered stands) old mid gathered in
+    let count = AllZip-length (HasGathered completes) old mid gathered in
     let news : length new ≡ length mid = sym (length-map new kept_of) ∙ ap length settles.kept ∙ length-map mid kept_of in
     let bs : length builders ≡ length old = sym (ap length same) ∙ length-map old (λ (g : Gatherer B). g.builder) in
     let sealed = rw (← number) at settles.sealed in
-    let arrive : (j : ℕ) (d : Gatherer B) → (at : j < length old) → (k : ℕ) (e : FeederEnd) (low : k < length ends) → of_source (all_zip-at (HasGathered stands) old mid j d d gathered at).arrivals (k + 1) ≡ (tell.each k e low).items =
+    let arrive : (j : ℕ) (d : Gatherer B) → (at : j < length old) → (k : ℕ) (e : FeederEnd) (low : k < length ends) → of_source (all_zip-at (HasGathered completes) old mid j d d gathered at).arrivals (k + 1) ≡ (tell.each k e low).items =
     λ j d at.
-    came-from (stands (get_or old j d).builder) s sources rows ends (get_or old j d).inlets.items (get_or mid j d) j tell (linked.heights j d at ∙ as_many) (all_zip-at (HasGathered stands) old mid j d d gathered at)
+    came-from completes s sources rows ends (get_or old j d) (get_or mid j d) j tell (linked.heights j d at ∙ as_many) (all_zip-at (HasGathered completes) old mid j d d gathered at)
     (omega arith) (get_or-map received_by mid j d [] (omega arith)) sealed settles.begin in
     let one : 0 < length old = omega arith in
     let m = some_of mid 0 (omega arith) in
-    let arrivals = (all_zip-at (HasGathered stands) old mid 0 m m gathered one).arrivals in
+    let arrivals = (all_zip-at (HasGathered completes) old mid 0 m m gathered one).arrivals in
     let feeds = of_sources (length sources) arrivals in
     let long : length feeds ≡ length sources = length-map-range_with_len (of_source arrivals) 1 (length sources) in
     record {
       feeds = feeds;
       items = items-settled s sources rows ends arrivals tell settles.good (arrive 0 m one);
-      each = all_zip-each (λ builder gatherer. TakesFeeds (stands builder) feeds gatherer) builders new (omega arith) (λ j b d below.
+      each = all_zip-each (λ builder gatherer. TakesFeeds (completes builder) feeds gatherer) builders new (omega arith) (λ j b d below.
           let at : j < length old = omega arith in
           let low : j < length mid = omega arith in
           let fresh : j < length new = omega arith in
-          let g = all_zip-at (HasGathered stands) old mid j d d gathered at in
+          let g = all_zip-at (HasGathered completes) old mid j d d gathered at in
           let first : get_or builders j b ≡ (get_or old j d).builder = ap (λ (xs : List B). get_or xs j b) (sym same) ∙ get_or-map (λ (x : Gatherer B). x.builder) old j d b at in
           let kept : kept_of (get_or new j d) ≡ kept_of (get_or mid j d) =
           sym (get_or-map kept_of new j d (kept_of d) fresh) ∙ ap (λ xs. get_or xs j (kept_of d)) settles.kept ∙ get_or-map kept_of mid j d (kept_of d) low in
           rw first
-          (takes-feeds (stands (get_or old j d).builder) (length sources) feeds (get_or old j d).inlets.items (get_or mid j d) (get_or new j d) (linked.heights j d at ∙ as_many) long g
+          (takes-feeds completes (length sources) feeds (get_or old j d) (get_or mid j d) (get_or new j d) (linked.heights j d at ∙ as_many) long g
           (same-settled s sources rows ends g.arrivals arrivals tell (arrive j d at) (arrive 0 m one)) (settles.enough j d low) kept));
     }
 
@@ -175,11 +175,11 @@ map-told f g [] = refl
 map-told f g (x ∷ xs) = ap (λ rest. g (f x) ∷ rest) (map-told f g xs)
 
 -- what ends tell after the joins of a run whose threads were started
-pub tell-run : {B P R E : Type 0} (stands : B → B → Arrivals → Type 0) (s : Layout) (remaining : R → Option (List ℕ)) (readers : List R) (feed : P → Ahead) (outs : P → List (Sending Parcel)) (feeders : List P) (ends : List FeederEnd)
+pub tell-run : {B P R E : Type 0} (completes : B → B → Arrivals → Type 0) (s : Layout) (remaining : R → Option (List ℕ)) (readers : List R) (feed : P → Ahead) (outs : P → List (Sending Parcel)) (feeders : List P) (ends : List FeederEnd)
     (old mid : List (Gatherer B)) (answer : Result Unit E) → is_err answer ≡ false → AreLinked (map outs feeders) old → map feed feeders ≡ map (λ reader. coming_of s (remaining reader)) readers →
-    OnOk answer (AllZip (λ feeder end. Feeds (feed feeder) (outs feeder) end) feeders ends) → OnOk answer (AllZip (HasGathered stands) old mid) → AllTell s (map remaining readers) (map received_by mid) ends
-tell-run stands s remaining readers feed outs feeders ends old mid answer fine linked feeds joined gathered =
-    tell-joined stands s (map remaining readers) (map feed feeders) (map outs feeders) ends old mid linked (feeds ∙ map-told remaining (coming_of s) readers)
+    OnOk answer (AllZip (λ feeder end. Feeds (feed feeder) (outs feeder) end) feeders ends) → OnOk answer (AllZip (HasGathered completes) old mid) → AllTell s (map remaining readers) (map received_by mid) ends
+tell-run completes s remaining readers feed outs feeders ends old mid answer fine linked feeds joined gathered =
+    tell-joined completes s (map remaining readers) (map feed feeders) (map outs feeders) ends old mid linked (feeds ∙ map-told remaining (coming_of s) readers)
     (ends-joined feed outs feeders ends (on_ok-holds answer _ fine joined)) (on_ok-holds answer _ fine gathered)
 
 -- what holds of an answer, or of its error, where another does

@@ -20,7 +20,7 @@ use Rattle.cube_link.specs.Link.{Sending, Receiving}
 use Rattle.cube_threads.specs.Building.{TakesFeeds, ExplainsRun, HasReceived}
 use Rattle.cube_threads.specs.Ends.{HasNoStop, IsFirstStop, IsSealed}
 use Rattle.cube_threads.specs.Feeding.{Stops}
-use Rattle.cube_threads.specs.Gathering.{Gathers}
+use Rattle.cube_threads.specs.Starting.{HasGathered}
 use Rattle.cube_threads.specs.Parcels.{parcels_of}
 use Rattle.cube_threads.specs.Settling.{received_on, received_by, Kept, kept_of, receipt_of, Begins, AllFit, AllBegin, StopsRun}
 use Rattle.cube_threads.specs.Wiring.{coming_of}
@@ -206,10 +206,10 @@ received-at inlets arrivals sources k d received below =
     ∙ ap parcels_of (get_or-map-range_with_len (of_source arrivals) 1 sources k (k + 1) [] below (omega arith))
 
 -- what arrived from a source at a builder that gathered, and is settled with its receipts, are the items of the source's end
-pub came-from : {B : Type 0} (stands : B → Arrivals → Type 0) (s : Layout) (sources : Told) (received : List (List (Sending Parcel))) (ends : List FeederEnd) (old : List (Receiving Parcel)) (mid : Gatherer B) (j : ℕ) →
-    (tell : AllTell s sources received ends) → length old ≡ length sources → (gathers : Gathers stands old mid.inlets.items mid.builder mid.wanting) → j < length received → get_or received j [] ≡ received_by mid →
+pub came-from : {B : Type 0} (completes : B → B → Arrivals → Type 0) (s : Layout) (sources : Told) (received : List (List (Sending Parcel))) (ends : List FeederEnd) (old mid : Gatherer B) (j : ℕ) →
+    (tell : AllTell s sources received ends) → length old.inlets.items ≡ length sources → (gathers : HasGathered completes old mid) → j < length received → get_or received j [] ≡ received_by mid →
     All (IsSealed (length received)) ends → AllBegin ends received → (k : ℕ) (e : FeederEnd) (low : k < length ends) → of_source gathers.arrivals (k + 1) ≡ (tell.each k e low).items
-came-from stands s sources received ends old mid j tell count gathers inside row sealed begin k e low =
+came-from completes s sources received ends old mid j tell count gathers inside row sealed begin k e low =
     let all = tell.all in
     let below : k < length sources = omega arith in
     let arrivals = gathers.arrivals in
@@ -254,16 +254,14 @@ same-settled s sources received ends a b tell came_a came_b =
     ∙ sym (get_or-map-range_with_len (of_source b) 1 (length sources) k (k + 1) [] below (omega arith)))
 
 -- a builder that gathered, and is settled with its receipts, has taken the feeds
-pub takes-feeds : {B : Type 0} (stands : B → Arrivals → Type 0) (sources : ℕ) (feeds : List (List Item)) (old : List (Receiving Parcel)) (mid new : Gatherer B) → length old ≡ sources → length feeds ≡ sources →
-    (gathers : Gathers stands old mid.inlets.items mid.builder mid.wanting) → of_sources sources gathers.arrivals ≡ feeds → mid.wanting ≡ false → kept_of new ≡ kept_of mid → TakesFeeds stands feeds new
-takes-feeds {B} stands sources feeds old mid new count long gathers same enough kept =
+pub takes-feeds : {B : Type 0} (completes : B → B → Arrivals → Type 0) (sources : ℕ) (feeds : List (List Item)) (old mid new : Gatherer B) → length old.inlets.items ≡ sources → length feeds ≡ sources →
+    (gathers : HasGathered completes old mid) → of_sources sources gathers.arrivals ≡ feeds → mid.wanting ≡ false → kept_of new ≡ kept_of mid → TakesFeeds (completes old.builder) feeds new
+takes-feeds {B} completes sources feeds old mid new count long gathers same enough kept =
     let arrivals = gathers.arrivals in
-    let at = gathers.stands_at in
-    let stood : stands mid.builder arrivals = subst (stands mid.builder) (sym (at.split ∙ ap (λ (rest : Arrivals). at.first ++ rest) (at.at_all enough) ∙ append-nil at.first)) at.stands_at in
     let whole : HasReceived sources arrivals mid.inlets.items = rw (← count) gathers.received in
     record {
       arrivals = arrivals;
       same = rw long same;
-      stands_at = subst (λ (b : B). stands b arrivals) (sym (ap (λ (k : Kept B). k.builder) kept)) stood;
+      complete = subst (λ (b : B). completes old.builder b arrivals) (sym (ap (λ (k : Kept B). k.builder) kept)) (gathers.complete enough);
       received = rw long (received-kept mid.inlets.items new.inlets.items (ap (λ (k : Kept B). k.received) kept) ∙ whole);
     }

@@ -22,19 +22,19 @@ pub record IsNew {B : Type 0} (all : B → ℕ) (stands : B → B → Arrivals �
 abbrev pub HasReceived : ℕ → Arrivals → List (Receiving Parcel) → Type 0
 HasReceived sources arrivals inlets = map (λ inlet. inlet.received) inlets ≡ map parcels_of (of_sources sources arrivals)
 
--- a builder has taken these feeds: it stands at an arrival list that has of each source the items of its feed, and from each link were
+-- a builder has taken these feeds: it is completed at an arrival list that has of each source the items of its feed, and from each link were
 -- received a line for each of these items, and then the end
-pub record TakesFeeds {B : Type 0} (stands : B → Arrivals → Type 0) (feeds : List (List Item)) (gatherer : Gatherer B) : Type 0 where
+pub record TakesFeeds {B : Type 0} (completes : B → Arrivals → Type 0) (feeds : List (List Item)) (gatherer : Gatherer B) : Type 0 where
   pub arrivals : Arrivals
   pub same : of_sources (length feeds) arrivals ≡ feeds
-  pub stands_at : stands gatherer.builder arrivals
+  pub complete : completes gatherer.builder arrivals
   pub received : HasReceived (length feeds) arrivals gatherer.inlets.items
 
 -- builders have all taken the same feeds, those of all sources
-pub record TakeAll {B : Type 0} (stands : B → B → Arrivals → Type 0) (s : Layout) (sources : Told) (builders : List B) (gatherers : List (Gatherer B)) : Type 0 where
+pub record TakeAll {B : Type 0} (completes : B → B → Arrivals → Type 0) (s : Layout) (sources : Told) (builders : List B) (gatherers : List (Gatherer B)) : Type 0 where
   pub feeds : List (List Item)
   pub items : AllZip (AreItemsOf s) sources feeds
-  pub each : AllZip (λ builder gatherer. TakesFeeds (stands builder) feeds gatherer) builders gatherers
+  pub each : AllZip (λ builder gatherer. TakesFeeds (completes builder) feeds gatherer) builders gatherers
 
 -- why nothing was built: memory or no thread before a record was read, or the lowest source's own fault; want of memory or of a receipt
 -- only where all feeds are good

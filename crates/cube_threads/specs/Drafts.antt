@@ -1,5 +1,5 @@
 -- Ledgers with cubes to be filled, and the builders that are made of them (this project's choice).
-use Rattle.std.specs.Prelude.{◌≡◌, ◌<◌, ℕ, List, [], length, slice_index_or}
+use Rattle.std.specs.Prelude.{◌≡◌, ◌<◌, ℕ, List, [], length, slice_index_or, Option, Some}
 use Rattle.cube_core.specs.Arrival.{Arrivals}
 use Rattle.cube_core.specs.GroupingSet.{sets_of_part}
 use Rattle.cube_core.specs.Layout.{Layout}
@@ -32,13 +32,22 @@ pub record IsNewDraft (s : Layout) (sources parts part : ℕ) (draft : DraftView
   pub sets : draft.cube.sets ≡ sets_of_part part parts s.grouping_sets
   pub stands_at : LedgerStandsAt draft.ledger []
 
--- these are the drafts of the first so many parts
-pub record AreNewDrafts (s : Layout) (sources parts count : ℕ) (drafts : List DraftView) : Type 0 where
+-- these are the drafts of the first so many parts, none of which was made a builder
+pub record AreNewDrafts (s : Layout) (sources parts count : ℕ) (drafts : List (Option DraftView)) : Type 0 where
   pub counted : length drafts ≡ count
-  pub each : (part : ℕ) (d : DraftView) → part < count → IsNewDraft s sources parts part (slice_index_or drafts part d)
+  pub each : (part : ℕ) (d : Option DraftView) → part < count → (draft : DraftView) × (slice_index_or drafts part d ≡ Some draft) × IsNewDraft s sources parts part draft
 
 -- a builder is made of a draft: its cube, over the same sets, has the facts of the ledger's books
 pub record IsMadeOf (draft : DraftView) (builder : BuilderView) : Type 0 where
   pub ledger : builder.ledger ≡ draft.ledger
   pub same : SameSets draft.cube builder.cube
   pub has : HasFacts (all_facts draft.ledger.accounts) builder.cube
+
+-- the draft of a part, which wasn't made a builder, stands at an arrival list
+abbrev pub PartStandsFrom : Option DraftView → Option DraftView → Arrivals → Type 0
+PartStandsFrom first now arrivals = (old : DraftView) × (first ≡ Some old) × (draft : DraftView) × (now ≡ Some draft) × StandsFrom old draft arrivals
+
+-- the builder of a part was made of its draft, which stood at an arrival list
+abbrev pub PartCompletes : Option DraftView → Option BuilderView → Arrivals → Type 0
+PartCompletes first made arrivals =
+    (old : DraftView) × (first ≡ Some old) × (draft : DraftView) × StandsFrom old draft arrivals × (builder : BuilderView) × (made ≡ Some builder) × IsMadeOf draft builder

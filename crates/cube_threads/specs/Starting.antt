@@ -1,7 +1,8 @@
 -- What is known of builders and feeders before their threads start, and after they were joined.
-use Rattle.std.specs.Prelude.{◌≡◌, ◌+◌, ◌≤◌, ℕ, List, [], ◌∷◌, ◌++◌, vec_len, vec_capacity}
-use Rattle.cube_core.specs.Arrival.{Arrivals}
-use Rattle.cube_threads.specs.Gathering.{AreFresh, Gathers}
+use Rattle.std.specs.Prelude.{◌≡◌, ◌+◌, ◌≤◌, ℕ, List, [], ◌∷◌, ◌++◌, false, length, map, vec_len, vec_capacity}
+use Rattle.cube_core.specs.Arrival.{Arrivals, of_sources}
+use Rattle.cube_threads.specs.Gathering.{AreFresh}
+use Rattle.cube_threads.specs.Parcels.{parcels_of}
 use Rattle.cube_threads.specs.declared.roster.Gatherer.{Gatherer}
 use Rattle.cube_threads.specs.declared.roster.Roster.{Roster}
 
@@ -12,9 +13,13 @@ pub record IsReady {B : Type 0} (sources : B → ℕ) (stands : B → B → Arri
   pub fresh : AreFresh gatherer.inlets.items
   pub stands_at : stands gatherer.builder gatherer.builder []
 
--- what a builder has gathered from its links
-abbrev pub HasGathered : {B : Type 0} → (B → B → Arrivals → Type 0) → Gatherer B → Gatherer B → Type 0
-HasGathered stands old new = Gathers (stands old.builder) old.inlets.items new.inlets.items new.builder new.wanting
+-- what a builder has gathered from its links: each has given the lines of its source's arrivals and then its end, and the builder is
+-- completed at these arrivals where memory was never wanting
+pub record HasGathered {B : Type 0} (completes : B → B → Arrivals → Type 0) (old new : Gatherer B) : Type 0 where
+  pub arrivals : Arrivals
+  pub links : map (λ inlet. inlet.link) new.inlets.items ≡ map (λ inlet. inlet.link) old.inlets.items
+  pub received : map (λ inlet. inlet.received) new.inlets.items ≡ map parcels_of (of_sources (length old.inlets.items) arrivals)
+  pub complete : new.wanting ≡ false → completes old.builder new.builder arrivals
 
 -- no feeder was joined yet, and there are room for so many ends and a post for each of so many threads
 pub record HasRoom {B : Type 0} (feeders threads : ℕ) (roster : Roster B) : Type 0 where

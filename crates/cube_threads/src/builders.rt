@@ -24,7 +24,7 @@ struct PromisesGather<B: Builds> {
 }
 
 impl<B: Builds> Promise<Option<Gatherer<B>>> for PromisesGather<B> {
-    ghost kept_by = { λ p r. IfSome r (HasGathered B.stands p.old.value) };
+    ghost kept_by = { λ p r. IfSome r (HasGathered B.completes p.old.value) };
 }
 
 fn gather_on_word<W: Wait, B: Builds, G: Gate>(
@@ -35,7 +35,7 @@ fn gather_on_word<W: Wait, B: Builds, G: Gate>(
     gate: &G,
 ) -> Option<Gatherer<B>>
     requires { IsReady B.sources B.stands gatherer }
-    ensures { IfSome result (HasGathered B.stands gatherer) }
+    ensures { IfSome result (HasGathered B.completes gatherer) }
 {
     let mut gatherer = gatherer;
     match wait_for_word(rt, post) {
@@ -87,7 +87,7 @@ pub(crate) fn with_builders<
         (λ feeder end. Feeds feeder.feed.to_come feeder.outlets.items end)
         feeders.entry.items roster.new.ends.items) }
     ensures gatherers { OnOk result
-        (AllZip (HasGathered B.stands) builders.items roster.new.gatherers.items) }
+        (AllZip (HasGathered B.completes) builders.items roster.new.gatherers.items) }
     ensures room { OnOk result
         (vec_capacity roster.old.gatherers ≤ vec_capacity roster.new.gatherers) }
 {
@@ -107,7 +107,7 @@ pub(crate) fn with_builders<
         promise,
         move || -> Option<Gatherer<B>>
             requires { IsReady B.sources B.stands gatherer }
-            ensures { IfSome result (HasGathered B.stands gatherer) }
+            ensures { IfSome result (HasGathered B.completes gatherer) }
         { gather_on_word(rt, number, post, gatherer, gate) },
     );
     let Ok(child) = started else {

@@ -5,7 +5,7 @@ ghost use Rattle.cube_threads.specs.Drafts.{AreNewDrafts};
 ghost use Rattle.cube_threads.specs.Parts.{BuildsParts, schema_of_run};
 
 use crate::built::{Built, Making};
-use crate::draft::{Draft, new_drafts};
+use crate::draft::{Part, new_parts};
 use crate::gate::Gate;
 use crate::running::feed_builders;
 use cube_core::Schema;
@@ -21,15 +21,15 @@ fn start(
     schema: &Schema,
     sources: u32,
     parts: u32,
-) -> Result<(Vec<Draft>, Making), AllocError>
+) -> Result<(Vec<Part>, Making), AllocError>
     requires sources { sources ≤ 64 }
     requires parts { parts ≤ 8 }
     ensures drafts { IfOk result (λ made.
-        AreNewDrafts schema.now sources parts parts made.0.items) }
+        AreNewDrafts schema.now sources parts parts (map (λ part. part.draft) made.0.items)) }
     ensures builders { IfOk result (λ made. made.1.builders.items ≡ []) }
     ensures links { IfOk result (λ made. made.1.links.items ≡ []) }
 {
-    let drafts = new_drafts(alloc, schema, sources, parts)?;
+    let drafts = new_parts(alloc, schema, sources, parts)?;
     let making = Making::with_room(alloc, parts as usize)?;
     Ok((drafts, making))
 }
@@ -38,7 +38,7 @@ fn start(
 /// grouping sets; `capacity` is the room of each link, 1 to 65536 parcels.
 ///
 /// A feeder on a thread of its own reads each source, builder 0 gathers on the caller's thread, each other on its own,
-/// and the cubes are filled after all threads were joined. The first of these faults that holds is the answer:
+/// and each fills its cube where it gathered. The first of these faults that holds is the answer:
 /// `Memory` or `NoThread`, where no record was read; `Feed` of the lowest source whose feed is at fault; `Full` where a
 /// growth was refused in building; `Unsealed` of the lowest source of which a link gave no receipt.
 pub fn build<T: Threads + Wait + Sync, R: Read + Drop + Send, G: Gate + Sync>(
@@ -63,7 +63,7 @@ pub fn build<T: Threads + Wait + Sync, R: Read + Drop + Send, G: Gate + Sync>(
     };
     let (drafts, mut making) = made;
     let gatherers = feed_builders(rt, alloc, schema, readers, capacity, drafts, gate)?;
-    match making.finish_all(gatherers) {
+    match making.keep_all(gatherers) {
         Ok(()) => Ok(Built::of(making)),
         Err(_) => Err(RunFault::Full),
     }

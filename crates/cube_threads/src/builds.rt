@@ -8,7 +8,7 @@ use std::alloc::AllocError;
 /// What items are gathered into: a builder, by what it promises of each arrival list.
 ///
 /// Whatever arrivals a builder stands at, after an item it stands at these followed by the item; where it finds no
-/// memory it stands where it stood.
+/// memory it stands where it stood. When all items have come it is completed at the arrivals that it stands at.
 pub trait Builds: Drop {
     ghost sources: { Self → ℕ };
 
@@ -16,11 +16,13 @@ pub trait Builds: Drop {
 
     ghost full: { Self → Bool };
 
+    ghost completes: { Self → Self → Arrivals → Type 0 };
+
     /// How many sources there are, numbered from 1.
     fn sources(&self) -> u32
         ensures { result ≡ sources self.now };
 
-    /// Whether it holds as many facts as it can count, and takes no item more.
+    /// Whether it takes no item more.
     fn is_full(&self) -> bool
         ensures { result ≡ full self.now };
 
@@ -34,4 +36,9 @@ pub trait Builds: Drop {
             stands first self.new (arrivals ++ (source, item) ∷ [])) }
         ensures unchanged { OnErr result ((first : Self) (arrivals : Arrivals) →
             stands first self.old arrivals → stands first self.new arrivals) };
+
+    /// Does what is left to do when all items have come. The only error is want of memory.
+    fn complete(&mut self) -> Result<(), AllocError>
+        ensures { OnOk result ((first : Self) (arrivals : Arrivals) →
+            stands first self.old arrivals → completes first self.new arrivals) };
 }

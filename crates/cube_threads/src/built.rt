@@ -1,14 +1,12 @@
 //! The builders of a run, with the links by which the feeds came, and queries of all their cubes.
-ghost use Rattle.std.specs.Prelude.{◌≡◌, ◌<◌, ◌++◌, ◌∷◌, [], length, map, slice_index_or, vec_len, IfOk, OnOk};
-ghost use Rattle.std.specs.List.{AllZip};
+ghost use Rattle.std.specs.Prelude.{◌≡◌, ◌<◌, ◌++◌, ◌∷◌, [], length, map, slice_index_or, vec_len, IfOk, OnOk, Some};
 ghost use Rattle.cube_core.specs.Cube.{AreRows};
 ghost use Rattle.cube_core.specs.Query.{matches, drills_down, drill_fault};
 ghost use Rattle.cube_cells.specs.Rows.{GivesUnless};
 ghost use Rattle.cube_engine.specs.Builder.{BuilderView};
-ghost use Rattle.cube_threads.specs.Drafts.{IsMadeOf};
 ghost use Rattle.cube_threads.specs.Parts.{AreParts, AreRowsOfRun, schema_of_run, facts_of_run};
 
-use crate::draft::Draft;
+use crate::draft::Part;
 use crate::joining::in_key_order;
 use crate::parcel::Parcel;
 use crate::roster::Gatherer;
@@ -43,36 +41,38 @@ impl Making {
         })
     }
 
-    /// Makes a builder of each draft, in their order, and keeps its links. The only error is want of memory.
-    pub fn finish_all(&mut self, gatherers: Vec<Gatherer<Draft>>) -> Result<(), AllocError>
+    /// Keeps the builder of each part, in their order, with its links. The only error is want of memory.
+    pub fn keep_all(&mut self, gatherers: Vec<Gatherer<Part>>) -> Result<(), AllocError>
         requires none { self.old.builders.items ≡ [] }
         requires no_links { self.old.links.items ≡ [] }
-        ensures builders { OnOk result (AllZip
-            (λ gatherer builder. IsMadeOf gatherer.builder builder)
-            gatherers.items self.new.builders.items) }
+        ensures builders { OnOk result (map (λ gatherer. gatherer.builder.builder) gatherers.items
+            ≡ map Some self.new.builders.items) }
         ensures links { OnOk result (map (λ links. links.inlets.items) self.new.links.items
             ≡ map (λ gatherer. gatherer.inlets.items) gatherers.items) }
     {
         for gatherer in gatherers {
-            self.finish(gatherer)?;
+            self.keep(gatherer)?;
         }
         Ok(())
     }
 
-    fn finish(&mut self, gatherer: Gatherer<Draft>) -> Result<(), AllocError>
+    fn keep(&mut self, gatherer: Gatherer<Part>) -> Result<(), AllocError>
         ensures builders { OnOk result ((builder : BuilderView) ×
-            IsMadeOf gatherer.builder builder ×
+            (gatherer.builder.builder ≡ Some builder) ×
             (self.new.builders.items ≡ self.old.builders.items ++ builder ∷ [])) }
         ensures links { OnOk result (map (λ links. links.inlets.items) self.new.links.items
             ≡ map (λ links. links.inlets.items) self.old.links.items
             ++ gatherer.inlets.items ∷ []) }
     {
         let Gatherer {
-            builder,
+            builder: part,
             inlets,
             wanting: _,
         } = gatherer;
-        self.builders.push(builder.finish()?)?;
+        let Some(builder) = part.into_builder() else {
+            return Err(AllocError);
+        };
+        self.builders.push(builder)?;
         self.links.push(Links { inlets })?;
         Ok(())
     }

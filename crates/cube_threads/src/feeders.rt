@@ -48,7 +48,7 @@ fn feed_on_word<W: Wait, R: Read + Drop, G: Gate>(
     }
 }
 
-/// Gathers from all links of a builder.
+/// Gathers from all links of a builder, and completes it where memory wasn't wanting.
 pub(crate) fn gather_all<W: Wait, B: Builds, G: Gate>(
     rt: &W,
     number: u32,
@@ -56,7 +56,7 @@ pub(crate) fn gather_all<W: Wait, B: Builds, G: Gate>(
     gate: &G,
 )
     requires { IsReady B.sources B.stands gatherer.old }
-    ensures { HasGathered B.stands gatherer.old gatherer.new }
+    ensures { HasGathered B.completes gatherer.old gatherer.new }
 {
     let answer = gather(
         rt,
@@ -65,7 +65,10 @@ pub(crate) fn gather_all<W: Wait, B: Builds, G: Gate>(
         gatherer.inlets.as_mut_slice(),
         gate,
     );
-    gatherer.wanting = answer.is_err();
+    gatherer.wanting = match answer {
+        Ok(()) => gatherer.builder.complete().is_err(),
+        Err(_) => true,
+    };
 }
 
 // Starts the last of the feeders, and gives back the others. What a feeder holds is large, so it is in no call of the
@@ -139,7 +142,7 @@ pub(crate) fn with_feeders<
         (λ feeder end. Feeds feeder.feed.to_come feeder.outlets.items end)
         feeders.entry.items roster.new.ends.items) }
     ensures room { OnOk result (vec_capacity roster.old.ends ≤ vec_capacity roster.new.ends) }
-    ensures own { OnOk result (HasGathered B.stands own.old own.new) }
+    ensures own { OnOk result (HasGathered B.completes own.old own.new) }
     ensures gatherers { roster.new.gatherers ≡ roster.old.gatherers }
 {
     if feeders.is_empty() {

@@ -42,7 +42,7 @@ pub(crate) fn feed_builders<
     requires builders { (1 ≤ vec_len builders) × (vec_len builders ≤ 8) }
     requires new { All (IsNew B.sources B.stands (vec_len readers)) builders.items }
     ensures good { OnOk result (AreGood schema.now (map R.Read.remaining readers.items)) }
-    ensures taken { IfOk result (λ gatherers. TakeAll B.stands schema.now
+    ensures taken { IfOk result (λ gatherers. TakeAll B.completes schema.now
         (map R.Read.remaining readers.items) builders.items gatherers.items) }
     ensures err { IfErr result (ExplainsRun schema.now (map R.Read.remaining readers.items)) }
 {

@@ -38,7 +38,7 @@ pub(crate) fn run_together<
         (λ feeder end. Feeds feeder.feed.to_come feeder.outlets.items end)
         feeders.entry.items result.0.ends.items) }
     ensures gatherers { OnOk result.1
-        (AllZip (HasGathered B.stands) builders.items result.0.gatherers.items) }
+        (AllZip (HasGathered B.completes) builders.items result.0.gatherers.items) }
 {
     thread::scope(
         thread::scope_env(),
@@ -53,7 +53,7 @@ pub(crate) fn run_together<
                 (λ feeder end. Feeds feeder.feed.to_come feeder.outlets.items end)
                 feeders.entry.items result.0.ends.items) }
             ensures gatherers { OnOk result.1
-                (AllZip (HasGathered B.stands) builders.items result.0.gatherers.items) }
+                (AllZip (HasGathered B.completes) builders.items result.0.gatherers.items) }
         {
             let mut roster = roster;
             let answer = with_builders(rt, alloc, scope, gate, builders, feeders, &mut roster);

@@ -20,8 +20,8 @@ returns-in-Ok-Some-clause-gatherers g t c =
     let whole = rw c.unwrap-gatherer.ensures at c.pop.ensures.items in
     let answered = rw c.in-Ok-Some.is-0 at c.with_builders-answer.ensures.gatherers in
     let joined = rw c.in-Ok-Some.is-1 at c.join.ensures in
-    let kept : HasGathered g.B.Builds.stands c.unwrap-gatherer.result c.in-Ok-Some.gatherer = search (rules, joined) in
-    rw (whole, c.keep-in-Ok-Some.ensures.gatherers) (all_zip_more (HasGathered g.B.Builds.stands) _ _ _ _ answered kept)
+    let kept : HasGathered g.B.Builds.completes c.unwrap-gatherer.result c.in-Ok-Some.gatherer = search (rules, joined) in
+    rw (whole, c.keep-in-Ok-Some.ensures.gatherers) (all_zip_more (HasGathered g.B.Builds.completes) _ _ _ _ answered kept)
 
 pub returns-then-is_empty-clause-gatherers : goal.returns-then-is_empty-clause-gatherers
 returns-then-is_empty-clause-gatherers g t c =
@@ -29,7 +29,7 @@ returns-then-is_empty-clause-gatherers g t c =
     let last : length c.pop.new.self.items ≡ 0 = search rules in
     let first : length c.with_feeders.new.roster.gatherers.items ≡ 0 = search (rules, c.requires.start.none, c.with_feeders.ensures.gatherers) in
     rw (whole, c.keep.ensures.gatherers)
-    (all_zip_more (HasGathered g.B.Builds.stands) _ _ _ _ (all_zip_empty (HasGathered g.B.Builds.stands) _ _ last first) c.in_ok-with_feeders.ensures.own)
+    (all_zip_more (HasGathered g.B.Builds.completes) _ _ _ _ (all_zip_empty (HasGathered g.B.Builds.completes) _ _ last first) c.in_ok-with_feeders.ensures.own)
 
 pub with_feeders-requires-clause-ready : goal.with_feeders-requires-clause-ready
 with_feeders-requires-clause-ready g t c κs within =

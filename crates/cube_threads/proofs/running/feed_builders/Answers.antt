@@ -38,7 +38,7 @@ settle-requires-clause-fit g c =
     let joined = c.run_together-roster in
     let fine = sym c.is_err.ensures.value ∙ c.if-is_err.false in
     fit-tell c.args.schema.now (map g.R.Read.remaining c.args.readers.items) _ joined.result.0.ends.items
-    (tell-run g.B.Builds.stands c.args.schema.now g.R.Read.remaining c.args.readers.items (λ f. f.feed.to_come) (λ f. f.outlets.items) setup.feeders.items joined.result.0.ends.items
+    (tell-run g.B.Builds.completes c.args.schema.now g.R.Read.remaining c.args.readers.items (λ f. f.feed.to_come) (λ f. f.outlets.items) setup.feeders.items joined.result.0.ends.items
     setup.gatherers.items joined.result.0.gatherers.items joined.result.1 fine known.linked known.feeds joined.ensures.ends joined.ensures.gatherers)
 
 pub settle-requires-clause-sources : goal.settle-requires-clause-sources
@@ -57,7 +57,7 @@ settle-requires-clause-builders g c =
     let known = c.in-Ok.ensures in
     let joined = c.run_together-roster in
     let fine = sym c.is_err.ensures.value ∙ c.if-is_err.false in
-    let count = AllZip-length (HasGathered g.B.Builds.stands) setup.gatherers.items joined.result.0.gatherers.items (on_ok-holds joined.result.1 _ fine joined.ensures.gatherers) in
+    let count = AllZip-length (HasGathered g.B.Builds.completes) setup.gatherers.items joined.result.0.gatherers.items (on_ok-holds joined.result.1 _ fine joined.ensures.gatherers) in
     (omega (arith, count, known.count, setup.gatherers.ok.0, joined.result.0.gatherers.ok.0, c.requires.builders), omega (arith, count, known.count, setup.gatherers.ok.0, joined.result.0.gatherers.ok.0, c.requires.builders))
 
 pub returns-clause-good : goal.returns-clause-good
@@ -67,7 +67,7 @@ returns-clause-good g c =
     let joined = c.run_together-roster in
     let fine = sym c.is_err.ensures.value ∙ c.if-is_err.false in
     let tell =
-    tell-run g.B.Builds.stands c.args.schema.now g.R.Read.remaining c.args.readers.items (λ f. f.feed.to_come) (λ f. f.outlets.items) setup.feeders.items joined.result.0.ends.items
+    tell-run g.B.Builds.completes c.args.schema.now g.R.Read.remaining c.args.readers.items (λ f. f.feed.to_come) (λ f. f.outlets.items) setup.feeders.items joined.result.0.ends.items
     setup.gatherers.items joined.result.0.gatherers.items joined.result.1 fine known.linked known.feeds joined.ensures.ends joined.ensures.gatherers in
     on_ok-then c.settle.result _ _ (λ settled settles. good-all c.args.schema.now (map g.R.Read.remaining c.args.readers.items) _ joined.result.0.ends.items tell settles.good) c.settle.ensures.ok
 
@@ -78,7 +78,7 @@ returns-clause-err g c =
     let joined = c.run_together-roster in
     let fine = sym c.is_err.ensures.value ∙ c.if-is_err.false in
     let tell =
-    tell-run g.B.Builds.stands c.args.schema.now g.R.Read.remaining c.args.readers.items (λ f. f.feed.to_come) (λ f. f.outlets.items) setup.feeders.items joined.result.0.ends.items
+    tell-run g.B.Builds.completes c.args.schema.now g.R.Read.remaining c.args.readers.items (λ f. f.feed.to_come) (λ f. f.outlets.items) setup.feeders.items joined.result.0.ends.items
     setup.gatherers.items joined.result.0.gatherers.items joined.result.1 fine known.linked known.feeds joined.ensures.ends joined.ensures.gatherers in
     if_err-then c.settle.result _ _ (λ fault stops. explains-stops c.args.schema.now (map g.R.Read.remaining c.args.readers.items) _ joined.result.0.ends.items (vec_len joined.result.0.gatherers) fault tell stops)
     c.settle.ensures.err
@@ -92,7 +92,7 @@ returns-clause-taken g c =
     let told = map g.R.Read.remaining c.args.readers.items in
     let outs = map (λ f. f.outlets.items) setup.feeders.items in
     let tell =
-    tell-run g.B.Builds.stands c.args.schema.now g.R.Read.remaining c.args.readers.items (λ f. f.feed.to_come) (λ f. f.outlets.items) setup.feeders.items joined.result.0.ends.items
+    tell-run g.B.Builds.completes c.args.schema.now g.R.Read.remaining c.args.readers.items (λ f. f.feed.to_come) (λ f. f.outlets.items) setup.feeders.items joined.result.0.ends.items
     setup.gatherers.items joined.result.0.gatherers.items joined.result.1 fine known.linked known.feeds joined.ensures.ends joined.ensures.gatherers in
     let as_many =
     length-map setup.feeders.items (λ f. f.outlets.items)
@@ -100,10 +100,10 @@ returns-clause-taken g c =
     ∙ ap length known.feeds
     ∙ length-map c.args.readers.items (λ reader. coming_of c.args.schema.now (g.R.Read.remaining reader))
     ∙ sym (length-map c.args.readers.items g.R.Read.remaining) in
-    let count = AllZip-length (HasGathered g.B.Builds.stands) setup.gatherers.items joined.result.0.gatherers.items (on_ok-holds joined.result.1 _ fine joined.ensures.gatherers) in
+    let count = AllZip-length (HasGathered g.B.Builds.completes) setup.gatherers.items joined.result.0.gatherers.items (on_ok-holds joined.result.1 _ fine joined.ensures.gatherers) in
     let some : 1 ≤ length joined.result.0.gatherers.items = omega (arith, count, known.count, setup.gatherers.ok.0, c.requires.builders) in
     if_ok-then c.settle.result _ _
     (λ settled settles.
-    takes-settled g.B.Builds.stands c.args.schema.now told outs joined.result.0.ends.items c.args.builders.items setup.gatherers.items joined.result.0.gatherers.items settled.items
+    takes-settled g.B.Builds.completes c.args.schema.now told outs joined.result.0.ends.items c.args.builders.items setup.gatherers.items joined.result.0.gatherers.items settled.items
     known.linked as_many known.builders (on_ok-holds joined.result.1 _ fine joined.ensures.gatherers) tell settles some)
     c.settle.ensures.ok
