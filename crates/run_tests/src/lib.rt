@@ -1,8 +1,12 @@
-//! Runs in threads, from texts to the printed cube.
+//! Runs and commands in threads, from texts to what is printed.
 #![tactic(auto)]
 
+#[cfg(test)]
+mod commands;
+mod queries;
 #[cfg(test)]
 mod tests;
 mod texts;
 
-pub use texts::run_texts;
+pub use queries::{drilled, refused, sliced};
+pub use texts::{readers_of, run_texts};

@@ -29,8 +29,8 @@ pub fn run_texts<T: Threads + Wait + Sync, W: Write>(
     Ok(())
 }
 
-// A reader of each text.
-fn readers_of(alloc: Global, feeds: &[&'static str]) -> Result<Vec<&'static [u8]>, AllocError>
+/// A reader of each text.
+pub fn readers_of(alloc: Global, feeds: &[&'static str]) -> Result<Vec<&'static [u8]>, AllocError>
     ensures { IfOk result (λ readers. vec_len readers ≡ length feeds.now) }
 {
     let mut readers = Vec::with_capacity(alloc, feeds.len())?;
