@@ -25,6 +25,3 @@ pub use sample::run_sample;
 pub use schema_file::{check, read_schema};
 pub use status::Status;
 pub use words::{answer_words, read_words, unreadable_words};
-
-#[cfg(test)]
-mod tests;

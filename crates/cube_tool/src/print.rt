@@ -174,6 +174,3 @@ fn write_fraction(
     fraction.extend_from_slice(number.format(q).as_bytes())?;
     Ok(())
 }
-
-#[cfg(test)]
-mod tests;

@@ -34,6 +34,3 @@ pub fn write_whole<W: Write>(w: &mut W, bytes: &[u8]) -> Result<(), WriteFault>
     }
     w.flush().map_err(|_| WriteFault { sent })
 }
-
-#[cfg(test)]
-mod tests;

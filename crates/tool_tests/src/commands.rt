@@ -1,9 +1,12 @@
 //! What each command ends with and prints, by its library call.
 
-use super::*;
 use cube_core::{QueryFault, SchemaFault};
 use cube_engine::RunFault;
 use cube_feed::FeedFault;
+use cube_tool::command::{
+    Failure, NOTES, Request, RunWords, Status, answer_words, check, explain, read_words, run_sample,
+    unreadable_words,
+};
 use std::alloc::Global;
 use std::io;
 use std::io::{Read, Write};

@@ -1,8 +1,9 @@
 //! Writers that fail in their own ways, and what `write_whole` makes of them.
 
-use super::*;
+use cube_tool::{WriteFault, write_whole};
 use std::alloc::Global;
 use std::io;
+use std::io::Write;
 use std::test::Fail;
 
 // What a writer does once it is full.

@@ -3,8 +3,9 @@
 ghost use Rattle.std.specs.Prelude.{IsTrue, All};
 ghost use Rattle.cube_tool.specs.Shape.{HasShapeOf};
 
-use super::*;
-use cube_core::{Key, Sequence};
+use cube_core::{Answer, Coord, Key, Row, Schema, Sequence, Text};
+use cube_tool::print_rows;
+use std::alloc::{AllocError, Global};
 use std::process::Abort;
 use std::str;
 use std::test::Fail;
