@@ -2,7 +2,8 @@
 use crate::expect::expect_equal;
 use crate::sample::SAMPLE_SCHEMA;
 use cube_core::SchemaFault;
-use cube_tool::command::{Failure, Status, answer_words, check, read_schema, read_words};
+use cube_tool::command::{Failure, Status, answer_words, check, read_schema};
+use cube_words::read_words;
 use std::alloc::Global;
 use std::io::{self, Read};
 use std::process::Abort;

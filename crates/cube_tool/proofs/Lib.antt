@@ -4,6 +4,5 @@ pub mod RowShapeLaws
 pub mod RefusalLaws
 pub mod RunLaws
 mod CommandLaws
-mod CommandLineLaws
 pub mod QueryWordLaws
 mod AnsweringLaws

@@ -1,7 +1,6 @@
 pub mod Lines
 pub mod Shape
 pub mod Run
-pub mod CommandLine
 pub mod Command
 pub mod Explain
 pub mod Answering

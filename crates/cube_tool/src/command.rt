@@ -1,15 +1,13 @@
 //! What the program does, as calls over words, readers and writers.
 //!
-//! [`read_words`] tells what the words of a command line ask for. Each command is one call, which gives the
+//! `cube_words` tells what the words of a command line ask for. Each command is one call, which gives the
 //! [`Status`] to end with, or a [`Failure`], whose text is the line for standard error.
 
-mod command_line;
 mod explanation;
 mod failure;
 mod feeds;
 mod notes;
 mod query;
-mod request;
 mod sample;
 mod schema_file;
 mod status;
@@ -20,8 +18,7 @@ pub use failure::Failure;
 pub use feeds::{drill, print, refusals, slice};
 pub use notes::{NOTES, Note};
 pub use query::{read_cell, read_dimension, read_pattern};
-pub use request::{Request, RunWords};
 pub use sample::run_sample;
 pub use schema_file::{check, read_schema};
 pub use status::Status;
-pub use words::{answer_words, read_words, unreadable_words};
+pub use words::answer_words;

@@ -3,15 +3,15 @@
 #![tactic(auto)]
 
 ghost use Rattle.std.specs.Prelude.{◌≡◌, ◌≤◌, length, vec_len, IfOk};
-ghost use Rattle.cube_tool.specs.CommandLine.{HasRoom, IsInBounds};
+ghost use Rattle.cube_words.specs.CommandLine.{HasRoom, IsInBounds};
 
 use cube_core::Schema;
 use cube_engine::RunFault;
 use cube_tool::command::{
-    Failure, NOTES, Request, RunWords, Status, answer_words, check, drill, explain, print,
-    read_cell, read_dimension, read_pattern, read_schema, read_words, refusals, run_sample, slice,
-    unreadable_words,
+    Failure, NOTES, Status, answer_words, check, drill, explain, print, read_cell, read_dimension,
+    read_pattern, read_schema, refusals, run_sample, slice,
 };
+use cube_words::{Request, RunWords, read_words, unreadable_words};
 use std::fs::File;
 use std::process::ExitCode;
 use std::sync::Wait;

@@ -3,10 +3,8 @@
 use cube_core::{QueryFault, SchemaFault};
 use cube_engine::RunFault;
 use cube_feed::FeedFault;
-use cube_tool::command::{
-    Failure, NOTES, Request, RunWords, Status, answer_words, check, explain, read_words, run_sample,
-    unreadable_words,
-};
+use cube_tool::command::{Failure, NOTES, Status, answer_words, check, explain, run_sample};
+use cube_words::{Request, RunWords, read_words, unreadable_words};
 use std::alloc::Global;
 use std::io;
 use std::io::{Read, Write};

@@ -1,97 +1,15 @@
-//! The words of a command line, and what is answered to those that ask for nothing that can be done.
-ghost use Rattle.std.specs.Prelude.{◌≡◌, ◌≢◌, ◌≤◌, ◌⊎◌, ◌∷◌, [], ℕ, List, codes, false, true, length, map, Ok, Some, None, IfOk, IfErr, IfSome, MatchResult};
-ghost use Rattle.clap.specs.Words.{HasMatchesOf, kind_of, subcommand_of, takes};
+//! What is answered to words that ask for nothing that can be done.
+ghost use Rattle.std.specs.Prelude.{◌≡◌, ◌≢◌, Ok, IfOk};
+ghost use Rattle.clap.specs.Words.{kind_of};
 ghost use Rattle.clap.specs.declared.error.kind.ErrorKind.TheVariants as kind;
-ghost use Rattle.cube_tool.specs.CommandLine.{AsksToCheck, AsksToExplain, IsInBounds, IsRequest, begins_as_flag, command_line};
 
-use crate::command::command_line::program;
 use crate::command::failure::Failure;
-use crate::command::request::{Request, request_of};
 use crate::command::status::Status;
 use crate::write::write_whole;
-use clap::error::ErrorKind;
-use clap::{ArgMatches, Error};
+use clap::Error;
 use cube_engine::RunFault;
-use std::alloc::{AllocError, Global};
-use std::convert::AsStr;
-use std::io;
+use std::alloc::Global;
 use std::io::Write;
-
-/// What the words ask for; the first of them is the program's name.
-///
-/// The error is what `clap` has to say of them: a refusal, or the help that they ask for.
-pub fn read_words<'a, S: AsStr>(alloc: Global, words: &'a [S]) -> Result<Request<'a>, Error>
-    ensures asked { IfOk result (λ request.
-        IsRequest (subcommand_of command_line (map S.text words.entry.now)) (Some request)) }
-    ensures bounds { IfOk result IsInBounds }
-    ensures no_words { length words.entry.now ≤ 1 →
-        MatchResult result (λ request. request ≡ Request.Sample) (λ error. kind_of error ≡ kind.OutOfMemory) }
-    ensures check { (name path : List ℕ) → begins_as_flag path ≡ false →
-        map S.text words.entry.now ≡ name ∷ codes "check" ∷ path ∷ [] →
-        MatchResult result (AsksToCheck path) (λ error. kind_of error ≡ kind.OutOfMemory) }
-    ensures explain { (name : List ℕ) →
-        map S.text words.entry.now ≡ name ∷ codes "explain" ∷ [] →
-        MatchResult result (AsksToExplain None) (λ error. kind_of error ≡ kind.OutOfMemory) }
-    ensures explain_code { (name code : List ℕ) → begins_as_flag code ≡ false →
-        map S.text words.entry.now ≡ name ∷ codes "explain" ∷ code ∷ [] →
-        MatchResult result (AsksToExplain (Some code)) (λ error. kind_of error ≡ kind.OutOfMemory) }
-{
-    let matches = parse_words(alloc, words)?;
-    complete(alloc, request_of(alloc, &matches)?)
-}
-
-fn parse_words<'a, S: AsStr>(alloc: Global, words: &'a [S]) -> Result<ArgMatches<'a>, Error>
-    ensures ok { IfOk result (HasMatchesOf command_line (map S.text words.entry.now)) }
-    ensures err { IfErr result (λ error.
-        takes command_line (map S.text words.entry.now) ≡ true → kind_of error ≡ kind.OutOfMemory) }
-{
-    program(alloc)?.try_get_matches_from(words)
-}
-
-/// The request, where there is one.
-fn complete<'a>(alloc: Global, request: Option<Request<'a>>) -> Result<Request<'a>, Error>
-    ensures some { IfSome request.entry (λ asked. result ≡ Ok asked) }
-    ensures ok { IfOk result (λ asked. request.entry ≡ Some asked) }
-{
-    match request {
-        Some(request) => Ok(request),
-        None => Err(incomplete_words(alloc)?),
-    }
-}
-
-/// What there is to say of a command that lacks a word. `clap` itself answers so.
-fn incomplete_words(alloc: Global) -> Result<Error, AllocError>
-    ensures { IfOk result (λ error. kind_of error ≡ kind.MissingRequiredArgument) }
-{
-    let mut command = program(alloc)?;
-    command.error(
-        ErrorKind::MissingRequiredArgument,
-        "a required word was not provided",
-    )
-}
-
-/// What there is to say of words that the system couldn't give as text.
-pub fn unreadable_words(alloc: Global, error: &io::Error) -> Error
-    ensures { (kind_of result ≡ kind.InvalidValue) ⊎ (kind_of result ≡ kind.OutOfMemory) }
-{
-    if error.kind() == io::ErrorKind::OutOfMemory {
-        return Error::from(AllocError);
-    }
-    match words_not_text(alloc) {
-        Ok(error) => error,
-        Err(error) => Error::from(error),
-    }
-}
-
-fn words_not_text(alloc: Global) -> Result<Error, AllocError>
-    ensures { IfOk result (λ error. kind_of error ≡ kind.InvalidValue) }
-{
-    let mut command = program(alloc)?;
-    command.error(
-        ErrorKind::InvalidValue,
-        "invalid UTF-8 was detected in one or more words",
-    )
-}
 
 /// Writes the text of what `clap` answered: help to `out`, and what it refused to `err`.
 pub fn answer_words<O: Write, E: Write>(

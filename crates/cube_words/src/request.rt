@@ -1,7 +1,7 @@
 //! What a command line asks for.
 ghost use Rattle.std.specs.Prelude.{◌≡◌, ◌≤◌, Some, IfOk, IfSome, codes, map, option_map};
 ghost use Rattle.clap.specs.Words.{all_of, first_of, found_of, rows_of, subcommand_rows_of};
-ghost use Rattle.cube_tool.specs.CommandLine.{AreRunWords, HasRoom, IsNumberOf, IsRequest};
+ghost use Rattle.cube_words.specs.CommandLine.{AreRunWords, HasRoom, IsNumberOf, IsRequest};
 
 use clap::ArgMatches;
 use std::alloc::{AllocError, Global};

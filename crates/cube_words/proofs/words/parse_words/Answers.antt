@@ -1,7 +1,7 @@
 use Rattle.std.proofs.Common.{◌∙◌, ap, map}
 use Rattle.std.proofs.lemmas.Result.{IfErr-weaker}
 use Rattle.clap.specs.Words.{takes}
-use Rattle.cube_tool.proofs.command.words.parse_words.Goals as goal
+use Rattle.cube_words.proofs.words.parse_words.Goals as goal
 
 pub returns-clause-err : goal.returns-clause-err
 returns-clause-err g c =

@@ -2,7 +2,7 @@
 ghost use Rattle.std.specs.Prelude.{◌≡◌, IfOk, false};
 ghost use Rattle.clap.specs.Words.{app_of, rule_of, shape_of, with_rule, with_subcommand};
 ghost use Rattle.clap.specs.declared.builder.command.Command.TheViews.{out-Command as fields_of};
-ghost use Rattle.cube_tool.specs.CommandLine.{builders_option, cell_word, check_line, code_word, command_line, dimension_word, drill_line, explain_line, feed_words, named_line, print_line, refusals_line, ring_option, schema_word, slice_line, with_feeds};
+ghost use Rattle.cube_words.specs.CommandLine.{builders_option, cell_word, check_line, code_word, command_line, dimension_word, drill_line, explain_line, feed_words, named_line, print_line, refusals_line, ring_option, schema_word, slice_line, with_feeds};
 
 use clap::builder::ValueParser;
 use clap::{Arg, Command};

@@ -10,9 +10,9 @@ use Rattle.clap.specs.declared.parser.matches.ArgMatches.{ArgMatches}
 use Rattle.clap.specs.declared.parser.matches.ArgMatches.TheViews.{out-ArgMatches, out-SubCommand}
 use Rattle.clap.specs.declared.parser.matches.SubCommand.{SubCommand}
 use Rattle.clap.proofs.OnLiterals.{clap_on_literals}
-use Rattle.cube_tool.specs.CommandLine.{AsksToCheck, AsksToExplain, IsInBounds, IsRequest, begins_as_flag, command_line}
-use Rattle.cube_tool.specs.declared.command.request.Request.{Request}
-use Rattle.cube_tool.specs.declared.command.request.Request.TheVariants.{Sample, Check, Explain, Print, Refusals, Slice, Drill}
+use Rattle.cube_words.specs.CommandLine.{AsksToCheck, AsksToExplain, IsInBounds, IsRequest, begins_as_flag, command_line}
+use Rattle.cube_words.specs.declared.request.Request.{Request}
+use Rattle.cube_words.specs.declared.request.Request.TheVariants.{Sample, Check, Explain, Print, Refusals, Slice, Drill}
 
 -- the command that clap found, by its name and its words
 pub command_found : (m words : ArgMatches) (name : Text) → Some name ≡ subcommand_name_of m

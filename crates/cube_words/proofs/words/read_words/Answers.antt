@@ -2,11 +2,11 @@ use Rattle.std.proofs.Common.{◌∙◌, map, ap, subst, rules}
 use Rattle.std.specs.Prelude.{Option}
 use Rattle.std.proofs.lemmas.List.{length-map}
 use Rattle.clap.specs.Words.{subcommand_rows_of, takes}
-use Rattle.cube_tool.specs.CommandLine.{IsRequest, command_line}
-use Rattle.cube_tool.specs.declared.command.request.Request.{Request}
+use Rattle.cube_words.specs.CommandLine.{IsRequest, command_line}
+use Rattle.cube_words.specs.declared.request.Request.{Request}
 use Rattle.std.proofs.lemmas.Result.{IfOk-weaker}
-use Rattle.cube_tool.proofs.CommandLineLaws.{no_words_are_taken, check_is_taken, explain_is_taken, explain_code_is_taken, no_words_answer, check_answer, explain_answer, explain_code_answer, found_as_defined, request_bounds}
-use Rattle.cube_tool.proofs.command.words.read_words.Goals as goal
+use Rattle.cube_words.proofs.CommandLineLaws.{no_words_are_taken, check_is_taken, explain_is_taken, explain_code_is_taken, no_words_answer, check_answer, explain_answer, explain_code_answer, found_as_defined, request_bounds}
+use Rattle.cube_words.proofs.words.read_words.Goals as goal
 
 pub returns-in_err-matches-clause-no_words : goal.returns-in_err-matches-clause-no_words
 returns-in_err-matches-clause-no_words g c few =

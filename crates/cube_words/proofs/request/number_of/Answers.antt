@@ -3,8 +3,8 @@ use Rattle.std.specs.Prelude.{Option, Some, None, IfSome}
 use Rattle.std.specs.Str.Parse.{digits_value, without_leading_plus}
 use Rattle.clap.specs.Words.{Row, found_of, one_of, one_text, rows_of}
 use Rattle.clap.proofs.WalkLemmas.{one_text-rows}
-use Rattle.cube_tool.specs.CommandLine.{IsNumberOf}
-use Rattle.cube_tool.proofs.command.request.number_of.Goals as goal
+use Rattle.cube_words.specs.CommandLine.{IsNumberOf}
+use Rattle.cube_words.proofs.request.number_of.Goals as goal
 
 -- the number that a text gave is its number
 told : (found : Option (List ℕ)) (rows : List Row) (name : List ℕ) (number : ℕ) → found ≡ one_of name rows

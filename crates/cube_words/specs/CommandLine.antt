@@ -4,9 +4,9 @@ use Rattle.std.specs.Str.Parse.{digits_value, without_leading_plus}
 use Rattle.clap.specs.Lexer.{usize_max}
 use Rattle.clap.specs.Words.{App, Row, Rule, Text, all_of, first_of, new_app, new_rule, one_of, with_rule, with_subcommand}
 use Rattle.clap.specs.declared.builder.value_parser.ValueParser.TheVariants as value_parser
-use Rattle.cube_tool.specs.declared.command.request.RunWords.{RunWords}
-use Rattle.cube_tool.specs.declared.command.request.Request.{Request}
-use Rattle.cube_tool.specs.declared.command.request.Request.TheVariants.{Sample, Check, Explain, Print, Refusals, Slice, Drill}
+use Rattle.cube_words.specs.declared.request.RunWords.{RunWords}
+use Rattle.cube_words.specs.declared.request.Request.{Request}
+use Rattle.cube_words.specs.declared.request.Request.TheVariants.{Sample, Check, Explain, Print, Refusals, Slice, Drill}
 
 -- the program's own settings: `help` is no command
 abbrev pub named_line : App

@@ -1,0 +1,9 @@
+//! The words of the program's command line: what they ask for, as `clap` reads them, and what the help says.
+#![tactic(auto)]
+
+mod command_line;
+mod request;
+mod words;
+
+pub use request::{Request, RunWords};
+pub use words::{read_words, unreadable_words};
