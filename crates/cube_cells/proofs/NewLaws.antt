@@ -27,6 +27,7 @@ use Rattle.cube_cells.specs.Cube.{IsLattice, IsCubeOf, IsNewLattice, cell_at}
 use Rattle.cube_cells.specs.Tally.{Tally, IsTallyOf}
 use Rattle.cube_cells.specs.declared.cube.codes.Codes.{Codes}
 use Rattle.cube_cells.proofs.WalkLaws.{codes_is}
+use Rattle.cube_core.proofs.AncestorLaws.{mask_of_coords-All}
 
 -- ---- the kept sets
 -- one set more of those gone through
@@ -47,15 +48,9 @@ total_coords zero k room = (refl, refl)
 total_coords (suc n) zero room = absurd (omega (arith, room))
 total_coords (suc n) (suc k) room = let rest = total_coords n k (omega (arith, room)) in (rest.0, ap suc rest.1)
 
-no_dimensions : (coords : List Coord) → list_all is_all_coord coords ≡ true → mask_of_coords coords ≡ 0
-no_dimensions [] all = refl
-no_dimensions (c ∷ coords) all =
-    let parts = and_parts (is_all_coord c) (list_all is_all_coord coords) all in
-    rw (parts.0, no_dimensions coords parts.1) refl
-
 -- the key of the grand total is in the empty set
 pub total_mask : (n : ℕ) (key : Key) → is_total n key ≡ true → mask_of key ≡ 0
-total_mask n key total = no_dimensions key.coords (and_parts (length key.coords == n) (list_all is_all_coord key.coords) total).1
+total_mask n key total = mask_of_coords-All key.coords (and_parts (length key.coords == n) (list_all is_all_coord key.coords) total).1
 
 -- whether a key is that of the grand total
 total_is : (n : ℕ) (key : Key) → n ≤ 8 → eq_by_cmp key_cmp key (key_at (replicate n []) (replicate 8 all_code)) ≡ is_total n key

@@ -10,6 +10,7 @@ use Rattle.cube_core.specs.declared.key.Coord.{Coord}
 use Rattle.cube_core.specs.declared.key.Coord.TheVariants as coord
 use Rattle.cube_cells.specs.Codes.{Dictionaries, coord_at, coords_at, all_code, null_code}
 use Rattle.cube_cells.proofs.RankLaws.{nat_less, above_from}
+use Rattle.cube_cells.proofs.DictionaryLaws.{coord_at-place}
 
 -- the first coordinate of codes, and the others
 pub first_coord : (texts : List (List ℕ)) (dictionaries : Dictionaries) (codes : List ℕ) → coords_at (texts ∷ dictionaries) codes ≡ coord_at texts (get_or codes 0 all_code) ∷ coords_at dictionaries (drop 1 codes)
@@ -26,9 +27,6 @@ kinds code small = elim (cases_eq code all_code) [
   ]
 ]
 
-text_of_low : (texts : List (List ℕ)) (code : ℕ) → code < null_code → coord_at texts code ≡ coord.Text (get_or texts code [])
-text_of_low texts code low = rw (ne_eqb code all_code (λ same. absurd (omega (arith, low, same))), ne_eqb code null_code (λ same. absurd (omega (arith, low, same)))) refl
-
 -- codes of which one is null's or ALL's compare as their coordinates do
 pub compared_high : (texts : List (List ℕ)) (a b : ℕ) → a ≤ all_code → b ≤ all_code → (null_code ≤ a) ⊎ (null_code ≤ b) → nat_cmp a b ≡ coord_cmp (coord_at texts a) (coord_at texts b)
 compared_high texts a b small_a small_b high = by_kind (kinds a small_a) (kinds b small_b) where
@@ -41,12 +39,12 @@ compared_high texts a b small_a small_b high = by_kind (kinds a small_a) (kinds 
   by_kind : (a ≡ all_code) ⊎ ((a ≡ null_code) ⊎ (a < null_code)) → (b ≡ all_code) ⊎ ((b ≡ null_code) ⊎ (b < null_code)) → nat_cmp a b ≡ coord_cmp (coord_at texts a) (coord_at texts b)
   by_kind (inl all_a) (inl all_b) = between all_code all_code coord.All coord.All all_a all_b (ap (coord_at texts) all_a) (ap (coord_at texts) all_b) (tied_itself nat_cmp_total all_code)
   by_kind (inl all_a) (inr (inl null_b)) = between all_code null_code coord.All coord.Null all_a null_b (ap (coord_at texts) all_a) (ap (coord_at texts) null_b) (above_from nat_cmp_total all_code null_code (nat_less null_code all_code (omega arith)))
-  by_kind (inl all_a) (inr (inr low_b)) = between all_code b coord.All (text b) all_a refl (ap (coord_at texts) all_a) (text_of_low texts b low_b) (above_from nat_cmp_total all_code b (nat_less b all_code (omega (arith, low_b))))
+  by_kind (inl all_a) (inr (inr low_b)) = between all_code b coord.All (text b) all_a refl (ap (coord_at texts) all_a) (coord_at-place texts b low_b) (above_from nat_cmp_total all_code b (nat_less b all_code (omega (arith, low_b))))
   by_kind (inr (inl null_a)) (inl all_b) = between null_code all_code coord.Null coord.All null_a all_b (ap (coord_at texts) null_a) (ap (coord_at texts) all_b) (nat_less null_code all_code (omega arith))
   by_kind (inr (inl null_a)) (inr (inl null_b)) = between null_code null_code coord.Null coord.Null null_a null_b (ap (coord_at texts) null_a) (ap (coord_at texts) null_b) (tied_itself nat_cmp_total null_code)
-  by_kind (inr (inl null_a)) (inr (inr low_b)) = between null_code b coord.Null (text b) null_a refl (ap (coord_at texts) null_a) (text_of_low texts b low_b) (above_from nat_cmp_total null_code b (nat_less b null_code low_b))
-  by_kind (inr (inr low_a)) (inl all_b) = between a all_code (text a) coord.All refl all_b (text_of_low texts a low_a) (ap (coord_at texts) all_b) (nat_less a all_code (omega (arith, low_a)))
-  by_kind (inr (inr low_a)) (inr (inl null_b)) = between a null_code (text a) coord.Null refl null_b (text_of_low texts a low_a) (ap (coord_at texts) null_b) (nat_less a null_code low_a)
+  by_kind (inr (inl null_a)) (inr (inr low_b)) = between null_code b coord.Null (text b) null_a refl (ap (coord_at texts) null_a) (coord_at-place texts b low_b) (above_from nat_cmp_total null_code b (nat_less b null_code low_b))
+  by_kind (inr (inr low_a)) (inl all_b) = between a all_code (text a) coord.All refl all_b (coord_at-place texts a low_a) (ap (coord_at texts) all_b) (nat_less a all_code (omega (arith, low_a)))
+  by_kind (inr (inr low_a)) (inr (inl null_b)) = between a null_code (text a) coord.Null refl null_b (coord_at-place texts a low_a) (ap (coord_at texts) null_b) (nat_less a null_code low_a)
   by_kind (inr (inr low_a)) (inr (inr low_b)) = absurd (elim high [ inl up ↦ omega (arith, up, low_a) | inr up ↦ omega (arith, up, low_b) ])
 
 -- a coordinate ties with itself
@@ -61,4 +59,4 @@ compared_same texts a b same = ap (nat_cmp a) (sym same) ∙ tied_itself nat_cmp
 
 -- other codes compare as their texts do
 pub compared_texts : (texts : List (List ℕ)) (a b : ℕ) → a < null_code → b < null_code → slice_cmp nat_cmp (get_or texts a []) (get_or texts b []) ≡ coord_cmp (coord_at texts a) (coord_at texts b)
-compared_texts texts a b low_a low_b = rw (text_of_low texts a low_a, text_of_low texts b low_b) refl
+compared_texts texts a b low_a low_b = rw (coord_at-place texts a low_a, coord_at-place texts b low_b) refl

@@ -17,3 +17,10 @@ pub fields_over-take : {A : Type 0} (fields : List (Field A)) (olds : List A) (i
     → fields_over (take (i + 1) fields) (take (i + 1) olds)
     ≡ fields_over (take i fields) (take i olds) ++ field_over (get_or fields i field) (get_or olds i old) ∷ []
 fields_over-take fields olds i field old below same = rw (add-one i) (fields_over-take_suc fields olds i field old below same)
+
+-- as many values as there were
+pub length-fields_over : {A : Type 0} (fields : List (Field A)) (olds : List A) → length fields ≡ length olds → length (fields_over fields olds) ≡ length olds
+length-fields_over [] [] same = refl
+length-fields_over [] (old ∷ olds) same = absurd (omega arith)
+length-fields_over (field ∷ fields) [] same = absurd (omega arith)
+length-fields_over (field ∷ fields) (old ∷ olds) same = ap (λ n. suc n) (length-fields_over fields olds (omega arith))

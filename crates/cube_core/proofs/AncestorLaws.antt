@@ -8,6 +8,7 @@ use Rattle.cube_core.specs.Covers.{stands_for, all_stand_for}
 use Rattle.cube_core.specs.GroupingSet.{is_all_coord, mask_of_coords}
 use Rattle.cube_core.specs.declared.key.Coord.{Coord}
 use Rattle.cube_core.specs.declared.key.Coord.TheVariants as coord
+use Rattle.std.proofs.Math.Bool.{not-not}
 
 -- what stands for a value: the value itself where its dimension is grouped by, else ALL
 abbrev pub coord_of : Option (List ℕ) → Bool → Coord
@@ -30,13 +31,9 @@ coord_of-stands_for (coord.Text name) value false s g = cc
 coord_of-stands_for (coord.Text name) None true s g = cc
 coord_of-stands_for (coord.Text name) (Some text) true s g = ap coord.Text ((bytes_eq-Decides name text).0 s)
 
-not_not : (x : Bool) → not (not x) ≡ x
-not_not true = refl
-not_not false = refl
-
-bit_below : (x : Bool) (m n : ℕ) → m < 2 ^ n → cond x 0 1 + 2 * m < 2 ^ suc n
-bit_below true m n below = omega (arith, pow-succ' 2 n)
-bit_below false m n below = omega (arith, pow-succ' 2 n)
+bit-below : (x : Bool) (m n : ℕ) → m < 2 ^ n → cond x 0 1 + 2 * m < 2 ^ suc n
+bit-below true m n below = omega (arith, pow-succ' 2 n)
+bit-below false m n below = omega (arith, pow-succ' 2 n)
 
 -- what stands for a value does
 pub stands_for-coord_of : (value : Option (List ℕ)) (is_grouped : Bool) → stands_for (coord_of value is_grouped) value ≡ true
@@ -59,8 +56,8 @@ all_stand_for-ancestor_of (value ∷ values) mask =
     rw (stands_for-coord_of value (mask % 2 == 1)) (all_stand_for-ancestor_of values (mask / 2))
 
 -- a number's last bit and the others make it up
-bits_of : (mask : ℕ) → cond (not (mask % 2 == 1)) 0 1 + 2 * (mask / 2) ≡ mask
-bits_of mask = grind (arith, nat_tests)
+bit-half : (mask : ℕ) → cond (not (mask % 2 == 1)) 0 1 + 2 * (mask / 2) ≡ mask
+bit-half mask = grind (arith, nat_tests)
 
 pub mask_of_coords-ancestor_of : (values : List (Option (List ℕ))) (mask : ℕ) → mask < 2 ^ length values → mask_of_coords (ancestor_of values mask) ≡ mask
 unfolding ancestor_of
@@ -68,20 +65,20 @@ mask_of_coords-ancestor_of [] mask below = omega arith
 mask_of_coords-ancestor_of (value ∷ values) mask below =
     let half : mask / 2 < 2 ^ length values = omega (arith, pow-succ' 2 (length values)) in
     let rest : mask_of_coords (ancestor_of values (mask / 2)) ≡ mask / 2 = mask_of_coords-ancestor_of values (mask / 2) half in
-    rw (rest, is_all_coord-coord_of value (mask % 2 == 1)) (bits_of mask)
+    rw (rest, is_all_coord-coord_of value (mask % 2 == 1)) (bit-half mask)
 
 -- two coordinates that stand for a value are one, if both or neither are ALL
-same_coord : (a b : Coord) (value : Option (List ℕ)) → stands_for a value ≡ true → stands_for b value ≡ true → is_all_coord a ≡ is_all_coord b → a ≡ b
-same_coord a b value s t e =
-    coord_of-stands_for a value (not (is_all_coord a)) s (sym (not_not (is_all_coord a)))
-    ∙ sym (coord_of-stands_for b value (not (is_all_coord a)) t (sym e ∙ sym (not_not (is_all_coord a))))
+stands_for-coord : (a b : Coord) (value : Option (List ℕ)) → stands_for a value ≡ true → stands_for b value ≡ true → is_all_coord a ≡ is_all_coord b → a ≡ b
+stands_for-coord a b value s t e =
+    coord_of-stands_for a value (not (is_all_coord a)) s (sym (not-not (is_all_coord a)))
+    ∙ sym (coord_of-stands_for b value (not (is_all_coord a)) t (sym e ∙ sym (not-not (is_all_coord a))))
 
 -- the last bit of a mask, and the other bits
-same_bits : (x y : Bool) (m n : ℕ) → cond x 0 1 + 2 * m ≡ cond y 0 1 + 2 * n → (x ≡ y) × (m ≡ n)
-same_bits true true m n e = (refl, omega arith)
-same_bits false false m n e = (refl, omega arith)
-same_bits true false m n e = absurd (omega arith)
-same_bits false true m n e = absurd (omega arith)
+bit-same : (x y : Bool) (m n : ℕ) → cond x 0 1 + 2 * m ≡ cond y 0 1 + 2 * n → (x ≡ y) × (m ≡ n)
+bit-same true true m n e = (refl, omega arith)
+bit-same false false m n e = (refl, omega arith)
+bit-same true false m n e = absurd (omega arith)
+bit-same false true m n e = absurd (omega arith)
 
 -- coordinates that stand for the same values are the same, if their masks are
 pub all_stand_for-mask_of_coords : (xs ys : List Coord) (values : List (Option (List ℕ))) → all_stand_for xs values ≡ true → all_stand_for ys values ≡ true → mask_of_coords xs ≡ mask_of_coords ys → xs ≡ ys
@@ -92,20 +89,27 @@ all_stand_for-mask_of_coords (x ∷ xs) [] [] s t e = cc
 all_stand_for-mask_of_coords (x ∷ xs) [] (value ∷ values) s t e = cc
 all_stand_for-mask_of_coords (x ∷ xs) (y ∷ ys) [] s t e = cc
 all_stand_for-mask_of_coords (x ∷ xs) (y ∷ ys) (value ∷ values) s t e =
-    let bits = same_bits (is_all_coord x) (is_all_coord y) (mask_of_coords xs) (mask_of_coords ys) e in
+    let bits = bit-same (is_all_coord x) (is_all_coord y) (mask_of_coords xs) (mask_of_coords ys) e in
     let hs = and_parts (stands_for x value) (all_stand_for xs values) s in
     let ht = and_parts (stands_for y value) (all_stand_for ys values) t in
-    let head : x ≡ y = same_coord x y value hs.0 ht.0 bits.0 in
+    let head : x ≡ y = stands_for-coord x y value hs.0 ht.0 bits.0 in
     let tail : xs ≡ ys = all_stand_for-mask_of_coords xs ys values hs.1 ht.1 bits.1 in
     cc
 
+-- ALL in each dimension is the empty set
+pub mask_of_coords-All : (coords : List Coord) → list_all is_all_coord coords ≡ true → mask_of_coords coords ≡ 0
+mask_of_coords-All [] all = refl
+mask_of_coords-All (c ∷ coords) all =
+    let parts = and_parts (is_all_coord c) (list_all is_all_coord coords) all in
+    rw (parts.0, mask_of_coords-All coords parts.1) refl
+
 pub mask_of_coords-length : (coords : List Coord) → mask_of_coords coords < 2 ^ length coords
 mask_of_coords-length [] = omega arith
-mask_of_coords-length (c ∷ coords) = bit_below (is_all_coord c) (mask_of_coords coords) (length coords) (mask_of_coords-length coords)
+mask_of_coords-length (c ∷ coords) = bit-below (is_all_coord c) (mask_of_coords coords) (length coords) (mask_of_coords-length coords)
 
 -- the mask of at most 8 coordinates has 8 bits
-pub mask_of_eight : (coords : List Coord) → length coords ≤ 8 → mask_of_coords coords < 256
-mask_of_eight coords few =
+pub mask_of_coords-byte : (coords : List Coord) → length coords ≤ 8 → mask_of_coords coords < 256
+mask_of_coords-byte coords few =
     let two : 0 < 2 = omega arith in
     let bound : 2 ^ length coords ≤ 2 ^ 8 = pow-le-pow_right two few in
     omega (arith, mask_of_coords-length coords, bound)

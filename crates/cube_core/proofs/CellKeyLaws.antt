@@ -31,21 +31,21 @@ key_cmp-Decides x y = (
   λ e. let P : Key → Type 0 = λ k. eq_by_cmp key_cmp x k ≡ true in subst P e (ap is_eq (tied_itself key_cmp-IsTotalOrder x)),
 )
 
-is_all_is : (c : Coord) → is_all_coord c ≡ true → c ≡ coord.All
-is_all_is (coord.Text name) e = cc
-is_all_is coord.Null e = cc
-is_all_is coord.All e = refl
+is_all_coord-All : (c : Coord) → is_all_coord c ≡ true → c ≡ coord.All
+is_all_coord-All (coord.Text name) e = cc
+is_all_coord-All coord.Null e = cc
+is_all_coord-All coord.All e = refl
 
 -- the key of the grand total is one
-total_coords : (xs ys : List Coord) → length xs ≡ length ys → list_all is_all_coord xs ≡ true → list_all is_all_coord ys ≡ true → xs ≡ ys
-total_coords [] [] l s t = refl
-total_coords [] (y ∷ ys) l s t = cc
-total_coords (x ∷ xs) [] l s t = cc
-total_coords (x ∷ xs) (y ∷ ys) l s t =
+is_all_coord-length : (xs ys : List Coord) → length xs ≡ length ys → list_all is_all_coord xs ≡ true → list_all is_all_coord ys ≡ true → xs ≡ ys
+is_all_coord-length [] [] l s t = refl
+is_all_coord-length [] (y ∷ ys) l s t = cc
+is_all_coord-length (x ∷ xs) [] l s t = cc
+is_all_coord-length (x ∷ xs) (y ∷ ys) l s t =
     let hs = and_parts (is_all_coord x) (list_all is_all_coord xs) s in
     let ht = and_parts (is_all_coord y) (list_all is_all_coord ys) t in
-    let head : x ≡ y = is_all_is x hs.0 ∙ sym (is_all_is y ht.0) in
-    let tail : xs ≡ ys = total_coords xs ys (cc) hs.1 ht.1 in
+    let head : x ≡ y = is_all_coord-All x hs.0 ∙ sym (is_all_coord-All y ht.0) in
+    let tail : xs ≡ ys = is_all_coord-length xs ys (cc) hs.1 ht.1 in
     cc
 
 -- whether a key is that of the grand total
@@ -56,7 +56,7 @@ key_cmp-is_total total key dimensions t =
     let by_total : Decides (is_total dimensions key) (total ≡ key) = (
       λ e.
           let others = and_parts (length key.coords == dimensions) (list_all is_all_coord key.coords) e in
-          Key-coords total key (total_coords total.coords key.coords (exact_unsigned_eq _ _ parts.0 ∙ sym (exact_unsigned_eq _ _ others.0)) parts.1 others.1),
+          Key-coords total key (is_all_coord-length total.coords key.coords (exact_unsigned_eq _ _ parts.0 ∙ sym (exact_unsigned_eq _ _ others.0)) parts.1 others.1),
       λ e. subst P e t,
     ) in
     same_from_decides _ _ (key_cmp-Decides total key) by_total

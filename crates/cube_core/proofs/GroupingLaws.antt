@@ -27,30 +27,30 @@ pub record AreKept (dimensions : ℕ) (sets : List ℕ) : Type 0 where
   pub of_dimensions : All (λ set. set < 2 ^ dimensions) sets
 
 -- a set of the dimensions is one of all
-pub set_is_among : (set dimensions : ℕ) (test : ℕ → Bool) → set < 2 ^ dimensions → test set ≡ true → list_any test (all_sets dimensions) ≡ true
-set_is_among set dimensions test below passes =
+pub list_any-all_sets : (set dimensions : ℕ) (test : ℕ → Bool) → set < 2 ^ dimensions → test set ≡ true → list_any test (all_sets dimensions) ≡ true
+list_any-all_sets set dimensions test below passes =
     list_any_at test (all_sets dimensions) set 0 (omega (arith, length-range_with_len 0 (2 ^ dimensions)))
     (ap test (get_or-range_with_len 0 (2 ^ dimensions) set 0 below ∙ zero-add set) ∙ passes)
 
 -- where an element passes, one is kept
-some_kept : (test : ℕ → Bool) (sets : List ℕ) → list_any test sets ≡ true → 1 ≤ length (filter test sets)
-some_kept test [] any = cc
-some_kept test (set ∷ sets) any = elim (cases_Bool (test set)) [
+filter-list_any : (test : ℕ → Bool) (sets : List ℕ) → list_any test sets ≡ true → 1 ≤ length (filter test sets)
+filter-list_any test [] any = cc
+filter-list_any test (set ∷ sets) any = elim (cases_Bool (test set)) [
   | inl passes ↦ rw passes (omega arith)
-  | inr fails ↦ rw fails (some_kept test sets (rw fails at any))
+  | inr fails ↦ rw fails (filter-list_any test sets (rw fails at any))
 ]
 
 kept-AreKept : (dimensions : ℕ) (named : List ℕ) → HasSet dimensions named → AreKept dimensions (kept_sets dimensions named)
 kept-AreKept dimensions named (set, among, below) =
     let is_named : ℕ → Bool = λ other. is_among other named in
     record {
-      some_set = some_kept is_named (all_sets dimensions) (set_is_among set dimensions is_named below among);
+      some_set = filter-list_any is_named (all_sets dimensions) (list_any-all_sets set dimensions is_named below among);
       ascending = IsStrictlyIncreasing-filter is_named (all_sets dimensions) (all_sets-IsStrictlyIncreasing dimensions);
       of_dimensions = All-filter is_named (λ other. other < 2 ^ dimensions) (all_sets dimensions) (all_sets-All dimensions);
     }
 
 all-HasSet : (dimensions : ℕ) → HasSet dimensions (all_sets dimensions)
-all-HasSet dimensions = (0, set_is_among 0 dimensions (λ other. other == 0) (pow_pos dimensions) refl, pow_pos dimensions)
+all-HasSet dimensions = (0, list_any-all_sets 0 dimensions (λ other. other == 0) (pow_pos dimensions) refl, pow_pos dimensions)
 
 rollup-HasSet : (dimensions : List (List ℕ)) → HasSet (length dimensions) (rollup_sets dimensions)
 rollup-HasSet dimensions =

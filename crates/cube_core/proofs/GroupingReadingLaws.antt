@@ -7,18 +7,18 @@ use Rattle.toml.specs.View.{view, items_view}
 use Rattle.toml.specs.declared.value.Value.{Value}
 use Rattle.toml.proofs.Views.{items_view-drop}
 
-bit_below : (x : Bool) (m n : ℕ) → m < 2 ^ n → cond x 1 0 + 2 * m < 2 ^ suc n
-bit_below true m n below = omega (arith, pow-succ' 2 n)
-bit_below false m n below = omega (arith, pow-succ' 2 n)
+bit-below : (x : Bool) (m n : ℕ) → m < 2 ^ n → cond x 1 0 + 2 * m < 2 ^ suc n
+bit-below true m n below = omega (arith, pow-succ' 2 n)
+bit-below false m n below = omega (arith, pow-succ' 2 n)
 
 -- the mask of a set is below 2 to the power of the dimensions
 pub mask_of_names-below : (dimensions names : List (List ℕ)) → mask_of_names dimensions names < 2 ^ length dimensions
 mask_of_names-below [] names = omega arith
-mask_of_names-below (dimension ∷ dimensions) names = bit_below (is_listed dimension names) (mask_of_names dimensions names) (length dimensions) (mask_of_names-below dimensions names)
+mask_of_names-below (dimension ∷ dimensions) names = bit-below (is_listed dimension names) (mask_of_names dimensions names) (length dimensions) (mask_of_names-below dimensions names)
 
 -- the mask of a set of at most 7 dimensions has 7 bits
-pub mask_of_seven : (dimensions names : List (List ℕ)) → length dimensions ≤ 7 → mask_of_names dimensions names < 128
-mask_of_seven dimensions names few =
+pub mask_of_names-byte : (dimensions names : List (List ℕ)) → length dimensions ≤ 7 → mask_of_names dimensions names < 128
+mask_of_names-byte dimensions names few =
     let two : 0 < 2 = omega arith in
     let bound : 2 ^ length dimensions ≤ 2 ^ 7 = pow-le-pow_right two few in
     omega (arith, mask_of_names-below dimensions names, bound)

@@ -14,9 +14,9 @@ use Rattle.cube_core.specs.declared.change.LineFault.{LineFault}
 use Rattle.cube_core.specs.declared.partial.Field.TheVariants.{Put}
 
 -- a choice of two answers has what each of them has
-chosen : {A E : Type 0} (P : A → Type 0) (b : Bool) (x y : Result A E) → (b ≡ true → IfOk x P) → (b ≡ false → IfOk y P) → IfOk (if b then x else y) P
-chosen P true x y first second = first refl
-chosen P false x y first second = second refl
+pub IfOk-if : {A E : Type 0} (P : A → Type 0) (b : Bool) (x y : Result A E) → (b ≡ true → IfOk x P) → (b ≡ false → IfOk y P) → IfOk (if b then x else y) P
+IfOk-if P true x y first second = first refl
+IfOk-if P false x y first second = second refl
 
 -- what is turned round is turned back
 holds-not : (b : Bool) → not b ≡ false → b ≡ true
@@ -24,11 +24,11 @@ holds-not true h = refl
 holds-not false h = absurd (true≢false h)
 
 -- a filter map that gives something of each item has as many
-length-filter_map_all : {A B : Type 0} (f : A → Option B) (xs : List A) → list_all (λ x. is_some (f x)) xs ≡ true → length (filter_map f xs) ≡ length xs
-length-filter_map_all f [] all = refl
-length-filter_map_all f (x ∷ xs) all =
+pub length-filter_map : {A B : Type 0} (f : A → Option B) (xs : List A) → list_all (λ x. is_some (f x)) xs ≡ true → length (filter_map f xs) ≡ length xs
+length-filter_map f [] all = refl
+length-filter_map f (x ∷ xs) all =
     let parts = and_parts (is_some (f x)) (list_all (λ y. is_some (f y)) xs) all in
-    more (f x) parts.0 (filter_map f xs) ∙ ap (λ n. suc n) (length-filter_map_all f xs parts.1)
+    more (f x) parts.0 (filter_map f xs) ∙ ap (λ n. suc n) (length-filter_map f xs parts.1)
   where
     more : {C : Type 0} (o : Option C) → is_some o ≡ true → (rest : List C) → length (cons_option o rest) ≡ suc (length rest)
     more None there rest = absurd (true≢false (sym there))
@@ -86,7 +86,7 @@ fits-fact_of : (s : Layout) (fields : List (List ℕ)) → length fields ≡ wid
     → fits s (fact_of s fields) ≡ true
 fits-fact_of s fields right lawful =
     let dims = length-map (dimension_fields s fields) dimension_of ∙ length-dimension_fields s fields right in
-    let measures = length-filter_map_all measure_of (measure_fields s fields) lawful ∙ length-measure_fields s fields right in
+    let measures = length-filter_map measure_of (measure_fields s fields) lawful ∙ length-measure_fields s fields right in
     and_from _ _ (and_from _ _ (eq-eqb _ _ dims) (eq-eqb _ _ measures)) (dimension_of-values (dimension_fields s fields))
 
 -- and so does its amendment, where they are values or are kept
@@ -94,7 +94,7 @@ fits_part-part_of : (s : Layout) (fields : List (List ℕ)) → length fields �
     → fits_part s (part_of s fields) ≡ true
 fits_part-part_of s fields right lawful =
     let dims = length-map (dimension_fields s fields) (dimension_field_of s) ∙ length-dimension_fields s fields right in
-    let measures = length-filter_map_all (measure_field_of s) (measure_fields s fields) lawful ∙ length-measure_fields s fields right in
+    let measures = length-filter_map (measure_field_of s) (measure_fields s fields) lawful ∙ length-measure_fields s fields right in
     and_from _ _ (and_from _ _ (eq-eqb _ _ dims) (eq-eqb _ _ measures)) (dimension_field_of-values s (dimension_fields s fields))
 
 -- only feeds that may amend keep a field
@@ -115,10 +115,10 @@ put_of-taken : (s : Layout) (fields : List (List ℕ)) (change : Result Change L
     → IfOk (put_of change s fields) (λ c. takes s c ≡ true)
 put_of-taken s fields change taken =
     let P : Change → Type 0 = λ c. takes s c ≡ true in
-    chosen P (not (length fields == width_of s)) _ _ (λ wrong. tt) (λ right.
-    chosen P (not (list_all is_utf8 (drop 1 fields))) _ _ (λ bad. tt) (λ texts.
-    chosen P (length (field_at fields 1) == 0) _ _ (λ empty. tt) (λ named.
-    chosen P (not (list_all (is_measure s) (measure_fields s fields))) _ _ (λ bad. tt) (λ lawful.
+    IfOk-if P (not (length fields == width_of s)) _ _ (λ wrong. tt) (λ right.
+    IfOk-if P (not (list_all is_utf8 (drop 1 fields))) _ _ (λ bad. tt) (λ texts.
+    IfOk-if P (length (field_at fields 1) == 0) _ _ (λ empty. tt) (λ named.
+    IfOk-if P (not (list_all (is_measure s) (measure_fields s fields))) _ _ (λ bad. tt) (λ lawful.
     taken (eqb-true _ _ (holds-not _ right)) (ap not named) (holds-not _ lawful)))))
 
 -- the change that a record spells is one that the schema takes
@@ -128,17 +128,17 @@ takes-change_of s fields =
     let values : keeps_any s fields ≡ false → list_all (is_measure s) (measure_fields s fields) ≡ true
     → list_all (λ field. is_some (measure_of field)) (measure_fields s fields) ≡ true =
     λ none lawful. sym (is_measure-value s (measure_fields s fields) (keeps_any-measures s fields none)) ∙ lawful in
-    chosen P (bytes_eq (field_at fields 0) (codes "I")) _ _
+    IfOk-if P (bytes_eq (field_at fields 0) (codes "I")) _ _
     (λ letter. put_of-taken s fields (insert_of s fields) (λ right named lawful.
-    chosen P (keeps_any s fields) _ _ (λ keeps. tt) (λ none. and_from _ _ named (fits-fact_of s fields right (values none lawful)))))
-    (λ other. chosen P (bytes_eq (field_at fields 0) (codes "U")) _ _
+    IfOk-if P (keeps_any s fields) _ _ (λ keeps. tt) (λ none. and_from _ _ named (fits-fact_of s fields right (values none lawful)))))
+    (λ other. IfOk-if P (bytes_eq (field_at fields 0) (codes "U")) _ _
     (λ letter. put_of-taken s fields (update_of s fields) (λ right named lawful.
-    chosen P (keeps_any s fields) _ _
+    IfOk-if P (keeps_any s fields) _ _
     (λ keeps. and_from _ _ (and_from _ _ (may_amend-keeps s (drop 2 fields) keeps) named) (fits_part-part_of s fields right lawful))
     (λ none. and_from _ _ named (fits-fact_of s fields right (values none lawful)))))
-    (λ neither. chosen P (bytes_eq (field_at fields 0) (codes "D")) _ _
+    (λ neither. IfOk-if P (bytes_eq (field_at fields 0) (codes "D")) _ _
     (λ letter.
-    chosen P (not ((length fields == 2) || (length fields == width_of s))) _ _ (λ wrong. tt) (λ right.
-    chosen P (not (is_utf8 (field_at fields 1))) _ _ (λ bad. tt) (λ text.
-    chosen P (length (field_at fields 1) == 0) _ _ (λ empty. tt) (λ named. ap not named))))
+    IfOk-if P (not ((length fields == 2) || (length fields == width_of s))) _ _ (λ wrong. tt) (λ right.
+    IfOk-if P (not (is_utf8 (field_at fields 1))) _ _ (λ bad. tt) (λ text.
+    IfOk-if P (length (field_at fields 1) == 0) _ _ (λ empty. tt) (λ named. ap not named))))
     (λ none. tt)))

@@ -27,40 +27,40 @@ life_after (Delete id) None = None
 life_after (Delete id) (Some present) = None
 
 -- a change that names the id is the last of those that name it
-pub naming_more : (id : List ℕ) (changes : List Change) (change : Change) → bytes_eq id (id_of change) ≡ true
+pub naming-more : (id : List ℕ) (changes : List Change) (change : Change) → bytes_eq id (id_of change) ≡ true
     → naming id (changes ++ change ∷ []) ≡ naming id changes ++ change ∷ []
-naming_more id changes change same = filter-append (λ (c : Change). bytes_eq id (id_of c)) changes (change ∷ []) ∙ rw same refl
+naming-more id changes change same = filter-append (λ (c : Change). bytes_eq id (id_of c)) changes (change ∷ []) ∙ rw same refl
 
 -- a change that names another id isn't among them
-pub naming_other : (id : List ℕ) (changes : List Change) (change : Change) → bytes_eq id (id_of change) ≡ false
+pub naming-other : (id : List ℕ) (changes : List Change) (change : Change) → bytes_eq id (id_of change) ≡ false
     → naming id (changes ++ change ∷ []) ≡ naming id changes
-naming_other id changes change other = filter-append (λ (c : Change). bytes_eq id (id_of c)) changes (change ∷ []) ∙ rw other (append-nil _)
+naming-other id changes change other = filter-append (λ (c : Change). bytes_eq id (id_of c)) changes (change ∷ []) ∙ rw other (append-nil _)
 
 -- a list that ends with a delete has one
-ends_with_delete : (changes : List Change) (id : List ℕ) → list_any is_delete (changes ++ Delete id ∷ []) ≡ true
-ends_with_delete changes id = list_any-append is_delete changes (Delete id ∷ []) ∙ or_right _ true refl
+is_delete-last : (changes : List Change) (id : List ℕ) → list_any is_delete (changes ++ Delete id ∷ []) ≡ true
+is_delete-last changes id = list_any-append is_delete changes (Delete id ∷ []) ∙ or_right _ true refl
 
 -- after a delete at the end nothing is left
-pub since_delete_done : (changes : List Change) (id : List ℕ) → since_delete (changes ++ Delete id ∷ []) ≡ []
-since_delete_done [] id = refl
-since_delete_done (change ∷ changes) id = rw (ends_with_delete (change ∷ changes) id) (since_delete_done changes id)
+pub since_delete-delete : (changes : List Change) (id : List ℕ) → since_delete (changes ++ Delete id ∷ []) ≡ []
+since_delete-delete [] id = refl
+since_delete-delete (change ∷ changes) id = rw (is_delete-last (change ∷ changes) id) (since_delete-delete changes id)
 
 -- a change at the end that is no delete leaves the question open
-same_deletes : (changes : List Change) (change : Change) → is_delete change ≡ false
+is_delete-other : (changes : List Change) (change : Change) → is_delete change ≡ false
     → list_any is_delete (changes ++ change ∷ []) ≡ list_any is_delete changes
-same_deletes changes change stays = list_any-append is_delete changes (change ∷ []) ∙ rw stays (or-false-at _)
+is_delete-other changes change stays = list_any-append is_delete changes (change ∷ []) ∙ rw stays (or-false-at _)
   where
     or-false-at : (b : Bool) → (b || false) ≡ b
     or-false-at true = refl
     or-false-at false = refl
 
 -- a change at the end that is no delete is left after the last delete
-pub since_delete_more : (changes : List Change) (change : Change) → is_delete change ≡ false
+pub since_delete-more : (changes : List Change) (change : Change) → is_delete change ≡ false
     → since_delete (changes ++ change ∷ []) ≡ since_delete changes ++ change ∷ []
-since_delete_more [] change stays = rw stays refl
-since_delete_more (first ∷ changes) change stays = elim (cases_Bool (list_any is_delete (first ∷ changes))) [
-  | inl has ↦ rw (same_deletes (first ∷ changes) change stays, has) (since_delete_more changes change stays)
-  | inr hasnt ↦ rw (same_deletes (first ∷ changes) change stays, hasnt) refl
+since_delete-more [] change stays = rw stays refl
+since_delete-more (first ∷ changes) change stays = elim (cases_Bool (list_any is_delete (first ∷ changes))) [
+  | inl has ↦ rw (is_delete-other (first ∷ changes) change stays, has) (since_delete-more changes change stays)
+  | inr hasnt ↦ rw (is_delete-other (first ∷ changes) change stays, hasnt) refl
 ]
 
 -- a change at the end that is no delete puts its fact, or some fields of it, where it may
@@ -83,51 +83,51 @@ from_insert-more (Amend _ _ ∷ changes) change stays = from_insert-more changes
 from_insert-more (Delete _ ∷ changes) change stays = from_insert-more changes change stays
 
 -- nothing is there after a delete
-pub nothing_after_delete : (id : List ℕ) (life : Option Fact) → None ≡ life_after (Delete id) life
-nothing_after_delete id None = refl
-nothing_after_delete id (Some fact) = refl
+pub life_after-delete : (id : List ℕ) (life : Option Fact) → None ≡ life_after (Delete id) life
+life_after-delete id None = refl
+life_after-delete id (Some fact) = refl
 
 -- before any change no id is there
-pub life_none : (id : List ℕ) → life_of id [] ≡ None
-life_none id = refl
+pub life_of-none : (id : List ℕ) → life_of id [] ≡ None
+life_of-none id = refl
 
 -- the life of an id after one more change that names it, where it is no delete
 life_of-more : (id : List ℕ) (changes : List Change) (change : Change) → bytes_eq id (id_of change) ≡ true → is_delete change ≡ false
     → life_of id (changes ++ change ∷ []) ≡ life_after change (life_of id changes)
 life_of-more id changes change same stays =
-    ap (λ (cs : List Change). from_insert (since_delete cs)) (naming_more id changes change same)
-    ∙ ap from_insert (since_delete_more (naming id changes) change stays)
+    ap (λ (cs : List Change). from_insert (since_delete cs)) (naming-more id changes change same)
+    ∙ ap from_insert (since_delete-more (naming id changes) change stays)
     ∙ from_insert-more (since_delete (naming id changes)) change stays
 
 -- the life of an id after one more change that names it
-pub life_more : (id : List ℕ) (changes : List Change) (change : Change) → bytes_eq id (id_of change) ≡ true
+pub life_of-naming : (id : List ℕ) (changes : List Change) (change : Change) → bytes_eq id (id_of change) ≡ true
     → life_of id (changes ++ change ∷ []) ≡ life_after change (life_of id changes)
-life_more id changes (Insert named fact) same = life_of-more id changes (Insert named fact) same refl
-life_more id changes (Update named fact) same = life_of-more id changes (Update named fact) same refl
-life_more id changes (Amend named part) same = life_of-more id changes (Amend named part) same refl
-life_more id changes (Delete named) same =
-    ap (λ (cs : List Change). from_insert (since_delete cs)) (naming_more id changes (Delete named) same)
-    ∙ ap from_insert (since_delete_done (naming id changes) named)
-    ∙ nothing_after_delete named (life_of id changes)
+life_of-naming id changes (Insert named fact) same = life_of-more id changes (Insert named fact) same refl
+life_of-naming id changes (Update named fact) same = life_of-more id changes (Update named fact) same refl
+life_of-naming id changes (Amend named part) same = life_of-more id changes (Amend named part) same refl
+life_of-naming id changes (Delete named) same =
+    ap (λ (cs : List Change). from_insert (since_delete cs)) (naming-more id changes (Delete named) same)
+    ∙ ap from_insert (since_delete-delete (naming id changes) named)
+    ∙ life_after-delete named (life_of id changes)
 
 -- a change that names another id leaves the life of an id as it was
-pub life_other : (id : List ℕ) (changes : List Change) (change : Change) → bytes_eq id (id_of change) ≡ false
+pub life_of-other : (id : List ℕ) (changes : List Change) (change : Change) → bytes_eq id (id_of change) ≡ false
     → life_of id (changes ++ change ∷ []) ≡ life_of id changes
-life_other id changes change other =
-    ap (λ (cs : List Change). from_insert (since_delete cs)) (naming_other id changes change other)
+life_of-other id changes change other =
+    ap (λ (cs : List Change). from_insert (since_delete cs)) (naming-other id changes change other)
 
 -- both at once: the life of an id after one more change
-pub life_step : (id : List ℕ) (changes : List Change) (change : Change)
+pub life_of-append : (id : List ℕ) (changes : List Change) (change : Change)
     → life_of id (changes ++ change ∷ []) ≡ (if bytes_eq id (id_of change) then life_after change (life_of id changes) else life_of id changes)
-life_step id changes change = elim (cases_Bool (bytes_eq id (id_of change))) [
-  | inl same ↦ rw same (life_more id changes change same)
-  | inr other ↦ rw other (life_other id changes change other)
+life_of-append id changes change = elim (cases_Bool (bytes_eq id (id_of change))) [
+  | inl same ↦ rw same (life_of-naming id changes change same)
+  | inr other ↦ rw other (life_of-other id changes change other)
 ]
 
 -- a text is its own
-pub same_text : (text : List ℕ) → bytes_eq text text ≡ true
-same_text text = (bytes_eq-Decides text text).1 refl
+pub bytes_eq-itself : (text : List ℕ) → bytes_eq text text ≡ true
+bytes_eq-itself text = (bytes_eq-Decides text text).1 refl
 
 -- texts that differ compare as different
-pub other_text : (a b : List ℕ) → b ≢ a → bytes_eq a b ≡ false
-other_text a b differs = false_from_ne_true (bytes_eq a b) (λ same. differs (sym ((bytes_eq-Decides a b).0 same)))
+pub bytes_eq-other : (a b : List ℕ) → b ≢ a → bytes_eq a b ≡ false
+bytes_eq-other a b differs = false_from_ne_true (bytes_eq a b) (λ same. differs (sym ((bytes_eq-Decides a b).0 same)))

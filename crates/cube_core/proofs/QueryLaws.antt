@@ -24,60 +24,60 @@ use Rattle.cube_core.specs.declared.query.QueryFault.TheVariants.{Fields, Field,
 use Rattle.cube_core.specs.contracts.key.CoordPartialEq.TheImpl as CoordPartialEq
 
 -- the records that a first read and a second show
-only_of : (after later : State → List ℕ → List (List (List ℕ))) (first second : Option Read) (found more : Bool) (fields others : List (List ℕ)) (s s2 : State) (ys zs : List ℕ)
+only_one-records_next : (after later : State → List ℕ → List (List (List ℕ))) (first second : Option Read) (found more : Bool) (fields others : List (List ℕ)) (s s2 : State) (ys zs : List ℕ)
     → NextIs first found fields s ys → NextIs second more others s2 zs → after s ys ≡ records_next later second
     → only_one (records_next after first) ≡ (if found && not more then Some fields else None)
-only_of after later None second found more fields others s s2 ys zs h k e = rw h refl
-only_of after later (Some p) None found more fields others s s2 ys zs h k e =
+only_one-records_next after later None second found more fields others s s2 ys zs h k e = rw h refl
+only_one-records_next after later (Some p) None found more fields others s s2 ys zs h k e =
     rw (h.0, h.1, k, ← h.2, ← h.3, e) refl
-only_of after later (Some p) (Some q) found more fields others s s2 ys zs h k e =
+only_one-records_next after later (Some p) (Some q) found more fields others s s2 ys zs h k e =
     rw (h.0, k.0, ← h.2, ← h.3, e) refl
 
 -- a text has exactly one record where a first read finds one and a second finds none
-two_reads : (xs ys zs : List ℕ) (found more : Bool) (fields others : List (List ℕ)) (s s2 : State)
+only_one-next_record : (xs ys zs : List ℕ) (found more : Bool) (fields others : List (List ℕ)) (s s2 : State)
     → NextIs (next_record default_config st.StartRecord [] [] xs) found fields s ys
     → NextIs (next_record default_config s [] [] ys) more others s2 zs
     → only_one (records default_config xs) ≡ (if found && not more then Some fields else None)
 unfolding records_from next_record
-two_reads [] ys zs found more fields others s s2 h k = rw h refl
-two_reads (x ∷ xs) ys zs found more fields others s s2 h k =
-    rw (add-one (length (x ∷ xs))) (only_of (records_from default_config (suc (length xs))) (records_from default_config (length xs))
+only_one-next_record [] ys zs found more fields others s s2 h k = rw h refl
+only_one-next_record (x ∷ xs) ys zs found more fields others s s2 h k =
+    rw (add-one (length (x ∷ xs))) (only_one-records_next (records_from default_config (suc (length xs))) (records_from default_config (length xs))
     (next_record default_config st.StartRecord [] [] (x ∷ xs)) (next_record default_config s [] [] ys) found more fields others s s2 ys zs h k refl)
 
-two_reads_known : (xs : List ℕ) (after after2 : Option (List ℕ)) (found more : Bool) (fields others : List (List ℕ)) (s s2 : State)
+only_one-ReadsNext : (xs : List ℕ) (after after2 : Option (List ℕ)) (found more : Bool) (fields others : List (List ℕ)) (s s2 : State)
     → ReadsNext default_config st.StartRecord (Some xs) after found fields s
     → ReadsNext default_config s after after2 more others s2
     → only_one (records default_config xs) ≡ (if found && not more then Some fields else None)
-two_reads_known xs None after2 found more fields others s s2 h k = absurd h
-two_reads_known xs (Some ys) None found more fields others s s2 h k = absurd k
-two_reads_known xs (Some ys) (Some zs) found more fields others s s2 h k = two_reads xs ys zs found more fields others s s2 h k
+only_one-ReadsNext xs None after2 found more fields others s s2 h k = absurd h
+only_one-ReadsNext xs (Some ys) None found more fields others s s2 h k = absurd k
+only_one-ReadsNext xs (Some ys) (Some zs) found more fields others s s2 h k = only_one-next_record xs ys zs found more fields others s s2 h k
 
 -- a new reader that reads twice tells whether its text has exactly one record
-pub only_record_read : {R : Type 0} (remaining : R → Option (List ℕ)) (start middle end : Reader R) (text : List ℕ) (found more : Bool) (fields others : List (List ℕ))
+pub only_one-ReadRecord : {R : Type 0} (remaining : R → Option (List ℕ)) (start middle end : Reader R) (text : List ℕ) (found more : Bool) (fields others : List (List ℕ))
     → source_of remaining start ≡ Some (strip_bom text) → reader_config start ≡ default_config → reader_state start ≡ st.StartRecord
     → ReadRecord remaining start middle found fields → ReadRecord remaining middle end more others
     → only_one (records_of text) ≡ (if found && not more then Some fields else None)
-only_record_read {R} remaining start middle end text found more fields others source config state first second =
+only_one-ReadRecord {R} remaining start middle end text found more fields others source config state first second =
     let one = rw (config, state, source) at first.0 in
     let two = rw (first.1, first.2, config) at second.0 in
-    two_reads_known (strip_bom text) (pending_of (remaining middle.rdr) middle) (pending_of (remaining end.rdr) end) found more fields others middle.state end.state one two
+    only_one-ReadsNext (strip_bom text) (pending_of (remaining middle.rdr) middle) (pending_of (remaining end.rdr) end) found more fields others middle.state end.state one two
 
 -- what is made of a value that is there where a test holds
-pub mapped : {A B : Type 0} (f : A → B) (b : Bool) (a : A) → option_map f (if b then Some a else None) ≡ (if b then Some (f a) else None)
-mapped f true a = refl
-mapped f false a = refl
+pub option_map-if : {A B : Type 0} (f : A → B) (b : Bool) (a : A) → option_map f (if b then Some a else None) ≡ (if b then Some (f a) else None)
+option_map-if f true a = refl
+option_map-if f false a = refl
 
 -- the comparison that coordinates derive tells whether they compare equal
-pub coord_eq : (a b : Coord) → (CoordPartialEq.eq-value).it a b ≡ eq_by_cmp coord_cmp a b
-coord_eq (coord.Text a) (coord.Text b) = texts_ties a b
-coord_eq (coord.Text a) coord.Null = refl
-coord_eq (coord.Text a) coord.All = refl
-coord_eq coord.Null (coord.Text b) = refl
-coord_eq coord.Null coord.Null = refl
-coord_eq coord.Null coord.All = refl
-coord_eq coord.All (coord.Text b) = refl
-coord_eq coord.All coord.Null = refl
-coord_eq coord.All coord.All = refl
+pub eq-coord_cmp : (a b : Coord) → (CoordPartialEq.eq-value).it a b ≡ eq_by_cmp coord_cmp a b
+eq-coord_cmp (coord.Text a) (coord.Text b) = texts_ties a b
+eq-coord_cmp (coord.Text a) coord.Null = refl
+eq-coord_cmp (coord.Text a) coord.All = refl
+eq-coord_cmp coord.Null (coord.Text b) = refl
+eq-coord_cmp coord.Null coord.Null = refl
+eq-coord_cmp coord.Null coord.All = refl
+eq-coord_cmp coord.All (coord.Text b) = refl
+eq-coord_cmp coord.All coord.Null = refl
+eq-coord_cmp coord.All coord.All = refl
 
 -- the text of a field that begins with `=`
 pub named_by-text : (field text : List ℕ) (first : ℕ) → field ≡ first ∷ text → first ≡ 61 → IsUtf8 text → Some text ≡ named_by field
@@ -103,49 +103,49 @@ Says-through part whole UnknownDimension h k = sym (k (sym h))
 Says-through part whole NotGrouped h k = sym (k (sym h))
 
 -- csv's field at a place: it begins the fields from there on, which are none past the last
-pub field_some : (fields : List (List ℕ)) (place : ℕ) (field : List ℕ) → Some field ≡ csv.field_at fields place → drop place fields ≡ field ∷ drop (place + 1) fields
+pub field_at-Some : (fields : List (List ℕ)) (place : ℕ) (field : List ℕ) → Some field ≡ csv.field_at fields place → drop place fields ≡ field ∷ drop (place + 1) fields
 unfolding csv.field_at
-field_some [] place field h = cc h
-field_some (f ∷ fs) zero field h = cc h
-field_some (f ∷ fs) (suc place) field h = let more = rw (add-one place) at (field_some fs place field h) in rw (add-one (suc place)) more
+field_at-Some [] place field h = cc h
+field_at-Some (f ∷ fs) zero field h = cc h
+field_at-Some (f ∷ fs) (suc place) field h = let more = rw (add-one place) at (field_at-Some fs place field h) in rw (add-one (suc place)) more
 
-pub field_none : (fields : List (List ℕ)) (place : ℕ) → None ≡ csv.field_at fields place → drop place fields ≡ []
+pub field_at-None : (fields : List (List ℕ)) (place : ℕ) → None ≡ csv.field_at fields place → drop place fields ≡ []
 unfolding csv.field_at
-field_none [] zero h = refl
-field_none [] (suc place) h = refl
-field_none (f ∷ fs) zero h = cc h
-field_none (f ∷ fs) (suc place) h = field_none fs place h
+field_at-None [] zero h = refl
+field_at-None [] (suc place) h = refl
+field_at-None (f ∷ fs) zero h = cc h
+field_at-None (f ∷ fs) (suc place) h = field_at-None fs place h
 
 -- one more field that wants something, and one that has none of the four forms
-pub wanted_more : (fields : List (List ℕ)) (place : ℕ) (field : List ℕ) (wanted : Option Coord) (found : List (Option Coord))
+pub wanted_by-more : (fields : List (List ℕ)) (place : ℕ) (field : List ℕ) (wanted : Option Coord) (found : List (Option Coord))
     → Some field ≡ csv.field_at fields place → Ok wanted ≡ ok_or (wanted_by field) Field
     → ((found ++ wanted ∷ []) ++ filter_map wanted_by (drop (place + 1) fields) ≡ found ++ filter_map wanted_by (drop place fields))
     × (list_all (λ other. is_some (wanted_by other)) (drop (place + 1) fields) ≡ list_all (λ other. is_some (wanted_by other)) (drop place fields))
-wanted_more fields place field wanted found at is =
+wanted_by-more fields place field wanted found at is =
     let here : wanted_by field ≡ Some wanted = by (wanted_by field) is in
-    rw (field_some fields place field at, here) (append_assoc found (wanted ∷ []) (filter_map wanted_by (drop (place + 1) fields)), refl)
+    rw (field_at-Some fields place field at, here) (append_assoc found (wanted ∷ []) (filter_map wanted_by (drop (place + 1) fields)), refl)
   where
     by : (o : Option (Option Coord)) → Ok wanted ≡ ok_or o Field → o ≡ Some wanted
     by None e = cc e
     by (Some found) e = cc e
 
-pub wanted_stop : (fields : List (List ℕ)) (place : ℕ) (field : List ℕ) (fault : QueryFault)
+pub wanted_by-stop : (fields : List (List ℕ)) (place : ℕ) (field : List ℕ) (fault : QueryFault)
     → Some field ≡ csv.field_at fields place → ok_or (wanted_by field) Field ≡ Err fault
     → list_all (λ other. is_some (wanted_by other)) (drop place fields) ≡ list_all (λ other. is_some (wanted_by other)) fields
     → spelled_by fields ≡ Err fault
-wanted_stop fields place field fault at is all = by (wanted_by field) refl is
+wanted_by-stop fields place field fault at is all = by (wanted_by field) refl is
   where
     by : (o : Option (Option Coord)) → wanted_by field ≡ o → ok_or o Field ≡ Err fault → spelled_by fields ≡ Err fault
-    by None e h = let none = rw (field_some fields place field at, e) at all in let same : Field ≡ fault = cc h in rw (← none) (ap Err same)
+    by None e h = let none = rw (field_at-Some fields place field at, e) at all in let same : Field ≡ fault = cc h in rw (← none) (ap Err same)
     by (Some found) e h = cc h
 
 -- no field is left
-pub wanted_all : (fields : List (List ℕ)) (place : ℕ) (found : List (Option Coord))
+pub wanted_by-all : (fields : List (List ℕ)) (place : ℕ) (found : List (Option Coord))
     → None ≡ csv.field_at fields place
     → found ++ filter_map wanted_by (drop place fields) ≡ filter_map wanted_by fields
     → list_all (λ other. is_some (wanted_by other)) (drop place fields) ≡ list_all (λ other. is_some (wanted_by other)) fields
     → Ok found ≡ spelled_by fields
-wanted_all fields place found end are all =
-    let whole = rw (field_none fields place end, append-nil found) at are in
-    let each = rw (field_none fields place end) at all in
+wanted_by-all fields place found end are all =
+    let whole = rw (field_at-None fields place end, append-nil found) at are in
+    let each = rw (field_at-None fields place end) at all in
     rw (← each, ← whole) refl

@@ -4,36 +4,36 @@ use Prim.Native.Nat.{◌∣◌}
 use Rattle.std.specs.Int.{IsGcd}
 use Rattle.std.proofs.Math.Nat.{zero-mul, div-mul_cancel, dvd-mul_right, pos_of_dvd_of_pos}
 use Rattle.cube_core.specs.Fraction.{IsInLowestTerms}
-use Rattle.cube_core.proofs.CommonDivisorLaws.{gcd_divided}
+use Rattle.cube_core.proofs.CommonDivisorLaws.{IsGcd-divided}
 
 -- the sign comes before or after the product
-negated_times : (n k : ℕ) → neg_ℤ (pos n) *ℤ pos k ≡ neg_ℤ (pos (n * k))
-negated_times zero k = rw zero-mul refl
-negated_times (suc n) k = refl
+neg-times : (n k : ℕ) → neg_ℤ (pos n) *ℤ pos k ≡ neg_ℤ (pos (n * k))
+neg-times zero k = rw zero-mul refl
+neg-times (suc n) k = refl
 
-size_of_negated : (n : ℕ) → unsigned_abs (neg_ℤ (pos n)) ≡ n
-size_of_negated zero = refl
-size_of_negated (suc n) = refl
+unsigned_abs-neg : (n : ℕ) → unsigned_abs (neg_ℤ (pos n)) ≡ n
+unsigned_abs-neg zero = refl
+unsigned_abs-neg (suc n) = refl
 
 -- which of two numbers a common divisor is taken out of makes no difference to their product
-taken_out : (a b g : ℕ) → g ∣ a → g ∣ b → a / g * b ≡ a * (b / g)
-taken_out a b g p q = omega (arith, ap (λ k. k * (b / g)) (div-mul_cancel g p), ap (λ k. a / g * k) (div-mul_cancel g q))
+divide-times : (a b g : ℕ) → g ∣ a → g ∣ b → a / g * b ≡ a * (b / g)
+divide-times a b g p q = omega (arith, ap (λ k. k * (b / g)) (div-mul_cancel g p), ap (λ k. a / g * k) (div-mul_cancel g q))
 
-quotient_above : (n g : ℕ) → 0 < n → g ∣ n → 0 < n / g
-quotient_above n g some p =
+quotient-positive : (n g : ℕ) → 0 < n → g ∣ n → 0 < n / g
+quotient-positive n g some p =
     pos_of_dvd_of_pos (subst (λ k. n / g ∣ k) (div-mul_cancel g p) (dvd-mul_right (n / g) g)) some
 
-pub lowest_terms_by_divisor : (total : ℤ) (count g : ℕ) → 1 ≤ count → IsGcd (unsigned_abs total) count g →
+pub IsInLowestTerms-IsGcd : (total : ℤ) (count g : ℕ) → 1 ≤ count → IsGcd (unsigned_abs total) count g →
     IsInLowestTerms total count (int_div total (pos g)) (count / g)
-lowest_terms_by_divisor (pos a) count g some h =
+IsInLowestTerms-IsGcd (pos a) count g some h =
     record {
-      positive = quotient_above count g some h.1;
-      coprime = gcd_divided a count g (pos_of_dvd_of_pos h.1 some) h;
-      equal = ap pos (taken_out a count g h.0 h.1);
+      positive = quotient-positive count g some h.1;
+      coprime = IsGcd-divided a count g (pos_of_dvd_of_pos h.1 some) h;
+      equal = ap pos (divide-times a count g h.0 h.1);
     }
-lowest_terms_by_divisor (negsuc a) count g some h =
+IsInLowestTerms-IsGcd (negsuc a) count g some h =
     record {
-      positive = quotient_above count g some h.1;
-      coprime = subst (λ k. IsGcd k (count / g) 1) (sym (size_of_negated (suc a / g))) (gcd_divided (suc a) count g (pos_of_dvd_of_pos h.1 some) h);
-      equal = negated_times (suc a / g) count ∙ ap (λ k. neg_ℤ (pos k)) (taken_out (suc a) count g h.0 h.1);
+      positive = quotient-positive count g some h.1;
+      coprime = subst (λ k. IsGcd k (count / g) 1) (sym (unsigned_abs-neg (suc a / g))) (IsGcd-divided (suc a) count g (pos_of_dvd_of_pos h.1 some) h);
+      equal = neg-times (suc a / g) count ∙ ap (λ k. neg_ℤ (pos k)) (divide-times (suc a) count g h.0 h.1);
     }

@@ -37,34 +37,34 @@ find-has test has (y ∷ ys) x all is =
     ]
 
 -- so many numbers from k on are below the number after them
-numbers_below : (k n after : ℕ) → k + n ≡ after → list_all (λ m. nat_lt m after) (range_with_len k n) ≡ true
-numbers_below k zero after is = refl
-numbers_below k (suc n) after is =
+range_with_len-below : (k n after : ℕ) → k + n ≡ after → list_all (λ m. nat_lt m after) (range_with_len k n) ≡ true
+range_with_len-below k zero after is = refl
+range_with_len-below k (suc n) after is =
     let here : nat_lt k after ≡ true = grind (arith, nat_tests) in
-    rw here (numbers_below (k + 1) n after (omega arith))
+    rw here (range_with_len-below (k + 1) n after (omega arith))
 
 -- the aggregates of one function, and others, are of so many measures
-function_of : (measures : ℕ) (make : ℕ → Agg) (others : List Agg) → ((m : ℕ) → is_aggregate_of measures (make m) ≡ nat_lt m measures) → list_all (is_aggregate_of measures) others ≡ true
+is_aggregate_of-map : (measures : ℕ) (make : ℕ → Agg) (others : List Agg) → ((m : ℕ) → is_aggregate_of measures (make m) ≡ nat_lt m measures) → list_all (is_aggregate_of measures) others ≡ true
     → list_all (is_aggregate_of measures) (map make (range_with_len 0 measures) ++ others) ≡ true
-function_of measures make others of rest =
+is_aggregate_of-map measures make others of rest =
     let numbers : list_all (λ m. is_aggregate_of measures (make m)) (range_with_len 0 measures) ≡ true =
-    ap (λ test. list_all test (range_with_len 0 measures)) (λ i m. of m i) ∙ numbers_below 0 measures measures (omega arith) in
+    ap (λ test. list_all test (range_with_len 0 measures)) (λ i m. of m i) ∙ range_with_len-below 0 measures measures (omega arith) in
     rw (list_all-append (is_aggregate_of measures) (map make (range_with_len 0 measures)) others, list_all-map (is_aggregate_of measures) make (range_with_len 0 measures), numbers) rest
 
 -- every aggregate over so many measures is of them
 aggregates_over-of : (measures : ℕ) → list_all (is_aggregate_of measures) (aggregates_over measures) ≡ true
 aggregates_over-of measures =
     let over : (ℕ → Agg) → List Agg = λ make. map make (range_with_len 0 measures) in
-    let last : list_all (is_aggregate_of measures) (over Avg) ≡ true = list_all-map (is_aggregate_of measures) Avg (range_with_len 0 measures) ∙ numbers_below 0 measures measures (omega arith) in
-    function_of measures Count (over Sum ++ (over Min ++ (over Max ++ over Avg))) (λ m. refl)
-    (function_of measures Sum (over Min ++ (over Max ++ over Avg)) (λ m. refl)
-    (function_of measures Min (over Max ++ over Avg) (λ m. refl)
-    (function_of measures Max (over Avg) (λ m. refl) last)))
+    let last : list_all (is_aggregate_of measures) (over Avg) ≡ true = list_all-map (is_aggregate_of measures) Avg (range_with_len 0 measures) ∙ range_with_len-below 0 measures measures (omega arith) in
+    is_aggregate_of-map measures Count (over Sum ++ (over Min ++ (over Max ++ over Avg))) (λ m. refl)
+    (is_aggregate_of-map measures Sum (over Min ++ (over Max ++ over Avg)) (λ m. refl)
+    (is_aggregate_of-map measures Min (over Max ++ over Avg) (λ m. refl)
+    (is_aggregate_of-map measures Max (over Avg) (λ m. refl) last)))
 
 -- the aggregate that a text spells is of the measures, and the text is its spelling
-spelled_of : (measures : List (List ℕ)) (text : List ℕ) (agg : Agg) → aggregate_spelled measures text ≡ Some agg → (is_aggregate_of (length measures) agg ≡ true) × (text ≡ spelling_of measures agg)
+aggregate_spelled-spelling_of : (measures : List (List ℕ)) (text : List ℕ) (agg : Agg) → aggregate_spelled measures text ≡ Some agg → (is_aggregate_of (length measures) agg ≡ true) × (text ≡ spelling_of measures agg)
 unfolding aggregate_spelled
-spelled_of measures text agg is = (
+aggregate_spelled-spelling_of measures text agg is = (
   find-has (λ a. bytes_eq text (spelling_of measures a)) (is_aggregate_of (length measures)) (aggregates_over (length measures)) agg (aggregates_over-of (length measures)) is,
   (bytes_eq-Decides text (spelling_of measures agg)).0 (find-passes (λ a. bytes_eq text (spelling_of measures a)) (aggregates_over (length measures)) agg is),
 )
@@ -75,61 +75,61 @@ pub record AreSpelled (measures texts : List (List ℕ)) (aggregates : List Agg)
   pub of_measures : list_all (is_aggregate_of (length measures)) aggregates ≡ true
   pub spelled : texts ≡ map (spelling_of measures) aggregates
 
-one_more : (measures texts : List (List ℕ)) (text : List ℕ) (aggregates : List Agg) (found : Option Agg) → aggregate_spelled measures text ≡ found → is_some found ≡ true
+AreSpelled-cons : (measures texts : List (List ℕ)) (text : List ℕ) (aggregates : List Agg) (found : Option Agg) → aggregate_spelled measures text ≡ found → is_some found ≡ true
     → AreSpelled measures texts aggregates → AreSpelled measures (text ∷ texts) (cons_option found aggregates)
-one_more measures texts text aggregates None is some rest = cc
-one_more measures texts text aggregates (Some agg) is some rest =
-    let (of, spelling) = spelled_of measures text agg is in
+AreSpelled-cons measures texts text aggregates None is some rest = cc
+AreSpelled-cons measures texts text aggregates (Some agg) is some rest =
+    let (of, spelling) = aggregate_spelled-spelling_of measures text agg is in
     record {
       as_many = ap (λ n. suc n) rest.as_many;
       of_measures = rw of rest.of_measures;
       spelled = rw (← spelling) (ap (λ others. text ∷ others) rest.spelled);
     }
 
-all_spelled : (measures texts : List (List ℕ)) → are_spellings measures texts ≡ true → AreSpelled measures texts (filter_map (aggregate_spelled measures) texts)
-all_spelled measures [] all = record { as_many = refl; of_measures = refl; spelled = refl }
-all_spelled measures (text ∷ texts) all =
+AreSpelled-filter_map : (measures texts : List (List ℕ)) → are_spellings measures texts ≡ true → AreSpelled measures texts (filter_map (aggregate_spelled measures) texts)
+AreSpelled-filter_map measures [] all = record { as_many = refl; of_measures = refl; spelled = refl }
+AreSpelled-filter_map measures (text ∷ texts) all =
     let (here, others) = and_parts (is_some (aggregate_spelled measures text)) (are_spellings measures texts) all in
-    one_more measures texts text _ (aggregate_spelled measures text) refl here (all_spelled measures texts others)
+    AreSpelled-cons measures texts text _ (aggregate_spelled measures text) refl here (AreSpelled-filter_map measures texts others)
 
 -- a limit that is read is in its range
-record_limit_range : (value : Data) (n : ℕ) → record_limit value ≡ Some n → (1 ≤ n) × (n < 2 ^ 32)
-record_limit_range (integer (pos m)) n is =
+record_limit-bounds : (value : Data) (n : ℕ) → record_limit value ≡ Some n → (1 ≤ n) × (n < 2 ^ 32)
+record_limit-bounds (integer (pos m)) n is =
     let (inside, same) = cond_some (nat_le 1 m && nat_lt m (2 ^ 32)) m n is in
     let (least, most) = and_parts (nat_le 1 m) (nat_lt m (2 ^ 32)) inside in
     grind (arith, nat_tests)
-record_limit_range _ n is = cc
+record_limit-bounds _ n is = cc
 
-max_records_range-at : (value : Option Data) (n : ℕ) → option_map_or record_limit value (Some default_max_records) ≡ Some n → (1 ≤ n) × (n < 2 ^ 32)
-max_records_range-at None n is = let same : default_max_records ≡ n = same_Some _ _ is in (omega arith, omega arith)
-max_records_range-at (Some value) n is = record_limit_range value n is
+max_records_in-at : (value : Option Data) (n : ℕ) → option_map_or record_limit value (Some default_max_records) ≡ Some n → (1 ≤ n) × (n < 2 ^ 32)
+max_records_in-at None n is = let same : default_max_records ≡ n = same_Some _ _ is in (omega arith, omega arith)
+max_records_in-at (Some value) n is = record_limit-bounds value n is
 
-pub max_records_range : (document : Members) (n : ℕ) → max_records_in document ≡ Some n → (1 ≤ n) × (n < 2 ^ 32)
-max_records_range document n is = max_records_range-at (get_member (codes "max_records") document) n is
+pub max_records_in-bounds : (document : Members) (n : ℕ) → max_records_in document ≡ Some n → (1 ≤ n) × (n < 2 ^ 32)
+max_records_in-bounds document n is = max_records_in-at (get_member (codes "max_records") document) n is
 
 -- a number of texts in its bounds
-some_up_to : (most : ℕ) (texts : List (List ℕ)) → is_some_up_to most texts ≡ true → (1 ≤ length texts) × (length texts ≤ most)
-some_up_to most texts is =
+is_some_up_to-length : (most : ℕ) (texts : List (List ℕ)) → is_some_up_to most texts ≡ true → (1 ≤ length texts) × (length texts ≤ most)
+is_some_up_to-length most texts is =
     let (least, above) = and_parts (nat_le 1 (length texts)) (nat_le (length texts) most) is in
     (grind (arith, nat_tests), grind (arith, nat_tests))
 
 -- a version that is read is 1 or 2
-feed_version_range : (value : Data) (n : ℕ) → feed_version value ≡ Some n → (1 ≤ n) × (n ≤ 2)
-feed_version_range (integer (pos m)) n is =
+feed_version-bounds : (value : Data) (n : ℕ) → feed_version value ≡ Some n → (1 ≤ n) × (n ≤ 2)
+feed_version-bounds (integer (pos m)) n is =
     let (inside, same) = cond_some (nat_le 1 m && nat_le m 2) m n is in
     let (least, most) = and_parts (nat_le 1 m) (nat_le m 2) inside in
     grind (arith, nat_tests)
-feed_version_range _ n is = cc
+feed_version-bounds _ n is = cc
 
-version_range-at : (value : Option Data) (n : ℕ) → option_map_or feed_version value (Some 1) ≡ Some n → (1 ≤ n) × (n ≤ 2)
-version_range-at None n is = let same : 1 ≡ n = same_Some _ _ is in (omega arith, omega arith)
-version_range-at (Some value) n is = feed_version_range value n is
+version_in-at : (value : Option Data) (n : ℕ) → option_map_or feed_version value (Some 1) ≡ Some n → (1 ≤ n) × (n ≤ 2)
+version_in-at None n is = let same : 1 ≡ n = same_Some _ _ is in (omega arith, omega arith)
+version_in-at (Some value) n is = feed_version-bounds value n is
 
-version_range : (document : Members) (n : ℕ) → version_in document ≡ Some n → (1 ≤ n) × (n ≤ 2)
-version_range document n is = version_range-at (get_member (codes "version") document) n is
+version_in-bounds : (document : Members) (n : ℕ) → version_in document ≡ Some n → (1 ≤ n) × (n ≤ 2)
+version_in-bounds document n is = version_in-at (get_member (codes "version") document) n is
 
 -- parts read off a document that has none of the faults make a schema
-pub makes_schema : (document : Members) (dimensions measures texts : List (List ℕ)) (aggregates : List Agg) (limit : ℕ) (sets : List ℕ) (version : ℕ)
+pub layout_of-document : (document : Members) (dimensions measures texts : List (List ℕ)) (aggregates : List Agg) (limit : ℕ) (sets : List ℕ) (version : ℕ)
     → (dimensions ≡ dimensions_in document) × (is_some_up_to 8 (dimensions_in document) ≡ true)
     → (measures ≡ measures_in document) × (is_some_up_to 4 (measures_in document) ≡ true)
     → are_lawful_names (dimensions ++ measures) ≡ true
@@ -137,15 +137,15 @@ pub makes_schema : (document : Members) (dimensions measures texts : List (List 
     → (aggregates ≡ filter_map (aggregate_spelled measures) texts) × (are_spellings measures texts ≡ true)
     → Some limit ≡ max_records_in document → Some sets ≡ sets_of_grouping dimensions (get_member (codes "grouping") document) → Some version ≡ version_in document
     → IsSchema (record { dimensions = dimensions; measures = measures; aggregates = aggregates; aggregate_texts = texts; max_records = limit; grouping_sets = sets; version = version })
-makes_schema document dimensions measures texts aggregates limit sets version d m names t spellings limit_is sets_are version_is =
-    let ds = some_up_to 8 dimensions (rw d.0 d.1) in
-    let ms = some_up_to 4 measures (rw m.0 m.1) in
-    let ts = some_up_to 16 texts (rw t.0 t.1) in
-    let range = max_records_range document limit (sym limit_is) in
+layout_of-document document dimensions measures texts aggregates limit sets version d m names t spellings limit_is sets_are version_is =
+    let ds = is_some_up_to-length 8 dimensions (rw d.0 d.1) in
+    let ms = is_some_up_to-length 4 measures (rw m.0 m.1) in
+    let ts = is_some_up_to-length 16 texts (rw t.0 t.1) in
+    let range = max_records_in-bounds document limit (sym limit_is) in
     let kept = grouping-AreKept dimensions (get_member (codes "grouping") document) sets (sym sets_are) in
-    let versions = version_range document version (sym version_is) in
+    let versions = version_in-bounds document version (sym version_is) in
     let (lawful, distinct) = and_parts (list_all is_lawful_name (dimensions ++ measures)) (are_distinct (dimensions ++ measures)) names in
-    let all = all_spelled measures texts spellings.1 in
+    let all = AreSpelled-filter_map measures texts spellings.1 in
     rw spellings.0 (record {
       some_dimension = ds.0;
       dimensions_at_most = ds.1;
@@ -167,9 +167,9 @@ makes_schema document dimensions measures texts aggregates limit sets version d 
     })
 
 -- no document is answered that it is none
-not_toml : (document : Members) (found : Option SchemaFault) → first_fault document ≡ found → Err Toml ≡ option_map_or Err found (Ok (layout_of document)) → false ≡ true
-not_toml document None is same = cc
-not_toml document (Some fault) is same =
+first_fault-Toml : (document : Members) (found : Option SchemaFault) → first_fault document ≡ found → Err Toml ≡ option_map_or Err found (Ok (layout_of document)) → false ≡ true
+first_fault-Toml document None is same = cc
+first_fault-Toml document (Some fault) is same =
     let fault_is : fault ≡ Toml = cc in
     find-passes (has_fault document) document_faults Toml (is ∙ ap Some fault_is)
 
@@ -177,7 +177,7 @@ not_toml document (Some fault) is same =
 pub bytes-answered : (bytes : List ℕ) (document : Members) (answer : Result Layout SchemaFault) → IsUtf8 bytes → parse_document bytes ≡ Some document → AnswersDocument document answer → AnswersBytes bytes answer
 bytes-answered bytes document (Ok layout) utf8 parsed answers = (utf8, document, parsed, answers)
 bytes-answered bytes document (Err Memory) utf8 parsed answers = tt
-bytes-answered bytes document (Err Toml) utf8 parsed answers = absurd (false≢true (not_toml document (first_fault document) refl answers))
+bytes-answered bytes document (Err Toml) utf8 parsed answers = absurd (false≢true (first_fault-Toml document (first_fault document) refl answers))
 bytes-answered bytes document (Err UnknownKey) utf8 parsed answers = (utf8, document, parsed, answers)
 bytes-answered bytes document (Err Dimensions) utf8 parsed answers = (utf8, document, parsed, answers)
 bytes-answered bytes document (Err Measures) utf8 parsed answers = (utf8, document, parsed, answers)

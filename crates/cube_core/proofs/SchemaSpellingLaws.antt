@@ -14,16 +14,16 @@ use Rattle.cube_core.specs.declared.aggregate.Agg.{Agg}
 use Rattle.cube_core.specs.declared.aggregate.Agg.TheVariants.{CountAll, Count, Sum, Min, Max, Avg}
 
 -- two tests that hold together are one
-same_tests : (a b : Bool) → (a ≡ true → b ≡ true) → (b ≡ true → a ≡ true) → a ≡ b
-same_tests true true there back = refl
-same_tests true false there back = sym (there refl)
-same_tests false true there back = back refl
-same_tests false false there back = refl
+Bool-same : (a b : Bool) → (a ≡ true → b ≡ true) → (b ≡ true → a ≡ true) → a ≡ b
+Bool-same true true there back = refl
+Bool-same true false there back = sym (there refl)
+Bool-same false true there back = back refl
+Bool-same false false there back = refl
 
 -- a text is a name between an opening and a closing exactly where it's that name
 pub bytes_eq-between : (opening closing name text argument : List ℕ) → (opening ++ argument) ++ closing ≡ text → bytes_eq text ((opening ++ name) ++ closing) ≡ bytes_eq name argument
 bytes_eq-between opening closing name text argument is =
-    same_tests _ _
+    Bool-same _ _
     (λ yes. (bytes_eq-Decides name argument).1 (append_cancel_left opening name argument (append_cancel_right _ _ closing (sym ((bytes_eq-Decides text ((opening ++ name) ++ closing)).0 yes) ∙ sym is))))
     (λ yes. (bytes_eq-Decides text ((opening ++ name) ++ closing)).1 (sym (ap (λ t. (opening ++ t) ++ closing) ((bytes_eq-Decides name argument).0 yes) ∙ is)))
 
@@ -35,25 +35,25 @@ position_from-none p none k [] = refl
 position_from-none p none k (x ∷ xs) = rw (none x) (position_from-none p none (k + 1) xs)
 
 -- the measure that a text names between an opening and a closing
-pub position_between : (opening closing text argument : List ℕ) (names : List (List ℕ)) → (opening ++ argument) ++ closing ≡ text
+pub position-between : (opening closing text argument : List ℕ) (names : List (List ℕ)) → (opening ++ argument) ++ closing ≡ text
     → position (λ name. bytes_eq name argument) names ≡ position (λ name. bytes_eq text ((opening ++ name) ++ closing)) names
-position_between opening closing text argument names is =
+position-between opening closing text argument names is =
     position-same _ _ (λ name. sym (bytes_eq-between opening closing name text argument is)) names
 
 -- no measure, where the text has no such opening and closing
-pub position_between_none : (opening closing text : List ℕ) (names : List (List ℕ)) → ((name : List ℕ) → (opening ++ name) ++ closing ≢ text)
+pub position-between_none : (opening closing text : List ℕ) (names : List (List ℕ)) → ((name : List ℕ) → (opening ++ name) ++ closing ≢ text)
     → position (λ name. bytes_eq text ((opening ++ name) ++ closing)) names ≡ None
-position_between_none opening closing text names other =
+position-between_none opening closing text names other =
     position_from-zero (λ name. bytes_eq text ((opening ++ name) ++ closing)) names
     ∙ position_from-none _ (λ name. false_from_ne_true _ (λ yes. other name (sym ((bytes_eq-Decides text _).0 yes)))) 0 names
 
 -- what stands between, read off the front of the text first and then off its end
-pub argument_between : (opening text rest : List ℕ) (found : Option (Bor (List ℕ))) → text ≡ opening ++ rest
+pub argument-between : (opening text rest : List ℕ) (found : Option (Bor (List ℕ))) → text ≡ opening ++ rest
     → MatchOption found ((front : List ℕ) → rest ≢ front ++ (41 ∷ [])) (λ name. rest ≡ name.now ++ (41 ∷ []))
     → MatchOption found ((name : List ℕ) → (opening ++ name) ++ (41 ∷ []) ≢ text) (λ name. (opening ++ name.now) ++ (41 ∷ []) ≡ text)
-argument_between opening text rest None is other = λ name same.
+argument-between opening text rest None is other = λ name same.
     other name (append_cancel_left opening rest (name ++ (41 ∷ [])) (sym is ∙ sym same ∙ append_assoc opening name (41 ∷ [])))
-argument_between opening text rest (Some name) is ends =
+argument-between opening text rest (Some name) is ends =
     append_assoc opening name.now (41 ∷ []) ∙ ap (λ t. opening ++ t) (sym ends) ∙ sym is
 
 -- the first of the aggregates made of the measures from k on that passes a test, by the first name that passes its own
@@ -86,7 +86,7 @@ find-functions measures text opening make others found spelled rest =
     ∙ ap (option_or (option_map make (measure_in measures text opening))) rest
 
 -- the aggregate that a text spells, function by function
-pub spelled_is : (measures : List (List ℕ)) (text : List ℕ) → aggregate_spelled measures text
+pub aggregate_spelled-measure_in : (measures : List (List ℕ)) (text : List ℕ) → aggregate_spelled measures text
     ≡ cond (bytes_eq text (codes "count(*)")) (Some CountAll)
     (option_or (option_map Count (measure_in measures text (codes "count(")))
     (option_or (option_map Sum (measure_in measures text (codes "sum(")))
@@ -94,7 +94,7 @@ pub spelled_is : (measures : List (List ℕ)) (text : List ℕ) → aggregate_sp
     (option_or (option_map Max (measure_in measures text (codes "max(")))
     (option_map Avg (measure_in measures text (codes "avg(")))))))
 unfolding aggregate_spelled
-spelled_is measures text =
+aggregate_spelled-measure_in measures text =
     let over : (ℕ → Agg) → List Agg = λ make. map make (range_with_len 0 (length measures)) in
     let last = find-function measures text (codes "avg(") Avg (λ m. refl) in
     let fourth = find-functions measures text (codes "max(") Max (over Avg) _ (λ m. refl) last in

@@ -147,8 +147,3 @@ pub fits-out : (old new : LedgerView) (source : ℕ) (id : List ℕ) (fact : Fac
     → AtSource (Exchanges id (Some fact) come) source old new → AllFit old.schema (all_facts old.accounts) → IfSome come (λ f. fits old.schema f ≡ true)
     → fits old.schema fact ≡ true
 fits-out old new source id fact come first last at all fit = AllFit-exchange old new source id (Some fact) come first last at all fit 0 fact (omega arith)
-
--- what two promises of an Ok come to together
-pub on_ok_weaker_both : {T E P Q R : Type 0} (result : Result T E) → (P → Q → R) → OnOk result P → OnOk result Q → OnOk result R
-on_ok_weaker_both (Ok x) weaker p q = weaker p q
-on_ok_weaker_both (Err e) weaker p q = tt

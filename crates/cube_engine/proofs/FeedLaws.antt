@@ -91,10 +91,10 @@ HasTaken-more s bytes source old feed next now new item gives same at stands tak
 }
 
 -- a feed with no fault at its end is good
-good_from_none : (end : FeedEnd) → fault_of end ≡ None → end ≡ Good
-good_from_none Good none = refl
-good_from_none WrongHeader none = cc
-good_from_none TooManyRecords none = cc
+pub fault_of-None : (end : FeedEnd) → fault_of end ≡ None → end ≡ Good
+fault_of-None Good none = refl
+fault_of-None WrongHeader none = cc
+fault_of-None TooManyRecords none = cc
 
 -- the end: all items were taken
 items-all : (s : Layout) (bytes : Option (List ℕ)) (now : Ahead) (done : List Item) (next : Ahead) → LeftOf (start_of s bytes) done now → Gives now (Ok None) next
@@ -103,7 +103,7 @@ items-all s None now done next left gives = (tt, tt)
 items-all s (Some bytes) now done next left gives =
     let ended : left.0 ≡ nothing_but None = subst (λ (n : Ahead). Gives n (Ok None) next) left.1 gives in (
       sym (left.2 ∙ ap (λ (t : Coming (Option FeedFault)). done ++ t.items) ended ∙ append-nil done),
-      good_from_none (items_of s (records_of bytes)).end (left.3 ∙ ap (λ (t : Coming (Option FeedFault)). t.end) ended),
+      fault_of-None (items_of s (records_of bytes)).end (left.3 ∙ ap (λ (t : Coming (Option FeedFault)). t.end) ended),
     )
 
 pub TakesFeed-all : (s : Layout) (bytes : Option (List ℕ)) (source : ℕ) (old : LedgerView) (feed next : FeedView) (now : LedgerView)
@@ -113,15 +113,15 @@ TakesFeed-all s bytes source old feed next now gives taken =
     record { items = taken.done; all = all.0; good = all.1; schema = taken.schema; sources = taken.sources; stands = taken.stands }
 
 -- the end of a feed tells the fault that it answers
-end_from_header : (end : FeedEnd) → fault_of end ≡ Some Header → end ≡ WrongHeader
-end_from_header Good is = cc
-end_from_header WrongHeader is = refl
-end_from_header TooManyRecords is = cc
+pub fault_of-Header : (end : FeedEnd) → fault_of end ≡ Some Header → end ≡ WrongHeader
+fault_of-Header Good is = cc
+fault_of-Header WrongHeader is = refl
+fault_of-Header TooManyRecords is = cc
 
-end_from_too_many : (end : FeedEnd) → fault_of end ≡ Some TooMany → end ≡ TooManyRecords
-end_from_too_many Good is = cc
-end_from_too_many WrongHeader is = cc
-end_from_too_many TooManyRecords is = refl
+pub fault_of-TooMany : (end : FeedEnd) → fault_of end ≡ Some TooMany → end ≡ TooManyRecords
+fault_of-TooMany Good is = cc
+fault_of-TooMany WrongHeader is = cc
+fault_of-TooMany TooManyRecords is = refl
 
 ends-by : (s : Layout) (bytes : Option (List ℕ)) (now next : Ahead) (done : List Item) (fault : FeedFault) → LeftOf (start_of s bytes) done now → Gives now (Err fault) next
     → IsFaultOf s bytes fault
@@ -130,10 +130,10 @@ ends-by s (Some bytes) now next done Memory left gives = tt
 ends-by s (Some bytes) now next done Read left gives = tt
 ends-by s (Some bytes) now next done Header left gives =
     let ended : left.0 ≡ nothing_but (Some Header) = subst (λ (n : Ahead). Gives n (Err Header) next) left.1 gives in
-    end_from_header (items_of s (records_of bytes)).end (left.3 ∙ ap (λ (t : Coming (Option FeedFault)). t.end) ended)
+    fault_of-Header (items_of s (records_of bytes)).end (left.3 ∙ ap (λ (t : Coming (Option FeedFault)). t.end) ended)
 ends-by s (Some bytes) now next done TooMany left gives =
     let ended : left.0 ≡ nothing_but (Some TooMany) = subst (λ (n : Ahead). Gives n (Err TooMany) next) left.1 gives in
-    end_from_too_many (items_of s (records_of bytes)).end (left.3 ∙ ap (λ (t : Coming (Option FeedFault)). t.end) ended)
+    fault_of-TooMany (items_of s (records_of bytes)).end (left.3 ∙ ap (λ (t : Coming (Option FeedFault)). t.end) ended)
 
 pub IsFaultOf-taken : (s : Layout) (bytes : Option (List ℕ)) (source : ℕ) (old : LedgerView) (feed next : FeedView) (now : LedgerView) (fault : FeedFault)
     → Gives feed.to_come (Err fault) next.to_come → HasTaken s bytes source old feed now → IsFaultOf s bytes fault
@@ -145,6 +145,6 @@ says_taken-is s (Ok change) taken = taken
 says_taken-is s (Err fault) taken = refl
 
 -- a call that didn't fail did what it promises
-pub on_ok_holds : {T E : Type 0} (r : Result T E) (P : Type 0) → is_err r ≡ false → OnOk r P → P
-on_ok_holds (Ok x) P fine holds = holds
-on_ok_holds (Err e) P fine holds = cc
+pub OnOk-holds : {T E : Type 0} (r : Result T E) (P : Type 0) → is_err r ≡ false → OnOk r P → P
+OnOk-holds (Ok x) P fine holds = holds
+OnOk-holds (Err e) P fine holds = cc

@@ -21,6 +21,7 @@ use Rattle.cube_engine.specs.Ledger.{AllFit, RulingFits, Settles}
 use Rattle.cube_engine.specs.declared.ruling.Ruling.{Ruling}
 use Rattle.cube_engine.specs.declared.ruling.Ruling.TheVariants.{Refuse, Take}
 use Rattle.cube_engine.specs.declared.ruling.Ruling.TheVariants as ruling
+use Rattle.cube_core.proofs.AmendmentLaws.{length-fields_over}
 
 -- what three tests that hold together say each
 and-three : (a b c : Bool) → (a && b && c) ≡ true → (a ≡ true) × (b ≡ true) × (c ≡ true)
@@ -32,13 +33,6 @@ and-three false true true all = cc
 and-three false true false all = cc
 and-three false false true all = cc
 and-three false false false all = cc
-
--- fields over as many old values are as many
-length-fields_over : {A : Type 0} (fields : List (Field A)) (olds : List A) → length fields ≡ length olds → length (fields_over fields olds) ≡ length olds
-length-fields_over [] [] same = refl
-length-fields_over [] (o ∷ olds) same = cc
-length-fields_over (f ∷ fields) [] same = cc
-length-fields_over (f ∷ fields) (o ∷ olds) same = ap suc (length-fields_over fields olds cc)
 
 -- lawful values over lawful values are lawful
 list_all-fields_over : (fields : List (Field (Option (List ℕ)))) (olds : List (Option (List ℕ)))

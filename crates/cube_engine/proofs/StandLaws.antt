@@ -13,7 +13,7 @@ use Rattle.cube_core.specs.Layout.{Layout}
 use Rattle.cube_core.specs.Life.{id_of, life_of, taken_change, changes_of}
 use Rattle.cube_core.specs.Refusals.{code_of, code_by_presence, shape_code, refusals_of}
 use Rattle.cube_core.specs.Takes.{takes}
-use Rattle.cube_core.proofs.LifeLaws.{life_after, life_more, life_other}
+use Rattle.cube_core.proofs.LifeLaws.{life_after, life_of-naming, life_of-other}
 use Rattle.cube_core.proofs.RefusalLaws.{refusals_of-more}
 use Rattle.cube_core.specs.declared.fact.Fact.{Fact}
 use Rattle.cube_core.specs.declared.change.Change.{Change}
@@ -56,9 +56,9 @@ life_of-refused : (s : Layout) (changes : List Change) (change : Change) (code :
 life_of-refused s changes change code is id = elim (cases_Bool (bytes_eq id (id_of change))) [
   | inl same ↦
       let equal : id_of change ≡ id = sym ((bytes_eq-Decides id (id_of change)).0 same) in
-      life_more id changes change same
+      life_of-naming id changes change same
       ∙ life_after-refused s change (life_of id changes) code (ap (λ i. code_by_presence s change (is_some (life_of i changes))) (sym equal) ∙ is)
-  | inr other ↦ life_other id changes change other
+  | inr other ↦ life_of-other id changes change other
 ]
 
 -- the lives after a change that isn't
@@ -71,13 +71,13 @@ life_of-put s changes change is id = elim (cases_Bool (bytes_eq (id_of change) i
       let back : bytes_eq id (id_of change) ≡ true = (bytes_eq-Decides id (id_of change)).1 (sym equal) in
       let here : life_of id changes ≡ life_of (id_of change) changes = ap (λ i. life_of i changes) (sym equal) in
       rw same
-      (life_more id changes change back
+      (life_of-naming id changes change back
       ∙ ap (life_after change) here
       ∙ life_after-put s change (life_of (id_of change) changes) is)
   | inr apart ↦
       let back : bytes_eq id (id_of change) ≡ false =
       false_from_ne_true (bytes_eq id (id_of change)) (λ same. cc (sym apart ∙ (bytes_eq-Decides (id_of change) id).1 (sym ((bytes_eq-Decides id (id_of change)).0 same)))) in
-      rw apart (life_other id changes change back)
+      rw apart (life_of-other id changes change back)
 ]
 
 -- ---- one item more

@@ -16,19 +16,13 @@ use Rattle.cube_core.specs.declared.partial.Field.TheVariants.{Keep, Put}
 use Rattle.cube_core.specs.declared.partial.Partial.{Partial}
 use Rattle.cube_laws.specs.Life.{value_put, put_at, puts_at, last_of}
 use Rattle.cube_laws.proofs.LifeLaws.{fields_over-put, fields_over-kept}
+use Rattle.cube_core.proofs.AmendmentLaws.{length-fields_over}
 
 -- a list has an item at each of its places
 slice_get-length : {A : Type 0} (items : List A) (place : ℕ) → place < length items → (item : A) × (slice_get items place ≡ Some item)
 slice_get-length [] place below = absurd (omega arith)
 slice_get-length (item ∷ items) zero below = (item, refl)
 slice_get-length (item ∷ items) (suc place) below = slice_get-length items place (omega arith)
-
--- as many values as there were
-length-fields_over : {A : Type 0} (fields : List (Field A)) (olds : List A) → length fields ≡ length olds → length (fields_over fields olds) ≡ length olds
-length-fields_over [] [] same = refl
-length-fields_over [] (old ∷ olds) same = absurd (omega arith)
-length-fields_over (field ∷ fields) [] same = absurd (omega arith)
-length-fields_over (field ∷ fields) (old ∷ olds) same = ap (λ n. suc n) (length-fields_over fields olds (omega arith))
 
 -- the last of a list, or else what was there before
 abbrev pub last_after : {A : Type 0} → Option A → List A → Option A

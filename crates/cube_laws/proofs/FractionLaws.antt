@@ -5,7 +5,7 @@ use Rattle.std.proofs.lemmas.Int.{unsigned_abs-mul}
 use Rattle.std.proofs.lemmas.Nat.Gcd.{dvd_antisymm, IsGcd-swap}
 use Rattle.std.proofs.Math.Nat.{le-mul_of_pos_right, eq_of_mul-eq-mul_right, dvd-mul_left}
 use Rattle.cube_core.specs.Fraction.{IsInLowestTerms}
-use Rattle.cube_core.proofs.CommonDivisorLaws.{gauss}
+use Rattle.cube_core.proofs.CommonDivisorLaws.{divides-coprime}
 
 -- a number below zero, by its distance from -1
 neg_ℤ-pos : (n : ℕ) → 0 < n → neg_ℤ (pos n) ≡ negsuc (n - 1)
@@ -48,7 +48,7 @@ IsInLowestTerms-cross total count p p' q q' some e e' =
 IsInLowestTerms-Divides : (total : ℤ) (count : ℕ) (p p' : ℤ) (q q' : ℕ) → 0 < count →
     IsInLowestTerms total count p q → IsInLowestTerms total count p' q' → q ∣ q'
 IsInLowestTerms-Divides total count p p' q q' some h h' =
-    gauss q (unsigned_abs p) q' (IsGcd-swap (unsigned_abs p) q 1 h.coprime)
+    divides-coprime q (unsigned_abs p) q' (IsGcd-swap (unsigned_abs p) q 1 h.coprime)
     (subst (λ k. q ∣ k) (sym (IsInLowestTerms-cross total count p p' q q' some h.equal h'.equal)) (dvd-mul_left q (unsigned_abs p')))
 
 -- the numerator and the denominator are determined by the total and the count

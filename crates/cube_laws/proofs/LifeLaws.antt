@@ -8,7 +8,7 @@ use Rattle.std.proofs.lemmas.List.{append-nil}
 use Rattle.std.proofs.lemmas.Bool.{cases_Bool, or_parts, or_right}
 use Rattle.cube_core.specs.Amendment.{fields_over}
 use Rattle.cube_core.specs.Life.{id_of, naming, is_delete, since_delete, from_insert, life_of}
-use Rattle.cube_core.proofs.LifeLaws.{life_after, life_more, life_other, nothing_after_delete, same_text}
+use Rattle.cube_core.proofs.LifeLaws.{life_after, life_of-naming, life_of-other, life_after-delete, bytes_eq-itself}
 use Rattle.cube_core.specs.declared.fact.Fact.{Fact}
 use Rattle.cube_core.specs.declared.change.Change.{Change}
 use Rattle.cube_core.specs.declared.change.Change.TheVariants.{Insert, Update, Amend, Delete}
@@ -18,23 +18,23 @@ use Rattle.cube_laws.specs.Life.{is_insert_of, inserts, keeping, putting}
 
 -- after a delete an id is absent
 pub life_of-Delete : (id : List ℕ) (changes : List Change) → life_of id (changes ++ Delete id ∷ []) ≡ None
-life_of-Delete id changes = life_more id changes (Delete id) (same_text id) ∙ sym (nothing_after_delete id (life_of id changes))
+life_of-Delete id changes = life_of-naming id changes (Delete id) (bytes_eq-itself id) ∙ sym (life_after-delete id (life_of id changes))
 
 -- a change that doesn't insert an absent id leaves it absent
 pub life_of-is_insert_of : (id : List ℕ) (changes : List Change) (change : Change) → life_of id changes ≡ None → is_insert_of id change ≡ false
     → life_of id (changes ++ change ∷ []) ≡ None
-life_of-is_insert_of id changes (Insert named fact) absent uninserted = life_other id changes (Insert named fact) uninserted ∙ absent
+life_of-is_insert_of id changes (Insert named fact) absent uninserted = life_of-other id changes (Insert named fact) uninserted ∙ absent
 life_of-is_insert_of id changes (Update named fact) absent uninserted = elim (cases_Bool (bytes_eq id named)) [
-  | inl same ↦ life_more id changes (Update named fact) same ∙ ap (life_after (Update named fact)) absent
-  | inr other ↦ life_other id changes (Update named fact) other ∙ absent
+  | inl same ↦ life_of-naming id changes (Update named fact) same ∙ ap (life_after (Update named fact)) absent
+  | inr other ↦ life_of-other id changes (Update named fact) other ∙ absent
 ]
 life_of-is_insert_of id changes (Amend named part) absent uninserted = elim (cases_Bool (bytes_eq id named)) [
-  | inl same ↦ life_more id changes (Amend named part) same ∙ ap (life_after (Amend named part)) absent
-  | inr other ↦ life_other id changes (Amend named part) other ∙ absent
+  | inl same ↦ life_of-naming id changes (Amend named part) same ∙ ap (life_after (Amend named part)) absent
+  | inr other ↦ life_of-other id changes (Amend named part) other ∙ absent
 ]
 life_of-is_insert_of id changes (Delete named) absent uninserted = elim (cases_Bool (bytes_eq id named)) [
-  | inl same ↦ life_more id changes (Delete named) same ∙ ap (life_after (Delete named)) absent
-  | inr other ↦ life_other id changes (Delete named) other ∙ absent
+  | inl same ↦ life_of-naming id changes (Delete named) same ∙ ap (life_after (Delete named)) absent
+  | inr other ↦ life_of-other id changes (Delete named) other ∙ absent
 ]
 
 -- so do many of them
@@ -50,9 +50,9 @@ life_of-inserts id (change ∷ later) changes absent uninserted =
 pub life_of-Update : (id : List ℕ) (changes : List Change) (fact other : Fact) → life_of id changes ≡ Some fact
     → life_of id (changes ++ Update id other ∷ []) ≡ life_of id (changes ++ Delete id ∷ Insert id other ∷ [])
 life_of-Update id changes fact other present =
-    let updated = life_more id changes (Update id other) (same_text id) ∙ ap (life_after (Update id other)) present in
+    let updated = life_of-naming id changes (Update id other) (bytes_eq-itself id) ∙ ap (life_after (Update id other)) present in
     let deleted : List Change = changes ++ Delete id ∷ [] in
-    let inserted = life_more id deleted (Insert id other) (same_text id) ∙ ap (life_after (Insert id other)) (life_of-Delete id changes) in
+    let inserted = life_of-naming id deleted (Insert id other) (bytes_eq-itself id) ∙ ap (life_after (Insert id other)) (life_of-Delete id changes) in
     updated ∙ sym (ap (life_of id) (sym (append_assoc changes (Delete id ∷ []) (Insert id other ∷ []))) ∙ inserted)
 
 -- a value that is put, and one that is kept
@@ -86,16 +86,16 @@ fields_over-put_all (value ∷ values) (old ∷ olds) same = ap (λ rest. value 
 pub life_of-keeping : (id : List ℕ) (changes : List Change) (fact : Fact) → life_of id changes ≡ Some fact
     → life_of id (changes ++ Amend id (keeping fact) ∷ []) ≡ Some fact
 life_of-keeping id changes fact present =
-    life_more id changes (Amend id (keeping fact)) (same_text id) ∙ ap (life_after (Amend id (keeping fact))) present
+    life_of-naming id changes (Amend id (keeping fact)) (bytes_eq-itself id) ∙ ap (life_after (Amend id (keeping fact))) present
     ∙ (λ i. Some (record { dims = fields_over-keep_all fact.dims i; measures = fields_over-keep_all fact.measures i }))
 
 pub life_of-putting : (id : List ℕ) (changes : List Change) (fact other : Fact) → life_of id changes ≡ Some fact
     → length other.dims ≡ length fact.dims → length other.measures ≡ length fact.measures
     → life_of id (changes ++ Amend id (putting other) ∷ []) ≡ life_of id (changes ++ Update id other ∷ [])
 life_of-putting id changes fact other present dims measures =
-    life_more id changes (Amend id (putting other)) (same_text id) ∙ ap (life_after (Amend id (putting other))) present
+    life_of-naming id changes (Amend id (putting other)) (bytes_eq-itself id) ∙ ap (life_after (Amend id (putting other))) present
     ∙ (λ i. Some (record { dims = fields_over-put_all other.dims fact.dims dims i; measures = fields_over-put_all other.measures fact.measures measures i }))
-    ∙ sym (life_more id changes (Update id other) (same_text id) ∙ ap (life_after (Update id other)) present)
+    ∙ sym (life_of-naming id changes (Update id other) (bytes_eq-itself id) ∙ ap (life_after (Update id other)) present)
 
 -- what stands before a delete is left out
 since_delete-past : (id : List ℕ) (before after : List Change) → since_delete (before ++ Delete id ∷ after) ≡ since_delete after
@@ -106,5 +106,5 @@ since_delete-past id (change ∷ before) after =
 pub life_of-past : (id : List ℕ) (before after : List Change) → life_of id (before ++ Delete id ∷ after) ≡ life_of id after
 life_of-past id before after =
     let named : naming id (before ++ Delete id ∷ after) ≡ naming id before ++ Delete id ∷ naming id after =
-    filter-append (λ (c : Change). bytes_eq id (id_of c)) before (Delete id ∷ after) ∙ rw (same_text id) refl in
+    filter-append (λ (c : Change). bytes_eq id (id_of c)) before (Delete id ∷ after) ∙ rw (bytes_eq-itself id) refl in
     ap (λ (cs : List Change). from_insert (since_delete cs)) named ∙ ap from_insert (since_delete-past id (naming id before) (naming id after))

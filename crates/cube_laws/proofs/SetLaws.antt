@@ -7,7 +7,7 @@ use Rattle.std.proofs.lemmas.List.Kept.{IsStrictlySortedBy-filter}
 use Rattle.std.proofs.lemmas.Bool.{cases_Bool, or_cases, or_left, or_right, and_parts, and_from, eqb-true, eq-eqb}
 use Rattle.std.specs.List.{AllByRecursion}
 use Rattle.cube_core.specs.Layout.{Layout, IsSchema}
-use Rattle.cube_core.proofs.GroupingLaws.{set_is_among}
+use Rattle.cube_core.proofs.GroupingLaws.{list_any-all_sets}
 use Rattle.cube_core.specs.Cube.{is_cell, key_of, HasAnswers, AreRowsOver}
 use Rattle.cube_core.specs.Order.{key_cmp}
 use Rattle.cube_core.specs.GroupingSet.{mask_of, all_sets, is_among, sets_of_part}
@@ -54,7 +54,7 @@ AreRowsOver-AreAmong dimensions aggregates facts rows others sets are whole =
 pub AreAmong-all_sets : (dimensions : ℕ) (sets : List ℕ) → AllByRecursion (λ set. set < 2 ^ dimensions) sets → AreAmong sets (all_sets dimensions)
 AreAmong-all_sets dimensions [] below = tt
 AreAmong-all_sets dimensions (set ∷ sets) below =
-    (set_is_among set dimensions (λ other. other == set) below.0 (eq-eqb set set refl), AreAmong-all_sets dimensions sets below.1)
+    (list_any-all_sets set dimensions (λ other. other == set) below.0 (eq-eqb set set refl), AreAmong-all_sets dimensions sets below.1)
 
 pub IsSchema-AreAmong : (s : Layout) → IsSchema s → AreAmong s.grouping_sets (all_sets (length s.dimensions))
 IsSchema-AreAmong s is =

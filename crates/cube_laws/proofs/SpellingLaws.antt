@@ -13,7 +13,7 @@ use Rattle.cube_core.specs.Layout.{Layout, IsSchema, spelling_of, is_aggregate_o
 use Rattle.cube_core.specs.SchemaDocument.{aggregate_spelled}
 use Rattle.cube_core.specs.declared.aggregate.Agg.{Agg}
 use Rattle.cube_core.specs.declared.aggregate.Agg.TheVariants.{CountAll, Count, Sum, Min, Max, Avg}
-use Rattle.cube_core.proofs.SchemaSpellingLaws.{spelled_is, measure_in, position_between, position_between_none, bytes_eq-between}
+use Rattle.cube_core.proofs.SchemaSpellingLaws.{aggregate_spelled-measure_in, measure_in, position-between, position-between_none, bytes_eq-between}
 
 -- a text that is at a place of a list is listed
 is_listed-get_or : (text : List ℕ) (texts : List (List ℕ)) (m : ℕ) → m < length texts → text ≡ get_or texts m [] → is_listed text texts ≡ true
@@ -39,7 +39,7 @@ position_of-name (name ∷ names) (suc m) k distinct inside =
 measure_in-own : (measures : List (List ℕ)) (m : ℕ) (opening : List ℕ) → are_distinct measures ≡ true → m < length measures
     → measure_in measures ((opening ++ get_or measures m []) ++ codes ")") opening ≡ Some m
 measure_in-own measures m opening distinct inside =
-    sym (position_between opening (codes ")") ((opening ++ get_or measures m []) ++ codes ")") (get_or measures m []) measures refl)
+    sym (position-between opening (codes ")") ((opening ++ get_or measures m []) ++ codes ")") (get_or measures m []) measures refl)
     ∙ position_from-zero (λ name. bytes_eq name (get_or measures m [])) measures
     ∙ position_of-name measures m 0 distinct inside
     ∙ ap Some (omega arith)
@@ -47,7 +47,7 @@ measure_in-own measures m opening distinct inside =
 -- no measure is named by a text that another function begins
 measure_in-other : (measures : List (List ℕ)) (text opening : List ℕ) → ((name : List ℕ) → bytes_eq text ((opening ++ name) ++ codes ")") ≡ false) → measure_in measures text opening ≡ None
 measure_in-other measures text opening other =
-    position_between_none opening (codes ")") text measures (λ name same. false≢true (sym (other name) ∙ (bytes_eq-Decides text ((opening ++ name) ++ codes ")")).1 (sym same)))
+    position-between_none opening (codes ")") text measures (λ name same. false≢true (sym (other name) ∙ (bytes_eq-Decides text ((opening ++ name) ++ codes ")")).1 (sym same)))
 
 -- a function that has no such measure is passed over, and one that has is taken
 option_or-None : (make : ℕ → Agg) (measure : Option ℕ) (others : Option Agg) (agg : Agg) → measure ≡ None → others ≡ Some agg → option_or (option_map make measure) others ≡ Some agg
@@ -63,29 +63,29 @@ is_lawful_name-star names m lawful inside =
     false_from_ne_true _ (λ star. false≢true (ap is_lawful_name ((bytes_eq-Decides (codes "*") (get_or names m [])).0 star) ∙ this))
 
 pub aggregate_spelled-spelling_of : (measures : List (List ℕ)) (agg : Agg) → list_all is_lawful_name measures ≡ true → are_distinct measures ≡ true → is_aggregate_of (length measures) agg ≡ true → aggregate_spelled measures (spelling_of measures agg) ≡ Some agg
-aggregate_spelled-spelling_of measures CountAll lawful distinct of = spelled_is measures (codes "count(*)")
+aggregate_spelled-spelling_of measures CountAll lawful distinct of = aggregate_spelled-measure_in measures (codes "count(*)")
 aggregate_spelled-spelling_of measures (Count m) lawful distinct of =
     let inside : m < length measures = grind (arith, nat_tests) in
     let text : List ℕ = spelling_of measures (Count m) in
     let star : bytes_eq text (codes "count(*)") ≡ false = bytes_eq-between (codes "count(") (codes ")") (codes "*") text (get_or measures m []) refl ∙ is_lawful_name-star measures m lawful inside in
-    spelled_is measures text ∙ rw star (option_or-Some Count _ _ m (measure_in-own measures m (codes "count(") distinct inside))
+    aggregate_spelled-measure_in measures text ∙ rw star (option_or-Some Count _ _ m (measure_in-own measures m (codes "count(") distinct inside))
 aggregate_spelled-spelling_of measures (Sum m) lawful distinct of =
     let inside : m < length measures = grind (arith, nat_tests) in
     let text : List ℕ = spelling_of measures (Sum m) in
-    spelled_is measures text
+    aggregate_spelled-measure_in measures text
     ∙ option_or-None Count _ _ _ (measure_in-other measures text (codes "count(") (λ name. refl))
     (option_or-Some Sum _ _ m (measure_in-own measures m (codes "sum(") distinct inside))
 aggregate_spelled-spelling_of measures (Min m) lawful distinct of =
     let inside : m < length measures = grind (arith, nat_tests) in
     let text : List ℕ = spelling_of measures (Min m) in
-    spelled_is measures text
+    aggregate_spelled-measure_in measures text
     ∙ option_or-None Count _ _ _ (measure_in-other measures text (codes "count(") (λ name. refl))
     (option_or-None Sum _ _ _ (measure_in-other measures text (codes "sum(") (λ name. refl))
     (option_or-Some Min _ _ m (measure_in-own measures m (codes "min(") distinct inside)))
 aggregate_spelled-spelling_of measures (Max m) lawful distinct of =
     let inside : m < length measures = grind (arith, nat_tests) in
     let text : List ℕ = spelling_of measures (Max m) in
-    spelled_is measures text
+    aggregate_spelled-measure_in measures text
     ∙ option_or-None Count _ _ _ (measure_in-other measures text (codes "count(") (λ name. refl))
     (option_or-None Sum _ _ _ (measure_in-other measures text (codes "sum(") (λ name. refl))
     (option_or-None Min _ _ _ (measure_in-other measures text (codes "min(") (λ name. refl))
@@ -93,7 +93,7 @@ aggregate_spelled-spelling_of measures (Max m) lawful distinct of =
 aggregate_spelled-spelling_of measures (Avg m) lawful distinct of =
     let inside : m < length measures = grind (arith, nat_tests) in
     let text : List ℕ = spelling_of measures (Avg m) in
-    spelled_is measures text
+    aggregate_spelled-measure_in measures text
     ∙ option_or-None Count _ _ _ (measure_in-other measures text (codes "count(") (λ name. refl))
     (option_or-None Sum _ _ _ (measure_in-other measures text (codes "sum(") (λ name. refl))
     (option_or-None Min _ _ _ (measure_in-other measures text (codes "min(") (λ name. refl))

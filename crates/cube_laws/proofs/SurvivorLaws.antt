@@ -14,7 +14,7 @@ use Rattle.cube_core.specs.declared.fact.Fact.{Fact}
 use Rattle.cube_core.specs.declared.change.Change.{Change}
 use Rattle.cube_core.specs.declared.change.Item.{Item}
 use Rattle.cube_core.specs.Sources.{SurviveTogether, IsPrintedOf}
-use Rattle.cube_core.proofs.LifeLaws.{same_text}
+use Rattle.cube_core.proofs.LifeLaws.{bytes_eq-itself}
 use Rattle.cube_laws.proofs.RowLaws.{IsPrinted-unique}
 use Rattle.cube_laws.proofs.RowOrderLaws.{Reordered, none, next, both, Reordered-sym, IsPermutation-Reordered, Reordered-IsPermutation, filter_map-Reordered, IsPrinted-IsPermutation}
 use Rattle.cube_core.proofs.ListLaws.{AllByRecursion-Contains, Contains-cases, Contains-head, Contains-nil, Contains-tail}
@@ -22,7 +22,7 @@ use Rattle.cube_core.proofs.ListLaws.{AllByRecursion-Contains, Contains-cases, C
 -- an id that differs from all after it isn't among them
 head-once : (id : List ℕ) (ids : List (List ℕ)) → IsDistinct bytes_eq (id ∷ ids) → Contains ids id → ⊥
 head-once id ids distinct among =
-    false≢true (sym (AllByRecursion-Contains (λ other. bytes_eq id other ≡ false) ids id (IsDistinct-head bytes_eq id ids distinct) among) ∙ same_text id)
+    false≢true (sym (AllByRecursion-Contains (λ other. bytes_eq id other ≡ false) ids id (IsDistinct-head bytes_eq id ids distinct) among) ∙ bytes_eq-itself id)
 
 -- what is contained after a head that stands once is contained after it in the other list
 tail-Contains : {X : Type 0} (x : X) (xs ys : List X) → (Contains xs x → ⊥) →

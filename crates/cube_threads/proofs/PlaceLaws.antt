@@ -62,13 +62,6 @@ all_more P xs x all last = All-append P xs (x ∷ []) all one where
   one zero d below = last
   one (suc k) d below = absurd (omega arith)
 
--- two lists place by place, and one more of each
-pub all_zip_more : {A B : Type 0} (R : A → B → Type 0) (xs : List A) (ys : List B) (x : A) (y : B) → AllZip R xs ys → R x y → AllZip R (xs ++ x ∷ []) (ys ++ y ∷ [])
-all_zip_more R [] [] x y pairs last = (last, record {})
-all_zip_more R [] (v ∷ ys) x y pairs last = absurd pairs
-all_zip_more R (u ∷ xs) [] x y pairs last = absurd pairs
-all_zip_more R (u ∷ xs) (v ∷ ys) x y pairs last = (pairs.0, all_zip_more R xs ys x y pairs.1 last)
-
 pub all_zip_empty : {A B : Type 0} (R : A → B → Type 0) (xs : List A) (ys : List B) → length xs ≡ 0 → length ys ≡ 0 → AllZip R xs ys
 all_zip_empty R [] [] a b = record {}
 all_zip_empty R [] (y ∷ ys) a b = absurd (omega (arith, b))

@@ -23,6 +23,7 @@ use Rattle.cube_threads.specs.declared.parcel.FeederEnd.{FeederEnd}
 use Rattle.cube_threads.specs.declared.roster.Gatherer.{Gatherer}
 use Rattle.cube_threads.proofs.TakeLaws.{Names, AllTell, all_zip-at, all_zip-each, came-from, items-settled, same-settled, takes-feeds}
 use Rattle.cube_threads.proofs.WireLaws.{some_of}
+use Rattle.cube_engine.proofs.FeedLaws.{OnOk-holds}
 
 -- linked builders that have taken nothing are ready
 pub ready-linked : {B : Type 0} (all : B → ℕ) (stands : B → B → Arrivals → Type 0) (sources : ℕ) (builders : List B) (outs : List (List (Sending Parcel))) (gatherers : List (Gatherer B)) →
@@ -165,11 +166,6 @@ takes-settled {B} completes s sources outs ends builders old mid new linked as_m
           (same-settled s sources rows ends g.arrivals arrivals tell (arrive j d at) (arrive 0 m one)) (settles.enough j d low) kept));
     }
 
--- a call that answered Ok did what it promises
-pub on_ok-holds : {A E : Type 0} (r : Result A E) (P : Type 0) → is_err r ≡ false → OnOk r P → P
-on_ok-holds (Ok x) P fine holds = holds
-on_ok-holds (Err e) P fine holds = cc
-
 map-told : {A B C : Type 0} (f : A → B) (g : B → C) (xs : List A) → map (λ x. g (f x)) xs ≡ map g (map f xs)
 map-told f g [] = refl
 map-told f g (x ∷ xs) = ap (λ rest. g (f x) ∷ rest) (map-told f g xs)
@@ -180,7 +176,7 @@ pub tell-run : {B P R E : Type 0} (completes : B → B → Arrivals → Type 0) 
     OnOk answer (AllZip (λ feeder end. Feeds (feed feeder) (outs feeder) end) feeders ends) → OnOk answer (AllZip (HasGathered completes) old mid) → AllTell s (map remaining readers) (map received_by mid) ends
 tell-run completes s remaining readers feed outs feeders ends old mid answer fine linked feeds joined gathered =
     tell-joined completes s (map remaining readers) (map feed feeders) (map outs feeders) ends old mid linked (feeds ∙ map-told remaining (coming_of s) readers)
-    (ends-joined feed outs feeders ends (on_ok-holds answer _ fine joined)) (on_ok-holds answer _ fine gathered)
+    (ends-joined feed outs feeders ends (OnOk-holds answer _ fine joined)) (OnOk-holds answer _ fine gathered)
 
 -- what holds of an answer, or of its error, where another does
 pub if_ok-then : {A E : Type 0} (r : Result A E) (P Q : A → Type 0) → ((x : A) → P x → Q x) → IfOk r P → IfOk r Q

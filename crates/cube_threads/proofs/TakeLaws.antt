@@ -28,6 +28,7 @@ use Rattle.cube_threads.specs.declared.parcel.Parcel.{Parcel}
 use Rattle.cube_threads.specs.declared.parcel.FeederEnd.{FeederEnd}
 use Rattle.cube_threads.specs.declared.roster.Gatherer.{Gatherer}
 use Rattle.cube_threads.proofs.WireLaws.{some_of}
+use Rattle.cube_engine.proofs.FeedLaws.{fault_of-None, fault_of-Header, fault_of-TooMany}
 
 -- ---- lists place by place
 
@@ -49,28 +50,12 @@ all-each P (x ∷ xs) d each = (each 0 (omega arith), all-each P xs d (λ i belo
 
 -- ---- what a stop says of a feed
 
--- a feed with no fault at its end is good, and the fault tells the end
-good_from_none : (end : FeedEnd) → fault_of end ≡ None → end ≡ Good
-good_from_none Good none = refl
-good_from_none WrongHeader none = cc
-good_from_none TooManyRecords none = cc
-
-end_from_header : (end : FeedEnd) → fault_of end ≡ Some Header → end ≡ WrongHeader
-end_from_header Good is = cc
-end_from_header WrongHeader is = refl
-end_from_header TooManyRecords is = cc
-
-end_from_too_many : (end : FeedEnd) → fault_of end ≡ Some TooMany → end ≡ TooManyRecords
-end_from_too_many Good is = cc
-end_from_too_many WrongHeader is = cc
-end_from_too_many TooManyRecords is = refl
-
 -- without a stop the feed is good, and its items were sent
 stops-none : (s : Layout) (bytes : Option (List ℕ)) (items : List Item) → Stops (coming_of s bytes) items None → AreItemsOf s bytes items × IsGood s bytes
 stops-none s None items stops = (tt, tt)
 stops-none s (Some bytes) items stops = (
   sym (ap (λ (c : Coming (Option FeedFault)). c.items) stops),
-  good_from_none (items_of s (records_of bytes)).end (ap (λ (c : Coming (Option FeedFault)). c.end) stops),
+  fault_of-None (items_of s (records_of bytes)).end (ap (λ (c : Coming (Option FeedFault)). c.end) stops),
 )
 
 -- a stop is the feed's own fault
@@ -78,8 +63,8 @@ stops-fault : (s : Layout) (bytes : Option (List ℕ)) (items : List Item) (faul
 stops-fault s None items fault stops = tt
 stops-fault s (Some bytes) items Memory stops = tt
 stops-fault s (Some bytes) items Read stops = tt
-stops-fault s (Some bytes) items Header stops = end_from_header (items_of s (records_of bytes)).end (ap (λ (c : Coming (Option FeedFault)). c.end) stops)
-stops-fault s (Some bytes) items TooMany stops = end_from_too_many (items_of s (records_of bytes)).end (ap (λ (c : Coming (Option FeedFault)). c.end) stops)
+stops-fault s (Some bytes) items Header stops = fault_of-Header (items_of s (records_of bytes)).end (ap (λ (c : Coming (Option FeedFault)). c.end) stops)
+stops-fault s (Some bytes) items TooMany stops = fault_of-TooMany (items_of s (records_of bytes)).end (ap (λ (c : Coming (Option FeedFault)). c.end) stops)
 
 -- ---- what an end says of the links of its source
 

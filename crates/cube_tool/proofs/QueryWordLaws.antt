@@ -12,17 +12,7 @@ use Rattle.cube_core.specs.declared.key.Coord.{Coord}
 use Rattle.cube_core.specs.declared.key.Key.{Key}
 use Rattle.cube_core.specs.declared.query.QueryFault.{QueryFault}
 use Rattle.cube_core.specs.declared.query.QueryFault.TheVariants.{Fields, Field, NotCell}
-
--- where each element gives something, as much is given as there are elements
-length-all_given : {A B : Type 0} (f : A → Option B) (xs : List A) → list_all (λ x. is_some (f x)) xs ≡ true → length (filter_map f xs) ≡ length xs
-length-all_given f [] all = refl
-length-all_given f (x ∷ xs) all =
-    let parts = and_parts (is_some (f x)) (list_all (λ y. is_some (f y)) xs) all in
-    more (f x) parts.0 (filter_map f xs) ∙ ap (λ n. suc n) (length-all_given f xs parts.1)
-  where
-    more : {B : Type 0} (given : Option B) → is_some given ≡ true → (ys : List B) → length (cons_option given ys) ≡ suc (length ys)
-    more None some ys = cc
-    more (Some y) some ys = refl
+use Rattle.cube_core.proofs.ItemLaws.{length-filter_map}
 
 -- a choice of an answer or a fault has what the answer has
 chosen : {A : Type 0} (P : A → Type 0) (test : Bool) (answer : Result A QueryFault) (fault : QueryFault) → (test ≡ true → IfOk answer P) → IfOk (if test then answer else Err fault) P
@@ -32,7 +22,7 @@ chosen P false answer fault has = tt
 -- a pattern that fields spell is as long as they are
 spelled-length : (fields : List (List ℕ)) → IfOk (spelled_by fields) (λ pattern. length pattern ≡ length fields)
 spelled-length fields =
-    chosen _ (list_all (λ field. is_some (wanted_by field)) fields) (Ok (filter_map wanted_by fields)) Field (length-all_given wanted_by fields)
+    chosen _ (list_all (λ field. is_some (wanted_by field)) fields) (Ok (filter_map wanted_by fields)) Field (length-filter_map wanted_by fields)
 
 -- under a schema it has a field for each dimension
 pattern-length : (s : Layout) (word : List ℕ) → IfOk (pattern_of s word) (λ pattern. length pattern ≡ length s.dimensions)
@@ -48,7 +38,7 @@ pattern-length s word = go (only_one (records_of word))
 key-length : (pattern : Wanted) → IfOk (cell_of pattern) (λ key. length key.coords ≡ length pattern)
 key-length pattern =
     chosen {A = Key} (λ key. length key.coords ≡ length pattern) (list_all is_some pattern) (Ok (record { coords = filter_map (λ wanted. wanted) pattern })) NotCell
-    (length-all_given (λ wanted. wanted) pattern)
+    (length-filter_map (λ wanted. wanted) pattern)
 
 -- so the cell that a word spells has a coordinate for each dimension
 pub width_of_word : (s : Layout) (word : List ℕ) (pattern : Wanted) (key : Key) → Ok pattern ≡ pattern_of s word → Ok key ≡ cell_of pattern

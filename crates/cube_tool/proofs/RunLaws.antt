@@ -89,9 +89,6 @@ pub ledger-BuildsParts : (s : Layout) (sources : Told) (parts : ℕ) (built : Bu
 ledger-BuildsParts s sources parts built some builds =
     first-stands s (length sources) parts builds.arrivals built.builders built.inlets (rw builds.stands.builders some) (λ d. builds.stands.each 0 d some)
 
-pub schema-BuildsParts : (s : Layout) (sources : Told) (parts : ℕ) (built : BuiltView) → 1 ≤ parts → BuildsParts s sources parts built → schema_of_run built ≡ s
-schema-BuildsParts s sources parts built some builds = (ledger-BuildsParts s sources parts built some builds).0
-
 -- the facts of a run's builders fit
 pub AllFit-BuildsParts : (s : Layout) (sources : Told) (parts : ℕ) (built : BuiltView) → 1 ≤ parts → BuildsParts s sources parts built → AllFit s (facts_of_run built)
 AllFit-BuildsParts s sources parts built some builds =

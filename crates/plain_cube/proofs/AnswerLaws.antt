@@ -5,6 +5,6 @@ use Rattle.cube_core.specs.Answer.{IsBest}
 use Rattle.cube_core.specs.declared.aggregate.Answer.TheVariants as answer
 
 -- a value of the list that is as good as each is its best
-pub is_best_from_bound : (IsAsGood : ℤ → ℤ → Type 0) (values : List ℤ) (best : ℤ) → Contains values best → All (IsAsGood best) values → IsBest IsAsGood values (answer.Whole best)
-is_best_from_bound IsAsGood [] best among good = absurd (omega (arith, among.1))
-is_best_from_bound IsAsGood (v ∷ vs) best among good = (best, refl, among, recursion_from_All (IsAsGood best) (v ∷ vs) good)
+pub IsBest-bound : (IsAsGood : ℤ → ℤ → Type 0) (values : List ℤ) (best : ℤ) → Contains values best → All (IsAsGood best) values → IsBest IsAsGood values (answer.Whole best)
+IsBest-bound IsAsGood [] best among good = absurd (omega (arith, among.1))
+IsBest-bound IsAsGood (v ∷ vs) best among good = (best, refl, among, recursion_from_All (IsAsGood best) (v ∷ vs) good)

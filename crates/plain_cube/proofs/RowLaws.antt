@@ -15,12 +15,12 @@ use Rattle.cube_core.specs.contracts.key.KeyOrd.TheImpl as KeyOrd
 use Rattle.cube_core.proofs.KeyOrderLaws.{key_cmp-exact, key_cmp-IsTotalOrder, cmp-key_cmp}
 
 -- a set of keys is in key order
-pub set_in_order : (keys : BTreeSet Key) → IsOrdered (KeyOrd.cmp-value).it keys → IsOrdered key_cmp keys
-set_in_order keys ordered = let P : (Key → Key → Ordering) → Type 0 = λ R. IsOrdered R keys in subst P cmp-key_cmp ordered
+pub IsOrdered-key_cmp : (keys : BTreeSet Key) → IsOrdered (KeyOrd.cmp-value).it keys → IsOrdered key_cmp keys
+IsOrdered-key_cmp keys ordered = let P : (Key → Key → Ordering) → Type 0 = λ R. IsOrdered R keys in subst P cmp-key_cmp ordered
 
 -- rows that have the keys of all cells, in order, and their answers
-pub rows_of_keys : (s : Layout) (facts : List Fact) (keys : BTreeSet Key) (rows : List Row) → IsOrdered key_cmp keys → ((key : Key) → contains key_cmp keys key ≡ is_cell s.grouping_sets (length s.dimensions) facts key) → map key_of rows ≡ keys.keys → AllByRecursion (HasAnswers s.aggregates facts) rows → AreRows s facts rows
-rows_of_keys s facts keys rows ordered has same answers =
+pub AreRows-keys : (s : Layout) (facts : List Fact) (keys : BTreeSet Key) (rows : List Row) → IsOrdered key_cmp keys → ((key : Key) → contains key_cmp keys key ≡ is_cell s.grouping_sets (length s.dimensions) facts key) → map key_of rows ≡ keys.keys → AllByRecursion (HasAnswers s.aggregates facts) rows → AreRows s facts rows
+AreRows-keys s facts keys rows ordered has same answers =
     let Has : Key → List Key → Type 0 = λ key ks. Contains ks key in
     let InOrder : List Key → Type 0 = λ ks. IsStrictlySortedBy key_cmp ks in
     record {

@@ -11,50 +11,44 @@ use Rattle.cube_core.specs.Order.{key_cmp}
 use Rattle.cube_core.specs.declared.key.Coord.{Coord}
 use Rattle.cube_core.specs.declared.key.Key.{Key}
 use Rattle.cube_core.proofs.CellKeyLaws.{key_cmp-is_total}
+use Rattle.cube_core.proofs.AncestorLaws.{mask_of_coords-All}
 
--- ALL in each dimension is the empty set
-mask_of_all : (coords : List Coord) → list_all is_all_coord coords ≡ true → mask_of_coords coords ≡ 0
-mask_of_all [] all = refl
-mask_of_all (c ∷ coords) all =
-    let parts = and_parts (is_all_coord c) (list_all is_all_coord coords) all in
-    rw (parts.0, mask_of_all coords parts.1) refl
-
-same_kept : (kept own total : Bool) → own ≡ true → (total ≡ true → kept ≡ own) → total ≡ (kept && total)
-same_kept kept own true is same = sym (same refl ∙ is) ∙ and_true kept
+total-own : (kept own total : Bool) → own ≡ true → (total ≡ true → kept ≡ own) → total ≡ (kept && total)
+total-own kept own true is same = sym (same refl ∙ is) ∙ and_true kept
   where
     and_true : (b : Bool) → b ≡ (b && true)
     and_true true = refl
     and_true false = refl
-same_kept true own false is same = refl
-same_kept false own false is same = refl
+total-own true own false is same = refl
+total-own false own false is same = refl
 
-none_kept : (kept own total : Bool) → own ≡ false → (total ≡ true → kept ≡ own) → false ≡ (kept && total)
-none_kept kept own true is same = sym (same refl ∙ is) ∙ and_true kept
+total-none : (kept own total : Bool) → own ≡ false → (total ≡ true → kept ≡ own) → false ≡ (kept && total)
+total-none kept own true is same = sym (same refl ∙ is) ∙ and_true kept
   where
     and_true : (b : Bool) → b ≡ (b && true)
     and_true true = refl
     and_true false = refl
-none_kept true own false is same = refl
-none_kept false own false is same = refl
+total-none true own false is same = refl
+total-none false own false is same = refl
 
 -- the grand totals' keys are kept or not together
-keeps_total : (s : Layout) (total key : Key) (dimensions : ℕ) → is_total dimensions total ≡ true → is_total dimensions key ≡ true → keeps s key ≡ keeps s total
-keeps_total s total key dimensions t u =
-    let of_total = mask_of_all total.coords (and_parts (length total.coords == dimensions) (list_all is_all_coord total.coords) t).1 in
-    let of_key = mask_of_all key.coords (and_parts (length key.coords == dimensions) (list_all is_all_coord key.coords) u).1 in
+keeps-is_total : (s : Layout) (total key : Key) (dimensions : ℕ) → is_total dimensions total ≡ true → is_total dimensions key ≡ true → keeps s key ≡ keeps s total
+keeps-is_total s total key dimensions t u =
+    let of_total = mask_of_coords-All total.coords (and_parts (length total.coords == dimensions) (list_all is_all_coord total.coords) t).1 in
+    let of_key = mask_of_coords-All key.coords (and_parts (length key.coords == dimensions) (list_all is_all_coord key.coords) u).1 in
     ap (λ set. is_among set s.grouping_sets) (of_key ∙ sym of_total)
 
 -- the set of the grand total's key, where it's kept
-pub total_key_kept : (s : Layout) (old new : BTreeSet Key) (total : Key) (dimensions : ℕ) → old.keys ≡ [] → is_total dimensions total ≡ true → keeps s total ≡ true
+pub contains-total : (s : Layout) (old new : BTreeSet Key) (total : Key) (dimensions : ℕ) → old.keys ≡ [] → is_total dimensions total ≡ true → keeps s total ≡ true
     → ((other : Key) → contains key_cmp new other ≡ (contains key_cmp old other || eq_by_cmp key_cmp total other))
     → (key : Key) → contains key_cmp new key ≡ (keeps s key && is_total dimensions key)
-total_key_kept s old new total dimensions empty t kept h key =
+contains-total s old new total dimensions empty t kept h key =
     let none : contains key_cmp old key ≡ false = rw empty refl in
     h key ∙ ap (λ b. b || eq_by_cmp key_cmp total key) none ∙ key_cmp-is_total total key dimensions t
-    ∙ same_kept (keeps s key) (keeps s total) (is_total dimensions key) kept (keeps_total s total key dimensions t)
+    ∙ total-own (keeps s key) (keeps s total) (is_total dimensions key) kept (keeps-is_total s total key dimensions t)
 
 -- and no key, where it isn't
-pub total_key_not_kept : (s : Layout) (none : BTreeSet Key) (total : Key) (dimensions : ℕ) → none.keys ≡ [] → is_total dimensions total ≡ true → keeps s total ≡ false
+pub contains-no_total : (s : Layout) (none : BTreeSet Key) (total : Key) (dimensions : ℕ) → none.keys ≡ [] → is_total dimensions total ≡ true → keeps s total ≡ false
     → (key : Key) → contains key_cmp none key ≡ (keeps s key && is_total dimensions key)
-total_key_not_kept s none total dimensions empty t left key =
-    rw empty (none_kept (keeps s key) (keeps s total) (is_total dimensions key) left (keeps_total s total key dimensions t))
+contains-no_total s none total dimensions empty t left key =
+    rw empty (total-none (keeps s key) (keeps s total) (is_total dimensions key) left (keeps-is_total s total key dimensions t))

@@ -24,34 +24,34 @@ use Rattle.cube_core.proofs.KeyOrderLaws.{cmp-key_cmp}
 use Rattle.cube_core.proofs.CellKeyLaws.{key_cmp-Decides, Key-coords}
 
 -- one more value of a walk over the values
-pub ancestor_of_more : (coords : List Coord) (c : Coord) (values : List (Option (List ℕ))) (i mask : ℕ) → i < length values → c ≡ coord_of (get_or values i None) (mask % 2 == 1) → (coords ++ c ∷ []) ++ ancestor_of (drop (i + 1) values) (mask / 2) ≡ coords ++ ancestor_of (drop i values) mask
+pub ancestor_of-more : (coords : List Coord) (c : Coord) (values : List (Option (List ℕ))) (i mask : ℕ) → i < length values → c ≡ coord_of (get_or values i None) (mask % 2 == 1) → (coords ++ c ∷ []) ++ ancestor_of (drop (i + 1) values) (mask / 2) ≡ coords ++ ancestor_of (drop i values) mask
 unfolding ancestor_of
-ancestor_of_more coords c values i mask below e =
+ancestor_of-more coords c values i mask below e =
     let step : ancestor_of (drop i values) mask ≡ coord_of (get_or values i None) (mask % 2 == 1) ∷ ancestor_of (drop (i + 1) values) (mask / 2) = at_drop_more (λ vs. ancestor_of vs mask) values i None below in
     rw (append_assoc, step, e) refl
 
 -- the end of that walk
-pub ancestor_of_all : (coords : List Coord) (values : List (Option (List ℕ))) (i mask : ℕ) → length values ≤ i → coords ++ ancestor_of (drop i values) mask ≡ coords
+pub ancestor_of-all : (coords : List Coord) (values : List (Option (List ℕ))) (i mask : ℕ) → length values ≤ i → coords ++ ancestor_of (drop i values) mask ≡ coords
 unfolding ancestor_of
-ancestor_of_all coords values i mask over =
+ancestor_of-all coords values i mask over =
     let e : ancestor_of (drop i values) mask ≡ [] = at_drop_all (λ vs. ancestor_of vs mask) values i over in
     rw e (append-nil coords)
 
-cond_or : (a b : Bool) → cond a true b ≡ (b || a)
-cond_or true true = refl
-cond_or true false = refl
-cond_or false true = refl
-cond_or false false = refl
+cond-or : (a b : Bool) → cond a true b ≡ (b || a)
+cond-or true true = refl
+cond-or true false = refl
+cond-or false true = refl
+cond-or false false = refl
 
 -- one more key in a set, in key order
-pub set_gains_key : (old new : BTreeSet Key) (key : Key) → ((other : Key) → contains (KeyOrd.cmp-value).it new other ≡ cond (is_at ((KeyOrd.cmp-value).it key) other) true (contains (KeyOrd.cmp-value).it old other)) → (other : Key) → contains key_cmp new other ≡ (contains key_cmp old other || eq_by_cmp key_cmp key other)
-set_gains_key old new key h other =
+pub contains-insert : (old new : BTreeSet Key) (key : Key) → ((other : Key) → contains (KeyOrd.cmp-value).it new other ≡ cond (is_at ((KeyOrd.cmp-value).it key) other) true (contains (KeyOrd.cmp-value).it old other)) → (other : Key) → contains key_cmp new other ≡ (contains key_cmp old other || eq_by_cmp key_cmp key other)
+contains-insert old new key h other =
     let P : (Key → Key → Ordering) → Type 0 = λ R. contains R new other ≡ cond (is_at (R key) other) true (contains R old other) in
-    subst P cmp-key_cmp (h other) ∙ cond_or (eq_by_cmp key_cmp key other) (contains key_cmp old other)
+    subst P cmp-key_cmp (h other) ∙ cond-or (eq_by_cmp key_cmp key other) (contains key_cmp old other)
 
 -- a key that covers a fact is that of its grouping set that does
-same_ancestor : (ancestor key : Key) (fact : Fact) (set : ℕ) → covers ancestor fact ≡ true → mask_of ancestor ≡ set → eq_by_cmp key_cmp ancestor key ≡ ((set == mask_of key) && covers key fact)
-same_ancestor ancestor key fact set c m =
+covers-ancestor : (ancestor key : Key) (fact : Fact) (set : ℕ) → covers ancestor fact ≡ true → mask_of ancestor ≡ set → eq_by_cmp key_cmp ancestor key ≡ ((set == mask_of key) && covers key fact)
+covers-ancestor ancestor key fact set c m =
     let P : Key → Type 0 = λ k. ((set == mask_of k) && covers k fact) ≡ true in
     let by_set : Decides ((set == mask_of key) && covers key fact) (ancestor ≡ key) = (
       λ e.
@@ -62,39 +62,39 @@ same_ancestor ancestor key fact set c m =
     ) in
     same_from_decides _ _ (key_cmp-Decides ancestor key) by_set
 
-more_sets : (old among is_set covered : Bool) → ((old || (among && covered)) || (is_set && covered)) ≡ (old || ((among || is_set) && covered))
-more_sets true among is_set covered = refl
-more_sets false true true true = refl
-more_sets false true true false = refl
-more_sets false true false true = refl
-more_sets false true false false = refl
-more_sets false false is_set covered = refl
+among-more : (old among is_set covered : Bool) → ((old || (among && covered)) || (is_set && covered)) ≡ (old || ((among || is_set) && covered))
+among-more true among is_set covered = refl
+among-more false true true true = refl
+among-more false true true false = refl
+among-more false true false true = refl
+among-more false true false false = refl
+among-more false false is_set covered = refl
 
 -- one more grouping set of a fact
-pub more_ancestors : (old mid new : Bool) (ancestor key : Key) (fact : Fact) (sets : List ℕ) (i : ℕ) → i < length sets → covers ancestor fact ≡ true → mask_of ancestor ≡ get_or sets i 0 → mid ≡ (old || (is_among (mask_of key) (take i sets) && covers key fact)) → new ≡ (mid || eq_by_cmp key_cmp ancestor key) → new ≡ (old || (is_among (mask_of key) (take (i + 1) sets) && covers key fact))
-more_ancestors old mid new ancestor key fact sets i inside c m e f =
+pub contains-ancestors : (old mid new : Bool) (ancestor key : Key) (fact : Fact) (sets : List ℕ) (i : ℕ) → i < length sets → covers ancestor fact ≡ true → mask_of ancestor ≡ get_or sets i 0 → mid ≡ (old || (is_among (mask_of key) (take i sets) && covers key fact)) → new ≡ (mid || eq_by_cmp key_cmp ancestor key) → new ≡ (old || (is_among (mask_of key) (take (i + 1) sets) && covers key fact))
+contains-ancestors old mid new ancestor key fact sets i inside c m e f =
     let set = get_or sets i 0 in
     let among = is_among (mask_of key) (take i sets) in
-    let same : eq_by_cmp key_cmp ancestor key ≡ ((set == mask_of key) && covers key fact) = same_ancestor ancestor key fact set c m in
+    let same : eq_by_cmp key_cmp ancestor key ≡ ((set == mask_of key) && covers key fact) = covers-ancestor ancestor key fact set c m in
     f ∙ ap (λ b. b || eq_by_cmp key_cmp ancestor key) e
     ∙ ap (λ b. (old || (among && covers key fact)) || b) same
-    ∙ more_sets old among (set == mask_of key) (covers key fact)
+    ∙ among-more old among (set == mask_of key) (covers key fact)
     ∙ sym (ap (λ b. old || (b && covers key fact)) (list_any_more (λ other. other == mask_of key) sets i 0 inside))
 
 -- nothing more
-pub or_false : (b : Bool) → b ≡ (b || false)
-or_false true = refl
-or_false false = refl
+pub or-false : (b : Bool) → b ≡ (b || false)
+or-false true = refl
+or-false false = refl
 
-more_covered : (kept total any covered : Bool) → ((kept && (total || any)) || (kept && covered)) ≡ (kept && (total || (any || covered)))
-more_covered true true any covered = refl
-more_covered true false any covered = refl
-more_covered false total any covered = refl
+is_cell-covered : (kept total any covered : Bool) → ((kept && (total || any)) || (kept && covered)) ≡ (kept && (total || (any || covered)))
+is_cell-covered true true any covered = refl
+is_cell-covered true false any covered = refl
+is_cell-covered false total any covered = refl
 
 -- one more fact of a cube
-pub more_cells : (s : Layout) (facts : List Fact) (i : ℕ) (d : Fact) (key : Key) (old new : Bool) → i < length facts → old ≡ is_cell s.grouping_sets (length s.dimensions) (take i facts) key → new ≡ (old || (keeps s key && covers key (get_or facts i d))) → new ≡ is_cell s.grouping_sets (length s.dimensions) (take (i + 1) facts) key
-more_cells s facts i d key old new inside e f =
+pub is_cell-more : (s : Layout) (facts : List Fact) (i : ℕ) (d : Fact) (key : Key) (old new : Bool) → i < length facts → old ≡ is_cell s.grouping_sets (length s.dimensions) (take i facts) key → new ≡ (old || (keeps s key && covers key (get_or facts i d))) → new ≡ is_cell s.grouping_sets (length s.dimensions) (take (i + 1) facts) key
+is_cell-more s facts i d key old new inside e f =
     let total = is_total (length s.dimensions) key in
     f ∙ ap (λ b. b || (keeps s key && covers key (get_or facts i d))) e
-    ∙ more_covered (keeps s key) total (list_any (covers key) (take i facts)) (covers key (get_or facts i d))
+    ∙ is_cell-covered (keeps s key) total (list_any (covers key) (take i facts)) (covers key (get_or facts i d))
     ∙ sym (ap (λ b. keeps s key && (total || b)) (list_any_more (covers key) facts i d inside))

@@ -2,7 +2,7 @@ use Rattle.std.proofs.Common.{◌≡◌, rules, unsigned_abs, FitsSigned, subst,
 use Rattle.std.specs.Int.{IsGcd, w128}
 use Rattle.std.proofs.lemmas.Int.{to_z-of_z}
 use Rattle.cube_core.specs.Fraction.{IsInLowestTerms}
-use Rattle.cube_core.proofs.ReducedFractionLaws.{lowest_terms_by_divisor}
+use Rattle.cube_core.proofs.ReducedFractionLaws.{IsInLowestTerms-IsGcd}
 use Rattle.cube_core.proofs.fraction.reduced.Goals as goal
 
 pub returns : goal.returns
@@ -15,4 +15,4 @@ returns c =
     = simp to_z-of_z at c.quotient.ensures in
     subst (λ p. IsInLowestTerms c.args.sum c.args.count p (c.args.count / c.divisor_of-divisor.result))
     (sym (to_z-of_z w128 c.quotient.result fits-quotient ∙ numerator))
-    (lowest_terms_by_divisor c.args.sum c.args.count c.divisor_of-divisor.result c.requires greatest)
+    (IsInLowestTerms-IsGcd c.args.sum c.args.count c.divisor_of-divisor.result c.requires greatest)

@@ -1,6 +1,6 @@
 use Rattle.std.proofs.Common.{◌≡◌, false, sym, ◌∙◌}
 use Rattle.std.specs.Prelude.{is_err}
-use Rattle.cube_engine.proofs.FeedLaws.{HasTaken-none, HasTaken-more, on_ok_holds}
+use Rattle.cube_engine.proofs.FeedLaws.{HasTaken-none, HasTaken-more, OnOk-holds}
 use Rattle.cube_engine.proofs.build.take_feed.Goals as goal
 
 pub loop-item-init : goal.loop-item-init
@@ -12,6 +12,6 @@ loop-item-preserved g c =
     HasTaken-more _ _ _ _ _ c.next.new.self _ _ c.in-Ok-Some.item
     (rw c.in-Ok-Some.field-0-is at c.in-Ok-Some.ensures.gives)
     c.next.ensures.schema
-    (on_ok_holds c.apply_taken.result _ fine c.apply_taken.ensures.enters)
-    (on_ok_holds c.apply_taken.result _ fine c.apply_taken.ensures.stands)
+    (OnOk-holds c.apply_taken.result _ fine c.apply_taken.ensures.enters)
+    (OnOk-holds c.apply_taken.result _ fine c.apply_taken.ensures.stands)
     c.loop-item.invariant

@@ -2,7 +2,8 @@ use Rattle.std.proofs.Common.{rules, arith, ap, length, ◌≡◌, ◌∷◌, []
 use Rattle.std.proofs.lemmas.List.{length-append}
 use Rattle.std.proofs.lemmas.Slice.Zip.{AllZip-long}
 use Rattle.cube_threads.specs.Starting.{IsReady, HasGathered}
-use Rattle.cube_threads.proofs.PlaceLaws.{all_front, all_last, all_zip_more, all_zip_empty}
+use Rattle.cube_threads.proofs.PlaceLaws.{all_front, all_last, all_zip_empty}
+use Rattle.cube_core.proofs.ListLaws.{AllZip-push}
 use Rattle.cube_threads.proofs.builders.+with_builders.Goals as goal
 
 pub spawn_with-started-requires-clause-runs : goal.spawn_with-started-requires-clause-runs
@@ -21,7 +22,7 @@ returns-in-Ok-Some-clause-gatherers g t c =
     let answered = rw c.in-Ok-Some.is-0 at c.with_builders-answer.ensures.gatherers in
     let joined = rw c.in-Ok-Some.is-1 at c.join.ensures in
     let kept : HasGathered g.B.Builds.completes c.unwrap-gatherer.result c.in-Ok-Some.gatherer = search (rules, joined) in
-    rw (whole, c.keep-in-Ok-Some.ensures.gatherers) (all_zip_more (HasGathered g.B.Builds.completes) _ _ _ _ answered kept)
+    rw (whole, c.keep-in-Ok-Some.ensures.gatherers) (AllZip-push (HasGathered g.B.Builds.completes) _ _ _ _ answered kept)
 
 pub returns-then-is_empty-clause-gatherers : goal.returns-then-is_empty-clause-gatherers
 returns-then-is_empty-clause-gatherers g t c =
@@ -29,7 +30,7 @@ returns-then-is_empty-clause-gatherers g t c =
     let last : length c.pop.new.self.items ≡ 0 = search rules in
     let first : length c.with_feeders.new.roster.gatherers.items ≡ 0 = search (rules, c.requires.start.none, c.with_feeders.ensures.gatherers) in
     rw (whole, c.keep.ensures.gatherers)
-    (all_zip_more (HasGathered g.B.Builds.completes) _ _ _ _ (all_zip_empty (HasGathered g.B.Builds.completes) _ _ last first) c.in_ok-with_feeders.ensures.own)
+    (AllZip-push (HasGathered g.B.Builds.completes) _ _ _ _ (all_zip_empty (HasGathered g.B.Builds.completes) _ _ last first) c.in_ok-with_feeders.ensures.own)
 
 pub with_feeders-requires-clause-ready : goal.with_feeders-requires-clause-ready
 with_feeders-requires-clause-ready g t c κs within =

@@ -3,7 +3,8 @@ use Rattle.std.proofs.lemmas.Bool.{eqb-true}
 use Rattle.std.proofs.lemmas.List.{length-append}
 use Rattle.std.proofs.lemmas.Slice.Zip.{AllZip-long}
 use Rattle.cube_threads.specs.Feeding.{Feeds}
-use Rattle.cube_threads.proofs.PlaceLaws.{all_front, all_zip_more, all_zip_empty}
+use Rattle.cube_threads.proofs.PlaceLaws.{all_front, all_zip_empty}
+use Rattle.cube_core.proofs.ListLaws.{AllZip-push}
 use Rattle.cube_threads.proofs.feeders.+with_feeders.Goals as goal
 
 pub returns-then-is_empty-clause-ends : goal.returns-then-is_empty-clause-ends
@@ -19,7 +20,7 @@ returns-in-Ok-clause-ends g t c =
     let joined = rw c.in-Ok-Some.is-1 at c.join-end.ensures in
     let promised = rw c.in-Some.is at last.promises in
     let kept : Feeds last.feeder.feed.to_come last.feeder.outlets.items c.in-Ok-Some.end = rw (← promised.0, ← promised.1) joined in
-    rw (last.split, c.in-Ok.ensures.items) (all_zip_more _ _ _ _ _ answered kept)
+    rw (last.split, c.in-Ok.ensures.items) (AllZip-push _ _ _ _ _ answered kept)
 
 pub with_feeders-answer-requires-clause-outlets : goal.with_feeders-answer-requires-clause-outlets
 with_feeders-answer-requires-clause-outlets g t c κs within =

@@ -3,8 +3,9 @@ use Rattle.std.proofs.lemmas.List.{get_or-map, length-map}
 use Rattle.cube_core.proofs.ListLaws.{AllZip-length}
 use Rattle.cube_threads.specs.Starting.{HasGathered}
 use Rattle.cube_threads.specs.Wiring.{coming_of}
-use Rattle.cube_threads.proofs.RunLaws.{ready-linked, ends-joined, tell-run, takes-settled, on_ok-holds, if_ok-then, on_ok-then, if_err-then}
+use Rattle.cube_threads.proofs.RunLaws.{ready-linked, ends-joined, tell-run, takes-settled, if_ok-then, on_ok-then, if_err-then}
 use Rattle.cube_threads.proofs.TakeLaws.{fit-tell, good-all, explains-stops}
+use Rattle.cube_engine.proofs.FeedLaws.{OnOk-holds}
 use Rattle.cube_threads.proofs.running.feed_builders.Goals as goal
 
 pub run_together-roster-requires-clause-outlets : goal.run_together-roster-requires-clause-outlets
@@ -47,7 +48,7 @@ settle-requires-clause-sources g c =
     let known = c.in-Ok.ensures in
     let joined = c.run_together-roster in
     let fine = sym c.is_err.ensures.value ∙ c.if-is_err.false in
-    let ends = ends-joined (λ f. f.feed.to_come) (λ f. f.outlets.items) setup.feeders.items joined.result.0.ends.items (on_ok-holds joined.result.1 _ fine joined.ensures.ends) in
+    let ends = ends-joined (λ f. f.feed.to_come) (λ f. f.outlets.items) setup.feeders.items joined.result.0.ends.items (OnOk-holds joined.result.1 _ fine joined.ensures.ends) in
     let feeds = sym (length-map setup.feeders.items (λ f. f.feed.to_come)) ∙ ap length known.feeds ∙ length-map c.args.readers.items (λ reader. coming_of c.args.schema.now (g.R.Read.remaining reader)) in
     omega (arith, ends.same_comings, length-map setup.feeders.items (λ f. f.feed.to_come), feeds, c.args.readers.ok.0, joined.result.0.ends.ok.0, c.requires.readers)
 
@@ -57,7 +58,7 @@ settle-requires-clause-builders g c =
     let known = c.in-Ok.ensures in
     let joined = c.run_together-roster in
     let fine = sym c.is_err.ensures.value ∙ c.if-is_err.false in
-    let count = AllZip-length (HasGathered g.B.Builds.completes) setup.gatherers.items joined.result.0.gatherers.items (on_ok-holds joined.result.1 _ fine joined.ensures.gatherers) in
+    let count = AllZip-length (HasGathered g.B.Builds.completes) setup.gatherers.items joined.result.0.gatherers.items (OnOk-holds joined.result.1 _ fine joined.ensures.gatherers) in
     (omega (arith, count, known.count, setup.gatherers.ok.0, joined.result.0.gatherers.ok.0, c.requires.builders), omega (arith, count, known.count, setup.gatherers.ok.0, joined.result.0.gatherers.ok.0, c.requires.builders))
 
 pub returns-clause-good : goal.returns-clause-good
@@ -100,10 +101,10 @@ returns-clause-taken g c =
     ∙ ap length known.feeds
     ∙ length-map c.args.readers.items (λ reader. coming_of c.args.schema.now (g.R.Read.remaining reader))
     ∙ sym (length-map c.args.readers.items g.R.Read.remaining) in
-    let count = AllZip-length (HasGathered g.B.Builds.completes) setup.gatherers.items joined.result.0.gatherers.items (on_ok-holds joined.result.1 _ fine joined.ensures.gatherers) in
+    let count = AllZip-length (HasGathered g.B.Builds.completes) setup.gatherers.items joined.result.0.gatherers.items (OnOk-holds joined.result.1 _ fine joined.ensures.gatherers) in
     let some : 1 ≤ length joined.result.0.gatherers.items = omega (arith, count, known.count, setup.gatherers.ok.0, c.requires.builders) in
     if_ok-then c.settle.result _ _
     (λ settled settles.
     takes-settled g.B.Builds.completes c.args.schema.now told outs joined.result.0.ends.items c.args.builders.items setup.gatherers.items joined.result.0.gatherers.items settled.items
-    known.linked as_many known.builders (on_ok-holds joined.result.1 _ fine joined.ensures.gatherers) tell settles some)
+    known.linked as_many known.builders (OnOk-holds joined.result.1 _ fine joined.ensures.gatherers) tell settles some)
     c.settle.ensures.ok
