@@ -108,8 +108,8 @@ mask_of_coords-length [] = omega arith
 mask_of_coords-length (c ∷ coords) = bit-below (is_all_coord c) (mask_of_coords coords) (length coords) (mask_of_coords-length coords)
 
 -- the mask of at most 8 coordinates has 8 bits
-pub mask_of_coords-byte : (coords : List Coord) → length coords ≤ 8 → mask_of_coords coords < 256
-mask_of_coords-byte coords few =
+pub mask_of_coords_byte : (coords : List Coord) → length coords ≤ 8 → mask_of_coords coords < 256
+mask_of_coords_byte coords few =
     let two : 0 < 2 = omega arith in
     let bound : 2 ^ length coords ≤ 2 ^ 8 = pow-le-pow_right two few in
     omega (arith, mask_of_coords-length coords, bound)

@@ -17,8 +17,8 @@ mask_of_names-below [] names = omega arith
 mask_of_names-below (dimension ∷ dimensions) names = bit-below (is_listed dimension names) (mask_of_names dimensions names) (length dimensions) (mask_of_names-below dimensions names)
 
 -- the mask of a set of at most 7 dimensions has 7 bits
-pub mask_of_names-byte : (dimensions names : List (List ℕ)) → length dimensions ≤ 7 → mask_of_names dimensions names < 128
-mask_of_names-byte dimensions names few =
+pub mask_of_names_byte : (dimensions names : List (List ℕ)) → length dimensions ≤ 7 → mask_of_names dimensions names < 128
+mask_of_names_byte dimensions names few =
     let two : 0 < 2 = omega arith in
     let bound : 2 ^ length dimensions ≤ 2 ^ 7 = pow-le-pow_right two few in
     omega (arith, mask_of_names-below dimensions names, bound)

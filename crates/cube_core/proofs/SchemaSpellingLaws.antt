@@ -86,7 +86,7 @@ find-functions measures text opening make others found spelled rest =
     ∙ ap (option_or (option_map make (measure_in measures text opening))) rest
 
 -- the aggregate that a text spells, function by function
-pub aggregate_spelled-measure_in : (measures : List (List ℕ)) (text : List ℕ) → aggregate_spelled measures text
+pub aggregate_spelled_measure_in : (measures : List (List ℕ)) (text : List ℕ) → aggregate_spelled measures text
     ≡ cond (bytes_eq text (codes "count(*)")) (Some CountAll)
     (option_or (option_map Count (measure_in measures text (codes "count(")))
     (option_or (option_map Sum (measure_in measures text (codes "sum(")))
@@ -94,7 +94,7 @@ pub aggregate_spelled-measure_in : (measures : List (List ℕ)) (text : List ℕ
     (option_or (option_map Max (measure_in measures text (codes "max(")))
     (option_map Avg (measure_in measures text (codes "avg(")))))))
 unfolding aggregate_spelled
-aggregate_spelled-measure_in measures text =
+aggregate_spelled_measure_in measures text =
     let over : (ℕ → Agg) → List Agg = λ make. map make (range_with_len 0 (length measures)) in
     let last = find-function measures text (codes "avg(") Avg (λ m. refl) in
     let fourth = find-functions measures text (codes "max(") Max (over Avg) _ (λ m. refl) last in

@@ -161,7 +161,7 @@ impl Schema {
 
     /// Whether the schema keeps the grouping set of a key with one more dimension, counted from 0, that is ALL in it: the
     /// set that a drill-down along the dimension leads to. The key has a coordinate for each dimension.
-    #[tactic(auto, using(crate::proofs::AncestorLaws::mask_of_coords-byte))]
+    #[tactic(auto, using(crate::proofs::AncestorLaws::mask_of_coords_byte))]
     pub fn keeps_below(&self, key: &Key, dim: usize) -> bool
         requires width { length key.now.coords ≡ length self.now.dimensions }
         requires dim { dim < length self.now.dimensions }
@@ -204,7 +204,7 @@ impl Schema {
 }
 
 // The mask of coordinates, which are at most 8.
-#[tactic(auto, using(crate::proofs::AncestorLaws::mask_of_coords-byte))]
+#[tactic(auto, using(crate::proofs::AncestorLaws::mask_of_coords_byte))]
 fn mask_of_coords(coords: &[Coord]) -> u32
     requires { length coords.now ≤ 8 }
     ensures { result ≡ mask_of_coords coords.now }

@@ -214,7 +214,7 @@ fn aggregates_of(
 }
 
 /// The aggregate that a text spells.
-#[tactic(auto, using(crate::proofs::SchemaSpellingLaws::aggregate_spelled-measure_in))]
+#[tactic(auto, using(crate::proofs::SchemaSpellingLaws::aggregate_spelled_measure_in))]
 fn aggregate_spelled(measures: &[Text], text: &str) -> Option<Agg>
     ensures { result ≡ aggregate_spelled measures.now text.now }
 {

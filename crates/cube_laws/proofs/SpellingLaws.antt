@@ -13,7 +13,7 @@ use Rattle.cube_core.specs.Layout.{Layout, IsSchema, spelling_of, is_aggregate_o
 use Rattle.cube_core.specs.SchemaDocument.{aggregate_spelled}
 use Rattle.cube_core.specs.declared.aggregate.Agg.{Agg}
 use Rattle.cube_core.specs.declared.aggregate.Agg.TheVariants.{CountAll, Count, Sum, Min, Max, Avg}
-use Rattle.cube_core.proofs.SchemaSpellingLaws.{aggregate_spelled-measure_in, measure_in, position-between, position-between_none, bytes_eq-between}
+use Rattle.cube_core.proofs.SchemaSpellingLaws.{aggregate_spelled_measure_in, measure_in, position-between, position-between_none, bytes_eq-between}
 
 -- a text that is at a place of a list is listed
 is_listed-get_or : (text : List ℕ) (texts : List (List ℕ)) (m : ℕ) → m < length texts → text ≡ get_or texts m [] → is_listed text texts ≡ true
@@ -63,29 +63,29 @@ is_lawful_name-star names m lawful inside =
     false_from_ne_true _ (λ star. false≢true (ap is_lawful_name ((bytes_eq-Decides (codes "*") (get_or names m [])).0 star) ∙ this))
 
 pub aggregate_spelled-spelling_of : (measures : List (List ℕ)) (agg : Agg) → list_all is_lawful_name measures ≡ true → are_distinct measures ≡ true → is_aggregate_of (length measures) agg ≡ true → aggregate_spelled measures (spelling_of measures agg) ≡ Some agg
-aggregate_spelled-spelling_of measures CountAll lawful distinct of = aggregate_spelled-measure_in measures (codes "count(*)")
+aggregate_spelled-spelling_of measures CountAll lawful distinct of = aggregate_spelled_measure_in measures (codes "count(*)")
 aggregate_spelled-spelling_of measures (Count m) lawful distinct of =
     let inside : m < length measures = grind (arith, nat_tests) in
     let text : List ℕ = spelling_of measures (Count m) in
     let star : bytes_eq text (codes "count(*)") ≡ false = bytes_eq-between (codes "count(") (codes ")") (codes "*") text (get_or measures m []) refl ∙ is_lawful_name-star measures m lawful inside in
-    aggregate_spelled-measure_in measures text ∙ rw star (option_or-Some Count _ _ m (measure_in-own measures m (codes "count(") distinct inside))
+    aggregate_spelled_measure_in measures text ∙ rw star (option_or-Some Count _ _ m (measure_in-own measures m (codes "count(") distinct inside))
 aggregate_spelled-spelling_of measures (Sum m) lawful distinct of =
     let inside : m < length measures = grind (arith, nat_tests) in
     let text : List ℕ = spelling_of measures (Sum m) in
-    aggregate_spelled-measure_in measures text
+    aggregate_spelled_measure_in measures text
     ∙ option_or-None Count _ _ _ (measure_in-other measures text (codes "count(") (λ name. refl))
     (option_or-Some Sum _ _ m (measure_in-own measures m (codes "sum(") distinct inside))
 aggregate_spelled-spelling_of measures (Min m) lawful distinct of =
     let inside : m < length measures = grind (arith, nat_tests) in
     let text : List ℕ = spelling_of measures (Min m) in
-    aggregate_spelled-measure_in measures text
+    aggregate_spelled_measure_in measures text
     ∙ option_or-None Count _ _ _ (measure_in-other measures text (codes "count(") (λ name. refl))
     (option_or-None Sum _ _ _ (measure_in-other measures text (codes "sum(") (λ name. refl))
     (option_or-Some Min _ _ m (measure_in-own measures m (codes "min(") distinct inside)))
 aggregate_spelled-spelling_of measures (Max m) lawful distinct of =
     let inside : m < length measures = grind (arith, nat_tests) in
     let text : List ℕ = spelling_of measures (Max m) in
-    aggregate_spelled-measure_in measures text
+    aggregate_spelled_measure_in measures text
     ∙ option_or-None Count _ _ _ (measure_in-other measures text (codes "count(") (λ name. refl))
     (option_or-None Sum _ _ _ (measure_in-other measures text (codes "sum(") (λ name. refl))
     (option_or-None Min _ _ _ (measure_in-other measures text (codes "min(") (λ name. refl))
@@ -93,7 +93,7 @@ aggregate_spelled-spelling_of measures (Max m) lawful distinct of =
 aggregate_spelled-spelling_of measures (Avg m) lawful distinct of =
     let inside : m < length measures = grind (arith, nat_tests) in
     let text : List ℕ = spelling_of measures (Avg m) in
-    aggregate_spelled-measure_in measures text
+    aggregate_spelled_measure_in measures text
     ∙ option_or-None Count _ _ _ (measure_in-other measures text (codes "count(") (λ name. refl))
     (option_or-None Sum _ _ _ (measure_in-other measures text (codes "sum(") (λ name. refl))
     (option_or-None Min _ _ _ (measure_in-other measures text (codes "min(") (λ name. refl))

@@ -88,7 +88,7 @@ fn total_of(values: &[i64]) -> i128
     total
 }
 
-#[tactic(auto, using(crate::proofs::AnswerLaws::IsBest-bound))]
+#[tactic(auto, using(crate::proofs::AnswerLaws::IsBest_bound))]
 fn least_of(values: &[i64]) -> Answer
     ensures { IsLeast values.now result }
 {
@@ -112,7 +112,7 @@ fn whole(value: i64) -> Answer
     Answer::Whole(i128::from(value))
 }
 
-#[tactic(auto, using(crate::proofs::AnswerLaws::IsBest-bound))]
+#[tactic(auto, using(crate::proofs::AnswerLaws::IsBest_bound))]
 fn greatest_of(values: &[i64]) -> Answer
     ensures { IsGreatest values.now result }
 {

@@ -177,7 +177,7 @@ fn are_each_listed(names: &[Text], dimensions: &[Text]) -> bool
 }
 
 /// The mask of the set that has the dimensions of these names: the sum of 2 to the power d over their places d.
-#[tactic(auto, using(crate::proofs::GroupingReadingLaws::mask_of_names-byte))]
+#[tactic(auto, using(crate::proofs::GroupingReadingLaws::mask_of_names_byte))]
 fn mask_of_names(dimensions: &[Text], names: &[Text]) -> u8
     requires { length dimensions.now ≤ 8 }
     ensures { result ≡ mask_of_names dimensions.now names.now }
