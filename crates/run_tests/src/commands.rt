@@ -1,5 +1,5 @@
 //! The commands over a feed, with one builder and with eight.
-use crate::{drilled, refused, sliced};
+use crate::{drilled, printed, refused, sliced};
 use cube_core::{QueryFault, Schema};
 use cube_tool::command::{Failure, Status};
 use std::alloc::Global;
@@ -21,6 +21,9 @@ const REFUSED: &str = "op,id,region,kind,amount\nD,1\nI,2,w,a,1\nI,2,w,a,3\nU,9,
 
 const CHOSEN: &[u8] =
     b"dimensions = [\"region\", \"kind\"]\nmeasures = [\"amount\"]\naggregates = [\"count(*)\", \"sum(amount)\", \"min(amount)\", \"max(amount)\", \"avg(amount)\"]\ngrouping = [[\"kind\"], [\"kind\", \"region\"]]\n";
+
+const ROLLUP: &[u8] =
+    b"dimensions = [\"region\", \"kind\"]\nmeasures = [\"amount\"]\naggregates = [\"count(*)\", \"sum(amount)\", \"min(amount)\", \"max(amount)\", \"avg(amount)\"]\ngrouping = \"rollup\"\n";
 
 // What was written is the header and these lines, and the status is Done; or the failure is this one.
 fn expect(
@@ -73,6 +76,58 @@ fn expect_drill<T: Abort + Threads + Wait + Sync>(
         wanted,
         word,
     );
+}
+
+fn expect_printed<T: Abort + Threads + Wait + Sync>(
+    rt: &T,
+    alloc: Global,
+    schema: &Schema,
+    feed: &'static str,
+    wanted: &str,
+) {
+    expect(rt, printed(rt, alloc, schema, feed, 1), Ok(wanted), feed);
+    expect(rt, printed(rt, alloc, schema, feed, 8), Ok(wanted), feed);
+}
+
+#[test]
+fn the_whole_cube_is_printed(rt: HostRuntime) -> Result<(), Fail> {
+    let alloc = rt.alloc();
+    let schema = Schema::sample(alloc)?;
+    let total = "\\N,\\N,1,1,0,\\N,\\N,\\N,\\N\n";
+    expect_printed(&rt, alloc, &schema, EMPTY, total);
+    let null = "\\N,a,0,0,1,5,5,5,5/1\n\\N,\\N,0,1,1,5,5,5,5/1\n\\N,a,1,0,1,5,5,5,5/1\n\\N,\\N,1,1,1,5,5,5,5/1\n";
+    expect_printed(&rt, alloc, &schema, NULL, null);
+    Ok(())
+}
+
+#[test]
+fn a_rollup_has_no_cell_of_the_kind_alone(rt: HostRuntime) -> Result<(), Fail> {
+    let alloc = rt.alloc();
+    let schema = Schema::from_toml(alloc, ROLLUP)?;
+    let west = "west,a,0,0,1,5,5,5,5/1\nwest,\\N,0,1,1,5,5,5,5/1\n\\N,\\N,1,1,1,5,5,5,5/1\n";
+    expect_printed(&rt, alloc, &schema, WEST, west);
+    Ok(())
+}
+
+// The line that isn't refused is printed, and the status tells of the others.
+fn expect_told(
+    rt: &impl Abort,
+    found: Result<(Status, Vec<u8>), Failure>,
+) -> Result<(), Fail> {
+    let (status, text) = found.ok().ok_or("the command failed")?;
+    let lines = "w,a,0,0,1,1,1,1,1/1\nw,\\N,0,1,1,1,1,1,1/1\n\\N,a,1,0,1,1,1,1,1/1\n\\N,\\N,1,1,1,1,1,1,1/1\n";
+    let rest = text.as_slice().strip_prefix(HEADER.as_bytes());
+    assert!(rt; rest == Some(lines.as_bytes()));
+    assert!(rt; status == Status::LinesRefused);
+    Ok(())
+}
+
+#[test]
+fn a_refused_line_is_told_by_the_status(rt: HostRuntime) -> Result<(), Fail> {
+    let alloc = rt.alloc();
+    let schema = Schema::sample(alloc)?;
+    expect_told(&rt, printed(&rt, alloc, &schema, REFUSED, 1))?;
+    expect_told(&rt, printed(&rt, alloc, &schema, REFUSED, 3))
 }
 
 #[test]

@@ -8,5 +8,5 @@ mod queries;
 mod tests;
 mod texts;
 
-pub use queries::{drilled, refused, sliced};
+pub use queries::{drilled, printed, refused, sliced};
 pub use texts::{readers_of, run_texts};

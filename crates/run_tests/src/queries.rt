@@ -5,7 +5,7 @@ use crate::texts::readers_of;
 use cube_core::Schema;
 use cube_engine::RunFault;
 use cube_tool::command::{
-    Failure, Status, drill, read_cell, read_dimension, read_pattern, refusals, slice,
+    Failure, Status, drill, print, read_cell, read_dimension, read_pattern, refusals, slice,
 };
 use std::alloc::Global;
 use std::sync::Wait;
@@ -19,6 +19,22 @@ fn reader_of(alloc: Global, feed: &'static str) -> Result<Vec<&'static [u8]>, Fa
         Ok(readers) => Ok(readers),
         Err(_) => Err(Failure::Run(RunFault::Memory)),
     }
+}
+
+/// The whole cube, and the status.
+pub fn printed<T: Threads + Wait + Sync>(
+    rt: &T,
+    alloc: Global,
+    schema: &Schema,
+    feed: &'static str,
+    builders: u32,
+) -> Result<(Status, Vec<u8>), Failure>
+    requires { (1 ≤ builders) × (builders ≤ 8) }
+{
+    let feeds = reader_of(alloc, feed)?;
+    let mut out = Vec::new(alloc);
+    let status = print(rt, alloc, schema, feeds, 1, builders, &mut out)?;
+    Ok((status, out))
 }
 
 /// The slice that a word asks for, and the status.
