@@ -1,5 +1,7 @@
 -- Lemmas for the keys that cover a fact: each grouping set has exactly one.
 use Rattle.std.proofs.Common.{suc, ◌≡◌, ◌+◌, ◌*◌, ◌^◌, ◌<◌, ◌≤◌, ◌%◌, ◌/◌, ◌==◌, ℕ, Bool, true, false, cond, not, List, [], ◌∷◌, length, Option, Some, None, refl, sym, ap, ◌∙◌, arith}
+use Rattle.std.specs.List.{list_all}
+use Rattle.std.proofs.Math.Bool.{not-not}
 use Rattle.std.proofs.lemmas.Slice.Eq.{bytes_eq-Decides}
 use Rattle.std.proofs.lemmas.Bool.Decides.{nat_tests}
 use Rattle.std.proofs.lemmas.Bool.{and_parts}
@@ -8,7 +10,6 @@ use Rattle.cube_core.specs.Covers.{stands_for, all_stand_for}
 use Rattle.cube_core.specs.GroupingSet.{is_all_coord, mask_of_coords}
 use Rattle.cube_core.specs.declared.key.Coord.{Coord}
 use Rattle.cube_core.specs.declared.key.Coord.TheVariants as coord
-use Rattle.std.proofs.Math.Bool.{not-not}
 
 -- what stands for a value: the value itself where its dimension is grouped by, else ALL
 abbrev pub coord_of : Option (List ℕ) → Bool → Coord

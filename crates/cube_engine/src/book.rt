@@ -7,6 +7,7 @@ use cube_core::{Change, Fact, Partial, Text};
 use std::alloc::Global;
 use std::collections::HashMap;
 use std::collections::hash_map::Values;
+use std::hash::{BuildHasherDefault, DefaultHasher};
 use std::marker::Model;
 use thiserror::Error;
 
@@ -32,10 +33,12 @@ pub enum BookFault {
 }
 
 /// The facts of one source, each under its id.
+///
+/// The ids are hashed by SipHash, since whoever writes a feed chooses them: ids that collide can't be made up readily.
 #[derive(Drop)]
 pub struct Book {
     alloc: Global,
-    facts: HashMap<Text, Fact>,
+    facts: HashMap<Text, Fact, BuildHasherDefault<DefaultHasher>>,
 }
 
 impl Model for Book {
@@ -55,7 +58,7 @@ impl Book {
     {
         Book {
             alloc,
-            facts: HashMap::new(alloc),
+            facts: HashMap::with_hasher(alloc, BuildHasherDefault::new()),
         }
     }
 

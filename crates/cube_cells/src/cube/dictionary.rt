@@ -12,12 +12,15 @@ use cube_core::{Coord, Text};
 use indexmap::IndexSet;
 use std::alloc::{AllocError, Global};
 use std::cmp::Ordering;
+use std::hash::{BuildHasherDefault, DefaultHasher};
 use std::marker::Model;
 
 /// The different texts of a dimension, in the order in which they came.
+///
+/// They are hashed by SipHash, since whoever writes a feed chooses them: texts that collide can't be made up readily.
 #[derive(Drop)]
 pub struct Dictionary {
-    texts: IndexSet<String>,
+    texts: IndexSet<String, BuildHasherDefault<DefaultHasher>>,
 }
 
 impl Model for Dictionary {
@@ -38,7 +41,7 @@ impl Dictionary {
         ensures { result ≡ [] }
     {
         Dictionary {
-            texts: IndexSet::new(alloc),
+            texts: IndexSet::with_hasher(alloc, BuildHasherDefault::new()),
         }
     }
 
