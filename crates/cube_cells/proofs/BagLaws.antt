@@ -53,6 +53,10 @@ held-le_at bag i e within is =
     let le : part (one_at e.0) e ≤ held_of bag e.0 = subst P (sym is) (get_or-le-sum_by (part (one_at e.0)) bag i e within) in
     omega (arith, ap (λ n. n * e.1) (one_at_itself e.0), le)
 
+-- the number of a pair that counts is held
+pub held_from_count : (bag : Bag) (i : ℕ) (d : ℤ × ℕ) → i < length bag → 0 < (get_or bag i d).1 → 0 < held_of bag (get_or bag i d).0
+held_from_count bag i d within some = omega (arith, some, held-le_at bag i (get_or bag i d) within (get_or_default bag i d (get_or bag i d) within))
+
 -- a number that stands in no pair is not held
 pub held_of_absent : (bag : Bag) (x : ℤ) → All (λ e. int_eq x e.0 ≡ false) bag → held_of bag x ≡ 0
 held_of_absent bag x none =
@@ -71,11 +75,14 @@ pub adds_once : (old new : Bag) (v : ℤ) → AddsTimes old new v 1 → AddsOne 
 adds_once old new v adds = record { held = λ x. omega (arith, adds.held x) }
 
 -- the pair at i is of v, and one of v is taken there
-pub takes_at : (bag : Bag) (i : ℕ) (e : ℤ × ℕ) (v : ℤ) → i < length bag → e ≡ get_or bag i e → e.0 ≡ v → 1 < e.1 → AddsOne (set bag i (e.0, e.1 - 1)) bag v
-takes_at bag i e v within is same more = record { held = λ x. taken _ _ _ (one_at x e.0) e.1 (weight_of-set (one_at x) bag i e (e.1 - 1) within is) (ap (one_at x) same) more } where
-  taken : (h k w o n : ℕ) → h + o * n ≡ k + o * (n - 1) → o ≡ w → 1 < n → k ≡ h + w
+pub takes_some : (bag : Bag) (i : ℕ) (e : ℤ × ℕ) (v : ℤ) → i < length bag → e ≡ get_or bag i e → e.0 ≡ v → 0 < e.1 → AddsOne (set bag i (e.0, e.1 - 1)) bag v
+takes_some bag i e v within is same more = record { held = λ x. taken _ _ _ (one_at x e.0) e.1 (weight_of-set (one_at x) bag i e (e.1 - 1) within is) (ap (one_at x) same) more } where
+  taken : (h k w o n : ℕ) → h + o * n ≡ k + o * (n - 1) → o ≡ w → 0 < n → k ≡ h + w
   taken h k w o zero a b l = absurd (omega arith)
   taken h k w o (suc n) a b l = let c : suc n - 1 ≡ n = omega arith in omega (arith, a, ap (λ m. o * m) c, b)
+
+pub takes_at : (bag : Bag) (i : ℕ) (e : ℤ × ℕ) (v : ℤ) → i < length bag → e ≡ get_or bag i e → e.0 ≡ v → 1 < e.1 → AddsOne (set bag i (e.0, e.1 - 1)) bag v
+takes_at bag i e v within is same more = takes_some bag i e v within is same (omega (arith, more))
 
 -- the pair at i, read as e and as r, holds one v alone, and is taken out
 pub takes_pair : (bag : Bag) (i : ℕ) (e r : ℤ × ℕ) (v : ℤ) → i < length bag → e ≡ get_or bag i e → r ≡ get_or bag i r → HoldsAt (λ p. p.0 ≡ v) bag i → r.1 ≤ 1 → All (λ p. 0 < p.1) bag → AddsOne (swap_remove bag i e) bag v
@@ -373,6 +380,10 @@ weight_of-bag f old new more adds = omega (arith, weight_of-merging f old more [
 
 pub size_of-bag : (old new more : Bag) → AddsBag old new more → size_of new ≡ size_of old + size_of more
 size_of-bag old new more adds = weight_of-bag (λ _. 1) old new more adds
+
+-- in either order
+pub adds_either : (a b new : Bag) → AddsBag a new b → AddsBag b new a
+adds_either a b new adds = record { held = λ x. omega (arith, adds.held x) }
 
 -- a bag of one pair
 pub adds_pair_alone : (old new : Bag) (e : ℤ × ℕ) → AddsTimes old new e.0 e.1 → AddsBag old new (e ∷ [])

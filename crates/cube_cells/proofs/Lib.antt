@@ -1,4 +1,5 @@
 pub mod BagLaws
+pub mod LogLaws
 pub mod SumLaws
 pub mod TallyLaws
 pub mod MergeLaws

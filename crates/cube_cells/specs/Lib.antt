@@ -1,4 +1,5 @@
 pub mod Bag
+pub mod Log
 pub mod Sum
 pub mod Tally
 pub mod Values

@@ -4,6 +4,7 @@ ghost use Rattle.std.specs.Bool.{OnTrue, OnFalse};
 ghost use Rattle.cube_cells.specs.Bag.{Bag, AddsBag, AddsOne, AddsTimes, held_of, size_of, HasLeast, HasGreatest};
 ghost use Rattle.cube_cells.specs.Values.{bag_of};
 
+use crate::log::Log;
 use crate::short::Short;
 use crate::single::Single;
 use crate::table::Table;
@@ -13,8 +14,10 @@ use std::marker::Model;
 
 /// A multiset of numbers: how often each is held.
 ///
-/// A number that is held alone, however often, takes no memory of its own; few numbers stand in a short list,
-/// and more in a hash table. `least` and `greatest` look at each of the different numbers.
+/// A number that is held alone, however often, takes no memory of its own, and few numbers stand in a short list. More
+/// are a log of what was added until the first removal, which sorts it; the next add makes a hash table of it. So a log
+/// answers its least and greatest number at once, and looks at each of its pairs for `holds`. Where the numbers of a log
+/// repeat, a table takes its place too. `least` and `greatest` of a table look at each of the different numbers.
 #[derive(Drop)]
 pub struct Counted {
     len: u64,
@@ -26,6 +29,7 @@ pub struct Counted {
 enum Values {
     One(Single),
     Few(Box<Short>),
+    Logged(Box<Log>),
     Many(Box<Table>),
 }
 
@@ -104,6 +108,7 @@ impl Counted {
         match &self.values {
             Values::One(single) => single.holds(value),
             Values::Few(short) => short.holds(value),
+            Values::Logged(log) => log.holds(value),
             Values::Many(table) => table.holds(value),
         }
     }
@@ -116,6 +121,7 @@ impl Counted {
         match &self.values {
             Values::One(single) => single.number(),
             Values::Few(short) => short.least(),
+            Values::Logged(log) => log.least(),
             Values::Many(table) => table.least(),
         }
     }
@@ -128,6 +134,7 @@ impl Counted {
         match &self.values {
             Values::One(single) => single.number(),
             Values::Few(short) => short.greatest(),
+            Values::Logged(log) => log.greatest(),
             Values::Many(table) => table.greatest(),
         }
     }
@@ -157,6 +164,7 @@ fn merge_values(alloc: Global, values: &mut Values, more: &Values) -> Result<(),
     match more {
         Values::One(single) => merge_pair(alloc, values, single.pair()),
         Values::Few(short) => merge_pairs(alloc, values, short.pairs()),
+        Values::Logged(log) => merge_log(alloc, values, log),
         Values::Many(table) => merge_counts(alloc, values, table.counts()),
     }
 }
@@ -174,14 +182,55 @@ fn merge_pair(alloc: Global, values: &mut Values, pair: (i64, u64)) -> Result<()
 
 // Adds the numbers of pairs.
 fn merge_pairs(alloc: Global, values: &mut Values, pairs: &[(i64, u64)]) -> Result<(), AllocError>
-    requires some { All (λ e. 0 < e.1) pairs.now }
-    requires fits { size_of (bag_of values.old) + size_of pairs.now < 2 ^ 64 }
+    requires { size_of (bag_of values.old) + size_of pairs.now < 2 ^ 64 }
     ensures { OnOk result (AddsBag (bag_of values.old) (bag_of values.new) pairs.now) }
 {
-    for (value, count) in pairs {
-        add_value(alloc, values, *value, *count)?;
+    for pair in pairs {
+        merge_pair(alloc, values, *pair)?;
     }
     Ok(())
+}
+
+// Adds the numbers of a log: behind those of a log at once, and to a copy of it where there are few.
+fn merge_log(alloc: Global, values: &mut Values, more: &Log) -> Result<(), AllocError>
+    requires { size_of (bag_of values.old) + size_of more.now < 2 ^ 64 }
+    ensures { OnOk result (AddsBag (bag_of values.old) (bag_of values.new) more.now) }
+{
+    let grown = match values {
+        Values::One(single) => single_and_log(alloc, single, more)?,
+        Values::Few(short) => short_and_log(alloc, short, more)?,
+        Values::Logged(log) => {
+            if log.append(more)? {
+                return Ok(());
+            }
+            return merge_pairs(alloc, values, more.pairs());
+        }
+        Values::Many(_) => return merge_pairs(alloc, values, more.pairs()),
+    };
+    *values = grown;
+    Ok(())
+}
+
+// A copy of a log, with the number that is held alone.
+fn single_and_log(alloc: Global, single: &Single, log: &Log) -> Result<Values, AllocError>
+    requires { size_of single.now + size_of log.now < 2 ^ 64 }
+    ensures { IfOk result (λ values. AddsBag single.now (bag_of values) log.now) }
+{
+    let copied = log.copy(alloc)?;
+    let mut values = Values::Logged(Box::new(alloc, copied)?);
+    merge_pair(alloc, &mut values, single.pair())?;
+    Ok(values)
+}
+
+// A copy of a log, with the numbers of a short list.
+fn short_and_log(alloc: Global, short: &Short, log: &Log) -> Result<Values, AllocError>
+    requires { size_of short.now + size_of log.now < 2 ^ 64 }
+    ensures { IfOk result (λ values. AddsBag short.now (bag_of values) log.now) }
+{
+    let copied = log.copy(alloc)?;
+    let mut values = Values::Logged(Box::new(alloc, copied)?);
+    merge_pairs(alloc, &mut values, short.pairs())?;
+    Ok(values)
 }
 
 // Adds the numbers of a table.
@@ -218,7 +267,13 @@ fn add_value(alloc: Global, values: &mut Values, value: i64, times: u64) -> Resu
             if short.add(value, times)? {
                 return Ok(());
             }
-            Values::Many(table_of(alloc, short, (value, times))?)
+            Values::Logged(log_of(alloc, short, (value, times))?)
+        }
+        Values::Logged(log) => {
+            if log.add(value, times)? {
+                return Ok(());
+            }
+            Values::Many(table_of(alloc, log, (value, times))?)
         }
         Values::Many(table) => return table.add(value, times),
     };
@@ -237,20 +292,31 @@ fn short_of(alloc: Global, single: &Single, more: (i64, u64)) -> Result<Box<Shor
     Ok(short)
 }
 
-// A table of the numbers of a list and another, so many times.
-#[tactic(auto, using(crate::proofs::BagLaws::size_of_same, crate::proofs::BagLaws::adds_to_same))]
-fn table_of(alloc: Global, short: &Short, more: (i64, u64)) -> Result<Box<Table>, AllocError>
-    requires some { 0 < more.1 }
-    requires fits { size_of short.now + more.1 < 2 ^ 64 }
-    ensures { IfOk result (λ table. AddsTimes short.now table.value more.0 more.1) }
+// A log of the numbers of a list and another, so many times.
+fn log_of(alloc: Global, short: &Short, more: (i64, u64)) -> Result<Box<Log>, AllocError>
+    requires { 0 < more.1 }
+    ensures { IfOk result (λ log. AddsTimes short.now log.value more.0 more.1) }
 {
-    let mut table = Table::of_pairs(alloc, short.pairs())?;
+    let log = Log::of_both(alloc, short.pairs(), more)?;
+    let log = Box::new(alloc, log)?;
+    Ok(log)
+}
+
+// A table of the numbers of a log and another, so many times.
+#[tactic(auto, using(crate::proofs::BagLaws::size_of_same, crate::proofs::BagLaws::adds_to_same))]
+fn table_of(alloc: Global, log: &Log, more: (i64, u64)) -> Result<Box<Table>, AllocError>
+    requires some { 0 < more.1 }
+    requires fits { size_of log.now + more.1 < 2 ^ 64 }
+    ensures { IfOk result (λ table. AddsTimes log.now table.value more.0 more.1) }
+{
+    let mut table = Table::of_pairs(alloc, log.pairs())?;
     table.add(more.0, more.1)?;
     let table = Box::new(alloc, table)?;
     Ok(table)
 }
 
 fn remove_value(values: &mut Values, value: i64) -> bool
+    requires { size_of (bag_of values.old) < 2 ^ 64 }
     ensures taken { OnTrue result (AddsOne (bag_of values.new) (bag_of values.old) value) }
     ensures absent { OnFalse result (held_of (bag_of values.old) value ≡ 0) }
     ensures unchanged { OnFalse result (bag_of values.new ≡ bag_of values.old) }
@@ -258,6 +324,7 @@ fn remove_value(values: &mut Values, value: i64) -> bool
     match values {
         Values::One(single) => single.remove(value),
         Values::Few(short) => short.remove(value),
+        Values::Logged(log) => log.remove(value),
         Values::Many(table) => table.remove(value),
     }
 }

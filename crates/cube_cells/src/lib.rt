@@ -9,6 +9,7 @@ mod cell;
 mod counted;
 mod cube;
 pub mod laws;
+mod log;
 mod measure;
 mod short;
 mod single;

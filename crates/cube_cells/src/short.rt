@@ -117,8 +117,8 @@ impl Short {
     }
 }
 
-// The place of the first pair of `value`.
-fn place_of(pairs: &[(i64, u64)], value: i64) -> Option<usize>
+/// The place of the first pair of `value`.
+pub fn place_of(pairs: &[(i64, u64)], value: i64) -> Option<usize>
     ensures absent { IfNone result (All (λ e. int_eq value e.0 ≡ false) pairs.now) }
     ensures within { IfSome result (λ place. place < length pairs.now) }
     ensures found { IfSome result (HoldsAt (λ e. e.0 ≡ value) pairs.now) }
@@ -126,7 +126,8 @@ fn place_of(pairs: &[(i64, u64)], value: i64) -> Option<usize>
     pairs.iter().position(|pair| value == pair.0)
 }
 
-fn least_number(pairs: &[(i64, u64)]) -> Option<i64>
+/// The least number of pairs.
+pub fn least_number(pairs: &[(i64, u64)]) -> Option<i64>
     ensures none { IsNone result ↔ (pairs.now ≡ []) }
     ensures held { IfSome result (Contains (map (λ e. e.0) pairs.now)) }
     ensures least { IfSome result (λ m. All (λ e. m ≤ℤ e.0) pairs.now) }
@@ -134,7 +135,8 @@ fn least_number(pairs: &[(i64, u64)]) -> Option<i64>
     pairs.iter().map(|pair| pair.0).min()
 }
 
-fn greatest_number(pairs: &[(i64, u64)]) -> Option<i64>
+/// The greatest number of pairs.
+pub fn greatest_number(pairs: &[(i64, u64)]) -> Option<i64>
     ensures none { IsNone result ↔ (pairs.now ≡ []) }
     ensures held { IfSome result (Contains (map (λ e. e.0) pairs.now)) }
     ensures greatest { IfSome result (λ m. All (λ e. e.0 ≤ℤ m) pairs.now) }

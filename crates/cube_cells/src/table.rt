@@ -37,15 +37,25 @@ impl Table {
 
     /// A table of the numbers of pairs, each held as often as its pairs say.
     pub fn of_pairs(alloc: Global, pairs: &[(i64, u64)]) -> Result<Table, AllocError>
-        requires some { All (λ e. 0 < e.1) pairs.now }
-        requires fits { size_of pairs.now < 2 ^ 64 }
+        requires { size_of pairs.now < 2 ^ 64 }
         ensures { IfOk result (SameHeld pairs.now) }
     {
         let mut table = Table::new(alloc);
-        for (value, count) in pairs {
-            table.add(*value, *count)?;
+        for pair in pairs {
+            table.add_pair(*pair)?;
         }
         Ok(table)
+    }
+
+    // Adds a number as often as its pair says; a pair of no count changes nothing.
+    fn add_pair(&mut self, pair: (i64, u64)) -> Result<(), AllocError>
+        requires { size_of self.old + pair.1 < 2 ^ 64 }
+        ensures { OnOk result (AddsTimes self.old self.new pair.0 pair.1) }
+    {
+        if pair.1 == 0 {
+            return Ok(());
+        }
+        self.add(pair.0, pair.1)
     }
 
     /// The numbers, each with how often it is held.
