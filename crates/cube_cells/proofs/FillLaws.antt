@@ -1,20 +1,23 @@
 -- Laws of cells into which others are merged: what one merge says of each look-up and of each weight, and how sets are filled one after another.
-use Rattle.std.proofs.Common.{◌≡◌, ℕ, ◌+◌, ◌*◌, ◌<◌, ◌≤◌, List, [], ◌∷◌, Bool, true, false, cond, refl, sym, ap, ◌∙◌, subst, arith, inl, inr, length, get_or, drop, Option, Some, None}
-use Rattle.std.specs.Prelude.{All, IfSome, IsSome}
+use Rattle.std.proofs.Common.{◌≡◌, ℕ, ◌+◌, ◌*◌, ◌==◌, List, [], ◌∷◌, ◌++◌, Bool, true, false, cond, refl, sym, ap, ◌∙◌, subst, arith, inl, inr, length, Option, Some, None}
+use Rattle.std.specs.Prelude.{All, Contains, IfSome, IsSome, reverse}
+use Rattle.std.specs.List.{IsDistinct}
 use Rattle.std.specs.List.Sorted.{IsPermutation}
 use Rattle.std.specs.Map.{set_value}
 use Rattle.std.proofs.lemmas.Bool.{cases_Bool, cond-true, cond-false}
-use Rattle.std.proofs.lemmas.List.{length-replicate, at_drop_more, at_drop_all}
-use Rattle.std.proofs.lemmas.List.Elements.{All-head, All-tail}
-use Rattle.std.proofs.lemmas.List.Sorted.{sum_by-IsPermutation}
+use Rattle.std.proofs.lemmas.List.{length-replicate}
+use Rattle.std.proofs.lemmas.List.Elements.{All-head, All-tail, All-nil, All-cons, All-contains, All-push}
+use Rattle.std.proofs.lemmas.List.Sorted.{All-permutation, IsPermutation-reverse, sum_by-IsPermutation}
 use Rattle.std.proofs.lemmas.List.Sums.{sum_by-cons}
 use Rattle.cube_cells.specs.Bag.{Bag, held_of}
 use Rattle.cube_cells.specs.Coded.{CodedCells, AreNewCells, same_codes, coded_at, total_codes}
 use Rattle.cube_cells.specs.Cube.{empty_tally, tally_or_empty}
-use Rattle.cube_cells.specs.Fill.{HaveOneWidth, MergesIn, FillsSet, FillsSets}
+use Rattle.cube_cells.specs.Fill.{AreMadeFrom, FillsSet, HaveOneWidth, IsFiner, MakesLevels, MergesIn}
 use Rattle.cube_cells.specs.Tally.{Tally, PlusTally, SameTally}
 use Rattle.cube_cells.specs.Walk.{AreApart, key_in, weight_of_cells}
 use Rattle.cube_cells.specs.declared.cube.codes.Codes.{Codes}
+use Rattle.cube_cells.specs.declared.cube.fill.Level.{Level}
+use Rattle.cube_cells.proofs.KeptLaws.{each_found}
 use Rattle.cube_cells.proofs.WalkLaws.{codes_is, codes_equiv, coded_at-set, weight-set, weigh, no_bag}
 
 -- ---- one merge
@@ -96,20 +99,23 @@ filling_more set all left old now new cell filling merges apart = record {
   fills = λ end rest. filling.fills end (new, merges, apart, rest);
 }
 
-pub filling_end : (set : ℕ) (all left old now : CodedCells) → left ≡ [] → IsFillingSet set all left old now → FillsSet set all old now × HaveOneWidth all now
-filling_end set all left old now none filling = (
-  filling.fills now (let P : CodedCells → Type 0 = λ cells. FillsSet set cells now now in subst P (sym none) refl),
-  record { measures = filling.measures; each = filling.of_all; found = filling.found },
-)
+pub filling_end : (set : ℕ) (all left old now : CodedCells) → left ≡ [] → IsFillingSet set all left old now → FillsSet set all old now
+filling_end set all left old now none filling = filling.fills now (let P : CodedCells → Type 0 = λ cells. FillsSet set cells now now in subst P (sym none) refl)
 
--- ---- all sets
--- while one set is filled after another: these are left
-pub record IsFillingSets (sets left : List ℕ) (others old now : CodedCells) : Type 0 where
-  pub width : HaveOneWidth others now
-  pub fills : (end : CodedCells) → FillsSets left others now end → FillsSets sets others old end
+-- what is filled is as wide
+width_filled : (set measures : ℕ) (cells old new : CodedCells) → All (λ cell. length cell.1.bags ≡ measures) cells → FillsSet set cells old new → AreApart old → ((codes : Codes) → IfSome (coded_at old codes) (λ t. length t.bags ≡ measures)) → AreApart new × ((codes : Codes) → IfSome (coded_at new codes) (λ t. length t.bags ≡ measures))
+width_filled set measures [] old new each fills apart found = (subst AreApart (sym fills) apart, λ codes. rw fills (found codes))
+width_filled set measures (cell ∷ cells) old new each fills apart found =
+    let P : Codes × Tally → Type 0 = λ c. length c.1.bags ≡ measures in
+    width_filled set measures cells fills.0 new (All-tail P cell cells each) fills.3 (fills.2 apart) (width_merged measures (key_in cell.0 set) old fills.0 cell.1 (All-head P cell cells each) found fills.1)
 
--- the cells of no fact are as wide as there are measures
-new_found : (has_total : Bool) (measures : ℕ) (cells : CodedCells) → AreNewCells has_total measures cells → (codes : Codes) → IfSome (coded_at cells codes) (λ t. length t.bags ≡ measures)
+-- the cells of no fact differ and are as wide as there are measures
+new_apart : (has_total : Bool) (measures : ℕ) (cells : CodedCells) → AreNewCells has_total measures cells → AreApart cells
+unfolding IsDistinct
+new_apart true measures cells new = subst AreApart (sym (new.total refl).1) (tt, tt)
+new_apart false measures cells new = subst AreApart (sym (new.none refl)) tt
+
+pub new_found : (has_total : Bool) (measures : ℕ) (cells : CodedCells) → AreNewCells has_total measures cells → (codes : Codes) → IfSome (coded_at cells codes) (λ t. length t.bags ≡ measures)
 new_found true measures cells new codes = let one = new.total refl in rw one.1 (one_found one.0 one.3) where
   one_found : (t : Tally) → length t.bags ≡ measures → IfSome (coded_at ((total_codes, t) ∷ []) codes) (λ s. length s.bags ≡ measures)
   one_found t width = elim (cases_Bool (same_codes codes total_codes)) [
@@ -118,20 +124,43 @@ new_found true measures cells new codes = let one = new.total refl in rw one.1 (
   ]
 new_found false measures cells new codes = rw (new.none refl) tt
 
-pub filling_sets_none : (sets left : List ℕ) (has_total : Bool) (measures : ℕ) (others start : CodedCells) → left ≡ sets → All (λ cell. length cell.1.bags ≡ measures) others → AreNewCells has_total measures start → IsFillingSets sets left others start start
-filling_sets_none sets left has_total measures others start same each new = record {
-  width = record { measures = measures; each = each; found = new_found has_total measures start new };
-  fills = λ end. rw same (λ fills. fills);
+-- the cells of a set are as wide as those that they are made from
+pub made_width : (measures set : ℕ) (finer cells : CodedCells) → All (λ cell. length cell.1.bags ≡ measures) finer → AreMadeFrom finer set measures cells → All (λ cell. length cell.1.bags ≡ measures) cells
+made_width measures set finer cells each made =
+    let filled = width_filled set measures finer made.start cells each made.fills (new_apart (set == 0) measures made.start made.new) (new_found (set == 0) measures made.start made.new) in
+    each_found (λ cell. length cell.1.bags ≡ measures) cells filled.0 (λ codes t found. at codes t found (filled.1 codes)) where
+      at : (codes : Codes) (t : Tally) → coded_at cells codes ≡ Some t → IfSome (coded_at cells codes) (λ s. length s.bags ≡ measures) → length t.bags ≡ measures
+      at codes t found width = rw found at width
+
+-- ---- one level after another
+-- while levels are made: these sets are left
+pub record IsMakingLevels (measures : ℕ) (finest : Level) (sets left : List ℕ) (now : List Level) : Type 0 where
+  pub finer : All (IsFiner finest.set) left
+  pub first : All (λ cell. length cell.1.bags ≡ measures) finest.cells.entries
+  pub widths : All (λ level. All (λ cell. length cell.1.bags ≡ measures) level.cells.entries) now
+  pub makes : (end : List Level) → MakesLevels measures finest left now end → MakesLevels measures finest (reverse sets) [] end
+
+pub making_none : (measures : ℕ) (finest : Level) (sets left : List ℕ) → left ≡ reverse sets → All (λ cell. length cell.1.bags ≡ measures) finest.cells.entries → All (IsFiner finest.set) sets → IsMakingLevels measures finest sets left []
+making_none measures finest sets left all each finer = record {
+  finer = rw all (All-permutation (IsFiner finest.set) sets (reverse sets) (IsPermutation-reverse sets) finer);
+  first = each;
+  widths = All-nil (λ (level : Level). All (λ cell. length cell.1.bags ≡ measures) level.cells.entries);
+  makes = λ end. rw all (λ makes. makes);
 }
 
-pub filling_sets_more : (sets : List ℕ) (i : ℕ) (d : ℕ) (others old now new : CodedCells) → i < length sets → IsFillingSets sets (drop i sets) others old now → FillsSet (get_or sets i d) others now new → HaveOneWidth others new → IsFillingSets sets (drop (i + 1) sets) others old new
-filling_sets_more sets i d others old now new inside filling fills width =
-    let next : drop i sets ≡ get_or sets i d ∷ drop (i + 1) sets = at_drop_more (λ (xs : List ℕ). xs) sets i d inside in
-    record {
-      width = width;
-      fills = λ end rest. filling.fills end (let P : List ℕ → Type 0 = λ left. FillsSets left others now end in subst P (sym next) (new, fills, rest));
-    }
+-- the level that the next one is made from is as wide
+pub making_width : (measures : ℕ) (finest : Level) (sets left : List ℕ) (now : List Level) (level : Level) → IsMakingLevels measures finest sets left now → Contains (finest ∷ now) level → All (λ cell. length cell.1.bags ≡ measures) level.cells.entries
+making_width measures finest sets left now level making made =
+    let P : Level → Type 0 = λ level. All (λ cell. length cell.1.bags ≡ measures) level.cells.entries in
+    All-contains P (finest ∷ now) level (All-cons P finest now making.first making.widths) made
 
-pub filling_sets_end : (sets : List ℕ) (i : ℕ) (others old now : CodedCells) → length sets ≤ i → IsFillingSets sets (drop i sets) others old now → FillsSets sets others old now
-filling_sets_end sets i others old now past filling =
-    filling.fills now (let P : List ℕ → Type 0 = λ left. FillsSets left others now now in subst P (sym (at_drop_all (λ (xs : List ℕ). xs) sets i past)) refl)
+pub making_more : (measures : ℕ) (finest : Level) (sets left : List ℕ) (now : List Level) (set : ℕ) (finer level : Level) → IsMakingLevels measures finest sets (set ∷ left) now → Contains (finest ∷ now) finer → IsFiner finer.set set → level.set ≡ set → AreMadeFrom finer.cells.entries set measures level.cells.entries → All (λ cell. length cell.1.bags ≡ measures) level.cells.entries → IsMakingLevels measures finest sets left (now ++ level ∷ [])
+making_more measures finest sets left now set finer level making made is_finer of_set from width = record {
+  finer = All-tail (IsFiner finest.set) set left making.finer;
+  first = making.first;
+  widths = All-push (λ (level : Level). All (λ cell. length cell.1.bags ≡ measures) level.cells.entries) now level making.widths width;
+  makes = λ end rest. making.makes end (finer, level, made, is_finer, of_set, from, rest);
+}
+
+pub making_end : (measures : ℕ) (finest : Level) (sets left : List ℕ) (now : List Level) → left ≡ [] → IsMakingLevels measures finest sets left now → MakesLevels measures finest (reverse sets) [] now
+making_end measures finest sets left now none making = making.makes now (let P : List ℕ → Type 0 = λ sets. MakesLevels measures finest sets now now in subst P (sym none) refl)

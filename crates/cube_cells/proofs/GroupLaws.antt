@@ -1,4 +1,4 @@
--- Laws of groups: the facts that the key of a cell of the finest set covers, and how these groups part the facts.
+-- Laws of groups: the facts that the key of a cell of a grouping set covers, and how these groups part the facts.
 use Rattle.std.proofs.Common.{◌≡◌, ℕ, ◌+◌, ◌^◌, ◌<◌, List, [], ◌∷◌, ◌++◌, Bool, true, false, not, ◌||◌, refl, sym, ap, ◌∙◌, subst, arith, inl, inr, length, map, filter, get_or, append_assoc, Option, Some, None}
 use Rattle.std.specs.Prelude.{All}
 use Rattle.std.specs.List.{IsDistinct, list_any}
@@ -10,7 +10,6 @@ use Rattle.std.proofs.lemmas.List.Elements.{All-head, All-tail, All-cons, All-ni
 use Rattle.std.proofs.lemmas.List.Sorted.{IsPermutation-refl, IsPermutation-trans, IsPermutation-append_left, IsPermutation-append_comm, IsPermutation-filter_both}
 use Rattle.std.proofs.lemmas.List.Sums.{sum_by-append}
 use Rattle.std.proofs.lemmas.Slice.Eq.{bytes_eq-Decides}
-use Rattle.std.proofs.Math.Nat.{pow-succ'}
 use Rattle.std.specs.Str.{bytes_eq}
 use Rattle.cube_core.specs.Covers.{covers, all_stand_for}
 use Rattle.cube_core.specs.Group.{group_of, value_of}
@@ -20,14 +19,13 @@ use Rattle.cube_core.specs.declared.key.Coord.{Coord}
 use Rattle.cube_core.specs.declared.key.Coord.TheVariants as coord
 use Rattle.cube_core.specs.declared.key.Key.{Key}
 use Rattle.cube_core.proofs.ListLaws.{filter-passed, filter-failed}
-use Rattle.cube_core.proofs.AncestorLaws.{all_stand_for-length}
 use Rattle.cube_cells.specs.Codes.{Dictionaries, IsDictionary, IsCodeOf, AreCodesOf, is_code, are_codes, coord_at, coords_at, key_at, null_code, coord_of_value}
 use Rattle.cube_cells.specs.Coded.{CodedCells, same_codes}
 use Rattle.cube_cells.specs.Tally.{Tally, IsTallyOf, PlusTally, one_of}
 use Rattle.cube_cells.specs.declared.cube.codes.Codes.{Codes}
 use Rattle.cube_cells.proofs.DictionaryLaws.{code_cases, coord_at-place, code_of_all, code_of_null, code_of_place}
 use Rattle.cube_cells.proofs.FactLaws.{values_counted}
-use Rattle.cube_cells.proofs.KeyLaws.{codes_alone, coords_width}
+use Rattle.cube_cells.proofs.KeyLaws.{codes_alone, covering_key, covering_is}
 use Rattle.cube_cells.proofs.WalkLaws.{codes_equiv}
 
 -- ---- the facts of two groups
@@ -71,59 +69,26 @@ codes_are (texts ∷ dictionaries) (x ∷ codes) all valid =
     let parts = and_parts (is_code texts x) (are_codes dictionaries codes) valid in
     (code_is texts x (All-head IsDictionary texts dictionaries all) parts.0, codes_are dictionaries codes (All-tail IsDictionary texts dictionaries all) parts.1)
 
--- ---- keys of the finest set
--- one that covers a fact has its values in each dimension
-pub full_coords : (coords : List Coord) (values : List (Option (List ℕ))) → all_stand_for coords values ≡ true → mask_of_coords coords + 1 ≡ 2 ^ length values → coords ≡ map coord_of_value values
-full_coords [] [] stands full = refl
-full_coords [] (v ∷ values) stands full = cc stands
-full_coords (c ∷ coords) [] stands full = cc stands
-full_coords (coord.All ∷ coords) (v ∷ values) stands full = absurd (omega (arith, full, pow-succ' 2 (length values)))
-full_coords (coord.Null ∷ coords) (None ∷ values) stands full =
-    ap (λ (rest : List Coord). coord.Null ∷ rest) (full_coords coords values stands (omega (arith, full, pow-succ' 2 (length values))))
-full_coords (coord.Null ∷ coords) (Some text ∷ values) stands full = cc stands
-full_coords (coord.Text name ∷ coords) (None ∷ values) stands full = cc stands
-full_coords (coord.Text name ∷ coords) (Some text ∷ values) stands full =
-    let parts = and_parts (bytes_eq name text) (all_stand_for coords values) stands in
-    let first : name ≡ text = (bytes_eq-Decides name text).0 parts.0 in
-    let rest : coords ≡ map coord_of_value values = full_coords coords values parts.1 (omega (arith, full, pow-succ' 2 (length values))) in
-    λ i. coord.Text (first i) ∷ rest i
-
--- values with the same coordinates are the same
-pub same_values : (u v : List (Option (List ℕ))) → map coord_of_value u ≡ map coord_of_value v → u ≡ v
-same_values [] [] same = refl
-same_values [] (y ∷ v) same = cc same
-same_values (x ∷ u) [] same = cc same
-same_values (None ∷ u) (None ∷ v) same = let rest : map coord_of_value u ≡ map coord_of_value v = cc same in ap (λ (w : List (Option (List ℕ))). None ∷ w) (same_values u v rest)
-same_values (None ∷ u) (Some s ∷ v) same = cc same
-same_values (Some t ∷ u) (None ∷ v) same = cc same
-same_values (Some t ∷ u) (Some s ∷ v) same =
-    let first : t ≡ s = cc same in
-    let tail : map coord_of_value u ≡ map coord_of_value v = cc same in
-    let rest : u ≡ v = same_values u v tail in
-    λ i. Some (first i) ∷ rest i
-
--- ---- cells of the finest set
+-- ---- cells of a grouping set
 -- the key of a cell
 abbrev pub cell_key : Dictionaries → Codes × Tally → Key
 cell_key dictionaries cell = key_at dictionaries cell.0.codes
 
--- the codes of a cell are of the dimensions, and none is ALL
-pub record IsFull (dictionaries : Dictionaries) (cell : Codes × Tally) : Type 0 where
+-- the codes of a cell are of the dimensions, and its key is of a grouping set
+pub record IsOfSet (dictionaries : Dictionaries) (set : ℕ) (cell : Codes × Tally) : Type 0 where
   pub valid : are_codes dictionaries cell.0.codes ≡ true
   pub eight : length cell.0.codes ≡ 8
-  pub full : mask_of (cell_key dictionaries cell) + 1 ≡ 2 ^ length dictionaries
+  pub in_set : mask_of (cell_key dictionaries cell) ≡ set
 
--- the key of one that covers a fact has the fact's values
-pub full_key : (dictionaries : Dictionaries) (cell : Codes × Tally) (fact : Fact) → IsFull dictionaries cell → covers (cell_key dictionaries cell) fact ≡ true → coords_at dictionaries cell.0.codes ≡ map coord_of_value fact.dims
-full_key dictionaries cell fact is stands =
-    let width : length dictionaries ≡ length fact.dims = sym (coords_width dictionaries cell.0.codes) ∙ all_stand_for-length (coords_at dictionaries cell.0.codes) fact.dims stands in
-    full_coords (coords_at dictionaries cell.0.codes) fact.dims stands (is.full ∙ ap (λ (n : ℕ). 2 ^ n) width)
+-- the key of one that covers a fact is that of the fact in the set
+pub set_key : (dictionaries : Dictionaries) (set : ℕ) (cell : Codes × Tally) (fact : Fact) → IsOfSet dictionaries set cell → covers (cell_key dictionaries cell) fact ≡ true → cell_key dictionaries cell ≡ covering_key fact set
+set_key dictionaries set cell fact is stands = covering_is fact (cell_key dictionaries cell) stands ∙ ap (covering_key fact) is.in_set
 
 -- no fact is covered by the keys of two
-full_apart : (dictionaries : Dictionaries) (a b : Codes × Tally) (fact : Fact) → All IsDictionary dictionaries → IsFull dictionaries a → IsFull dictionaries b → same_codes a.0 b.0 ≡ false → covers (cell_key dictionaries a) fact ≡ true → covers (cell_key dictionaries b) fact ≡ false
-full_apart dictionaries a b fact texts is_a is_b apart stands =
+set_apart : (dictionaries : Dictionaries) (set : ℕ) (a b : Codes × Tally) (fact : Fact) → All IsDictionary dictionaries → IsOfSet dictionaries set a → IsOfSet dictionaries set b → same_codes a.0 b.0 ≡ false → covers (cell_key dictionaries a) fact ≡ true → covers (cell_key dictionaries b) fact ≡ false
+set_apart dictionaries set a b fact texts is_a is_b apart stands =
     false_from_ne_true (covers (cell_key dictionaries b) fact) (λ also.
-    let coords : coords_at dictionaries b.0.codes ≡ coords_at dictionaries a.0.codes = full_key dictionaries b fact is_b also ∙ sym (full_key dictionaries a fact is_a stands) in
+    let coords : coords_at dictionaries b.0.codes ≡ coords_at dictionaries a.0.codes = ap (λ (k : Key). k.coords) (set_key dictionaries set b fact is_b also ∙ sym (set_key dictionaries set a fact is_a stands)) in
     let lists : b.0.codes ≡ a.0.codes =
     codes_alone dictionaries (coords_at dictionaries a.0.codes) a.0.codes b.0.codes (codes_are dictionaries a.0.codes texts is_a.valid) is_b.valid (omega (arith, is_a.eight, is_b.eight)) coords in
     let make : List ℕ → Codes = λ xs. record { codes = xs } in
@@ -170,11 +135,11 @@ abbrev HasGroupsOf : Dictionaries → List Fact → List Fact → Codes × Tally
 HasGroupsOf dictionaries facts left cell = group_of (cell_key dictionaries cell) facts ≡ group_of (cell_key dictionaries cell) left
 
 -- the groups of cells whose keys cover each fact that is left have these facts
-parted : (dictionaries : Dictionaries) (facts : List Fact) (cells : CodedCells) (left done : List Fact) → All IsDictionary dictionaries → All (IsFull dictionaries) cells → IsDistinct same_codes (keys_of cells) → All (HasGroupsOf dictionaries facts left) cells → All (λ fact. one_covers dictionaries cells fact ≡ true) left → IsPermutation (left ++ done) (gathered dictionaries facts cells done)
+parted : (dictionaries : Dictionaries) (set : ℕ) (facts : List Fact) (cells : CodedCells) (left done : List Fact) → All IsDictionary dictionaries → All (IsOfSet dictionaries set) cells → IsDistinct same_codes (keys_of cells) → All (HasGroupsOf dictionaries facts left) cells → All (λ fact. one_covers dictionaries cells fact ≡ true) left → IsPermutation (left ++ done) (gathered dictionaries facts cells done)
 unfolding IsDistinct
-parted dictionaries facts [] [] done texts full distinct groups each = IsPermutation-refl done
-parted dictionaries facts [] (fact ∷ left) done texts full distinct groups each = cc (All-head (λ (f : Fact). one_covers dictionaries [] f ≡ true) fact left each)
-parted dictionaries facts (cell ∷ cells) left done texts full distinct groups each =
+parted dictionaries set facts [] [] done texts of_set distinct groups each = IsPermutation-refl done
+parted dictionaries set facts [] (fact ∷ left) done texts of_set distinct groups each = cc (All-head (λ (f : Fact). one_covers dictionaries [] f ≡ true) fact left each)
+parted dictionaries set facts (cell ∷ cells) left done texts of_set distinct groups each =
     let key = cell_key dictionaries cell in
     let mine : group_of key facts ≡ filter (covers key) left = All-head (HasGroupsOf dictionaries facts left) cell cells groups in
     let rest : List Fact = filter (λ fact. not (covers key fact)) left in
@@ -185,26 +150,26 @@ parted dictionaries facts (cell ∷ cells) left done texts full distinct groups 
     let same : (rest ++ filter (covers key) left) ++ done ≡ rest ++ (group_of key facts ++ done) =
     append_assoc rest (filter (covers key) left) done ∙ ap (λ (g : List Fact). rest ++ (g ++ done)) (sym mine) in
     let others : IsPermutation (rest ++ (group_of key facts ++ done)) (gathered dictionaries facts cells (group_of key facts ++ done)) =
-    parted dictionaries facts cells rest (group_of key facts ++ done) texts (All-tail (IsFull dictionaries) cell cells full) distinct.1
-    (groups_left cells (All-tail (IsFull dictionaries) cell cells full) (All-from_recursion (λ y. same_codes cell.0 y ≡ false) (keys_of cells) distinct.0) (All-tail (HasGroupsOf dictionaries facts left) cell cells groups))
+    parted dictionaries set facts cells rest (group_of key facts ++ done) texts (All-tail (IsOfSet dictionaries set) cell cells of_set) distinct.1
+    (groups_left cells (All-tail (IsOfSet dictionaries set) cell cells of_set) (All-from_recursion (λ y. same_codes cell.0 y ≡ false) (keys_of cells) distinct.0) (All-tail (HasGroupsOf dictionaries facts left) cell cells groups))
     (left_passes (covers key) (one_covers dictionaries cells) left each) in
     IsPermutation-trans _ _ _ first (IsPermutation-trans _ _ _ turned (subst (λ (l : List Fact). IsPermutation l (gathered dictionaries facts cells (group_of key facts ++ done))) (sym same) others))
   where
-    groups_left : (others : CodedCells) → All (IsFull dictionaries) others → All (λ y. same_codes cell.0 y ≡ false) (keys_of others) → All (HasGroupsOf dictionaries facts left) others → All (HasGroupsOf dictionaries facts (filter (λ fact. not (covers (cell_key dictionaries cell) fact)) left)) others
-    groups_left [] full_others apart same = All-nil (HasGroupsOf dictionaries facts (filter (λ fact. not (covers (cell_key dictionaries cell) fact)) left))
-    groups_left (other ∷ others) full_others apart same =
+    groups_left : (others : CodedCells) → All (IsOfSet dictionaries set) others → All (λ y. same_codes cell.0 y ≡ false) (keys_of others) → All (HasGroupsOf dictionaries facts left) others → All (HasGroupsOf dictionaries facts (filter (λ fact. not (covers (cell_key dictionaries cell) fact)) left)) others
+    groups_left [] of_others apart same = All-nil (HasGroupsOf dictionaries facts (filter (λ fact. not (covers (cell_key dictionaries cell) fact)) left))
+    groups_left (other ∷ others) of_others apart same =
         All-cons (HasGroupsOf dictionaries facts (filter (λ fact. not (covers (cell_key dictionaries cell) fact)) left)) other others
         (All-head (HasGroupsOf dictionaries facts left) other others same
         ∙ sym (filter_within (covers (cell_key dictionaries other)) (λ fact. not (covers (cell_key dictionaries cell) fact)) left (λ fact stands.
         let out : covers (cell_key dictionaries cell) fact ≡ false = false_from_ne_true (covers (cell_key dictionaries cell) fact) (λ also.
         both_ways (covers (cell_key dictionaries other) fact)
-        (full_apart dictionaries cell other fact texts (All-head (IsFull dictionaries) cell cells full) (All-head (IsFull dictionaries) other others full_others) (All-head (λ y. same_codes cell.0 y ≡ false) other.0 (keys_of others) apart) also)
+        (set_apart dictionaries set cell other fact texts (All-head (IsOfSet dictionaries set) cell cells of_set) (All-head (IsOfSet dictionaries set) other others of_others) (All-head (λ y. same_codes cell.0 y ≡ false) other.0 (keys_of others) apart) also)
         stands) in
         ap not out)))
-        (groups_left others (All-tail (IsFull dictionaries) other others full_others) (All-tail (λ y. same_codes cell.0 y ≡ false) other.0 (keys_of others) apart) (All-tail (HasGroupsOf dictionaries facts left) other others same))
+        (groups_left others (All-tail (IsOfSet dictionaries set) other others of_others) (All-tail (λ y. same_codes cell.0 y ≡ false) other.0 (keys_of others) apart) (All-tail (HasGroupsOf dictionaries facts left) other others same))
 
 -- the groups of cells whose keys cover each fact have all facts
-pub gathered_all : (dictionaries : Dictionaries) (facts : List Fact) (cells : CodedCells) → All IsDictionary dictionaries → All (IsFull dictionaries) cells → IsDistinct same_codes (keys_of cells) → All (λ fact. one_covers dictionaries cells fact ≡ true) facts → IsPermutation facts (gathered dictionaries facts cells [])
-gathered_all dictionaries facts cells texts full distinct each =
+pub gathered_all : (dictionaries : Dictionaries) (set : ℕ) (facts : List Fact) (cells : CodedCells) → All IsDictionary dictionaries → All (IsOfSet dictionaries set) cells → IsDistinct same_codes (keys_of cells) → All (λ fact. one_covers dictionaries cells fact ≡ true) facts → IsPermutation facts (gathered dictionaries facts cells [])
+gathered_all dictionaries set facts cells texts of_set distinct each =
     subst (λ (l : List Fact). IsPermutation l (gathered dictionaries facts cells [])) (append-nil facts)
-    (parted dictionaries facts cells facts [] texts full distinct (λ k d inside. refl) each)
+    (parted dictionaries set facts cells facts [] texts of_set distinct (λ k d inside. refl) each)

@@ -22,4 +22,7 @@ pub mod StepLaws
 pub mod NewLaws
 pub mod FillLaws
 pub mod GroupLaws
+pub mod JoinLaws
+pub mod FinerLaws
 pub mod FilledLaws
+pub mod LevelLaws

@@ -1,6 +1,6 @@
--- Filling a cube at once: the cells of the finest grouping set are merged into those of each kept set (Gray et al. 1997 make coarser cells from finer ones; the order is this project's choice).
-use Rattle.std.specs.Prelude.{◌≡◌, ◌+◌, ◌-◌, ◌*◌, ◌^◌, ℕ, true, false, List, [], ◌∷◌, length, Option, Some, IfSome, All}
-use Rattle.cube_core.specs.GroupingSet.{is_among}
+-- Filling a cube at once: the cells of each grouping set are made from those of a finer one (Gray et al. 1997; which finer one is this project's choice).
+use Rattle.std.specs.Prelude.{◌≡◌, ◌+◌, ◌-◌, ◌*◌, ◌<◌, ◌==◌, ◌^◌, ◌++◌, ℕ, Bool, true, false, bit_and, List, [], ◌∷◌, length, reverse, Option, Some, IfSome, All, Contains, if◌then◌else◌}
+use Rattle.std.specs.List.Sorted.{IsPermutation}
 use Rattle.cube_core.specs.Takes.{fits}
 use Rattle.cube_core.specs.declared.fact.Fact.{Fact}
 use Rattle.cube_cells.specs.Coded.{CodedCells, AreNewCells, same_codes, coded_at}
@@ -8,6 +8,7 @@ use Rattle.cube_cells.specs.Cube.{Lattice, IsCubeOf, tally_or_empty}
 use Rattle.cube_cells.specs.Tally.{Tally, PlusTally}
 use Rattle.cube_cells.specs.Walk.{AreApart, key_in, weight_of_cells}
 use Rattle.cube_cells.specs.declared.cube.codes.Codes.{Codes}
+use Rattle.cube_cells.specs.declared.cube.fill.Level.{Level}
 
 -- the grouping set of all of so many dimensions
 abbrev pub finest_set : ℕ → ℕ
@@ -37,19 +38,47 @@ FillsSet set [] old new = new ≡ old
 FillsSet set (cell ∷ cells) old new =
     (mid : CodedCells) × MergesIn (key_in cell.0 set) old mid cell.1 × (AreApart old → AreApart mid) × FillsSet set cells mid new
 
--- and so for each of some grouping sets
-abbrev pub FillsSets : List ℕ → CodedCells → CodedCells → CodedCells → Type 0
-FillsSets [] cells old new = new ≡ old
-FillsSets (set ∷ sets) cells old new = (mid : CodedCells) × FillsSet set cells old mid × FillsSets sets cells mid new
-
 -- cells have bags for the same measures as others, which are looked up
 pub record HaveOneWidth (cells others : CodedCells) : Type 0 where
   pub measures : ℕ
   pub each : All (λ cell. length cell.1.bags ≡ measures) cells
   pub found : (codes : Codes) → IfSome (coded_at others codes) (λ t. length t.bags ≡ measures)
 
--- these are the cells of the sets made from others: those of no fact, into which the others were merged
-pub record AreFilled (sets : List ℕ) (measures : ℕ) (others cells : CodedCells) : Type 0 where
+-- one grouping set is finer than another: it has all of its dimensions and more
+abbrev pub IsFiner : ℕ → ℕ → Type 0
+IsFiner finer set = (set < finer) × (bit_and finer set ≡ set)
+
+-- the cells of a grouping set are made from those of a finer one, which are merged into the cells of no fact
+pub record AreMadeFrom (finer : CodedCells) (set measures : ℕ) (cells : CodedCells) : Type 0 where
   pub start : CodedCells
-  pub new : AreNewCells (is_among 0 sets) measures start
-  pub fills : FillsSets sets others start cells
+  pub new : AreNewCells (set == 0) measures start
+  pub fills : FillsSet set finer start cells
+
+-- levels are made one after another, each from a finer one: the finest, or one that is there
+abbrev pub MakesLevels : ℕ → Level → List ℕ → List Level → List Level → Type 0
+MakesLevels measures finest [] old new = new ≡ old
+MakesLevels measures finest (set ∷ sets) old new =
+    (finer : Level) × (level : Level) × Contains (finest ∷ old) finer × IsFiner finer.set set × (level.set ≡ set)
+    × AreMadeFrom finer.cells.entries set measures level.cells.entries × MakesLevels measures finest sets (old ++ level ∷ []) new
+
+-- the cells of levels, one level before another, and then others
+abbrev pub joined_cells : List Level → CodedCells → CodedCells
+joined_cells [] others = others
+joined_cells (level ∷ levels) others = level.cells.entries ++ joined_cells levels others
+
+-- cells of other codes are put to these
+abbrev pub Joins : CodedCells → CodedCells → CodedCells → Type 0
+Joins more old new = AreApart (more ++ old) → IsPermutation (more ++ old) new
+
+-- these are the cells of levels and others, where their codes differ
+abbrev pub AreJoined : List Level → CodedCells → CodedCells → Type 0
+AreJoined levels others cells = AreApart (joined_cells levels others) → IsPermutation (joined_cells levels others) cells
+
+-- these are the cells of the sets: those of the finest one where it is kept, and those of levels made from it
+pub record AreFilled (finest : Level) (sets : List ℕ) (measures : ℕ) (cells : CodedCells) : Type 0 where
+  pub keeps_finest : Bool
+  pub coarser : List ℕ
+  pub levels : List Level
+  pub sets_are : sets ≡ coarser ++ (if keeps_finest then finest.set ∷ [] else [])
+  pub made : MakesLevels measures finest (reverse coarser) [] levels
+  pub joined : AreJoined levels (if keeps_finest then finest.cells.entries else []) cells

@@ -1,18 +1,27 @@
-//! Filling a cube at once: facts go into the cells of the finest grouping set alone, and these are then merged into
-//! the cells of each kept set.
-ghost use Rattle.std.specs.Prelude.{◌≡◌, ◌+◌, ◌-◌, ◌≤◌, ◌^◌, ◌∷◌, [], None, List, length, All, IfOk, IfSome, OnOk, OnErr};
+//! Filling a cube at once: facts go into the cells of the finest grouping set alone, and the cells of each other kept
+//! set are then made from those of a finer one (Gray et al. 1997).
+ghost use Rattle.std.specs.Prelude.{◌≡◌, ◌+◌, ◌-◌, ◌≤◌, ◌^◌, ◌↔◌, ◌∷◌, [], None, List, length, reverse, bit_and, All, Contains, IsTrue, IfOk, IfSome, OnOk, OnErr};
+ghost use Rattle.std.specs.List.Sorted.{IsStrictlySortedBy};
+ghost use Rattle.std.specs.Ordering.{nat_cmp};
 ghost use Rattle.cube_core.specs.declared.fact.Fact.{Fact};
 ghost use Rattle.cube_cells.specs.Coded.{coded_at};
 ghost use Rattle.cube_cells.specs.Cube.{IsCubeOf, IsNewLattice, SameSets};
-ghost use Rattle.cube_cells.specs.Fill.{AreFilled, HaveOneWidth, IsCubeOfAll, MergesIn, FillsSet, finest_set};
+ghost use Rattle.cube_cells.specs.Fill.{AreFilled, AreJoined, AreMadeFrom, FillsSet, HaveOneWidth, IsCubeOfAll, IsFiner, Joins, MakesLevels, MergesIn, finest_set};
 ghost use Rattle.cube_cells.specs.Tally.{PlusTally};
 ghost use Rattle.cube_cells.specs.Walk.{AreApart};
 
 use super::codes::Codes;
-use super::{Cube, has_total, new_cells};
+use super::{Cube, new_cells};
 use crate::cell::Cell;
 use std::alloc::{AllocError, Global};
 use std::collections::HashMap;
+
+// A grouping set with its cells.
+#[derive(Drop)]
+struct Level {
+    set: u8,
+    cells: HashMap<Codes, Cell>,
+}
 
 impl Cube {
     /// The cube of no fact over the finest grouping set alone, that of all dimensions, with the same schema. The
@@ -41,12 +50,14 @@ impl Cube {
         ensures err { OnErr result (self.new ≡ self.old) }
     {
         let measures = self.schema.measures().len();
-        let cells = filled_cells(self.alloc, &finest.cells, &self.sets, measures)?;
+        let set = finest_of(self.schema.dimensions().len());
         let Cube {
             facts,
             dictionaries,
+            cells,
             ..
         } = finest;
+        let cells = filled_cells(self.alloc, Level { set, cells }, &self.sets, measures)?;
         self.facts = facts;
         self.dictionaries = dictionaries;
         self.cells = cells;
@@ -59,50 +70,142 @@ fn finest_of(dimensions: usize) -> u8
     requires { dimensions ≤ 8 }
     ensures { result ≡ finest_set dimensions }
 {
-    match dimensions {
-        0 => 0,
-        1 => 1,
-        2 => 3,
-        3 => 7,
-        4 => 15,
-        5 => 31,
-        6 => 63,
-        7 => 127,
-        _ => 255,
-    }
+    ((1u16 << dimensions) - 1) as u8
 }
 
 // The cells of the sets, made from those of the finest one.
 fn filled_cells(
     alloc: Global,
-    finest: &HashMap<Codes, Cell>,
+    finest: Level,
     sets: &[u8],
     measures: usize,
 ) -> Result<HashMap<Codes, Cell>, AllocError>
-    requires { All (λ cell. length cell.1.bags ≡ measures) finest.now.entries }
-    ensures { IfOk result
-        (λ cells. AreFilled sets.now measures finest.now.entries cells.entries) }
+    requires width { All (λ cell. length cell.1.bags ≡ measures) finest.cells.entries }
+    requires within { All (λ set. bit_and finest.set set ≡ set) sets.now }
+    requires ascending { IsStrictlySortedBy nat_cmp sets.now }
+    ensures { IfOk result (λ cells. AreFilled finest sets.now measures cells.entries) }
 {
-    let mut cells = new_cells(alloc, measures, has_total(sets))?;
-    for set in sets {
-        fill_set(alloc, &mut cells, finest, *set)?;
+    match sets.split_last() {
+        Some((last, coarser)) if *last == finest.set => {
+            let levels = levels_from(alloc, &finest, coarser, measures)?;
+            joined(finest.cells, levels)
+        }
+        _ => {
+            let levels = levels_from(alloc, &finest, sets, measures)?;
+            joined(HashMap::new(alloc), levels)
+        }
+    }
+}
+
+// The levels of grouping sets that the finest one is finer than, from the last to the first, so that each is made
+// after those that are finer.
+fn levels_from(
+    alloc: Global,
+    finest: &Level,
+    sets: &[u8],
+    measures: usize,
+) -> Result<Vec<Level>, AllocError>
+    requires width { All (λ cell. length cell.1.bags ≡ measures) finest.now.cells.entries }
+    requires finer { All (IsFiner finest.now.set) sets.now }
+    ensures { IfOk result (λ levels.
+        MakesLevels measures finest.now (reverse sets.now) [] levels.items) }
+{
+    let mut levels = Vec::with_capacity(alloc, sets.len())?;
+    for set in sets.iter().rev() {
+        let finer = smallest_finer(finest, &levels, *set);
+        let cells = cells_from(alloc, &finer.cells, *set, measures)?;
+        levels.push(Level { set: *set, cells })?;
+    }
+    Ok(levels)
+}
+
+// One of the levels that are finer than a set; which one is a matter of speed alone.
+fn smallest_finer<'a>(finest: &'a Level, levels: &'a [Level], set: u8) -> &'a Level
+    requires { IsFiner finest.now.set set }
+    ensures made { Contains (finest.now ∷ levels.now) result.now }
+    ensures finer { IsFiner result.now.set set }
+{
+    let mut smallest = finest;
+    for level in levels {
+        if is_finer(level.set, set) && level.cells.len() < smallest.cells.len() {
+            smallest = level;
+        }
+    }
+    smallest
+}
+
+// Whether a set has all dimensions of another and more.
+fn is_finer(finer: u8, set: u8) -> bool
+    ensures { IsTrue result ↔ IsFiner finer set }
+{
+    set < finer && finer & set == set
+}
+
+// The cells of a set, made from those of a finer one.
+fn cells_from(
+    alloc: Global,
+    finer: &HashMap<Codes, Cell>,
+    set: u8,
+    measures: usize,
+) -> Result<HashMap<Codes, Cell>, AllocError>
+    requires { All (λ cell. length cell.1.bags ≡ measures) finer.now.entries }
+    ensures made { IfOk result (λ cells.
+        AreMadeFrom finer.now.entries set measures cells.entries) }
+    ensures width { IfOk result (λ cells.
+        All (λ cell. length cell.1.bags ≡ measures) cells.entries) }
+{
+    let mut cells = new_cells(alloc, measures, set == 0)?;
+    fill_set(alloc, &mut cells, finer, set)?;
+    Ok(cells)
+}
+
+// The cells of all levels besides others, which have room for all of them at once.
+fn joined(
+    mut cells: HashMap<Codes, Cell>,
+    levels: Vec<Level>,
+) -> Result<HashMap<Codes, Cell>, AllocError>
+    ensures { IfOk result (λ all. AreJoined levels.items cells.entries all.entries) }
+{
+    cells.reserve(number_of_cells(&levels))?;
+    for level in levels {
+        move_cells(&mut cells, level.cells)?;
     }
     Ok(cells)
 }
 
-// Merges the cells of the finest set into those of a set.
+// How many cells the levels have, or as many as the type can say.
+fn number_of_cells(levels: &[Level]) -> usize {
+    let mut number: usize = 0;
+    for level in levels {
+        number = number.saturating_add(level.cells.len());
+    }
+    number
+}
+
+// Moves cells to others of other codes.
+fn move_cells(
+    cells: &mut HashMap<Codes, Cell>,
+    more: HashMap<Codes, Cell>,
+) -> Result<(), AllocError>
+    ensures { OnOk result (Joins more.entries cells.old.entries cells.new.entries) }
+{
+    for (codes, cell) in more {
+        cells.insert(codes, cell)?;
+    }
+    Ok(())
+}
+
+// Merges the cells of a finer set into those of a set.
 fn fill_set(
     alloc: Global,
     cells: &mut HashMap<Codes, Cell>,
-    finest: &HashMap<Codes, Cell>,
+    finer: &HashMap<Codes, Cell>,
     set: u8,
 ) -> Result<(), AllocError>
-    requires { HaveOneWidth finest.now.entries cells.old.entries }
-    ensures fills { OnOk result
-        (FillsSet set finest.now.entries cells.old.entries cells.new.entries) }
-    ensures width { OnOk result (HaveOneWidth finest.now.entries cells.new.entries) }
+    requires { HaveOneWidth finer.now.entries cells.old.entries }
+    ensures { OnOk result (FillsSet set finer.now.entries cells.old.entries cells.new.entries) }
 {
-    for (codes, cell) in finest {
+    for (codes, cell) in finer {
         merge_at(alloc, cells, codes.kept(set), cell)?;
     }
     Ok(())

@@ -5,4 +5,4 @@ abbrev pub invariant-loop-codes : goal.invariant-loop-codes
 invariant-loop-codes l =
     (goal.iterator-loop-codes).can_next l.codes-iterator
     × (goal.iterator-loop-codes).is_finite l.codes-iterator
-    × IsFillingSet l.set l.finest.entries l.codes-iterator l.initial.cells.entries l.cells.entries
+    × IsFillingSet l.set l.finer.entries l.codes-iterator l.initial.cells.entries l.cells.entries
