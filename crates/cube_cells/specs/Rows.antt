@@ -1,5 +1,6 @@
 -- The rows of a cube that is kept up to date: those of the cells whose keys pass a test (Gray et al. 1997).
 use Rattle.std.specs.Prelude.{◌≡◌, ◌==◌, ◌&&◌, ◌↔◌, ℕ, Bool, true, false, not, Option, Some, None, Result, Ok, Err, get_or, ◌<◌, List, [], ◌∷◌, length, map, Contains, All, IsTrue, IsSome, IfSome}
+use Rattle.std.specs.List.{AllZip}
 use Rattle.std.specs.List.Sorted.{IsStrictlySortedBy}
 use Rattle.cube_core.specs.Answer.{AreAnswers}
 use Rattle.cube_core.specs.Cube.{is_cell, key_of, HasAnswers}
@@ -28,6 +29,15 @@ AreAnswersOf aggregates t answers = (facts : List Fact) → IsTallyOf facts t �
 pub record IsRowOf (aggregates : List Agg) (cell : Key × Tally) (row : Row) : Type 0 where
   pub key : row.key ≡ cell.0
   pub answers : AreAnswersOf aggregates cell.1 row.answers
+
+-- cells in an order, with the aggregates that their rows answer
+pub record CellsInOrder : Type 0 where
+  pub aggregates : List Agg
+  pub cells : Cells
+
+-- the rows of cells, one for each, in their order
+abbrev pub AreRowsInOrder : CellsInOrder → List Row → Type 0
+AreRowsInOrder o rows = AllZip (IsRowOf o.aggregates) o.cells rows
 
 -- these are the rows of the cells whose key passes a test: each once, in key order, with the answers of its tally
 pub record AreRowsOf (test : Key → Bool) (aggregates : List Agg) (cells : Cells) (rows : List Row) : Type 0 where

@@ -15,6 +15,7 @@ ghost use Rattle.cube_cells.specs.Cube.{Lattice, IsLattice, IsCubeOf, HoldsFact,
 mod codes;
 mod dictionary;
 mod fill;
+mod ordered;
 mod queries;
 mod ranks;
 mod rows;
@@ -24,6 +25,7 @@ use crate::cell::Cell;
 use codes::{ALL, Codes};
 use cube_core::{Coord, Fact, Key, Schema, Text};
 use dictionary::Dictionary;
+pub use ordered::{OrderedCells, no_row};
 use std::alloc::{AllocError, Global};
 use std::collections::HashMap;
 use std::marker::Model;

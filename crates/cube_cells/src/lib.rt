@@ -3,6 +3,7 @@
 //! [`Counted`] is a multiset of numbers, which makes the least and the greatest value right under deletes.
 //! [`Cell`] is the tally of a group of facts, which answers every aggregate of them.
 //! [`Cube`] is the cells of all kept grouping sets, kept right under adds and removes.
+//! [`OrderedCells`] are its cells in key order, whose rows are made one at a time.
 #![tactic(auto)]
 
 mod cell;
@@ -17,5 +18,5 @@ mod table;
 
 pub use cell::Cell;
 pub use counted::Counted;
-pub use cube::Cube;
+pub use cube::{Cube, OrderedCells, no_row};
 pub use cube_core::reduced;

@@ -5,6 +5,11 @@ use Rattle.std.specs.Io.KnownBytes.{Appends}
 use Rattle.std.proofs.lemmas.List.{append-nil}
 use Rattle.std.specs.Result.{is_ok}
 use Rattle.std.proofs.lemmas.Bool.Decides.{nat_tests}
+use Rattle.std.specs.List.{flat_map}
+use Rattle.std.proofs.lemmas.Grind.{flat_map-append}
+use Rattle.std.proofs.lemmas.List.Concat.{flat_map-cons}
+use Rattle.cube_core.specs.Text.{row_line}
+use Rattle.cube_core.specs.declared.key.Row.{Row}
 use Rattle.csv.specs.Writing.{default_writer, field_text, fields_written, has_written, next_sep, row_body, row_text, text_written, writer_setup, tail_text, is_blank, end_text}
 use Rattle.csv.specs.declared.writer.QuoteStyle.TheVariants as style
 use Rattle.csv.proofs.WriteFacts.{row-more, blank-more}
@@ -98,3 +103,8 @@ pub three_added : (first second third : List (List ℕ)) (a b c d e : Lines) →
     → EndsLine d e → AddsText (row_text default_writer (first ++ second ++ third)) a e
 three_added first second third a b c d e one two three end text h =
     end text (first ++ second ++ third) (fields_both (first ++ second) third a c d (fields_both first second a b c one two) three text [] h)
+
+-- the lines of rows were added, and then that of one row more
+pub rows_added : (rows : List Row) (row : Row) (old mid new : Lines) → AddsText (flat_map row_line rows) old mid → AddsText (row_line row) mid new → AddsText (flat_map row_line (rows ++ row ∷ [])) old new
+rows_added rows row old mid new before line text h =
+    rw (flat_map-append row_line rows (row ∷ []), flat_map-cons row_line row [], append-nil (row_line row), ← append_assoc text (flat_map row_line rows) (row_line row)) (line (text ++ flat_map row_line rows) (before text h))

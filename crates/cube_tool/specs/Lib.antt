@@ -1,5 +1,6 @@
 pub mod Lines
 pub mod Shape
+pub mod Rows
 pub mod Run
 pub mod Command
 pub mod Explain

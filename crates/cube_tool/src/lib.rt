@@ -8,7 +8,7 @@ mod refusals;
 mod runs;
 mod write;
 
-pub use print::print_rows;
+pub use print::{print_cells, print_rows};
 pub use refusals::print_refusals;
 pub use runs::{run, run_plain};
 pub use write::{WriteFault, write_whole};

@@ -5,9 +5,11 @@ ghost use Rattle.std.specs.List.{flat_map};
 ghost use Rattle.std.specs.Fmt.{signed_decimal};
 ghost use Rattle.cube_core.specs.Text.{line, header_fields, grouping_name, coord_text, grouping_text, answer_text, row_line, text_of_rows};
 ghost use Rattle.cube_tool.specs.Lines.{AddsFields, AddsText};
+ghost use Rattle.cube_tool.specs.Rows.{AddsRows, IsTextOfCells};
 ghost use Rattle.cube_tool.specs.Shape.{HasShapeOf};
 
 use crate::lines::{Lines, end_line, into_text, no_lines, put_field};
+use cube_cells::{OrderedCells, no_row};
 use cube_core::{Answer, Coord, Row, Schema, Text};
 use itoa::Buffer;
 use std::alloc::{AllocError, Global};
@@ -22,6 +24,22 @@ pub fn print_rows(alloc: Global, schema: &Schema, rows: &[Row]) -> Result<Vec<u8
     let mut lines = no_lines(alloc);
     put_header(alloc, &mut lines, schema)?;
     put_rows(alloc, &mut lines, rows)?;
+    into_text(lines)
+}
+
+/// The header line of the schema, and a line for the row of each cell in the order given, with no list of the rows.
+///
+/// The only error is want of memory.
+pub fn print_cells(
+    alloc: Global,
+    schema: &Schema,
+    cells: &OrderedCells,
+) -> Result<Vec<u8>, AllocError>
+    ensures { IfOk result (λ text. IsTextOfCells schema.now cells.now text.items) }
+{
+    let mut lines = no_lines(alloc);
+    put_header(alloc, &mut lines, schema)?;
+    put_cells(alloc, &mut lines, cells)?;
     into_text(lines)
 }
 
@@ -75,6 +93,20 @@ fn put_rows(alloc: Global, lines: &mut Lines, rows: &[Row]) -> Result<(), AllocE
     let mut fraction = Vec::new(alloc);
     for row in rows {
         put_row(lines, &mut fraction, row)?;
+    }
+    Ok(())
+}
+
+// Each row is made in the memory of the one before it.
+fn put_cells(alloc: Global, lines: &mut Lines, cells: &OrderedCells) -> Result<(), AllocError>
+    ensures { OnOk result
+        (AddsRows cells.now.aggregates cells.now.cells lines.old lines.new) }
+{
+    let mut fraction = Vec::new(alloc);
+    let mut row = no_row(alloc);
+    for place in 0..cells.len() {
+        row = cells.row_at(place, row)?;
+        put_row(lines, &mut fraction, &row)?;
     }
     Ok(())
 }

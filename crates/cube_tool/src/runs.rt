@@ -8,7 +8,7 @@ ghost use Rattle.cube_threads.specs.Building.{ExplainsRun};
 ghost use Rattle.cube_threads.specs.Parts.{StandsInParts, schema_of_run, facts_of_run};
 ghost use Rattle.cube_tool.specs.Run.{FaultLeaves, Runs};
 
-use crate::print::print_rows;
+use crate::print::{print_cells, print_rows};
 use crate::write::write_whole;
 use cube_core::Schema;
 use cube_engine::{Builder, RunFault, build_plain};
@@ -59,6 +59,9 @@ fn print_built(alloc: Global, schema: &Schema, built: &Built) -> Result<Vec<u8>,
     requires fit { AllFit schema.now (facts_of_run built.now) }
     ensures { IfOk result (λ text. IsPrinted schema.now (facts_of_run built.now) text.items) }
 {
+    if built.builders().len() == 1 {
+        return print_cube(alloc, schema, built.builder());
+    }
     let rows = built.rows()?;
     print_rows(alloc, schema, &rows)
 }
@@ -98,6 +101,6 @@ fn print_cube(alloc: Global, schema: &Schema, builder: &Builder) -> Result<Vec<u
     ensures { IfOk result (λ text.
         IsPrinted schema.now (all_facts builder.now.ledger.accounts) text.items) }
 {
-    let rows = builder.cube().rows()?;
-    print_rows(alloc, schema, &rows)
+    let cells = builder.cube().ordered()?;
+    print_cells(alloc, schema, &cells)
 }

@@ -1,27 +1,26 @@
 //! The rows of a cube, in key order.
 ghost use Rattle.std.specs.Prelude.{◌≡◌, ◌≤◌, Bool, true, false, List, IfOk, IsTrue, length, map, filter, drop, get_or, All};
 ghost use Rattle.std.specs.Cmp.Lexicographic.{slice_cmp};
-ghost use Rattle.std.specs.List.{AllZip, list_all};
 ghost use Rattle.std.specs.List.Sorted.{IsPermutation, IsSortedBy};
 ghost use Rattle.std.specs.Ordering.{nat_cmp, is_lt};
-ghost use Rattle.cube_core.specs.Answer.{AreAnswers};
 ghost use Rattle.cube_core.specs.Cube.{AreRowsOver};
-ghost use Rattle.cube_core.specs.Layout.{is_aggregate_of};
 ghost use Rattle.cube_core.specs.Order.{coord_cmp, key_cmp};
 ghost use Rattle.cube_core.specs.declared.fact.Fact.{Fact};
 ghost use Rattle.cube_core.specs.declared.key.Key.{Key};
+ghost use Rattle.cube_core.specs.declared.key.Row.{Row};
 ghost use Rattle.cube_cells.specs.Codes.{all_code, are_codes, coords_at, key_at, IsDictionary};
 ghost use Rattle.cube_cells.specs.Coded.{decoded};
 ghost use Rattle.cube_cells.specs.Cube.{IsCubeOf};
 ghost use Rattle.cube_cells.specs.Ranks.{ranks_of};
-ghost use Rattle.cube_cells.specs.Rows.{AreRowsOf, AreAnswersOf, IsRowOf, AreWantsOf, is_wanted_code, are_wanted_codes};
+ghost use Rattle.cube_cells.specs.Rows.{AreRowsInOrder, AreRowsOf, AreWantsOf, is_wanted_code, are_wanted_codes};
 
 use super::Cube;
 use super::codes::{ALL, Codes};
 use super::dictionary::Dictionary;
+use super::ordered::{OrderedCells, Place};
 use super::ranks::{Ranks, ranks_of, ranks_of_all};
 use crate::cell::Cell;
-use cube_core::{Agg, Key, Row, Sequence};
+use cube_core::Row;
 use std::alloc::{AllocError, Global};
 use std::cmp::Ordering;
 use std::collections::HashMap;
@@ -32,14 +31,6 @@ pub enum Want {
     Any,
     Code(u32),
     Not(u32),
-}
-
-// Where a row comes from: a cell, and the ranks of its key.
-#[derive(Drop)]
-struct Place<'c> {
-    ranks: [u32; 8],
-    codes: &'c Codes,
-    cell: &'c Cell,
 }
 
 impl Cube {
@@ -54,6 +45,18 @@ impl Cube {
         self.rows_where(&[])
     }
 
+    /// The cells in the order of their keys, for rows that are made one at a time. The only error is want of memory.
+    pub fn ordered(&self) -> Result<OrderedCells<'_>, AllocError>
+        ensures rows { IfOk result (λ ordered. (rows : List Row) → AreRowsInOrder ordered rows →
+            AreRowsOf (λ key. true) self.now.schema.aggregates self.now.cells rows) }
+        ensures cube { IfOk result (λ ordered. (rows : List Row) → AreRowsInOrder ordered rows →
+            (facts : List Fact) → IsCubeOf self.now facts →
+            AreRowsOver self.now.sets (length self.now.schema.dimensions)
+            self.now.schema.aggregates facts rows) }
+    {
+        self.ordered_where(&[])
+    }
+
     /// The rows of the cells whose codes are wanted, where these are few: no text is looked at but theirs.
     pub(super) fn few_rows_where(&self, wants: &[Want]) -> Result<Vec<Row>, AllocError>
         ensures { IfOk result (λ rows. (test : Key → Bool) →
@@ -61,12 +64,8 @@ impl Cube {
             AreRowsOf test self.now.schema.aggregates self.now.cells rows.items) }
     {
         let places = few_places_in_order(self.alloc, &self.dictionaries, &self.cells, wants)?;
-        rows_of(
-            self.alloc,
-            self.schema.aggregates(),
-            &self.dictionaries,
-            &places,
-        )
+        let aggregates = self.schema.aggregates();
+        OrderedCells::of(self.alloc, aggregates, &self.dictionaries, places).rows()
     }
 
     /// The rows of the cells whose codes are wanted.
@@ -75,14 +74,24 @@ impl Cube {
             AreWantsOf self.now.dictionaries test wants.now →
             AreRowsOf test self.now.schema.aggregates self.now.cells rows.items) }
     {
+        self.ordered_where(wants)?.rows()
+    }
+
+    // The cells whose codes are wanted.
+    fn ordered_where(&self, wants: &[Want]) -> Result<OrderedCells<'_>, AllocError>
+        ensures { IfOk result (λ ordered. (test : Key → Bool) →
+            AreWantsOf self.now.dictionaries test wants.now →
+            (rows : List Row) → AreRowsInOrder ordered rows →
+            AreRowsOf test self.now.schema.aggregates self.now.cells rows) }
+    {
         let ranks = ranks_of_all(self.alloc, &self.dictionaries)?;
         let places = places_in_order(self.alloc, &ranks, &self.cells, wants)?;
-        rows_of(
+        Ok(OrderedCells::of(
             self.alloc,
             self.schema.aggregates(),
             &self.dictionaries,
-            &places,
-        )
+            places,
+        ))
     }
 }
 
@@ -197,55 +206,4 @@ fn is_wanted(want: &Want, code: u32) -> bool
         Want::Code(wanted) => code == *wanted,
         Want::Not(unwanted) => code != *unwanted,
     }
-}
-
-// The rows of cells, in their order.
-fn rows_of(
-    alloc: Global,
-    aggregates: &[Agg],
-    dictionaries: &[Dictionary],
-    places: &[Place],
-) -> Result<Vec<Row>, AllocError>
-    requires dictionaries { length dictionaries.now ≤ 8 }
-    requires aggregates { All (λ place. list_all
-        (is_aggregate_of (length place.cell.now.bags)) aggregates.now ≡ true) places.now }
-    ensures { IfOk result (λ rows. AllZip (IsRowOf aggregates.now)
-        (map (λ place. (key_at dictionaries.now place.codes.now.codes, place.cell.now)) places.now)
-        rows.items) }
-{
-    let mut rows = Vec::with_capacity(alloc, places.len())?;
-    for place in places {
-        let key = key_of(alloc, dictionaries, place.codes)?;
-        rows.push(row_of(alloc, aggregates, key, place.cell)?)?;
-    }
-    Ok(rows)
-}
-
-// The key of codes.
-fn key_of(alloc: Global, dictionaries: &[Dictionary], codes: &Codes) -> Result<Key, AllocError>
-    requires { length dictionaries.now ≤ 8 }
-    ensures { IfOk result (λ key. key ≡ key_at dictionaries.now codes.now.codes) }
-{
-    let mut coords = Vec::with_capacity(alloc, dictionaries.len())?;
-    for (place, dictionary) in dictionaries.iter().enumerate() {
-        coords.push(dictionary.coord_at(alloc, codes.codes[place])?)?;
-    }
-    Ok(Key {
-        coords: Sequence::from_vec(coords),
-    })
-}
-
-/// The row of a key with a cell.
-pub fn row_of(alloc: Global, aggregates: &[Agg], key: Key, cell: &Cell) -> Result<Row, AllocError>
-    requires { list_all (is_aggregate_of (length cell.now.bags)) aggregates.now ≡ true }
-    ensures { IfOk result (IsRowOf aggregates.now (key, cell.now)) }
-{
-    let mut answers = Vec::with_capacity(alloc, aggregates.len())?;
-    for aggregate in aggregates {
-        answers.push(cell.answer(aggregate))?;
-    }
-    Ok(Row {
-        key,
-        answers: Sequence::from_vec(answers),
-    })
 }

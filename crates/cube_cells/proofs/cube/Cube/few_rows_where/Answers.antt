@@ -1,17 +1,18 @@
 use Rattle.std.proofs.Common.{◌≡◌, ◌≤◌, length, arith, true}
 use Rattle.std.specs.Prelude.{All}
-use Rattle.std.specs.List.{list_all}
+use Rattle.std.specs.List.{AllZip, list_all}
 use Rattle.std.proofs.lemmas.Result.{IfOk-weaker}
 use Rattle.cube_core.specs.Layout.{is_aggregate_of}
+use Rattle.cube_cells.specs.Rows.{IsRowOf}
 use Rattle.cube_cells.proofs.RowLaws.{rows_of_sorted, placed_cells}
 use Rattle.cube_cells.proofs.cube.Cube.few_rows_where.Goals as goal
 
-pub rows_of-requires-clause-aggregates : goal.rows_of-requires-clause-aggregates
-rows_of-requires-clause-aggregates c =
+pub of-requires-clause-aggregates : goal.of-requires-clause-aggregates
+of-requires-clause-aggregates c =
     let measures = length c.self.inside.schema.measures in
     let placed = placed_cells c.self.inside.dictionaries.items measures c.args.wants.now c.self.inside.cells.entries (λ place. (place.codes.now, place.cell.now)) c.in_ok-places.places.items c.self.invariant.each c.in_ok-places.ensures.cells in
     let fits : All (λ place. list_all (is_aggregate_of (length place.cell.now.bags)) c.self.inside.schema.aggregates ≡ true) c.in_ok-places.places.items = λ k d inside. rw ((placed k d inside).width) c.self.invariant.lattice.schema.aggregates_are_of_measures in
-    rw (c.deref-3.ensures.value, c.aggregates.ensures.value) fits
+    rw c.aggregates-aggregates.ensures.value fits
 
 pub returns : goal.returns
 returns c =
@@ -20,8 +21,11 @@ returns c =
     let measures = length c.self.inside.schema.measures in
     let aggregates = c.self.inside.schema.aggregates in
     let room : length dictionaries ≤ 8 = omega (arith, c.self.invariant.lattice.dictionaries, c.self.invariant.lattice.schema.dimensions_at_most) in
-    rw (← c.self.view_is) (IfOk-weaker c.rows_of.result _ _
-    (λ rows zipped. λ test are. rows_of_sorted dictionaries measures test c.args.wants.now aggregates entries (λ place. (place.codes.now, place.cell.now)) c.in_ok-places.places.items rows.items
+    rw (← c.self.view_is) (IfOk-weaker c.rows-2.result _ _
+    (λ rows in_order. λ test are.
+    let zipped : AllZip (IsRowOf c.of.result.aggregates) c.of.result.cells rows.items = in_order in
+    rows_of_sorted dictionaries measures test c.args.wants.now aggregates entries (λ place. (place.codes.now, place.cell.now)) c.in_ok-places.places.items rows.items
     c.self.invariant.texts room c.self.invariant.each c.self.invariant.distinct are
-    c.in_ok-places.ensures.cells (rw c.deref.ensures.value at c.in_ok-places.ensures.order) (rw (c.aggregates.ensures.value, c.deref-2.ensures.value, c.deref-3.ensures.value) at zipped))
-    c.rows_of.ensures)
+    c.in_ok-places.ensures.cells (rw c.deref.ensures.value at c.in_ok-places.ensures.order)
+    (rw (c.of.ensures.aggregates, c.of.ensures.cells, c.aggregates-aggregates.ensures.value, c.deref-2.ensures.value) at zipped))
+    c.rows-2.ensures)

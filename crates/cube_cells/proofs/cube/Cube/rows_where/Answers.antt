@@ -1,35 +1,5 @@
-use Rattle.std.proofs.Common.{◌≡◌, ◌≤◌, length, arith, ap, true, List, ℕ}
-use Rattle.std.specs.Prelude.{All}
-use Rattle.std.specs.List.{list_all}
 use Rattle.std.proofs.lemmas.Result.{IfOk-weaker}
-use Rattle.std.proofs.lemmas.Slice.Zip.{AllZip-long}
-use Rattle.cube_core.specs.Layout.{is_aggregate_of}
-use Rattle.cube_cells.specs.Ranks.{AreRanks}
-use Rattle.cube_cells.proofs.RowLaws.{rows_of_places, placed_cells}
 use Rattle.cube_cells.proofs.cube.Cube.rows_where.Goals as goal
 
-pub places_in_order-requires : goal.places_in_order-requires
-places_in_order-requires c =
-    let dictionaries = c.self.inside.dictionaries.items in
-    let long = AllZip-long AreRanks dictionaries c.in_ok-ranks.ranks.items (rw c.deref.ensures.value at c.in_ok-ranks.ensures) in
-    omega (arith, long, ap (λ (xs : List (List ℕ)). length xs) c.deref-2.ensures.value, c.self.invariant.lattice.dictionaries, c.self.invariant.lattice.schema.dimensions_at_most)
-
-pub rows_of-requires-clause-aggregates : goal.rows_of-requires-clause-aggregates
-rows_of-requires-clause-aggregates c =
-    let measures = length c.self.inside.schema.measures in
-    let placed = placed_cells c.self.inside.dictionaries.items measures c.args.wants.now c.self.inside.cells.entries (λ place. (place.codes.now, place.cell.now)) c.in_ok-places.places.items c.self.invariant.each c.in_ok-places.ensures.cells in
-    let fits : All (λ place. list_all (is_aggregate_of (length place.cell.now.bags)) c.self.inside.schema.aggregates ≡ true) c.in_ok-places.places.items = λ k d inside. rw ((placed k d inside).width) c.self.invariant.lattice.schema.aggregates_are_of_measures in
-    rw (c.deref-4.ensures.value, c.aggregates.ensures.value) fits
-
 pub returns : goal.returns
-returns c =
-    let dictionaries = c.self.inside.dictionaries.items in
-    let entries = c.self.inside.cells.entries in
-    let measures = length c.self.inside.schema.measures in
-    let aggregates = c.self.inside.schema.aggregates in
-    let room : length dictionaries ≤ 8 = omega (arith, c.self.invariant.lattice.dictionaries, c.self.invariant.lattice.schema.dimensions_at_most) in
-    rw (← c.self.view_is) (IfOk-weaker c.rows_of.result _ _
-    (λ rows zipped. λ test are. rows_of_places dictionaries measures c.in_ok-ranks.ranks.items test c.args.wants.now aggregates entries (λ place. (place.codes.now, place.cell.now)) (λ place. place.ranks) c.in_ok-places.places.items rows.items
-    c.self.invariant.texts room (rw c.deref.ensures.value at c.in_ok-ranks.ensures) c.self.invariant.each c.self.invariant.distinct are
-    c.in_ok-places.ensures.cells (rw c.deref-2.ensures.value at c.in_ok-places.ensures.ranks) c.in_ok-places.ensures.order (rw (c.aggregates.ensures.value, c.deref-3.ensures.value, c.deref-4.ensures.value) at zipped))
-    c.rows_of.ensures)
+returns c = IfOk-weaker c.rows-2.result _ _ (λ rows in_order. λ test are. c.in_ok-ordered_where.ensures test are rows.items in_order) c.rows-2.ensures

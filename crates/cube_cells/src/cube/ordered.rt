@@ -1,0 +1,166 @@
+//! The cells of a cube in order, whose rows are made one at a time.
+ghost use Rattle.std.specs.Prelude.{◌≡◌, ◌≤◌, ◌<◌, [], true, IfOk, length, map, get_or, All};
+ghost use Rattle.std.specs.List.{AllZip, list_all};
+ghost use Rattle.cube_core.specs.Layout.{is_aggregate_of};
+ghost use Rattle.cube_core.specs.declared.key.Key.{Key};
+ghost use Rattle.cube_cells.specs.Codes.{coords_at, key_at};
+ghost use Rattle.cube_cells.specs.Rows.{AreAnswersOf, AreRowsInOrder, IsRowOf};
+ghost use Rattle.cube_cells.specs.Tally.{Tally};
+
+use super::codes::Codes;
+use super::dictionary::Dictionary;
+use crate::cell::Cell;
+use cube_core::{Agg, Answer, Coord, Key, Row, Sequence};
+use std::alloc::{AllocError, Global};
+use std::marker::Model;
+
+/// Where a row comes from: a cell, and the ranks of its key.
+#[derive(Drop)]
+pub struct Place<'c> {
+    pub ranks: [u32; 8],
+    pub codes: &'c Codes,
+    pub cell: &'c Cell,
+}
+
+/// Cells of a cube in the order of their keys, with the aggregates that their rows answer.
+///
+/// It holds no row: each is made when it is asked for.
+#[derive(Drop)]
+pub struct OrderedCells<'c> {
+    alloc: Global,
+    aggregates: &'c [Agg],
+    dictionaries: &'c [Dictionary],
+    places: Vec<Place<'c>>,
+}
+
+impl<'c> Model for OrderedCells<'c> {
+    ghost use Rattle.std.specs.Prelude.{[], ◌≡◌, ◌≤◌, true, All, length, map};
+    ghost use Rattle.std.specs.List.{list_all};
+    ghost use Rattle.cube_core.specs.Layout.{is_aggregate_of};
+    ghost use Rattle.cube_cells.specs.Codes.{key_at};
+    ghost use Rattle.cube_cells.specs.Rows.{CellsInOrder};
+
+    ghost Value = { CellsInOrder };
+
+    ghost view = { λ o. record {
+      aggregates = o.aggregates.now;
+      cells = map (λ place. (key_at o.dictionaries.now place.codes.now.codes, place.cell.now)) o.places.items;
+    } };
+
+    ghost invariant = { λ o. (length o.dictionaries.now ≤ 8)
+        × All (λ place. list_all (is_aggregate_of (length place.cell.now.bags)) o.aggregates.now ≡ true) o.places.items };
+}
+
+impl<'c> OrderedCells<'c> {
+    /// The cells of these places.
+    pub(super) fn of(
+        alloc: Global,
+        aggregates: &'c [Agg],
+        dictionaries: &'c [Dictionary],
+        places: Vec<Place<'c>>,
+    ) -> OrderedCells<'c>
+        requires dictionaries { length dictionaries.now ≤ 8 }
+        requires aggregates { All (λ place. list_all
+            (is_aggregate_of (length place.cell.now.bags)) aggregates.now ≡ true) places.items }
+        ensures aggregates { result.aggregates ≡ aggregates.now }
+        ensures cells { result.cells ≡ map
+            (λ place. (key_at dictionaries.now place.codes.now.codes, place.cell.now)) places.entry.items }
+    {
+        OrderedCells {
+            alloc,
+            aggregates,
+            dictionaries,
+            places,
+        }
+    }
+
+    /// How many cells there are.
+    pub fn len(&self) -> usize
+        ensures { result ≡ length self.now.cells }
+    {
+        self.places.len()
+    }
+
+    /// The row of the cell at a place, counted from 0, in the memory of another row, whose values are dropped.
+    ///
+    /// It takes memory only where the other row has less room, and for a text of more than 24 bytes. The only error is
+    /// want of memory.
+    pub fn row_at(&self, place: usize, room: Row) -> Result<Row, AllocError>
+        requires { place < length self.now.cells }
+        ensures { IfOk result (λ row. (unused : Key × Tally) →
+            IsRowOf self.now.aggregates (get_or self.now.cells place unused) row) }
+    {
+        let place = &self.places[place];
+        let Row { key, answers } = room;
+        let coords = key.coords.into_vec();
+        let key = key_in(self.alloc, self.dictionaries, place.codes, coords)?;
+        row_in(self.aggregates, key, place.cell, answers.into_vec())
+    }
+
+    /// The rows of the cells, in their order. The only error is want of memory.
+    pub fn rows(&self) -> Result<Vec<Row>, AllocError>
+        ensures { IfOk result (λ rows. AreRowsInOrder self.now rows.items) }
+    {
+        let mut rows = Vec::with_capacity(self.alloc, self.len())?;
+        for place in 0..self.len() {
+            rows.push(self.row_at(place, no_row(self.alloc))?)?;
+        }
+        Ok(rows)
+    }
+}
+
+/// A row of no coordinate and no answer; it takes no memory.
+pub fn no_row(alloc: Global) -> Row
+    ensures key { result.key.coords ≡ [] }
+    ensures answers { result.answers ≡ [] }
+{
+    Row {
+        key: Key {
+            coords: Sequence::from_vec(Vec::new(alloc)),
+        },
+        answers: Sequence::from_vec(Vec::new(alloc)),
+    }
+}
+
+// The key of codes, in the memory of other coordinates.
+fn key_in(
+    alloc: Global,
+    dictionaries: &[Dictionary],
+    codes: &Codes,
+    room: Vec<Coord>,
+) -> Result<Key, AllocError>
+    requires { length dictionaries.now ≤ 8 }
+    ensures { IfOk result (λ key. key ≡ key_at dictionaries.now codes.now.codes) }
+{
+    let mut coords = room;
+    coords.clear();
+    coords.reserve(dictionaries.len())?;
+    for (place, dictionary) in dictionaries.iter().enumerate() {
+        coords.push(dictionary.coord_at(alloc, codes.codes[place])?)?;
+    }
+    Ok(Key {
+        coords: Sequence::from_vec(coords),
+    })
+}
+
+/// The row of a key with a cell, in the memory of other answers.
+pub fn row_in(
+    aggregates: &[Agg],
+    key: Key,
+    cell: &Cell,
+    room: Vec<Answer>,
+) -> Result<Row, AllocError>
+    requires { list_all (is_aggregate_of (length cell.now.bags)) aggregates.now ≡ true }
+    ensures { IfOk result (IsRowOf aggregates.now (key, cell.now)) }
+{
+    let mut answers = room;
+    answers.clear();
+    answers.reserve(aggregates.len())?;
+    for aggregate in aggregates {
+        answers.push(cell.answer(aggregate))?;
+    }
+    Ok(Row {
+        key,
+        answers: Sequence::from_vec(answers),
+    })
+}
