@@ -91,6 +91,11 @@ impl<T: Drop> Outlet<T> {
         }
     }
 
+    /// How many items the link has room for. No contract speaks of the answer.
+    pub fn capacity(&self) -> usize {
+        self.producer.capacity()
+    }
+
     /// Ends the sending, and gives a receipt for all that was sent. None where the inlet was dropped before.
     pub fn finish(self) -> Option<Receipt<T>>
         ensures link { IfSome result (λ receipt. receipt.link ≡ self.link) }

@@ -68,6 +68,35 @@ stands-dropped stands old new was arrivals source item keeps at = record {
 pub stands-nothing : {B : Type 0} (stands : B → Arrivals → Type 0) (builder : B) (wanting : Bool) (arrivals : Arrivals) → StandsAtFirst stands builder wanting arrivals → StandsAtFirst stands builder wanting (arrivals ++ [])
 stands-nothing stands builder wanting arrivals at = rw (append-nil arrivals) at
 
+from-append : (source : ℕ) (xs ys : List Item) → from source (xs ++ ys) ≡ from source xs ++ from source ys
+from-append source xs ys = map-append (λ item. (source, item)) xs ys
+
+-- nothing came on a link that hasn't ended
+pub looks-nothing : {B : Type 0} (stands : B → B → Arrivals → Type 0) (source : ℕ) (inlet : Receiving Parcel) (ended : Bool) (builder : B) (wanting : Bool) → ended ≡ false → Looks stands source inlet inlet ended builder builder wanting wanting
+looks-nothing stands source inlet ended builder wanting still = record {
+  items = [];
+  link = refl;
+  received = rw still (sym (append-nil inlet.received));
+  stands_on = λ first arrivals at. stands-nothing (stands first) builder wanting arrivals at;
+}
+
+-- a look after others at a link
+pub looks-look : {B : Type 0} (stands : B → B → Arrivals → Type 0) (source : ℕ) (old now new : Receiving Parcel) (ended last : Bool) (first before after : B) (was wanting wanting' : Bool) →
+    ended ≡ false → Looks stands source old now ended first before was wanting → Looks stands source now new last before after wanting wanting' → Looks stands source old new last first after was wanting'
+looks-look stands source old now new ended last first before after was wanting wanting' still looks look = record {
+  items = looks.items ++ look.items;
+  link = look.link ∙ looks.link;
+  received =
+      let so_far : now.received ≡ old.received ++ lines_of looks.items = rw still at looks.received in
+      look.received
+      ∙ ap (λ (xs : List Parcel). xs ++ taken_of last look.items) so_far
+      ∙ append_assoc old.received (lines_of looks.items) (taken_of last look.items)
+      ∙ ap (λ (xs : List Parcel). old.received ++ xs) (taken_of-append last looks.items look.items);
+  stands_on = λ start arrivals at.
+      rw (from-append source looks.items look.items, sym (append_assoc arrivals (from source looks.items) (from source look.items)))
+      (look.stands_on start (arrivals ++ from source looks.items) (looks.stands_on start arrivals at));
+}
+
 -- one look more
 pub gathering-look : {B : Type 0} (stands : B → B → Arrivals → Type 0) (first : B) (start now : List (Receiving Parcel)) (ended : List Bool) (before after : B) (wanting wanting' : Bool) (i : ℕ) (d new : Receiving Parcel) (last : Bool) →
     i < length now → i < length ended → get_or ended i false ≡ false → Looks stands (i + 1) (get_or now i d) new last before after wanting wanting' →

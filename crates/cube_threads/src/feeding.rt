@@ -59,7 +59,8 @@ fn finish_all(outlets: Vec<Outlet<Parcel>>) -> [Option<Receipt<Parcel>>; 8]
 /// Sends each item of a feed to each builder, then the end, and finishes the links; outlet j leads to builder j.
 ///
 /// Before it offers any copy of an item it makes all of them, none for one builder; a copy that finds no memory
-/// stops it with F1, and that item is in no link. It yields while a link is full.
+/// stops it with F1, and that item is in no link. While a link is full it yields, and after a while sleeps for less
+/// than a millisecond at a time, where the link has room for 64 parcels or more.
 pub fn feed_out<W: Wait, R: Read + Drop, G: Gate>(
     rt: &W,
     alloc: Global,

@@ -17,6 +17,9 @@ use std::thread;
 /// The most sources of a run.
 const MOST_SOURCES: usize = 64;
 
+/// The most parcels that are taken from a link before the next link is looked at.
+const MOST_AT_A_VISIT: u32 = 32;
+
 // Applies an item, or drops it where memory was wanting before; waits for good where the builder is full.
 fn accept<W: Wait, B: Builds>(rt: &W, builder: &mut B, source: u32, item: Item, wanting: &mut bool)
     requires { (1 ≤ source) × (source ≤ B.sources builder.old) }
@@ -67,7 +70,39 @@ fn look<W: Wait, B: Builds, G: Gate>(
     true
 }
 
-// Looks once at each link that hasn't ended. Whether a parcel was in any of them.
+// Looks at a link that hasn't ended, and again while parcels are there. Whether one was there.
+fn visit<W: Wait, B: Builds, G: Gate>(
+    rt: &W,
+    number: u32,
+    source: u32,
+    builder: &mut B,
+    inlet: &mut Inlet<Parcel>,
+    ended: &mut bool,
+    taken: &mut u64,
+    wanting: &mut bool,
+    gate: &G,
+) -> bool
+    requires source { (1 ≤ source) × (source ≤ B.sources builder.old) }
+    requires open { ended.old ≡ false }
+    ensures sources { B.sources builder.new ≡ B.sources builder.old }
+    ensures looks { Looks B.stands source inlet.old inlet.new ended.new
+        builder.old builder.new wanting.old wanting.new }
+{
+    let mut found = false;
+    for _ in 0..MOST_AT_A_VISIT {
+        if *ended
+            || !look(
+                rt, number, source, builder, inlet, ended, taken, wanting, gate,
+            )
+        {
+            return found;
+        }
+        found = true;
+    }
+    found
+}
+
+// Visits each link that hasn't ended. Whether a parcel was in any of them.
 fn look_round<W: Wait, B: Builds, G: Gate>(
     rt: &W,
     number: u32,
@@ -89,7 +124,7 @@ fn look_round<W: Wait, B: Builds, G: Gate>(
     for i in 0..inlets.len() {
         if !ended[i] {
             let source = i as u32 + 1;
-            found |= look(
+            found |= visit(
                 rt,
                 number,
                 source,
@@ -121,9 +156,9 @@ fn have_ended(ended: &[bool; MOST_SOURCES], count: usize) -> bool
 /// Takes from the links of all sources, inlet s - 1 from source s, until each has given its end, and applies each item to
 /// the builder as it comes; `number` is the builder's, handed to the gate.
 ///
-/// It goes round the links, and yields after a round in which nothing was found. The only error is want of memory:
-/// from the item on that finds none it goes on taking, and drops what comes. Where the builder is full it waits for
-/// good.
+/// It goes round the links, takes up to 32 parcels from each, and yields after a round in which nothing was found. The
+/// only error is want of memory: from the item on that finds none it goes on taking, and drops what comes. Where the
+/// builder is full it waits for good.
 pub fn gather<W: Wait, B: Builds, G: Gate>(
     rt: &W,
     number: u32,

@@ -11,18 +11,42 @@ use cube_core::Item;
 use cube_link::Outlet;
 use std::sync::Wait;
 use std::thread;
+use std::thread::Parker;
+use std::time::Duration;
+
+/// How often a feeder yields at a full link before it naps.
+const YIELDS: u32 = 20;
+
+/// The fewest parcels that a link has room for where its feeder naps: they last its builder for about a nap.
+const NAPPING_RING: usize = 64;
+
+/// The microseconds of the first nap at a full link; each further one is twice as long, up to four times.
+const FIRST_NAP: u64 = 50;
+
+// Waits for room in a link after so many tries that found none: the first times it yields, then it naps, where the
+// link is large enough to keep its builder at work meanwhile.
+fn wait_for_room<W: Wait>(rt: &W, outlet: &Outlet<Parcel>, tries: u32) {
+    if tries < YIELDS || outlet.capacity() < NAPPING_RING {
+        thread::yield_now();
+        return;
+    }
+    let doublings = (tries - YIELDS).min(4);
+    Parker::new().park_timeout(rt, Duration::from_micros(FIRST_NAP << doublings));
+}
 
 // Offers a parcel again until the link has room for it.
 fn offer_until_taken<W: Wait>(rt: &W, outlet: &mut Outlet<Parcel>, parcel: Parcel)
     ensures { outlet.new ≡ sends (parcel ∷ []) outlet.old }
 {
     let mut parcel = parcel;
+    let mut tries = 0u32;
     for _ in rt.forever() {
         match outlet.offer(parcel) {
             Ok(()) => return,
             Err(back) => parcel = back,
         }
-        thread::yield_now();
+        wait_for_room(rt, outlet, tries);
+        tries = tries.saturating_add(1);
     }
     unreachable!()
 }
