@@ -283,6 +283,63 @@ def big_inputs(trials):
                  lambda: None if unread().code() in ("G3 1 F2", "feed 1 unreadable") else repr(unread().err))
 
 
+def colliding_ids(count):
+    """Ids that collide in a hash which multiplies and folds words, with the seed and the factor that many programs use:
+    the state after the first block is spelled by the next word, so that the last product is zero whatever ends the id."""
+    factor, seed, every = 0x9E3779B97F4A7C15, 0x243F6A8885A308D3 + 32, 2**64 - 1
+    letters = bytes(range(ord("a"), ord("z") + 1)) + b"0123456789-_.:/ABCDEFGHIJKLMNOPQRSTUVWXYZ"
+    rng = random.Random(1)
+    while True:
+        front = bytes(rng.choice(letters) for _ in range(16))
+        low, high = (int.from_bytes(front[at : at + 8], "little") for at in (0, 8))
+        product = (low ^ seed) * (high ^ factor)
+        word = ((product & every) ^ (product >> 64)).to_bytes(8, "little")
+        if all(byte in letters for byte in word):
+            return [front + word + b"%08d" % at for at in range(count)]
+
+
+def sample_feed(records):
+    return b"".join([b"op,id,region,kind,amount\n", *records])
+
+
+# (a name, and the feed of so many lines, in which time could grow with the square)
+HURTFUL = {
+    "ids that collide": lambda count: sample_feed(b"I,%s,w,a,1\n" % it for it in colliding_ids(count)),
+    "texts that collide": lambda count: sample_feed(b"I,%d,%s,a,1\n" % it for it in enumerate(colliding_ids(count))),
+    "one id changed again and again": lambda count: sample_feed(
+        [b"I,1,w,a,1\n", *(b"U,1,w%d,a,%d\n" % (at % 7, at) for at in range(count))]),
+    "one id put in and taken out again and again": lambda count: sample_feed(
+        b"I,1,w,a,%d\nD,1\n" % at for at in range(count // 2)),
+    "a different text in each line": lambda count: sample_feed(b"I,%d,w%d,a,1\n" % (at, at) for at in range(count)),
+    "a different number in each line": lambda count: sample_feed(b"I,%d,w,a,%d\n" % (at, at) for at in range(count)),
+    "different numbers, and all taken out again": lambda count: sample_feed(
+        [*(b"I,%d,w,a,%d\n" % (at, at) for at in range(count // 2)), *(b"D,%d\n" % at for at in range(count // 2))]),
+    "each line refused": lambda count: sample_feed(b"D,%d\n" % at for at in range(count)),
+}
+
+
+def seconds(program, given):
+    """The processor time of a run without words over a feed, and its answer."""
+    before = resource.getrusage(resource.RUSAGE_CHILDREN)
+    answer = program.run([], given)
+    after = resource.getrusage(resource.RUSAGE_CHILDREN)
+    return after.ru_utime + after.ru_stime - before.ru_utime - before.ru_stime, answer
+
+
+def near_linear(program, feed_of, lines=100000, times=4):
+    """Why so many times the lines take more than twice so many times the processor time."""
+    few, one = min(((seconds(program, feed_of(lines))) for _ in range(2)), key=lambda it: it[0])
+    many, two = min(((seconds(program, feed_of(lines * times))) for _ in range(2)), key=lambda it: it[0])
+    if one.status not in (0, 4) or two.status not in (0, 4):
+        return f"status {one.status} and {two.status}, {two.err[:100]!r}"
+    return None if many < 2 * times * few + 0.1 else f"{lines} lines in {few:.2f} s, {times} times as many in {many:.2f} s"
+
+
+def hurtful(trials):
+    for name, feed_of in HURTFUL.items():
+        trials.trial(f"near linear: {name}", lambda: near_linear(trials.program, feed_of))
+
+
 NAMES = ["region", "kind", "a,b", 'say "so"', "two\nlines", "café", "count(*)", "m)", "\\N", "x" * 40, "Op", "?"]
 TEXTS = [b"", b"a", b"b", b"west", b"\\N", b"\\A", b"?", b"a,b", b'"', b"two\r\nlines", "grüße".encode(), b"x" * 30,
          b"y" * 3000, b"\\=", b"=a", b" a "]
@@ -404,6 +461,7 @@ def main():
         ends_of_output(trials)
         cut_feeds(trials)
         big_inputs(trials)
+        hurtful(trials)
         generated(trials, given.cases, given.seed)
     print(f"{trials.passed} passed, {trials.failed} failed")
     return 1 if trials.failed else 0
