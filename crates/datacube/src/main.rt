@@ -16,7 +16,7 @@ use std::fs::File;
 use std::process::ExitCode;
 use std::sync::Wait;
 use std::thread::Threads;
-use std::{env, io};
+use std::{env, io, mem};
 
 fn main(rt: HostRuntime) -> ExitCode {
     let status = match run(&rt, &rt) {
@@ -74,6 +74,7 @@ fn obey<T: Threads + Wait + Sync>(
     }
 }
 
+// The process ends after this, so what was built isn't taken apart.
 fn obey_print<T: Threads + Wait + Sync>(
     rt: &HostRuntime,
     threads: &T,
@@ -85,7 +86,7 @@ fn obey_print<T: Threads + Wait + Sync>(
     let schema = schema_of(rt, &words)?;
     let feeds = open_feeds(rt, &words.feeds)?;
     let out = &mut rt.stdout();
-    print(
+    let (status, built) = print(
         threads,
         alloc,
         &schema,
@@ -93,7 +94,9 @@ fn obey_print<T: Threads + Wait + Sync>(
         words.ring,
         words.builders,
         out,
-    )
+    )?;
+    mem::forget(built);
+    Ok(status)
 }
 
 fn obey_refusals<T: Threads + Wait + Sync>(

@@ -33,7 +33,7 @@ pub fn printed<T: Threads + Wait + Sync>(
 {
     let feeds = reader_of(alloc, feed)?;
     let mut out = Vec::new(alloc);
-    let status = print(rt, alloc, schema, feeds, 1, builders, &mut out)?;
+    let (status, _) = print(rt, alloc, schema, feeds, 1, builders, &mut out)?;
     Ok((status, out))
 }
 

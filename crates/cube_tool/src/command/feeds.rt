@@ -24,8 +24,8 @@ use std::thread::Threads;
 /// Writes the printed cube of 1 to 64 feeds, each read on a thread of its own, in 1 to 8 builders; `capacity` is the
 /// room of each link, 1 to 65536 records.
 ///
-/// Nothing was written on a failure, but where the writing failed: then the first bytes went out, as many as the
-/// failure says.
+/// What was built comes back with the status. Nothing was written on a failure, but where the writing failed: then the
+/// first bytes went out, as many as the failure says.
 pub fn print<T: Threads + Wait + Sync, R: Read + Drop + Send, W: Write>(
     rt: &T,
     alloc: Global,
@@ -34,19 +34,19 @@ pub fn print<T: Threads + Wait + Sync, R: Read + Drop + Send, W: Write>(
     capacity: usize,
     builders: u32,
     out: &mut W,
-) -> Result<Status, Failure>
+) -> Result<(Status, Built), Failure>
     requires readers { (1 ≤ vec_len readers) × (vec_len readers ≤ 64) }
     requires capacity { (1 ≤ capacity) × (capacity ≤ 65536) }
     requires builders { (1 ≤ builders) × (builders ≤ 8) }
-    ensures ok { IfOk result (λ status. EndsWith ShowsCube schema.now
-        (map R.Read.remaining readers.items) status (W.contents out.old) (W.contents out.new)) }
+    ensures ok { IfOk result (λ ended. EndsWith ShowsCube schema.now
+        (map R.Read.remaining readers.items) ended.0 (W.contents out.old) (W.contents out.new)) }
     ensures err { IfErr result (λ failure. Leaves ShowsCube schema.now
         (map R.Read.remaining readers.items) failure (W.contents out.old) (W.contents out.new)) }
 {
     match run(
         rt, alloc, schema, readers, capacity, builders, &OpenGate, out,
     ) {
-        Ok(built) => Ok(status_after(built.builder())),
+        Ok(built) => Ok((status_after(built.builder()), built)),
         Err(fault) => Err(Failure::Run(fault)),
     }
 }
