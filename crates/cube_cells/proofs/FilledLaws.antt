@@ -1,17 +1,16 @@
 -- Laws of a grouping set that is filled: the cells of a finer set, merged into those of a coarser one, are the cube of the same facts.
-use Rattle.std.proofs.Common.{◌≡◌, ℕ, zero, suc, ◌+◌, ◌*◌, ◌^◌, ◌<◌, ◌≤◌, ◌==◌, List, [], ◌∷◌, ◌++◌, Bool, true, false, ◌||◌, refl, sym, ap, ◌∙◌, subst, arith, inl, inr, length, map, get_or, replicate, Option, Some, None, if◌then◌else◌, nat_lt}
+use Rattle.std.proofs.Common.{◌≡◌, ℕ, zero, suc, ◌*◌, ◌^◌, ◌<◌, ◌==◌, List, [], ◌∷◌, ◌++◌, Bool, true, false, ◌||◌, refl, sym, ap, ◌∙◌, subst, arith, inl, inr, length, map, get_or, replicate, Option, Some, None, if◌then◌else◌, nat_lt}
 use Rattle.std.specs.Prelude.{All, IfSome, IsSome, IsTrue, is_some, bit_and}
 use Rattle.std.specs.List.{list_any}
 use Rattle.std.specs.List.Sorted.{IsPermutation, IsStrictlySortedBy}
 use Rattle.std.specs.Ordering.{nat_cmp, eq_by_cmp}
 use Rattle.std.proofs.lemmas.Bool.{cases_Bool, and_parts, and_from, or_cases, or_left, or_right, both_ways, eqb-true, eq-eqb, false_from_ne_true, lt-ltb}
 use Rattle.std.proofs.lemmas.List.{length-append, length-map, length-replicate}
-use Rattle.std.proofs.lemmas.List.Elements.{All-head, All-tail, All-nil, All-cons, All-filter, Contains-get_or, filter-append}
+use Rattle.std.proofs.lemmas.List.Elements.{All-head, All-tail, All-nil, All-cons, All-filter, filter-append}
 use Rattle.std.proofs.lemmas.List.Folds.{list_any-append}
 use Rattle.std.proofs.lemmas.List.Sorted.{IsPermutation-sym, length_permutation}
 use Rattle.std.proofs.lemmas.Map.Keys.{sorted_from_strictly_increasing}
-use Rattle.std.proofs.Math.Nat.{pow-succ'}
-use Rattle.cube_core.specs.Covers.{covers, all_stand_for}
+use Rattle.cube_core.specs.Covers.{covers}
 use Rattle.cube_core.specs.Cube.{is_cell, is_total}
 use Rattle.cube_core.specs.Group.{group_of}
 use Rattle.cube_core.specs.GroupingSet.{mask_of, is_among}
@@ -35,13 +34,13 @@ use Rattle.cube_cells.proofs.CodedLaws.{AreValidIn, IsCodedFact, kept_look_up, k
 use Rattle.cube_cells.proofs.CubeLaws.{IsCubeOf-permutation, cube_same, empty_is, kept_none}
 use Rattle.cube_cells.proofs.FinerLaws.{ancestor_of-within, kept_codes-within}
 use Rattle.cube_cells.proofs.GroupLaws.{IsOfSet, cell_key, codes_are, set_key, gathered, gathered_all, one_covers, tally_join}
-use Rattle.cube_cells.proofs.GrowthLaws.{AreGrown, among_all, ascending_below, ascending_rest, count_is, key_weight, not_among_later, set_weight}
+use Rattle.cube_cells.proofs.GrowthLaws.{AreGrown, among_all, count_is, key_weight, set_weight}
 use Rattle.cube_cells.proofs.KeptLaws.{as_it_was, each_found}
 use Rattle.cube_cells.proofs.KeyLaws.{HasCodes, HasFactCodes, codes_alone, covering_codes, covering_is, covering_key, found_cell, kept_valid, look_up-coded, some_key_codes}
 use Rattle.cube_core.proofs.CellKeyLaws.{Key-coords, key_cmp-Decides}
 use Rattle.cube_cells.proofs.NewLaws.{new_coded, new_cube, total_mask}
 use Rattle.cube_cells.proofs.StepLaws.{refused_texts}
-use Rattle.cube_cells.proofs.WalkLaws.{codes_equiv, codes_is, not_in_one}
+use Rattle.cube_cells.proofs.WalkLaws.{codes_is, not_in_one}
 
 -- ---- groups of one cell
 -- the facts of a cell, for a coarser set: there is a first, which has these codes and fits, and a key of the set covers all or none

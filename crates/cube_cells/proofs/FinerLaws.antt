@@ -1,10 +1,8 @@
 -- Laws of grouping sets of which one is finer than another: what is kept in the coarser one is kept of what is kept in the finer one.
-use Rattle.std.proofs.Common.{◌≡◌, ℕ, ◌+◌, ◌<◌, ◌≤◌, ◌==◌, ◌%◌, ◌/◌, ◌^◌, List, [], ◌∷◌, Bool, true, false, refl, sym, ap, ◌∙◌, arith, Option, if◌then◌else◌}
+use Rattle.std.proofs.Common.{◌≡◌, ℕ, ◌≤◌, ◌==◌, ◌%◌, ◌/◌, List, [], ◌∷◌, Bool, true, false, refl, sym, ap, ◌∙◌, arith, Option, if◌then◌else◌}
 use Rattle.std.specs.Prelude.{bit_and}
 use Rattle.std.proofs.lemmas.Bool.{eqb-true, eq-eqb}
-use Rattle.std.proofs.lemmas.Nat.{and_le_r, and_le_l, and_mod, and_shr, mod_below}
-use Rattle.cube_core.specs.declared.key.Coord.{Coord}
-use Rattle.cube_core.specs.declared.key.Coord.TheVariants as coord
+use Rattle.std.proofs.lemmas.Nat.{and_le_l, and_mod, and_shr, mod_below}
 use Rattle.cube_core.proofs.AncestorLaws.{coord_of, ancestor_of}
 use Rattle.cube_cells.specs.Codes.{kept_codes, all_code}
 

@@ -1,6 +1,6 @@
 -- Laws of levels: each that is made has all facts, and so have the cells of all of them together.
-use Rattle.std.proofs.Common.{◌≡◌, ℕ, ◌+◌, ◌*◌, ◌^◌, ◌<◌, ◌≤◌, ◌%◌, ◌==◌, ◌⊎◌, List, [], ◌∷◌, ◌++◌, Bool, true, false, ◌&&◌, ◌||◌, refl, sym, ap, ◌∙◌, subst, arith, inl, inr, length, map, append_assoc, Option, Some, None, if◌then◌else◌}
-use Rattle.std.specs.Prelude.{All, Contains, IfSome, IsSome, is_some, bit_and, reverse}
+use Rattle.std.proofs.Common.{◌≡◌, ℕ, ◌+◌, ◌*◌, ◌^◌, ◌<◌, ◌≤◌, ◌==◌, ◌⊎◌, List, [], ◌∷◌, ◌++◌, Bool, true, false, ◌&&◌, ◌||◌, refl, sym, ap, ◌∙◌, subst, arith, inl, inr, length, map, append_assoc, Option, Some, None, if◌then◌else◌}
+use Rattle.std.specs.Prelude.{All, IfSome, IsSome, is_some, bit_and, reverse}
 use Rattle.std.specs.List.{AllByRecursion, IsDistinct, list_any}
 use Rattle.std.specs.List.Sorted.{IsPermutation, IsStrictlySortedBy}
 use Rattle.std.specs.Map.{keys_of}
@@ -32,7 +32,7 @@ use Rattle.cube_cells.specs.Walk.{AreApart, weight_of_cells}
 use Rattle.cube_cells.specs.declared.cube.codes.Codes.{Codes}
 use Rattle.cube_cells.specs.declared.cube.fill.Level.{Level}
 use Rattle.cube_cells.proofs.CodedLaws.{key_widths}
-use Rattle.cube_cells.proofs.FilledLaws.{HaveAll, IsBase, IsFilled, found_set, made_all}
+use Rattle.cube_cells.proofs.FilledLaws.{HaveAll, IsBase, found_set, made_all}
 use Rattle.cube_cells.proofs.GrowthLaws.{ascending_below, ascending_rest, count_is, set_weight}
 use Rattle.cube_cells.proofs.JoinLaws.{apart_moved}
 use Rattle.cube_cells.proofs.KeptLaws.{each_found}
@@ -300,11 +300,14 @@ no_set schema dictionaries facts = record {
 
 -- the cells of all sets are the cube of the facts
 filled_all : (schema : Layout) (sets : List ℕ) (number : ℕ) (dictionaries : Dictionaries) (finest : Level) (cells : CodedCells) (facts : List Fact) → All (λ set. set < 2 ^ length schema.dimensions) sets → IsStrictlySortedBy nat_cmp sets → IsBase schema dictionaries facts → IsLevel schema dictionaries facts finest → number ≡ length facts → AreFilled finest sets (length schema.measures) cells → IsCoded schema sets number dictionaries cells × IsCubeOf (lattice_of schema sets number dictionaries cells) facts
-filled_all schema sets number dictionaries finest cells facts within ascending base first count filled = (coded, record {
-  keys = all.keys;
-  tallies = all.tallies;
-  widths = key_widths schema sets number dictionaries cells coded;
-}) where
+filled_all schema sets number dictionaries finest cells facts within ascending base first count filled = (
+  coded,
+  record {
+    keys = all.keys;
+    tallies = all.tallies;
+    widths = key_widths schema sets number dictionaries cells coded;
+  },
+) where
   kept : List ℕ
   kept = if filled.keeps_finest then finest.set ∷ [] else []
 

@@ -1,5 +1,4 @@
-use Rattle.std.proofs.Common.{rules, ◌≡◌, ◌∷◌, [], ◌∙◌, ap, sym, length}
-use Rattle.std.specs.Prelude.{All, bit_and}
+use Rattle.std.proofs.Common.{rules, ◌≡◌, ◌∷◌, [], length}
 use Rattle.cube_cells.specs.Coded.{IsCoded, lattice_of}
 use Rattle.cube_cells.specs.Fill.{AreFilled, IsCubeOfAll, finest_set}
 use Rattle.cube_cells.specs.declared.cube.fill.Level.{Level}

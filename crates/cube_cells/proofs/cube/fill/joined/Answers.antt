@@ -1,5 +1,4 @@
 use Rattle.std.proofs.Common.{rules, ◌≡◌, ◌∷◌}
-use Rattle.cube_cells.specs.Fill.{joined_cells}
 use Rattle.cube_cells.proofs.JoinLaws.{IsJoining, joining_none, joining_more}
 use Rattle.cube_cells.proofs.cube.fill.joined.Goals as goal
 
