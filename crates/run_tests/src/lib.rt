@@ -3,10 +3,16 @@
 
 #[cfg(test)]
 mod commands;
+#[cfg(test)]
+mod examples;
+#[cfg(test)]
+mod faults;
+#[cfg(test)]
+mod held;
 mod queries;
 #[cfg(test)]
 mod tests;
 mod texts;
 
 pub use queries::{drilled, printed, refused, sliced};
-pub use texts::{readers_of, run_texts};
+pub use texts::{plain_text, run_texts};

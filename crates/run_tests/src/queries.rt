@@ -1,7 +1,6 @@
 //! What the commands over one feed, a text, write.
 ghost use Rattle.std.specs.Prelude.{◌≡◌, ◌≤◌, vec_len, IfOk};
 
-use crate::texts::readers_of;
 use cube_core::Schema;
 use cube_engine::RunFault;
 use cube_tool::command::{
@@ -10,6 +9,7 @@ use cube_tool::command::{
 use std::alloc::Global;
 use std::sync::Wait;
 use std::thread::Threads;
+use thread_tests::readers_of;
 
 // A reader of a text.
 fn reader_of(alloc: Global, feed: &'static str) -> Result<Vec<&'static [u8]>, Failure>

@@ -5,6 +5,7 @@ use crate::run_texts;
 use cube_core::Schema;
 use cube_engine::RunFault;
 use cube_feed::FeedFault;
+use cube_threads::OpenGate;
 use std::alloc::Global;
 use std::io;
 use std::io::Write;
@@ -55,7 +56,16 @@ fn printed<T: Threads + Wait + Sync>(rt: &T, alloc: Global, builders: u32) -> Re
 {
     let schema = Schema::sample(alloc)?;
     let mut out = Vec::new(alloc);
-    let ran = run_texts(rt, alloc, &schema, &[ONE, TWO], builders, &mut out);
+    let ran = run_texts(
+        rt,
+        alloc,
+        &schema,
+        &[ONE, TWO],
+        1,
+        builders,
+        &OpenGate,
+        &mut out,
+    );
     ran.ok().ok_or("the run failed")?;
     Ok(out)
 }
@@ -89,7 +99,17 @@ fn a_wrong_header_of_the_second_source_is_named(rt: HostRuntime) -> Result<(), F
     let alloc = rt.alloc();
     let schema = Schema::sample(alloc)?;
     let mut out = Vec::new(alloc);
-    let fault = run_texts(&rt, alloc, &schema, &[ONE, TURNED], 2, &mut out).err();
+    let fault = run_texts(
+        &rt,
+        alloc,
+        &schema,
+        &[ONE, TURNED],
+        1,
+        2,
+        &OpenGate,
+        &mut out,
+    )
+    .err();
     let wanted = RunFault::Feed {
         source: 2,
         fault: FeedFault::Header,
@@ -107,7 +127,7 @@ fn a_failed_write_tells_how_much_went_out(rt: HostRuntime) -> Result<(), Fail> {
         taken: Vec::new(alloc),
         room: 10,
     };
-    let fault = run_texts(&rt, alloc, &schema, &[ONE, TWO], 2, &mut out).err();
+    let fault = run_texts(&rt, alloc, &schema, &[ONE, TWO], 1, 2, &OpenGate, &mut out).err();
     assert_eq!(rt; fault, Some(RunFault::Write { sent: 10 }));
     assert_eq!(rt; out.taken.as_slice(), b"region,kin".as_slice());
     Ok(())

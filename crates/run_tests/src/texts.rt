@@ -1,41 +1,50 @@
 //! Runs over feeds that are texts.
-ghost use Rattle.std.specs.Prelude.{◌≡◌, ◌≤◌, length, vec_len, IfOk};
+ghost use Rattle.std.specs.Prelude.{◌≤◌, length};
 
 use cube_core::Schema;
 use cube_engine::RunFault;
-use cube_threads::OpenGate;
-use cube_tool::run;
-use std::alloc::{AllocError, Global};
+use cube_threads::Gate;
+use cube_tool::{run, run_plain};
+use std::alloc::Global;
 use std::io::Write;
 use std::sync::Wait;
 use std::thread::Threads;
+use thread_tests::readers_of;
 
-/// Writes the printed cube of the feeds that texts are, the first by source 1, over links of one parcel.
-pub fn run_texts<T: Threads + Wait + Sync, W: Write>(
+/// Writes the printed cube of the feeds that texts are, the first by source 1.
+pub fn run_texts<'a, T: Threads + Wait + Sync, G: Gate + Sync, W: Write>(
     rt: &T,
     alloc: Global,
     schema: &Schema,
-    feeds: &[&'static str],
+    feeds: &[&'a str],
+    capacity: usize,
     builders: u32,
+    gate: &G,
     out: &mut W,
 ) -> Result<(), RunFault>
     requires feeds { (1 ≤ length feeds.now) × (length feeds.now ≤ 64) }
+    requires capacity { (1 ≤ capacity) × (capacity ≤ 65536) }
     requires builders { (1 ≤ builders) × (builders ≤ 8) }
 {
     let Ok(readers) = readers_of(alloc, feeds) else {
         return Err(RunFault::Memory);
     };
-    run(rt, alloc, schema, readers, 1, builders, &OpenGate, out)?;
+    run(rt, alloc, schema, readers, capacity, builders, gate, out)?;
     Ok(())
 }
 
-/// A reader of each text.
-pub fn readers_of(alloc: Global, feeds: &[&'static str]) -> Result<Vec<&'static [u8]>, AllocError>
-    ensures { IfOk result (λ readers. vec_len readers ≡ length feeds.now) }
+/// What the run on one thread writes of the feeds that texts are.
+pub fn plain_text<'a>(
+    alloc: Global,
+    schema: &Schema,
+    feeds: &[&'a str],
+) -> Result<Vec<u8>, RunFault>
+    requires { length feeds.now ≤ 64 }
 {
-    let mut readers = Vec::with_capacity(alloc, feeds.len())?;
-    for feed in feeds {
-        readers.push(feed.as_bytes())?;
-    }
-    Ok(readers)
+    let Ok(readers) = readers_of(alloc, feeds) else {
+        return Err(RunFault::Memory);
+    };
+    let mut out = Vec::new(alloc);
+    run_plain(alloc, schema, readers, &mut out)?;
+    Ok(out)
 }

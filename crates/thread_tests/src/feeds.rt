@@ -42,3 +42,24 @@ impl<'a> Read for Torn<'a> {
         Ok(count)
     }
 }
+
+/// Hands its bytes out, at most 16 a read, and fails at the read after so many.
+#[derive(Drop)]
+pub struct Failing<'a> {
+    pub bytes: &'a [u8],
+    pub reads: u32,
+}
+
+impl<'a> Read for Failing<'a> {
+    fn read(&mut self, buf: &mut [u8]) -> io::Result<usize> {
+        if self.reads == 0 {
+            return Err(io::Error::from(io::ErrorKind::BrokenPipe));
+        }
+        self.reads -= 1;
+        let count = buf.len().min(self.bytes.len()).min(16);
+        let (piece, rest) = self.bytes.split_at(count);
+        buf[..count].copy_from_slice(piece);
+        self.bytes = rest;
+        Ok(count)
+    }
+}

@@ -1,6 +1,7 @@
 //! Gates that show that threads run beside one another.
 use crate::turn::Turn;
 use cube_threads::Gate;
+use std::sync::atomic::{AtomicU64, Ordering};
 
 /// Holds the first offer of each of two sources until that of the other has begun.
 #[derive(Drop)]
@@ -86,6 +87,50 @@ impl Gate for Late {
     fn after_take(&self, source: u32, _builder: u32, k: u64) {
         if source == 7 && k == 3 {
             self.taken.begin();
+        }
+    }
+}
+
+/// Holds the first offers of one source until so many parcels of the others were taken.
+#[derive(Drop)]
+pub struct Held {
+    source: u32,
+    awaited: u64,
+    taken: AtomicU64,
+    others: Turn,
+}
+
+impl Held {
+    /// Nothing was taken yet.
+    pub fn new(source: u32, awaited: u64) -> Held {
+        Held {
+            source,
+            awaited,
+            taken: AtomicU64::new(0),
+            others: Turn::new(),
+        }
+    }
+
+    /// Whether the source was held, and went on when the awaited parcels had been taken.
+    pub fn was_met(&self) -> bool {
+        self.others.was_met()
+    }
+}
+
+impl Gate for Held {
+    fn before_offer(&self, source: u32, _builder: u32, k: u64) {
+        if source == self.source && k == 1 {
+            self.others.hold();
+        }
+    }
+
+    fn after_take(&self, source: u32, _builder: u32, _k: u64) {
+        if source == self.source {
+            return;
+        }
+        let before = self.taken.fetch_add(1, Ordering::SeqCst);
+        if before.saturating_add(1) == self.awaited {
+            self.others.begin();
         }
     }
 }

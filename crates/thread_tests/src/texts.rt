@@ -30,8 +30,8 @@ pub fn build_texts<'a, T: Threads + Wait + Sync, G: Gate + Sync>(
     build(rt, alloc, schema, readers, capacity, builders, gate)
 }
 
-// A reader of each text.
-fn readers_of<'a>(alloc: Global, feeds: &[&'a str]) -> Result<Vec<&'a [u8]>, AllocError>
+/// A reader of each text.
+pub fn readers_of<'a>(alloc: Global, feeds: &[&'a str]) -> Result<Vec<&'a [u8]>, AllocError>
     ensures { IfOk result (λ readers. vec_len readers ≡ length feeds.now) }
 {
     let mut readers = Vec::with_capacity(alloc, feeds.len())?;
