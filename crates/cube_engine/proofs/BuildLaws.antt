@@ -32,7 +32,7 @@ in_turn-more source (first ∷ feeds) items =
 
 -- ---- what the list has of each source
 
-of_source-append : (some more : Arrivals) (source : ℕ) → of_source (some ++ more) source ≡ of_source some source ++ of_source more source
+pub of_source-append : (some more : Arrivals) (source : ℕ) → of_source (some ++ more) source ≡ of_source some source ++ of_source more source
 of_source-append some more source =
     ap (map (λ (arrival : ℕ × Item). arrival.1)) (filter-append (λ (arrival : ℕ × Item). arrival.0 == source) some more)
     ∙ map-append (λ (arrival : ℕ × Item). arrival.1) (filter (λ (arrival : ℕ × Item). arrival.0 == source) some) (filter (λ (arrival : ℕ × Item). arrival.0 == source) more)

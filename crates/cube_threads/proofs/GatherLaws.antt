@@ -10,6 +10,7 @@ use Rattle.cube_threads.specs.Parcels.{lines_of, parcels_of}
 use Rattle.cube_threads.specs.Gathering.{AreFresh, StandsAtFirst, Looks, Gathering, Gathers, from, taken_of}
 use Rattle.cube_threads.specs.declared.parcel.Parcel.{Parcel}
 use Rattle.cube_threads.specs.declared.parcel.Parcel.TheVariants.{Line, End}
+use Rattle.cube_engine.proofs.BuildLaws.{of_source-append}
 
 abbrev is_of : ℕ → ℕ × Item → Bool
 is_of source arrival = arrival.0 == source
@@ -17,12 +18,6 @@ is_of source arrival = arrival.0 == source
 abbrev item_of : ℕ × Item → Item
 item_of arrival = arrival.1
 
--- the items of a source among arrivals one after the other
-of_source-append : (a b : Arrivals) (source : ℕ) → of_source (a ++ b) source ≡ of_source a source ++ of_source b source
-of_source-append [] b source = refl
-of_source-append ((s, item) ∷ a) b source = elim (s == source) as (λ is. map item_of (cond is ((s, item) ∷ filter (is_of source) (a ++ b)) (filter (is_of source) (a ++ b))) ≡ map item_of (cond is ((s, item) ∷ filter (is_of source) a) (filter (is_of source) a)) ++ of_source b source) [
-  | true ↦ ap (λ items. item ∷ items) (of_source-append a b source)
-  | false ↦ of_source-append a b source
 ]
 
 of_source-same : (source : ℕ) (items : List Item) → of_source (from source items) source ≡ items

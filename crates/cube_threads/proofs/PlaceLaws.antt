@@ -1,9 +1,9 @@
 -- Lists that are changed place by place.
-use Rattle.std.proofs.Common.{◌≡◌, ◌<◌, ◌+◌, ◌++◌, ℕ, zero, suc, List, [], ◌∷◌, length, get_or, set, map, refl, ap, arith, ◌∙◌}
+use Rattle.std.proofs.Common.{◌≡◌, ◌<◌, ◌+◌, ◌++◌, ℕ, zero, suc, List, [], ◌∷◌, length, take, get_or, set, map, refl, ap, arith, ◌∙◌}
 use Rattle.std.proofs.lemmas.Grind.{common_steps}
 use Rattle.std.proofs.lemmas.List.{get_or_append_left}
 use Rattle.std.proofs.lemmas.List.Elements.{All-append}
-use Rattle.std.proofs.Math.Seq.{get_or-append_seam}
+use Rattle.std.proofs.Math.Seq.{get_or-append_seam, take-append_seam}
 use Rattle.std.specs.List.{All, AllZip}
 
 -- the first places changed by f, the others as they were
@@ -66,3 +66,7 @@ pub all_zip_empty : {A B : Type 0} (R : A → B → Type 0) (xs : List A) (ys : 
 all_zip_empty R [] [] a b = record {}
 all_zip_empty R [] (y ∷ ys) a b = absurd (omega (arith, b))
 all_zip_empty R (x ∷ xs) ys a b = absurd (omega (arith, a))
+
+-- what a lent slice wrote back into a list of its length
+pub take-written_back : {A : Type 0} (xs ys : List A) (n : _) → length xs ≡ n → take n (xs ++ ys) ≡ xs
+take-written_back xs ys n e = rw (← e) (take-append_seam xs ys)

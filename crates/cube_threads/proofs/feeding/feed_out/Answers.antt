@@ -1,16 +1,12 @@
 use Rattle.std.proofs.Common.{◌≡◌, List, ◌++◌, length, take, arith, subst, ap}
 use Rattle.std.proofs.lemmas.List.{length-map}
-use Rattle.std.proofs.Math.Seq.{take-append_seam}
 use Rattle.cube_link.specs.Link.{Sending}
 use Rattle.cube_threads.specs.Parcels.{parcels_of, sends}
 use Rattle.cube_threads.specs.Feeding.{AreReceipts}
 use Rattle.cube_threads.specs.declared.parcel.Parcel.{Parcel}
 use Rattle.cube_threads.proofs.SendLaws.{feeds-sends_all}
+use Rattle.cube_threads.proofs.PlaceLaws.{take-written_back}
 use Rattle.cube_threads.proofs.feeding.feed_out.Goals as goal
-
--- what a lent slice wrote back into a vector of its length
-written_back : {A : Type 0} (xs ys : List A) (n : _) → length xs ≡ n → take n (xs ++ ys) ≡ xs
-written_back xs ys n e = rw (← e) (take-append_seam xs ys)
 
 pub returns : goal.returns
 returns g c =
@@ -18,5 +14,5 @@ returns g c =
     let all = sent.ensures in
     let same : length sent.new.outlets ≡ c.args.outlets.len =
     omega (arith, ap length all.sent, length-map c.as_mut_slice.result.now (sends (parcels_of all.items)), c.as_mut_slice.ensures.len) in
-    let receipts = subst (λ (xs : List (Sending Parcel)). AreReceipts xs c.finish_all.result) (written_back sent.new.outlets _ c.args.outlets.len same) c.finish_all.ensures in
+    let receipts = subst (λ (xs : List (Sending Parcel)). AreReceipts xs c.finish_all.result) (take-written_back sent.new.outlets _ c.args.outlets.len same) c.finish_all.ensures in
     feeds-sends_all c.args.feed.to_come c.args.outlets.items sent.new.outlets _ (rw c.as_mut_slice.ensures.value at all) receipts

@@ -1,21 +1,17 @@
 use Rattle.std.proofs.Common.{arith, ◌≡◌, ◌++◌, ◌∙◌, List, ap, length, map, take}
 use Rattle.std.proofs.lemmas.List.{length-map}
-use Rattle.std.proofs.Math.Seq.{take-append_seam}
 use Rattle.cube_threads.specs.Wiring.{coming_of}
 use Rattle.cube_threads.specs.declared.roster.Feeder.{Feeder}
 use Rattle.cube_threads.specs.declared.roster.Gatherer.{Gatherer}
+use Rattle.cube_threads.proofs.PlaceLaws.{take-written_back}
 use Rattle.cube_threads.proofs.setup.set_up.Goals as goal
-
--- what a lent slice wrote back into a vector of its length
-written_back : {A : Type 0} (xs ys : List A) (n : _) → length xs ≡ n → take n (xs ++ ys) ≡ xs
-written_back xs ys n e = rw (← e) (take-append_seam xs ys)
 
 pub returns-clause-builders : goal.returns-clause-builders
 returns-clause-builders g c =
     let f = λ (gatherer : Gatherer g.row.B.Denot). gatherer.builder in
     let new = c.feeders_of.new.gatherers in
     let count : length new ≡ c.in_ok-gatherers.gatherers.len = omega (arith, c.feeders_of.auto.gatherers, c.as_mut_slice.ensures.len) in
-    ap (map f) (written_back new _ c.in_ok-gatherers.gatherers.len count)
+    ap (map f) (take-written_back new _ c.in_ok-gatherers.gatherers.len count)
     ∙ c.in_ok-feeders.ensures.builders
     ∙ ap (map f) c.as_mut_slice.ensures.value
     ∙ c.in_ok-gatherers.ensures.builders
