@@ -7,6 +7,7 @@ don't allow for the cause, where standard output is neither empty nor whole (or,
 number says), where it crashes, or where it runs past its time. Needs python3 and cc.
 """
 import argparse
+import glob
 import os
 import random
 import re
@@ -171,6 +172,25 @@ def refusals_in_turn(trials):
         words = ["print", "--ring", "1", "--builders", builders, "schema.toml", *few]
         trials.trial(f"memory refused in turn: print, 64 feeds, {builders} builders",
                      lambda: trials.in_turn("alloc", words, MEMORY))
+
+
+def growths_in_turn(trials):
+    """Each allocation refused in turn in the library's tests of growths, where their program was built (rt ci, rt test)."""
+    for path in sorted(glob.glob(os.path.join(HERE, "..", "crates", "*_tests", "out", "*_tests_tests"))):
+        listed = subprocess.run([path, "--list"], stdout=subprocess.PIPE, text=True, timeout=60).stdout
+        for name in re.findall(r"[\w:]*growth[\w:]*", listed):
+            tests = Program(os.path.abspath(path), trials.program.shim, trials.program.folder)
+            trials.trial(f"memory refused in turn: test {name}", lambda: test_in_turn(tests, name))
+
+
+def test_in_turn(tests, name, limit=20000):
+    for turn in range(1, limit):
+        answer = tests.run([name], refuse=f"alloc {turn}")
+        if answer.status != 0:
+            return f"alloc {turn}: status {answer.status}, {answer.out[-200:]!r}"
+        if not answer.was_refused:
+            return turn - 1
+    return f"more than {limit} calls"
 
 
 def short(program, words, given, how):
@@ -458,6 +478,7 @@ def main():
         subprocess.run(["cc", "-O2", "-shared", "-fPIC", "-o", shim, os.path.join(HERE, "refuse.c"), "-ldl"], check=True)
         trials = Trials(Program(os.path.abspath(given.program), shim, folder), given.only)
         refusals_in_turn(trials)
+        growths_in_turn(trials)
         ends_of_output(trials)
         cut_feeds(trials)
         big_inputs(trials)
