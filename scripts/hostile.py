@@ -7,7 +7,6 @@ don't allow for the cause, where standard output is neither empty nor whole (or,
 number says), where it crashes, or where it runs past its time. Needs python3 and cc.
 """
 import argparse
-import glob
 import os
 import random
 import re
@@ -176,7 +175,10 @@ def refusals_in_turn(trials):
 
 def growths_in_turn(trials):
     """Each allocation refused in turn in the library's tests of growths, where their program was built (rt ci, rt test)."""
-    for path in sorted(glob.glob(os.path.join(HERE, "..", "crates", "*_tests", "out", "*_tests_tests"))):
+    for crate in ("cells_tests", "engine_tests"):
+        path = os.path.join(HERE, "..", "crates", crate, "out", f"{crate}_tests")
+        if not os.path.exists(path):
+            continue
         listed = subprocess.run([path, "--list"], stdout=subprocess.PIPE, text=True, timeout=60).stdout
         for name in re.findall(r"[\w:]*growth[\w:]*", listed):
             tests = Program(os.path.abspath(path), trials.program.shim, trials.program.folder)
