@@ -10,7 +10,7 @@ use Rattle.std.specs.Cmp.Lexicographic.{slice_cmp}
 use Rattle.std.proofs.lemmas.Bool.{cases_Bool, both_ways}
 use Rattle.std.proofs.lemmas.Cmp.{eq_by_cmp_equiv}
 use Rattle.std.proofs.lemmas.List.{get_or-map, length-map}
-use Rattle.std.proofs.lemmas.List.Elements.{All-from_recursion, recursion_from_All, All-contains, Contains-get_or, All-head, All-tail}
+use Rattle.std.proofs.lemmas.List.Elements.{All-from_recursion, recursion_from_All, All-contains, Contains-get_or, All-head, All-tail, All-nil, All-cons}
 use Rattle.std.proofs.lemmas.List.Sorted.{IsPermutation-refl, IsPermutation-sym, IsPermutation-map, Contains-permutation}
 use Rattle.std.proofs.lemmas.Map.Keys.{sorted_from_all_adjacent, IsDistinct-IsPermutation, apart_from_distinct, IsDistinct-head, IsDistinct-tail, IsDistinct-cons}
 use Rattle.std.proofs.lemmas.Map.Made.{IsDistinct-keys_filter}
@@ -196,6 +196,19 @@ placed_cells dictionaries measures wants cells f places all moved = each_of _ pl
 -- a cell by its key
 abbrev pub decode : Dictionaries → Codes × Tally → Key × Tally
 decode dictionaries c = (key_at dictionaries c.0.codes, c.1)
+
+-- what shows the same codes and tallies shows the same cells
+pub same_cells : (dictionaries : Dictionaries) {X Y : Type 0} (f : X → Codes × Tally) (g : Y → Codes × Tally) (xs : List X) (ys : List Y) → map f xs ≡ map g ys → map (λ x. decode dictionaries (f x)) xs ≡ map (λ y. decode dictionaries (g y)) ys
+same_cells dictionaries f g xs ys same = sym (map_map f (decode dictionaries) xs) ∙ ap (map (decode dictionaries)) same ∙ map_map g (decode dictionaries) ys
+
+-- and what is true of each tally there is true of each tally here
+pub same_tallies : (P : Tally → Type 0) {X Y : Type 0} (f : X → Codes × Tally) (g : Y → Codes × Tally) (xs : List X) (ys : List Y) → map f xs ≡ map g ys → All (λ y. P (g y).1) ys → All (λ x. P (f x).1) xs
+same_tallies P f g [] ys same all = All-nil (λ x. P (f x).1)
+same_tallies P f g (x ∷ xs) [] same all = cc same
+same_tallies P f g (x ∷ xs) (y ∷ ys) same all =
+    let first : f x ≡ g y = cc same in
+    let rest : map f xs ≡ map g ys = cc same in
+    All-cons (λ x. P (f x).1) x xs (subst (λ (c : Codes × Tally). P c.1) (sym first) (All-head (λ y. P (g y).1) y ys all)) (same_tallies P f g xs ys rest (All-tail (λ y. P (g y).1) y ys all))
 
 -- wanted cells in key order give the rows
 rows_of_cells : (dictionaries : Dictionaries) (measures : ℕ) (test : Key → Bool) (wants : List Want) (aggregates : List Agg) (cells : CodedCells) {X : Type 0} (f : X → Codes × Tally) (places : List X) (rows : List Row) → All IsDictionary dictionaries → length dictionaries ≤ 8 → All (IsCodedCell dictionaries measures) cells → IsDistinct same_codes (keys_of cells) → AreWantsOf dictionaries test wants

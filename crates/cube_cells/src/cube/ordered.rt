@@ -6,6 +6,7 @@ ghost use Rattle.cube_core.specs.declared.key.Key.{Key};
 ghost use Rattle.cube_cells.specs.Codes.{coords_at, key_at};
 ghost use Rattle.cube_cells.specs.Rows.{AreAnswersOf, AreRowsInOrder, IsRowOf};
 ghost use Rattle.cube_cells.specs.Tally.{Tally};
+ghost use Rattle.cube_cells.specs.declared.cube.codes.Codes.{Codes};
 
 use super::codes::Codes;
 use super::dictionary::Dictionary;
@@ -22,6 +23,13 @@ pub struct Place<'c> {
     pub cell: &'c Cell,
 }
 
+// A cell, and the codes of its key.
+#[derive(Drop)]
+struct Coded<'c> {
+    codes: Codes,
+    cell: &'c Cell,
+}
+
 /// Cells of a cube in the order of their keys, with the aggregates that their rows answer.
 ///
 /// It holds no row: each is made when it is asked for.
@@ -30,7 +38,7 @@ pub struct OrderedCells<'c> {
     alloc: Global,
     aggregates: &'c [Agg],
     dictionaries: &'c [Dictionary],
-    places: Vec<Place<'c>>,
+    cells: Vec<Coded<'c>>,
 }
 
 impl<'c> Model for OrderedCells<'c> {
@@ -44,41 +52,42 @@ impl<'c> Model for OrderedCells<'c> {
 
     ghost view = { λ o. record {
       aggregates = o.aggregates.now;
-      cells = map (λ place. (key_at o.dictionaries.now place.codes.now.codes, place.cell.now)) o.places.items;
+      cells = map (λ coded. (key_at o.dictionaries.now coded.codes.codes, coded.cell.now)) o.cells.items;
     } };
 
     ghost invariant = { λ o. (length o.dictionaries.now ≤ 8)
-        × All (λ place. list_all (is_aggregate_of (length place.cell.now.bags)) o.aggregates.now ≡ true) o.places.items };
+        × All (λ coded. list_all (is_aggregate_of (length coded.cell.now.bags)) o.aggregates.now ≡ true) o.cells.items };
 }
 
 impl<'c> OrderedCells<'c> {
-    /// The cells of these places.
+    /// The cells of these places. The only error is want of memory.
     pub(super) fn of(
         alloc: Global,
         aggregates: &'c [Agg],
         dictionaries: &'c [Dictionary],
-        places: Vec<Place<'c>>,
-    ) -> OrderedCells<'c>
+        places: &[Place<'c>],
+    ) -> Result<OrderedCells<'c>, AllocError>
         requires dictionaries { length dictionaries.now ≤ 8 }
         requires aggregates { All (λ place. list_all
-            (is_aggregate_of (length place.cell.now.bags)) aggregates.now ≡ true) places.items }
-        ensures aggregates { result.aggregates ≡ aggregates.now }
-        ensures cells { result.cells ≡ map
-            (λ place. (key_at dictionaries.now place.codes.now.codes, place.cell.now)) places.entry.items }
+            (is_aggregate_of (length place.cell.now.bags)) aggregates.now ≡ true) places.now }
+        ensures { IfOk result (λ ordered. (ordered.aggregates ≡ aggregates.now) ×
+            (ordered.cells ≡ map (λ place.
+            (key_at dictionaries.now place.codes.now.codes, place.cell.now)) places.now)) }
     {
-        OrderedCells {
+        let cells = coded_cells(alloc, places)?;
+        Ok(OrderedCells {
             alloc,
             aggregates,
             dictionaries,
-            places,
-        }
+            cells,
+        })
     }
 
     /// How many cells there are.
     pub fn len(&self) -> usize
         ensures { result ≡ length self.now.cells }
     {
-        self.places.len()
+        self.cells.len()
     }
 
     /// The row of the cell at a place, counted from 0, in the memory of another row, whose values are dropped.
@@ -90,11 +99,11 @@ impl<'c> OrderedCells<'c> {
         ensures { IfOk result (λ row. (unused : Key × Tally) →
             IsRowOf self.now.aggregates (get_or self.now.cells place unused) row) }
     {
-        let place = &self.places[place];
+        let coded = &self.cells[place];
         let Row { key, answers } = room;
         let coords = key.coords.into_vec();
-        let key = key_in(self.alloc, self.dictionaries, place.codes, coords)?;
-        row_in(self.aggregates, key, place.cell, answers.into_vec())
+        let key = key_in(self.alloc, self.dictionaries, &coded.codes, coords)?;
+        row_in(self.aggregates, key, coded.cell, answers.into_vec())
     }
 
     /// The rows of the cells, in their order. The only error is want of memory.
@@ -107,6 +116,23 @@ impl<'c> OrderedCells<'c> {
         }
         Ok(rows)
     }
+}
+
+// The cells of places, with copies of their codes: one short pass, in which the codes of many cells are fetched at a
+// time.
+fn coded_cells<'c>(alloc: Global, places: &[Place<'c>]) -> Result<Vec<Coded<'c>>, AllocError>
+    ensures { IfOk result (λ cells.
+        map {B = Codes × Tally} (λ coded. (coded.codes, coded.cell.now)) cells.items
+        ≡ map (λ place. (place.codes.now, place.cell.now)) places.now) }
+{
+    let mut cells = Vec::with_capacity(alloc, places.len())?;
+    for place in places {
+        cells.push(Coded {
+            codes: *place.codes,
+            cell: place.cell,
+        })?;
+    }
+    Ok(cells)
 }
 
 /// A row of no coordinate and no answer; it takes no memory.

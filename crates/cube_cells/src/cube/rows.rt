@@ -65,7 +65,7 @@ impl Cube {
     {
         let places = few_places_in_order(self.alloc, &self.dictionaries, &self.cells, wants)?;
         let aggregates = self.schema.aggregates();
-        OrderedCells::of(self.alloc, aggregates, &self.dictionaries, places).rows()
+        OrderedCells::of(self.alloc, aggregates, &self.dictionaries, &places)?.rows()
     }
 
     /// The rows of the cells whose codes are wanted.
@@ -86,12 +86,12 @@ impl Cube {
     {
         let ranks = ranks_of_all(self.alloc, &self.dictionaries)?;
         let places = places_in_order(self.alloc, &ranks, &self.cells, wants)?;
-        Ok(OrderedCells::of(
+        OrderedCells::of(
             self.alloc,
             self.schema.aggregates(),
             &self.dictionaries,
-            places,
-        ))
+            &places,
+        )
     }
 }
 
