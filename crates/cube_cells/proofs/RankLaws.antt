@@ -48,13 +48,6 @@ above_from o x y below = o.antisymm x y ∙ ap ordering_reverse below
 pub nat_less : (x y : ℕ) → x < y → nat_cmp x y ≡ Less
 nat_less x y below = rw (lt-ltb x y below) refl
 
--- ---- two lists, place by place
-pub zip_push : {A B : Type 0} (R : A → B → Type 0) (xs : List A) (ys : List B) (x : A) (y : B) → AllZip R xs ys → R x y → AllZip R (xs ++ x ∷ []) (ys ++ y ∷ [])
-zip_push R [] [] x y all is = (is, tt)
-zip_push R [] (b ∷ ys) x y all is = absurd all
-zip_push R (a ∷ xs) [] x y all is = absurd all
-zip_push R (a ∷ xs) (b ∷ ys) x y all is = (all.0, zip_push R xs ys x y all.1 is)
-
 -- ---- the ranks of texts
 -- places from 0 on, put in the order of their texts
 pub in_order : (texts : List (List ℕ)) (places : List ℕ) → IsPermutation (range_with_len 0 (length texts)) places → IsSortedBy (λ a b. is_lt (slice_cmp nat_cmp (get_or texts a []) (get_or texts b []))) places → AreInOrder texts places

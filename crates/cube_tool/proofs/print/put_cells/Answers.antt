@@ -3,8 +3,8 @@ use Rattle.std.proofs.lemmas.List.{take_more}
 use Rattle.cube_core.specs.declared.key.Key.{Key}
 use Rattle.cube_cells.specs.Tally.{Tally}
 use Rattle.cube_cells.specs.Rows.{IsRowOf}
-use Rattle.cube_cells.proofs.RankLaws.{zip_push}
 use Rattle.cube_tool.proofs.LineLaws.{rows_added}
+use Rattle.cube_core.proofs.ListLaws.{AllZip-push}
 use Rattle.cube_tool.proofs.print.put_cells.Goals as goal
 
 pub loop-place-preserved : goal.loop-place-preserved
@@ -17,6 +17,6 @@ loop-place-preserved c =
     let before = c.loop-place.invariant in
     rw (take_more o.cells i unused inside) (record {
       rows = before.rows ++ row ∷ [];
-      are_rows = zip_push (IsRowOf o.aggregates) (take i o.cells) before.rows (get_or o.cells i unused) row before.are_rows (c.in_ok-row.ensures unused);
+      are_rows = AllZip-push (IsRowOf o.aggregates) (take i o.cells) before.rows (get_or o.cells i unused) row before.are_rows (c.in_ok-row.ensures unused);
       added = rows_added before.rows row _ _ _ before.added c.in_ok-put_row.ensures;
     })
