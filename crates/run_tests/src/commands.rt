@@ -95,7 +95,8 @@ fn the_whole_cube_is_printed(rt: HostRuntime) -> Result<(), Fail> {
     let schema = Schema::sample(alloc)?;
     let total = "\\N,\\N,1,1,0,\\N,\\N,\\N,\\N\n";
     expect_printed(&rt, alloc, &schema, EMPTY, total);
-    let null = "\\N,a,0,0,1,5,5,5,5/1\n\\N,\\N,0,1,1,5,5,5,5/1\n\\N,a,1,0,1,5,5,5,5/1\n\\N,\\N,1,1,1,5,5,5,5/1\n";
+    let null =
+        "\\N,a,0,0,1,5,5,5,5/1\n\\N,\\N,0,1,1,5,5,5,5/1\n\\N,a,1,0,1,5,5,5,5/1\n\\N,\\N,1,1,1,5,5,5,5/1\n";
     expect_printed(&rt, alloc, &schema, NULL, null);
     Ok(())
 }
@@ -110,12 +111,10 @@ fn a_rollup_has_no_cell_of_the_kind_alone(rt: HostRuntime) -> Result<(), Fail> {
 }
 
 // The line that isn't refused is printed, and the status tells of the others.
-fn expect_told(
-    rt: &impl Abort,
-    found: Result<(Status, Vec<u8>), Failure>,
-) -> Result<(), Fail> {
+fn expect_told(rt: &impl Abort, found: Result<(Status, Vec<u8>), Failure>) -> Result<(), Fail> {
     let (status, text) = found.ok().ok_or("the command failed")?;
-    let lines = "w,a,0,0,1,1,1,1,1/1\nw,\\N,0,1,1,1,1,1,1/1\n\\N,a,1,0,1,1,1,1,1/1\n\\N,\\N,1,1,1,1,1,1,1/1\n";
+    let lines =
+        "w,a,0,0,1,1,1,1,1/1\nw,\\N,0,1,1,1,1,1,1/1\n\\N,a,1,0,1,1,1,1,1/1\n\\N,\\N,1,1,1,1,1,1,1/1\n";
     let rest = text.as_slice().strip_prefix(HEADER.as_bytes());
     assert!(rt; rest == Some(lines.as_bytes()));
     assert!(rt; status == Status::LinesRefused);
