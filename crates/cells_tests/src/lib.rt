@@ -12,6 +12,8 @@ mod facts;
 #[cfg(test)]
 mod growths;
 #[cfg(test)]
+mod logs;
+#[cfg(test)]
 mod queries;
 #[cfg(test)]
 mod sample;
