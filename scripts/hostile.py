@@ -11,6 +11,7 @@ import os
 import random
 import re
 import resource
+import shutil
 import subprocess
 import sys
 import tempfile
@@ -348,6 +349,27 @@ def seconds(program, given):
     return after.ru_utime + after.ru_stime - before.ru_utime - before.ru_stime, answer
 
 
+def under_valgrind(trials):
+    """Some commands under valgrind, where it is installed: no use of memory that isn't the program's."""
+    checker = shutil.which("valgrind")
+    if not checker:
+        return
+    program = trials.program
+    made, _ = commands(program)
+    for name in ("no words", "print, 3 feeds, 2 builders", "slice", "refusals"):
+        words, given = made[name]
+        trials.trial(f"under valgrind: {name}", lambda: checked(program, checker, words, given))
+
+
+def checked(program, checker, words, given):
+    whole = program.run(words, given)
+    call = [checker, "-q", "--error-exitcode=99", "--leak-check=no", program.path, *words]
+    ran = subprocess.run(call, cwd=program.folder, input=given, stdout=subprocess.PIPE, stderr=subprocess.PIPE, timeout=300)
+    if (ran.returncode, ran.stdout, ran.stderr) == (whole.status, whole.out, whole.err):
+        return None
+    return f"status {ran.returncode}, {ran.stderr[:300]!r}"
+
+
 def near_linear(program, feed_of, lines=100000, times=4):
     """Why so many times the lines take more than twice so many times the processor time."""
     few, one = min(((seconds(program, feed_of(lines))) for _ in range(2)), key=lambda it: it[0])
@@ -485,6 +507,7 @@ def main():
         cut_feeds(trials)
         big_inputs(trials)
         hurtful(trials)
+        under_valgrind(trials)
         generated(trials, given.cases, given.seed)
     print(f"{trials.passed} passed, {trials.failed} failed")
     return 1 if trials.failed else 0
