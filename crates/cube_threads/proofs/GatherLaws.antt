@@ -12,14 +12,6 @@ use Rattle.cube_threads.specs.declared.parcel.Parcel.{Parcel}
 use Rattle.cube_threads.specs.declared.parcel.Parcel.TheVariants.{Line, End}
 use Rattle.cube_engine.proofs.BuildLaws.{of_source-append}
 
-abbrev is_of : ℕ → ℕ × Item → Bool
-is_of source arrival = arrival.0 == source
-
-abbrev item_of : ℕ × Item → Item
-item_of arrival = arrival.1
-
-]
-
 of_source-same : (source : ℕ) (items : List Item) → of_source (from source items) source ≡ items
 of_source-same source [] = refl
 of_source-same source (item ∷ items) = rw (eq-eqb source source refl) (ap (λ (rest : List Item). item ∷ rest) (of_source-same source items))
