@@ -11,7 +11,7 @@ use std::alloc::{AllocError, Global};
 use std::marker::Model;
 
 /// How many pairs the first block of a log has room for.
-const ROOM: usize = 128;
+const ROOM: usize = 32;
 
 /// How many pairs of a log are looked at before it grows.
 const LOOKS: usize = 8;

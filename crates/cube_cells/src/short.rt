@@ -9,7 +9,7 @@ use std::alloc::{AllocError, Global};
 use std::marker::Model;
 
 /// The most pairs that a list takes.
-pub const FEW: usize = 64;
+pub const FEW: usize = 16;
 
 /// How many pairs the first block of a list has room for.
 const ROOM: usize = 6;
