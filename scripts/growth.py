@@ -1,0 +1,85 @@
+#!/usr/bin/env python3
+"""Times `datacube print` over a tenth to ten times as many records, prints a table, and draws docs/growth.svg.
+
+    scripts/growth.py [--runs N] [--most F] [WORKLOAD...]
+
+Each figure is the processor seconds of all threads, the lowest of N runs, with one builder and one feed. The plot has a
+line for each workload, seconds against records, both by powers of ten: where time grows with the records, the line rises
+by one power for each.
+"""
+import argparse
+import math
+import os
+import tempfile
+
+from threads import ROOT, THREADS, timed
+from workloads import WORKLOADS, make
+
+SCALES = (0.1, 0.3, 1.0, 3.0, 10.0)
+COLOURS = {"wide": "#1b6ca8", "tall": "#c0392b", "churn": "#1e8449", "many": "#7d3c98", "sparse": "#b9770e"}
+WIDE, HIGH, LEFT, BELOW, ABOVE, RIGHT = 640, 400, 60, 44, 14, 90
+
+
+def measure(name, scale, runs):
+    with tempfile.TemporaryDirectory() as folder:
+        files = make(folder, name, 1, scale)
+        return min(timed([THREADS, "print", *files])[1] for _ in range(runs))
+
+
+def place(value, ends, low, high):
+    """Where a value stands between two ends, by powers of ten."""
+    first, last = (math.log10(end) for end in ends)
+    return low + (math.log10(value) - first) / (last - first) * (high - low)
+
+
+def powers(ends):
+    return [10.0**power for power in range(round(math.log10(ends[0])), round(math.log10(ends[1])) + 1)]
+
+
+def ends_of(values):
+    return 10.0 ** math.floor(math.log10(min(values))), 10.0 ** math.ceil(math.log10(max(values)))
+
+
+def plot(lines):
+    """An SVG of lines of (records, seconds), by the names of their workloads."""
+    across = ends_of([records for line in lines.values() for records, _ in line])
+    up = ends_of([seconds for line in lines.values() for _, seconds in line])
+    x = lambda records: place(records, across, LEFT, WIDE - RIGHT)
+    y = lambda seconds: place(seconds, up, HIGH - BELOW, ABOVE)
+    out = [f'<svg xmlns="http://www.w3.org/2000/svg" viewBox="0 0 {WIDE} {HIGH}" font-family="sans-serif" font-size="12">',
+           f'<rect width="{WIDE}" height="{HIGH}" fill="white"/>']
+    for records in powers(across):
+        out.append(f'<path d="M{x(records):.1f} {ABOVE}V{HIGH - BELOW}" stroke="#ddd"/>')
+        out.append(f'<text x="{x(records):.1f}" y="{HIGH - BELOW + 16}" text-anchor="middle">{records:,.0f}</text>')
+    for seconds in powers(up):
+        out.append(f'<path d="M{LEFT} {y(seconds):.1f}H{WIDE - RIGHT}" stroke="#ddd"/>')
+        out.append(f'<text x="{LEFT - 6}" y="{y(seconds) + 4:.1f}" text-anchor="end">{seconds:g} s</text>')
+    out.append(f'<text x="{(LEFT + WIDE - RIGHT) / 2}" y="{HIGH - 8}" text-anchor="middle">records</text>')
+    for name, line in lines.items():
+        points = " ".join(f"{x(records):.1f},{y(seconds):.1f}" for records, seconds in line)
+        colour = COLOURS[name]
+        out.append(f'<polyline points="{points}" fill="none" stroke="{colour}" stroke-width="2"/>')
+        out += [f'<circle cx="{x(records):.1f}" cy="{y(seconds):.1f}" r="3" fill="{colour}"/>' for records, seconds in line]
+        records, seconds = line[-1]
+        out.append(f'<text x="{x(records) + 8:.1f}" y="{y(seconds) + 4:.1f}" fill="{colour}">{name}</text>')
+    return "\n".join([*out, "</svg>", ""])
+
+
+def main():
+    parser = argparse.ArgumentParser(description=__doc__, formatter_class=argparse.RawDescriptionHelpFormatter)
+    parser.add_argument("workloads", nargs="*", metavar="WORKLOAD", help=", ".join(WORKLOADS))
+    parser.add_argument("--runs", type=int, default=3)
+    parser.add_argument("--most", type=float, default=SCALES[-1], help="the most times the workload's records")
+    words = parser.parse_args()
+    scales = [scale for scale in SCALES if scale <= words.most]
+    print("| workload | " + " | ".join(f"× {scale:g}" for scale in scales) + " |\n|" + "---|" * (len(scales) + 1))
+    lines = {}
+    for name in words.workloads or WORKLOADS:
+        lines[name] = [(int(WORKLOADS[name][0] * scale), measure(name, scale, words.runs)) for scale in scales]
+        print(f"| `{name}` | " + " | ".join(f"{records:,}: {seconds:.2f} s" for records, seconds in lines[name]) + " |", flush=True)
+    with open(os.path.join(ROOT, "docs", "growth.svg"), "w") as out:
+        out.write(plot(lines))
+
+
+if __name__ == "__main__":
+    main()

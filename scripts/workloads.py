@@ -1,0 +1,61 @@
+"""The workloads of the measurements: schemas and feeds, made anew and the same on every machine."""
+import random
+
+# records, the number of values of each dimension, measures with their ranges, shares of updates and of deletes
+WORKLOADS = {
+    "wide": (12_500, (2, 2, 3, 3, 3, 4, 4, 5), {"amount": (1, 100_000)}, 0, 0),
+    "tall": (250_000, (20, 20, 15, 12), {"amount": (1, 1_000_000), "qty": (1, 100)}, 0, 0),
+    "churn": (250_000, (30, 25, 12, 8), {"amount": (1, 1_000_000)}, 0.3, 0.2),
+    "many": (320_000, (40, 10, 10, 6), {"amount": (1, 100_000)}, 0.2, 0.1),
+    "sparse": (75_000, (2000, 1000, 500, 300), {"amount": (-(10**12), 10**12)}, 0, 0),
+}
+
+
+def write_schema(path, dimensions, measures):
+    quoted = lambda names: "[" + ", ".join(f'"{name}"' for name in names) + "]"
+    aggregates = ["count(*)"] + [f"{kind}({name})" for name in measures for kind in ("sum", "min", "max", "avg")]
+    with open(path, "w") as out:
+        out.write(f"dimensions = {quoted(dimensions)}\nmeasures = {quoted(measures)}\naggregates = {quoted(aggregates)}\n")
+
+
+class Source:
+    """One feed as it is written: the ids that are present, and the file."""
+
+    def __init__(self, path, header):
+        self.out = open(path, "w")
+        self.out.write(header)
+        self.present, self.next = [], 1
+
+    def change(self, pick, values, updates, deletes):
+        kind = pick.random()
+        if kind < updates + deletes and self.present:
+            at = pick.randrange(len(self.present))
+            if kind < updates:
+                self.out.write(f"U,{self.present[at]},{values}\n")
+            else:
+                self.present[at], self.present[-1] = self.present[-1], self.present[at]
+                self.out.write(f"D,{self.present.pop()}\n")
+        else:
+            name = f"order-{self.next}"
+            self.next += 1
+            self.present.append(name)
+            self.out.write(f"I,{name},{values}\n")
+
+
+def make(folder, name, sources, scale):
+    """Writes the schema and the feeds of a workload; answers their paths."""
+    records, cards, measures, updates, deletes = WORKLOADS[name]
+    pick = random.Random(f"{name} {sources}")
+    dimensions = [f"d{at + 1}" for at in range(len(cards))]
+    schema = f"{folder}/schema.toml"
+    write_schema(schema, dimensions, measures)
+    header = ",".join(["op", "id", *dimensions, *measures]) + "\n"
+    paths = [f"{folder}/feed{at + 1}.csv" for at in range(sources)]
+    feeds = [Source(path, header) for path in paths]
+    for at in range(int(records * scale)):
+        texts = [f"value-{int(card * pick.random() ** 1.5)}" for card in cards]
+        numbers = [str(pick.randint(*ends)) for ends in measures.values()]
+        feeds[at % sources].change(pick, ",".join(texts + numbers), updates, deletes)
+    for feed in feeds:
+        feed.out.close()
+    return [schema, *paths]
