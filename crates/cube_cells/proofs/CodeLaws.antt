@@ -11,8 +11,8 @@ use Rattle.cube_cells.specs.Cube.{AddsTexts, MayAddTexts}
 
 -- ---- dimension by dimension
 -- one dimension more
-pub codes_more : (dictionaries : Dictionaries) (coords : List Coord) (codes : List ℕ) (i code : ℕ) → AreCodesOf (take i dictionaries) (take i coords) codes → i < length dictionaries → length coords ≡ length dictionaries → i < length codes → IsCodeOf (get_or dictionaries i []) (get_or coords i coord.All) code → AreCodesOf (take (i + 1) dictionaries) (take (i + 1) coords) (set codes i code)
-codes_more dictionaries coords codes i code are inside width room of = rw add-one (step dictionaries coords codes i are inside width room of) where
+pub AreCodesOf-more : (dictionaries : Dictionaries) (coords : List Coord) (codes : List ℕ) (i code : ℕ) → AreCodesOf (take i dictionaries) (take i coords) codes → i < length dictionaries → length coords ≡ length dictionaries → i < length codes → IsCodeOf (get_or dictionaries i []) (get_or coords i coord.All) code → AreCodesOf (take (i + 1) dictionaries) (take (i + 1) coords) (set codes i code)
+AreCodesOf-more dictionaries coords codes i code are inside width room of = rw add-one (step dictionaries coords codes i are inside width room of) where
   step : (ds : Dictionaries) (cs : List Coord) (xs : List ℕ) (i : ℕ) → AreCodesOf (take i ds) (take i cs) xs → i < length ds → length cs ≡ length ds → i < length xs → IsCodeOf (get_or ds i []) (get_or cs i coord.All) code → AreCodesOf (take (suc i) ds) (take (suc i) cs) (set xs i code)
   step [] cs xs i are inside width room of = absurd (omega arith)
   step (texts ∷ ds) [] xs i are inside width room of = absurd (omega (arith, width))
@@ -20,8 +20,8 @@ codes_more dictionaries coords codes i code are inside width room of = rw add-on
   step (texts ∷ ds) (c ∷ cs) (x ∷ xs) zero are inside width room of = (of, (and_parts (x == all_code) (list_all (λ code. code == all_code) xs) are).1)
   step (texts ∷ ds) (c ∷ cs) (x ∷ xs) (suc i) are inside width room of = (are.0, step ds cs xs i are.1 (omega (arith, inside)) (omega (arith, width)) (omega (arith, room)) of)
 
-pub valid_more : (dictionaries : Dictionaries) (codes : List ℕ) (i code : ℕ) → are_codes (take i dictionaries) codes ≡ true → i < length dictionaries → i < length codes → is_code (get_or dictionaries i []) code ≡ true → are_codes (take (i + 1) dictionaries) (set codes i code) ≡ true
-valid_more dictionaries codes i code are inside room of = rw add-one (step dictionaries codes i are inside room of) where
+pub are_codes-more : (dictionaries : Dictionaries) (codes : List ℕ) (i code : ℕ) → are_codes (take i dictionaries) codes ≡ true → i < length dictionaries → i < length codes → is_code (get_or dictionaries i []) code ≡ true → are_codes (take (i + 1) dictionaries) (set codes i code) ≡ true
+are_codes-more dictionaries codes i code are inside room of = rw add-one (step dictionaries codes i are inside room of) where
   step : (ds : Dictionaries) (xs : List ℕ) (i : ℕ) → are_codes (take i ds) xs ≡ true → i < length ds → i < length xs → is_code (get_or ds i []) code ≡ true → are_codes (take (suc i) ds) (set xs i code) ≡ true
   step [] xs i are inside room of = absurd (omega arith)
   step (texts ∷ ds) [] i are inside room of = absurd (omega arith)
@@ -31,11 +31,8 @@ valid_more dictionaries codes i code are inside room of = rw add-one (step dicti
       and_from (is_code texts x) (are_codes (take (suc i) ds) (set xs i code)) parts.0 (step ds xs i parts.1 (omega (arith, inside)) (omega (arith, room)) of)
 
 -- all dimensions
-pub codes_end : (dictionaries : Dictionaries) (coords : List Coord) (codes : List ℕ) (i : ℕ) → length dictionaries ≤ i → length coords ≤ i → AreCodesOf (take i dictionaries) (take i coords) codes → AreCodesOf dictionaries coords codes
-codes_end dictionaries coords codes i all_dictionaries all_coords are = rw (take_all i dictionaries all_dictionaries, take_all i coords all_coords) at are
-
-pub valid_end : (dictionaries : Dictionaries) (codes : List ℕ) (i : ℕ) → length dictionaries ≤ i → are_codes (take i dictionaries) codes ≡ true → are_codes dictionaries codes ≡ true
-valid_end dictionaries codes i all_dictionaries are = rw (take_all i dictionaries all_dictionaries) at are
+pub AreCodesOf-all : (dictionaries : Dictionaries) (coords : List Coord) (codes : List ℕ) (i : ℕ) → length dictionaries ≤ i → length coords ≤ i → AreCodesOf (take i dictionaries) (take i coords) codes → AreCodesOf dictionaries coords codes
+AreCodesOf-all dictionaries coords codes i all_dictionaries all_coords are = rw (take_all i dictionaries all_dictionaries, take_all i coords all_coords) at are
 
 -- ---- the texts of a fact
 -- texts of the dimensions below i were added, and the others are as they were
@@ -44,8 +41,8 @@ pub record AddsTextsBelow (i : ℕ) (values : List (Option (List ℕ))) (old new
   pub below : (d : ℕ) → d < i → get_or new d [] ≡ texts_with (get_or values d None) (get_or old d [])
   pub rest : (d : ℕ) → i ≤ d → get_or new d [] ≡ get_or old d []
 
-pub texts_more : (i : ℕ) (values : List (Option (List ℕ))) (old new : Dictionaries) (texts : List (List ℕ)) → i < length new → texts ≡ texts_with (get_or values i None) (get_or new i []) → AddsTextsBelow i values old new → AddsTextsBelow (i + 1) values old (set new i texts)
-texts_more i values old new texts inside is adds = record {
+pub AddsTextsBelow-more : (i : ℕ) (values : List (Option (List ℕ))) (old new : Dictionaries) (texts : List (List ℕ)) → i < length new → texts ≡ texts_with (get_or values i None) (get_or new i []) → AddsTextsBelow i values old new → AddsTextsBelow (i + 1) values old (set new i texts)
+AddsTextsBelow-more i values old new texts inside is adds = record {
   same_length = omega (arith, length-set new i texts, adds.same_length);
   below = λ d small. ⊎_elim
       (λ same. subst (λ (k : ℕ). get_or (set new i texts) k [] ≡ texts_with (get_or values k None) (get_or old k [])) (sym same) here)
@@ -56,40 +53,15 @@ texts_more i values old new texts inside is adds = record {
   here : get_or (set new i texts) i [] ≡ texts_with (get_or values i None) (get_or old i [])
   here = get_or-set_same new i texts [] inside ∙ is ∙ ap (texts_with (get_or values i None)) (adds.rest i (omega arith))
 
--- after the last dimension all are added
-pub texts_end : (i : ℕ) (values : List (Option (List ℕ))) (old new : Dictionaries) → length values ≤ i → AddsTextsBelow i values old new → AddsTexts values old new
-texts_end i values old new over adds = λ d. ⊎_elim
-    (λ small. adds.below d small)
-    (λ past. adds.rest d past ∙ ap (λ value. texts_with value (get_or old d [])) (sym (get_or_past values d None (omega arith))))
-    (cases_lt d i)
-
--- before it some may be
-pub texts_some : (i : ℕ) (values : List (Option (List ℕ))) (old new : Dictionaries) → AddsTextsBelow i values old new → MayAddTexts values old new
-texts_some i values old new adds = λ d. ⊎_elim (λ small. inr (adds.below d small)) (λ past. inl (adds.rest d past)) (cases_lt d i)
-
 -- what is true of dictionaries i and up in a longer list of them
-pub codes_kept : (dictionaries : Dictionaries) (texts : List (List ℕ)) (coords : List Coord) (codes : List ℕ) (i : ℕ) → AreCodesOf (take i dictionaries) (take i coords) codes → AreCodesOf (take i (set dictionaries i texts)) (take i coords) codes
-codes_kept dictionaries texts coords codes i are = rw (take-set dictionaries i texts) are
+pub AreCodesOf-set : (dictionaries : Dictionaries) (texts : List (List ℕ)) (coords : List Coord) (codes : List ℕ) (i : ℕ) → AreCodesOf (take i dictionaries) (take i coords) codes → AreCodesOf (take i (set dictionaries i texts)) (take i coords) codes
+AreCodesOf-set dictionaries texts coords codes i are = rw (take-set dictionaries i texts) are
 
-pub valid_kept : (dictionaries : Dictionaries) (texts : List (List ℕ)) (codes : List ℕ) (i : ℕ) → are_codes (take i dictionaries) codes ≡ true → are_codes (take i (set dictionaries i texts)) codes ≡ true
-valid_kept dictionaries texts codes i are = rw (take-set dictionaries i texts) are
+pub are_codes-set : (dictionaries : Dictionaries) (texts : List (List ℕ)) (codes : List ℕ) (i : ℕ) → are_codes (take i dictionaries) codes ≡ true → are_codes (take i (set dictionaries i texts)) codes ≡ true
+are_codes-set dictionaries texts codes i are = rw (take-set dictionaries i texts) are
 
 -- ---- a grouping set
--- one code more of a walk over the codes
-pub kept_more : (codes : List ℕ) (i rest code : ℕ) (all : List ℕ) → i < length codes → code ≡ (if rest % 2 == 1 then get_or codes i 0 else all_code) → take i codes ++ kept_codes rest (drop i codes) ≡ all → take (i + 1) (set codes i code) ++ kept_codes (rest / 2) (drop (i + 1) (set codes i code)) ≡ all
-kept_more codes i rest code all inside is so_far =
-    let step : kept_codes rest (drop i codes) ≡ (if rest % 2 == 1 then get_or codes i 0 else all_code) ∷ kept_codes (rest / 2) (drop (i + 1) codes) = at_drop_more (λ cs. kept_codes rest cs) codes i 0 inside in
-    let front = take_more_set codes i code inside in
-    let back : drop (i + 1) (set codes i code) ≡ drop (i + 1) codes = drop-set-lt (i + 1) codes i code (omega arith) in
-    rw (front, back, append_assoc, is, ← step) so_far
-
--- the end of that walk
-pub kept_end : (codes : List ℕ) (i rest : ℕ) (all : List ℕ) → length codes ≤ i → take i codes ++ kept_codes rest (drop i codes) ≡ all → codes ≡ all
-kept_end codes i rest all over so_far =
-    let none : kept_codes rest (drop i codes) ≡ [] = at_drop_all (λ cs. kept_codes rest cs) codes i over in
-    let whole : take i codes ≡ codes = take_all i codes over in
-    sym (append-nil codes) ∙ (rw (none, whole) at so_far)
 
 -- ---- dictionaries that are written back whole
-pub dictionaries_back : (items new : Dictionaries) (n : ℕ) → length items ≡ n → length new ≡ length items → take n (new ++ drop (length new) items) ≡ new
-dictionaries_back items new n is same = take-append-le n new (drop (length new) items) (omega arith) ∙ take_all n new (omega arith)
+pub take-append-length : (items new : Dictionaries) (n : ℕ) → length items ≡ n → length new ≡ length items → take n (new ++ drop (length new) items) ≡ new
+take-append-length items new n is same = take-append-le n new (drop (length new) items) (omega arith) ∙ take_all n new (omega arith)

@@ -7,20 +7,20 @@ use Rattle.cube_core.proofs.AncestorLaws.{coord_of, ancestor_of}
 use Rattle.cube_cells.specs.Codes.{kept_codes, all_code}
 
 -- the first dimension of the coarser set is in the finer one
-pub first_within : (finer set : ℕ) → bit_and finer set ≡ set → (set % 2 == 1) ≡ true → (finer % 2 == 1) ≡ true
-first_within finer set within one =
+pub bit_and-odd : (finer set : ℕ) → bit_and finer set ≡ set → (set % 2 == 1) ≡ true → (finer % 2 == 1) ≡ true
+bit_and-odd finer set within one =
     let both : bit_and (finer % 2) (set % 2) ≡ set % 2 = sym (and_mod finer set 1) ∙ ap (λ (n : ℕ). n % 2) within in
     let least : set % 2 ≤ finer % 2 = omega (arith, both, and_le_l (finer % 2) (set % 2)) in
     eq-eqb (finer % 2) 1 (omega (arith, least, eqb-true (set % 2) 1 one, mod_below finer 2 (omega arith)))
 
 -- and so are the others
-pub rest_within : (finer set : ℕ) → bit_and finer set ≡ set → bit_and (finer / 2) (set / 2) ≡ set / 2
-rest_within finer set within = sym (and_shr finer set 1) ∙ ap (λ (n : ℕ). n / 2) within
+pub bit_and-half : (finer set : ℕ) → bit_and finer set ≡ set → bit_and (finer / 2) (set / 2) ≡ set / 2
+bit_and-half finer set within = sym (and_shr finer set 1) ∙ ap (λ (n : ℕ). n / 2) within
 
 -- what is kept of codes in the coarser set
 pub kept_codes-within : (codes : List ℕ) (finer set : ℕ) → bit_and finer set ≡ set → kept_codes set (kept_codes finer codes) ≡ kept_codes set codes
 kept_codes-within [] finer set within = refl
-kept_codes-within (code ∷ codes) finer set within = first (set % 2 == 1) (finer % 2 == 1) refl (first_within finer set within) (kept_codes-within codes (finer / 2) (set / 2) (rest_within finer set within)) where
+kept_codes-within (code ∷ codes) finer set within = first (set % 2 == 1) (finer % 2 == 1) refl (bit_and-odd finer set within) (kept_codes-within codes (finer / 2) (set / 2) (bit_and-half finer set within)) where
   first : (s f : Bool) → (set % 2 == 1) ≡ s → ((set % 2 == 1) ≡ true → f ≡ true) → kept_codes (set / 2) (kept_codes (finer / 2) codes) ≡ kept_codes (set / 2) codes → (if s then (if f then code else all_code) else all_code) ∷ kept_codes (set / 2) (kept_codes (finer / 2) codes) ≡ (if s then code else all_code) ∷ kept_codes (set / 2) codes
   first true true is also rest = ap (λ (cs : List ℕ). code ∷ cs) rest
   first true false is also rest = cc (also is)
@@ -35,8 +35,8 @@ ancestor_of-within (x ∷ a) [] finer set within same = cc same
 ancestor_of-within (x ∷ a) (y ∷ b) finer set within same =
     let head : coord_of x (finer % 2 == 1) ≡ coord_of y (finer % 2 == 1) = cc same in
     let tail : ancestor_of a (finer / 2) ≡ ancestor_of b (finer / 2) = cc same in
-    let rest : ancestor_of a (set / 2) ≡ ancestor_of b (set / 2) = ancestor_of-within a b (finer / 2) (set / 2) (rest_within finer set within) tail in
-    let first : coord_of x (set % 2 == 1) ≡ coord_of y (set % 2 == 1) = both (set % 2 == 1) (finer % 2 == 1) refl (first_within finer set within) head in
+    let rest : ancestor_of a (set / 2) ≡ ancestor_of b (set / 2) = ancestor_of-within a b (finer / 2) (set / 2) (bit_and-half finer set within) tail in
+    let first : coord_of x (set % 2 == 1) ≡ coord_of y (set % 2 == 1) = both (set % 2 == 1) (finer % 2 == 1) refl (bit_and-odd finer set within) head in
     cc
   where
     both : (s f : Bool) → (set % 2 == 1) ≡ s → ((set % 2 == 1) ≡ true → f ≡ true) → coord_of x f ≡ coord_of y f → coord_of x s ≡ coord_of y s

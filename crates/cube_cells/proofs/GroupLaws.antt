@@ -19,15 +19,15 @@ use Rattle.cube_cells.specs.Codes.{Dictionaries, IsDictionary, IsCodeOf, AreCode
 use Rattle.cube_cells.specs.Coded.{CodedCells, same_codes}
 use Rattle.cube_cells.specs.Tally.{Tally, IsTallyOf, PlusTally, one_of}
 use Rattle.cube_cells.specs.declared.cube.codes.Codes.{Codes}
-use Rattle.cube_cells.proofs.DictionaryLaws.{code_cases, coord_at-place, code_of_all, code_of_null, code_of_place}
-use Rattle.cube_cells.proofs.FactLaws.{values_counted}
-use Rattle.cube_cells.proofs.KeyLaws.{codes_alone, covering_key, covering_is}
-use Rattle.cube_cells.proofs.WalkLaws.{codes_equiv}
+use Rattle.cube_cells.proofs.DictionaryLaws.{is_code-cases, coord_at-place, code_of_all, code_of_null, IsCodeOf-StandsAt}
+use Rattle.cube_cells.proofs.FactLaws.{count_by-values_of}
+use Rattle.cube_cells.proofs.KeyLaws.{AreCodesOf-alone, covering_key, covering_key-mask_of}
+use Rattle.cube_cells.proofs.WalkLaws.{same_codes-IsEquivalence}
 
 -- ---- the facts of two groups
 -- a tally with another besides is that of the facts of both
-pub tally_join : (more facts : List Fact) (t old new : Tally) → length t.bags ≡ length old.bags → IsTallyOf more t → IsTallyOf facts old → PlusTally old new t → IsTallyOf (more ++ facts) new
-tally_join more facts t old new widths is_more is plus = record {
+pub IsTallyOf-append : (more facts : List Fact) (t old new : Tally) → length t.bags ≡ length old.bags → IsTallyOf more t → IsTallyOf facts old → PlusTally old new t → IsTallyOf (more ++ facts) new
+IsTallyOf-append more facts t old new widths is_more is plus = record {
   count = omega (arith, plus.facts, is_more.count, is.count, length-append more facts);
   bags = λ m inside. record {
     held = λ x.
@@ -36,9 +36,9 @@ tally_join more facts t old new widths is_more is plus = record {
           (plus.bags.each m).held x,
           (is_more.bags m (omega (arith, inside, plus.bags.same_length, widths))).held x,
           (is.bags m (omega (arith, inside, plus.bags.same_length))).held x,
-          values_counted x m more,
-          values_counted x m facts,
-          values_counted x m (more ++ facts),
+          count_by-values_of x m more,
+          count_by-values_of x m facts,
+          count_by-values_of x m (more ++ facts),
           sum_by-append (λ (f : Fact). one_of x (value_of m f)) more facts,
         );
   };
@@ -46,24 +46,24 @@ tally_join more facts t old new widths is_more is plus = record {
 
 -- ---- codes of keys
 -- a code is that of its coordinate
-code_is : (texts : List (List ℕ)) (code : ℕ) → IsDictionary texts → is_code texts code ≡ true → IsCodeOf texts (coord_at texts code) code
-code_is texts code is valid = elim (code_cases texts code valid) [
+IsCodeOf-coord_at : (texts : List (List ℕ)) (code : ℕ) → IsDictionary texts → is_code texts code ≡ true → IsCodeOf texts (coord_at texts code) code
+IsCodeOf-coord_at texts code is valid = elim (is_code-cases texts code valid) [
   | inl all ↦ rw all (code_of_all texts is)
   | inr rest ↦ elim rest [
     | inl null ↦ rw null (code_of_null texts is)
     | inr place ↦
         let small : code < null_code = omega (arith, place, is.few) in
-        rw (coord_at-place texts code small) (code_of_place texts (get_or texts code []) code is (record { below = place; is_text = refl }))
+        rw (coord_at-place texts code small) (IsCodeOf-StandsAt texts (get_or texts code []) code is (record { below = place; is_text = refl }))
   ]
 ]
 
 -- codes are those of their coordinates
-pub codes_are : (dictionaries : Dictionaries) (codes : List ℕ) → All IsDictionary dictionaries → are_codes dictionaries codes ≡ true → AreCodesOf dictionaries (coords_at dictionaries codes) codes
-codes_are [] codes all valid = valid
-codes_are (texts ∷ dictionaries) [] all valid = cc valid
-codes_are (texts ∷ dictionaries) (x ∷ codes) all valid =
+pub AreCodesOf-coords_at : (dictionaries : Dictionaries) (codes : List ℕ) → All IsDictionary dictionaries → are_codes dictionaries codes ≡ true → AreCodesOf dictionaries (coords_at dictionaries codes) codes
+AreCodesOf-coords_at [] codes all valid = valid
+AreCodesOf-coords_at (texts ∷ dictionaries) [] all valid = cc valid
+AreCodesOf-coords_at (texts ∷ dictionaries) (x ∷ codes) all valid =
     let parts = and_parts (is_code texts x) (are_codes dictionaries codes) valid in
-    (code_is texts x (All-head IsDictionary texts dictionaries all) parts.0, codes_are dictionaries codes (All-tail IsDictionary texts dictionaries all) parts.1)
+    (IsCodeOf-coord_at texts x (All-head IsDictionary texts dictionaries all) parts.0, AreCodesOf-coords_at dictionaries codes (All-tail IsDictionary texts dictionaries all) parts.1)
 
 -- ---- cells of a grouping set
 -- the key of a cell
@@ -77,39 +77,39 @@ pub record IsOfSet (dictionaries : Dictionaries) (set : ℕ) (cell : Codes × Ta
   pub in_set : mask_of (cell_key dictionaries cell) ≡ set
 
 -- the key of one that covers a fact is that of the fact in the set
-pub set_key : (dictionaries : Dictionaries) (set : ℕ) (cell : Codes × Tally) (fact : Fact) → IsOfSet dictionaries set cell → covers (cell_key dictionaries cell) fact ≡ true → cell_key dictionaries cell ≡ covering_key fact set
-set_key dictionaries set cell fact is stands = covering_is fact (cell_key dictionaries cell) stands ∙ ap (covering_key fact) is.in_set
+pub cell_key-covering_key : (dictionaries : Dictionaries) (set : ℕ) (cell : Codes × Tally) (fact : Fact) → IsOfSet dictionaries set cell → covers (cell_key dictionaries cell) fact ≡ true → cell_key dictionaries cell ≡ covering_key fact set
+cell_key-covering_key dictionaries set cell fact is stands = covering_key-mask_of fact (cell_key dictionaries cell) stands ∙ ap (covering_key fact) is.in_set
 
 -- no fact is covered by the keys of two
-set_apart : (dictionaries : Dictionaries) (set : ℕ) (a b : Codes × Tally) (fact : Fact) → All IsDictionary dictionaries → IsOfSet dictionaries set a → IsOfSet dictionaries set b → same_codes a.0 b.0 ≡ false → covers (cell_key dictionaries a) fact ≡ true → covers (cell_key dictionaries b) fact ≡ false
-set_apart dictionaries set a b fact texts is_a is_b apart stands =
+covers-same_codes : (dictionaries : Dictionaries) (set : ℕ) (a b : Codes × Tally) (fact : Fact) → All IsDictionary dictionaries → IsOfSet dictionaries set a → IsOfSet dictionaries set b → same_codes a.0 b.0 ≡ false → covers (cell_key dictionaries a) fact ≡ true → covers (cell_key dictionaries b) fact ≡ false
+covers-same_codes dictionaries set a b fact texts is_a is_b apart stands =
     false_from_ne_true (covers (cell_key dictionaries b) fact) (λ also.
-    let coords : coords_at dictionaries b.0.codes ≡ coords_at dictionaries a.0.codes = ap (λ (k : Key). k.coords) (set_key dictionaries set b fact is_b also ∙ sym (set_key dictionaries set a fact is_a stands)) in
+    let coords : coords_at dictionaries b.0.codes ≡ coords_at dictionaries a.0.codes = ap (λ (k : Key). k.coords) (cell_key-covering_key dictionaries set b fact is_b also ∙ sym (cell_key-covering_key dictionaries set a fact is_a stands)) in
     let lists : b.0.codes ≡ a.0.codes =
-    codes_alone dictionaries (coords_at dictionaries a.0.codes) a.0.codes b.0.codes (codes_are dictionaries a.0.codes texts is_a.valid) is_b.valid (omega (arith, is_a.eight, is_b.eight)) coords in
+    AreCodesOf-alone dictionaries (coords_at dictionaries a.0.codes) a.0.codes b.0.codes (AreCodesOf-coords_at dictionaries a.0.codes texts is_a.valid) is_b.valid (omega (arith, is_a.eight, is_b.eight)) coords in
     let make : List ℕ → Codes = λ xs. record { codes = xs } in
-    both_ways (same_codes a.0 b.0) apart (subst (λ (x : Codes). same_codes a.0 x ≡ true) (ap make (sym lists)) (codes_equiv.refl a.0)))
+    both_ways (same_codes a.0 b.0) apart (subst (λ (x : Codes). same_codes a.0 x ≡ true) (ap make (sym lists)) (same_codes-IsEquivalence.refl a.0)))
 
 -- ---- the facts, part by part
 -- facts that pass a test are among those that pass a wider one
-filter_within : (p q : Fact → Bool) (facts : List Fact) → ((fact : Fact) → p fact ≡ true → q fact ≡ true) → filter p (filter q facts) ≡ filter p facts
-filter_within p q [] wider = refl
-filter_within p q (fact ∷ facts) wider = elim (cases_Bool (q fact)) [
+filter-weaker : (p q : Fact → Bool) (facts : List Fact) → ((fact : Fact) → p fact ≡ true → q fact ≡ true) → filter p (filter q facts) ≡ filter p facts
+filter-weaker p q [] wider = refl
+filter-weaker p q (fact ∷ facts) wider = elim (cases_Bool (q fact)) [
   | inl passes ↦ rw (filter-passed q fact facts passes) (elim (cases_Bool (p fact)) [
-    | inl passed ↦ filter-passed p fact (filter q facts) passed ∙ ap (λ (fs : List Fact). fact ∷ fs) (filter_within p q facts wider) ∙ sym (filter-passed p fact facts passed)
-    | inr failed ↦ filter-failed p fact (filter q facts) failed ∙ filter_within p q facts wider ∙ sym (filter-failed p fact facts failed)
+    | inl passed ↦ filter-passed p fact (filter q facts) passed ∙ ap (λ (fs : List Fact). fact ∷ fs) (filter-weaker p q facts wider) ∙ sym (filter-passed p fact facts passed)
+    | inr failed ↦ filter-failed p fact (filter q facts) failed ∙ filter-weaker p q facts wider ∙ sym (filter-failed p fact facts failed)
   ])
   | inr fails ↦
       let not_p : p fact ≡ false = false_from_ne_true (p fact) (λ passed. both_ways (q fact) fails (wider fact passed)) in
-      rw (filter-failed q fact facts fails) (filter_within p q facts wider ∙ sym (filter-failed p fact facts not_p))
+      rw (filter-failed q fact facts fails) (filter-weaker p q facts wider ∙ sym (filter-failed p fact facts not_p))
 ]
 
 -- what passes one of two tests and not the first passes the second
-left_passes : (p q : Fact → Bool) (facts : List Fact) → All (λ fact. (p fact || q fact) ≡ true) facts → All (λ fact. q fact ≡ true) (filter (λ fact. not (p fact)) facts)
-left_passes p q [] either = All-nil (λ (fact : Fact). q fact ≡ true)
-left_passes p q (fact ∷ facts) either =
+All-filter_not : (p q : Fact → Bool) (facts : List Fact) → All (λ fact. (p fact || q fact) ≡ true) facts → All (λ fact. q fact ≡ true) (filter (λ fact. not (p fact)) facts)
+All-filter_not p q [] either = All-nil (λ (fact : Fact). q fact ≡ true)
+All-filter_not p q (fact ∷ facts) either =
     let here = All-head (λ (f : Fact). (p f || q f) ≡ true) fact facts either in
-    let rest = left_passes p q facts (All-tail (λ (f : Fact). (p f || q f) ≡ true) fact facts either) in
+    let rest = All-filter_not p q facts (All-tail (λ (f : Fact). (p f || q f) ≡ true) fact facts either) in
     elim (cases_Bool (p fact)) [
       | inl passed ↦ rw (filter-failed (λ (f : Fact). not (p f)) fact facts (ap not passed)) rest
       | inr failed ↦
@@ -131,11 +131,11 @@ abbrev HasGroupsOf : Dictionaries → List Fact → List Fact → Codes × Tally
 HasGroupsOf dictionaries facts left cell = group_of (cell_key dictionaries cell) facts ≡ group_of (cell_key dictionaries cell) left
 
 -- the groups of cells whose keys cover each fact that is left have these facts
-parted : (dictionaries : Dictionaries) (set : ℕ) (facts : List Fact) (cells : CodedCells) (left done : List Fact) → All IsDictionary dictionaries → All (IsOfSet dictionaries set) cells → IsDistinct same_codes (keys_of cells) → All (HasGroupsOf dictionaries facts left) cells → All (λ fact. one_covers dictionaries cells fact ≡ true) left → IsPermutation (left ++ done) (gathered dictionaries facts cells done)
+gathered-IsPermutation_from_HasGroupsOf : (dictionaries : Dictionaries) (set : ℕ) (facts : List Fact) (cells : CodedCells) (left done : List Fact) → All IsDictionary dictionaries → All (IsOfSet dictionaries set) cells → IsDistinct same_codes (keys_of cells) → All (HasGroupsOf dictionaries facts left) cells → All (λ fact. one_covers dictionaries cells fact ≡ true) left → IsPermutation (left ++ done) (gathered dictionaries facts cells done)
 unfolding IsDistinct
-parted dictionaries set facts [] [] done texts of_set distinct groups each = IsPermutation-refl done
-parted dictionaries set facts [] (fact ∷ left) done texts of_set distinct groups each = cc (All-head (λ (f : Fact). one_covers dictionaries [] f ≡ true) fact left each)
-parted dictionaries set facts (cell ∷ cells) left done texts of_set distinct groups each =
+gathered-IsPermutation_from_HasGroupsOf dictionaries set facts [] [] done texts of_set distinct groups each = IsPermutation-refl done
+gathered-IsPermutation_from_HasGroupsOf dictionaries set facts [] (fact ∷ left) done texts of_set distinct groups each = cc (All-head (λ (f : Fact). one_covers dictionaries [] f ≡ true) fact left each)
+gathered-IsPermutation_from_HasGroupsOf dictionaries set facts (cell ∷ cells) left done texts of_set distinct groups each =
     let key = cell_key dictionaries cell in
     let mine : group_of key facts ≡ filter (covers key) left = All-head (HasGroupsOf dictionaries facts left) cell cells groups in
     let rest : List Fact = filter (λ fact. not (covers key fact)) left in
@@ -146,9 +146,9 @@ parted dictionaries set facts (cell ∷ cells) left done texts of_set distinct g
     let same : (rest ++ filter (covers key) left) ++ done ≡ rest ++ (group_of key facts ++ done) =
     append_assoc rest (filter (covers key) left) done ∙ ap (λ (g : List Fact). rest ++ (g ++ done)) (sym mine) in
     let others : IsPermutation (rest ++ (group_of key facts ++ done)) (gathered dictionaries facts cells (group_of key facts ++ done)) =
-    parted dictionaries set facts cells rest (group_of key facts ++ done) texts (All-tail (IsOfSet dictionaries set) cell cells of_set) distinct.1
+    gathered-IsPermutation_from_HasGroupsOf dictionaries set facts cells rest (group_of key facts ++ done) texts (All-tail (IsOfSet dictionaries set) cell cells of_set) distinct.1
     (groups_left cells (All-tail (IsOfSet dictionaries set) cell cells of_set) (All-from_recursion (λ y. same_codes cell.0 y ≡ false) (keys_of cells) distinct.0) (All-tail (HasGroupsOf dictionaries facts left) cell cells groups))
-    (left_passes (covers key) (one_covers dictionaries cells) left each) in
+    (All-filter_not (covers key) (one_covers dictionaries cells) left each) in
     IsPermutation-trans _ _ _ first (IsPermutation-trans _ _ _ turned (subst (λ (l : List Fact). IsPermutation l (gathered dictionaries facts cells (group_of key facts ++ done))) (sym same) others))
   where
     groups_left : (others : CodedCells) → All (IsOfSet dictionaries set) others → All (λ y. same_codes cell.0 y ≡ false) (keys_of others) → All (HasGroupsOf dictionaries facts left) others → All (HasGroupsOf dictionaries facts (filter (λ fact. not (covers (cell_key dictionaries cell) fact)) left)) others
@@ -156,16 +156,16 @@ parted dictionaries set facts (cell ∷ cells) left done texts of_set distinct g
     groups_left (other ∷ others) of_others apart same =
         All-cons (HasGroupsOf dictionaries facts (filter (λ fact. not (covers (cell_key dictionaries cell) fact)) left)) other others
         (All-head (HasGroupsOf dictionaries facts left) other others same
-        ∙ sym (filter_within (covers (cell_key dictionaries other)) (λ fact. not (covers (cell_key dictionaries cell) fact)) left (λ fact stands.
+        ∙ sym (filter-weaker (covers (cell_key dictionaries other)) (λ fact. not (covers (cell_key dictionaries cell) fact)) left (λ fact stands.
         let out : covers (cell_key dictionaries cell) fact ≡ false = false_from_ne_true (covers (cell_key dictionaries cell) fact) (λ also.
         both_ways (covers (cell_key dictionaries other) fact)
-        (set_apart dictionaries set cell other fact texts (All-head (IsOfSet dictionaries set) cell cells of_set) (All-head (IsOfSet dictionaries set) other others of_others) (All-head (λ y. same_codes cell.0 y ≡ false) other.0 (keys_of others) apart) also)
+        (covers-same_codes dictionaries set cell other fact texts (All-head (IsOfSet dictionaries set) cell cells of_set) (All-head (IsOfSet dictionaries set) other others of_others) (All-head (λ y. same_codes cell.0 y ≡ false) other.0 (keys_of others) apart) also)
         stands) in
         ap not out)))
         (groups_left others (All-tail (IsOfSet dictionaries set) other others of_others) (All-tail (λ y. same_codes cell.0 y ≡ false) other.0 (keys_of others) apart) (All-tail (HasGroupsOf dictionaries facts left) other others same))
 
 -- the groups of cells whose keys cover each fact have all facts
-pub gathered_all : (dictionaries : Dictionaries) (set : ℕ) (facts : List Fact) (cells : CodedCells) → All IsDictionary dictionaries → All (IsOfSet dictionaries set) cells → IsDistinct same_codes (keys_of cells) → All (λ fact. one_covers dictionaries cells fact ≡ true) facts → IsPermutation facts (gathered dictionaries facts cells [])
-gathered_all dictionaries set facts cells texts of_set distinct each =
+pub gathered-IsPermutation : (dictionaries : Dictionaries) (set : ℕ) (facts : List Fact) (cells : CodedCells) → All IsDictionary dictionaries → All (IsOfSet dictionaries set) cells → IsDistinct same_codes (keys_of cells) → All (λ fact. one_covers dictionaries cells fact ≡ true) facts → IsPermutation facts (gathered dictionaries facts cells [])
+gathered-IsPermutation dictionaries set facts cells texts of_set distinct each =
     subst (λ (l : List Fact). IsPermutation l (gathered dictionaries facts cells [])) (append-nil facts)
-    (parted dictionaries set facts cells facts [] texts of_set distinct (λ k d inside. refl) each)
+    (gathered-IsPermutation_from_HasGroupsOf dictionaries set facts cells facts [] texts of_set distinct (λ k d inside. refl) each)

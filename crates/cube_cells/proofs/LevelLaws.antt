@@ -31,13 +31,13 @@ use Rattle.cube_cells.specs.Tally.{Tally, IsTallyOf}
 use Rattle.cube_cells.specs.Walk.{AreApart, weight_of_cells}
 use Rattle.cube_cells.specs.declared.cube.codes.Codes.{Codes}
 use Rattle.cube_cells.specs.declared.cube.fill.Level.{Level}
-use Rattle.cube_cells.proofs.CodedLaws.{key_widths}
-use Rattle.cube_cells.proofs.FilledLaws.{HaveAll, IsBase, found_set, made_all}
-use Rattle.cube_cells.proofs.GrowthLaws.{ascending_below, ascending_rest, count_is, set_weight}
-use Rattle.cube_cells.proofs.JoinLaws.{apart_moved}
-use Rattle.cube_cells.proofs.KeptLaws.{each_found}
-use Rattle.cube_cells.proofs.KeyLaws.{look_up-coded, no_cell-width, some_key_codes}
-use Rattle.cube_cells.proofs.WalkLaws.{codes_equiv, codes_is}
+use Rattle.cube_cells.proofs.CodedLaws.{IsCoded-width}
+use Rattle.cube_cells.proofs.FilledLaws.{HaveAll, IsBase, cell_at-key_at, HaveAll-AreMadeFrom}
+use Rattle.cube_cells.proofs.GrowthLaws.{IsStrictlySortedBy-head, IsStrictlySortedBy-tail, count_in-weight_of_cells, set_weight}
+use Rattle.cube_cells.proofs.JoinLaws.{AreApart-IsPermutation}
+use Rattle.cube_cells.proofs.KeptLaws.{All-coded_at}
+use Rattle.cube_cells.proofs.KeyLaws.{look_up-coded, no_cell-width, key-HasCodes}
+use Rattle.cube_cells.proofs.WalkLaws.{same_codes-IsEquivalence, same_codes-exact}
 
 -- ---- cells of two lists
 -- the first that is there
@@ -45,63 +45,63 @@ abbrev either : Option Tally → Option Tally → Option Tally
 either None b = b
 either (Some t) b = Some t
 
-pub coded_join : (a b : CodedCells) (k : Codes) → coded_at (a ++ b) k ≡ either (coded_at a k) (coded_at b k)
-coded_join [] b k = refl
-coded_join (e ∷ a) b k = elim (cases_Bool (same_codes k e.0)) [
+pub coded_at-append : (a b : CodedCells) (k : Codes) → coded_at (a ++ b) k ≡ either (coded_at a k) (coded_at b k)
+coded_at-append [] b k = refl
+coded_at-append (e ∷ a) b k = elim (cases_Bool (same_codes k e.0)) [
   | inl same ↦ rw same refl
-  | inr other ↦ rw other (coded_join a b k)
+  | inr other ↦ rw other (coded_at-append a b k)
 ]
 
-cell_join : (dictionaries : Dictionaries) (a b : CodedCells) (key : Key) → cell_at (decoded dictionaries (a ++ b)) key ≡ either (cell_at (decoded dictionaries a) key) (cell_at (decoded dictionaries b) key)
-cell_join dictionaries [] b key = refl
-cell_join dictionaries (e ∷ a) b key = elim (cases_Bool (eq_by_cmp key_cmp key (key_at dictionaries e.0.codes))) [
+cell_at-append : (dictionaries : Dictionaries) (a b : CodedCells) (key : Key) → cell_at (decoded dictionaries (a ++ b)) key ≡ either (cell_at (decoded dictionaries a) key) (cell_at (decoded dictionaries b) key)
+cell_at-append dictionaries [] b key = refl
+cell_at-append dictionaries (e ∷ a) b key = elim (cases_Bool (eq_by_cmp key_cmp key (key_at dictionaries e.0.codes))) [
   | inl same ↦ rw same refl
-  | inr other ↦ rw other (cell_join dictionaries a b key)
+  | inr other ↦ rw other (cell_at-append dictionaries a b key)
 ]
 
-some_either : (a b : Option Tally) → is_some (either a b) ≡ (is_some a || is_some b)
-some_either None b = refl
-some_either (Some t) b = refl
+is_some-either : (a b : Option Tally) → is_some (either a b) ≡ (is_some a || is_some b)
+is_some-either None b = refl
+is_some-either (Some t) b = refl
 
 -- codes that no cell has differ from those of each
-apart_unfound : (k : Codes) (cells : CodedCells) → coded_at cells k ≡ None → AllByRecursion (λ y. same_codes k y ≡ false) (keys_of cells)
-apart_unfound k [] none = tt
-apart_unfound k (e ∷ cells) none = elim (cases_Bool (same_codes k e.0)) [
+keys_of-coded_at : (k : Codes) (cells : CodedCells) → coded_at cells k ≡ None → AllByRecursion (λ y. same_codes k y ≡ false) (keys_of cells)
+keys_of-coded_at k [] none = tt
+keys_of-coded_at k (e ∷ cells) none = elim (cases_Bool (same_codes k e.0)) [
   | inl same ↦ cc (sym (rw same at none))
-  | inr other ↦ (other, apart_unfound k cells (rw other at none))
+  | inr other ↦ (other, keys_of-coded_at k cells (rw other at none))
 ]
 
-apart_both : (k : Codes) (a b : CodedCells) → AllByRecursion (λ y. same_codes k y ≡ false) (keys_of a) → AllByRecursion (λ y. same_codes k y ≡ false) (keys_of b) → AllByRecursion (λ y. same_codes k y ≡ false) (keys_of (a ++ b))
-apart_both k [] b in_a in_b = in_b
-apart_both k (e ∷ a) b in_a in_b = (in_a.0, apart_both k a b in_a.1 in_b)
+AllByRecursion-keys_of_append : (k : Codes) (a b : CodedCells) → AllByRecursion (λ y. same_codes k y ≡ false) (keys_of a) → AllByRecursion (λ y. same_codes k y ≡ false) (keys_of b) → AllByRecursion (λ y. same_codes k y ≡ false) (keys_of (a ++ b))
+AllByRecursion-keys_of_append k [] b in_a in_b = in_b
+AllByRecursion-keys_of_append k (e ∷ a) b in_a in_b = (in_a.0, AllByRecursion-keys_of_append k a b in_a.1 in_b)
 
-apart_join : (a b : CodedCells) → AreApart a → AreApart b → All (λ cell. coded_at b cell.0 ≡ None) a → AreApart (a ++ b)
-apart_join [] b of_a of_b none = of_b
-apart_join (e ∷ a) b of_a of_b none =
+AreApart-append : (a b : CodedCells) → AreApart a → AreApart b → All (λ cell. coded_at b cell.0 ≡ None) a → AreApart (a ++ b)
+AreApart-append [] b of_a of_b none = of_b
+AreApart-append (e ∷ a) b of_a of_b none =
     let P : Codes × Tally → Type 0 = λ cell. coded_at b cell.0 ≡ None in
     IsDistinct-cons same_codes e.0 (keys_of (a ++ b))
-    (apart_both e.0 a b (IsDistinct-head same_codes e.0 (keys_of a) of_a) (apart_unfound e.0 b (All-head P e a none)))
-    (apart_join a b (IsDistinct-tail same_codes e.0 (keys_of a) of_a) of_b (All-tail P e a none))
+    (AllByRecursion-keys_of_append e.0 a b (IsDistinct-head same_codes e.0 (keys_of a) of_a) (keys_of-coded_at e.0 b (All-head P e a none)))
+    (AreApart-append a b (IsDistinct-tail same_codes e.0 (keys_of a) of_a) of_b (All-tail P e a none))
 
 -- ---- cells of other sets
 -- the set of a cell that is found is one of the sets
-among_found : (schema : Layout) (dictionaries : Dictionaries) (facts : List Fact) (sets : List ℕ) (cells : CodedCells) (codes : Codes) (t : Tally) → IsBase schema dictionaries facts → HaveAll schema dictionaries facts sets cells → coded_at cells codes ≡ Some t → is_among (mask_of (key_at dictionaries codes.codes)) sets ≡ true
-among_found schema dictionaries facts sets cells codes t base filled found =
+is_among-coded_at : (schema : Layout) (dictionaries : Dictionaries) (facts : List Fact) (sets : List ℕ) (cells : CodedCells) (codes : Codes) (t : Tally) → IsBase schema dictionaries facts → HaveAll schema dictionaries facts sets cells → coded_at cells codes ≡ Some t → is_among (mask_of (key_at dictionaries codes.codes)) sets ≡ true
+is_among-coded_at schema dictionaries facts sets cells codes t base filled found =
     let key : Key = key_at dictionaries codes.codes in
-    let at = found_set schema sets dictionaries (λ _. facts) cells codes t base.texts filled found in
+    let at = cell_at-key_at schema sets dictionaries (λ _. facts) cells codes t base.texts filled found in
     (and_parts (is_among (mask_of key) sets) (is_total (length schema.dimensions) key || list_any (covers key) facts) at.1).0
 
 -- the cells of other sets weigh nothing in a set
-none_of_set : (schema : Layout) (dictionaries : Dictionaries) (facts : List Fact) (sets : List ℕ) (set : ℕ) (cells : CodedCells) → IsBase schema dictionaries facts → HaveAll schema dictionaries facts sets cells → is_among set sets ≡ false → weight_of_cells (set_weight dictionaries set) cells ≡ 0
-none_of_set schema dictionaries facts sets set cells base filled none = sum_none cells each where
+weight_of_cells-is_among : (schema : Layout) (dictionaries : Dictionaries) (facts : List Fact) (sets : List ℕ) (set : ℕ) (cells : CodedCells) → IsBase schema dictionaries facts → HaveAll schema dictionaries facts sets cells → is_among set sets ≡ false → weight_of_cells (set_weight dictionaries set) cells ≡ 0
+weight_of_cells-is_among schema dictionaries facts sets set cells base filled none = sum_none cells each where
   P : Codes × Tally → Type 0
   P cell = set_weight dictionaries set cell.0 ≡ 0
 
   each : All P cells
-  each = each_found P cells filled.distinct (λ codes t found.
+  each = All-coded_at P cells filled.distinct (λ codes t found.
       let mask : ℕ = mask_of (key_at dictionaries codes.codes) in
       let other : (mask == set) ≡ false = false_from_ne_true (mask == set) (λ same.
-      both_ways (is_among set sets) none (ap (λ (s : ℕ). is_among s sets) (sym (eqb-true mask set same)) ∙ among_found schema dictionaries facts sets cells codes t base filled found)) in
+      both_ways (is_among set sets) none (ap (λ (s : ℕ). is_among s sets) (sym (eqb-true mask set same)) ∙ is_among-coded_at schema dictionaries facts sets cells codes t base filled found)) in
       rw other refl)
 
   sum_none : (cells : CodedCells) → All P cells → weight_of_cells (set_weight dictionaries set) cells ≡ 0
@@ -110,44 +110,44 @@ none_of_set schema dictionaries facts sets set cells base filled none = sum_none
       omega (arith, sum_by-cons (λ (cell : Codes × Tally). set_weight dictionaries set cell.0 * cell.1.facts) e cells, ap (λ (n : ℕ). n * e.1.facts) (All-head P e cells all), sum_none cells (All-tail P e cells all))
 
 -- ---- a set more
-distribute : (x y c : Bool) → (((x || false) && c) || (y && c)) ≡ ((x || y) && c)
-distribute true y true = refl
-distribute true true false = refl
-distribute true false false = refl
-distribute false y c = refl
+and-or : (x y c : Bool) → (((x || false) && c) || (y && c)) ≡ ((x || y) && c)
+and-or true y true = refl
+and-or true true false = refl
+and-or true false false = refl
+and-or false y c = refl
 
 -- the cells of a set besides those of others
-join_all : (schema : Layout) (dictionaries : Dictionaries) (facts : List Fact) (set : ℕ) (sets : List ℕ) (a b : CodedCells) → IsBase schema dictionaries facts → is_among set sets ≡ false → HaveAll schema dictionaries facts (set ∷ []) a → HaveAll schema dictionaries facts sets b → HaveAll schema dictionaries facts (set ∷ sets) (a ++ b)
-join_all schema dictionaries facts set sets a b base other of_a of_b = record {
-  distinct = apart_join a b of_a.distinct of_b.distinct none_in_b;
+HaveAll-append : (schema : Layout) (dictionaries : Dictionaries) (facts : List Fact) (set : ℕ) (sets : List ℕ) (a b : CodedCells) → IsBase schema dictionaries facts → is_among set sets ≡ false → HaveAll schema dictionaries facts (set ∷ []) a → HaveAll schema dictionaries facts sets b → HaveAll schema dictionaries facts (set ∷ sets) (a ++ b)
+HaveAll-append schema dictionaries facts set sets a b base other of_a of_b = record {
+  distinct = AreApart-append a b of_a.distinct of_b.distinct none_in_b;
   each = All-append (IsCodedCell dictionaries (length schema.measures)) a b of_a.each of_b.each;
-  total = λ among. rw (coded_join a b total_codes) (total among);
+  total = λ among. rw (coded_at-append a b total_codes) (total among);
   counts = λ s among. counts s among;
   keys = λ key.
       let n : ℕ = length schema.dimensions in
       let c : Bool = is_total n key || list_any (covers key) facts in
-      ap is_some (cell_join dictionaries a b key)
-      ∙ some_either (cell_at (decoded dictionaries a) key) (cell_at (decoded dictionaries b) key)
+      ap is_some (cell_at-append dictionaries a b key)
+      ∙ is_some-either (cell_at (decoded dictionaries a) key) (cell_at (decoded dictionaries b) key)
       ∙ ap (λ (x : Bool). x || is_some (cell_at (decoded dictionaries b) key)) (of_a.keys key)
       ∙ ap (λ (y : Bool). is_cell (set ∷ []) n facts key || y) (of_b.keys key)
-      ∙ distribute (set == mask_of key) (is_among (mask_of key) sets) c;
-  tallies = λ key. rw (cell_join dictionaries a b key) (either_is (IsTallyOf (group_of key facts)) (cell_at (decoded dictionaries a) key) (cell_at (decoded dictionaries b) key) (of_a.tallies key) (of_b.tallies key));
+      ∙ and-or (set == mask_of key) (is_among (mask_of key) sets) c;
+  tallies = λ key. rw (cell_at-append dictionaries a b key) (either_is (IsTallyOf (group_of key facts)) (cell_at (decoded dictionaries a) key) (cell_at (decoded dictionaries b) key) (of_a.tallies key) (of_b.tallies key));
 } where
   either_is : (P : Tally → Type 0) (x y : Option Tally) → IfSome x P → IfSome y P → IfSome (either x y) P
   either_is P None y of_x of_y = of_y
   either_is P (Some t) y of_x of_y = of_x
 
   mine : (codes : Codes) (t : Tally) → coded_at a codes ≡ Some t → set ≡ mask_of (key_at dictionaries codes.codes)
-  mine codes t found = elim (or_cases (set == mask_of (key_at dictionaries codes.codes)) false (among_found schema dictionaries facts (set ∷ []) a codes t base of_a found)) [
+  mine codes t found = elim (or_cases (set == mask_of (key_at dictionaries codes.codes)) false (is_among-coded_at schema dictionaries facts (set ∷ []) a codes t base of_a found)) [
     | inl same ↦ eqb-true set (mask_of (key_at dictionaries codes.codes)) same
     | inr never ↦ cc never
   ]
 
   none_in_b : All (λ cell. coded_at b cell.0 ≡ None) a
-  none_in_b = each_found (λ cell. coded_at b cell.0 ≡ None) a of_a.distinct (λ codes t found. unfound codes (mine codes t found) (coded_at b codes) refl) where
+  none_in_b = All-coded_at (λ cell. coded_at b cell.0 ≡ None) a of_a.distinct (λ codes t found. unfound codes (mine codes t found) (coded_at b codes) refl) where
     unfound : (codes : Codes) → set ≡ mask_of (key_at dictionaries codes.codes) → (o : Option Tally) → coded_at b codes ≡ o → coded_at b codes ≡ None
     unfound codes is None at = at
-    unfound codes is (Some t) at = absurd (both_ways (is_among set sets) other (ap (λ (s : ℕ). is_among s sets) is ∙ among_found schema dictionaries facts sets b codes t base of_b at))
+    unfound codes is (Some t) at = absurd (both_ways (is_among set sets) other (ap (λ (s : ℕ). is_among s sets) is ∙ is_among-coded_at schema dictionaries facts sets b codes t base of_b at))
 
   total : is_among 0 (set ∷ sets) ≡ true → IsSome (either (coded_at a total_codes) (coded_at b total_codes))
   total among = elim (or_cases (set == 0) (is_among 0 sets) among) [
@@ -166,55 +166,55 @@ join_all schema dictionaries facts set sets a b base other of_a of_b = record {
   counts s among = elim (cases_Bool (set == s)) [
     | inl same ↦
         let not_b : is_among s sets ≡ false = ap (λ (x : ℕ). is_among x sets) (sym (eqb-true set s same)) ∙ other in
-        omega (arith, count_is dictionaries s (a ++ b), both s, count_is dictionaries s a, of_a.counts s (ap (λ (x : Bool). x || false) same), none_of_set schema dictionaries facts sets s b base of_b not_b)
+        omega (arith, count_in-weight_of_cells dictionaries s (a ++ b), both s, count_in-weight_of_cells dictionaries s a, of_a.counts s (ap (λ (x : Bool). x || false) same), weight_of_cells-is_among schema dictionaries facts sets s b base of_b not_b)
     | inr apart ↦
         let in_b : is_among s sets ≡ true = rw apart at among in
         let not_a : is_among s (set ∷ []) ≡ false = ap (λ (x : Bool). x || false) apart in
-        omega (arith, count_is dictionaries s (a ++ b), both s, count_is dictionaries s b, of_b.counts s in_b, none_of_set schema dictionaries facts (set ∷ []) s a base of_a not_a)
+        omega (arith, count_in-weight_of_cells dictionaries s (a ++ b), both s, count_in-weight_of_cells dictionaries s b, of_b.counts s in_b, weight_of_cells-is_among schema dictionaries facts (set ∷ []) s a base of_a not_a)
   ] where
     both : (s : ℕ) → weight_of_cells (set_weight dictionaries s) (a ++ b) ≡ weight_of_cells (set_weight dictionaries s) a + weight_of_cells (set_weight dictionaries s) b
     both s = sum_by-append (λ (cell : Codes × Tally). set_weight dictionaries s cell.0 * cell.1.facts) a b
 
 -- ---- in another order
-coded_moved : (a b : CodedCells) (k : Codes) → IsPermutation a b → AreApart a → coded_at b k ≡ coded_at a k
-coded_moved a b k moved apart = by_found (coded_at a k) refl (coded_at b k) refl where
+coded_at-IsPermutation : (a b : CodedCells) (k : Codes) → IsPermutation a b → AreApart a → coded_at b k ≡ coded_at a k
+coded_at-IsPermutation a b k moved apart = by_found (coded_at a k) refl (coded_at b k) refl where
   in_b : (t : Tally) → coded_at a k ≡ Some t → coded_at b k ≡ Some t
-  in_b t found = lookup-from_Contains codes_equiv k t b (apart_moved a b moved apart) (Contains-permutation a b (k, t) moved (Contains-from_lookup codes_is k t a found))
+  in_b t found = lookup-from_Contains same_codes-IsEquivalence k t b (AreApart-IsPermutation a b moved apart) (Contains-permutation a b (k, t) moved (Contains-from_lookup same_codes-exact k t a found))
 
   in_a : (t : Tally) → coded_at b k ≡ Some t → coded_at a k ≡ Some t
-  in_a t found = lookup-from_Contains codes_equiv k t a apart (Contains-permutation b a (k, t) (IsPermutation-sym a b moved) (Contains-from_lookup codes_is k t b found))
+  in_a t found = lookup-from_Contains same_codes-IsEquivalence k t a apart (Contains-permutation b a (k, t) (IsPermutation-sym a b moved) (Contains-from_lookup same_codes-exact k t b found))
 
   by_found : (o : Option Tally) → coded_at a k ≡ o → (p : Option Tally) → coded_at b k ≡ p → coded_at b k ≡ coded_at a k
   by_found (Some t) of_a p of_b = in_b t of_a ∙ sym of_a
   by_found None of_a None of_b = of_b ∙ sym of_a
   by_found None of_a (Some t) of_b = cc (sym of_a ∙ in_a t of_b)
 
-cell_moved : (schema : Layout) (dictionaries : Dictionaries) (facts : List Fact) (a b : CodedCells) (key : Key) → IsBase schema dictionaries facts → IsPermutation a b → AreApart a → All (IsCodedCell dictionaries (length schema.measures)) a → cell_at (decoded dictionaries b) key ≡ cell_at (decoded dictionaries a) key
-cell_moved schema dictionaries facts a b key base moved apart each = elim (cases_eq (length key.coords) (length dictionaries)) [
+cell_at-IsPermutation : (schema : Layout) (dictionaries : Dictionaries) (facts : List Fact) (a b : CodedCells) (key : Key) → IsBase schema dictionaries facts → IsPermutation a b → AreApart a → All (IsCodedCell dictionaries (length schema.measures)) a → cell_at (decoded dictionaries b) key ≡ cell_at (decoded dictionaries a) key
+cell_at-IsPermutation schema dictionaries facts a b key base moved apart each = elim (cases_eq (length key.coords) (length dictionaries)) [
   | inl same ↦
-      let found = some_key_codes dictionaries key base.texts same (omega (arith, base.width, base.is_schema.dimensions_at_most)) in
+      let found = key-HasCodes dictionaries key base.texts same (omega (arith, base.width, base.is_schema.dimensions_at_most)) in
       look_up-coded dictionaries (length schema.measures) b key found.0 found.1 (All-permutation (IsCodedCell dictionaries (length schema.measures)) a b moved each)
-      ∙ coded_moved a b found.0 moved apart
+      ∙ coded_at-IsPermutation a b found.0 moved apart
       ∙ sym (look_up-coded dictionaries (length schema.measures) a key found.0 found.1 each)
   | inr other ↦ no_cell-width dictionaries b key other ∙ sym (no_cell-width dictionaries a key other)
 ]
 
-moved_all : (schema : Layout) (dictionaries : Dictionaries) (facts : List Fact) (sets : List ℕ) (a b : CodedCells) → IsBase schema dictionaries facts → IsPermutation a b → HaveAll schema dictionaries facts sets a → HaveAll schema dictionaries facts sets b
-moved_all schema dictionaries facts sets a b base moved of_a = record {
-  distinct = apart_moved a b moved of_a.distinct;
+HaveAll-IsPermutation : (schema : Layout) (dictionaries : Dictionaries) (facts : List Fact) (sets : List ℕ) (a b : CodedCells) → IsBase schema dictionaries facts → IsPermutation a b → HaveAll schema dictionaries facts sets a → HaveAll schema dictionaries facts sets b
+HaveAll-IsPermutation schema dictionaries facts sets a b base moved of_a = record {
+  distinct = AreApart-IsPermutation a b moved of_a.distinct;
   each = All-permutation (IsCodedCell dictionaries (length schema.measures)) a b moved of_a.each;
-  total = λ among. rw (coded_moved a b total_codes moved of_a.distinct) (of_a.total among);
+  total = λ among. rw (coded_at-IsPermutation a b total_codes moved of_a.distinct) (of_a.total among);
   counts = λ set among.
-      omega (arith, count_is dictionaries set b, count_is dictionaries set a, of_a.counts set among, sum_by-IsPermutation (λ (cell : Codes × Tally). set_weight dictionaries set cell.0 * cell.1.facts) a b moved);
+      omega (arith, count_in-weight_of_cells dictionaries set b, count_in-weight_of_cells dictionaries set a, of_a.counts set among, sum_by-IsPermutation (λ (cell : Codes × Tally). set_weight dictionaries set cell.0 * cell.1.facts) a b moved);
   keys = λ key. ap is_some (same key) ∙ of_a.keys key;
   tallies = λ key. rw (same key) (of_a.tallies key);
 } where
   same : (key : Key) → cell_at (decoded dictionaries b) key ≡ cell_at (decoded dictionaries a) key
-  same key = cell_moved schema dictionaries facts a b key base moved of_a.distinct of_a.each
+  same key = cell_at-IsPermutation schema dictionaries facts a b key base moved of_a.distinct of_a.each
 
 -- the same sets in another order
-sets_moved : (schema : Layout) (dictionaries : Dictionaries) (facts : List Fact) (sets others : List ℕ) (cells : CodedCells) → IsPermutation sets others → HaveAll schema dictionaries facts sets cells → HaveAll schema dictionaries facts others cells
-sets_moved schema dictionaries facts sets others cells moved of_sets = record {
+HaveAll-IsPermutation_sets : (schema : Layout) (dictionaries : Dictionaries) (facts : List Fact) (sets others : List ℕ) (cells : CodedCells) → IsPermutation sets others → HaveAll schema dictionaries facts sets cells → HaveAll schema dictionaries facts others cells
+HaveAll-IsPermutation_sets schema dictionaries facts sets others cells moved of_sets = record {
   distinct = of_sets.distinct;
   each = of_sets.each;
   total = λ among. of_sets.total (sym (same 0) ∙ among);
@@ -233,27 +233,27 @@ pub record IsLevel (schema : Layout) (dictionaries : Dictionaries) (facts : List
   pub below : level.set < 2 ^ length schema.dimensions
   pub all : HaveAll schema dictionaries facts (level.set ∷ []) level.cells.entries
 
-levels_all : (schema : Layout) (dictionaries : Dictionaries) (facts : List Fact) (finest : Level) (sets : List ℕ) (old new : List Level) → IsBase schema dictionaries facts → IsLevel schema dictionaries facts finest → MakesLevels (length schema.measures) finest sets old new → All (IsLevel schema dictionaries facts) old → All (IsLevel schema dictionaries facts) new
-levels_all schema dictionaries facts finest [] old new base first makes all = subst (All (IsLevel schema dictionaries facts)) (sym makes) all
-levels_all schema dictionaries facts finest (set ∷ sets) old new base first makes all =
+IsLevel-MakesLevels : (schema : Layout) (dictionaries : Dictionaries) (facts : List Fact) (finest : Level) (sets : List ℕ) (old new : List Level) → IsBase schema dictionaries facts → IsLevel schema dictionaries facts finest → MakesLevels (length schema.measures) finest sets old new → All (IsLevel schema dictionaries facts) old → All (IsLevel schema dictionaries facts) new
+IsLevel-MakesLevels schema dictionaries facts finest [] old new base first makes all = subst (All (IsLevel schema dictionaries facts)) (sym makes) all
+IsLevel-MakesLevels schema dictionaries facts finest (set ∷ sets) old new base first makes all =
     let P : Level → Type 0 = IsLevel schema dictionaries facts in
     let finer : P makes.0 = All-contains P (finest ∷ old) makes.0 (All-cons P finest old first all) makes.2 in
     let here : HaveAll schema dictionaries facts (set ∷ []) makes.1.cells.entries =
-    made_all schema dictionaries facts makes.0.set set makes.0.cells.entries makes.1.cells.entries base finer.below makes.3 finer.all makes.5 in
+    HaveAll-AreMadeFrom schema dictionaries facts makes.0.set set makes.0.cells.entries makes.1.cells.entries base finer.below makes.3 finer.all makes.5 in
     let level : P makes.1 = record {
       below = omega (arith, makes.4, makes.3.0, finer.below);
       all = subst (λ (s : ℕ). HaveAll schema dictionaries facts (s ∷ []) makes.1.cells.entries) (sym makes.4) here;
     } in
-    levels_all schema dictionaries facts finest sets (old ++ makes.1 ∷ []) new base first makes.6 (All-push P old makes.1 all level)
+    IsLevel-MakesLevels schema dictionaries facts finest sets (old ++ makes.1 ∷ []) new base first makes.6 (All-push P old makes.1 all level)
 
 -- the sets of the levels that are made
 abbrev sets_of : List Level → List ℕ
 sets_of levels = map (λ level. level.set) levels
 
-sets_made : (measures : ℕ) (finest : Level) (sets : List ℕ) (old new : List Level) → MakesLevels measures finest sets old new → sets_of new ≡ sets_of old ++ sets
-sets_made measures finest [] old new makes = ap sets_of makes ∙ sym (append-nil (sets_of old))
-sets_made measures finest (set ∷ sets) old new makes =
-    sets_made measures finest sets (old ++ makes.1 ∷ []) new makes.6
+sets_of-MakesLevels : (measures : ℕ) (finest : Level) (sets : List ℕ) (old new : List Level) → MakesLevels measures finest sets old new → sets_of new ≡ sets_of old ++ sets
+sets_of-MakesLevels measures finest [] old new makes = ap sets_of makes ∙ sym (append-nil (sets_of old))
+sets_of-MakesLevels measures finest (set ∷ sets) old new makes =
+    sets_of-MakesLevels measures finest sets (old ++ makes.1 ∷ []) new makes.6
     ∙ ap (λ (xs : List ℕ). xs ++ sets) (map-append (λ (level : Level). level.set) old (makes.1 ∷ []))
     ∙ append_assoc (sets_of old) (makes.1.set ∷ []) sets
     ∙ ap (λ (s : ℕ). sets_of old ++ s ∷ sets) makes.4
@@ -262,34 +262,34 @@ sets_made measures finest (set ∷ sets) old new makes =
 abbrev is_same_set : ℕ → ℕ → Bool
 is_same_set set other = other == set
 
-not_among : (set : ℕ) (sets : List ℕ) → AllByRecursion (λ other. is_same_set set other ≡ false) sets → is_among set sets ≡ false
-not_among set [] apart = refl
-not_among set (other ∷ sets) apart = rw apart.0 (not_among set sets apart.1)
+is_among-is_same_set : (set : ℕ) (sets : List ℕ) → AllByRecursion (λ other. is_same_set set other ≡ false) sets → is_among set sets ≡ false
+is_among-is_same_set set [] apart = refl
+is_among-is_same_set set (other ∷ sets) apart = rw apart.0 (is_among-is_same_set set sets apart.1)
 
-once_sorted : (sets : List ℕ) → IsStrictlySortedBy nat_cmp sets → IsDistinct is_same_set sets
+is_same_set-IsDistinct : (sets : List ℕ) → IsStrictlySortedBy nat_cmp sets → IsDistinct is_same_set sets
 unfolding IsDistinct
-once_sorted [] ascending = tt
-once_sorted (set ∷ sets) ascending = (
-  recursion_from_All (λ other. is_same_set set other ≡ false) sets (All-weaker (λ other. set < other) (λ other. is_same_set set other ≡ false) (λ other above. ne_eqb other set (λ same. absurd (omega (arith, same, above)))) sets (ascending_below set sets ascending)),
-  once_sorted sets (ascending_rest set sets ascending),
+is_same_set-IsDistinct [] ascending = tt
+is_same_set-IsDistinct (set ∷ sets) ascending = (
+  recursion_from_All (λ other. is_same_set set other ≡ false) sets (All-weaker (λ other. set < other) (λ other. is_same_set set other ≡ false) (λ other above. ne_eqb other set (λ same. absurd (omega (arith, same, above)))) sets (IsStrictlySortedBy-head set sets ascending)),
+  is_same_set-IsDistinct sets (IsStrictlySortedBy-tail set sets ascending),
 )
 
-same_set_flips : (a b : ℕ) → is_same_set a b ≡ is_same_set b a
-same_set_flips a b = nat_eq_equiv.symm b a
+is_same_set-sym : (a b : ℕ) → is_same_set a b ≡ is_same_set b a
+is_same_set-sym a b = nat_eq_equiv.symm b a
 
 -- ---- all levels together
-joined_all : (schema : Layout) (dictionaries : Dictionaries) (facts : List Fact) (levels : List Level) (sets : List ℕ) (others : CodedCells) → IsBase schema dictionaries facts → All (IsLevel schema dictionaries facts) levels → HaveAll schema dictionaries facts sets others → IsDistinct is_same_set (sets_of levels ++ sets) → HaveAll schema dictionaries facts (sets_of levels ++ sets) (joined_cells levels others)
-joined_all schema dictionaries facts [] sets others base all of_others once = of_others
-joined_all schema dictionaries facts (level ∷ levels) sets others base all of_others once =
+HaveAll-joined_cells : (schema : Layout) (dictionaries : Dictionaries) (facts : List Fact) (levels : List Level) (sets : List ℕ) (others : CodedCells) → IsBase schema dictionaries facts → All (IsLevel schema dictionaries facts) levels → HaveAll schema dictionaries facts sets others → IsDistinct is_same_set (sets_of levels ++ sets) → HaveAll schema dictionaries facts (sets_of levels ++ sets) (joined_cells levels others)
+HaveAll-joined_cells schema dictionaries facts [] sets others base all of_others once = of_others
+HaveAll-joined_cells schema dictionaries facts (level ∷ levels) sets others base all of_others once =
     let P : Level → Type 0 = IsLevel schema dictionaries facts in
-    join_all schema dictionaries facts level.set (sets_of levels ++ sets) level.cells.entries (joined_cells levels others) base
-    (not_among level.set (sets_of levels ++ sets) (IsDistinct-head is_same_set level.set (sets_of levels ++ sets) once))
+    HaveAll-append schema dictionaries facts level.set (sets_of levels ++ sets) level.cells.entries (joined_cells levels others) base
+    (is_among-is_same_set level.set (sets_of levels ++ sets) (IsDistinct-head is_same_set level.set (sets_of levels ++ sets) once))
     (All-head P level levels all).all
-    (joined_all schema dictionaries facts levels sets others base (All-tail P level levels all) of_others (IsDistinct-tail is_same_set level.set (sets_of levels ++ sets) once))
+    (HaveAll-joined_cells schema dictionaries facts levels sets others base (All-tail P level levels all) of_others (IsDistinct-tail is_same_set level.set (sets_of levels ++ sets) once))
 
-no_set : (schema : Layout) (dictionaries : Dictionaries) (facts : List Fact) → HaveAll schema dictionaries facts [] []
+HaveAll-nil : (schema : Layout) (dictionaries : Dictionaries) (facts : List Fact) → HaveAll schema dictionaries facts [] []
 unfolding IsDistinct
-no_set schema dictionaries facts = record {
+HaveAll-nil schema dictionaries facts = record {
   distinct = tt;
   each = All-nil (IsCodedCell dictionaries (length schema.measures));
   total = λ among. cc among;
@@ -299,13 +299,13 @@ no_set schema dictionaries facts = record {
 }
 
 -- the cells of all sets are the cube of the facts
-filled_all : (schema : Layout) (sets : List ℕ) (number : ℕ) (dictionaries : Dictionaries) (finest : Level) (cells : CodedCells) (facts : List Fact) → All (λ set. set < 2 ^ length schema.dimensions) sets → IsStrictlySortedBy nat_cmp sets → IsBase schema dictionaries facts → IsLevel schema dictionaries facts finest → number ≡ length facts → AreFilled finest sets (length schema.measures) cells → IsCoded schema sets number dictionaries cells × IsCubeOf (lattice_of schema sets number dictionaries cells) facts
-filled_all schema sets number dictionaries finest cells facts within ascending base first count filled = (
+IsCubeOf-AreFilled : (schema : Layout) (sets : List ℕ) (number : ℕ) (dictionaries : Dictionaries) (finest : Level) (cells : CodedCells) (facts : List Fact) → All (λ set. set < 2 ^ length schema.dimensions) sets → IsStrictlySortedBy nat_cmp sets → IsBase schema dictionaries facts → IsLevel schema dictionaries facts finest → number ≡ length facts → AreFilled finest sets (length schema.measures) cells → IsCoded schema sets number dictionaries cells × IsCubeOf (lattice_of schema sets number dictionaries cells) facts
+IsCubeOf-AreFilled schema sets number dictionaries finest cells facts within ascending base first count filled = (
   coded,
   record {
     keys = all.keys;
     tallies = all.tallies;
-    widths = key_widths schema sets number dictionaries cells coded;
+    widths = IsCoded-width schema sets number dictionaries cells coded;
   },
 ) where
   kept : List ℕ
@@ -318,25 +318,25 @@ filled_all schema sets number dictionaries finest cells facts within ascending b
   of_start = by_kept filled.keeps_finest where
     by_kept : (b : Bool) → HaveAll schema dictionaries facts (if b then finest.set ∷ [] else []) (if b then finest.cells.entries else [])
     by_kept true = first.all
-    by_kept false = no_set schema dictionaries facts
+    by_kept false = HaveAll-nil schema dictionaries facts
 
   names : sets_of filled.levels ≡ reverse filled.coarser
-  names = sets_made (length schema.measures) finest (reverse filled.coarser) [] filled.levels filled.made
+  names = sets_of-MakesLevels (length schema.measures) finest (reverse filled.coarser) [] filled.levels filled.made
 
   moved : IsPermutation (sets_of filled.levels ++ kept) sets
   moved = rw (names, filled.sets_are) (IsPermutation-append_left kept (reverse filled.coarser) filled.coarser (IsPermutation-sym filled.coarser (reverse filled.coarser) (IsPermutation-reverse filled.coarser)))
 
   once : IsDistinct is_same_set (sets_of filled.levels ++ kept)
-  once = IsDistinct-IsPermutation is_same_set same_set_flips sets (sets_of filled.levels ++ kept) (IsPermutation-sym (sets_of filled.levels ++ kept) sets moved) (once_sorted sets ascending)
+  once = IsDistinct-IsPermutation is_same_set is_same_set-sym sets (sets_of filled.levels ++ kept) (IsPermutation-sym (sets_of filled.levels ++ kept) sets moved) (is_same_set-IsDistinct sets ascending)
 
   levels : All (IsLevel schema dictionaries facts) filled.levels
-  levels = levels_all schema dictionaries facts finest (reverse filled.coarser) [] filled.levels base first filled.made (All-nil (IsLevel schema dictionaries facts))
+  levels = IsLevel-MakesLevels schema dictionaries facts finest (reverse filled.coarser) [] filled.levels base first filled.made (All-nil (IsLevel schema dictionaries facts))
 
   together : HaveAll schema dictionaries facts sets (joined_cells filled.levels start)
-  together = sets_moved schema dictionaries facts (sets_of filled.levels ++ kept) sets (joined_cells filled.levels start) moved (joined_all schema dictionaries facts filled.levels kept start base levels of_start once)
+  together = HaveAll-IsPermutation_sets schema dictionaries facts (sets_of filled.levels ++ kept) sets (joined_cells filled.levels start) moved (HaveAll-joined_cells schema dictionaries facts filled.levels kept start base levels of_start once)
 
   all : HaveAll schema dictionaries facts sets cells
-  all = moved_all schema dictionaries facts sets (joined_cells filled.levels start) cells base (filled.joined together.distinct) together
+  all = HaveAll-IsPermutation schema dictionaries facts sets (joined_cells filled.levels start) cells base (filled.joined together.distinct) together
 
   coded : IsCoded schema sets number dictionaries cells
   coded = record {
@@ -349,8 +349,8 @@ filled_all schema sets number dictionaries finest cells facts within ascending b
   }
 
 -- a cube is filled from one over the finest set
-pub filled_from : (schema : Layout) (sets : List ℕ) (own number : ℕ) (texts dictionaries : Dictionaries) (old cells : CodedCells) (finest : Level) (facts : List Fact) → IsCoded schema sets own texts old → finest.set ≡ finest_set (length schema.dimensions) → IsCoded schema (finest.set ∷ []) number dictionaries finest.cells.entries → IsCubeOfAll facts (lattice_of schema (finest.set ∷ []) number dictionaries finest.cells.entries) → AreFilled finest sets (length schema.measures) cells → IsCoded schema sets number dictionaries cells × IsCubeOfAll facts (lattice_of schema sets number dictionaries cells)
-filled_from schema sets own number texts dictionaries old cells finest facts mine is_finest is all filled =
+pub IsCubeOfAll-AreFilled : (schema : Layout) (sets : List ℕ) (own number : ℕ) (texts dictionaries : Dictionaries) (old cells : CodedCells) (finest : Level) (facts : List Fact) → IsCoded schema sets own texts old → finest.set ≡ finest_set (length schema.dimensions) → IsCoded schema (finest.set ∷ []) number dictionaries finest.cells.entries → IsCubeOfAll facts (lattice_of schema (finest.set ∷ []) number dictionaries finest.cells.entries) → AreFilled finest sets (length schema.measures) cells → IsCoded schema sets number dictionaries cells × IsCubeOfAll facts (lattice_of schema sets number dictionaries cells)
+IsCubeOfAll-AreFilled schema sets own number texts dictionaries old cells finest facts mine is_finest is all filled =
     let base : IsBase schema dictionaries facts = record { is_schema = is.lattice.schema; width = is.lattice.dictionaries; texts = is.texts; fit = all.fit } in
     let first : IsLevel schema dictionaries facts finest = record {
       below = All-head (λ (s : ℕ). s < 2 ^ length schema.dimensions) finest.set [] is.lattice.sets;
@@ -363,40 +363,40 @@ filled_from schema sets own number texts dictionaries old cells finest facts min
         tallies = all.cells.tallies;
       };
     } in
-    let whole = filled_all schema sets number dictionaries finest cells facts mine.lattice.sets mine.lattice.ascending base first all.facts_are filled in
+    let whole = IsCubeOf-AreFilled schema sets number dictionaries finest cells facts mine.lattice.sets mine.lattice.ascending base first all.facts_are filled in
     (whole.0, record { fit = all.fit; cells = whole.1; facts_are = all.facts_are })
 
 -- ---- sets that are coarser than the finest
 -- each set of so many dimensions has only dimensions of the finest one
-pub within_finest : (n : ℕ) (sets : List ℕ) → All (λ set. set < 2 ^ n) sets → All (λ set. bit_and (finest_set n) set ≡ set) sets
-within_finest n sets below = All-weaker (λ set. set < 2 ^ n) (λ set. bit_and (finest_set n) set ≡ set) (λ set small. and_comm (finest_set n) set ∙ and_mask set n ∙ mod-eq_of_lt small) sets below
+pub bit_and-finest_set : (n : ℕ) (sets : List ℕ) → All (λ set. set < 2 ^ n) sets → All (λ set. bit_and (finest_set n) set ≡ set) sets
+bit_and-finest_set n sets below = All-weaker (λ set. set < 2 ^ n) (λ set. bit_and (finest_set n) set ≡ set) (λ set small. and_comm (finest_set n) set ∙ and_mask set n ∙ mod-eq_of_lt small) sets below
 
-below_last : (sets : List ℕ) (last : ℕ) → IsStrictlySortedBy nat_cmp (sets ++ last ∷ []) → All (λ set. set < last) sets
-below_last [] last ascending = All-nil (λ set. set < last)
-below_last (set ∷ sets) last ascending =
+IsStrictlySortedBy-last : (sets : List ℕ) (last : ℕ) → IsStrictlySortedBy nat_cmp (sets ++ last ∷ []) → All (λ set. set < last) sets
+IsStrictlySortedBy-last [] last ascending = All-nil (λ set. set < last)
+IsStrictlySortedBy-last (set ∷ sets) last ascending =
     All-cons (λ s. s < last) set sets
-    (All-contains (λ s. set < s) (sets ++ last ∷ []) last (ascending_below set (sets ++ last ∷ []) ascending) (Contains-push sets last))
-    (below_last sets last (ascending_rest set (sets ++ last ∷ []) ascending))
+    (All-contains (λ s. set < s) (sets ++ last ∷ []) last (IsStrictlySortedBy-head set (sets ++ last ∷ []) ascending) (Contains-push sets last))
+    (IsStrictlySortedBy-last sets last (IsStrictlySortedBy-tail set (sets ++ last ∷ []) ascending))
 
-finer_of : (finest : ℕ) (sets : List ℕ) → All (λ set. set < finest) sets → All (λ set. bit_and finest set ≡ set) sets → All (IsFiner finest) sets
-finer_of finest sets below within = λ k d inside. (below k d inside, within k d inside)
+All-IsFiner : (finest : ℕ) (sets : List ℕ) → All (λ set. set < finest) sets → All (λ set. bit_and finest set ≡ set) sets → All (IsFiner finest) sets
+All-IsFiner finest sets below within = λ k d inside. (below k d inside, within k d inside)
 
-all_first : (P : ℕ → Type 0) (xs ys : List ℕ) → All P (xs ++ ys) → All P xs
-all_first P [] ys all = All-nil P
-all_first P (x ∷ xs) ys all = All-cons P x xs (All-head P x (xs ++ ys) all) (all_first P xs ys (All-tail P x (xs ++ ys) all))
+All-append_left : (P : ℕ → Type 0) (xs ys : List ℕ) → All P (xs ++ ys) → All P xs
+All-append_left P [] ys all = All-nil P
+All-append_left P (x ∷ xs) ys all = All-cons P x xs (All-head P x (xs ++ ys) all) (All-append_left P xs ys (All-tail P x (xs ++ ys) all))
 
 -- those before it
-pub finer_than_first : (finest : ℕ) (sets coarser : List ℕ) → sets ≡ coarser ++ finest ∷ [] → All (λ set. bit_and finest set ≡ set) sets → IsStrictlySortedBy nat_cmp sets → All (IsFiner finest) coarser
-finer_than_first finest sets coarser is within ascending =
+pub IsFiner-before : (finest : ℕ) (sets coarser : List ℕ) → sets ≡ coarser ++ finest ∷ [] → All (λ set. bit_and finest set ≡ set) sets → IsStrictlySortedBy nat_cmp sets → All (IsFiner finest) coarser
+IsFiner-before finest sets coarser is within ascending =
     let P : ℕ → Type 0 = λ set. bit_and finest set ≡ set in
-    finer_of finest coarser (below_last coarser finest (rw is at ascending)) (all_first P coarser (finest ∷ []) (rw is at within))
+    All-IsFiner finest coarser (IsStrictlySortedBy-last coarser finest (rw is at ascending)) (All-append_left P coarser (finest ∷ []) (rw is at within))
 
 -- all of them where another one is the last
-pub finer_than_all : (finest last : ℕ) (sets coarser : List ℕ) → sets ≡ coarser ++ last ∷ [] → (last ≡ finest → ⊥) → All (λ set. bit_and finest set ≡ set) sets → IsStrictlySortedBy nat_cmp sets → All (IsFiner finest) sets
-finer_than_all finest last sets coarser is other within ascending =
+pub IsFiner-all : (finest last : ℕ) (sets coarser : List ℕ) → sets ≡ coarser ++ last ∷ [] → (last ≡ finest → ⊥) → All (λ set. bit_and finest set ≡ set) sets → IsStrictlySortedBy nat_cmp sets → All (IsFiner finest) sets
+IsFiner-all finest last sets coarser is other within ascending =
     let at_last : bit_and finest last ≡ last = All-contains (λ set. bit_and finest set ≡ set) (coarser ++ last ∷ []) last (rw is at within) (Contains-push coarser last) in
     let above : last < finest = not_past (cases_lt last finest) at_last (and_le_l finest last) in
-    finer_of finest sets (rw is (All-push (λ set. set < finest) coarser last (All-weaker (λ set. set < last) (λ set. set < finest) (λ set less. omega (arith, less, above)) coarser (below_last coarser last (rw is at ascending))) above)) within
+    All-IsFiner finest sets (rw is (All-push (λ set. set < finest) coarser last (All-weaker (λ set. set < last) (λ set. set < finest) (λ set less. omega (arith, less, above)) coarser (IsStrictlySortedBy-last coarser last (rw is at ascending))) above)) within
   where
     not_past : (last < finest) ⊎ (finest ≤ last) → bit_and finest last ≡ last → bit_and finest last ≤ finest → last < finest
     not_past (inl less) same least = less

@@ -1,5 +1,3 @@
-pub mod BagLaws
-pub mod LogLaws
 pub mod SumLaws
 pub mod TallyLaws
 pub mod MergeLaws

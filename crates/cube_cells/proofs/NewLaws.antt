@@ -26,68 +26,65 @@ use Rattle.cube_cells.specs.Coded.{CodedCells, IsCodedCell, IsCoded, AreNewCells
 use Rattle.cube_cells.specs.Cube.{IsLattice, IsCubeOf, IsNewLattice, cell_at}
 use Rattle.cube_cells.specs.Tally.{Tally, IsTallyOf}
 use Rattle.cube_cells.specs.declared.cube.codes.Codes.{Codes}
-use Rattle.cube_cells.proofs.WalkLaws.{codes_is}
+use Rattle.cube_cells.proofs.WalkLaws.{same_codes-exact}
 use Rattle.cube_core.proofs.AncestorLaws.{mask_of_coords-All}
 
 -- ---- the kept sets
--- one set more of those gone through
-pub kept_one_more : (part of set : ℕ) (sets : List ℕ) → filter (λ s. s % of == part) (sets ++ set ∷ []) ≡ filter (λ s. s % of == part) sets ++ (if set % of == part then set ∷ [] else [])
-kept_one_more part of set sets = filter-append (λ s. s % of == part) sets (set ∷ [])
 
 -- ---- the codes of the grand total
-total_valid : (n k : ℕ) → n ≤ k → are_codes (replicate n []) (replicate k all_code) ≡ true
-total_valid zero k room = alls k where
+are_codes-replicate : (n k : ℕ) → n ≤ k → are_codes (replicate n []) (replicate k all_code) ≡ true
+are_codes-replicate zero k room = alls k where
   alls : (m : ℕ) → list_all (λ code. code == all_code) (replicate m all_code) ≡ true
   alls zero = refl
   alls (suc m) = alls m
-total_valid (suc n) zero room = absurd (omega (arith, room))
-total_valid (suc n) (suc k) room = total_valid n k (omega (arith, room))
+are_codes-replicate (suc n) zero room = absurd (omega (arith, room))
+are_codes-replicate (suc n) (suc k) room = are_codes-replicate n k (omega (arith, room))
 
-total_coords : (n k : ℕ) → n ≤ k → (list_all is_all_coord (coords_at (replicate n []) (replicate k all_code)) ≡ true) × (length (coords_at (replicate n []) (replicate k all_code)) ≡ n)
-total_coords zero k room = (refl, refl)
-total_coords (suc n) zero room = absurd (omega (arith, room))
-total_coords (suc n) (suc k) room = let rest = total_coords n k (omega (arith, room)) in (rest.0, ap suc rest.1)
+coords_at-replicate : (n k : ℕ) → n ≤ k → (list_all is_all_coord (coords_at (replicate n []) (replicate k all_code)) ≡ true) × (length (coords_at (replicate n []) (replicate k all_code)) ≡ n)
+coords_at-replicate zero k room = (refl, refl)
+coords_at-replicate (suc n) zero room = absurd (omega (arith, room))
+coords_at-replicate (suc n) (suc k) room = let rest = coords_at-replicate n k (omega (arith, room)) in (rest.0, ap suc rest.1)
 
 -- the key of the grand total is in the empty set
-pub total_mask : (n : ℕ) (key : Key) → is_total n key ≡ true → mask_of key ≡ 0
-total_mask n key total = mask_of_coords-All key.coords (and_parts (length key.coords == n) (list_all is_all_coord key.coords) total).1
+pub mask_of-is_total : (n : ℕ) (key : Key) → is_total n key ≡ true → mask_of key ≡ 0
+mask_of-is_total n key total = mask_of_coords-All key.coords (and_parts (length key.coords == n) (list_all is_all_coord key.coords) total).1
 
 -- whether a key is that of the grand total
-total_is : (n : ℕ) (key : Key) → n ≤ 8 → eq_by_cmp key_cmp key (key_at (replicate n []) (replicate 8 all_code)) ≡ is_total n key
-total_is n key room =
+key_at-is_total : (n : ℕ) (key : Key) → n ≤ 8 → eq_by_cmp key_cmp key (key_at (replicate n []) (replicate 8 all_code)) ≡ is_total n key
+key_at-is_total n key room =
     let total = key_at (replicate n []) (replicate 8 all_code) in
-    let coords = total_coords n 8 room in
+    let coords = coords_at-replicate n 8 room in
     let is : is_total n total ≡ true = and_from (length total.coords == n) (list_all is_all_coord total.coords) (eq-eqb (length total.coords) n coords.1) coords.0 in
     (eq_by_cmp_equiv key_cmp-IsTotalOrder).symm key total ∙ key_cmp-is_total total key n is
 
 -- ---- the new cube
 -- its cells are those of CUBE of nothing
-keys_none : (sets : List ℕ) (n : ℕ) (key : Key) → is_among 0 sets ≡ false → false ≡ is_cell sets n [] key
-keys_none sets n key none = elim (cases_Bool (is_total n key)) [
-  | inl total ↦ sym (and_left (is_among (mask_of key) sets) (is_total n key || false) (ap (λ (s : ℕ). is_among s sets) (total_mask n key total) ∙ none))
+is_cell-none : (sets : List ℕ) (n : ℕ) (key : Key) → is_among 0 sets ≡ false → false ≡ is_cell sets n [] key
+is_cell-none sets n key none = elim (cases_Bool (is_total n key)) [
+  | inl total ↦ sym (and_left (is_among (mask_of key) sets) (is_total n key || false) (ap (λ (s : ℕ). is_among s sets) (mask_of-is_total n key total) ∙ none))
   | inr other ↦ sym (and_right (is_among (mask_of key) sets) (is_total n key || false) (ap (λ (b : Bool). b || false) other))
 ]
 
-keys_total : (sets : List ℕ) (n : ℕ) (key : Key) (t : Tally) → is_among 0 sets ≡ true → is_some (cond (is_total n key) (Some t) None) ≡ is_cell sets n [] key
-keys_total sets n key t kept = elim (cases_Bool (is_total n key)) [
-  | inl total ↦ rw (total, total_mask n key total, kept) refl
+is_cell-is_total : (sets : List ℕ) (n : ℕ) (key : Key) (t : Tally) → is_among 0 sets ≡ true → is_some (cond (is_total n key) (Some t) None) ≡ is_cell sets n [] key
+is_cell-is_total sets n key t kept = elim (cases_Bool (is_total n key)) [
+  | inl total ↦ rw (total, mask_of-is_total n key total, kept) refl
   | inr other ↦ rw other (sym (and_right (is_among (mask_of key) sets) false refl))
 ]
 
-pub new_cube : (schema : Layout) (sets : List ℕ) (cells : CodedCells) → length schema.dimensions ≤ 8 → AreNewCells (is_among 0 sets) (length schema.measures) cells → IsCubeOf (lattice_of schema sets 0 (replicate (length schema.dimensions) []) cells) []
-new_cube schema sets cells room new = elim (cases_Bool (is_among 0 sets)) [
+pub IsCubeOf-AreNewCells : (schema : Layout) (sets : List ℕ) (cells : CodedCells) → length schema.dimensions ≤ 8 → AreNewCells (is_among 0 sets) (length schema.measures) cells → IsCubeOf (lattice_of schema sets 0 (replicate (length schema.dimensions) []) cells) []
+IsCubeOf-AreNewCells schema sets cells room new = elim (cases_Bool (is_among 0 sets)) [
   | inl kept ↦
       let one = new.total kept in
-      let at : (key : Key) → cell_at (decoded (replicate n []) cells) key ≡ cond (is_total n key) (Some one.0) None = λ key. ap (λ (cs : CodedCells). cell_at (decoded (replicate n []) cs) key) one.1 ∙ ap (λ (b : Bool). cond b (Some one.0) None) (total_is n key room) in
+      let at : (key : Key) → cell_at (decoded (replicate n []) cells) key ≡ cond (is_total n key) (Some one.0) None = λ key. ap (λ (cs : CodedCells). cell_at (decoded (replicate n []) cs) key) one.1 ∙ ap (λ (b : Bool). cond b (Some one.0) None) (key_at-is_total n key room) in
       record {
-        keys = λ key. ap is_some (at key) ∙ keys_total sets n key one.0 kept;
+        keys = λ key. ap is_some (at key) ∙ is_cell-is_total sets n key one.0 kept;
         tallies = λ key. rw (at key) (if_total (is_total n key) one.0 one.2);
         widths = λ key. rw (at key) (if_width (is_total n key) one.0 one.3);
       }
   | inr none ↦
       let at : (key : Key) → cell_at (decoded (replicate n []) cells) key ≡ None = λ key. ap (λ (cs : CodedCells). cell_at (decoded (replicate n []) cs) key) (new.none none) in
       record {
-        keys = λ key. ap is_some (at key) ∙ keys_none sets n key none;
+        keys = λ key. ap is_some (at key) ∙ is_cell-none sets n key none;
         tallies = λ key. rw (at key) tt;
         widths = λ key. rw (at key) tt;
       }
@@ -104,17 +101,17 @@ new_cube schema sets cells room new = elim (cases_Bool (is_among 0 sets)) [
   if_width false t is = tt
 
 -- one cell is apart from the others, and so is none
-one_apart : (t : Tally) → IsDistinct same_codes (keys_of ((total_codes, t) ∷ []))
+AreApart-one : (t : Tally) → IsDistinct same_codes (keys_of ((total_codes, t) ∷ []))
 unfolding IsDistinct
-one_apart t = (tt, tt)
+AreApart-one t = (tt, tt)
 
-none_apart : IsDistinct same_codes []
+AreApart-nil : IsDistinct same_codes []
 unfolding IsDistinct
-none_apart = tt
+AreApart-nil = tt
 
 -- it is a cube
-pub new_coded : (schema : Layout) (sets : List ℕ) (cells : CodedCells) → IsSchema schema → All (λ set. set < 2 ^ length schema.dimensions) sets → IsStrictlySortedBy nat_cmp sets → AreNewCells (is_among 0 sets) (length schema.measures) cells → IsCoded schema sets 0 (replicate (length schema.dimensions) []) cells
-new_coded schema sets cells is within ascending new = elim (cases_Bool (is_among 0 sets)) [
+pub IsCoded-AreNewCells : (schema : Layout) (sets : List ℕ) (cells : CodedCells) → IsSchema schema → All (λ set. set < 2 ^ length schema.dimensions) sets → IsStrictlySortedBy nat_cmp sets → AreNewCells (is_among 0 sets) (length schema.measures) cells → IsCoded schema sets 0 (replicate (length schema.dimensions) []) cells
+IsCoded-AreNewCells schema sets cells is within ascending new = elim (cases_Bool (is_among 0 sets)) [
   | inl kept ↦ let one = new.total kept in subst (λ (cs : CodedCells). IsCoded schema sets 0 (replicate n []) cs) (sym one.1) (with_total one.0 one.2 one.3)
   | inr none ↦ subst (λ (cs : CodedCells). IsCoded schema sets 0 (replicate n []) cs) (sym (new.none none)) (without none)
 ] where
@@ -136,8 +133,8 @@ new_coded schema sets cells is within ascending new = elim (cases_Bool (is_among
   with_total t empty width = record {
     lattice = lattice ((total_codes, t) ∷ []);
     texts = texts;
-    distinct = one_apart t;
-    each = All-cons (IsCodedCell (replicate n []) (length schema.measures)) (total_codes, t) [] (record { codes = total_valid n 8 is.dimensions_at_most; eight = refl; width = width; some = refl }) (All-nil (IsCodedCell (replicate n []) (length schema.measures)));
+    distinct = AreApart-one t;
+    each = All-cons (IsCodedCell (replicate n []) (length schema.measures)) (total_codes, t) [] (record { codes = are_codes-replicate n 8 is.dimensions_at_most; eight = refl; width = width; some = refl }) (All-nil (IsCodedCell (replicate n []) (length schema.measures)));
     total = λ kept. refl;
     counts = λ set among. omega (arith, no_count (mask_of (key_at (replicate n []) total_codes.codes) == set) t empty, sum_by-cons (λ (cell : Key × Tally). if mask_of cell.0 == set then cell.1.facts else 0) (key_at (replicate n []) total_codes.codes, t) []);
   } where
@@ -149,15 +146,15 @@ new_coded schema sets cells is within ascending new = elim (cases_Bool (is_among
   without none = record {
     lattice = lattice [];
     texts = texts;
-    distinct = none_apart;
+    distinct = AreApart-nil;
     each = All-nil (IsCodedCell (replicate n []) (length schema.measures));
     total = λ kept. absurd (both_ways (is_among 0 sets) none kept);
     counts = λ set among. refl;
   }
 
 -- and new
-pub new_lattice : (schema : Layout) (sets : List ℕ) (cells : CodedCells) → IsNewLattice schema sets (lattice_of schema sets 0 (replicate (length schema.dimensions) []) cells)
-new_lattice schema sets cells = record {
+pub IsNewLattice-lattice_of : (schema : Layout) (sets : List ℕ) (cells : CodedCells) → IsNewLattice schema sets (lattice_of schema sets 0 (replicate (length schema.dimensions) []) cells)
+IsNewLattice-lattice_of schema sets cells = record {
   schema_is = refl;
   sets_are = refl;
   no_facts = refl;
@@ -169,16 +166,12 @@ new_lattice schema sets cells = record {
 
 -- ---- the new cells
 -- none where the grand total isn't kept
-pub none_new : (has_total : Bool) (measures : ℕ) (cells : CodedCells) → has_total ≡ false → cells ≡ [] → AreNewCells has_total measures cells
-none_new has_total measures cells none empty = record { none = λ _. empty; total = λ kept. absurd (both_ways has_total none kept) }
-
--- where it is kept, the one
-pub total_new : (has_total : Bool) (measures : ℕ) (cells : CodedCells) → has_total ≡ true → AreNewCells true measures cells → AreNewCells has_total measures cells
-total_new has_total measures cells kept new = subst (λ (b : Bool). AreNewCells b measures cells) (sym kept) new
+pub AreNewCells-nil : (has_total : Bool) (measures : ℕ) (cells : CodedCells) → has_total ≡ false → cells ≡ [] → AreNewCells has_total measures cells
+AreNewCells-nil has_total measures cells none empty = record { none = λ _. empty; total = λ kept. absurd (both_ways has_total none kept) }
 
 -- a cell alone
-pub one_new : (measures : ℕ) (cells : CodedCells) (codes : Codes) (t : Tally) → codes ≡ total_codes → length cells ≡ 1 → coded_at cells codes ≡ Some t → IsTallyOf [] t → length t.bags ≡ measures → AreNewCells true measures cells
-one_new measures cells codes t total one found empty width = record {
+pub AreNewCells-one : (measures : ℕ) (cells : CodedCells) (codes : Codes) (t : Tally) → codes ≡ total_codes → length cells ≡ 1 → coded_at cells codes ≡ Some t → IsTallyOf [] t → length t.bags ≡ measures → AreNewCells true measures cells
+AreNewCells-one measures cells codes t total one found empty width = record {
   none = λ never. cc never;
   total = λ _. (t, alone cells one (subst (λ (k : Codes). coded_at cells k ≡ Some t) total found), empty, width);
 } where
@@ -188,35 +181,35 @@ one_new measures cells codes t total one found empty width = record {
     | inl same ↦
         let tally : e.1 ≡ t = cc (rw same at at) in
         let make : Codes → Tally → CodedCells = λ k s. (k, s) ∷ [] in
-        ap (λ (k : Codes). make k e.1) (sym (codes_is total_codes e.0 same)) ∙ ap (make total_codes) tally
+        ap (λ (k : Codes). make k e.1) (sym (same_codes-exact total_codes e.0 same)) ∙ ap (make total_codes) tally
     | inr apart ↦ cc (rw apart at at)
   ]
   alone (e ∷ f ∷ es) len at = absurd (omega (arith, len))
 
 -- ---- the whole
-pub new_all : (schema : Layout) (sets : List ℕ) (dictionaries : Dictionaries) (total : Bool) (cells : CodedCells) → IsSchema schema → All (λ set. set < 2 ^ length schema.dimensions) sets → IsStrictlySortedBy nat_cmp sets → dictionaries ≡ replicate (length schema.dimensions) [] → total ≡ is_among 0 sets → AreNewCells total (length schema.measures) cells → IsCoded schema sets 0 dictionaries cells × IsCubeOf (lattice_of schema sets 0 dictionaries cells) [] × IsNewLattice schema sets (lattice_of schema sets 0 dictionaries cells)
-new_all schema sets dictionaries total cells is within ascending texts_are total_is new =
+pub IsNewLattice-AreNewCells : (schema : Layout) (sets : List ℕ) (dictionaries : Dictionaries) (total : Bool) (cells : CodedCells) → IsSchema schema → All (λ set. set < 2 ^ length schema.dimensions) sets → IsStrictlySortedBy nat_cmp sets → dictionaries ≡ replicate (length schema.dimensions) [] → total ≡ is_among 0 sets → AreNewCells total (length schema.measures) cells → IsCoded schema sets 0 dictionaries cells × IsCubeOf (lattice_of schema sets 0 dictionaries cells) [] × IsNewLattice schema sets (lattice_of schema sets 0 dictionaries cells)
+IsNewLattice-AreNewCells schema sets dictionaries total cells is within ascending texts_are total_is new =
     let as_kept = subst (λ (b : Bool). AreNewCells b (length schema.measures) cells) total_is new in (
-      rw texts_are (new_coded schema sets cells is within ascending as_kept),
-      rw texts_are (new_cube schema sets cells is.dimensions_at_most as_kept),
-      rw texts_are (new_lattice schema sets cells),
+      rw texts_are (IsCoded-AreNewCells schema sets cells is within ascending as_kept),
+      rw texts_are (IsCubeOf-AreNewCells schema sets cells is.dimensions_at_most as_kept),
+      rw texts_are (IsNewLattice-lattice_of schema sets cells),
     )
 
 -- the sets of a part are grouping sets of the dimensions, in ascending order
-pub part_within : (schema : Layout) (part of : ℕ) → IsSchema schema → All (λ set. set < 2 ^ length schema.dimensions) (sets_of_part part of schema.grouping_sets)
-part_within schema part of is = All-filter (λ set. set % of == part) (λ set. set < 2 ^ length schema.dimensions) schema.grouping_sets is.sets_are_of_dimensions
+pub sets_of_part-below : (schema : Layout) (part of : ℕ) → IsSchema schema → All (λ set. set < 2 ^ length schema.dimensions) (sets_of_part part of schema.grouping_sets)
+sets_of_part-below schema part of is = All-filter (λ set. set % of == part) (λ set. set < 2 ^ length schema.dimensions) schema.grouping_sets is.sets_are_of_dimensions
 
-pub part_ascending : (schema : Layout) (part of : ℕ) → IsSchema schema → IsStrictlySortedBy nat_cmp (sets_of_part part of schema.grouping_sets)
-part_ascending schema part of is = IsStrictlySortedBy-filter nat_cmp (λ set. set % of == part) schema.grouping_sets (sorted_from_strictly_increasing schema.grouping_sets is.sets_are_ascending)
+pub sets_of_part-IsStrictlySortedBy : (schema : Layout) (part of : ℕ) → IsSchema schema → IsStrictlySortedBy nat_cmp (sets_of_part part of schema.grouping_sets)
+sets_of_part-IsStrictlySortedBy schema part of is = IsStrictlySortedBy-filter nat_cmp (λ set. set % of == part) schema.grouping_sets (sorted_from_strictly_increasing schema.grouping_sets is.sets_are_ascending)
 
 -- one set is in order
-pub one_ascending : (set : ℕ) → IsStrictlySortedBy nat_cmp (set ∷ [])
+pub IsStrictlySortedBy-one : (set : ℕ) → IsStrictlySortedBy nat_cmp (set ∷ [])
 unfolding IsStrictlySortedBy
-one_ascending set = (tt, tt)
+IsStrictlySortedBy-one set = (tt, tt)
 
 -- the only part of one is the whole
-pub part_of_one : (sets : List ℕ) → sets_of_part 0 1 sets ≡ sets
-part_of_one [] = refl
-part_of_one (set ∷ sets) =
+pub sets_of_part-one : (sets : List ℕ) → sets_of_part 0 1 sets ≡ sets
+sets_of_part-one [] = refl
+sets_of_part-one (set ∷ sets) =
     let whole : (set % 1 == 0) ≡ true = eq-eqb (set % 1) 0 (omega arith) in
-    rw whole (ap (λ (xs : List ℕ). set ∷ xs) (part_of_one sets))
+    rw whole (ap (λ (xs : List ℕ). set ∷ xs) (sets_of_part-one sets))

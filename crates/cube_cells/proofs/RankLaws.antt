@@ -23,35 +23,35 @@ use Rattle.cube_core.specs.declared.key.Coord.{Coord}
 use Rattle.cube_core.specs.declared.key.Coord.TheVariants as coord
 use Rattle.cube_cells.specs.Codes.{Dictionaries, IsDictionary, is_code, are_codes, coord_at, coords_at, all_code, null_code}
 use Rattle.cube_cells.specs.Ranks.{AreRanks, AreAllRanks, AreInOrder, LeadBack, rank_of, ranks_of}
-use Rattle.cube_cells.proofs.DictionaryLaws.{code_cases, coord_at-place, one_place}
+use Rattle.cube_cells.proofs.DictionaryLaws.{is_code-cases, coord_at-place, StandsAt-are_distinct}
 
 -- ---- orders
 -- what a sort by a key ensures
-pub sorted_by : {X K : Type 0} {R : K → K → Ordering} (o : IsTotalOrder R) (key : X → K) {F : Type 0} {g : Mut F (Bor X × (Bor X × Unit {0})) Ordering} {f : F} (xs : List X)
+pub IsSortedBy-key : {X K : Type 0} {R : K → K → Ordering} (o : IsTotalOrder R) (key : X → K) {F : Type 0} {g : Mut F (Bor X × (Bor X × Unit {0})) Ordering} {f : F} (xs : List X)
     → ((lt : X → X → Bool) → IsStrictWeakOrder lt → ComparesAs g lt f → IsSortedBy lt xs)
     → ((a : Bor X × (Bor X × Unit {0})) (r : Ordering) (f' : F) → Called g f a r f' → (r ≡ R (key a.0.now) (key a.1.0.now)) × (f' ≡ f))
     → IsSortedBy (λ x y. is_lt (R (key x) (key y))) xs
-sorted_by {R = R} o key {g = g} {f = f} xs up h = up (λ x y. is_lt (R (key x) (key y))) (ranks_by o key)
+IsSortedBy-key {R = R} o key {g = g} {f = f} xs up h = up (λ x y. is_lt (R (key x) (key y))) (ranks_by o key)
     (always_returns_same g (λ a r. is_lt r ≡ is_lt (R (key a.0.now) (key a.1.0.now))) f (λ a r f' k. (ap is_lt (h a r f' k).0, (h a r f' k).1)))
 
 -- what isn't above another, nor the same, is below it
-pub below_from : {K : Type 0} {R : K → K → Ordering} (o : IsTotalOrder R) (exact : CmpEqualImpliesEq R) (x y : K) → is_lt (R y x) ≡ false → (x ≡ y → ⊥) → R x y ≡ Less
-below_from {R = R} o exact x y upward apart = by_cases (R x y) refl where
+pub Less-from_is_lt : {K : Type 0} {R : K → K → Ordering} (o : IsTotalOrder R) (exact : CmpEqualImpliesEq R) (x y : K) → is_lt (R y x) ≡ false → (x ≡ y → ⊥) → R x y ≡ Less
+Less-from_is_lt {R = R} o exact x y upward apart = by_cases (R x y) refl where
   by_cases : (r : Ordering) → R x y ≡ r → r ≡ Less
   by_cases Less is = refl
   by_cases Equal is = absurd (apart (exact x y is))
   by_cases Greater is = cc (sym (ap is_lt (o.antisymm y x ∙ ap ordering_reverse is)) ∙ upward)
 
-pub above_from : {K : Type 0} {R : K → K → Ordering} (o : IsTotalOrder R) (x y : K) → R y x ≡ Less → R x y ≡ Greater
-above_from o x y below = o.antisymm x y ∙ ap ordering_reverse below
+pub Greater-from_Less : {K : Type 0} {R : K → K → Ordering} (o : IsTotalOrder R) (x y : K) → R y x ≡ Less → R x y ≡ Greater
+Greater-from_Less o x y below = o.antisymm x y ∙ ap ordering_reverse below
 
-pub nat_less : (x y : ℕ) → x < y → nat_cmp x y ≡ Less
-nat_less x y below = rw (lt-ltb x y below) refl
+pub nat_cmp-Less : (x y : ℕ) → x < y → nat_cmp x y ≡ Less
+nat_cmp-Less x y below = rw (lt-ltb x y below) refl
 
 -- ---- the ranks of texts
 -- places from 0 on, put in the order of their texts
-pub in_order : (texts : List (List ℕ)) (places : List ℕ) → IsPermutation (range_with_len 0 (length texts)) places → IsSortedBy (λ a b. is_lt (slice_cmp nat_cmp (get_or texts a []) (get_or texts b []))) places → AreInOrder texts places
-in_order texts places moved sorted = record {
+pub AreInOrder-IsSortedBy : (texts : List (List ℕ)) (places : List ℕ) → IsPermutation (range_with_len 0 (length texts)) places → IsSortedBy (λ a b. is_lt (slice_cmp nat_cmp (get_or texts a []) (get_or texts b []))) places → AreInOrder texts places
+AreInOrder-IsSortedBy texts places moved sorted = record {
   same_length = long;
   below = λ i inside. small (get_or places i 0) (Contains-get_or places i 0 inside);
   each = λ a inside.
@@ -70,8 +70,8 @@ in_order texts places moved sorted = record {
       omega (arith, inside, sym back.2, get_or-range_with_len 0 (length texts) back.0 a inside)
 
 -- ranks that lead back to places in order are ranks of the texts
-pub ranked_all : (texts : List (List ℕ)) (order ranks : List ℕ) → IsDictionary texts → AreInOrder texts order → LeadBack (length order) order ranks → AreRanks texts ranks
-ranked_all texts order ranks is in_order has = record {
+pub AreRanks-LeadBack : (texts : List (List ℕ)) (order ranks : List ℕ) → IsDictionary texts → AreInOrder texts order → LeadBack (length order) order ranks → AreRanks texts ranks
+AreRanks-LeadBack texts order ranks is in_order has = record {
   same_length = has.same_length ∙ in_order.same_length;
   below = λ a small. omega (arith, (place_of a small).1, in_order.same_length);
   order = λ a b small_a small_b. by_rank a b small_a small_b (cases_lt (get_or ranks a 0) (get_or ranks b 0)) (cases_lt (get_or ranks b 0) (get_or ranks a 0));
@@ -93,13 +93,13 @@ ranked_all texts order ranks is in_order has = record {
       let at_b = place_of b small_b in
       let sorted = in_order.ordered (get_or ranks a 0) (get_or ranks b 0) (omega (arith, up)) at_b.1 in
       let upward : is_lt (slice_cmp nat_cmp (text b) (text a)) ≡ false = rw (at_a.0, at_b.0) at sorted in
-      below_from nat_list_cmp_total exact_bytes (text a) (text b) upward (λ same.
-      let one : a ≡ b = one_place (text b) texts a b is.distinct (record { below = small_a; is_text = same }) (record { below = small_b; is_text = refl }) in
+      Less-from_is_lt nat_list_cmp_total exact_bytes (text a) (text b) upward (λ same.
+      let one : a ≡ b = StandsAt-are_distinct (text b) texts a b is.distinct (record { below = small_a; is_text = same }) (record { below = small_b; is_text = refl }) in
       absurd (omega (arith, up, ap (λ p. get_or ranks p 0) one)))
 
   by_rank : (a b : ℕ) → a < length texts → b < length texts → (get_or ranks a 0 < get_or ranks b 0) ⊎ (get_or ranks b 0 ≤ get_or ranks a 0) → (get_or ranks b 0 < get_or ranks a 0) ⊎ (get_or ranks a 0 ≤ get_or ranks b 0) → nat_cmp (get_or ranks a 0) (get_or ranks b 0) ≡ slice_cmp nat_cmp (text a) (text b)
-  by_rank a b small_a small_b (inl up) other = nat_less (get_or ranks a 0) (get_or ranks b 0) up ∙ sym (rising a b small_a small_b up)
-  by_rank a b small_a small_b (inr not_up) (inl down) = above_from nat_cmp_total (get_or ranks a 0) (get_or ranks b 0) (nat_less (get_or ranks b 0) (get_or ranks a 0) down) ∙ sym (above_from nat_list_cmp_total (text a) (text b) (rising b a small_b small_a down))
+  by_rank a b small_a small_b (inl up) other = nat_cmp-Less (get_or ranks a 0) (get_or ranks b 0) up ∙ sym (rising a b small_a small_b up)
+  by_rank a b small_a small_b (inr not_up) (inl down) = Greater-from_Less nat_cmp_total (get_or ranks a 0) (get_or ranks b 0) (nat_cmp-Less (get_or ranks b 0) (get_or ranks a 0) down) ∙ sym (Greater-from_Less nat_list_cmp_total (text a) (text b) (rising b a small_b small_a down))
   by_rank a b small_a small_b (inr not_up) (inr not_down) =
       let same_rank : get_or ranks a 0 ≡ get_or ranks b 0 = omega (arith, not_up, not_down) in
       let same : a ≡ b = sym (place_of a small_a).0 ∙ ap (λ p. get_or order p 0) same_rank ∙ (place_of b small_b).0 in
@@ -114,8 +114,8 @@ rank_of-top : (texts : List (List ℕ)) (ranks : List ℕ) (code : ℕ) → AreR
 rank_of-top texts ranks code are past = rw (le-ltb code (length ranks) (omega (arith, past, are.same_length))) refl
 
 -- the ranks of two codes compare as their coordinates do
-rank_compares : (texts : List (List ℕ)) (ranks : List ℕ) (a b : ℕ) → IsDictionary texts → AreRanks texts ranks → is_code texts a ≡ true → is_code texts b ≡ true → nat_cmp (rank_of ranks a) (rank_of ranks b) ≡ coord_cmp (coord_at texts a) (coord_at texts b)
-rank_compares texts ranks a b is are valid_a valid_b = by_kind (code_cases texts a valid_a) (code_cases texts b valid_b) where
+rank_of-coord_cmp : (texts : List (List ℕ)) (ranks : List ℕ) (a b : ℕ) → IsDictionary texts → AreRanks texts ranks → is_code texts a ≡ true → is_code texts b ≡ true → nat_cmp (rank_of ranks a) (rank_of ranks b) ≡ coord_cmp (coord_at texts a) (coord_at texts b)
+rank_of-coord_cmp texts ranks a b is are valid_a valid_b = by_kind (is_code-cases texts a valid_a) (is_code-cases texts b valid_b) where
   text : ℕ → Coord
   text code = coord.Text (get_or texts code [])
 
@@ -133,36 +133,36 @@ rank_compares texts ranks a b is are valid_a valid_b = by_kind (code_cases texts
 
   by_kind : (a ≡ all_code) ⊎ ((a ≡ null_code) ⊎ (a < length texts)) → (b ≡ all_code) ⊎ ((b ≡ null_code) ⊎ (b < length texts)) → nat_cmp (rank_of ranks a) (rank_of ranks b) ≡ coord_cmp (coord_at texts a) (coord_at texts b)
   by_kind (inl all_a) (inl all_b) = between all_code all_code coord.All coord.All (top_rank a all_code all_a (omega arith)) (top_rank b all_code all_b (omega arith)) (ap (coord_at texts) all_a) (ap (coord_at texts) all_b) (tied_itself nat_cmp_total all_code)
-  by_kind (inl all_a) (inr (inl null_b)) = between all_code null_code coord.All coord.Null (top_rank a all_code all_a (omega arith)) (top_rank b null_code null_b (omega arith)) (ap (coord_at texts) all_a) (ap (coord_at texts) null_b) (above_from nat_cmp_total all_code null_code (nat_less null_code all_code (omega arith)))
-  by_kind (inl all_a) (inr (inr below_b)) = between all_code (get_or ranks b 0) coord.All (text b) (top_rank a all_code all_a (omega arith)) (rank_of-text texts ranks b are below_b) (ap (coord_at texts) all_a) (text_coord b below_b) (above_from nat_cmp_total all_code (get_or ranks b 0) (nat_less (get_or ranks b 0) all_code (low b all_code below_b (omega arith))))
-  by_kind (inr (inl null_a)) (inl all_b) = between null_code all_code coord.Null coord.All (top_rank a null_code null_a (omega arith)) (top_rank b all_code all_b (omega arith)) (ap (coord_at texts) null_a) (ap (coord_at texts) all_b) (nat_less null_code all_code (omega arith))
+  by_kind (inl all_a) (inr (inl null_b)) = between all_code null_code coord.All coord.Null (top_rank a all_code all_a (omega arith)) (top_rank b null_code null_b (omega arith)) (ap (coord_at texts) all_a) (ap (coord_at texts) null_b) (Greater-from_Less nat_cmp_total all_code null_code (nat_cmp-Less null_code all_code (omega arith)))
+  by_kind (inl all_a) (inr (inr below_b)) = between all_code (get_or ranks b 0) coord.All (text b) (top_rank a all_code all_a (omega arith)) (rank_of-text texts ranks b are below_b) (ap (coord_at texts) all_a) (text_coord b below_b) (Greater-from_Less nat_cmp_total all_code (get_or ranks b 0) (nat_cmp-Less (get_or ranks b 0) all_code (low b all_code below_b (omega arith))))
+  by_kind (inr (inl null_a)) (inl all_b) = between null_code all_code coord.Null coord.All (top_rank a null_code null_a (omega arith)) (top_rank b all_code all_b (omega arith)) (ap (coord_at texts) null_a) (ap (coord_at texts) all_b) (nat_cmp-Less null_code all_code (omega arith))
   by_kind (inr (inl null_a)) (inr (inl null_b)) = between null_code null_code coord.Null coord.Null (top_rank a null_code null_a (omega arith)) (top_rank b null_code null_b (omega arith)) (ap (coord_at texts) null_a) (ap (coord_at texts) null_b) (tied_itself nat_cmp_total null_code)
-  by_kind (inr (inl null_a)) (inr (inr below_b)) = between null_code (get_or ranks b 0) coord.Null (text b) (top_rank a null_code null_a (omega arith)) (rank_of-text texts ranks b are below_b) (ap (coord_at texts) null_a) (text_coord b below_b) (above_from nat_cmp_total null_code (get_or ranks b 0) (nat_less (get_or ranks b 0) null_code (low b null_code below_b (omega arith))))
-  by_kind (inr (inr below_a)) (inl all_b) = between (get_or ranks a 0) all_code (text a) coord.All (rank_of-text texts ranks a are below_a) (top_rank b all_code all_b (omega arith)) (text_coord a below_a) (ap (coord_at texts) all_b) (nat_less (get_or ranks a 0) all_code (low a all_code below_a (omega arith)))
-  by_kind (inr (inr below_a)) (inr (inl null_b)) = between (get_or ranks a 0) null_code (text a) coord.Null (rank_of-text texts ranks a are below_a) (top_rank b null_code null_b (omega arith)) (text_coord a below_a) (ap (coord_at texts) null_b) (nat_less (get_or ranks a 0) null_code (low a null_code below_a (omega arith)))
+  by_kind (inr (inl null_a)) (inr (inr below_b)) = between null_code (get_or ranks b 0) coord.Null (text b) (top_rank a null_code null_a (omega arith)) (rank_of-text texts ranks b are below_b) (ap (coord_at texts) null_a) (text_coord b below_b) (Greater-from_Less nat_cmp_total null_code (get_or ranks b 0) (nat_cmp-Less (get_or ranks b 0) null_code (low b null_code below_b (omega arith))))
+  by_kind (inr (inr below_a)) (inl all_b) = between (get_or ranks a 0) all_code (text a) coord.All (rank_of-text texts ranks a are below_a) (top_rank b all_code all_b (omega arith)) (text_coord a below_a) (ap (coord_at texts) all_b) (nat_cmp-Less (get_or ranks a 0) all_code (low a all_code below_a (omega arith)))
+  by_kind (inr (inr below_a)) (inr (inl null_b)) = between (get_or ranks a 0) null_code (text a) coord.Null (rank_of-text texts ranks a are below_a) (top_rank b null_code null_b (omega arith)) (text_coord a below_a) (ap (coord_at texts) null_b) (nat_cmp-Less (get_or ranks a 0) null_code (low a null_code below_a (omega arith)))
   by_kind (inr (inr below_a)) (inr (inr below_b)) = between (get_or ranks a 0) (get_or ranks b 0) (text a) (text b) (rank_of-text texts ranks a are below_a) (rank_of-text texts ranks b are below_b) (text_coord a below_a) (text_coord b below_b) (are.order a b below_a below_b)
 
-alls_tied : (a b : List ℕ) → list_all (λ code. code == all_code) a ≡ true → list_all (λ code. code == all_code) b ≡ true → length a ≡ length b → slice_cmp nat_cmp a b ≡ Equal
-alls_tied [] [] all_a all_b lengths = refl
-alls_tied [] (y ∷ b) all_a all_b lengths = absurd (omega (arith, lengths))
-alls_tied (x ∷ a) [] all_a all_b lengths = absurd (omega (arith, lengths))
-alls_tied (x ∷ a) (y ∷ b) all_a all_b lengths =
+slice_cmp-all_code : (a b : List ℕ) → list_all (λ code. code == all_code) a ≡ true → list_all (λ code. code == all_code) b ≡ true → length a ≡ length b → slice_cmp nat_cmp a b ≡ Equal
+slice_cmp-all_code [] [] all_a all_b lengths = refl
+slice_cmp-all_code [] (y ∷ b) all_a all_b lengths = absurd (omega (arith, lengths))
+slice_cmp-all_code (x ∷ a) [] all_a all_b lengths = absurd (omega (arith, lengths))
+slice_cmp-all_code (x ∷ a) (y ∷ b) all_a all_b lengths =
     let in_a = and_parts (x == all_code) (list_all (λ code. code == all_code) a) all_a in
     let in_b = and_parts (y == all_code) (list_all (λ code. code == all_code) b) all_b in
     let same : x ≡ y = eqb-true x all_code in_a.0 ∙ sym (eqb-true y all_code in_b.0) in
     let head : nat_cmp x y ≡ Equal = ap (nat_cmp x) (sym same) ∙ tied_itself nat_cmp_total x in
-    rw head (alls_tied a b in_a.1 in_b.1 (omega (arith, lengths)))
+    rw head (slice_cmp-all_code a b in_a.1 in_b.1 (omega (arith, lengths)))
 
 -- the ranks of codes compare as their coordinates do
-pub ranks_compare : (dictionaries : Dictionaries) (ranks : List (List ℕ)) (a b : List ℕ) → All IsDictionary dictionaries → AreAllRanks dictionaries ranks → are_codes dictionaries a ≡ true → are_codes dictionaries b ≡ true → length a ≡ length b → slice_cmp nat_cmp (ranks_of ranks a) (ranks_of ranks b) ≡ slice_cmp coord_cmp (coords_at dictionaries a) (coords_at dictionaries b)
-ranks_compare [] [] a b all are valid_a valid_b lengths = alls_tied a b valid_a valid_b lengths
-ranks_compare [] (r ∷ ranks) a b all are valid_a valid_b lengths = absurd are
-ranks_compare (texts ∷ dictionaries) [] a b all are valid_a valid_b lengths = absurd are
-ranks_compare (texts ∷ dictionaries) (r ∷ ranks) [] b all are valid_a valid_b lengths = cc valid_a
-ranks_compare (texts ∷ dictionaries) (r ∷ ranks) (x ∷ a) [] all are valid_a valid_b lengths = cc valid_b
-ranks_compare (texts ∷ dictionaries) (r ∷ ranks) (x ∷ a) (y ∷ b) all are valid_a valid_b lengths =
+pub ranks_of-coord_cmp : (dictionaries : Dictionaries) (ranks : List (List ℕ)) (a b : List ℕ) → All IsDictionary dictionaries → AreAllRanks dictionaries ranks → are_codes dictionaries a ≡ true → are_codes dictionaries b ≡ true → length a ≡ length b → slice_cmp nat_cmp (ranks_of ranks a) (ranks_of ranks b) ≡ slice_cmp coord_cmp (coords_at dictionaries a) (coords_at dictionaries b)
+ranks_of-coord_cmp [] [] a b all are valid_a valid_b lengths = slice_cmp-all_code a b valid_a valid_b lengths
+ranks_of-coord_cmp [] (r ∷ ranks) a b all are valid_a valid_b lengths = absurd are
+ranks_of-coord_cmp (texts ∷ dictionaries) [] a b all are valid_a valid_b lengths = absurd are
+ranks_of-coord_cmp (texts ∷ dictionaries) (r ∷ ranks) [] b all are valid_a valid_b lengths = cc valid_a
+ranks_of-coord_cmp (texts ∷ dictionaries) (r ∷ ranks) (x ∷ a) [] all are valid_a valid_b lengths = cc valid_b
+ranks_of-coord_cmp (texts ∷ dictionaries) (r ∷ ranks) (x ∷ a) (y ∷ b) all are valid_a valid_b lengths =
     let in_a = and_parts (is_code texts x) (are_codes dictionaries a) valid_a in
     let in_b = and_parts (is_code texts y) (are_codes dictionaries b) valid_b in
-    let head = rank_compares texts r x y (All-head IsDictionary texts dictionaries all) are.0 in_a.0 in_b.0 in
-    let tail = ranks_compare dictionaries ranks a b (All-tail IsDictionary texts dictionaries all) are.1 in_a.1 in_b.1 (omega (arith, lengths)) in
+    let head = rank_of-coord_cmp texts r x y (All-head IsDictionary texts dictionaries all) are.0 in_a.0 in_b.0 in
+    let tail = ranks_of-coord_cmp dictionaries ranks a b (All-tail IsDictionary texts dictionaries all) are.1 in_a.1 in_b.1 (omega (arith, lengths)) in
     rw (head, tail) refl

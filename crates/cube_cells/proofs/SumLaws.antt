@@ -7,47 +7,47 @@ use Rattle.std.specs.Ordering.{int_eq}
 use Rattle.std.specs.Prelude.{ℤ, pos, ◌+ℤ◌, ◌-ℤ◌}
 use Rattle.std.proofs.lemmas.Int.{ints}
 use borrow.Author.Differences.{up, down}
-use Rattle.cube_cells.specs.Bag.{Bag, weight_of, held_of, size_of, one_at, AddsBag, AddsOne}
+use Rattle.cube_counts.specs.Bag.{Bag, weight_of, held_of, size_of, one_at, AddsBag, AddsOne}
 use Rattle.cube_cells.specs.Sum.{IsSumOf}
-use Rattle.cube_cells.proofs.BagLaws.{weight_of-bag, weight_of-cons, weight_of-one, weight_of-nothing, one_at_itself, one_at_apart, same_number}
+use Rattle.cube_counts.proofs.BagLaws.{weight_of-bag, weight_of-cons, weight_of-one, weight_of-nothing, one_at-refl, one_at-distinct, int_eq-same}
 
 -- where each number that is held counts m at most
-weight_bound : (f : ℤ → ℕ) (m : ℕ) (bag : Bag) → ((x : ℤ) → 0 < held_of bag x → f x ≤ m) → weight_of f bag ≤ size_of bag * m
-weight_bound f m [] h = omega arith
-weight_bound f m (e ∷ bag) h =
-    let rest : weight_of f bag ≤ size_of bag * m = weight_bound f m bag (λ x held. h x (omega (arith, weight_of-cons (one_at x) e bag))) in
-    omega (arith, weight_of-cons f e bag, ap (λ n. n * m) (weight_of-cons (λ _. 1) e bag), rest, counted e.1 (λ some. h e.0 (omega (arith, weight_of-cons (one_at e.0) e bag, ap (λ n. n * e.1) (one_at_itself e.0))))) where
+weight_of-bound : (f : ℤ → ℕ) (m : ℕ) (bag : Bag) → ((x : ℤ) → 0 < held_of bag x → f x ≤ m) → weight_of f bag ≤ size_of bag * m
+weight_of-bound f m [] h = omega arith
+weight_of-bound f m (e ∷ bag) h =
+    let rest : weight_of f bag ≤ size_of bag * m = weight_of-bound f m bag (λ x held. h x (omega (arith, weight_of-cons (one_at x) e bag))) in
+    omega (arith, weight_of-cons f e bag, ap (λ n. n * m) (weight_of-cons (λ _. 1) e bag), rest, counted e.1 (λ some. h e.0 (omega (arith, weight_of-cons (one_at e.0) e bag, ap (λ n. n * e.1) (one_at-refl e.0))))) where
       counted : (c : ℕ) → (0 < c → f e.0 ≤ m) → f e.0 * c ≤ m * c
       counted zero k = omega arith
       counted (suc c) k = omega (arith, mul-le-mul_left (suc c) (k (omega arith)))
 
 -- a kept sum fits 128 bits
-pub sum_fits : (bag : Bag) (sum : ℤ) → IsSumOf bag sum → size_of bag < 2 ^ 64 → FitsSigned w128 sum
-sum_fits bag sum s few =
-    let over : weight_of up bag ≤ size_of bag * 2 ^ 63 = weight_bound up (2 ^ 63) bag (λ x held. let fits = s.fits x held in omega (arith, ints)) in
-    let under : weight_of down bag ≤ size_of bag * 2 ^ 63 = weight_bound down (2 ^ 63) bag (λ x held. let fits = s.fits x held in omega (arith, ints)) in
+pub IsSumOf-FitsSigned : (bag : Bag) (sum : ℤ) → IsSumOf bag sum → size_of bag < 2 ^ 64 → FitsSigned w128 sum
+IsSumOf-FitsSigned bag sum s few =
+    let over : weight_of up bag ≤ size_of bag * 2 ^ 63 = weight_of-bound up (2 ^ 63) bag (λ x held. let fits = s.fits x held in omega (arith, ints)) in
+    let under : weight_of down bag ≤ size_of bag * 2 ^ 63 = weight_of-bound down (2 ^ 63) bag (λ x held. let fits = s.fits x held in omega (arith, ints)) in
     omega (arith, ints, s.is_sum)
 
 -- one number more
-pub sum_added : (old new : Bag) (sum v : ℤ) → IsSumOf old sum → FitsSigned w64 v → AddsOne old new v → IsSumOf new (sum +ℤ v)
-sum_added old new sum v s fits adds = record {
+pub IsSumOf-add : (old new : Bag) (sum v : ℤ) → IsSumOf old sum → FitsSigned w64 v → AddsOne old new v → IsSumOf new (sum +ℤ v)
+IsSumOf-add old new sum v s fits adds = record {
   is_sum = omega (arith, ints, s.is_sum, weight_of-one up old new v adds, weight_of-one down old new v adds);
   fits = λ x held. elim (int_eq x v) as (λ b. int_eq x v ≡ b → FitsSigned w64 x) [
-    | true ↦ λ same. subst (FitsSigned w64) (sym (same_number x v same)) fits
-    | false ↦ λ apart. s.fits x (omega (arith, adds.held x, one_at_apart x v apart))
+    | true ↦ λ same. subst (FitsSigned w64) (sym (int_eq-same x v same)) fits
+    | false ↦ λ apart. s.fits x (omega (arith, adds.held x, one_at-distinct x v apart))
   ] refl;
 }
 
 -- one number less
-pub sum_taken : (old new : Bag) (sum v : ℤ) → IsSumOf old sum → AddsOne new old v → IsSumOf new (sum -ℤ v)
-sum_taken old new sum v s adds = record {
+pub IsSumOf-take : (old new : Bag) (sum v : ℤ) → IsSumOf old sum → AddsOne new old v → IsSumOf new (sum -ℤ v)
+IsSumOf-take old new sum v s adds = record {
   is_sum = omega (arith, ints, s.is_sum, weight_of-one up new old v adds, weight_of-one down new old v adds);
   fits = λ x held. s.fits x (omega (arith, adds.held x));
 }
 
 -- the numbers of both
-pub sum_joined : (old new more : Bag) (sum other : ℤ) → IsSumOf old sum → IsSumOf more other → AddsBag old new more → IsSumOf new (sum +ℤ other)
-sum_joined old new more sum other s o adds = record {
+pub IsSumOf-join : (old new more : Bag) (sum other : ℤ) → IsSumOf old sum → IsSumOf more other → AddsBag old new more → IsSumOf new (sum +ℤ other)
+IsSumOf-join old new more sum other s o adds = record {
   is_sum = omega (arith, ints, s.is_sum, o.is_sum, weight_of-bag up old new more adds, weight_of-bag down old new more adds);
   fits = λ x held. elim (cases_lt 0 (held_of old x)) [
     | inl here ↦ s.fits x here
@@ -56,8 +56,8 @@ sum_joined old new more sum other s o adds = record {
 }
 
 -- the sum of nothing
-pub sum_of_nothing : (bag : Bag) → ((x : ℤ) → held_of bag x ≡ 0) → IsSumOf bag (pos 0)
-sum_of_nothing bag none = record {
+pub IsSumOf-nothing : (bag : Bag) → ((x : ℤ) → held_of bag x ≡ 0) → IsSumOf bag (pos 0)
+IsSumOf-nothing bag none = record {
   is_sum = omega (arith, ints, weight_of-nothing up bag none, weight_of-nothing down bag none);
   fits = λ x held. absurd (omega (arith, none x));
 }

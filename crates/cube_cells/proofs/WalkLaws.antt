@@ -14,44 +14,44 @@ use Rattle.std.proofs.lemmas.List.Sums.{sum_by-cons, sum_by-append}
 use Rattle.std.proofs.lemmas.Map.{lookup-set_value}
 use Rattle.std.proofs.lemmas.Slice.Eq.{bytes_eq-Decides}
 use Rattle.std.proofs.lemmas.List.{get_or-replicate, get_or_past, length-replicate, append_assoc, append-nil, map-append, map_more, length-map, take-map, get_or-map}
-use Rattle.cube_cells.specs.Bag.{Bag, held_of}
+use Rattle.cube_counts.specs.Bag.{Bag, held_of}
 use Rattle.cube_cells.specs.Coded.{CodedCells, same_codes, coded_at, is_total_code}
 use Rattle.cube_cells.specs.Cube.{AddsAt, TakesAt, SameCell, cell_holds, tally_or_empty, empty_tally}
 use Rattle.cube_cells.specs.Tally.{Tally, IsTallyOf, PlusFact, SameTally, bag_at, holds_fact}
 use Rattle.cube_cells.specs.Walk.{key_in, codes_in, is_in, weight_of_cells, HasRoom, AddsIn, TakesIn, SameCoded, LosesFact}
 use Rattle.cube_cells.specs.declared.cube.codes.Codes.{Codes}
-use Rattle.cube_cells.proofs.ValueLaws.{added_and_taken}
+use Rattle.cube_cells.proofs.ValueLaws.{AddsValues-SameBags}
 
 -- ---- codes
 -- codes are the same where their lists are
-pub codes_is : (a b : Codes) → same_codes a b ≡ true → a ≡ b
-codes_is a b same = let make : List ℕ → Codes = λ xs. record { codes = xs } in ap make ((bytes_eq-Decides a.codes b.codes).0 same)
+pub same_codes-exact : (a b : Codes) → same_codes a b ≡ true → a ≡ b
+same_codes-exact a b same = let make : List ℕ → Codes = λ xs. record { codes = xs } in ap make ((bytes_eq-Decides a.codes b.codes).0 same)
 
-pub codes_equiv : IsEquivalence same_codes
-codes_equiv = record {
+pub same_codes-IsEquivalence : IsEquivalence same_codes
+same_codes-IsEquivalence = record {
   refl = λ x. nat_list_eq_equiv.refl x.codes;
   symm = λ x y. nat_list_eq_equiv.symm x.codes y.codes;
   congr = λ x y z. nat_list_eq_equiv.congr x.codes y.codes z.codes;
 }
 
 -- what is among one is that one
-pub in_one : (k q : Codes) → is_in (k ∷ []) q ≡ true → q ≡ k
-in_one k q inside = elim (or_cases (same_codes q k) false inside) [
-  | inl same ↦ codes_is q k same
+pub is_in-one : (k q : Codes) → is_in (k ∷ []) q ≡ true → q ≡ k
+is_in-one k q inside = elim (or_cases (same_codes q k) false inside) [
+  | inl same ↦ same_codes-exact q k same
   | inr never ↦ cc never
 ]
 
-pub not_in_one : (k q : Codes) → is_in (k ∷ []) q ≡ false → same_codes k q ≡ false
-not_in_one k q outside = codes_equiv.symm k q ∙ (or_parts (same_codes q k) false outside).0
+pub is_in-other : (k q : Codes) → is_in (k ∷ []) q ≡ false → same_codes k q ≡ false
+is_in-other k q outside = same_codes-IsEquivalence.symm k q ∙ (or_parts (same_codes q k) false outside).0
 
 -- codes that are apart from those of a list aren't the one that is among them
-apart_from : (keys : List Codes) (k q : Codes) → is_in keys k ≡ false → is_in keys q ≡ true → is_in (k ∷ []) q ≡ false
-apart_from keys k q outside inside = false_from_ne_true (is_in (k ∷ []) q) (λ one. both_ways (is_in keys k) outside (ap (is_in keys) (sym (in_one k q one)) ∙ inside))
+is_in-apart : (keys : List Codes) (k q : Codes) → is_in keys k ≡ false → is_in keys q ≡ true → is_in (k ∷ []) q ≡ false
+is_in-apart keys k q outside inside = false_from_ne_true (is_in (k ∷ []) q) (λ one. both_ways (is_in keys k) outside (ap (is_in keys) (sym (is_in-one k q one)) ∙ inside))
 
 -- ---- one cell
 -- the cells with another tally at codes that are there
 pub coded_at-set : (k q : Codes) (t : Tally) (cells : CodedCells) → IsSome (coded_at cells k) → coded_at (set_value (same_codes k) cells t) q ≡ cond (same_codes k q) (Some t) (coded_at cells q)
-coded_at-set k q t cells there = lookup-set_value codes_equiv (same_codes k) (λ x y. codes_equiv.congr k x y) q t cells there
+coded_at-set k q t cells there = lookup-set_value same_codes-IsEquivalence (same_codes k) (λ x y. same_codes-IsEquivalence.congr k x y) q t cells there
 
 -- what one cell weighs
 abbrev pub weigh : (Codes → ℕ) → Codes × Tally → ℕ
@@ -64,7 +64,7 @@ weight-set weight k t new (e ∷ cells) h = by_head (same_codes k e.0) refl (wei
   by_head : (b : Bool) → same_codes k e.0 ≡ b → (coded_at cells k ≡ Some t → weight_of_cells weight (set_value (same_codes k) cells new) + weight k * t.facts ≡ weight_of_cells weight cells + weight k * new.facts) → weight_of_cells weight (set_value (same_codes k) (e ∷ cells) new) + weight k * t.facts ≡ weight_of_cells weight (e ∷ cells) + weight k * new.facts
   by_head true same rest =
       let found : e.1 ≡ t = cc (rw same at h) in
-      let here : k ≡ e.0 = codes_is k e.0 same in
+      let here : k ≡ e.0 = same_codes-exact k e.0 same in
       rw (same, here) (omega (arith, sum_by-cons (weigh weight) e cells, sum_by-cons (weigh weight) (e.0, new) cells, ap (λ (x : Tally). weight e.0 * x.facts) found))
   by_head false apart rest =
       let found : coded_at cells k ≡ Some t = rw apart at h in
@@ -77,114 +77,111 @@ weight-remove weight k t (e ∷ cells) h = by_head (same_codes k e.0) refl (weig
   by_head : (b : Bool) → same_codes k e.0 ≡ b → (coded_at cells k ≡ Some t → weight_of_cells weight (remove_entry (same_codes k) cells) + weight k * t.facts ≡ weight_of_cells weight cells) → weight_of_cells weight (remove_entry (same_codes k) (e ∷ cells)) + weight k * t.facts ≡ weight_of_cells weight (e ∷ cells)
   by_head true same rest =
       let found : e.1 ≡ t = cc (rw same at h) in
-      let here : k ≡ e.0 = codes_is k e.0 same in
+      let here : k ≡ e.0 = same_codes-exact k e.0 same in
       rw (same, here) (omega (arith, sum_by-cons (weigh weight) e cells, ap (λ (x : Tally). weight e.0 * x.facts) found))
   by_head false apart rest =
       let found : coded_at cells k ≡ Some t = rw apart at h in
       rw apart (omega (arith, sum_by-cons (weigh weight) e cells, sum_by-cons (weigh weight) e (remove_entry (same_codes k) cells), rest found))
 
 -- a fact more at one cell, told by its look-ups and weights
-adds_one : (k : Codes) (values : List (Option ℤ)) (old new : CodedCells) (t : Tally) → ((q : Codes) → coded_at new q ≡ cond (same_codes k q) (Some t) (coded_at old q)) → PlusFact values (tally_or_empty (length values) (coded_at old k)) t → holds_fact t values ≡ true → ((weight : Codes → ℕ) → weight_of_cells weight new ≡ weight_of_cells weight old + weight k) → AddsIn (k ∷ []) values old new
-adds_one k values old new t look plus holds weights = record {
-  added = λ q inside. let P : Codes → Type 0 = λ z. AddsAt values (coded_at old z) (coded_at new z) in subst P (sym (in_one k q inside)) (record { tally = t; is_cell = here; plus = plus });
-  held = λ q inside. let P : Codes → Type 0 = λ z. cell_holds values (coded_at new z) ≡ true in subst P (sym (in_one k q inside)) (rw here holds);
-  others = λ q outside. look q ∙ cond-false (same_codes k q) (Some t) (coded_at old q) (not_in_one k q outside);
+AddsIn-coded_at : (k : Codes) (values : List (Option ℤ)) (old new : CodedCells) (t : Tally) → ((q : Codes) → coded_at new q ≡ cond (same_codes k q) (Some t) (coded_at old q)) → PlusFact values (tally_or_empty (length values) (coded_at old k)) t → holds_fact t values ≡ true → ((weight : Codes → ℕ) → weight_of_cells weight new ≡ weight_of_cells weight old + weight k) → AddsIn (k ∷ []) values old new
+AddsIn-coded_at k values old new t look plus holds weights = record {
+  added = λ q inside. let P : Codes → Type 0 = λ z. AddsAt values (coded_at old z) (coded_at new z) in subst P (sym (is_in-one k q inside)) (record { tally = t; is_cell = here; plus = plus });
+  held = λ q inside. let P : Codes → Type 0 = λ z. cell_holds values (coded_at new z) ≡ true in subst P (sym (is_in-one k q inside)) (rw here holds);
+  others = λ q outside. look q ∙ cond-false (same_codes k q) (Some t) (coded_at old q) (is_in-other k q outside);
   weight = λ weight. omega (arith, weights weight, sum_by-cons weight k []);
 } where
   here : coded_at new k ≡ Some t
-  here = look k ∙ cond-true (same_codes k k) (Some t) (coded_at old k) (codes_equiv.refl k)
+  here = look k ∙ cond-true (same_codes k k) (Some t) (coded_at old k) (same_codes-IsEquivalence.refl k)
 
 -- a fact more in a cell that is there
-pub adds_there : (k : Codes) (values : List (Option ℤ)) (old new : CodedCells) (t more : Tally) → coded_at old k ≡ Some t → new ≡ set_value (same_codes k) old more → PlusFact values t more → holds_fact more values ≡ true → AddsIn (k ∷ []) values old new
-adds_there k values old new t more there is plus holds =
+pub AddsIn-set_value : (k : Codes) (values : List (Option ℤ)) (old new : CodedCells) (t more : Tally) → coded_at old k ≡ Some t → new ≡ set_value (same_codes k) old more → PlusFact values t more → holds_fact more values ≡ true → AddsIn (k ∷ []) values old new
+AddsIn-set_value k values old new t more there is plus holds =
     let some : IsSome (coded_at old k) = rw there refl in
-    adds_one k values old new more
+    AddsIn-coded_at k values old new more
     (λ q. ap (λ (cells : CodedCells). coded_at cells q) is ∙ coded_at-set k q more old some)
     (rw there plus)
     holds
     (λ weight. omega (arith, ap (weight_of_cells weight) is, weight-set weight k t more old there, ap (λ (n : ℕ). weight k * n) plus.facts))
 
 -- a fact in a cell that is new
-pub adds_new : (k : Codes) (values : List (Option ℤ)) (old new : CodedCells) (t : Tally) → coded_at old k ≡ None → ((q : Codes) → coded_at new q ≡ cond (same_codes k q) (Some t) (coded_at old q)) → IsPermutation ((k, t) ∷ old) new → PlusFact values (empty_tally (length values)) t → holds_fact t values ≡ true → AddsIn (k ∷ []) values old new
-adds_new k values old new t none look moved plus holds =
-    adds_one k values old new t look (rw none plus) holds
+pub AddsIn-new : (k : Codes) (values : List (Option ℤ)) (old new : CodedCells) (t : Tally) → coded_at old k ≡ None → ((q : Codes) → coded_at new q ≡ cond (same_codes k q) (Some t) (coded_at old q)) → IsPermutation ((k, t) ∷ old) new → PlusFact values (empty_tally (length values)) t → holds_fact t values ≡ true → AddsIn (k ∷ []) values old new
+AddsIn-new k values old new t none look moved plus holds =
+    AddsIn-coded_at k values old new t look (rw none plus) holds
     (λ weight. omega (arith, sum_by-cons (weigh weight) (k, t) old, sum_by-IsPermutation (weigh weight) ((k, t) ∷ old) new moved, ap (λ (n : ℕ). weight k * n) plus.facts))
 
 -- a tally counts the same as itself
-pub same_tally : (t : Tally) → SameTally t t
-same_tally t = record { facts = refl; bags = record { same_length = refl; bags = λ m. record { held = λ x. refl } } }
+pub SameTally-refl : (t : Tally) → SameTally t t
+SameTally-refl t = record { facts = refl; bags = record { same_length = refl; bags = λ m. record { held = λ x. refl } } }
 
-pub same_cell : (cell : Option Tally) → SameCell cell cell
-same_cell None = tt
-same_cell (Some t) = same_tally t
+pub SameCell-refl : (cell : Option Tally) → SameCell cell cell
+SameCell-refl None = tt
+SameCell-refl (Some t) = SameTally-refl t
 
 -- a cell whose tally counts the same
-pub same_there : (k : Codes) (old new : CodedCells) (t other : Tally) → coded_at old k ≡ Some t → new ≡ set_value (same_codes k) old other → SameTally t other → SameCoded (k ∷ []) old new
-same_there k old new t other there is same =
+pub SameCoded-set_value : (k : Codes) (old new : CodedCells) (t other : Tally) → coded_at old k ≡ Some t → new ≡ set_value (same_codes k) old other → SameTally t other → SameCoded (k ∷ []) old new
+SameCoded-set_value k old new t other there is same =
     let some : IsSome (coded_at old k) = rw there refl in
     let look : (q : Codes) → coded_at new q ≡ cond (same_codes k q) (Some other) (coded_at old q) = λ q. ap (λ (cells : CodedCells). coded_at cells q) is ∙ coded_at-set k q other old some in
     record {
       cells = λ q. at q (same_codes k q) refl (look q);
-      others = λ q outside. look q ∙ cond-false (same_codes k q) (Some other) (coded_at old q) (not_in_one k q outside);
+      others = λ q outside. look q ∙ cond-false (same_codes k q) (Some other) (coded_at old q) (is_in-other k q outside);
       weight = λ weight. omega (arith, ap (weight_of_cells weight) is, weight-set weight k t other old there, ap (λ (n : ℕ). weight k * n) same.facts);
     } where
       at : (q : Codes) (b : Bool) → same_codes k q ≡ b → coded_at new q ≡ cond (same_codes k q) (Some other) (coded_at old q) → SameCell (coded_at old q) (coded_at new q)
       at q true here look =
           let P : Codes → Type 0 = λ z. SameCell (coded_at old z) (coded_at new q) in
-          subst P (codes_is k q here) (rw (there, look ∙ cond-true (same_codes k q) (Some other) (coded_at old q) here) same)
-      at q false apart look = rw (look ∙ cond-false (same_codes k q) (Some other) (coded_at old q) apart) (same_cell (coded_at old q))
+          subst P (same_codes-exact k q here) (rw (there, look ∙ cond-true (same_codes k q) (Some other) (coded_at old q) here) same)
+      at q false apart look = rw (look ∙ cond-false (same_codes k q) (Some other) (coded_at old q) apart) (SameCell-refl (coded_at old q))
 
 -- nothing changes
-pub same_cells : (keys : List Codes) (old new : CodedCells) → new ≡ old → SameCoded keys old new
-same_cells keys old new is = let P : CodedCells → Type 0 = λ cells. SameCoded keys old cells in subst P (sym is) (record { cells = λ q. same_cell (coded_at old q); others = λ q outside. refl; weight = λ weight. refl })
+pub SameCoded-refl : (keys : List Codes) (old new : CodedCells) → new ≡ old → SameCoded keys old new
+SameCoded-refl keys old new is = let P : CodedCells → Type 0 = λ cells. SameCoded keys old cells in subst P (sym is) (record { cells = λ q. SameCell-refl (coded_at old q); others = λ q outside. refl; weight = λ weight. refl })
 
 -- a fact less in a cell that stays
-pub takes_left : (k : Codes) (values : List (Option ℤ)) (old new : CodedCells) (count : ℕ) → LosesFact k values old new count → (is_total_code k || nat_lt 0 count) ≡ true → TakesIn (k ∷ []) values old new
-takes_left k values old new count loses stays =
+pub TakesIn-set_value : (k : Codes) (values : List (Option ℤ)) (old new : CodedCells) (count : ℕ) → LosesFact k values old new count → (is_total_code k || nat_lt 0 count) ≡ true → TakesIn (k ∷ []) values old new
+TakesIn-set_value k values old new count loses stays =
     let some : IsSome (coded_at old k) = rw loses.was_cell refl in
     let look : (q : Codes) → coded_at new q ≡ cond (same_codes k q) (Some loses.left) (coded_at old q) = λ q. ap (λ (cells : CodedCells). coded_at cells q) loses.is_left ∙ coded_at-set k q loses.left old some in
-    let here : coded_at new k ≡ Some loses.left = look k ∙ cond-true (same_codes k k) (Some loses.left) (coded_at old k) (codes_equiv.refl k) in
+    let here : coded_at new k ≡ Some loses.left = look k ∙ cond-true (same_codes k k) (Some loses.left) (coded_at old k) (same_codes-IsEquivalence.refl k) in
     let is : (is_total_code k || nat_lt 0 loses.left.facts) ≡ true = ap (λ (n : ℕ). is_total_code k || nat_lt 0 n) (sym loses.counts) ∙ stays in
     record {
       taken = λ q inside. let P : Codes → Type 0 = λ z. TakesAt (is_total_code z) values (coded_at old z) (coded_at new z) in
-          subst P (sym (in_one k q inside)) (record { tally = loses.tally; left = loses.left; was_cell = loses.was_cell; minus = loses.minus; is_left = here ∙ sym (cond-true (is_total_code k || nat_lt 0 loses.left.facts) (Some loses.left) None is) });
-      others = λ q outside. look q ∙ cond-false (same_codes k q) (Some loses.left) (coded_at old q) (not_in_one k q outside);
+          subst P (sym (is_in-one k q inside)) (record { tally = loses.tally; left = loses.left; was_cell = loses.was_cell; minus = loses.minus; is_left = here ∙ sym (cond-true (is_total_code k || nat_lt 0 loses.left.facts) (Some loses.left) None is) });
+      others = λ q outside. look q ∙ cond-false (same_codes k q) (Some loses.left) (coded_at old q) (is_in-other k q outside);
       weight = λ weight. omega (arith, ap (weight_of_cells weight) loses.is_left, weight-set weight k loses.tally loses.left old loses.was_cell, ap (λ (n : ℕ). weight k * n) loses.minus.facts, sum_by-cons weight k []);
     }
 
 -- a fact less in a cell that goes
-pub takes_gone : (k : Codes) (values : List (Option ℤ)) (old mid new : CodedCells) (count : ℕ) → LosesFact k values old mid count → count ≡ 0 → is_total_code k ≡ false → ((q : Codes) → coded_at new q ≡ cond (same_codes k q) None (coded_at mid q)) → IsPermutation (remove_entry (same_codes k) mid) new → TakesIn (k ∷ []) values old new
-takes_gone k values old mid new count loses none other gone moved =
+pub TakesIn-remove_entry : (k : Codes) (values : List (Option ℤ)) (old mid new : CodedCells) (count : ℕ) → LosesFact k values old mid count → count ≡ 0 → is_total_code k ≡ false → ((q : Codes) → coded_at new q ≡ cond (same_codes k q) None (coded_at mid q)) → IsPermutation (remove_entry (same_codes k) mid) new → TakesIn (k ∷ []) values old new
+TakesIn-remove_entry k values old mid new count loses none other gone moved =
     let some : IsSome (coded_at old k) = rw loses.was_cell refl in
     let look : (q : Codes) → coded_at mid q ≡ cond (same_codes k q) (Some loses.left) (coded_at old q) = λ q. ap (λ (cells : CodedCells). coded_at cells q) loses.is_left ∙ coded_at-set k q loses.left old some in
-    let there : coded_at mid k ≡ Some loses.left = look k ∙ cond-true (same_codes k k) (Some loses.left) (coded_at old k) (codes_equiv.refl k) in
-    let here : coded_at new k ≡ None = gone k ∙ cond-true (same_codes k k) None (coded_at mid k) (codes_equiv.refl k) in
+    let there : coded_at mid k ≡ Some loses.left = look k ∙ cond-true (same_codes k k) (Some loses.left) (coded_at old k) (same_codes-IsEquivalence.refl k) in
+    let here : coded_at new k ≡ None = gone k ∙ cond-true (same_codes k k) None (coded_at mid k) (same_codes-IsEquivalence.refl k) in
     let empty : loses.left.facts ≡ 0 = omega (arith, loses.counts, none) in
     let is : (is_total_code k || nat_lt 0 loses.left.facts) ≡ false = or_from (is_total_code k) (nat_lt 0 loses.left.facts) other (le-ltb 0 loses.left.facts (omega (arith, empty))) in
     record {
       taken = λ q inside. let P : Codes → Type 0 = λ z. TakesAt (is_total_code z) values (coded_at old z) (coded_at new z) in
-          subst P (sym (in_one k q inside)) (record { tally = loses.tally; left = loses.left; was_cell = loses.was_cell; minus = loses.minus; is_left = here ∙ sym (cond-false (is_total_code k || nat_lt 0 loses.left.facts) (Some loses.left) None is) });
-      others = λ q outside. gone q ∙ cond-false (same_codes k q) None (coded_at mid q) (not_in_one k q outside) ∙ look q ∙ cond-false (same_codes k q) (Some loses.left) (coded_at old q) (not_in_one k q outside);
+          subst P (sym (is_in-one k q inside)) (record { tally = loses.tally; left = loses.left; was_cell = loses.was_cell; minus = loses.minus; is_left = here ∙ sym (cond-false (is_total_code k || nat_lt 0 loses.left.facts) (Some loses.left) None is) });
+      others = λ q outside. gone q ∙ cond-false (same_codes k q) None (coded_at mid q) (is_in-other k q outside) ∙ look q ∙ cond-false (same_codes k q) (Some loses.left) (coded_at old q) (is_in-other k q outside);
       weight = λ weight. omega (arith, ap (weight_of_cells weight) loses.is_left, weight-set weight k loses.tally loses.left old loses.was_cell, ap (λ (n : ℕ). weight k * n) loses.minus.facts, sum_by-cons weight k [], weight-remove weight k loses.left mid there, ap (λ (n : ℕ). weight k * n) empty, sum_by-IsPermutation (weigh weight) (remove_entry (same_codes k) mid) new moved);
     }
 
 -- ---- many cells
--- none yet
-pub adds_none : (values : List (Option ℤ)) (cells : CodedCells) → AddsIn [] values cells cells
-adds_none values cells = record { added = λ q inside. cc inside; held = λ q inside. cc inside; others = λ q outside. refl; weight = λ weight. omega arith }
 
-pub takes_none : (values : List (Option ℤ)) (cells : CodedCells) → TakesIn [] values cells cells
-takes_none values cells = record { taken = λ q inside. cc inside; others = λ q outside. refl; weight = λ weight. omega arith }
+pub TakesIn-nil : (values : List (Option ℤ)) (cells : CodedCells) → TakesIn [] values cells cells
+TakesIn-nil values cells = record { taken = λ q inside. cc inside; others = λ q outside. refl; weight = λ weight. omega arith }
 
 -- one more
-pub adds_next : (keys : List Codes) (k : Codes) (values : List (Option ℤ)) (old mid new : CodedCells) → is_in keys k ≡ false → AddsIn keys values old mid → AddsIn (k ∷ []) values mid new → AddsIn (keys ++ k ∷ []) values old new
-adds_next keys k values old mid new apart first second = record {
+pub AddsIn-push : (keys : List Codes) (k : Codes) (values : List (Option ℤ)) (old mid new : CodedCells) → is_in keys k ≡ false → AddsIn keys values old mid → AddsIn (k ∷ []) values mid new → AddsIn (keys ++ k ∷ []) values old new
+AddsIn-push keys k values old mid new apart first second = record {
   added = λ q inside. elim (cases_Bool (is_in keys q)) [
-    | inl before ↦ rw (second.others q (apart_from keys k q apart before)) (first.added q before)
+    | inl before ↦ rw (second.others q (is_in-apart keys k q apart before)) (first.added q before)
     | inr after ↦ rw (← first.others q after) (second.added q (now q inside after))
   ];
   held = λ q inside. elim (cases_Bool (is_in keys q)) [
-    | inl before ↦ rw (second.others q (apart_from keys k q apart before)) (first.held q before)
+    | inl before ↦ rw (second.others q (is_in-apart keys k q apart before)) (first.held q before)
     | inr after ↦ second.held q (now q inside after)
   ];
   others = λ q outside.
@@ -199,10 +196,10 @@ adds_next keys k values old mid new apart first second = record {
   ]
 
 -- one more, whose codes stand before the others
-pub takes_next : (keys : List Codes) (k : Codes) (values : List (Option ℤ)) (old mid new : CodedCells) → is_in keys k ≡ false → TakesIn keys values old mid → TakesIn (k ∷ []) values mid new → TakesIn (k ∷ keys) values old new
-takes_next keys k values old mid new apart first second = record {
+pub TakesIn-cons : (keys : List Codes) (k : Codes) (values : List (Option ℤ)) (old mid new : CodedCells) → is_in keys k ≡ false → TakesIn keys values old mid → TakesIn (k ∷ []) values mid new → TakesIn (k ∷ keys) values old new
+TakesIn-cons keys k values old mid new apart first second = record {
   taken = λ q inside. elim (cases_Bool (is_in keys q)) [
-    | inl before ↦ rw (second.others q (apart_from keys k q apart before)) (first.taken q before)
+    | inl before ↦ rw (second.others q (is_in-apart keys k q apart before)) (first.taken q before)
     | inr after ↦ rw (← first.others q after) (second.taken q (now q inside after))
   ];
   others = λ q outside.
@@ -218,28 +215,28 @@ takes_next keys k values old mid new apart first second = record {
 
 -- ---- what was added and taken
 -- a cell counts what it counted
-undone_at : (k : Codes) (values : List (Option ℤ)) (old mid new : Option Tally) → HasRoom values k old → AddsAt values old mid → TakesAt (is_total_code k) values mid new → SameCell old new
-undone_at k values None mid new room adds takes =
+AddsAt-TakesAt : (k : Codes) (values : List (Option ℤ)) (old mid new : Option Tally) → HasRoom values k old → AddsAt values old mid → TakesAt (is_total_code k) values mid new → SameCell old new
+AddsAt-TakesAt k values None mid new room adds takes =
     let same : adds.tally ≡ takes.tally = cc (sym adds.is_cell ∙ takes.was_cell) in
     let empty : takes.left.facts ≡ 0 = omega (arith, adds.plus.facts, takes.minus.facts, ap (λ (t : Tally). t.facts) same) in
     let other : is_total_code k ≡ false = false_from_ne_true (is_total_code k) (λ total. cc (room.total total)) in
     let gone : new ≡ None = takes.is_left ∙ cond-false (is_total_code k || nat_lt 0 takes.left.facts) (Some takes.left) None (or_from (is_total_code k) (nat_lt 0 takes.left.facts) other (le-ltb 0 takes.left.facts (omega (arith, empty)))) in
     rw gone tt
-undone_at k values (Some t) mid new room adds takes =
+AddsAt-TakesAt k values (Some t) mid new room adds takes =
     let same : takes.tally ≡ adds.tally = cc (sym adds.is_cell ∙ takes.was_cell) in
     let minus : PlusFact values takes.left adds.tally = subst (λ (x : Tally). PlusFact values takes.left x) same takes.minus in
     let count : takes.left.facts ≡ t.facts = omega (arith, adds.plus.facts, minus.facts) in
     let some : (is_total_code k || nat_lt 0 takes.left.facts) ≡ true = ap (λ (n : ℕ). is_total_code k || nat_lt 0 n) count ∙ room.some in
     let stays : new ≡ Some takes.left = takes.is_left ∙ cond-true (is_total_code k || nat_lt 0 takes.left.facts) (Some takes.left) None some in
-    rw stays (record { facts = sym count; bags = added_and_taken t.bags adds.tally.bags takes.left.bags values adds.plus.bags minus.bags })
+    rw stays (record { facts = sym count; bags = AddsValues-SameBags t.bags adds.tally.bags takes.left.bags values adds.plus.bags minus.bags })
 
 -- facts that were added at some codes, one that was refused at another, and all taken again
-pub undone : (keys all : List Codes) (k : Codes) (values : List (Option ℤ)) (old mid then_ new : CodedCells) → ((q : Codes) → is_in keys q ≡ true → HasRoom values q (coded_at old q)) → is_in keys k ≡ false → ((q : Codes) → is_in all q ≡ false → (is_in keys q ≡ false) × (is_in (k ∷ []) q ≡ false)) → AddsIn keys values old mid → SameCoded (k ∷ []) mid then_ → TakesIn keys values then_ new → SameCoded all old new
-undone keys all k values old mid then_ new room apart among adds refused takes = record {
+pub AddsIn-TakesIn : (keys all : List Codes) (k : Codes) (values : List (Option ℤ)) (old mid then_ new : CodedCells) → ((q : Codes) → is_in keys q ≡ true → HasRoom values q (coded_at old q)) → is_in keys k ≡ false → ((q : Codes) → is_in all q ≡ false → (is_in keys q ≡ false) × (is_in (k ∷ []) q ≡ false)) → AddsIn keys values old mid → SameCoded (k ∷ []) mid then_ → TakesIn keys values then_ new → SameCoded all old new
+AddsIn-TakesIn keys all k values old mid then_ new room apart among adds refused takes = record {
   cells = λ q. elim (cases_Bool (is_in keys q)) [
     | inl before ↦
-        let kept = refused.others q (apart_from keys k q apart before) in
-        undone_at q values (coded_at old q) (coded_at mid q) (coded_at new q) (room q before) (adds.added q before) (rw kept at (takes.taken q before))
+        let kept = refused.others q (is_in-apart keys k q apart before) in
+        AddsAt-TakesAt q values (coded_at old q) (coded_at mid q) (coded_at new q) (room q before) (adds.added q before) (rw kept at (takes.taken q before))
     | inr after ↦ rw (takes.others q after, ← adds.others q after) (refused.cells q)
   ];
   others = λ q outside. takes.others q (among q outside).0 ∙ refused.others q (among q outside).1 ∙ adds.others q (among q outside).0;
@@ -248,53 +245,53 @@ undone keys all k values old mid then_ new room apart among adds refused takes =
 
 -- ---- codes that differ
 -- codes of a list are apart from those before them
-pub apart_before : (keys : List Codes) (i : ℕ) (d : Codes) → IsDistinct same_codes keys → i < length keys → is_in (take i keys) (get_or keys i d) ≡ false
+pub is_in-take : (keys : List Codes) (i : ℕ) (d : Codes) → IsDistinct same_codes keys → i < length keys → is_in (take i keys) (get_or keys i d) ≡ false
 unfolding IsDistinct
-apart_before [] i d distinct inside = absurd (omega arith)
-apart_before (k ∷ keys) zero d distinct inside = refl
-apart_before (k ∷ keys) (suc i) d distinct inside =
+is_in-take [] i d distinct inside = absurd (omega arith)
+is_in-take (k ∷ keys) zero d distinct inside = refl
+is_in-take (k ∷ keys) (suc i) d distinct inside =
     let below : i < length keys = omega (arith, inside) in
     let first : same_codes k (get_or keys i d) ≡ false = All-get_or (λ y. same_codes k y ≡ false) keys i d below (All-from_recursion (λ y. same_codes k y ≡ false) keys distinct.0) in
-    or_from (same_codes (get_or keys i d) k) (is_in (take i keys) (get_or keys i d)) (codes_equiv.symm (get_or keys i d) k ∙ first) (apart_before keys i d distinct.1 below)
+    or_from (same_codes (get_or keys i d) k) (is_in (take i keys) (get_or keys i d)) (same_codes-IsEquivalence.symm (get_or keys i d) k ∙ first) (is_in-take keys i d distinct.1 below)
 
 -- what follows from two facts of a success
-pub on_ok_both : {T E P Q R : Type 0} (r : Result T E) → (P → Q → R) → OnOk r P → OnOk r Q → OnOk r R
-on_ok_both (Ok x) both p q = both p q
-on_ok_both (Err e) both p q = tt
+pub OnOk-both : {T E P Q R : Type 0} (r : Result T E) → (P → Q → R) → OnOk r P → OnOk r Q → OnOk r R
+OnOk-both (Ok x) both p q = both p q
+OnOk-both (Err e) both p q = tt
 
 -- an empty bag, however it is reached
-pub no_bag : (n m : ℕ) → bag_at (replicate n []) m ≡ []
-no_bag n m = elim (cases_lt m n) [
+pub bag_at-replicate : (n m : ℕ) → bag_at (replicate n []) m ≡ []
+bag_at-replicate n m = elim (cases_lt m n) [
   | inl inside ↦ get_or-replicate n m [] [] inside
   | inr past ↦ get_or_past (replicate n []) m [] (omega (arith, length-replicate {A = Bag} n [], past))
 ]
 
 -- a tally of no fact holds nothing
-nothing_held : (t : Tally) (m : ℕ) (x : ℤ) → IsTallyOf [] t → held_of (bag_at t.bags m) x ≡ 0
-nothing_held t m x is = elim (cases_lt m (length t.bags)) [
+held_of-nil : (t : Tally) (m : ℕ) (x : ℤ) → IsTallyOf [] t → held_of (bag_at t.bags m) x ≡ 0
+held_of-nil t m x is = elim (cases_lt m (length t.bags)) [
   | inl inside ↦ (is.bags m inside).held x
   | inr past ↦ ap (λ (bag : Bag). held_of bag x) (get_or_past t.bags m [] past)
 ]
 
 -- what is a fact more than a new cell is one more than the empty tally
-pub empty_plus : (values : List (Option ℤ)) (n : ℕ) (cell t : Tally) → IsTallyOf [] cell → length cell.bags ≡ n → PlusFact values cell t → PlusFact values (empty_tally n) t
-empty_plus values n cell t is width plus = record {
+pub PlusFact-empty_tally : (values : List (Option ℤ)) (n : ℕ) (cell t : Tally) → IsTallyOf [] cell → length cell.bags ≡ n → PlusFact values cell t → PlusFact values (empty_tally n) t
+PlusFact-empty_tally values n cell t is width plus = record {
   facts = omega (arith, plus.facts, is.count);
   bags = record {
     same_length = omega (arith, plus.bags.same_length, width, length-replicate {A = Bag} n []);
-    each = λ m. record { held = λ x. omega (arith, (plus.bags.each m).held x, nothing_held cell m x is, ap (λ (bag : Bag). held_of bag x) (no_bag n m)) };
+    each = λ m. record { held = λ x. omega (arith, (plus.bags.each m).held x, held_of-nil cell m x is, ap (λ (bag : Bag). held_of bag x) (bag_at-replicate n m)) };
   };
 }
 
 -- what is between others is among them
-pub in_middle : (as' bs : List Codes) (k : Codes) → is_in (as' ++ k ∷ bs) k ≡ true
-in_middle as' bs k = list_any-append (same_codes k) as' (k ∷ bs) ∙ or_right (is_in as' k) (is_in (k ∷ bs) k) (or_left (same_codes k k) (is_in bs k) (codes_equiv.refl k))
+pub is_in-middle : (as' bs : List Codes) (k : Codes) → is_in (as' ++ k ∷ bs) k ≡ true
+is_in-middle as' bs k = list_any-append (same_codes k) as' (k ∷ bs) ∙ or_right (is_in as' k) (is_in (k ∷ bs) k) (or_left (same_codes k k) (is_in bs k) (same_codes-IsEquivalence.refl k))
 
 -- where all differ it isn't among those after it
-pub apart_after : (as' bs : List Codes) (k : Codes) → IsDistinct same_codes (as' ++ k ∷ bs) → is_in bs k ≡ false
+pub is_in-drop : (as' bs : List Codes) (k : Codes) → IsDistinct same_codes (as' ++ k ∷ bs) → is_in bs k ≡ false
 unfolding IsDistinct
-apart_after [] bs k distinct = list_any_none (same_codes k) bs (All-from_recursion (λ y. same_codes k y ≡ false) bs distinct.0)
-apart_after (a ∷ as') bs k distinct = apart_after as' bs k distinct.1
+is_in-drop [] bs k distinct = list_any_none (same_codes k) bs (All-from_recursion (λ y. same_codes k y ≡ false) bs distinct.0)
+is_in-drop (a ∷ as') bs k distinct = is_in-drop as' bs k distinct.1
 
 -- the last of these sets were taken back
 pub record TakenBack (sets left : List ℕ) (codes : Codes) (values : List (Option ℤ)) (old new : CodedCells) : Type 0 where
@@ -302,104 +299,104 @@ pub record TakenBack (sets left : List ℕ) (codes : Codes) (values : List (Opti
   pub split : sets ≡ left ++ done
   pub taken : TakesIn (codes_in done codes) values old new
 
-pub taken_none : (sets : List ℕ) (codes : Codes) (values : List (Option ℤ)) (cells : CodedCells) → TakenBack sets sets codes values cells cells
-taken_none sets codes values cells = record { done = []; split = sym (append-nil sets); taken = takes_none values cells }
+pub TakenBack-none : (sets : List ℕ) (codes : Codes) (values : List (Option ℤ)) (cells : CodedCells) → TakenBack sets sets codes values cells cells
+TakenBack-none sets codes values cells = record { done = []; split = sym (append-nil sets); taken = TakesIn-nil values cells }
 
 -- the keys of sets that are split before one of them
-split_keys : (sets left others done : List ℕ) (set : ℕ) (codes : Codes) → sets ≡ left ++ done → left ≡ others ++ set ∷ [] → codes_in sets codes ≡ codes_in others codes ++ key_in codes set ∷ codes_in done codes
-split_keys sets left others done set codes split last =
+codes_in-split : (sets left others done : List ℕ) (set : ℕ) (codes : Codes) → sets ≡ left ++ done → left ≡ others ++ set ∷ [] → codes_in sets codes ≡ codes_in others codes ++ key_in codes set ∷ codes_in done codes
+codes_in-split sets left others done set codes split last =
     ap (λ (xs : List ℕ). codes_in xs codes) (split ∙ ap (λ (xs : List ℕ). xs ++ done) last ∙ append_assoc others (set ∷ []) done) ∙ map-append (key_in codes) others (set ∷ done)
 
 -- the next of them is apart from those taken back, and is one of all
-pub back_apart : (sets left others : List ℕ) (set : ℕ) (codes : Codes) (values : List (Option ℤ)) (old new : CodedCells) → IsDistinct same_codes (codes_in sets codes) → left ≡ others ++ set ∷ [] → (back : TakenBack sets left codes values old new) → (is_in (codes_in back.done codes) (key_in codes set) ≡ false) × (is_in (codes_in sets codes) (key_in codes set) ≡ true)
-back_apart sets left others set codes values old new distinct last back =
-    let keys = split_keys sets left others back.done set codes back.split last in (
-      apart_after (codes_in others codes) (codes_in back.done codes) (key_in codes set) (subst (IsDistinct same_codes) keys distinct),
-      ap (λ (ks : List Codes). is_in ks (key_in codes set)) keys ∙ in_middle (codes_in others codes) (codes_in back.done codes) (key_in codes set),
+pub TakenBack-is_in : (sets left others : List ℕ) (set : ℕ) (codes : Codes) (values : List (Option ℤ)) (old new : CodedCells) → IsDistinct same_codes (codes_in sets codes) → left ≡ others ++ set ∷ [] → (back : TakenBack sets left codes values old new) → (is_in (codes_in back.done codes) (key_in codes set) ≡ false) × (is_in (codes_in sets codes) (key_in codes set) ≡ true)
+TakenBack-is_in sets left others set codes values old new distinct last back =
+    let keys = codes_in-split sets left others back.done set codes back.split last in (
+      is_in-drop (codes_in others codes) (codes_in back.done codes) (key_in codes set) (subst (IsDistinct same_codes) keys distinct),
+      ap (λ (ks : List Codes). is_in ks (key_in codes set)) keys ∙ is_in-middle (codes_in others codes) (codes_in back.done codes) (key_in codes set),
     )
 
 -- its cell is as it was
-pub back_held : (sets left others : List ℕ) (set : ℕ) (codes : Codes) (values : List (Option ℤ)) (old new : CodedCells) → IsDistinct same_codes (codes_in sets codes) → ((key : Codes) → is_in (codes_in sets codes) key ≡ true → cell_holds values (coded_at old key) ≡ true) → left ≡ others ++ set ∷ [] → TakenBack sets left codes values old new → cell_holds values (coded_at new (key_in codes set)) ≡ true
-back_held sets left others set codes values old new distinct held last back =
-    let at = back_apart sets left others set codes values old new distinct last back in
+pub cell_holds-TakenBack : (sets left others : List ℕ) (set : ℕ) (codes : Codes) (values : List (Option ℤ)) (old new : CodedCells) → IsDistinct same_codes (codes_in sets codes) → ((key : Codes) → is_in (codes_in sets codes) key ≡ true → cell_holds values (coded_at old key) ≡ true) → left ≡ others ++ set ∷ [] → TakenBack sets left codes values old new → cell_holds values (coded_at new (key_in codes set)) ≡ true
+cell_holds-TakenBack sets left others set codes values old new distinct held last back =
+    let at = TakenBack-is_in sets left others set codes values old new distinct last back in
     rw (back.taken.others (key_in codes set) at.0) (held (key_in codes set) at.1)
 
-pub back_more : (sets left others : List ℕ) (set : ℕ) (codes : Codes) (values : List (Option ℤ)) (old mid new : CodedCells) → IsDistinct same_codes (codes_in sets codes) → left ≡ others ++ set ∷ [] → TakenBack sets left codes values old mid → TakesIn (key_in codes set ∷ []) values mid new → TakenBack sets others codes values old new
-back_more sets left others set codes values old mid new distinct last back takes = record {
+pub TakenBack-more : (sets left others : List ℕ) (set : ℕ) (codes : Codes) (values : List (Option ℤ)) (old mid new : CodedCells) → IsDistinct same_codes (codes_in sets codes) → left ≡ others ++ set ∷ [] → TakenBack sets left codes values old mid → TakesIn (key_in codes set ∷ []) values mid new → TakenBack sets others codes values old new
+TakenBack-more sets left others set codes values old mid new distinct last back takes = record {
   done = set ∷ back.done;
   split = back.split ∙ ap (λ (xs : List ℕ). xs ++ back.done) last ∙ append_assoc others (set ∷ []) back.done;
-  taken = takes_next (codes_in back.done codes) (key_in codes set) values old mid new (back_apart sets left others set codes values old mid distinct last back).0 back.taken takes;
+  taken = TakesIn-cons (codes_in back.done codes) (key_in codes set) values old mid new (TakenBack-is_in sets left others set codes values old mid distinct last back).0 back.taken takes;
 }
 
-pub back_end : (sets left : List ℕ) (codes : Codes) (values : List (Option ℤ)) (old new : CodedCells) → length left ≡ 0 → TakenBack sets left codes values old new → TakesIn (codes_in sets codes) values old new
-back_end sets [] codes values old new none back = let P : List ℕ → Type 0 = λ xs. TakesIn (codes_in xs codes) values old new in subst P (sym back.split) back.taken
-back_end sets (set ∷ left) codes values old new none back = absurd (omega (arith, none))
+pub TakesIn-TakenBack : (sets left : List ℕ) (codes : Codes) (values : List (Option ℤ)) (old new : CodedCells) → length left ≡ 0 → TakenBack sets left codes values old new → TakesIn (codes_in sets codes) values old new
+TakesIn-TakenBack sets [] codes values old new none back = let P : List ℕ → Type 0 = λ xs. TakesIn (codes_in xs codes) values old new in subst P (sym back.split) back.taken
+TakesIn-TakenBack sets (set ∷ left) codes values old new none back = absurd (omega (arith, none))
 
 -- ---- sets below a place
 -- the key at a place is apart from those before it, and is one of all
-pub at_apart : (sets : List ℕ) (i : ℕ) (codes : Codes) → IsDistinct same_codes (codes_in sets codes) → i < length sets → is_in (codes_in (take i sets) codes) (key_in codes (get_or sets i 0)) ≡ false
-at_apart sets i codes distinct inside =
+pub key_in-take : (sets : List ℕ) (i : ℕ) (codes : Codes) → IsDistinct same_codes (codes_in sets codes) → i < length sets → is_in (codes_in (take i sets) codes) (key_in codes (get_or sets i 0)) ≡ false
+key_in-take sets i codes distinct inside =
     let below : i < length (codes_in sets codes) = omega (arith, length-map sets (key_in codes), inside) in
-    let first = apart_before (codes_in sets codes) i (key_in codes (get_or sets i 0)) distinct below in
+    let first = is_in-take (codes_in sets codes) i (key_in codes (get_or sets i 0)) distinct below in
     let place = get_or-map (key_in codes) sets i 0 (key_in codes (get_or sets i 0)) inside in
     rw (take-map (key_in codes) i sets, place) at first
 
-pub at_inside : (sets : List ℕ) (i : ℕ) (codes : Codes) → i < length sets → is_in (codes_in sets codes) (key_in codes (get_or sets i 0)) ≡ true
-at_inside [] i codes inside = absurd (omega arith)
-at_inside (set ∷ sets) zero codes inside = or_left (same_codes (key_in codes set) (key_in codes set)) (is_in (codes_in sets codes) (key_in codes set)) (codes_equiv.refl (key_in codes set))
-at_inside (set ∷ sets) (suc i) codes inside = or_right (same_codes (key_in codes (get_or sets i 0)) (key_in codes set)) (is_in (codes_in sets codes) (key_in codes (get_or sets i 0))) (at_inside sets i codes (omega (arith, inside)))
+pub key_in-codes_in : (sets : List ℕ) (i : ℕ) (codes : Codes) → i < length sets → is_in (codes_in sets codes) (key_in codes (get_or sets i 0)) ≡ true
+key_in-codes_in [] i codes inside = absurd (omega arith)
+key_in-codes_in (set ∷ sets) zero codes inside = or_left (same_codes (key_in codes set) (key_in codes set)) (is_in (codes_in sets codes) (key_in codes set)) (same_codes-IsEquivalence.refl (key_in codes set))
+key_in-codes_in (set ∷ sets) (suc i) codes inside = or_right (same_codes (key_in codes (get_or sets i 0)) (key_in codes set)) (is_in (codes_in sets codes) (key_in codes (get_or sets i 0))) (key_in-codes_in sets i codes (omega (arith, inside)))
 
 -- what is among those before a place is among all
-pub in_front : (sets : List ℕ) (i : ℕ) (codes q : Codes) → is_in (codes_in (take i sets) codes) q ≡ true → is_in (codes_in sets codes) q ≡ true
-in_front [] zero codes q inside = inside
-in_front [] (suc i) codes q inside = inside
-in_front (set ∷ sets) zero codes q inside = cc inside
-in_front (set ∷ sets) (suc i) codes q inside = elim (or_cases (same_codes q (key_in codes set)) (is_in (codes_in (take i sets) codes) q) inside) [
+pub codes_in-take : (sets : List ℕ) (i : ℕ) (codes q : Codes) → is_in (codes_in (take i sets) codes) q ≡ true → is_in (codes_in sets codes) q ≡ true
+codes_in-take [] zero codes q inside = inside
+codes_in-take [] (suc i) codes q inside = inside
+codes_in-take (set ∷ sets) zero codes q inside = cc inside
+codes_in-take (set ∷ sets) (suc i) codes q inside = elim (or_cases (same_codes q (key_in codes set)) (is_in (codes_in (take i sets) codes) q) inside) [
   | inl here ↦ or_left (same_codes q (key_in codes set)) (is_in (codes_in sets codes) q) here
-  | inr later ↦ or_right (same_codes q (key_in codes set)) (is_in (codes_in sets codes) q) (in_front sets i codes q later)
+  | inr later ↦ or_right (same_codes q (key_in codes set)) (is_in (codes_in sets codes) q) (codes_in-take sets i codes q later)
 ]
 
 -- those before a place differ
-pub front_distinct : (sets : List ℕ) (i : ℕ) (codes : Codes) → IsDistinct same_codes (codes_in sets codes) → IsDistinct same_codes (codes_in (take i sets) codes)
+pub IsDistinct-codes_in_take : (sets : List ℕ) (i : ℕ) (codes : Codes) → IsDistinct same_codes (codes_in sets codes) → IsDistinct same_codes (codes_in (take i sets) codes)
 unfolding IsDistinct
-front_distinct [] zero codes distinct = distinct
-front_distinct [] (suc i) codes distinct = distinct
-front_distinct (set ∷ sets) zero codes distinct = tt
-front_distinct (set ∷ sets) (suc i) codes distinct = (
+IsDistinct-codes_in_take [] zero codes distinct = distinct
+IsDistinct-codes_in_take [] (suc i) codes distinct = distinct
+IsDistinct-codes_in_take (set ∷ sets) zero codes distinct = tt
+IsDistinct-codes_in_take (set ∷ sets) (suc i) codes distinct = (
   recursion_from_All (λ y. same_codes (key_in codes set) y ≡ false) (codes_in (take i sets) codes) (subst (λ (ks : List Codes). All (λ y. same_codes (key_in codes set) y ≡ false) ks) (take-map (key_in codes) i sets) (All-take (λ y. same_codes (key_in codes set) y ≡ false) i (codes_in sets codes) (All-from_recursion (λ y. same_codes (key_in codes set) y ≡ false) (codes_in sets codes) distinct.0))),
-  front_distinct sets i codes distinct.1,
+  IsDistinct-codes_in_take sets i codes distinct.1,
 )
 
 -- the keys up to a place and at it
-pub at_keys : (sets : List ℕ) (i : ℕ) (codes : Codes) → i < length sets → codes_in (take (i + 1) sets) codes ≡ codes_in (take i sets) codes ++ key_in codes (get_or sets i 0) ∷ []
-at_keys sets i codes inside = map_more (key_in codes) sets i 0 inside
+pub codes_in-take_more : (sets : List ℕ) (i : ℕ) (codes : Codes) → i < length sets → codes_in (take (i + 1) sets) codes ≡ codes_in (take i sets) codes ++ key_in codes (get_or sets i 0) ∷ []
+codes_in-take_more sets i codes inside = map_more (key_in codes) sets i 0 inside
 
 -- a cell that wasn't reached has room as before
-pub room_at : (sets : List ℕ) (i : ℕ) (codes : Codes) (values : List (Option ℤ)) (old new : CodedCells) → IsDistinct same_codes (codes_in sets codes) → i < length sets → ((key : Codes) → is_in (codes_in sets codes) key ≡ true → HasRoom values key (coded_at old key)) → AddsIn (codes_in (take i sets) codes) values old new → HasRoom values (key_in codes (get_or sets i 0)) (coded_at new (key_in codes (get_or sets i 0)))
-room_at sets i codes values old new distinct inside room adds =
+pub HasRoom-AddsIn : (sets : List ℕ) (i : ℕ) (codes : Codes) (values : List (Option ℤ)) (old new : CodedCells) → IsDistinct same_codes (codes_in sets codes) → i < length sets → ((key : Codes) → is_in (codes_in sets codes) key ≡ true → HasRoom values key (coded_at old key)) → AddsIn (codes_in (take i sets) codes) values old new → HasRoom values (key_in codes (get_or sets i 0)) (coded_at new (key_in codes (get_or sets i 0)))
+HasRoom-AddsIn sets i codes values old new distinct inside room adds =
     let key = key_in codes (get_or sets i 0) in
-    rw (adds.others key (at_apart sets i codes distinct inside)) (room key (at_inside sets i codes inside))
+    rw (adds.others key (key_in-take sets i codes distinct inside)) (room key (key_in-codes_in sets i codes inside))
 
 -- what was added before a refusal is held
-pub held_before : (sets : List ℕ) (i : ℕ) (codes : Codes) (values : List (Option ℤ)) (old mid new : CodedCells) → IsDistinct same_codes (codes_in sets codes) → i < length sets → AddsIn (codes_in (take i sets) codes) values old mid → SameCoded (key_in codes (get_or sets i 0) ∷ []) mid new → (key : Codes) → is_in (codes_in (take i sets) codes) key ≡ true → cell_holds values (coded_at new key) ≡ true
-held_before sets i codes values old mid new distinct inside adds refused key before =
-    rw (refused.others key (apart_from (codes_in (take i sets) codes) (key_in codes (get_or sets i 0)) key (at_apart sets i codes distinct inside) before)) (adds.held key before)
+pub cell_holds-AddsIn : (sets : List ℕ) (i : ℕ) (codes : Codes) (values : List (Option ℤ)) (old mid new : CodedCells) → IsDistinct same_codes (codes_in sets codes) → i < length sets → AddsIn (codes_in (take i sets) codes) values old mid → SameCoded (key_in codes (get_or sets i 0) ∷ []) mid new → (key : Codes) → is_in (codes_in (take i sets) codes) key ≡ true → cell_holds values (coded_at new key) ≡ true
+cell_holds-AddsIn sets i codes values old mid new distinct inside adds refused key before =
+    rw (refused.others key (is_in-apart (codes_in (take i sets) codes) (key_in codes (get_or sets i 0)) key (key_in-take sets i codes distinct inside) before)) (adds.held key before)
 
 -- a refusal that was undone
-pub undone_before : (sets : List ℕ) (i : ℕ) (codes : Codes) (values : List (Option ℤ)) (old mid then_ new : CodedCells) → IsDistinct same_codes (codes_in sets codes) → i < length sets → ((key : Codes) → is_in (codes_in sets codes) key ≡ true → HasRoom values key (coded_at old key)) → AddsIn (codes_in (take i sets) codes) values old mid → SameCoded (key_in codes (get_or sets i 0) ∷ []) mid then_ → TakesIn (codes_in (take i sets) codes) values then_ new → SameCoded (codes_in sets codes) old new
-undone_before sets i codes values old mid then_ new distinct inside room adds refused takes =
+pub AddsIn-TakesIn_take : (sets : List ℕ) (i : ℕ) (codes : Codes) (values : List (Option ℤ)) (old mid then_ new : CodedCells) → IsDistinct same_codes (codes_in sets codes) → i < length sets → ((key : Codes) → is_in (codes_in sets codes) key ≡ true → HasRoom values key (coded_at old key)) → AddsIn (codes_in (take i sets) codes) values old mid → SameCoded (key_in codes (get_or sets i 0) ∷ []) mid then_ → TakesIn (codes_in (take i sets) codes) values then_ new → SameCoded (codes_in sets codes) old new
+AddsIn-TakesIn_take sets i codes values old mid then_ new distinct inside room adds refused takes =
     let keys = codes_in (take i sets) codes in
     let key = key_in codes (get_or sets i 0) in
-    undone keys (codes_in sets codes) key values old mid then_ new
-    (λ q before. room q (in_front sets i codes q before))
-    (at_apart sets i codes distinct inside)
+    AddsIn-TakesIn keys (codes_in sets codes) key values old mid then_ new
+    (λ q before. room q (codes_in-take sets i codes q before))
+    (key_in-take sets i codes distinct inside)
     (λ q outside. (
-      false_from_ne_true (is_in keys q) (λ before. both_ways (is_in (codes_in sets codes) q) outside (in_front sets i codes q before)),
-      false_from_ne_true (is_in (key ∷ []) q) (λ here. both_ways (is_in (codes_in sets codes) q) outside (ap (is_in (codes_in sets codes)) (in_one key q here) ∙ at_inside sets i codes inside)),
+      false_from_ne_true (is_in keys q) (λ before. both_ways (is_in (codes_in sets codes) q) outside (codes_in-take sets i codes q before)),
+      false_from_ne_true (is_in (key ∷ []) q) (λ here. both_ways (is_in (codes_in sets codes) q) outside (ap (is_in (codes_in sets codes)) (is_in-one key q here) ∙ key_in-codes_in sets i codes inside)),
     ))
     adds refused takes
 
 -- what holds whatever a call answers
-pub on_err_from : {T E P : Type 0} (r : Result T E) → P → OnErr r P
-on_err_from (Ok x) p = tt
-on_err_from (Err e) p = p
+pub OnErr-always : {T E P : Type 0} (r : Result T E) → P → OnErr r P
+OnErr-always (Ok x) p = tt
+OnErr-always (Err e) p = p

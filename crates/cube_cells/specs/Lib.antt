@@ -1,8 +1,6 @@
-pub mod Bag
-pub mod Log
+pub use Rattle.cube_counts.specs.Bag
 pub mod Sum
 pub mod Tally
-pub mod Values
 pub mod Codes
 pub mod Cube
 pub mod Coded

@@ -2,7 +2,7 @@
 use Rattle.std.specs.Prelude.{◌≡◌, ◌<◌, ◌-ℤ◌, ℤ, pos, FitsSigned}
 use Rattle.std.specs.Int.{w64}
 use borrow.Author.Differences.{up, down}
-use Rattle.cube_cells.specs.Bag.{Bag, weight_of, held_of}
+use Rattle.cube_counts.specs.Bag.{Bag, weight_of, held_of}
 
 -- the sum of the numbers, each as often as it is held: of those above 0, less that of those below
 abbrev pub sum_of : Bag → ℤ

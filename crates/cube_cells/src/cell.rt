@@ -4,7 +4,7 @@ ghost use Rattle.std.specs.Option.{ForSome};
 ghost use Rattle.cube_core.specs.Answer.{IsAnswer};
 ghost use Rattle.cube_core.specs.Layout.{is_aggregate_of};
 ghost use Rattle.cube_core.specs.declared.fact.Fact.{Fact};
-ghost use Rattle.cube_cells.specs.Bag.{size_of, held_of};
+ghost use Rattle.cube_counts.specs.Bag.{size_of, held_of};
 ghost use Rattle.cube_cells.specs.Tally.{IsTallyOf, AddsBags, AddsValues, PlusFact, PlusTally, SameBags, SameTally, bag_at, value_at, hold_values, holds_fact};
 
 use crate::measure::Measure;
@@ -23,7 +23,7 @@ pub struct Cell {
 
 impl Model for Cell {
     ghost use Rattle.std.specs.Prelude.{◌≤◌, All};
-    ghost use Rattle.cube_cells.specs.Bag.{size_of};
+    ghost use Rattle.cube_counts.specs.Bag.{size_of};
     ghost use Rattle.cube_cells.specs.Tally.{Tally};
 
     ghost Value = { Tally };

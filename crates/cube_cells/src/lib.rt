@@ -1,4 +1,4 @@
-//! Counted values, and the cells of a data cube.
+//! The cells of a data cube.
 //!
 //! [`Counted`] is a multiset of numbers, which makes the least and the greatest value right under deletes.
 //! [`Cell`] is the tally of a group of facts, which answers every aggregate of them.
@@ -7,16 +7,11 @@
 #![tactic(auto)]
 
 mod cell;
-mod counted;
 mod cube;
 pub mod laws;
-mod log;
 mod measure;
-mod short;
-mod single;
-mod table;
 
 pub use cell::Cell;
-pub use counted::Counted;
 pub use cube::{Cube, OrderedCells, no_row};
 pub use cube_core::reduced;
+pub use cube_counts::Counted;

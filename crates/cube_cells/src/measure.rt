@@ -4,11 +4,11 @@ ghost use Rattle.std.specs.Int.{w128};
 ghost use Rattle.std.specs.Option.{ForSome};
 ghost use Rattle.cube_core.specs.Answer.{IsSum, IsLeast, IsGreatest, IsMean};
 ghost use Rattle.cube_core.specs.declared.aggregate.Answer.TheVariants.{Null, Whole};
-ghost use Rattle.cube_cells.specs.Bag.{AddsBag, size_of, held_of};
+ghost use Rattle.cube_counts.specs.Bag.{AddsBag, size_of, held_of};
 ghost use Rattle.cube_cells.specs.Tally.{AddsValue, IsBagOf, holds_value};
 
-use crate::counted::Counted;
 use cube_core::{Answer, reduced};
+use cube_counts::Counted;
 use std::alloc::{AllocError, Global};
 use std::marker::Model;
 
@@ -20,7 +20,7 @@ pub struct Measure {
 }
 
 impl Model for Measure {
-    ghost use Rattle.cube_cells.specs.Bag.{Bag};
+    ghost use Rattle.cube_counts.specs.Bag.{Bag};
     ghost use Rattle.cube_cells.specs.Sum.{IsSumOf};
 
     ghost Value = { Bag };

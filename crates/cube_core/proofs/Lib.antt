@@ -1,4 +1,5 @@
 pub mod ListLaws
+pub mod ArrivalLaws
 pub mod CommonDivisorLaws
 mod ReducedFractionLaws
 pub mod SchemaReadingLaws

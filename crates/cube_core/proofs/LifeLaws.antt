@@ -87,10 +87,6 @@ pub life_after-delete : (id : List ℕ) (life : Option Fact) → None ≡ life_a
 life_after-delete id None = refl
 life_after-delete id (Some fact) = refl
 
--- before any change no id is there
-pub life_of-none : (id : List ℕ) → life_of id [] ≡ None
-life_of-none id = refl
-
 -- the life of an id after one more change that names it, where it is no delete
 life_of-more : (id : List ℕ) (changes : List Change) (change : Change) → bytes_eq id (id_of change) ≡ true → is_delete change ≡ false
     → life_of id (changes ++ change ∷ []) ≡ life_after change (life_of id changes)
@@ -115,14 +111,6 @@ pub life_of-other : (id : List ℕ) (changes : List Change) (change : Change) �
     → life_of id (changes ++ change ∷ []) ≡ life_of id changes
 life_of-other id changes change other =
     ap (λ (cs : List Change). from_insert (since_delete cs)) (naming-other id changes change other)
-
--- both at once: the life of an id after one more change
-pub life_of-append : (id : List ℕ) (changes : List Change) (change : Change)
-    → life_of id (changes ++ change ∷ []) ≡ (if bytes_eq id (id_of change) then life_after change (life_of id changes) else life_of id changes)
-life_of-append id changes change = elim (cases_Bool (bytes_eq id (id_of change))) [
-  | inl same ↦ rw same (life_of-naming id changes change same)
-  | inr other ↦ rw other (life_of-other id changes change other)
-]
 
 -- a text is its own
 pub bytes_eq-itself : (text : List ℕ) → bytes_eq text text ≡ true

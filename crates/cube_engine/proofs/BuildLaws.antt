@@ -6,6 +6,7 @@ use Rattle.std.proofs.Math.Seq.{take-append_seam}
 use Rattle.std.proofs.lemmas.Bool.{eq-eqb, eqb-true, false_from_ne_true}
 use Rattle.std.proofs.lemmas.List.{append-nil, map-append}
 use Rattle.std.proofs.lemmas.List.Elements.{filter-append}
+use Rattle.cube_core.proofs.ArrivalLaws.{of_source-append}
 use Rattle.cube_core.proofs.ListLaws.{AllZip-length, AllZip-push}
 use Rattle.cube_core.specs.Arrival.{Arrivals, of_source, of_sources}
 use Rattle.cube_core.specs.Layout.{Layout}
@@ -31,11 +32,6 @@ in_turn-more source (first ∷ feeds) items =
     ∙ sym (append_assoc (from_source source first) (in_turn (source + 1) feeds) (from_source (source + suc (length feeds)) items))
 
 -- ---- what the list has of each source
-
-pub of_source-append : (some more : Arrivals) (source : ℕ) → of_source (some ++ more) source ≡ of_source some source ++ of_source more source
-of_source-append some more source =
-    ap (map (λ (arrival : ℕ × Item). arrival.1)) (filter-append (λ (arrival : ℕ × Item). arrival.0 == source) some more)
-    ∙ map-append (λ (arrival : ℕ × Item). arrival.1) (filter (λ (arrival : ℕ × Item). arrival.0 == source) some) (filter (λ (arrival : ℕ × Item). arrival.0 == source) more)
 
 of_source-own : (source : ℕ) (items : List Item) → of_source (from_source source items) source ≡ items
 of_source-own source [] = refl
@@ -147,12 +143,6 @@ Builds-all s sources left count ledger ended built =
     empty : (left : Told) → length left ≡ 0 → left ≡ []
     empty [] is = refl
     empty (x ∷ xs) is = absurd (omega (arith, is))
-
--- the source that a count names next is one of all
-pub next-source : (s : Layout) (sources left rest : Told) (bytes : Option (List ℕ)) (count : ℕ) (ledger : LedgerView) → left ≡ bytes ∷ rest
-    → HasBuilt s sources left count ledger → count + 1 ≤ length ledger.accounts
-next-source s sources left rest bytes count ledger is built =
-    omega (arith, ap length built.split ∙ length-append built.done left, ap length is, built.counted, built.all)
 
 get_or-seam : (done rest : Told) (bytes : Option (List ℕ)) → get_or (done ++ bytes ∷ rest) (length done) None ≡ bytes
 get_or-seam [] rest bytes = refl

@@ -11,7 +11,7 @@ use Rattle.cube_core.specs.Takes.{fits}
 use Rattle.cube_core.specs.declared.change.Item.{Item}
 use Rattle.cube_core.specs.declared.fact.Fact.{Fact}
 use Rattle.cube_cells.specs.Cube.{Lattice, AddsFact, HoldsFact, IsCubeOf, IsNewLattice, SameCells, SameSets, TakesFact}
-use Rattle.cube_cells.proofs.CubeLaws.{IsCubeOf-permutation, SameCells-IsCubeOf, cube_holds}
+use Rattle.cube_cells.proofs.CubeLaws.{IsCubeOf-permutation, SameCells-IsCubeOf, HoldsFact-IsCubeOf}
 use Rattle.cube_engine.specs.Book.{facts_of}
 use Rattle.cube_engine.specs.Builder.{BuilderView, HasFacts, IsBuilder, StandsAt}
 use Rattle.cube_engine.specs.Ledger.{AccountView, AllFit, AtSource, Enters, Exchanges, LedgerView, account_of, all_facts, new_account, with_refusal}
@@ -43,7 +43,7 @@ HasFacts-remove fact facts old new takes cells has = record {
 
 -- a cube holds each of its facts
 pub HoldsFact-HasFacts : (fact : Fact) (facts : List Fact) (cube : Lattice) → fits cube.schema fact ≡ true → HasFacts (fact ∷ facts) cube → HoldsFact cube fact
-HoldsFact-HasFacts fact facts cube fit has = cube_holds fact cube facts fit (omega (arith, has.facts_are)) has.cells
+HoldsFact-HasFacts fact facts cube fit has = HoldsFact-IsCubeOf fact cube facts fit (omega (arith, has.facts_are)) has.cells
 
 -- cubes over the same sets that have the same facts count the same
 pub SameCells-HasFacts : (facts : List Fact) (old new : Lattice) → SameSets old new → HasFacts facts old → HasFacts facts new → SameCells old new

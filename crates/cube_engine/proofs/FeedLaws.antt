@@ -96,22 +96,6 @@ fault_of-None Good none = refl
 fault_of-None WrongHeader none = cc
 fault_of-None TooManyRecords none = cc
 
--- the end: all items were taken
-items-all : (s : Layout) (bytes : Option (List ℕ)) (now : Ahead) (done : List Item) (next : Ahead) → LeftOf (start_of s bytes) done now → Gives now (Ok None) next
-    → AreItemsOf s bytes done × IsGood s bytes
-items-all s None now done next left gives = (tt, tt)
-items-all s (Some bytes) now done next left gives =
-    let ended : left.0 ≡ nothing_but None = subst (λ (n : Ahead). Gives n (Ok None) next) left.1 gives in (
-      sym (left.2 ∙ ap (λ (t : Coming (Option FeedFault)). done ++ t.items) ended ∙ append-nil done),
-      fault_of-None (items_of s (records_of bytes)).end (left.3 ∙ ap (λ (t : Coming (Option FeedFault)). t.end) ended),
-    )
-
-pub TakesFeed-all : (s : Layout) (bytes : Option (List ℕ)) (source : ℕ) (old : LedgerView) (feed next : FeedView) (now : LedgerView)
-    → Gives feed.to_come (Ok None) next.to_come → HasTaken s bytes source old feed now → TakesFeed s bytes source old now
-TakesFeed-all s bytes source old feed next now gives taken =
-    let all = items-all s bytes feed.to_come taken.done next.to_come taken.left gives in
-    record { items = taken.done; all = all.0; good = all.1; schema = taken.schema; sources = taken.sources; stands = taken.stands }
-
 -- the end of a feed tells the fault that it answers
 pub fault_of-Header : (end : FeedEnd) → fault_of end ≡ Some Header → end ≡ WrongHeader
 fault_of-Header Good is = cc
@@ -122,27 +106,6 @@ pub fault_of-TooMany : (end : FeedEnd) → fault_of end ≡ Some TooMany → end
 fault_of-TooMany Good is = cc
 fault_of-TooMany WrongHeader is = cc
 fault_of-TooMany TooManyRecords is = refl
-
-ends-by : (s : Layout) (bytes : Option (List ℕ)) (now next : Ahead) (done : List Item) (fault : FeedFault) → LeftOf (start_of s bytes) done now → Gives now (Err fault) next
-    → IsFaultOf s bytes fault
-ends-by s None now next done fault left gives = tt
-ends-by s (Some bytes) now next done Memory left gives = tt
-ends-by s (Some bytes) now next done Read left gives = tt
-ends-by s (Some bytes) now next done Header left gives =
-    let ended : left.0 ≡ nothing_but (Some Header) = subst (λ (n : Ahead). Gives n (Err Header) next) left.1 gives in
-    fault_of-Header (items_of s (records_of bytes)).end (left.3 ∙ ap (λ (t : Coming (Option FeedFault)). t.end) ended)
-ends-by s (Some bytes) now next done TooMany left gives =
-    let ended : left.0 ≡ nothing_but (Some TooMany) = subst (λ (n : Ahead). Gives n (Err TooMany) next) left.1 gives in
-    fault_of-TooMany (items_of s (records_of bytes)).end (left.3 ∙ ap (λ (t : Coming (Option FeedFault)). t.end) ended)
-
-pub IsFaultOf-taken : (s : Layout) (bytes : Option (List ℕ)) (source : ℕ) (old : LedgerView) (feed next : FeedView) (now : LedgerView) (fault : FeedFault)
-    → Gives feed.to_come (Err fault) next.to_come → HasTaken s bytes source old feed now → IsFaultOf s bytes fault
-IsFaultOf-taken s bytes source old feed next now fault gives taken = ends-by s bytes feed.to_come next.to_come taken.done fault taken.left gives
-
--- a change that the schema takes, if an item says one
-pub says_taken-is : (s : Layout) (what : Result Change LineFault) → IfOk what (λ change. takes s change ≡ true) → says_taken s what ≡ true
-says_taken-is s (Ok change) taken = taken
-says_taken-is s (Err fault) taken = refl
 
 -- a call that didn't fail did what it promises
 pub OnOk-holds : {T E : Type 0} (r : Result T E) (P : Type 0) → is_err r ≡ false → OnOk r P → P

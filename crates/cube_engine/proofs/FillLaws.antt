@@ -19,14 +19,6 @@ pub record IsFilling (all left : List Fact) (old now : Lattice) : Type 0 where
   pub split : IsPermutation (done ++ left) all
   pub gains : GainsFacts done old now
 
--- at the start none is
-pub IsFilling-none : (all left : List Fact) (cube : Lattice) → left ≡ all → IsFilling all left cube cube
-IsFilling-none all left cube same = record {
-  done = [];
-  split = subst (IsPermutation left) same (IsPermutation-refl left);
-  gains = record { same = record { schema = refl; sets = refl }; has = λ before has. has };
-}
-
 -- more of them
 pub IsFilling-more : (all left more rest : List Fact) (old now next : Lattice) → left ≡ more ++ rest → GainsFacts more now next
     → IsFilling all left old now → IsFilling all rest old next
@@ -50,14 +42,6 @@ GainsFacts-all all left old now none filling = record {
       HasFacts-permutation (filling.done ++ before) (all ++ before) now
       (IsPermutation-append_left before filling.done all (subst (λ l. IsPermutation l all) (ap (λ l. filling.done ++ l) none ∙ append-nil filling.done) filling.split))
       (filling.gains.has before has);
-}
-
--- a fact that is added is a fact more
-pub GainsFacts-add : (fact : Fact) (old new : Lattice) → AddsFact fact old new
-    → ((before : List Fact) → IsCubeOf old before → IsCubeOf new (fact ∷ before)) → GainsFacts (fact ∷ []) old new
-GainsFacts-add fact old new adds cells = record {
-  same = adds.same;
-  has = λ before has. HasFacts-add fact before old new adds cells has;
 }
 
 -- the facts of the accounts from a place on: those of the account there, and those of the others

@@ -37,10 +37,6 @@ slice_range-cons fields place end h k =
     let count : end - place ≡ suc (end - (place + 1)) = omega arith in
     rw (count, drop-cons fields place [] first, add-one place) refl
 
--- a part that ends where it begins is empty
-pub slice_range-nil : (fields : List (List ℕ)) (place end : ℕ) → end ≤ place → slice_range fields place end ≡ []
-slice_range-nil fields place end h = let none : end - place ≡ 0 = omega arith in rw none refl
-
 -- a part with a field that isn't sound
 pub is_sound-slice_range : {A : Type 0} (spells : List ℕ → Option A) (fields : List (List ℕ)) (place end : ℕ) (all : Bool)
     → place < end → end ≤ length fields → is_sound spells (get_or fields place []) ≡ false

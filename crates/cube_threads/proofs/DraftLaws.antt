@@ -14,12 +14,12 @@ use Rattle.cube_engine.specs.Ledger.{LedgerView, AccountStandsAt, LedgerStandsAt
 use Rattle.cube_link.specs.Link.{Receiving}
 use Rattle.cube_threads.specs.Building.{IsNew, TakesFeeds, TakeAll}
 use Rattle.cube_threads.specs.Drafts.{DraftView, StandsFrom, IsNewDraft, AreNewDrafts, IsMadeOf, PartStandsFrom, PartCompletes}
-use Rattle.cube_threads.specs.Parcels.{parcels_of}
+use Rattle.cube_feeders.specs.Parcels.{parcels_of}
 use Rattle.cube_threads.specs.Parts.{BuiltView, PartStandsAt, StandsInParts, BuildsParts}
-use Rattle.cube_threads.specs.declared.parcel.Parcel.{Parcel}
-use Rattle.cube_threads.specs.declared.roster.Gatherer.{Gatherer}
+use Rattle.cube_feeders.specs.declared.parcel.Parcel.{Parcel}
+use Rattle.cube_feeders.specs.declared.roster.Gatherer.{Gatherer}
 use Rattle.cube_threads.proofs.TakeLaws.{all_zip-at}
-use Rattle.cube_threads.proofs.WireLaws.{at_or_below, at_end, length-one_more, some_of}
+use Rattle.cube_feeders.proofs.WireLaws.{lt-cases, get_or-last, length-one_more, some_of}
 
 -- one draft more
 pub new-more : (s : Layout) (sources parts count : ℕ) (drafts : List (Option DraftView)) (draft : DraftView) → AreNewDrafts s sources parts count drafts → IsNewDraft s sources parts count draft →
@@ -28,9 +28,9 @@ new-more s sources parts count drafts draft new is =
     let counted = new.counted in
     record {
       counted = length-one_more drafts (Some draft) ∙ ap (λ (n : ℕ). n + 1) counted;
-      each = λ part d below. elim (at_or_below part count below) [
+      each = λ part d below. elim (lt-cases part count below) [
         | inl less ↦ rw (get_or_append_left drafts (Some draft ∷ []) d part (omega arith)) (new.each part d less)
-        | inr at ↦ (draft, at_end drafts (Some draft) d part (at ∙ sym counted), rw at is)
+        | inr at ↦ (draft, get_or-last drafts (Some draft) d part (at ∙ sym counted), rw at is)
       ];
     }
 

@@ -23,8 +23,8 @@ use Rattle.cube_core.specs.declared.key.Key.{Key}
 use Rattle.cube_core.specs.declared.key.Row.{Row}
 use Rattle.cube_core.proofs.ListLaws.{AllByRecursion-Contains, Contains-AllByRecursion, Contains-head, Contains-tail}
 use Rattle.cube_core.proofs.KeyOrderLaws.{key_cmp-exact, key_cmp-IsTotalOrder}
-use Rattle.cube_cells.proofs.RankLaws.{below_from}
-use Rattle.cube_threads.proofs.WireLaws.{at_or_below}
+use Rattle.cube_cells.proofs.RankLaws.{Less-from_is_lt}
+use Rattle.cube_feeders.proofs.WireLaws.{lt-cases}
 
 -- ---- the sets of a part
 -- a set is in a part exactly where it is in the list and leaves the part
@@ -50,8 +50,8 @@ among-part part parts (first ∷ sets) set = elim (cases_Bool (first % parts == 
 abbrev pub same_key : Key → Key → Bool
 same_key = eq_by_cmp key_cmp
 
-keys_equiv : IsEquivalence same_key
-keys_equiv = eq_by_cmp_equiv key_cmp-IsTotalOrder
+same_key-IsEquivalence : IsEquivalence same_key
+same_key-IsEquivalence = eq_by_cmp_equiv key_cmp-IsTotalOrder
 
 -- these rows have these keys, each once, with the answers of the facts; nothing speaks of their order
 pub record AreRowsAt (IsKey : Key → Type 0) (aggregates : List Agg) (facts : List Fact) (rows : List Row) : Type 0 where
@@ -122,7 +122,7 @@ rows-sorted P aggregates facts rows sorted moved order are = (
   keys_moved = IsPermutation-map key_of rows sorted moved
 
   once : IsDistinct same_key (map key_of sorted)
-  once = IsDistinct-IsPermutation same_key keys_equiv.symm (map key_of rows) (map key_of sorted) keys_moved are.once
+  once = IsDistinct-IsPermutation same_key same_key-IsEquivalence.symm (map key_of rows) (map key_of sorted) keys_moved are.once
 
   no_key : Key
   no_key = record { coords = [] }
@@ -142,8 +142,8 @@ rows-sorted P aggregates facts rows sorted moved order are = (
       let here = get_or (map key_of sorted) k no_key in
       let next = get_or (map key_of sorted) (k + 1) no_key in
       let upward : is_lt (key_cmp next here) ≡ false = rw (key_there (k + 1) near, key_there k (omega (arith, near))) (order k no_row (omega arith) near) in
-      below_from key_cmp-IsTotalOrder key_cmp-exact here next upward (λ same.
-      let tied : same_key here next ≡ true = ap (same_key here) (sym same) ∙ keys_equiv.refl here in
+      Less-from_is_lt key_cmp-IsTotalOrder key_cmp-exact here next upward (λ same.
+      let tied : same_key here next ≡ true = ap (same_key here) (sym same) ∙ same_key-IsEquivalence.refl here in
       both_ways _ (apart_from_distinct same_key (map key_of sorted) k (k + 1) no_key once (omega arith) inside) tied))
 
 -- ---- rows of parts
@@ -205,7 +205,7 @@ rows-more part parts test sets dimensions aggregates facts rows more are add =
         | inl p ↦ let below = p.below in record { cell = p.cell; passes = p.passes; below = omega arith }
         | inr q ↦ let o = of-part part parts test sets dimensions facts key q in let at = o.0 in record { cell = o.1; passes = q.1; below = omega arith }
       ],
-      λ is. elim (at_or_below (mask_of key % parts) part is.below) [
+      λ is. elim (lt-cases (mask_of key % parts) part is.below) [
         | inl less ↦ inl (record { cell = is.cell; passes = is.passes; below = less })
         | inr at ↦ inr (to-part part parts test sets dimensions facts key at is.cell is.passes)
       ],

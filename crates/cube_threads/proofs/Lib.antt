@@ -1,7 +1,3 @@
-pub mod PlaceLaws
-pub mod SendLaws
-pub mod GatherLaws
-pub mod WireLaws
 pub mod TakeLaws
 pub mod RunLaws
 pub mod SettleLaws

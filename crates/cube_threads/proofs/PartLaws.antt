@@ -20,7 +20,7 @@ use Rattle.cube_engine.specs.Book.{Entries, IsBook, fact_at, facts_of}
 use Rattle.cube_engine.specs.Builder.{BuilderView}
 use Rattle.cube_engine.specs.Ledger.{AccountView, LedgerView, AccountStandsAt, LedgerStandsAt, all_facts}
 use Rattle.cube_threads.specs.Parts.{BuiltView, first_ledger, schema_of_run, AreParts, StandsInParts, BuildsParts}
-use Rattle.cube_threads.proofs.WireLaws.{some_of}
+use Rattle.cube_feeders.proofs.WireLaws.{some_of}
 
 -- an entry of a book isn't among those after it
 entry-once : (e : List ℕ × Fact) (es : Entries) → IsBook (e ∷ es) → Contains es e → ⊥

@@ -13,16 +13,16 @@ use Rattle.cube_core.specs.declared.change.Item.{Item}
 use Rattle.cube_feed.specs.Feed.{Ahead}
 use Rattle.cube_link.specs.Link.{Sending, Receiving, Link}
 use Rattle.cube_threads.specs.Building.{IsNew, TakesFeeds, TakeAll}
-use Rattle.cube_threads.specs.Feeding.{Feeds, IsReceiptOf}
-use Rattle.cube_threads.specs.Parcels.{parcels_of, sends}
+use Rattle.cube_feeders.specs.Feeding.{Feeds, IsReceiptOf}
+use Rattle.cube_feeders.specs.Parcels.{parcels_of, sends}
 use Rattle.cube_threads.specs.Settling.{received_on, received_by, kept_of, receipt_of, Settles}
-use Rattle.cube_threads.specs.Starting.{IsReady, HasGathered}
-use Rattle.cube_threads.specs.Wiring.{coming_of, AreLinked}
-use Rattle.cube_threads.specs.declared.parcel.Parcel.{Parcel}
-use Rattle.cube_threads.specs.declared.parcel.FeederEnd.{FeederEnd}
-use Rattle.cube_threads.specs.declared.roster.Gatherer.{Gatherer}
+use Rattle.cube_feeders.specs.Starting.{IsReady, HasGathered}
+use Rattle.cube_feeders.specs.Wiring.{coming_of, AreLinked}
+use Rattle.cube_feeders.specs.declared.parcel.Parcel.{Parcel}
+use Rattle.cube_feeders.specs.declared.parcel.FeederEnd.{FeederEnd}
+use Rattle.cube_feeders.specs.declared.roster.Gatherer.{Gatherer}
 use Rattle.cube_threads.proofs.TakeLaws.{Names, AllTell, all_zip-at, all_zip-each, came-from, items-settled, same-settled, takes-feeds}
-use Rattle.cube_threads.proofs.WireLaws.{some_of}
+use Rattle.cube_feeders.proofs.WireLaws.{some_of}
 use Rattle.cube_engine.proofs.FeedLaws.{OnOk-holds}
 
 -- linked builders that have taken nothing are ready
@@ -190,10 +190,3 @@ on_ok-then (Err e) P Q then holds = tt
 pub if_err-then : {A E : Type 0} (r : Result A E) (P Q : E → Type 0) → ((e : E) → P e → Q e) → IfErr r P → IfErr r Q
 if_err-then (Ok x) P Q then holds = tt
 if_err-then (Err e) P Q then holds = then e holds
-
--- what holds of an answer that is kept where there is one
-pub ok-holds : {H F : Type 0} (r : Result H F) (o : Option H) (P : H → Type 0) → o ≡ result_ok r → IfOk r P → IfSome o P
-ok-holds {H} {F} r o P is holds = rw is (turn r holds) where
-  turn : (r : Result H F) → IfOk r P → IfSome (result_ok r) P
-  turn (Ok h) holds = holds
-  turn (Err e) holds = tt

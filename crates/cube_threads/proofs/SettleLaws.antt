@@ -4,10 +4,10 @@ use Rattle.std.proofs.lemmas.List.{get_or-map, get_or_default, length-map, set-g
 use Rattle.std.proofs.Math.Seq.{map-set_same}
 use Rattle.cube_link.specs.Link.{Sending, Receiving}
 use Rattle.cube_threads.specs.Settling.{received_on, received_by, Kept, kept_of, receipt_of, IsOfLink, Begins, FitLinks, BeginReceipts}
-use Rattle.cube_threads.specs.declared.parcel.Parcel.{Parcel}
-use Rattle.cube_threads.specs.declared.parcel.FeederEnd.{FeederEnd}
-use Rattle.cube_threads.specs.declared.roster.Gatherer.{Gatherer}
-use Rattle.cube_threads.proofs.WireLaws.{at_or_below}
+use Rattle.cube_feeders.specs.declared.parcel.Parcel.{Parcel}
+use Rattle.cube_feeders.specs.declared.parcel.FeederEnd.{FeederEnd}
+use Rattle.cube_feeders.specs.declared.roster.Gatherer.{Gatherer}
+use Rattle.cube_feeders.proofs.WireLaws.{lt-cases}
 
 -- an element is put back as it was
 set-back : {A : Type 0} (xs : List A) (k : ℕ) (x y : A) → x ≡ get_or xs k x → y ≡ x → set xs k y ≡ xs
@@ -50,7 +50,7 @@ pub held-more : (k builder : ℕ) (old now : List FeederEnd) (links later : List
 held-more k builder old now links later e new i next held below short end_is link_is same_end same_link begins = record {
   ends = set-back now k e new end_is same_end ∙ held.ends;
   received = map-set_same received_on later k next i (same_link ∙ ap received_on link_is) ∙ held.received;
-  begin = λ j f d inside. elim (at_or_below j k inside) [
+  begin = λ j f d inside. elim (lt-cases j k inside) [
     | inl less ↦ held.begin j f d less
     | inr is ↦
         rw is
@@ -85,7 +85,7 @@ pub all_held-more : {B : Type 0} (j : ℕ) (old now new : List FeederEnd) (gathe
 all_held-more j old now new gatherers later g next held below is same kept begin = record {
   ends = same ∙ held.ends;
   kept = map-set_same kept_of later j next g (kept ∙ ap kept_of is) ∙ held.kept;
-  begin = λ k inside. elim (at_or_below k j inside) [
+  begin = λ k inside. elim (lt-cases k j inside) [
     | inl less ↦ held.begin k less
     | inr at ↦
         rw at

@@ -18,16 +18,16 @@ use Rattle.cube_feed.specs.declared.fault.FeedFault.{FeedFault}
 use Rattle.cube_feed.specs.declared.fault.FeedFault.TheVariants.{Memory, Read, Header, TooMany}
 use Rattle.cube_link.specs.Link.{Sending, Receiving}
 use Rattle.cube_threads.specs.Building.{TakesFeeds, ExplainsRun, HasReceived}
-use Rattle.cube_threads.specs.Ends.{HasNoStop, IsFirstStop, IsSealed}
-use Rattle.cube_threads.specs.Feeding.{Stops}
-use Rattle.cube_threads.specs.Starting.{HasGathered}
-use Rattle.cube_threads.specs.Parcels.{parcels_of}
+use Rattle.cube_feeders.specs.Ends.{HasNoStop, IsFirstStop, IsSealed}
+use Rattle.cube_feeders.specs.Feeding.{Stops}
+use Rattle.cube_feeders.specs.Starting.{HasGathered}
+use Rattle.cube_feeders.specs.Parcels.{parcels_of}
 use Rattle.cube_threads.specs.Settling.{received_on, received_by, Kept, kept_of, receipt_of, Begins, AllFit, AllBegin, StopsRun}
-use Rattle.cube_threads.specs.Wiring.{coming_of}
-use Rattle.cube_threads.specs.declared.parcel.Parcel.{Parcel}
-use Rattle.cube_threads.specs.declared.parcel.FeederEnd.{FeederEnd}
-use Rattle.cube_threads.specs.declared.roster.Gatherer.{Gatherer}
-use Rattle.cube_threads.proofs.WireLaws.{some_of}
+use Rattle.cube_feeders.specs.Wiring.{coming_of}
+use Rattle.cube_feeders.specs.declared.parcel.Parcel.{Parcel}
+use Rattle.cube_feeders.specs.declared.parcel.FeederEnd.{FeederEnd}
+use Rattle.cube_feeders.specs.declared.roster.Gatherer.{Gatherer}
+use Rattle.cube_feeders.proofs.WireLaws.{some_of}
 use Rattle.cube_engine.proofs.FeedLaws.{fault_of-None, fault_of-Header, fault_of-TooMany}
 
 -- ---- lists place by place
@@ -162,10 +162,10 @@ explains-stops s sources received ends builders (run_fault.Write sent) tell stop
 -- ---- what a settled builder has taken
 
 -- with a receipt, what arrived are the items that it names
-arrived : (items came : List Item) (received : Sending Parcel) (receipt : Option (Sending Parcel)) → IsSome receipt → received.sent ≡ parcels_of came →
+Names-Begins : (items came : List Item) (received : Sending Parcel) (receipt : Option (Sending Parcel)) → IsSome receipt → received.sent ≡ parcels_of came →
     IfSome receipt (Names items received) → IfSome receipt (Begins received) → came ≡ items
-arrived items came received None there is names begins = cc
-arrived items came received (Some receipt) there is names begins =
+Names-Begins items came received None there is names begins = cc
+Names-Begins items came received (Some receipt) there is names begins =
     parcels_of-front came items begins.0 (ap (λ (xs : List Parcel). xs ++ begins.0) (sym is) ∙ begins.1 ∙ names.1)
 
 -- what was received is the same of the links that are kept
@@ -204,7 +204,7 @@ came-from completes s sources received ends old mid j tell count gathers inside 
     let d = some_of (get_or received j []) k wide in
     let came : (get_or (get_or received j []) k d).sent ≡ parcels_of (of_source arrivals (k + 1)) =
     subst (λ (links : List (Sending Parcel)). (get_or links k d).sent ≡ parcels_of (of_source arrivals (k + 1))) (sym row) (received-at mid.inlets.items arrivals (length sources) k d whole below) in
-    arrived t.items (of_source arrivals (k + 1)) (get_or (get_or received j []) k d) (receipt_of (get_or ends k e) j) (sealed k e low j inside) came (t.names j d inside) (begin j inside k e d low)
+    Names-Begins t.items (of_source arrivals (k + 1)) (get_or (get_or received j []) k d) (receipt_of (get_or ends k e) j) (sealed k e low j inside) came (t.names j d inside) (begin j inside k e d low)
 
 -- arrivals that have of each source the items of its end have those of its feed
 pub items-settled : (s : Layout) (sources : Told) (received : List (List (Sending Parcel))) (ends : List FeederEnd) (arrivals : Arrivals) → (tell : AllTell s sources received ends) → All HasNoStop ends →

@@ -9,9 +9,9 @@ use Rattle.cube_engine.specs.Build.{IsLowestFault}
 use Rattle.cube_engine.specs.declared.fault.RunFault.{RunFault}
 use Rattle.cube_engine.specs.declared.fault.RunFault.TheVariants as run_fault
 use Rattle.cube_link.specs.Link.{Receiving}
-use Rattle.cube_threads.specs.Parcels.{parcels_of}
-use Rattle.cube_threads.specs.declared.parcel.Parcel.{Parcel}
-use Rattle.cube_threads.specs.declared.roster.Gatherer.{Gatherer}
+use Rattle.cube_feeders.specs.Parcels.{parcels_of}
+use Rattle.cube_feeders.specs.declared.parcel.Parcel.{Parcel}
+use Rattle.cube_feeders.specs.declared.roster.Gatherer.{Gatherer}
 
 -- a builder of so many sources that has taken nothing
 pub record IsNew {B : Type 0} (all : B → ℕ) (stands : B → B → Arrivals → Type 0) (sources : ℕ) (builder : B) : Type 0 where

@@ -1,9 +1,7 @@
-pub mod Parcels
-pub mod Feeding
-pub mod Ends
-pub mod Gathering
-pub mod Starting
-pub mod Wiring
+pub use Rattle.cube_feeders.specs.Parcels
+pub use Rattle.cube_feeders.specs.Feeding
+pub use Rattle.cube_feeders.specs.Ends
+pub use Rattle.cube_feeders.specs.Gathering
 pub mod Settling
 pub mod Building
 pub mod Drafts

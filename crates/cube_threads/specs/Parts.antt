@@ -13,7 +13,7 @@ use Rattle.cube_engine.specs.Builder.{BuilderView, StandsAt}
 use Rattle.cube_engine.specs.Ledger.{LedgerView, all_facts}
 use Rattle.cube_link.specs.Link.{Receiving}
 use Rattle.cube_threads.specs.Building.{HasReceived}
-use Rattle.cube_threads.specs.declared.parcel.Parcel.{Parcel}
+use Rattle.cube_feeders.specs.declared.parcel.Parcel.{Parcel}
 
 -- what a caller sees of the builders of a run: the builders by their parts, and the inlets of each
 pub record BuiltView : Type 0 where

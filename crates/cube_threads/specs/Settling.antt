@@ -4,10 +4,10 @@ use Rattle.std.specs.List.{All}
 use Rattle.cube_link.specs.Link.{Sending, Receiving}
 use Rattle.cube_engine.specs.declared.fault.RunFault.{RunFault}
 use Rattle.cube_engine.specs.declared.fault.RunFault.TheVariants as run_fault
-use Rattle.cube_threads.specs.Ends.{HasNoStop, IsFirstStop, IsSealed, IsFirstUnsealed}
-use Rattle.cube_threads.specs.declared.parcel.Parcel.{Parcel}
-use Rattle.cube_threads.specs.declared.parcel.FeederEnd.{FeederEnd}
-use Rattle.cube_threads.specs.declared.roster.Gatherer.{Gatherer}
+use Rattle.cube_feeders.specs.Ends.{HasNoStop, IsFirstStop, IsSealed, IsFirstUnsealed}
+use Rattle.cube_feeders.specs.declared.parcel.Parcel.{Parcel}
+use Rattle.cube_feeders.specs.declared.parcel.FeederEnd.{FeederEnd}
+use Rattle.cube_feeders.specs.declared.roster.Gatherer.{Gatherer}
 
 -- a link, and what was received from it
 abbrev pub received_on : Receiving Parcel → Sending Parcel

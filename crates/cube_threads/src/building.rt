@@ -6,10 +6,10 @@ ghost use Rattle.cube_threads.specs.Parts.{BuildsParts, schema_of_run};
 
 use crate::built::{Built, Making};
 use crate::draft::{Part, new_parts};
-use crate::gate::Gate;
 use crate::running::feed_builders;
 use cube_core::Schema;
 use cube_engine::RunFault;
+use cube_feeders::Gate;
 use std::alloc::{AllocError, Global};
 use std::io::Read;
 use std::sync::Wait;

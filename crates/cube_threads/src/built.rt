@@ -8,10 +8,9 @@ ghost use Rattle.cube_threads.specs.Parts.{AreParts, AreRowsOfRun, schema_of_run
 
 use crate::draft::Part;
 use crate::joining::in_key_order;
-use crate::parcel::Parcel;
-use crate::roster::Gatherer;
 use cube_core::{Key, Pattern, QueryFault, Row};
 use cube_engine::Builder;
+use cube_feeders::{Gatherer, Parcel};
 use cube_link::Inlet;
 use std::alloc::{AllocError, Global};
 use std::marker::Model;

@@ -3,10 +3,10 @@ ghost use Rattle.std.specs.Prelude.{◌≡◌, ◌≤◌, ◌<◌, ◌++◌, ◌
 ghost use Rattle.cube_core.specs.Arrival.{Arrivals};
 ghost use Rattle.cube_threads.specs.Drafts.{DraftView, StandsFrom, IsNewDraft, AreNewDrafts, IsMadeOf};
 
-use crate::builds::Builds;
 use cube_cells::Cube;
 use cube_core::{Item, Schema};
 use cube_engine::{Builder, Ledger};
+use cube_feeders::Builds;
 use std::alloc::{AllocError, Global};
 use std::marker::Model;
 

@@ -4,14 +4,10 @@ ghost use Rattle.std.specs.List.{All};
 ghost use Rattle.cube_core.specs.Run.{AreGood};
 ghost use Rattle.cube_threads.specs.Building.{IsNew, TakeAll, ExplainsRun};
 
-use crate::builds::Builds;
-use crate::gate::Gate;
-use crate::roster::Gatherer;
 use crate::settling::settle;
-use crate::setup::{Setup, set_up};
-use crate::together::run_together;
 use cube_core::Schema;
 use cube_engine::RunFault;
+use cube_feeders::{Builds, Gate, Gatherer, Setup, run_together, set_up};
 use std::alloc::Global;
 use std::io::Read;
 use std::sync::Wait;

@@ -3,11 +3,8 @@ ghost use Rattle.std.specs.Prelude.{◌≡◌, ◌≤◌, ◌<◌, false, map, v
 ghost use Rattle.std.specs.List.{All};
 ghost use Rattle.cube_threads.specs.Settling.{received_on, received_by, kept_of, receipt_of, IsOfLink, Begins, FitLinks, BeginReceipts, AllFit, AllBegin, Settles, StopsRun};
 
-use crate::builds::Builds;
-use crate::ends::{first_stop, first_unsealed};
-use crate::parcel::{FeederEnd, Parcel};
-use crate::roster::Gatherer;
 use cube_engine::RunFault;
+use cube_feeders::{Builds, FeederEnd, Gatherer, Parcel, first_stop, first_unsealed};
 use cube_link::Inlet;
 
 // Holds the receipt of the link to a builder, if one was given, against the link's inlet.

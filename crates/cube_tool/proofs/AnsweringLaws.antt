@@ -57,9 +57,9 @@ all-refused s [] (account ∷ accounts) stand = absurd stand
 all-refused s (items ∷ feeds) [] stand = absurd stand
 all-refused s (items ∷ feeds) (account ∷ accounts) stand = ap₂ (λ r rs. r ++ rs) stand.0.refused (all-refused s feeds accounts stand.1)
 
-pub has_taken : (s : Layout) (sources : Told) (parts : ℕ) (built : BuiltView) → 1 ≤ parts → (builds : BuildsParts s sources parts built)
+pub HasTaken-BuildsParts : (s : Layout) (sources : Told) (parts : ℕ) (built : BuiltView) → 1 ≤ parts → (builds : BuildsParts s sources parts built)
     → HasTaken s sources (of_sources (length sources) builds.arrivals) built
-has_taken s sources parts built some builds =
+HasTaken-BuildsParts s sources parts built some builds =
     let first = ledger-BuildsParts s sources parts built some builds in
     let ledger = first_ledger built.builders in
     let feeds = of_sources (length sources) builds.arrivals in
@@ -130,36 +130,10 @@ drill-part dimension key s sources feeds text old new are shows (failure.FeedUnr
 drill-part dimension key s sources feeds text old new are shows (failure.Query fault) part = absurd part
 drill-part dimension key s sources feeds text old new are shows failure.UnknownCode part = absurd part
 
--- a drill-down that gives no text leaves what was written
-pub drill-fails : (dimension : ℕ) (key : Key) (s : Layout) (sources : Told) (old : Option (List ℕ)) → AreGood s sources
-    → (fault : Failure) → FailsToDrill (drill_fault s.grouping_sets dimension key) fault → DrillLeaves dimension key s sources fault old old
-drill-fails dimension key s sources old good (failure.Query fault) fails = (refl, good, fails)
-drill-fails dimension key s sources old good (failure.Run run_fault.Full) fails = (refl, good)
-drill-fails dimension key s sources old good (failure.Run run_fault.Memory) fails = absurd fails
-drill-fails dimension key s sources old good (failure.Run run_fault.NoThread) fails = absurd fails
-drill-fails dimension key s sources old good (failure.Run (run_fault.Feed source fault)) fails = absurd fails
-drill-fails dimension key s sources old good (failure.Run (run_fault.Unsealed source)) fails = absurd fails
-drill-fails dimension key s sources old good (failure.Run (run_fault.Write sent)) fails = absurd fails
-drill-fails dimension key s sources old good failure.Unreadable fails = absurd fails
-drill-fails dimension key s sources old good (failure.Schema fault) fails = absurd fails
-drill-fails dimension key s sources old good failure.TooManyFeeds fails = absurd fails
-drill-fails dimension key s sources old good (failure.FeedUnreadable source) fails = absurd fails
-drill-fails dimension key s sources old good failure.UnknownCode fails = absurd fails
-
 -- rows that are given hold
-pub given : {T : Type 0} (said : Option QueryFault) (Holds : T → Type 0) (value : T) → GivesUnless said Holds (Ok value) → Holds value
-given None Holds value holds = holds
-given (Some fault) Holds value refused = let bad : Ok value ≡ Err fault = refused in cc
-
--- a fault of the build leaves what was written
-pub leaves-built : (Shows : Layout → List (List Item) → List ℕ → Type 0) (s : Layout) (sources : Told) (fault : RunFault) (old : Option (List ℕ))
-    → ExplainsRun s sources fault → Leaves Shows s sources (failure.Run fault) old old
-leaves-built Shows s sources run_fault.Memory old explains = (refl, explains)
-leaves-built Shows s sources run_fault.NoThread old explains = (refl, explains)
-leaves-built Shows s sources (run_fault.Feed source fault) old explains = (refl, explains)
-leaves-built Shows s sources run_fault.Full old explains = (refl, explains)
-leaves-built Shows s sources (run_fault.Unsealed source) old explains = (refl, explains)
-leaves-built Shows s sources (run_fault.Write sent) old explains = absurd explains
+pub GivesUnless-Ok : {T : Type 0} (said : Option QueryFault) (Holds : T → Type 0) (value : T) → GivesUnless said Holds (Ok value) → Holds value
+GivesUnless-Ok None Holds value holds = holds
+GivesUnless-Ok (Some fault) Holds value refused = let bad : Ok value ≡ Err fault = refused in cc
 
 -- a run that went well ends with the status of its feeds
 pub ends-with_run : (s : Layout) (sources : Told) (parts : ℕ) (built : BuiltView) (builder : BuilderView) (status : Status) (old new : Option (List ℕ)) → 1 ≤ parts
@@ -167,7 +141,7 @@ pub ends-with_run : (s : Layout) (sources : Told) (parts : ℕ) (built : BuiltVi
     → status ≡ status_after (all_refusals builder.ledger.accounts) → EndsWith ShowsCube s sources status old new
 ends-with_run s sources parts built builder status old new some runs first is =
     let builds : BuildsParts s sources parts built = record { good = runs.good; arrivals = runs.arrivals; taken = runs.taken; stands = runs.stands } in
-    let taken = has_taken s sources parts built some builds in
+    let taken = HasTaken-BuildsParts s sources parts built some builds in
     record {
       feeds = of_sources (length sources) runs.arrivals;
       are_feeds = record { good = runs.good; items = runs.taken };

@@ -6,15 +6,15 @@ use Rattle.std.proofs.KnownBytes.{Appends-trans}
 use Rattle.std.proofs.lemmas.List.{drop-take, take-take, take_all}
 
 -- the first i elements, and n of what is left after them
-take_in_two : (i n : ℕ) (xs : List ℕ) → take (i + n) xs ≡ take i xs ++ take n (drop i xs)
-take_in_two i n xs =
+take-plus : (i n : ℕ) (xs : List ℕ) → take (i + n) xs ≡ take i xs ++ take n (drop i xs)
+take-plus i n xs =
     let front = take-take i (i + n) xs (omega arith) in
     rw (front, drop-take i n xs) at (sym (take-append-drop i (take (i + n) xs)))
 
 -- after a text's first i bytes, n more of what a slice from i on holds
-pub appends_more : (old mid new : Option (List ℕ)) (text : List ℕ) (i n : ℕ)
+pub Appends-take : (old mid new : Option (List ℕ)) (text : List ℕ) (i n : ℕ)
     → Appends old mid (take i text) → Appends mid new (take n (take (length text - i) (drop i text))) → Appends old new (take (i + n) text)
-appends_more old mid new text i n before more =
+Appends-take old mid new text i n before more =
     let size = length-drop i text in
     let rest = take_all (length text - i) (drop i text) (omega arith) in
-    rw (take_in_two i n text) (Appends-trans old mid new _ _ before (rw rest at more))
+    rw (take-plus i n text) (Appends-trans old mid new _ _ before (rw rest at more))

@@ -16,16 +16,16 @@ use Rattle.csv.proofs.WriteFacts.{row-more, blank-more}
 use Rattle.cube_tool.specs.Lines.{Lines, contents_of, Holds, AddsFields, EndsLine, AddsText}
 
 -- a count that stops at a large number is 0 where what it counts is none
-min_zero : (n m : ℕ) → 2 ≤ m → (min n m == 0) ≡ (n == 0)
-min_zero n m large = grind (arith, nat_tests)
+min-eq_zero : (n m : ℕ) → 2 ≤ m → (min n m == 0) ≡ (n == 0)
+min-eq_zero n m large = grind (arith, nat_tests)
 
 -- and 1 where it counts one
-min_one : (n m : ℕ) → 2 ≤ m → (min n m == 1) ≡ (n == 1)
-min_one n m large = grind (arith, nat_tests)
+min-eq_one : (n m : ℕ) → 2 ≤ m → (min n m == 1) ≡ (n == 1)
+min-eq_one n m large = grind (arith, nat_tests)
 
 -- one more of what is counted
-min_more : (n m : ℕ) → min (min n m + 1) m ≡ min (n + 1) m
-min_more n m = omega arith
+min-more : (n m : ℕ) → min (min n m + 1) m ≡ min (n + 1) m
+min-more n m = omega arith
 
 -- what a writer tells of a field that it took
 pub record TakesField (field : List ℕ) (old new : Lines) : Type 0 where
@@ -43,39 +43,39 @@ pub record IsEnded (old new : Lines) : Type 0 where
   pub wrote : has_written new ≡ false
 
 -- the default style of quotes looks at no number
-plain_style : (writer : Lines) → writer_setup writer ≡ default_writer → (writer_setup writer).style ≢ style.NonNumeric
-plain_style writer setup e = cc (e, ap (λ w. w.style) setup)
+default_writer-style : (writer : Lines) → writer_setup writer ≡ default_writer → (writer_setup writer).style ≢ style.NonNumeric
+default_writer-style writer setup e = cc (e, ap (λ w. w.style) setup)
 
 -- the bytes underneath and those that still wait
-held_bytes : (text : List ℕ) (fields : List (List ℕ)) (lines : Lines) → Holds text fields lines → lines.wtr.inner.items ++ lines.wtr.buf ≡ text ++ row_body default_writer fields
-held_bytes text fields lines h = cc h.bytes
+Holds-row_body : (text : List ℕ) (fields : List (List ℕ)) (lines : Lines) → Holds text fields lines → lines.wtr.inner.items ++ lines.wtr.buf ≡ text ++ row_body default_writer fields
+Holds-row_body text fields lines h = cc h.bytes
 
 -- one more field after those of a line that isn't ended
-pub field_taken : (field : List ℕ) (old new : Lines) → TakesField field old new → AddsFields (field ∷ []) old new
-field_taken field old new t text fields h =
-    let plain = plain_style old h.setup in
+pub AddsFields-TakesField : (field : List ℕ) (old new : Lines) → TakesField field old new → AddsFields (field ∷ []) old new
+AddsFields-TakesField field old new t text fields h =
+    let plain = default_writer-style old h.setup in
     let large : 2 ≤ 2 ^ 64 - 1 = omega arith in
-    let first : (fields_written old == 0) ≡ (length fields == 0) = rw h.count (min_zero (length fields) (2 ^ 64 - 1) large) in
+    let first : (fields_written old == 0) ≡ (length fields == 0) = rw h.count (min-eq_zero (length fields) (2 ^ 64 - 1) large) in
     let bytes : List ℕ = new.wtr.inner.items ++ new.wtr.buf in
-    let before = held_bytes text fields old h in
+    let before = Holds-row_body text fields old h in
     let added = next_sep default_writer (length fields) ++ field_text default_writer field in
     let grown : bytes ≡ (text ++ row_body default_writer fields) ++ added
     = rw (h.setup, first, before) at (t.text plain) in
     record {
       setup = t.same ∙ h.setup;
       bytes = ap Some (grown ∙ append_assoc text (row_body default_writer fields) added ∙ ap (λ (more : List ℕ). text ++ more) (sym (row-more default_writer fields field)));
-      count = t.count ∙ rw (h.count, length-append) (min_more (length fields) (2 ^ 64 - 1));
+      count = t.count ∙ rw (h.count, length-append) (min-more (length fields) (2 ^ 64 - 1));
       blank = rw (length-append fields (field ∷ [])) (blank-more default_writer fields field (has_written old) (has_written new) h.blank (λ w. rw h.setup at (t.wrote w plain)) t.stays);
     }
 
 -- an ended line
-pub line_ended : (old new : Lines) → IsEnded old new → EndsLine old new
+pub EndsLine-IsEnded : (old new : Lines) → IsEnded old new → EndsLine old new
 unfolding is_blank
-line_ended old new e text fields h =
+EndsLine-IsEnded old new e text fields h =
     let large : 2 ≤ 2 ^ 64 - 1 = omega arith in
-    let none : (fields_written old == 0) ≡ (length fields == 0) = rw h.count (min_zero (length fields) (2 ^ 64 - 1) large) in
-    let one : (fields_written old == 1) ≡ (length fields == 1) = rw h.count (min_one (length fields) (2 ^ 64 - 1) large) in
-    let before = held_bytes text fields old h in
+    let none : (fields_written old == 0) ≡ (length fields == 0) = rw h.count (min-eq_zero (length fields) (2 ^ 64 - 1) large) in
+    let one : (fields_written old == 1) ≡ (length fields == 1) = rw h.count (min-eq_one (length fields) (2 ^ 64 - 1) large) in
+    let before = Holds-row_body text fields old h in
     let bytes : List ℕ = new.wtr.inner.items ++ new.wtr.buf in
     let body = row_body default_writer fields in
     let tail = (if is_blank default_writer fields then default_writer.quote ∷ default_writer.quote ∷ [] else []) ++ end_text default_writer.terminator in
@@ -88,23 +88,23 @@ line_ended old new e text fields h =
     }
 
 -- what follows from a result follows where its error was replaced by another
-pub on_ok_renamed : {T E U F P : Type 0} (r : Result T E) (s : Result U F) → is_ok s ≡ is_ok r → ((v : T) → r ≡ Ok v → P) → OnOk s P
-on_ok_renamed (Ok v) (Ok w) same f = f v refl
-on_ok_renamed (Err e) (Ok w) same f = cc same
-on_ok_renamed r (Err e) same f = tt
+pub OnOk-is_ok : {T E U F P : Type 0} (r : Result T E) (s : Result U F) → is_ok s ≡ is_ok r → ((v : T) → r ≡ Ok v → P) → OnOk s P
+OnOk-is_ok (Ok v) (Ok w) same f = f v refl
+OnOk-is_ok (Err e) (Ok w) same f = cc same
+OnOk-is_ok r (Err e) same f = tt
 
 -- fields were added, and then more
-pub fields_both : (more others : List (List ℕ)) (old mid new : Lines) → AddsFields more old mid → AddsFields others mid new → AddsFields (more ++ others) old new
-fields_both more others old mid new first second text fields h =
+pub AddsFields-both : (more others : List (List ℕ)) (old mid new : Lines) → AddsFields more old mid → AddsFields others mid new → AddsFields (more ++ others) old new
+AddsFields-both more others old mid new first second text fields h =
     rw (← append_assoc fields more others) (second text (fields ++ more) (first text fields h))
 
 -- a line of fields that were added in three parts
-pub three_added : (first second third : List (List ℕ)) (a b c d e : Lines) → AddsFields first a b → AddsFields second b c → AddsFields third c d
+pub AddsText-row_text : (first second third : List (List ℕ)) (a b c d e : Lines) → AddsFields first a b → AddsFields second b c → AddsFields third c d
     → EndsLine d e → AddsText (row_text default_writer (first ++ second ++ third)) a e
-three_added first second third a b c d e one two three end text h =
-    end text (first ++ second ++ third) (fields_both (first ++ second) third a c d (fields_both first second a b c one two) three text [] h)
+AddsText-row_text first second third a b c d e one two three end text h =
+    end text (first ++ second ++ third) (AddsFields-both (first ++ second) third a c d (AddsFields-both first second a b c one two) three text [] h)
 
 -- the lines of rows were added, and then that of one row more
-pub rows_added : (rows : List Row) (row : Row) (old mid new : Lines) → AddsText (flat_map row_line rows) old mid → AddsText (row_line row) mid new → AddsText (flat_map row_line (rows ++ row ∷ [])) old new
-rows_added rows row old mid new before line text h =
+pub AddsText-row_line : (rows : List Row) (row : Row) (old mid new : Lines) → AddsText (flat_map row_line rows) old mid → AddsText (row_line row) mid new → AddsText (flat_map row_line (rows ++ row ∷ [])) old new
+AddsText-row_line rows row old mid new before line text h =
     rw (flat_map-append row_line rows (row ∷ []), flat_map-cons row_line row [], append-nil (row_line row), ← append_assoc text (flat_map row_line rows) (row_line row)) (line (text ++ flat_map row_line rows) (before text h))

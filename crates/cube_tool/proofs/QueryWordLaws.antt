@@ -15,14 +15,14 @@ use Rattle.cube_core.specs.declared.query.QueryFault.TheVariants.{Fields, Field,
 use Rattle.cube_core.proofs.ItemLaws.{length-filter_map}
 
 -- a choice of an answer or a fault has what the answer has
-chosen : {A : Type 0} (P : A → Type 0) (test : Bool) (answer : Result A QueryFault) (fault : QueryFault) → (test ≡ true → IfOk answer P) → IfOk (if test then answer else Err fault) P
-chosen P true answer fault has = has refl
-chosen P false answer fault has = tt
+IfOk-if_Err : {A : Type 0} (P : A → Type 0) (test : Bool) (answer : Result A QueryFault) (fault : QueryFault) → (test ≡ true → IfOk answer P) → IfOk (if test then answer else Err fault) P
+IfOk-if_Err P true answer fault has = has refl
+IfOk-if_Err P false answer fault has = tt
 
 -- a pattern that fields spell is as long as they are
 spelled-length : (fields : List (List ℕ)) → IfOk (spelled_by fields) (λ pattern. length pattern ≡ length fields)
 spelled-length fields =
-    chosen _ (list_all (λ field. is_some (wanted_by field)) fields) (Ok (filter_map wanted_by fields)) Field (length-filter_map wanted_by fields)
+    IfOk-if_Err _ (list_all (λ field. is_some (wanted_by field)) fields) (Ok (filter_map wanted_by fields)) Field (length-filter_map wanted_by fields)
 
 -- under a schema it has a field for each dimension
 pattern-length : (s : Layout) (word : List ℕ) → IfOk (pattern_of s word) (λ pattern. length pattern ≡ length s.dimensions)
@@ -31,18 +31,18 @@ pattern-length s word = go (only_one (records_of word))
     go : (record_found : Option (List (List ℕ))) → IfOk (option_map_or (spelled_under s) record_found (Err Fields)) (λ pattern. length pattern ≡ length s.dimensions)
     go None = tt
     go (Some fields) =
-        chosen _ (length fields == length s.dimensions) (spelled_by fields) Fields
+        IfOk-if_Err _ (length fields == length s.dimensions) (spelled_by fields) Fields
         (λ same. IfOk-weaker (spelled_by fields) _ _ (λ pattern long. long ∙ eqb-true _ _ same) (spelled-length fields))
 
 -- the key of a pattern is as long as the pattern
 key-length : (pattern : Wanted) → IfOk (cell_of pattern) (λ key. length key.coords ≡ length pattern)
 key-length pattern =
-    chosen {A = Key} (λ key. length key.coords ≡ length pattern) (list_all is_some pattern) (Ok (record { coords = filter_map (λ wanted. wanted) pattern })) NotCell
+    IfOk-if_Err {A = Key} (λ key. length key.coords ≡ length pattern) (list_all is_some pattern) (Ok (record { coords = filter_map (λ wanted. wanted) pattern })) NotCell
     (length-filter_map (λ wanted. wanted) pattern)
 
 -- so the cell that a word spells has a coordinate for each dimension
-pub width_of_word : (s : Layout) (word : List ℕ) (pattern : Wanted) (key : Key) → Ok pattern ≡ pattern_of s word → Ok key ≡ cell_of pattern
+pub cell-length : (s : Layout) (word : List ℕ) (pattern : Wanted) (key : Key) → Ok pattern ≡ pattern_of s word → Ok key ≡ cell_of pattern
     → length key.coords ≡ length s.dimensions
-width_of_word s word pattern key spelled is =
+cell-length s word pattern key spelled is =
     subst (λ (r : Result Key QueryFault). IfOk r (λ key. length key.coords ≡ length pattern)) (sym is) (key-length pattern)
     ∙ subst (λ (r : Result Wanted QueryFault). IfOk r (λ pattern. length pattern ≡ length s.dimensions)) (sym spelled) (pattern-length s word)

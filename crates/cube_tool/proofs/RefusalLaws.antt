@@ -36,11 +36,6 @@ lines_up_to-more accounts place below =
     ∙ flat_map-append of_source (range_with_len 1 place) ((place + 1) ∷ [])
     ∙ ap (λ l. lines_up_to accounts place ++ l) (append-nil (of_source (place + 1)) ∙ ap (flat_map (refusal_line (place + 1))) here)
 
--- at the end those of all sources
-pub lines_up_to-all : (accounts : List AccountView) → lines_up_to accounts (length accounts) ≡ lines_of_sources (refusals_of_accounts accounts)
-lines_up_to-all accounts =
-    ap (λ n. flat_map (lines_of_source (refusals_of_accounts accounts)) (range_with_len 1 n)) (sym (length-map accounts (λ (account : AccountView). account.refusals)))
-
 -- ---- whether there are any
 
 -- the refusals of the sources up to a place and the next
@@ -52,15 +47,6 @@ all_refusals-more (a ∷ accounts) (suc place) below =
     let later : suc place + 1 ≡ suc (place + 1) = omega arith in
     ap (λ (n : ℕ). all_refusals (take n (a ∷ accounts))) later
     ∙ ap (λ l. a.refusals ++ l) (all_refusals-more accounts place (omega arith)) ∙ sym (append_assoc a.refusals (all_refusals (take place accounts)) (get_or accounts place new_account).refusals)
-
--- a source without refusals adds none
-pub all_refusals-none : (accounts : List AccountView) (place : ℕ) → place < length accounts → length (get_or accounts place new_account).refusals ≡ 0
-    → all_refusals (take place accounts) ≡ [] → all_refusals (take (place + 1) accounts) ≡ []
-all_refusals-none accounts place below none before =
-    all_refusals-more accounts place below ∙ (λ i. before i ++ empty (get_or accounts place new_account).refusals none i) where
-      empty : (refusals : List Refusal) → length refusals ≡ 0 → refusals ≡ []
-      empty [] is = refl
-      empty (r ∷ refusals) is = absurd (omega (arith, is))
 
 -- one with refusals makes the status
 pub status_after-some : (accounts : List AccountView) (place : ℕ) → place < length accounts → 0 < length (get_or accounts place new_account).refusals
@@ -74,7 +60,3 @@ status_after-some (a ∷ accounts) (suc place) below some = later a.refusals (st
   later : (refusals : List Refusal) → status_after (all_refusals accounts) ≡ LinesRefused → status_after (refusals ++ all_refusals accounts) ≡ LinesRefused
   later [] is = is
   later (r ∷ refusals) is = refl
-
--- where no source up to the last has any there are none
-pub all_refusals-all : (accounts : List AccountView) (place : ℕ) → length accounts ≤ place → all_refusals (take place accounts) ≡ [] → all_refusals accounts ≡ []
-all_refusals-all accounts place past none = ap all_refusals (sym (take_all place accounts past)) ∙ none

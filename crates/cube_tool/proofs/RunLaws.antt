@@ -18,7 +18,7 @@ use Rattle.cube_engine.proofs.SurvivorLaws.{SurviveTogether-stands}
 use Rattle.cube_engine.proofs.SurvivorFitLaws.{AllFit-survivors}
 use Rattle.cube_link.specs.Link.{Receiving}
 use Rattle.cube_threads.specs.Parts.{BuiltView, BuildsParts, PartStandsAt, StandsInParts, first_ledger, schema_of_run, facts_of_run}
-use Rattle.cube_threads.specs.declared.parcel.Parcel.{Parcel}
+use Rattle.cube_feeders.specs.declared.parcel.Parcel.{Parcel}
 use Rattle.cube_tool.specs.Run.{Runs, RunsPart}
 
 -- the rows of a cube of a schema over its grouping sets are the rows of the schema
@@ -29,19 +29,19 @@ AreRows-AreRowsOver s cube facts rows schema sets are =
     (subst (λ (kept : List ℕ). AreRowsOver kept (length cube.schema.dimensions) cube.schema.aggregates facts rows) sets are)
 
 -- the facts of a ledger that stands at an arrival list survive in what the list has of its sources
-survive : (s : Layout) (sources : ℕ) (ledger : LedgerView) (arrivals : Arrivals) → ledger.schema ≡ s → length ledger.accounts ≡ sources
+SurviveTogether-LedgerStandsAt : (s : Layout) (sources : ℕ) (ledger : LedgerView) (arrivals : Arrivals) → ledger.schema ≡ s → length ledger.accounts ≡ sources
     → LedgerStandsAt ledger arrivals → SurviveTogether s (of_sources sources arrivals) (all_facts ledger.accounts)
-survive s sources ledger arrivals schema all stands =
+SurviveTogether-LedgerStandsAt s sources ledger arrivals schema all stands =
     subst (λ (l : Layout). SurviveTogether l (of_sources sources arrivals) (all_facts ledger.accounts)) schema
     (subst (λ (n : ℕ). SurviveTogether ledger.schema (of_sources n arrivals) (all_facts ledger.accounts)) all
     (SurviveTogether-stands ledger arrivals stands))
 
 -- their printed cube is printed at that list
-printed_at : (s : Layout) (sources : ℕ) (ledger : LedgerView) (arrivals : Arrivals) (text : List ℕ) → ledger.schema ≡ s → length ledger.accounts ≡ sources
+IsPrintedAt-LedgerStandsAt : (s : Layout) (sources : ℕ) (ledger : LedgerView) (arrivals : Arrivals) (text : List ℕ) → ledger.schema ≡ s → length ledger.accounts ≡ sources
     → LedgerStandsAt ledger arrivals → IsPrinted s (all_facts ledger.accounts) text → IsPrintedAt s sources arrivals text
-printed_at s sources ledger arrivals text schema all stands printed = record {
+IsPrintedAt-LedgerStandsAt s sources ledger arrivals text schema all stands printed = record {
   facts = all_facts ledger.accounts;
-  survive = survive s sources ledger arrivals schema all stands;
+  survive = SurviveTogether-LedgerStandsAt s sources ledger arrivals schema all stands;
   printed = printed;
 }
 
@@ -56,7 +56,7 @@ Runs-BuildsWhole s sources builder text old new built printed written =
       taken = taken.taken;
       stands = record { ledger = taken.stands; cube = built.cube };
       text = text;
-      printed = printed_at s (length sources) builder.ledger taken.arrivals text taken.schema taken.all taken.stands printed;
+      printed = IsPrintedAt-LedgerStandsAt s (length sources) builder.ledger taken.arrivals text taken.schema taken.all taken.stands printed;
       written = written;
     }
 
@@ -70,7 +70,7 @@ RunsPart-BuildsWhole s sources builder text sent old new built printed within wr
       arrivals = taken.arrivals;
       taken = taken.taken;
       text = text;
-      printed = printed_at s (length sources) builder.ledger taken.arrivals text taken.schema taken.all taken.stands printed;
+      printed = IsPrintedAt-LedgerStandsAt s (length sources) builder.ledger taken.arrivals text taken.schema taken.all taken.stands printed;
       within = within;
       written = written;
     }
@@ -94,14 +94,14 @@ pub AllFit-BuildsParts : (s : Layout) (sources : Told) (parts : ℕ) (built : Bu
 AllFit-BuildsParts s sources parts built some builds =
     let first = ledger-BuildsParts s sources parts built some builds in
     AllFit-survivors s (of_sources (length sources) builds.arrivals) (facts_of_run built)
-    (survive s (length sources) (first_ledger built.builders) builds.arrivals first.0 first.1 first.2)
+    (SurviveTogether-LedgerStandsAt s (length sources) (first_ledger built.builders) builds.arrivals first.0 first.1 first.2)
 
 -- the printed cube of the facts of a run's builders is printed at the arrival list at which they stand
-printed_in_parts : (s : Layout) (sources : Told) (parts : ℕ) (built : BuiltView) (text : List ℕ) → 1 ≤ parts → (builds : BuildsParts s sources parts built)
+IsPrintedAt-BuildsParts : (s : Layout) (sources : Told) (parts : ℕ) (built : BuiltView) (text : List ℕ) → 1 ≤ parts → (builds : BuildsParts s sources parts built)
     → IsPrinted s (facts_of_run built) text → IsPrintedAt s (length sources) builds.arrivals text
-printed_in_parts s sources parts built text some builds printed =
+IsPrintedAt-BuildsParts s sources parts built text some builds printed =
     let first = ledger-BuildsParts s sources parts built some builds in
-    printed_at s (length sources) (first_ledger built.builders) builds.arrivals text first.0 first.1 first.2 printed
+    IsPrintedAt-LedgerStandsAt s (length sources) (first_ledger built.builders) builds.arrivals text first.0 first.1 first.2 printed
 
 -- a run in threads that wrote the text went well
 pub Runs-BuildsParts : (s : Layout) (sources : Told) (parts : ℕ) (built : BuiltView) (text : List ℕ) (old new : Option (List ℕ)) → 1 ≤ parts → BuildsParts s sources parts built
@@ -112,7 +112,7 @@ Runs-BuildsParts s sources parts built text old new some builds printed written 
   taken = builds.taken;
   stands = builds.stands;
   text = text;
-  printed = printed_in_parts s sources parts built text some builds printed;
+  printed = IsPrintedAt-BuildsParts s sources parts built text some builds printed;
   written = written;
 }
 
@@ -124,7 +124,7 @@ RunsPart-BuildsParts s sources parts built text sent old new some builds printed
   arrivals = builds.arrivals;
   taken = builds.taken;
   text = text;
-  printed = printed_in_parts s sources parts built text some builds printed;
+  printed = IsPrintedAt-BuildsParts s sources parts built text some builds printed;
   within = within;
   written = written;
 }

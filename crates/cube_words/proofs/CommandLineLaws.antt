@@ -14,119 +14,105 @@ use Rattle.cube_words.specs.CommandLine.{AsksToCheck, AsksToExplain, IsInBounds,
 use Rattle.cube_words.specs.declared.request.Request.{Request}
 use Rattle.cube_words.specs.declared.request.Request.TheVariants.{Sample, Check, Explain, Print, Refusals, Slice, Drill}
 
--- the command that clap found, by its name and its words
-pub command_found : (m words : ArgMatches) (name : Text) → Some name ≡ subcommand_name_of m
-    → Some (rows_of (found_of words)) ≡ option_map (λ found. found.1) (subcommand_rows_of m)
-    → subcommand_rows_of m ≡ Some (name, rows_of (found_of words))
-command_found m words name named rowed = go (out-ArgMatches m).subcommand named rowed
-  where
-    go : (sub : Option (Box SubCommand Global)) → Some name ≡ option_map (λ b. (out-SubCommand (box_value b)).name.now) sub
-        → Some (rows_of (found_of words)) ≡ option_map (λ found. found.1) (subcommand_rows sub)
-        → subcommand_rows sub ≡ Some (name, rows_of (found_of words))
-    go None named rowed = cc
-    go (Some b) named rowed = ap₂ (λ found_name found_rows. Some (found_name, found_rows))
-        (sym (ap (λ found. unwrap_or found name) named))
-        (sym (ap (λ found. unwrap_or found (rows_of (found_of words))) rowed))
-
-line_is_simple : is_simple command_line ≡ true
+command_line-is_simple : is_simple command_line ≡ true
 unfolding clap_on_literals
-line_is_simple = refl
+command_line-is_simple = refl
 
 -- clap takes the program's name alone, and no word at all
-pub no_words_are_taken : (words : List Text) → length words ≤ 1 → takes command_line words ≡ true
+pub takes-no_words : (words : List Text) → length words ≤ 1 → takes command_line words ≡ true
 unfolding clap_on_literals
-no_words_are_taken [] few = refl
-no_words_are_taken (name ∷ []) few = refl
-no_words_are_taken (name ∷ word ∷ words) few = absurd (omega arith)
+takes-no_words [] few = refl
+takes-no_words (name ∷ []) few = refl
+takes-no_words (name ∷ word ∷ words) few = absurd (omega arith)
 
 -- and then it finds no command
-no_command_found : (words : List Text) → length words ≤ 1 → subcommand_of command_line words ≡ None
+subcommand_of-no_words : (words : List Text) → length words ≤ 1 → subcommand_of command_line words ≡ None
 unfolding clap_on_literals
-no_command_found [] few = refl
-no_command_found (name ∷ []) few = refl
-no_command_found (name ∷ word ∷ words) few = absurd (omega arith)
+subcommand_of-no_words [] few = refl
+subcommand_of-no_words (name ∷ []) few = refl
+subcommand_of-no_words (name ∷ word ∷ words) few = absurd (omega arith)
 
 -- a found command with the first of its words of this name
 abbrev pub with_word_of : Text → Option (Text × List Row) → Option (Text × Option Text)
 with_word_of word = option_map (λ found. (found.0, first_of word found.1))
 
 -- clap takes `check` and one word that isn't a flag
-pub check_is_taken : (name path : Text) → begins_as_flag path ≡ false → takes command_line (name ∷ codes "check" ∷ path ∷ []) ≡ true
+pub takes-check : (name path : Text) → begins_as_flag path ≡ false → takes command_line (name ∷ codes "check" ∷ path ∷ []) ≡ true
 unfolding clap_on_literals
-check_is_taken name [] plain = refl
-check_is_taken name (b ∷ rest) plain = simp plain refl
+takes-check name [] plain = refl
+takes-check name (b ∷ rest) plain = simp plain refl
 
 -- and then it finds `check` with that word
-check_found : (name path : Text) → begins_as_flag path ≡ false
+subcommand_of-check : (name path : Text) → begins_as_flag path ≡ false
     → with_word_of (codes "SCHEMA") (subcommand_of command_line (name ∷ codes "check" ∷ path ∷ [])) ≡ Some (codes "check", Some path)
 unfolding clap_on_literals
-check_found name [] plain = refl
-check_found name (b ∷ rest) plain = simp plain refl
+subcommand_of-check name [] plain = refl
+subcommand_of-check name (b ∷ rest) plain = simp plain refl
 
 -- clap takes `explain` alone
-pub explain_is_taken : (name : Text) → takes command_line (name ∷ codes "explain" ∷ []) ≡ true
+pub takes-explain : (name : Text) → takes command_line (name ∷ codes "explain" ∷ []) ≡ true
 unfolding clap_on_literals
-explain_is_taken name = refl
+takes-explain name = refl
 
 -- and then it finds `explain` without a word
-explain_found : (name : Text) → with_word_of (codes "CODE") (subcommand_of command_line (name ∷ codes "explain" ∷ [])) ≡ Some (codes "explain", None)
+subcommand_of-explain : (name : Text) → with_word_of (codes "CODE") (subcommand_of command_line (name ∷ codes "explain" ∷ [])) ≡ Some (codes "explain", None)
 unfolding clap_on_literals
-explain_found name = refl
+subcommand_of-explain name = refl
 
 -- clap takes `explain` and one word that isn't a flag
-pub explain_code_is_taken : (name code : Text) → begins_as_flag code ≡ false → takes command_line (name ∷ codes "explain" ∷ code ∷ []) ≡ true
+pub takes-explain_code : (name code : Text) → begins_as_flag code ≡ false → takes command_line (name ∷ codes "explain" ∷ code ∷ []) ≡ true
 unfolding clap_on_literals
-explain_code_is_taken name [] plain = refl
-explain_code_is_taken name (b ∷ rest) plain = simp plain refl
+takes-explain_code name [] plain = refl
+takes-explain_code name (b ∷ rest) plain = simp plain refl
 
 -- and then it finds `explain` with that word
-explain_code_found : (name code : Text) → begins_as_flag code ≡ false
+subcommand_of-explain_code : (name code : Text) → begins_as_flag code ≡ false
     → with_word_of (codes "CODE") (subcommand_of command_line (name ∷ codes "explain" ∷ code ∷ [])) ≡ Some (codes "explain", Some code)
 unfolding clap_on_literals
-explain_code_found name [] plain = refl
-explain_code_found name (b ∷ rest) plain = simp plain refl
+subcommand_of-explain_code name [] plain = refl
+subcommand_of-explain_code name (b ∷ rest) plain = simp plain refl
 
 -- so no words ask for the sample run
-pub no_words_answer : (words : List Text) (m : ArgMatches) (request : Option Request) (result : Result Request Error)
+pub request-no_words : (words : List Text) (m : ArgMatches) (request : Option Request) (result : Result Request Error)
     → length words ≤ 1 → HasMatchesOf command_line words m → IsRequest (subcommand_rows_of m) request
     → IfSome request (λ asked. result ≡ Ok asked) → result ≡ Ok Sample
-no_words_answer words m request result few matches is done =
-    let found : subcommand_rows_of m ≡ None = (matches line_is_simple).1 ∙ no_command_found words few in
+request-no_words words m request result few matches is done =
+    let found : subcommand_rows_of m ≡ None = (matches command_line-is_simple).1 ∙ subcommand_of-no_words words few in
     let asked : request ≡ Some Sample = subst (λ found. IsRequest found request) found is in
     subst (λ request. IfSome request (λ asked. result ≡ Ok asked)) asked done
 
 -- what clap found is what its definition finds
-pub found_as_defined : (words : List Text) (m : ArgMatches) (request : Request) → HasMatchesOf command_line words m
+pub IsRequest-HasMatchesOf : (words : List Text) (m : ArgMatches) (request : Request) → HasMatchesOf command_line words m
     → IsRequest (subcommand_rows_of m) (Some request) → IsRequest (subcommand_of command_line words) (Some request)
-found_as_defined words m request matches is = subst (λ found. IsRequest found (Some request)) (matches line_is_simple).1 is
+IsRequest-HasMatchesOf words m request matches is = subst (λ found. IsRequest found (Some request)) (matches command_line-is_simple).1 is
 
 -- a request that clap's words make has at least one feed, and its options are in their bounds
-pub request_bounds : (found : Option (Text × List Row)) (request : Request) → IsRequest found (Some request) → IsInBounds request
-request_bounds None Sample is = tt
-request_bounds None (Check schema) is = tt
-request_bounds None (Explain code) is = tt
-request_bounds None (Print run) is = let bad : Sample ≡ Print run = sym (ap (λ (o : Option Request). unwrap_or o Sample) is) in cc
-request_bounds None (Refusals run) is = let bad : Sample ≡ Refusals run = sym (ap (λ (o : Option Request). unwrap_or o Sample) is) in cc
-request_bounds None (Slice run cell) is = let bad : Sample ≡ Slice run cell = sym (ap (λ (o : Option Request). unwrap_or o Sample) is) in cc
-request_bounds None (Drill run cell dimension) is = let bad : Sample ≡ Drill run cell dimension = sym (ap (λ (o : Option Request). unwrap_or o Sample) is) in cc
-request_bounds (Some found) Sample is = tt
-request_bounds (Some found) (Check schema) is = tt
-request_bounds (Some found) (Explain code) is = tt
-request_bounds (Some found) (Print run) is = is.2
-request_bounds (Some found) (Refusals run) is = is.2
-request_bounds (Some found) (Slice run cell) is = is.0.2
-request_bounds (Some found) (Drill run cell dimension) is = is.0.2
+pub IsInBounds-IsRequest : (found : Option (Text × List Row)) (request : Request) → IsRequest found (Some request) → IsInBounds request
+IsInBounds-IsRequest None Sample is = tt
+IsInBounds-IsRequest None (Check schema) is = tt
+IsInBounds-IsRequest None (Explain code) is = tt
+IsInBounds-IsRequest None (Print run) is = let bad : Sample ≡ Print run = sym (ap (λ (o : Option Request). unwrap_or o Sample) is) in cc
+IsInBounds-IsRequest None (Refusals run) is = let bad : Sample ≡ Refusals run = sym (ap (λ (o : Option Request). unwrap_or o Sample) is) in cc
+IsInBounds-IsRequest None (Slice run cell) is = let bad : Sample ≡ Slice run cell = sym (ap (λ (o : Option Request). unwrap_or o Sample) is) in cc
+IsInBounds-IsRequest None (Drill run cell dimension) is = let bad : Sample ≡ Drill run cell dimension = sym (ap (λ (o : Option Request). unwrap_or o Sample) is) in cc
+IsInBounds-IsRequest (Some found) Sample is = tt
+IsInBounds-IsRequest (Some found) (Check schema) is = tt
+IsInBounds-IsRequest (Some found) (Explain code) is = tt
+IsInBounds-IsRequest (Some found) (Print run) is = is.2
+IsInBounds-IsRequest (Some found) (Refusals run) is = is.2
+IsInBounds-IsRequest (Some found) (Slice run cell) is = is.0.2
+IsInBounds-IsRequest (Some found) (Drill run cell dimension) is = is.0.2
 
 -- a name isn't that of two commands
-apart : {X : Type 0} (name a b : Text) → name ≡ a → name ≡ b → (slice_index a 0 ≡ slice_index b 0 → X) → X
-apart name a b is_a is_b differ = differ (ap (λ t. slice_index t 0) (sym is_a ∙ is_b))
+name-slice_index : {X : Type 0} (name a b : Text) → name ≡ a → name ≡ b → (slice_index a 0 ≡ slice_index b 0 → X) → X
+name-slice_index name a b is_a is_b differ = differ (ap (λ t. slice_index t 0) (sym is_a ∙ is_b))
 
 -- a request that `check` makes with a word asks to check that file
-asks_to_check : (Q : Error → Type 0) (found : Option (Text × List Row)) (path : Text) (request : Option Request) (result : Result Request Error)
+AsksToCheck-with_word_of : (Q : Error → Type 0) (found : Option (Text × List Row)) (path : Text) (request : Option Request) (result : Result Request Error)
     → with_word_of (codes "SCHEMA") found ≡ Some (codes "check", Some path) → IsRequest found request → IfSome request (λ asked. result ≡ Ok asked)
     → MatchResult result (AsksToCheck path) Q
-asks_to_check Q None path request result is_found is done = cc
-asks_to_check Q (Some found) path request result is_found is done = go request is done
+AsksToCheck-with_word_of Q None path request result is_found is done = cc
+AsksToCheck-with_word_of Q (Some found) path request result is_found is done = go request is done
   where
     named : found.0 ≡ codes "check"
     named = ap (λ (o : Option (Text × Option Text)). (unwrap_or o (found.0, first_of (codes "SCHEMA") found.1)).0) is_found
@@ -141,18 +127,18 @@ asks_to_check Q (Some found) path request result is_found is done = go request i
     go (Some (Check schema)) is done =
         subst (λ answer. MatchResult answer (AsksToCheck path) Q) (sym done)
         (ap (λ (o : Option Text). unwrap_or o path) (sym is.1 ∙ worded))
-    go (Some (Explain code)) is done = apart found.0 (codes "check") (codes "explain") named is.0 (λ same. absurd (omega arith))
-    go (Some (Print run)) is done = apart found.0 (codes "check") (codes "print") named is.0 (λ same. absurd (omega arith))
-    go (Some (Refusals run)) is done = apart found.0 (codes "check") (codes "refusals") named is.0 (λ same. absurd (omega arith))
-    go (Some (Slice run cell)) is done = apart found.0 (codes "check") (codes "slice") named is.0.0 (λ same. absurd (omega arith))
-    go (Some (Drill run cell dimension)) is done = apart found.0 (codes "check") (codes "drill") named is.0.0 (λ same. absurd (omega arith))
+    go (Some (Explain code)) is done = name-slice_index found.0 (codes "check") (codes "explain") named is.0 (λ same. absurd (omega arith))
+    go (Some (Print run)) is done = name-slice_index found.0 (codes "check") (codes "print") named is.0 (λ same. absurd (omega arith))
+    go (Some (Refusals run)) is done = name-slice_index found.0 (codes "check") (codes "refusals") named is.0 (λ same. absurd (omega arith))
+    go (Some (Slice run cell)) is done = name-slice_index found.0 (codes "check") (codes "slice") named is.0.0 (λ same. absurd (omega arith))
+    go (Some (Drill run cell dimension)) is done = name-slice_index found.0 (codes "check") (codes "drill") named is.0.0 (λ same. absurd (omega arith))
 
 -- a request that `explain` makes asks for the code that is its word, or for all
-asks_to_explain : (Q : Error → Type 0) (found : Option (Text × List Row)) (code : Option Text) (request : Option Request) (result : Result Request Error)
+AsksToExplain-with_word_of : (Q : Error → Type 0) (found : Option (Text × List Row)) (code : Option Text) (request : Option Request) (result : Result Request Error)
     → with_word_of (codes "CODE") found ≡ Some (codes "explain", code) → IsRequest found request → IfSome request (λ asked. result ≡ Ok asked)
     → MatchResult result (AsksToExplain code) Q
-asks_to_explain Q None code request result is_found is done = cc
-asks_to_explain Q (Some found) code request result is_found is done = go request is done
+AsksToExplain-with_word_of Q None code request result is_found is done = cc
+AsksToExplain-with_word_of Q (Some found) code request result is_found is done = go request is done
   where
     named : found.0 ≡ codes "explain"
     named = ap (λ (o : Option (Text × Option Text)). (unwrap_or o (found.0, first_of (codes "CODE") found.1)).0) is_found
@@ -164,37 +150,37 @@ asks_to_explain Q (Some found) code request result is_found is done = go request
         → IfSome request (λ asked. result ≡ Ok asked) → MatchResult result (AsksToExplain code) Q
     go None is done = absurd (is.1 named)
     go (Some Sample) is done = absurd is
-    go (Some (Check schema)) is done = apart found.0 (codes "explain") (codes "check") named is.0 (λ same. absurd (omega arith))
+    go (Some (Check schema)) is done = name-slice_index found.0 (codes "explain") (codes "check") named is.0 (λ same. absurd (omega arith))
     go (Some (Explain asked)) is done =
         subst (λ answer. MatchResult answer (AsksToExplain code) Q) (sym done) (sym is.1 ∙ worded)
-    go (Some (Print run)) is done = apart found.0 (codes "explain") (codes "print") named is.0 (λ same. absurd (omega arith))
-    go (Some (Refusals run)) is done = apart found.0 (codes "explain") (codes "refusals") named is.0 (λ same. absurd (omega arith))
-    go (Some (Slice run cell)) is done = apart found.0 (codes "explain") (codes "slice") named is.0.0 (λ same. absurd (omega arith))
-    go (Some (Drill run cell dimension)) is done = apart found.0 (codes "explain") (codes "drill") named is.0.0 (λ same. absurd (omega arith))
+    go (Some (Print run)) is done = name-slice_index found.0 (codes "explain") (codes "print") named is.0 (λ same. absurd (omega arith))
+    go (Some (Refusals run)) is done = name-slice_index found.0 (codes "explain") (codes "refusals") named is.0 (λ same. absurd (omega arith))
+    go (Some (Slice run cell)) is done = name-slice_index found.0 (codes "explain") (codes "slice") named is.0.0 (λ same. absurd (omega arith))
+    go (Some (Drill run cell dimension)) is done = name-slice_index found.0 (codes "explain") (codes "drill") named is.0.0 (λ same. absurd (omega arith))
 
 -- so `check` with a word asks to check that file
-pub check_answer : (Q : Error → Type 0) (name path : Text) (words : List Text) (m : ArgMatches) (request : Option Request) (result : Result Request Error)
+pub request-check : (Q : Error → Type 0) (name path : Text) (words : List Text) (m : ArgMatches) (request : Option Request) (result : Result Request Error)
     → begins_as_flag path ≡ false → words ≡ name ∷ codes "check" ∷ path ∷ [] → HasMatchesOf command_line words m
     → IsRequest (subcommand_rows_of m) request → IfSome request (λ asked. result ≡ Ok asked)
     → MatchResult result (AsksToCheck path) Q
-check_answer Q name path words m request result plain are matches is done =
-    asks_to_check Q (subcommand_rows_of m) path request result
-    (ap (with_word_of (codes "SCHEMA")) ((matches line_is_simple).1 ∙ ap (subcommand_of command_line) are) ∙ check_found name path plain) is done
+request-check Q name path words m request result plain are matches is done =
+    AsksToCheck-with_word_of Q (subcommand_rows_of m) path request result
+    (ap (with_word_of (codes "SCHEMA")) ((matches command_line-is_simple).1 ∙ ap (subcommand_of command_line) are) ∙ subcommand_of-check name path plain) is done
 
 -- `explain` alone asks for all codes
-pub explain_answer : (Q : Error → Type 0) (name : Text) (words : List Text) (m : ArgMatches) (request : Option Request) (result : Result Request Error)
+pub request-explain : (Q : Error → Type 0) (name : Text) (words : List Text) (m : ArgMatches) (request : Option Request) (result : Result Request Error)
     → words ≡ name ∷ codes "explain" ∷ [] → HasMatchesOf command_line words m
     → IsRequest (subcommand_rows_of m) request → IfSome request (λ asked. result ≡ Ok asked)
     → MatchResult result (AsksToExplain None) Q
-explain_answer Q name words m request result are matches is done =
-    asks_to_explain Q (subcommand_rows_of m) None request result
-    (ap (with_word_of (codes "CODE")) ((matches line_is_simple).1 ∙ ap (subcommand_of command_line) are) ∙ explain_found name) is done
+request-explain Q name words m request result are matches is done =
+    AsksToExplain-with_word_of Q (subcommand_rows_of m) None request result
+    (ap (with_word_of (codes "CODE")) ((matches command_line-is_simple).1 ∙ ap (subcommand_of command_line) are) ∙ subcommand_of-explain name) is done
 
 -- and with a word for that code
-pub explain_code_answer : (Q : Error → Type 0) (name code : Text) (words : List Text) (m : ArgMatches) (request : Option Request) (result : Result Request Error)
+pub request-explain_code : (Q : Error → Type 0) (name code : Text) (words : List Text) (m : ArgMatches) (request : Option Request) (result : Result Request Error)
     → begins_as_flag code ≡ false → words ≡ name ∷ codes "explain" ∷ code ∷ [] → HasMatchesOf command_line words m
     → IsRequest (subcommand_rows_of m) request → IfSome request (λ asked. result ≡ Ok asked)
     → MatchResult result (AsksToExplain (Some code)) Q
-explain_code_answer Q name code words m request result plain are matches is done =
-    asks_to_explain Q (subcommand_rows_of m) (Some code) request result
-    (ap (with_word_of (codes "CODE")) ((matches line_is_simple).1 ∙ ap (subcommand_of command_line) are) ∙ explain_code_found name code plain) is done
+request-explain_code Q name code words m request result plain are matches is done =
+    AsksToExplain-with_word_of Q (subcommand_rows_of m) (Some code) request result
+    (ap (with_word_of (codes "CODE")) ((matches command_line-is_simple).1 ∙ ap (subcommand_of command_line) are) ∙ subcommand_of-explain_code name code plain) is done

@@ -1,8 +1,8 @@
 use Rattle.std.proofs.Common.{arith, ap, length, ◌<◌, []}
 use Rattle.std.proofs.lemmas.List.{get_or_default}
-use Rattle.cube_cells.specs.Bag.{AddsBag, size_of}
+use Rattle.cube_counts.specs.Bag.{AddsBag, size_of}
 use Rattle.cube_cells.specs.Tally.{bag_at}
-use Rattle.cube_cells.proofs.MergeLaws.{bags_more, size_before, sizes_added, sizes_lost}
+use Rattle.cube_cells.proofs.MergeLaws.{AddsBags-more, size_of-AddsBags, AddsBags-bound, AddsBags-bound_set}
 use Rattle.cube_cells.proofs.cell.merge_measures.Goals as goal
 
 pub merge-requires : goal.merge-requires
@@ -12,7 +12,7 @@ merge-requires c =
     omega (
       arith,
       c.requires.fits c.loop-place.place,
-      size_before c.args.measures.now c.loop-place.measures c.args.more.now c.loop-place.place c.loop-place.invariant,
+      size_of-AddsBags c.args.measures.now c.loop-place.measures c.args.more.now c.loop-place.place c.loop-place.invariant,
       ap size_of (get_or_default c.loop-place.measures c.loop-place.place [] c.index-measures-place.result inside),
       ap size_of c.index-more-place.is,
       ap size_of (get_or_default c.args.more.now c.loop-place.place [] c.index-more-place.result there),
@@ -21,7 +21,7 @@ merge-requires c =
 pub returns-in_err-merge-clause-sizes : goal.returns-in_err-merge-clause-sizes
 returns-in_err-merge-clause-sizes c =
     let inside : c.loop-place.place < length c.loop-place.measures = omega arith in
-    sizes_lost c.args.measures.now c.loop-place.measures c.args.more.now c.loop-place.place c.merge.new.self c.loop-place.invariant inside c.in_err-merge.ensures.err
+    AddsBags-bound_set c.args.measures.now c.loop-place.measures c.args.more.now c.loop-place.place c.merge.new.self c.loop-place.invariant inside c.in_err-merge.ensures.err
 
 pub loop-place-preserved : goal.loop-place-preserved
 loop-place-preserved c =
@@ -29,7 +29,7 @@ loop-place-preserved c =
     let inside : c.loop-place.place < length c.loop-place.measures = omega arith in
     let added : AddsBag (bag_at c.loop-place.measures c.loop-place.place) c.merge.new.self (bag_at c.args.more.now c.loop-place.place) =
     rw (get_or_default c.loop-place.measures c.loop-place.place [] c.index-measures-place.result inside, get_or_default c.args.more.now c.loop-place.place [] c.index-more-place.result there, ← c.index-more-place.is) c.in_ok-merge.ensures.merged in
-    bags_more c.args.measures.now c.loop-place.measures c.args.more.now c.loop-place.place c.merge.new.self c.loop-place.invariant inside added
+    AddsBags-more c.args.measures.now c.loop-place.measures c.args.more.now c.loop-place.place c.merge.new.self c.loop-place.invariant inside added
 
 pub returns-clause-sizes : goal.returns-clause-sizes
-returns-clause-sizes c = sizes_added c.args.measures.now c.loop-place.measures c.args.more.now c.loop-place.place c.loop-place.invariant
+returns-clause-sizes c = AddsBags-bound c.args.measures.now c.loop-place.measures c.args.more.now c.loop-place.place c.loop-place.invariant

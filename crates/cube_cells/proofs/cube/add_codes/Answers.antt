@@ -3,7 +3,7 @@ use Rattle.std.proofs.lemmas.List.{get_or_default, get_or_read, get_or-map, get_
 use Rattle.std.proofs.lemmas.List.Elements.{All-set}
 use Rattle.cube_core.specs.declared.key.Coord.TheVariants as coord
 use Rattle.cube_cells.specs.Codes.{IsCodeOf, IsDictionary, is_code, coord_of_value, texts_with}
-use Rattle.cube_cells.proofs.CodeLaws.{codes_more, codes_kept, valid_more, valid_kept, texts_more}
+use Rattle.cube_cells.proofs.CodeLaws.{AreCodesOf-more, AreCodesOf-set, are_codes-more, are_codes-set, AddsTextsBelow-more}
 use Rattle.cube_cells.proofs.cube.add_codes.Goals as goal
 
 pub loop-place-preserved : goal.loop-place-preserved
@@ -26,8 +26,8 @@ loop-place-preserved c =
     let added : texts ≡ texts_with (get_or dims i None) (get_or old i []) = c.in_ok-codes.ensures.texts ∙ ap (texts_with c.value-item.result) (get_or_default old i c.index-dictionaries-place.result [] room) ∙ ap (λ (v : Option (List ℕ)). texts_with v (get_or old i [])) value in
     record {
       eight = omega (arith, length-set c.loop-place.codes i code);
-      codes = codes_more new coords c.loop-place.codes i code (codes_kept old texts coords c.loop-place.codes i c.loop-place.invariant.codes) more (omega (arith, length-map dims coord_of_value, length-set old i texts, c.requires.width)) (omega arith) of;
-      valid = valid_more new c.loop-place.codes i code (valid_kept old texts c.loop-place.codes i c.loop-place.invariant.valid) more (omega arith) valid;
-      texts = texts_more i dims c.args.dictionaries.now old texts room added c.loop-place.invariant.texts;
+      codes = AreCodesOf-more new coords c.loop-place.codes i code (AreCodesOf-set old texts coords c.loop-place.codes i c.loop-place.invariant.codes) more (omega (arith, length-map dims coord_of_value, length-set old i texts, c.requires.width)) (omega arith) of;
+      valid = are_codes-more new c.loop-place.codes i code (are_codes-set old texts c.loop-place.codes i c.loop-place.invariant.valid) more (omega arith) valid;
+      texts = AddsTextsBelow-more i dims c.args.dictionaries.now old texts room added c.loop-place.invariant.texts;
       dictionaries = λ all. All-set IsDictionary old i texts c.in_ok-codes.ensures.dictionary (c.loop-place.invariant.dictionaries all);
     }

@@ -2,7 +2,7 @@ use Rattle.std.proofs.Common.{◌<◌, ◌∙◌, length, get_or, map, None, [],
 use Rattle.std.proofs.lemmas.List.{get_or_read, get_or-map, length-map, length-set}
 use Rattle.cube_core.specs.declared.key.Coord.TheVariants as coord
 use Rattle.cube_cells.specs.Codes.{IsCodeOf, coord_of_value}
-use Rattle.cube_cells.proofs.CodeLaws.{codes_more, codes_end}
+use Rattle.cube_cells.proofs.CodeLaws.{AreCodesOf-more, AreCodesOf-all}
 use Rattle.cube_cells.proofs.cube.codes_of_values.Goals as goal
 
 pub loop-place-preserved : goal.loop-place-preserved
@@ -16,8 +16,8 @@ loop-place-preserved c =
     let of : IsCodeOf (get_or c.args.dictionaries.now i []) (get_or coords i coord.All) c.code_of_value.result = rw (← dictionary, ← coordinate) c.code_of_value.ensures in
     record {
       eight = omega (arith, length-set c.loop-place.codes i c.code_of_value.result);
-      codes = codes_more c.args.dictionaries.now coords c.loop-place.codes i c.code_of_value.result c.loop-place.invariant.codes (omega arith) (length-map c.args.values.now coord_of_value ∙ c.requires.width) (omega arith) of;
+      codes = AreCodesOf-more c.args.dictionaries.now coords c.loop-place.codes i c.code_of_value.result c.loop-place.invariant.codes (omega arith) (length-map c.args.values.now coord_of_value ∙ c.requires.width) (omega arith) of;
     }
 
 pub returns-clause-codes : goal.returns-clause-codes
-returns-clause-codes c = codes_end c.args.dictionaries.now (map coord_of_value c.args.values.now) c.loop-place.codes c.loop-place.place (omega arith) (omega (arith, length-map c.args.values.now coord_of_value)) c.loop-place.invariant.codes
+returns-clause-codes c = AreCodesOf-all c.args.dictionaries.now (map coord_of_value c.args.values.now) c.loop-place.codes c.loop-place.place (omega arith) (omega (arith, length-map c.args.values.now coord_of_value)) c.loop-place.invariant.codes

@@ -1,8 +1,8 @@
 use Rattle.std.proofs.Common.{arith, ◌≡◌, ◌≤◌, ◌∙◌, [], sym, ap, length, get_or, map, vec_len}
 use Rattle.std.proofs.lemmas.List.{get_or-map, length-map}
 use Rattle.cube_core.proofs.ListLaws.{AllZip-length}
-use Rattle.cube_threads.specs.Starting.{HasGathered}
-use Rattle.cube_threads.specs.Wiring.{coming_of}
+use Rattle.cube_feeders.specs.Starting.{HasGathered}
+use Rattle.cube_feeders.specs.Wiring.{coming_of}
 use Rattle.cube_threads.proofs.RunLaws.{ready-linked, ends-joined, tell-run, takes-settled, if_ok-then, on_ok-then, if_err-then}
 use Rattle.cube_threads.proofs.TakeLaws.{fit-tell, good-all, explains-stops}
 use Rattle.cube_engine.proofs.FeedLaws.{OnOk-holds}

@@ -2,8 +2,8 @@ use Rattle.std.proofs.Common.{arith, ◌<◌, refl, sym, subst, List, map, lengt
 use Rattle.std.proofs.lemmas.List.{length-map}
 use Rattle.cube_link.specs.Link.{Sending}
 use Rattle.cube_threads.specs.Settling.{received_by, FitLinks}
-use Rattle.cube_threads.specs.declared.parcel.Parcel.{Parcel}
-use Rattle.cube_threads.specs.declared.parcel.FeederEnd.{FeederEnd}
+use Rattle.cube_feeders.specs.declared.parcel.Parcel.{Parcel}
+use Rattle.cube_feeders.specs.declared.parcel.FeederEnd.{FeederEnd}
 use Rattle.cube_threads.proofs.SettleLaws.{row-at, all_held-more, length-all_held}
 use Rattle.cube_threads.proofs.settling.hold_all.Goals as goal
 

@@ -3,7 +3,7 @@ use Rattle.std.proofs.lemmas.List.{take_more}
 use Rattle.cube_core.specs.declared.key.Key.{Key}
 use Rattle.cube_cells.specs.Tally.{Tally}
 use Rattle.cube_cells.specs.Rows.{IsRowOf}
-use Rattle.cube_tool.proofs.LineLaws.{rows_added}
+use Rattle.cube_tool.proofs.LineLaws.{AddsText-row_line}
 use Rattle.cube_core.proofs.ListLaws.{AllZip-push}
 use Rattle.cube_tool.proofs.print.put_cells.Goals as goal
 
@@ -18,5 +18,5 @@ loop-place-preserved c =
     rw (take_more o.cells i unused inside) (record {
       rows = before.rows ++ row ∷ [];
       are_rows = AllZip-push (IsRowOf o.aggregates) (take i o.cells) before.rows (get_or o.cells i unused) row before.are_rows (c.in_ok-row.ensures unused);
-      added = rows_added before.rows row _ _ _ before.added c.in_ok-put_row.ensures;
+      added = AddsText-row_line before.rows row _ _ _ before.added c.in_ok-put_row.ensures;
     })

@@ -1,13 +1,13 @@
 use Rattle.std.proofs.Common.{rules, arith, ◌≡◌, ◌<◌, ◌^◌, sym}
-use Rattle.cube_cells.proofs.MergeLaws.{bags_copied, fits_copied, within_copied}
-use Rattle.cube_cells.proofs.ValueLaws.{written_back}
+use Rattle.cube_cells.proofs.MergeLaws.{AddsBags-SameBags, AreWithin-room_empty, AreWithin-both_empty}
+use Rattle.cube_cells.proofs.ValueLaws.{take-append-drop}
 use Rattle.cube_cells.proofs.cell.Cell.copy.Goals as goal
 
 pub merge_measures-requires-clause-fits : goal.merge_measures-requires-clause-fits
 merge_measures-requires-clause-fits c =
     let few : c.count-facts.result < 2 ^ 64 = search rules in
     let is : c.count-facts.result ≡ c.self.inside.facts = search rules in
-    rw (c.deref_mut.ensures.value, c.deref.ensures.value) (λ m. omega (arith, few, is, fits_copied c.self.inside.facts c.in_ok-measures.measures.items c.self.inside.measures.items c.in_ok-measures.ensures.empty c.self.invariant m))
+    rw (c.deref_mut.ensures.value, c.deref.ensures.value) (λ m. omega (arith, few, is, AreWithin-room_empty c.self.inside.facts c.in_ok-measures.measures.items c.self.inside.measures.items c.in_ok-measures.ensures.empty c.self.invariant m))
 
 pub invariant_of-result : goal.invariant_of-result
 invariant_of-result c =
@@ -16,9 +16,9 @@ invariant_of-result c =
     let more = c.self.inside.measures.items in
     let sizes = rw (c.deref_mut.ensures.value, c.deref.ensures.value) at c.in_ok-merge_measures.ensures.sizes in
     let width = rw c.deref_mut.ensures.value at c.in_ok-merge_measures.ensures.width in
-    let same = written_back empty new c.in_ok-measures.measures.len (search rules) width in
+    let same = take-append-drop empty new c.in_ok-measures.measures.len (search rules) width in
     let is : c.count-facts.result ≡ c.self.inside.facts = search rules in
-    rw (same, is) (within_copied c.self.inside.facts empty new more c.in_ok-measures.ensures.empty c.self.invariant sizes)
+    rw (same, is) (AreWithin-both_empty c.self.inside.facts empty new more c.in_ok-measures.ensures.empty c.self.invariant sizes)
 
 pub returns : goal.returns
 returns c =
@@ -27,6 +27,6 @@ returns c =
     let more = c.self.inside.measures.items in
     let adds = rw (c.deref_mut.ensures.value, c.deref.ensures.value) at c.in_ok-merge_measures.ensures.merged in
     let width = rw c.deref_mut.ensures.value at c.in_ok-merge_measures.ensures.width in
-    let same = written_back empty new c.in_ok-measures.measures.len (search rules) width in
+    let same = take-append-drop empty new c.in_ok-measures.measures.len (search rules) width in
     let is : c.count-facts.result ≡ c.self.inside.facts = search rules in
-    rw (← c.self.view_is, same) (record { facts = sym is; bags = bags_copied empty new more (search rules) c.in_ok-measures.ensures.empty adds })
+    rw (← c.self.view_is, same) (record { facts = sym is; bags = AddsBags-SameBags empty new more (search rules) c.in_ok-measures.ensures.empty adds })

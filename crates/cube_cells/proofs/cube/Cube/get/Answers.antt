@@ -1,5 +1,5 @@
 use Rattle.std.proofs.Common.{rules, sym, ◌∙◌, ◌≡◌, length}
-use Rattle.cube_cells.proofs.KeyLaws.{HasCodes, look_up-coded, no_cell-width, some_copied, found_width}
+use Rattle.cube_cells.proofs.KeyLaws.{HasCodes, look_up-coded, no_cell-width, IfSome-option_copied, coded_at-width}
 use Rattle.cube_cells.proofs.cube.Cube.get.Goals as goal
 
 pub returns-then-len-clause-cell : goal.returns-then-len-clause-cell
@@ -14,4 +14,4 @@ returns-clause-cell c =
     rw (← c.self.view_is) (c.get.ensures.value ∙ sym (look_up-coded c.self.inside.dictionaries.items (length c.self.inside.schema.measures) c.self.inside.cells.entries c.args.key.now c.codes_of_coords-codes.result has c.self.invariant.each))
 
 pub returns-clause-width : goal.returns-clause-width
-returns-clause-width c = rw (← c.self.view_is) (some_copied (λ t. length t.bags ≡ length c.self.inside.schema.measures) c.get.result _ c.get.ensures.value (found_width c.self.inside.dictionaries.items (length c.self.inside.schema.measures) c.self.inside.cells.entries c.codes_of_coords-codes.result c.self.invariant.each))
+returns-clause-width c = rw (← c.self.view_is) (IfSome-option_copied (λ t. length t.bags ≡ length c.self.inside.schema.measures) c.get.result _ c.get.ensures.value (coded_at-width c.self.inside.dictionaries.items (length c.self.inside.schema.measures) c.self.inside.cells.entries c.codes_of_coords-codes.result c.self.invariant.each))

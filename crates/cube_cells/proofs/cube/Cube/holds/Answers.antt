@@ -1,8 +1,8 @@
 use Rattle.std.proofs.Common.{arith, refl, sym, ◌≡◌, true}
 use Rattle.cube_core.specs.Takes.{fits}
-use Rattle.cube_cells.proofs.CubeLaws.{cube_holds}
+use Rattle.cube_cells.proofs.CubeLaws.{HoldsFact-IsCubeOf}
 use Rattle.cube_cells.proofs.KeyLaws.{HasFactCodes}
-use Rattle.cube_cells.proofs.CodedLaws.{coded_fact, holds_is}
+use Rattle.cube_cells.proofs.CodedLaws.{IsCodedFact-IsCoded, cell_holds-HoldsFact}
 use Rattle.cube_cells.proofs.cube.Cube.holds.Goals as goal
 
 pub returns-clause-held : goal.returns-clause-held
@@ -15,10 +15,10 @@ returns-clause-held c =
     let codes = c.codes_of_values-codes.result in
     let fit : fits schema c.args.fact.now ≡ true = sym c.if-not-fits.ensures in
     let has : HasFactCodes dictionaries c.args.fact.now codes = record { are = rw (c.deref.ensures.value, c.as_slice.ensures) at c.codes_of_values-codes.ensures.codes; eight = c.codes_of_values-codes.ensures.eight } in
-    let of = coded_fact schema sets facts dictionaries dictionaries cells c.args.fact.now codes c.self.invariant fit refl c.self.invariant.texts has in
-    let is = holds_is schema sets facts dictionaries cells c.args.fact.now codes c.self.invariant fit (omega arith) of in
+    let of = IsCodedFact-IsCoded schema sets facts dictionaries dictionaries cells c.args.fact.now codes c.self.invariant fit refl c.self.invariant.texts has in
+    let is = cell_holds-HoldsFact schema sets facts dictionaries cells c.args.fact.now codes c.self.invariant fit (omega arith) of in
     let result = rw (c.as_slice-2.ensures, c.deref-2.ensures.value) at c.hold_in_sets.ensures in
     rw (← c.self.view_is, result) is
 
 pub returns-clause-cube : goal.returns-clause-cube
-returns-clause-cube c = λ facts fit cube some. (returns-clause-held c).1 (cube_holds c.args.fact.now c.args.self.now facts fit some cube)
+returns-clause-cube c = λ facts fit cube some. (returns-clause-held c).1 (HoldsFact-IsCubeOf c.args.fact.now c.args.self.now facts fit some cube)

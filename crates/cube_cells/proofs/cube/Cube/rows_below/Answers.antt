@@ -3,7 +3,7 @@ use Rattle.std.proofs.lemmas.Result.{IfOk-weaker}
 use Rattle.cube_core.specs.Query.{drills_down}
 use Rattle.cube_cells.specs.Cube.{Lattice}
 use Rattle.cube_cells.specs.Rows.{AreWantsOf, AreWantsBelow}
-use Rattle.cube_cells.proofs.DrillLaws.{wants_drill_down}
+use Rattle.cube_cells.proofs.DrillLaws.{AreWantsOf-drills_down}
 use Rattle.cube_cells.proofs.cube.Cube.rows_below.Goals as goal
 
 pub wants_below-requires : goal.wants_below-requires
@@ -20,5 +20,5 @@ returns c =
     let below : dim < length c.self.inside.schema.dimensions = omega (arith, c.requires.dim, ap (λ (l : Lattice). length l.schema.dimensions) c.self.view_is) in
     let long : length c.in_ok-wants.wants.items ≡ length dictionaries = rw c.deref.ensures.value at c.in_ok-wants.ensures.long in
     let wants : AreWantsBelow dictionaries dim key.coords c.in_ok-wants.wants.items = rw (c.deref.ensures.value, c.as_slice.ensures) at c.in_ok-wants.ensures.wants in
-    let are : AreWantsOf c.args.self.now.dictionaries (drills_down dim key) c.in_ok-wants.wants.items = rw (← c.self.view_is) (wants_drill_down dictionaries key c.in_ok-wants.wants.items dim c.self.invariant.texts (wide ∙ sym c.self.invariant.lattice.dictionaries) long (omega (arith, below, c.self.invariant.lattice.dictionaries)) c.requires.rolled wants) in
+    let are : AreWantsOf c.args.self.now.dictionaries (drills_down dim key) c.in_ok-wants.wants.items = rw (← c.self.view_is) (AreWantsOf-drills_down dictionaries key c.in_ok-wants.wants.items dim c.self.invariant.texts (wide ∙ sym c.self.invariant.lattice.dictionaries) long (omega (arith, below, c.self.invariant.lattice.dictionaries)) c.requires.rolled wants) in
     IfOk-weaker c.few_rows_where.result _ _ (λ rows given. given (drills_down dim key) (rw c.deref-2.ensures.value are)) c.few_rows_where.ensures

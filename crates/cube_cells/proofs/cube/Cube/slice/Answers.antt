@@ -2,8 +2,8 @@ use Rattle.std.proofs.Common.{◌≡◌, ◌≤◌, length, arith, ap, List, ℕ
 use Rattle.std.proofs.lemmas.Result.{IfOk-weaker}
 use Rattle.cube_core.specs.Query.{matches}
 use Rattle.cube_cells.specs.Rows.{AreWantsOf, AreWantsMatched}
-use Rattle.cube_cells.proofs.RowLaws.{no_rows, rows_of_cube}
-use Rattle.cube_cells.proofs.SliceLaws.{no_match, wants_slice}
+use Rattle.cube_cells.proofs.RowLaws.{AreRowsOf-nil, AreRowsWhere-IsCubeOf}
+use Rattle.cube_cells.proofs.SliceLaws.{matches-length, AreWantsOf-AreWantsMatched}
 use Rattle.cube_cells.proofs.cube.Cube.slice.Goals as goal
 
 -- a pattern of another width matches no cell
@@ -12,12 +12,12 @@ returns-then-wanted-len-clause-rows c =
     let dictionaries = c.self.inside.dictionaries.items in
     let pattern = c.args.pattern.now in
     let room : length dictionaries ≤ 8 = omega (arith, c.self.invariant.lattice.dictionaries, c.self.invariant.lattice.schema.dimensions_at_most) in
-    rw (← c.self.view_is, c.new.ensures.items) (no_rows dictionaries (length c.self.inside.schema.measures) (matches pattern) c.self.inside.schema.aggregates c.self.inside.cells.entries
+    rw (← c.self.view_is, c.new.ensures.items) (AreRowsOf-nil dictionaries (length c.self.inside.schema.measures) (matches pattern) c.self.inside.schema.aggregates c.self.inside.cells.entries
     c.self.invariant.texts room c.self.invariant.each c.self.invariant.distinct
-    (λ codes. no_match dictionaries pattern codes (λ same. c.if-wanted-len.true (omega (arith, ap (λ ws. length ws) c.wanted-wanted.ensures, same, c.len.ensures)))))
+    (λ codes. matches-length dictionaries pattern codes (λ same. c.if-wanted-len.true (omega (arith, ap (λ ws. length ws) c.wanted-wanted.ensures, same, c.len.ensures)))))
 
 pub returns-then-wanted-len-clause-cube : goal.returns-then-wanted-len-clause-cube
-returns-then-wanted-len-clause-cube c = λ facts cube. rows_of_cube (matches c.args.pattern.now) c.args.self.now facts c.new.result.items cube (returns-then-wanted-len-clause-rows c)
+returns-then-wanted-len-clause-cube c = λ facts cube. AreRowsWhere-IsCubeOf (matches c.args.pattern.now) c.args.self.now facts c.new.result.items cube (returns-then-wanted-len-clause-rows c)
 
 pub wants_of-requires : goal.wants_of-requires
 wants_of-requires c = omega (arith, c.if-wanted-len.false, c.len.ensures, ap (λ (ts : List (List (List ℕ))). length ts) c.deref.ensures.value)
@@ -30,9 +30,9 @@ returns-clause-rows c =
     let wide : length pattern ≡ length dictionaries = omega (arith, ap (λ ws. length ws) c.wanted-wanted.ensures, c.if-wanted-len.false, c.len.ensures) in
     let long : length wants ≡ length dictionaries = rw c.deref.ensures.value at c.in_ok-wants.ensures.long in
     let matched : AreWantsMatched dictionaries pattern wants = rw (c.deref.ensures.value, c.wanted-wanted.ensures) at c.in_ok-wants.ensures.wants in
-    let are : AreWantsOf c.args.self.now.dictionaries (matches pattern) wants = rw (← c.self.view_is) (wants_slice dictionaries pattern wants wide long matched) in
+    let are : AreWantsOf c.args.self.now.dictionaries (matches pattern) wants = rw (← c.self.view_is) (AreWantsOf-AreWantsMatched dictionaries pattern wants wide long matched) in
     IfOk-weaker c.rows_where.result _ _ (λ rows given. given (matches pattern) (rw c.deref-2.ensures.value are)) c.rows_where.ensures
 
 pub returns-clause-cube : goal.returns-clause-cube
 returns-clause-cube c =
-    IfOk-weaker c.rows_where.result _ _ (λ rows are. λ facts cube. rows_of_cube (matches c.args.pattern.now) c.args.self.now facts rows.items cube are) (returns-clause-rows c)
+    IfOk-weaker c.rows_where.result _ _ (λ rows are. λ facts cube. AreRowsWhere-IsCubeOf (matches c.args.pattern.now) c.args.self.now facts rows.items cube are) (returns-clause-rows c)

@@ -1,13 +1,13 @@
 use Rattle.std.proofs.Common.{◌==◌}
 use Rattle.cube_cells.specs.Fill.{AreMadeFrom}
-use Rattle.cube_cells.proofs.FillLaws.{made_width, new_found}
+use Rattle.cube_cells.proofs.FillLaws.{AreMadeFrom-width, AreNewCells-width}
 use Rattle.cube_cells.proofs.cube.fill.cells_from.Goals as goal
 
 pub fill_set-requires : goal.fill_set-requires
 fill_set-requires c = record {
   measures = c.args.measures;
   each = c.requires;
-  found = new_found (c.args.set == 0) c.args.measures c.in_ok-cells.cells.entries c.in_ok-cells.ensures;
+  found = AreNewCells-width (c.args.set == 0) c.args.measures c.in_ok-cells.cells.entries c.in_ok-cells.ensures;
 }
 
 pub returns-clause-width : goal.returns-clause-width
@@ -17,4 +17,4 @@ returns-clause-width c =
       new = c.in_ok-cells.ensures;
       fills = c.in_ok-fill_set.ensures;
     } in
-    made_width c.args.measures c.args.set c.args.finer.now.entries c.fill_set.new.cells.entries c.requires made
+    AreMadeFrom-width c.args.measures c.args.set c.args.finer.now.entries c.fill_set.new.cells.entries c.requires made

@@ -3,19 +3,19 @@ use Rattle.std.proofs.lemmas.List.{append-nil}
 use Rattle.std.proofs.lemmas.Result.{IfOk-weaker}
 use Rattle.cube_cells.specs.Coded.{CodedCells}
 use Rattle.cube_cells.specs.Fill.{AreFilled, AreJoined}
-use Rattle.cube_cells.proofs.LevelLaws.{finer_than_first, finer_than_all}
+use Rattle.cube_cells.proofs.LevelLaws.{IsFiner-before, IsFiner-all}
 use Rattle.cube_cells.proofs.cube.fill.filled_cells.Goals as goal
 use Rattle.cube_cells.proofs.cube.fill.filled_cells.Goals.{in_default-via-in-Some+else-last-finest, in_default-via-in_default}
 
 pub levels_from-requires-clause-finer : goal.levels_from-requires-clause-finer
 levels_from-requires-clause-finer c =
     let is : c.args.sets.now ≡ c.in-Some.coarser.now ++ c.args.finest.set ∷ [] = c.in-Some.ensures.cases.0 ∙ ap (λ (s : ℕ). c.in-Some.coarser.now ++ s ∷ []) c.if-last-finest.true in
-    finer_than_first c.args.finest.set c.args.sets.now c.in-Some.coarser.now is c.requires.within c.requires.ascending
+    IsFiner-before c.args.finest.set c.args.sets.now c.in-Some.coarser.now is c.requires.within c.requires.ascending
 
 pub levels_from-requires-in_default-clause-finer : goal.levels_from-requires-in_default-clause-finer
 levels_from-requires-in_default-clause-finer c = elim c.in_default.branch [
   | in_default-via-in-Some+else-last-finest w ↦
-      finer_than_all c.args.finest.set w.in-Some.last.now c.args.sets.now w.in-Some.coarser.now w.in-Some.ensures.cases.0 w.if-last-finest.false c.requires.within c.requires.ascending
+      IsFiner-all c.args.finest.set w.in-Some.last.now c.args.sets.now w.in-Some.coarser.now w.in-Some.ensures.cases.0 w.if-last-finest.false c.requires.within c.requires.ascending
   | in_default-via-in_default w ↦
       let none : length c.args.sets.now ≡ 0 = search rules in
       λ k d inside. absurd (omega (arith, none, inside))

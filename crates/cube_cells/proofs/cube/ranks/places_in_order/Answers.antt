@@ -3,7 +3,7 @@ use Rattle.std.specs.List.{range_with_len}
 use Rattle.std.specs.List.Sorted.{IsPermutation}
 use Rattle.std.proofs.lemmas.Cmp.{nat_list_cmp_total}
 use Rattle.cube_core.proofs.SetLaws.{range_with_len-more}
-use Rattle.cube_cells.proofs.RankLaws.{in_order, sorted_by}
+use Rattle.cube_cells.proofs.RankLaws.{AreInOrder-IsSortedBy, IsSortedBy-key}
 use Rattle.cube_cells.proofs.cube.ranks.places_in_order.Goals as goal
 
 pub loop-place-preserved : goal.loop-place-preserved
@@ -16,4 +16,4 @@ returns-clause-order c =
     let texts = c.args.dictionary.now in
     let whole : c.loop-place.places.items ≡ range_with_len 0 (length texts) = search (rules, arith) in
     let moved : IsPermutation (range_with_len 0 (length texts)) c.sort_unstable_by.new.self.items = subst (λ (places : List ℕ). IsPermutation places c.sort_unstable_by.new.self.items) whole c.sort_unstable_by.ensures.permutation in
-    in_order texts c.sort_unstable_by.new.self.items moved (sorted_by nat_list_cmp_total (λ a. get_or texts a []) c.sort_unstable_by.new.self.items c.sort_unstable_by.ensures.sorted (λ a r q k. search rules))
+    AreInOrder-IsSortedBy texts c.sort_unstable_by.new.self.items moved (IsSortedBy-key nat_list_cmp_total (λ a. get_or texts a []) c.sort_unstable_by.new.self.items c.sort_unstable_by.ensures.sorted (λ a r q k. search rules))

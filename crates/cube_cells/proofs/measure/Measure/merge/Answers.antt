@@ -2,15 +2,15 @@ use Rattle.std.proofs.Common.{rules, arith, ap, FitsSigned, ◌<◌, ◌^◌, �
 use Rattle.std.specs.Prelude.{◌+ℤ◌}
 use Rattle.std.specs.Int.{w128}
 use Rattle.std.proofs.lemmas.Int.{to_z-of_z}
-use Rattle.cube_cells.specs.Bag.{AddsBag, size_of}
-use Rattle.cube_cells.proofs.BagLaws.{held_le_size, size_of-bag}
-use Rattle.cube_cells.proofs.SumLaws.{sum_fits, sum_joined, sum_of_nothing}
+use Rattle.cube_counts.specs.Bag.{AddsBag, size_of}
+use Rattle.cube_counts.proofs.BagLaws.{held_le_size, size_of-bag}
+use Rattle.cube_cells.proofs.SumLaws.{IsSumOf-FitsSigned, IsSumOf-join, IsSumOf-nothing}
 use Rattle.cube_cells.proofs.measure.Measure.merge.Goals as goal
 
 pub invariant_of-self : goal.invariant_of-self
 invariant_of-self c =
     let none : size_of c.merge.new.self ≡ 0 = search rules in
-    sum_of_nothing c.merge.new.self (λ x. omega (arith, none, held_le_size c.merge.new.self x))
+    IsSumOf-nothing c.merge.new.self (λ x. omega (arith, none, held_le_size c.merge.new.self x))
 
 pub sum_of_both-self-inside-requires : goal.sum_of_both-self-inside-requires
 sum_of_both-self-inside-requires c =
@@ -18,7 +18,7 @@ sum_of_both-self-inside-requires c =
     let other : FitsSigned w128 c.more.inside.sum = search rules in
     let adds : AddsBag c.self.inside.values c.merge.new.self c.more.inside.values = search rules in
     let few : size_of c.merge.new.self < 2 ^ 64 = omega (arith, c.requires, ap size_of c.self.view_is, ap size_of c.more.view_is, size_of-bag c.self.inside.values c.merge.new.self c.more.inside.values adds) in
-    simp to_z-of_z (sum_fits c.merge.new.self (c.self.inside.sum +ℤ c.more.inside.sum) (sum_joined c.self.inside.values c.merge.new.self c.more.inside.values c.self.inside.sum c.more.inside.sum c.self.invariant c.more.invariant adds) few)
+    simp to_z-of_z (IsSumOf-FitsSigned c.merge.new.self (c.self.inside.sum +ℤ c.more.inside.sum) (IsSumOf-join c.self.inside.values c.merge.new.self c.more.inside.values c.self.inside.sum c.more.inside.sum c.self.invariant c.more.invariant adds) few)
 
 pub invariant_of-self-2 : goal.invariant_of-self-2
 invariant_of-self-2 c =
@@ -27,4 +27,4 @@ invariant_of-self-2 c =
     let adds : AddsBag c.self.inside.values c.merge.new.self c.more.inside.values = search rules in
     let result_fits : FitsSigned w128 c.sum_of_both-self-inside.result = search rules in
     let is = simp to_z-of_z at c.sum_of_both-self-inside.ensures in
-    simp to_z-of_z (rw is (sum_joined c.self.inside.values c.merge.new.self c.more.inside.values c.self.inside.sum c.more.inside.sum c.self.invariant c.more.invariant adds))
+    simp to_z-of_z (rw is (IsSumOf-join c.self.inside.values c.merge.new.self c.more.inside.values c.self.inside.sum c.more.inside.sum c.self.invariant c.more.invariant adds))

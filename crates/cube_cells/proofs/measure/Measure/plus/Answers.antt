@@ -2,9 +2,9 @@ use Rattle.std.proofs.Common.{rules, arith, ap, FitsSigned, ◌<◌, ◌^◌}
 use Rattle.std.specs.Prelude.{◌+ℤ◌}
 use Rattle.std.specs.Int.{w64, w128}
 use Rattle.std.proofs.lemmas.Int.{to_z-of_z}
-use Rattle.cube_cells.specs.Bag.{AddsOne, size_of}
-use Rattle.cube_cells.proofs.BagLaws.{size_of_one}
-use Rattle.cube_cells.proofs.SumLaws.{sum_fits, sum_added}
+use Rattle.cube_counts.specs.Bag.{AddsOne, size_of}
+use Rattle.cube_counts.proofs.BagLaws.{size_of_one}
+use Rattle.cube_cells.proofs.SumLaws.{IsSumOf-FitsSigned, IsSumOf-add}
 use Rattle.cube_cells.proofs.measure.Measure.plus.Goals as goal
 
 pub sum_with-self-inside-requires : goal.sum_with-self-inside-requires
@@ -13,7 +13,7 @@ sum_with-self-inside-requires c =
     let before : FitsSigned w128 c.self.inside.sum = search rules in
     let adds : AddsOne c.self.inside.values c.add.new.self c.in-Some.value = search rules in
     let few : size_of c.add.new.self < 2 ^ 64 = omega (arith, c.requires, ap size_of c.self.view_is, size_of_one c.self.inside.values c.add.new.self c.in-Some.value adds) in
-    simp to_z-of_z (sum_fits c.add.new.self (c.self.inside.sum +ℤ c.in-Some.value) (sum_added c.self.inside.values c.add.new.self c.self.inside.sum c.in-Some.value c.self.invariant fits adds) few)
+    simp to_z-of_z (IsSumOf-FitsSigned c.add.new.self (c.self.inside.sum +ℤ c.in-Some.value) (IsSumOf-add c.self.inside.values c.add.new.self c.self.inside.sum c.in-Some.value c.self.invariant fits adds) few)
 
 pub invariant_of-self-in-Some : goal.invariant_of-self-in-Some
 invariant_of-self-in-Some c =
@@ -22,4 +22,4 @@ invariant_of-self-in-Some c =
     let result_fits : FitsSigned w128 c.sum_with-self-inside.result = search rules in
     let before : FitsSigned w128 c.self.inside.sum = search rules in
     let is = simp to_z-of_z at c.sum_with-self-inside.ensures in
-    simp to_z-of_z (rw is (sum_added c.self.inside.values c.add.new.self c.self.inside.sum c.in-Some.value c.self.invariant fits adds))
+    simp to_z-of_z (rw is (IsSumOf-add c.self.inside.values c.add.new.self c.self.inside.sum c.in-Some.value c.self.invariant fits adds))

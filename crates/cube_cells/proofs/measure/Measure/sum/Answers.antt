@@ -2,17 +2,17 @@ use Rattle.std.proofs.Common.{rules, arith, ◌≡◌, ◌<◌, FitsSigned}
 use Rattle.std.specs.Int.{w128}
 use Rattle.std.proofs.lemmas.Bool.Decides.{nat_tests}
 use Rattle.std.proofs.lemmas.Int.{to_z-of_z}
-use Rattle.cube_cells.specs.Bag.{size_of}
-use Rattle.cube_cells.proofs.TallyLaws.{sum_of_none, sum_of_some}
+use Rattle.cube_counts.specs.Bag.{size_of}
+use Rattle.cube_cells.proofs.TallyLaws.{IsSum-Null, IsSum-Whole}
 use Rattle.cube_cells.proofs.measure.Measure.sum.Goals as goal
 
 pub returns-then-is_empty : goal.returns-then-is_empty
 returns-then-is_empty c = λ values is.
     let none : size_of c.self.inside.values ≡ 0 = grind (arith, nat_tests) in
-    sum_of_none values c.self.inside.values (rw c.self.view_is is) none
+    IsSum-Null values c.self.inside.values (rw c.self.view_is is) none
 
 pub returns-else-is_empty : goal.returns-else-is_empty
 returns-else-is_empty c = λ values is.
     let fits : FitsSigned w128 c.self.inside.sum = search rules in
     let some : 0 < size_of c.self.inside.values = grind (arith, nat_tests) in
-    simp to_z-of_z (sum_of_some values c.self.inside.values c.self.inside.sum (rw c.self.view_is is) c.self.invariant some)
+    simp to_z-of_z (IsSum-Whole values c.self.inside.values c.self.inside.sum (rw c.self.view_is is) c.self.invariant some)

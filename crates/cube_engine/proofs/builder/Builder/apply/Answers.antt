@@ -4,7 +4,7 @@ use Rattle.cube_engine.proofs.BuilderLaws.{IsBuilder-refuse, StandsAt-Enters}
 use Rattle.cube_engine.proofs.RulingLaws.{AtSource-Obeys, AtSource-length, AtSource-put, AtSource-take, IsRemoval-refused, IsRemoval-puts}
 use Rattle.cube_engine.specs.Ledger.{account_of}
 use Rattle.cube_engine.specs.declared.ruling.Ruling.TheVariants.{Refuse, Put, Take}
-use Rattle.cube_cells.proofs.WalkLaws.{on_ok_both}
+use Rattle.cube_cells.proofs.WalkLaws.{OnOk-both}
 use Rattle.cube_engine.proofs.builder.Builder.apply.Goals as goal
 
 pub invariant_of-self : goal.invariant_of-self
@@ -30,7 +30,7 @@ returns-in-Put-clause-stands c =
     let last : c.args.source ≤ length old.accounts = rw (← c.self.view_is) at c.requires.last in
     let ruling = rw c.in-Put.is at c.in_ok-code.ensures.ruling in
     rw (← c.self.view_is)
-    (on_ok_both c.put.result
+    (OnOk-both c.put.result
     (λ put has. StandsAt-Enters (record { ledger = old; cube = c.self.inside.cube }) c.put.new.self c.args.source c.args.item c.requires.first last
     (AtSource-Obeys c.args.item c.args.source old c.put.new.self.ledger (Put c.in-Put.id c.in-Put.fact) ruling
     (AtSource-put c.args.item.number c.in-Put.id put.0 c.in-Put.fact c.args.source old c.put.new.self.ledger put.1)) has)

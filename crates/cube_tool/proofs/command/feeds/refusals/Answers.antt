@@ -4,7 +4,7 @@ use Rattle.cube_core.specs.Arrival.{of_sources}
 use Rattle.cube_core.specs.Text.{text_of_refusals}
 use Rattle.cube_engine.specs.Ledger.{AccountView, LedgerView}
 use Rattle.cube_tool.specs.Answering.{ShowsRefusals}
-use Rattle.cube_tool.proofs.AnsweringLaws.{has_taken, first-builder, status-of, ends-with, leaves-part}
+use Rattle.cube_tool.proofs.AnsweringLaws.{HasTaken-BuildsParts, first-builder, status-of, ends-with, leaves-part}
 use Rattle.cube_tool.proofs.command.feeds.refusals.Goals as goal
 
 pub returns-clause-ok : goal.returns-clause-ok
@@ -14,7 +14,7 @@ returns-clause-ok g c =
     let built = c.in-Ok.built in
     let builds = c.in-Ok.ensures.ok in
     let feeds = of_sources (length told) builds.arrivals in
-    let taken = has_taken s told c.args.builders built c.requires.builders.0 builds in
+    let taken = HasTaken-BuildsParts s told c.args.builders built c.requires.builders.0 builds in
     let first = first-builder s told c.args.builders built c.builder-2.result.now c.requires.builders.0 builds c.builder-2.ensures in
     let first-0 = first-builder s told c.args.builders built c.builder.result.now c.requires.builders.0 builds c.builder.ensures in
     let shows : ShowsRefusals s feeds c.deref.result.now = c.deref.ensures.value ∙ c.in-Ok-print_refusals.ensures
@@ -30,7 +30,7 @@ returns-clause-err g c =
     let built = c.in-Ok.built in
     let builds = c.in-Ok.ensures.ok in
     let feeds = of_sources (length told) builds.arrivals in
-    let taken = has_taken s told c.args.builders built c.requires.builders.0 builds in
+    let taken = HasTaken-BuildsParts s told c.args.builders built c.requires.builders.0 builds in
     let first = first-builder s told c.args.builders built c.builder-2.result.now c.requires.builders.0 builds c.builder-2.ensures in
     let first-0 = first-builder s told c.args.builders built c.builder.result.now c.requires.builders.0 builds c.builder.ensures in
     let shows : ShowsRefusals s feeds c.deref.result.now = c.deref.ensures.value ∙ c.in-Ok-print_refusals.ensures

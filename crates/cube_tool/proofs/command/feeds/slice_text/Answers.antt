@@ -5,7 +5,7 @@ use Rattle.cube_core.specs.Layout.{Layout}
 use Rattle.cube_core.specs.Query.{AreRowsWhere, matches}
 use Rattle.cube_core.specs.Takes.{fits}
 use Rattle.cube_threads.specs.Parts.{facts_of_run}
-use Rattle.cube_tool.proofs.RowShapeLaws.{rows_where_have_shape}
+use Rattle.cube_tool.proofs.RowShapeLaws.{HasShapeOf-AreRowsWhere}
 use Rattle.cube_tool.proofs.command.feeds.slice_text.Goals as goal
 
 pub print_rows-requires : goal.print_rows-requires
@@ -15,7 +15,7 @@ print_rows-requires c =
     let test = matches c.args.pattern.now in
     let are : AreRowsWhere test s.grouping_sets (length s.dimensions) s.aggregates facts c.in_ok-rows.rows.items =
     subst (λ (l : Layout). AreRowsWhere test l.grouping_sets (length l.dimensions) l.aggregates facts c.in_ok-rows.rows.items) c.requires.schema c.in_ok-rows.ensures in
-    rw c.deref.ensures.value (rows_where_have_shape test s facts c.in_ok-rows.rows.items (list_all-from_AllPass (fits s) facts c.requires.fit) are)
+    rw c.deref.ensures.value (HasShapeOf-AreRowsWhere test s facts c.in_ok-rows.rows.items (list_all-from_AllPass (fits s) facts c.requires.fit) are)
 
 pub returns : goal.returns
 returns c =

@@ -1,28 +1,28 @@
 use Rattle.std.proofs.Common.{arith, subst, sym, ◌∙◌}
 use Rattle.cube_cells.specs.Codes.{IsDictionary}
-use Rattle.cube_cells.proofs.DictionaryLaws.{found_at, not_listed, listed_at, code_of_place, code_of_none, place_is_some}
+use Rattle.cube_cells.proofs.DictionaryLaws.{StandsAt-position, is_listed-position, is_listed-StandsAt, IsCodeOf-StandsAt, IsCodeOf-no_code, no_code-place}
 use Rattle.cube_cells.proofs.cube.dictionary.Dictionary.code_of_text.Goals as goal
 
 pub overflow_cast-result : goal.overflow_cast-result
 overflow_cast-result c =
     let is : IsDictionary c.args.self.now = subst IsDictionary c.self.view_is c.self.invariant in
-    let stands = found_at c.as_str.result.now c.args.self.now c.in-Some.place (sym c.in-Some.ensures) in
+    let stands = StandsAt-position c.as_str.result.now c.args.self.now c.in-Some.place (sym c.in-Some.ensures) in
     omega (arith, stands.below, is.few)
 
 pub returns-in-None : goal.returns-in-None
 returns-in-None c =
     let is : IsDictionary c.args.self.now = subst IsDictionary c.self.view_is c.self.invariant in
-    let unlisted = rw c.as_str.ensures.value at (not_listed c.as_str.result.now c.args.self.now (sym c.in-None.ensures)) in
+    let unlisted = rw c.as_str.ensures.value at (is_listed-position c.as_str.result.now c.args.self.now (sym c.in-None.ensures)) in
     record {
-      code = code_of_none c.args.self.now c.args.text.now is unlisted;
+      code = IsCodeOf-no_code c.args.self.now c.args.text.now is unlisted;
       listed = unlisted;
     }
 
 pub returns-in-Some : goal.returns-in-Some
 returns-in-Some c =
     let is : IsDictionary c.args.self.now = subst IsDictionary c.self.view_is c.self.invariant in
-    let stands = rw c.as_str.ensures.value at (found_at c.as_str.result.now c.args.self.now c.in-Some.place (sym c.in-Some.ensures)) in
+    let stands = rw c.as_str.ensures.value at (StandsAt-position c.as_str.result.now c.args.self.now c.in-Some.place (sym c.in-Some.ensures)) in
     record {
-      code = code_of_place c.args.self.now c.args.text.now c.in-Some.place is stands;
-      listed = listed_at c.args.text.now c.args.self.now c.in-Some.place stands ∙ place_is_some c.args.self.now c.in-Some.place is stands.below;
+      code = IsCodeOf-StandsAt c.args.self.now c.args.text.now c.in-Some.place is stands;
+      listed = is_listed-StandsAt c.args.text.now c.args.self.now c.in-Some.place stands ∙ no_code-place c.args.self.now c.in-Some.place is stands.below;
     }

@@ -1,0 +1,2 @@
+pub mod BagLaws
+pub mod LogLaws

@@ -1,0 +1,3 @@
+pub mod Bag
+pub mod Log
+pub mod Values

@@ -1,0 +1,330 @@
+//! A multiset of numbers.
+ghost use Rattle.std.specs.Prelude.{nat_lt, ◌==◌, ℤ, ◌≡◌, ◌<◌, ◌≤◌, ◌+◌, ◌^◌, ◌↔◌, All, IsTrue, IsNone, IfSome, IfOk, OnOk, OnErr};
+ghost use Rattle.std.specs.Bool.{OnTrue, OnFalse};
+ghost use Rattle.cube_counts.specs.Bag.{Bag, AddsBag, AddsOne, AddsTimes, held_of, size_of, HasLeast, HasGreatest};
+ghost use Rattle.cube_counts.specs.Values.{bag_of};
+
+use crate::log::Log;
+use crate::short::Short;
+use crate::single::Single;
+use crate::table::Table;
+use std::alloc::{AllocError, Global};
+use std::collections::HashMap;
+use std::marker::Model;
+
+/// A multiset of numbers: how often each is held.
+///
+/// A number that is held alone, however often, takes no memory of its own, and few numbers stand in a short list. More
+/// are a log of what was added until the first removal, which sorts it; the next add makes a hash table of it. So a log
+/// answers its least and greatest number at once, and looks at each of its pairs for `holds`. Where the numbers of a log
+/// repeat, a table takes its place too. `least` and `greatest` of a table look at each of the different numbers.
+#[derive(Drop)]
+pub struct Counted {
+    len: u64,
+    values: Values,
+    alloc: Global,
+}
+
+#[derive(Drop)]
+enum Values {
+    One(Single),
+    Few(Box<Short>),
+    Logged(Box<Log>),
+    Many(Box<Table>),
+}
+
+impl Model for Counted {
+    ghost use Rattle.std.specs.Prelude.{◌≡◌};
+    ghost use Rattle.cube_counts.specs.Bag.{Bag, size_of};
+
+    ghost Value = { Bag };
+
+    ghost use Rattle.cube_counts.specs.Values.{bag_of};
+
+    ghost view = { λ c. bag_of c.values };
+
+    ghost invariant = { λ c. c.len ≡ size_of (bag_of c.values) };
+}
+
+impl Counted {
+    /// An empty multiset; it takes no memory.
+    pub fn new(alloc: Global) -> Counted
+        ensures held { (v : ℤ) → held_of result v ≡ 0 }
+        ensures size { size_of result ≡ 0 }
+    {
+        Counted {
+            len: 0,
+            values: Values::One(Single::none()),
+            alloc,
+        }
+    }
+
+    /// Adds one `value`. Where memory is wanting, the multiset stays as it was.
+    #[tactic(auto, using(crate::proofs::BagLaws::size_of_once, crate::proofs::BagLaws::adds_once))]
+    pub fn add(&mut self, value: i64) -> Result<(), AllocError>
+        requires { size_of self.old + 1 < 2 ^ 64 }
+        ensures added { OnOk result (AddsOne self.old self.new value) }
+        ensures err { OnErr result (self.new ≡ self.old) }
+    {
+        add_value(self.alloc, &mut self.values, value, 1)?;
+        self.len += 1;
+        Ok(())
+    }
+
+    /// Adds all numbers of another multiset, each different one at once. Where memory is wanting, the multiset is
+    /// left empty.
+    pub fn merge(&mut self, more: &Counted) -> Result<(), AllocError>
+        requires { size_of self.old + size_of more.now < 2 ^ 64 }
+        ensures merged { OnOk result (AddsBag self.old self.new more.now) }
+        ensures err { OnErr result (size_of self.new ≡ 0) }
+    {
+        if let Err(error) = merge_values(self.alloc, &mut self.values, &more.values) {
+            *self = Counted::new(self.alloc);
+            return Err(error);
+        }
+        self.len += more.len;
+        Ok(())
+    }
+
+    /// Takes one `value` away; answers whether there was one. It takes no memory.
+    #[tactic(auto, using(crate::proofs::BagLaws::size_of_one, crate::proofs::BagLaws::held_before))]
+    pub fn remove(&mut self, value: i64) -> bool
+        ensures found { IsTrue result ↔ (0 < held_of self.old value) }
+        ensures taken { OnTrue result (AddsOne self.new self.old value) }
+        ensures unchanged { OnFalse result (self.new ≡ self.old) }
+        ensures size { size_of self.old < 2 ^ 64 }
+    {
+        let was_held = remove_value(&mut self.values, value);
+        if was_held {
+            self.len -= 1;
+        }
+        was_held
+    }
+
+    /// Whether `value` is held.
+    pub(crate) fn holds(&self, value: i64) -> bool
+        ensures { result ≡ nat_lt 0 (held_of self.now value) }
+    {
+        match &self.values {
+            Values::One(single) => single.holds(value),
+            Values::Few(short) => short.holds(value),
+            Values::Logged(log) => log.holds(value),
+            Values::Many(table) => table.holds(value),
+        }
+    }
+
+    /// The least number held. It looks at each of the different numbers.
+    pub fn least(&self) -> Option<i64>
+        ensures none { IsNone result ↔ (size_of self.now ≡ 0) }
+        ensures least { IfSome result (HasLeast self.now) }
+    {
+        match &self.values {
+            Values::One(single) => single.number(),
+            Values::Few(short) => short.least(),
+            Values::Logged(log) => log.least(),
+            Values::Many(table) => table.least(),
+        }
+    }
+
+    /// The greatest number held. It looks at each of the different numbers.
+    pub fn greatest(&self) -> Option<i64>
+        ensures none { IsNone result ↔ (size_of self.now ≡ 0) }
+        ensures greatest { IfSome result (HasGreatest self.now) }
+    {
+        match &self.values {
+            Values::One(single) => single.number(),
+            Values::Few(short) => short.greatest(),
+            Values::Logged(log) => log.greatest(),
+            Values::Many(table) => table.greatest(),
+        }
+    }
+
+    /// How many numbers are held, each counted as often as it is held.
+    #[tactic(auto, using(crate::proofs::BagLaws::held_le_size))]
+    pub fn len(&self) -> u64
+        ensures len { result ≡ size_of self.now }
+        ensures held { (v : ℤ) → held_of self.now v ≤ result }
+    {
+        self.len
+    }
+
+    /// Whether no number is held.
+    pub fn is_empty(&self) -> bool
+        ensures { result ≡ (size_of self.now == 0) }
+    {
+        self.len == 0
+    }
+}
+
+// Adds all numbers of other values.
+fn merge_values(alloc: Global, values: &mut Values, more: &Values) -> Result<(), AllocError>
+    requires { size_of (bag_of values.old) + size_of (bag_of more.now) < 2 ^ 64 }
+    ensures { OnOk result (AddsBag (bag_of values.old) (bag_of values.new) (bag_of more.now)) }
+{
+    match more {
+        Values::One(single) => merge_pair(alloc, values, single.pair()),
+        Values::Few(short) => merge_pairs(alloc, values, short.pairs()),
+        Values::Logged(log) => merge_log(alloc, values, log),
+        Values::Many(table) => merge_counts(alloc, values, table.counts()),
+    }
+}
+
+// Adds a number as often as its pair says; a pair of no count changes nothing.
+fn merge_pair(alloc: Global, values: &mut Values, pair: (i64, u64)) -> Result<(), AllocError>
+    requires { size_of (bag_of values.old) + pair.1 < 2 ^ 64 }
+    ensures { OnOk result (AddsTimes (bag_of values.old) (bag_of values.new) pair.0 pair.1) }
+{
+    if pair.1 == 0 {
+        return Ok(());
+    }
+    add_value(alloc, values, pair.0, pair.1)
+}
+
+// Adds the numbers of pairs.
+fn merge_pairs(alloc: Global, values: &mut Values, pairs: &[(i64, u64)]) -> Result<(), AllocError>
+    requires { size_of (bag_of values.old) + size_of pairs.now < 2 ^ 64 }
+    ensures { OnOk result (AddsBag (bag_of values.old) (bag_of values.new) pairs.now) }
+{
+    for pair in pairs {
+        merge_pair(alloc, values, *pair)?;
+    }
+    Ok(())
+}
+
+// Adds the numbers of a log: behind those of a log at once, and to a copy of it where there are few.
+fn merge_log(alloc: Global, values: &mut Values, more: &Log) -> Result<(), AllocError>
+    requires { size_of (bag_of values.old) + size_of more.now < 2 ^ 64 }
+    ensures { OnOk result (AddsBag (bag_of values.old) (bag_of values.new) more.now) }
+{
+    let grown = match values {
+        Values::One(single) => single_and_log(alloc, single, more)?,
+        Values::Few(short) => short_and_log(alloc, short, more)?,
+        Values::Logged(log) => {
+            if log.append(more)? {
+                return Ok(());
+            }
+            return merge_pairs(alloc, values, more.pairs());
+        }
+        Values::Many(_) => return merge_pairs(alloc, values, more.pairs()),
+    };
+    *values = grown;
+    Ok(())
+}
+
+// A copy of a log, with the number that is held alone.
+fn single_and_log(alloc: Global, single: &Single, log: &Log) -> Result<Values, AllocError>
+    requires { size_of single.now + size_of log.now < 2 ^ 64 }
+    ensures { IfOk result (λ values. AddsBag single.now (bag_of values) log.now) }
+{
+    let copied = log.copy(alloc)?;
+    let mut values = Values::Logged(Box::new(alloc, copied)?);
+    merge_pair(alloc, &mut values, single.pair())?;
+    Ok(values)
+}
+
+// A copy of a log, with the numbers of a short list.
+fn short_and_log(alloc: Global, short: &Short, log: &Log) -> Result<Values, AllocError>
+    requires { size_of short.now + size_of log.now < 2 ^ 64 }
+    ensures { IfOk result (λ values. AddsBag short.now (bag_of values) log.now) }
+{
+    let copied = log.copy(alloc)?;
+    let mut values = Values::Logged(Box::new(alloc, copied)?);
+    merge_pairs(alloc, &mut values, short.pairs())?;
+    Ok(values)
+}
+
+// Adds the numbers of a table.
+fn merge_counts(
+    alloc: Global,
+    values: &mut Values,
+    counts: &HashMap<i64, u64>,
+) -> Result<(), AllocError>
+    requires some { All (λ e. 0 < e.1) counts.now.entries }
+    requires fits { size_of (bag_of values.old) + size_of counts.now.entries < 2 ^ 64 }
+    ensures { OnOk result (AddsBag (bag_of values.old) (bag_of values.new) counts.now.entries) }
+{
+    for (value, count) in counts {
+        add_value(alloc, values, *value, *count)?;
+    }
+    Ok(())
+}
+
+// Adds a number so many times.
+fn add_value(alloc: Global, values: &mut Values, value: i64, times: u64) -> Result<(), AllocError>
+    requires some { 0 < times }
+    requires fits { size_of (bag_of values.old) + times < 2 ^ 64 }
+    ensures added { OnOk result (AddsTimes (bag_of values.old) (bag_of values.new) value times) }
+    ensures err { OnErr result (bag_of values.new ≡ bag_of values.old) }
+{
+    let grown = match values {
+        Values::One(single) => {
+            if single.add(value, times) {
+                return Ok(());
+            }
+            Values::Few(short_of(alloc, single, (value, times))?)
+        }
+        Values::Few(short) => {
+            if short.add(value, times)? {
+                return Ok(());
+            }
+            Values::Logged(log_of(alloc, short, (value, times))?)
+        }
+        Values::Logged(log) => {
+            if log.add(value, times)? {
+                return Ok(());
+            }
+            Values::Many(table_of(alloc, log, (value, times))?)
+        }
+        Values::Many(table) => return table.add(value, times),
+    };
+    *values = grown;
+    Ok(())
+}
+
+// A list of the number that is held alone and another, so many times.
+fn short_of(alloc: Global, single: &Single, more: (i64, u64)) -> Result<Box<Short>, AllocError>
+    requires held { 0 < size_of single.now }
+    requires some { 0 < more.1 }
+    ensures { IfOk result (λ short. AddsTimes single.now short.value more.0 more.1) }
+{
+    let short = Short::of_two(alloc, single.pair(), more)?;
+    let short = Box::new(alloc, short)?;
+    Ok(short)
+}
+
+// A log of the numbers of a list and another, so many times.
+fn log_of(alloc: Global, short: &Short, more: (i64, u64)) -> Result<Box<Log>, AllocError>
+    requires { 0 < more.1 }
+    ensures { IfOk result (λ log. AddsTimes short.now log.value more.0 more.1) }
+{
+    let log = Log::of_both(alloc, short.pairs(), more)?;
+    let log = Box::new(alloc, log)?;
+    Ok(log)
+}
+
+// A table of the numbers of a log and another, so many times.
+#[tactic(auto, using(crate::proofs::BagLaws::size_of_same, crate::proofs::BagLaws::adds_to_same))]
+fn table_of(alloc: Global, log: &Log, more: (i64, u64)) -> Result<Box<Table>, AllocError>
+    requires some { 0 < more.1 }
+    requires fits { size_of log.now + more.1 < 2 ^ 64 }
+    ensures { IfOk result (λ table. AddsTimes log.now table.value more.0 more.1) }
+{
+    let mut table = Table::of_pairs(alloc, log.pairs())?;
+    table.add(more.0, more.1)?;
+    let table = Box::new(alloc, table)?;
+    Ok(table)
+}
+
+fn remove_value(values: &mut Values, value: i64) -> bool
+    requires { size_of (bag_of values.old) < 2 ^ 64 }
+    ensures taken { OnTrue result (AddsOne (bag_of values.new) (bag_of values.old) value) }
+    ensures absent { OnFalse result (held_of (bag_of values.old) value ≡ 0) }
+    ensures unchanged { OnFalse result (bag_of values.new ≡ bag_of values.old) }
+{
+    match values {
+        Values::One(single) => single.remove(value),
+        Values::Few(short) => short.remove(value),
+        Values::Logged(log) => log.remove(value),
+        Values::Many(table) => table.remove(value),
+    }
+}

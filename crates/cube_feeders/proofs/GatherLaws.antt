@@ -1,0 +1,139 @@
+-- What was gathered grows look by look.
+use Rattle.std.proofs.Common.{append-nil, ◌≡◌, ◌≢◌, ◌<◌, ◌≤◌, ◌+◌, ◌==◌, ℕ, suc, Bool, true, false, List, [], ◌∷◌, ◌++◌, length, get_or, set, replicate, map, refl, ap, sym, ◌∙◌, ◌⊎◌, inl, inr, arith, rules, eq-eqb, append_assoc, length-set, get_or-set_same, get_or-set_other}
+use Rattle.std.specs.Prelude.{cond, filter}
+use Rattle.std.proofs.lemmas.List.{map-append, length-map, get_or-map, get_or_default, get_or-replicate, ext_get_or}
+use Rattle.std.proofs.lemmas.List.FromFn.{get_or-map-range_with_len, length-map-range_with_len}
+use Rattle.cube_core.specs.declared.change.Item.{Item}
+use Rattle.cube_link.specs.Link.{Receiving}
+use Rattle.cube_core.specs.Arrival.{Arrivals, of_source, of_sources}
+use Rattle.cube_feeders.specs.Parcels.{lines_of, parcels_of}
+use Rattle.cube_feeders.specs.Gathering.{AreFresh, StandsAtFirst, Looks, Gathering, Gathers, from, taken_of}
+use Rattle.cube_feeders.specs.declared.parcel.Parcel.{Parcel}
+use Rattle.cube_feeders.specs.declared.parcel.Parcel.TheVariants.{Line, End}
+use Rattle.cube_core.proofs.ArrivalLaws.{of_source-append}
+
+of_source-same : (source : ℕ) (items : List Item) → of_source (from source items) source ≡ items
+of_source-same source [] = refl
+of_source-same source (item ∷ items) = rw (eq-eqb source source refl) (ap (λ (rest : List Item). item ∷ rest) (of_source-same source items))
+
+of_source-other : (source other : ℕ) (items : List Item) → other ≢ source → of_source (from other items) source ≡ []
+of_source-other source other [] ne = refl
+of_source-other source other (item ∷ items) ne = let no : (other == source) ≡ false = search (rules, ne) in rw no (of_source-other source other items ne)
+
+taken_of-append : (last : Bool) (xs ys : List Item) → lines_of xs ++ taken_of last ys ≡ taken_of last (xs ++ ys)
+taken_of-append false xs ys = sym (map-append Line xs ys)
+taken_of-append true xs ys = sym (append_assoc (lines_of xs) (lines_of ys) (End ∷ [])) ∙ ap (λ (all : List Parcel). all ++ End ∷ []) (sym (map-append Line xs ys))
+
+eq-cases : (i j : ℕ) → (i ≡ j) ⊎ (i ≢ j)
+eq-cases i j = grind arith
+
+-- nothing came
+pub stands-nothing : {B : Type 0} (stands : B → Arrivals → Type 0) (builder : B) (wanting : Bool) (arrivals : Arrivals) → StandsAtFirst stands builder wanting arrivals → StandsAtFirst stands builder wanting (arrivals ++ [])
+stands-nothing stands builder wanting arrivals at = rw (append-nil arrivals) at
+
+from-append : (source : ℕ) (xs ys : List Item) → from source (xs ++ ys) ≡ from source xs ++ from source ys
+from-append source xs ys = map-append (λ item. (source, item)) xs ys
+
+-- nothing came on a link that hasn't ended
+pub looks-nothing : {B : Type 0} (stands : B → B → Arrivals → Type 0) (source : ℕ) (inlet : Receiving Parcel) (ended : Bool) (builder : B) (wanting : Bool) → ended ≡ false → Looks stands source inlet inlet ended builder builder wanting wanting
+looks-nothing stands source inlet ended builder wanting still = record {
+  items = [];
+  link = refl;
+  received = rw still (sym (append-nil inlet.received));
+  stands_on = λ first arrivals at. stands-nothing (stands first) builder wanting arrivals at;
+}
+
+-- a look after others at a link
+pub looks-look : {B : Type 0} (stands : B → B → Arrivals → Type 0) (source : ℕ) (old now new : Receiving Parcel) (ended last : Bool) (first before after : B) (was wanting wanting' : Bool) →
+    ended ≡ false → Looks stands source old now ended first before was wanting → Looks stands source now new last before after wanting wanting' → Looks stands source old new last first after was wanting'
+looks-look stands source old now new ended last first before after was wanting wanting' still looks look = record {
+  items = looks.items ++ look.items;
+  link = look.link ∙ looks.link;
+  received =
+      let so_far : now.received ≡ old.received ++ lines_of looks.items = rw still at looks.received in
+      look.received
+      ∙ ap (λ (xs : List Parcel). xs ++ taken_of last look.items) so_far
+      ∙ append_assoc old.received (lines_of looks.items) (taken_of last look.items)
+      ∙ ap (λ (xs : List Parcel). old.received ++ xs) (taken_of-append last looks.items look.items);
+  stands_on = λ start arrivals at.
+      rw (from-append source looks.items look.items, sym (append_assoc arrivals (from source looks.items) (from source look.items)))
+      (look.stands_on start (arrivals ++ from source looks.items) (looks.stands_on start arrivals at));
+}
+
+-- one look more
+pub gathering-look : {B : Type 0} (stands : B → B → Arrivals → Type 0) (first : B) (start now : List (Receiving Parcel)) (ended : List Bool) (before after : B) (wanting wanting' : Bool) (i : ℕ) (d new : Receiving Parcel) (last : Bool) →
+    i < length now → i < length ended → get_or ended i false ≡ false → Looks stands (i + 1) (get_or now i d) new last before after wanting wanting' →
+    Gathering (stands first) start now ended before wanting → Gathering (stands first) start (set now i new) (set ended i last) after wanting'
+gathering-look stands first start now ended before after wanting wanting' i d new last below within running looks was =
+    let same = was.same_length in
+    let low : i < length start = omega arith in
+    let items = looks.items in
+    let more = from (i + 1) items in
+    record {
+      arrivals = was.arrivals ++ more;
+      same_length = length-set now i new ∙ same;
+      links = λ j e inside. elim (eq-cases j i) [
+        | inl is ↦ rw (is, get_or-set_same now i new e below)
+            (looks.link ∙ ap (λ (inlet : Receiving Parcel). inlet.link) (get_or_default now i d e below) ∙ was.links i e low)
+        | inr ne ↦ rw (get_or-set_other now i j new e ne) (was.links j e inside)
+      ];
+      received = λ j e inside. elim (eq-cases j i) [
+        | inl is ↦
+            let before : (get_or now i d).received ≡ lines_of (of_source was.arrivals (i + 1)) =
+            ap (λ (inlet : Receiving Parcel). inlet.received) (get_or_default now i d e below) ∙ (rw running at (was.received i e low)) in
+            rw (is, get_or-set_same now i new e below, get_or-set_same ended i last false within, of_source-append was.arrivals more (i + 1), of_source-same (i + 1) items)
+            (looks.received ∙ ap (λ (xs : List Parcel). xs ++ taken_of last items) before ∙ taken_of-append last (of_source was.arrivals (i + 1)) items)
+        | inr ne ↦
+            let apart : i + 1 ≢ j + 1 = omega (arith, ne) in
+            rw (get_or-set_other now i j new e ne, get_or-set_other ended i j last false ne, of_source-append was.arrivals more (j + 1), of_source-other (j + 1) (i + 1) items apart, append-nil (of_source was.arrivals (j + 1)))
+            (was.received j e inside)
+      ];
+      stands_at = looks.stands_on first was.arrivals was.stands_at;
+    }
+
+-- before the first look
+pub gathering-start : {B : Type 0} (stands : B → Arrivals → Type 0) (inlets : List (Receiving Parcel)) (builder : B) → length inlets ≤ 64 → AreFresh inlets → stands builder [] → Gathering stands inlets inlets (replicate 64 false) builder false
+gathering-start stands inlets builder most fresh at = record {
+  arrivals = [];
+  same_length = refl;
+  links = λ i d below. refl;
+  received = λ i d below. let within : i < 64 = omega arith in rw (get_or-replicate 64 i false false within) (fresh i d below);
+  stands_at = record { first = []; rest = []; split = refl; stands_at = at; at_all = λ _. refl };
+}
+
+links-same : (old new : List (Receiving Parcel)) → length new ≡ length old → ((i : ℕ) (d : Receiving Parcel) → i < length old → (get_or new i d).link ≡ (get_or old i d).link) → map (λ (inlet : Receiving Parcel). inlet.link) new ≡ map (λ (inlet : Receiving Parcel). inlet.link) old
+links-same [] [] same each = refl
+links-same [] (y ∷ ys) same each = absurd (omega (arith, same))
+links-same (x ∷ xs) [] same each = absurd (omega (arith, same))
+links-same (x ∷ xs) (y ∷ ys) same each =
+    let here : y.link ≡ x.link = each 0 x (omega arith) in
+    let rest = links-same xs ys (omega (arith, same)) (λ i d below. each (suc i) d (omega arith)) in
+    λ i. here i ∷ rest i
+
+-- all links have ended
+pub gathers-all : {B : Type 0} (stands : B → Arrivals → Type 0) (old now : List (Receiving Parcel)) (ended : List Bool) (builder : B) (wanting : Bool) →
+    ((i : ℕ) → i < length now → get_or ended i false ≡ true) → Gathering stands old now ended builder wanting → Gathers stands old now builder wanting
+gathers-all stands old now ended builder wanting all was =
+    let received = map (λ (inlet : Receiving Parcel). inlet.received) now in
+    let sources = of_sources (length old) was.arrivals in
+    let same = was.same_length in
+    let count = length-map-range_with_len (of_source was.arrivals) 1 (length old) in
+    record {
+      arrivals = was.arrivals;
+      links = links-same old now same was.links;
+      received = ext_get_or [] received (map parcels_of sources) (length-map now (λ inlet. inlet.received) ∙ same ∙ sym count ∙ sym (length-map sources parcels_of))
+          (λ i below.
+          let low : i < length now = omega (arith, length-map now (λ (inlet : Receiving Parcel). inlet.received)) in
+          let low_too : i < length old = omega arith in
+          let d = default now i low in
+          let within : i < length sources = omega (arith, count) in
+          get_or-map (λ (inlet : Receiving Parcel). inlet.received) now i d [] low
+          ∙ was.received i d low_too
+          ∙ ap (λ (last : Bool). taken_of last (of_source was.arrivals (i + 1))) (all i low)
+          ∙ ap parcels_of (sym (get_or-map-range_with_len (of_source was.arrivals) 1 (length old) i (i + 1) [] low_too (omega arith)))
+          ∙ sym (get_or-map parcels_of sources i [] [] within));
+      stands_at = was.stands_at;
+    } where
+      default : (xs : List (Receiving Parcel)) (i : ℕ) → i < length xs → Receiving Parcel
+      default [] i below = absurd (omega arith)
+      default (x ∷ xs) i below = x

@@ -1,0 +1,4 @@
+pub mod PlaceLaws
+pub mod SendLaws
+pub mod GatherLaws
+pub mod WireLaws

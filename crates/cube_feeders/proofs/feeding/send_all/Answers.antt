@@ -1,0 +1,33 @@
+use Rattle.std.proofs.Common.{refl, ap, ◌∙◌, ◌∷◌, [], length}
+use Rattle.std.proofs.lemmas.List.{length-map}
+use Rattle.cube_feeders.specs.Parcels.{sends}
+use Rattle.cube_feeders.specs.declared.parcel.Parcel.TheVariants.{Line}
+use Rattle.cube_feeders.proofs.SendLaws.{has_sent-none, has_sent-more, sends_all-end, sends_all-fault}
+use Rattle.cube_feeders.proofs.feeding.send_all.Goals as goal
+use Rattle.cube_feeders.proofs.feeding.send_all.Goals.{in-Ok-false, in-Err}
+
+pub loop-init : goal.loop-init
+loop-init g c = (refl, has_sent-none c.args.feed.to_come c.args.outlets.now)
+
+pub loop-preserved : goal.loop-preserved
+loop-preserved g c =
+    let loop = c.loop in
+    let next = c.in-Ok-true.ensures.some c.in-Ok-true.field-0-test in
+    let sent = c.offer_copies.ensures next.0 next.3 in (
+      ap length sent ∙ length-map loop.outlets (sends (Line next.0 ∷ [])) ∙ loop.invariant.0,
+      has_sent-more c.args.feed.to_come loop.feed.to_come c.next_copies.new.feed.to_come c.args.outlets.now loop.outlets c.offer_copies.new.outlets next.0 loop.invariant.1 next.1 sent,
+    )
+
+pub returns-in-loop : goal.returns-in-loop
+returns-in-loop g c =
+    let loop = c.loop in
+    elim c.match-next_copies.branch [
+      | in-Ok-false w ↦
+          rw w.stop-is
+          (sends_all-end c.args.feed.to_come loop.feed.to_come c.next_copies.new.feed.to_come c.args.outlets.now loop.outlets c.offer_end.new.outlets loop.invariant.1
+          (w.in-Ok-false.ensures.none w.in-Ok-false.field-0-test) c.offer_end.ensures)
+      | in-Err w ↦
+          rw w.stop-is
+          (sends_all-fault c.args.feed.to_come loop.feed.to_come c.next_copies.new.feed.to_come c.args.outlets.now loop.outlets c.offer_end.new.outlets w.in-Err.fault loop.invariant.1
+          w.in-Err.ensures.err c.offer_end.ensures)
+    ]

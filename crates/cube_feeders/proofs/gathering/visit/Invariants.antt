@@ -1,0 +1,8 @@
+use Rattle.std.proofs.Common.{◌≡◌}
+use Rattle.cube_feeders.specs.Gathering.{Looks}
+use Rattle.cube_feeders.proofs.gathering.visit.Given as goal
+
+abbrev pub invariant-loop : goal.invariant-loop
+invariant-loop g l =
+    (g.B.Builds.sources l.builder ≡ g.B.Builds.sources l.initial.builder)
+    × Looks g.B.Builds.stands l.source l.initial.inlet l.inlet l.ended l.initial.builder l.builder l.initial.wanting l.wanting

@@ -1,0 +1,57 @@
+use Rattle.std.proofs.Common.{arith, ◌≡◌, ◌++◌, ◌∙◌, List, ap, length, map, take}
+use Rattle.std.proofs.lemmas.List.{length-map}
+use Rattle.cube_feeders.specs.Wiring.{coming_of}
+use Rattle.cube_feeders.specs.declared.roster.Feeder.{Feeder}
+use Rattle.cube_feeders.specs.declared.roster.Gatherer.{Gatherer}
+use Rattle.cube_feeders.proofs.PlaceLaws.{take-written_back}
+use Rattle.cube_feeders.proofs.setup.set_up.Goals as goal
+
+pub returns-clause-builders : goal.returns-clause-builders
+returns-clause-builders g c =
+    let f = λ (gatherer : Gatherer g.row.B.Denot). gatherer.builder in
+    let new = c.feeders_of.new.gatherers in
+    let count : length new ≡ c.in_ok-gatherers.gatherers.len = omega (arith, c.feeders_of.auto.gatherers, c.as_mut_slice.ensures.len) in
+    ap (map f) (take-written_back new _ c.in_ok-gatherers.gatherers.len count)
+    ∙ c.in_ok-feeders.ensures.builders
+    ∙ ap (map f) c.as_mut_slice.ensures.value
+    ∙ c.in_ok-gatherers.ensures.builders
+
+pub returns-clause-count : goal.returns-clause-count
+returns-clause-count g c =
+    let f = λ (gatherer : Gatherer g.row.B.Denot). gatherer.builder in
+    omega (arith, ap length c.in_ok-gatherers.ensures.builders, length-map c.in_ok-gatherers.gatherers.items f, c.in_ok-gatherers.gatherers.ok.0, c.args.builders.ok.0)
+
+pub returns-clause-start : goal.returns-clause-start
+returns-clause-start g c =
+    let f = λ (gatherer : Gatherer g.row.B.Denot). gatherer.builder in
+    let h = λ (feeder : Feeder g.row.R.Denot). feeder.feed.to_come in
+    let count : c.in_ok-gatherers.gatherers.len ≡ c.args.builders.len =
+    omega (arith, ap length c.in_ok-gatherers.ensures.builders, length-map c.in_ok-gatherers.gatherers.items f, c.in_ok-gatherers.gatherers.ok.0, c.args.builders.ok.0) in
+    let feeds : c.in_ok-feeders.feeders.len ≡ c.args.readers.len =
+    omega (
+      arith,
+      ap length c.in_ok-feeders.ensures.feeds,
+      length-map c.in_ok-feeders.feeders.items h,
+      length-map c.args.readers.items (λ reader. coming_of c.args.schema.now (g.R.Read.remaining reader)),
+      c.in_ok-feeders.feeders.ok.0,
+      c.args.readers.ok.0,
+    ) in
+    let sources = c.len-sources.ensures in
+    let builders = c.len-count.ensures in
+    let most = c.requires.readers in
+    let few = c.requires.builders in
+    let posts = c.in_ok-words.ensures in
+    let ends = c.in_ok-with_capacity.ensures in
+    let kept = c.in_ok-with_capacity-2.ensures in
+    record {
+      one = omega (arith, count, few);
+      few = omega (arith, count, few);
+      none = kept.len;
+      room = omega (arith, count, kept.exact, builders);
+      for_feeders = record {
+        most = omega (arith, feeds, most);
+        none = ends.len;
+        room = omega (arith, feeds, ends.exact, sources);
+        posts = omega (arith, feeds, count, posts, sources, builders);
+      };
+    }

@@ -1,0 +1,17 @@
+use Rattle.std.proofs.Common.{arith, refl}
+use Rattle.cube_feeders.proofs.WireLaws.{connects-more}
+use Rattle.cube_feeders.proofs.wiring.connect.Goals as goal
+
+pub loop-gatherer-preserved : goal.loop-gatherer-preserved
+loop-gatherer-preserved g c =
+    let loop = c.loop-gatherer in
+    rw c.in_ok-push-2.ensures.items
+    (connects-more loop.gatherer-index c.args.gatherers.now loop.gatherers loop.outlets.items c.gatherer-item.result _ c.in_ok-outlet.outlet loop.invariant (omega arith)
+    (record {
+      inlet = c.in_ok-outlet.inlet;
+      inlets = c.in_ok-push.ensures.items;
+      link = c.in_ok-outlet.ensures.link;
+      unreceived = c.in_ok-outlet.ensures.received.0;
+      unsent = c.in_ok-outlet.ensures.sent;
+      builder = refl;
+    }))

@@ -1,0 +1,6 @@
+pub mod Parcels
+pub mod Feeding
+pub mod Ends
+pub mod Gathering
+pub mod Starting
+pub mod Wiring

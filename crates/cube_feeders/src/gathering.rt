@@ -1,0 +1,198 @@
+//! Taking what the feeders send into a builder.
+ghost use Rattle.std.specs.Prelude.{◌≡◌, ◌≤◌, ◌<◌, ◌++◌, ◌∷◌, [], ℕ, List, length, true, false, IsTrue, is_err, slice_index_or};
+ghost use Rattle.cube_link.specs.Link.{Receiving};
+ghost use Rattle.cube_core.specs.Arrival.{Arrivals};
+ghost use Rattle.cube_feeders.specs.Gathering.{AreFresh, StandsAtFirst, Looks, Gathering, Gathers};
+ghost use Rattle.cube_feeders.specs.declared.parcel.Parcel.{Parcel as TheParcel};
+
+use crate::builds::Builds;
+use crate::gate::Gate;
+use crate::parcel::Parcel;
+use cube_core::Item;
+use cube_link::Inlet;
+use std::alloc::AllocError;
+use std::sync::Wait;
+use std::thread;
+
+/// The most sources of a run.
+const MOST_SOURCES: usize = 64;
+
+/// The most parcels that are taken from a link before the next link is looked at.
+const MOST_AT_A_VISIT: u32 = 32;
+
+// Applies an item, or drops it where memory was wanting before; waits for good where the builder is full.
+fn accept<W: Wait, B: Builds>(rt: &W, builder: &mut B, source: u32, item: Item, wanting: &mut bool)
+    requires { (1 ≤ source) × (source ≤ B.sources builder.old) }
+    ensures sources { B.sources builder.new ≡ B.sources builder.old }
+    ensures stands { (first : B) (arrivals : Arrivals) →
+        StandsAtFirst (B.stands first) builder.old wanting.old arrivals →
+        StandsAtFirst (B.stands first) builder.new wanting.new (arrivals ++ (source, item) ∷ []) }
+{
+    if *wanting {
+        return;
+    }
+    if builder.is_full() {
+        for _ in rt.forever() {
+            thread::yield_now();
+        }
+        unreachable!()
+    }
+    *wanting = builder.apply(source, item).is_err();
+}
+
+// Looks once at a link that hasn't ended. Whether a parcel was there.
+fn look<W: Wait, B: Builds, G: Gate>(
+    rt: &W,
+    number: u32,
+    source: u32,
+    builder: &mut B,
+    inlet: &mut Inlet<Parcel>,
+    ended: &mut bool,
+    taken: &mut u64,
+    wanting: &mut bool,
+    gate: &G,
+) -> bool
+    requires source { (1 ≤ source) × (source ≤ B.sources builder.old) }
+    requires open { ended.old ≡ false }
+    ensures sources { B.sources builder.new ≡ B.sources builder.old }
+    ensures looks { Looks B.stands source inlet.old inlet.new ended.new
+        builder.old builder.new wanting.old wanting.new }
+{
+    let Some(parcel) = inlet.take() else {
+        return false;
+    };
+    *taken = taken.saturating_add(1);
+    gate.after_take(source, number, *taken);
+    match parcel {
+        Parcel::Line(item) => accept(rt, builder, source, item, wanting),
+        Parcel::End => *ended = true,
+    }
+    true
+}
+
+// Looks at a link that hasn't ended, and again while parcels are there. Whether one was there.
+fn visit<W: Wait, B: Builds, G: Gate>(
+    rt: &W,
+    number: u32,
+    source: u32,
+    builder: &mut B,
+    inlet: &mut Inlet<Parcel>,
+    ended: &mut bool,
+    taken: &mut u64,
+    wanting: &mut bool,
+    gate: &G,
+) -> bool
+    requires source { (1 ≤ source) × (source ≤ B.sources builder.old) }
+    requires open { ended.old ≡ false }
+    ensures sources { B.sources builder.new ≡ B.sources builder.old }
+    ensures looks { Looks B.stands source inlet.old inlet.new ended.new
+        builder.old builder.new wanting.old wanting.new }
+{
+    let mut found = false;
+    for _ in 0..MOST_AT_A_VISIT {
+        if *ended
+            || !look(
+                rt, number, source, builder, inlet, ended, taken, wanting, gate,
+            )
+        {
+            return found;
+        }
+        found = true;
+    }
+    found
+}
+
+// Visits each link that hasn't ended. Whether a parcel was in any of them.
+fn look_round<W: Wait, B: Builds, G: Gate>(
+    rt: &W,
+    number: u32,
+    builder: &mut B,
+    inlets: &mut [Inlet<Parcel>],
+    ended: &mut [bool; MOST_SOURCES],
+    taken: &mut [u64; MOST_SOURCES],
+    wanting: &mut bool,
+    gate: &G,
+) -> bool
+    requires sources { length inlets.old ≡ B.sources builder.old }
+    requires most { length inlets.old ≤ 64 }
+    ensures sources { B.sources builder.new ≡ B.sources builder.old }
+    ensures gathering { (first : B) (start : List (Receiving TheParcel)) →
+        Gathering (B.stands first) start inlets.old ended.old builder.old wanting.old →
+        Gathering (B.stands first) start inlets.new ended.new builder.new wanting.new }
+{
+    let mut found = false;
+    for i in 0..inlets.len() {
+        if !ended[i] {
+            let source = i as u32 + 1;
+            found |= visit(
+                rt,
+                number,
+                source,
+                builder,
+                &mut inlets[i],
+                &mut ended[i],
+                &mut taken[i],
+                wanting,
+                gate,
+            );
+        }
+    }
+    found
+}
+
+// Whether the first so many links have ended.
+fn have_ended(ended: &[bool; MOST_SOURCES], count: usize) -> bool
+    requires { count ≤ 64 }
+    ensures { IsTrue result → (i : ℕ) → i < count → slice_index_or ended.now i false ≡ true }
+{
+    for i in 0..count {
+        if !ended[i] {
+            return false;
+        }
+    }
+    true
+}
+
+/// Takes from the links of all sources, inlet s - 1 from source s, until each has given its end, and applies each item to
+/// the builder as it comes; `number` is the builder's, handed to the gate.
+///
+/// It goes round the links, takes up to 32 parcels from each, and yields after a round in which nothing was found. The
+/// only error is want of memory: from the item on that finds none it goes on taking, and drops what comes. Where the
+/// builder is full it waits for good.
+pub fn gather<W: Wait, B: Builds, G: Gate>(
+    rt: &W,
+    number: u32,
+    builder: &mut B,
+    inlets: &mut [Inlet<Parcel>],
+    gate: &G,
+) -> Result<(), AllocError>
+    requires sources { length inlets.old ≡ B.sources builder.old }
+    requires most { length inlets.old ≤ 64 }
+    requires fresh { AreFresh inlets.old }
+    requires stands { B.stands builder.old builder.old [] }
+    ensures sources { B.sources builder.new ≡ B.sources builder.old }
+    ensures gathers { Gathers (B.stands builder.old) inlets.old inlets.new
+        builder.new (is_err result) }
+{
+    let mut ended = [false; MOST_SOURCES];
+    let mut taken = [0u64; MOST_SOURCES];
+    let mut wanting = false;
+    for _ in rt.forever() {
+        if have_ended(&ended, inlets.len()) {
+            return if wanting { Err(AllocError) } else { Ok(()) };
+        }
+        if !look_round(
+            rt,
+            number,
+            builder,
+            inlets,
+            &mut ended,
+            &mut taken,
+            &mut wanting,
+            gate,
+        ) {
+            thread::yield_now();
+        }
+    }
+    unreachable!()
+}

@@ -1,0 +1,58 @@
+//! What is made before a thread starts.
+ghost use Rattle.std.specs.Prelude.{◌≡◌, ◌≤◌, map, vec_len, IfOk};
+ghost use Rattle.cube_feeders.specs.Starting.{MayStart};
+ghost use Rattle.cube_feeders.specs.Wiring.{coming_of, AreLinked};
+
+use crate::builds::Builds;
+use crate::roster::{Feeder, Gatherer, Roster};
+use crate::wiring::{feeders_of, gatherers_of, words_for};
+use cube_core::Schema;
+use std::alloc::{AllocError, Global};
+use std::io::Read;
+
+/// The builders and the feeders of a run, linked, and room for what their threads give back.
+#[derive(Drop)]
+pub struct Setup<'e, R: Read + Drop, B: Builds> {
+    pub gatherers: Vec<Gatherer<B>>,
+    pub feeders: Vec<Feeder<'e, R>>,
+    pub roster: Roster<B>,
+}
+
+/// Links a feeder of each reader to every builder. The only error is want of memory.
+pub fn set_up<'e, R: Read + Drop, B: Builds>(
+    alloc: Global,
+    schema: &'e Schema,
+    readers: Vec<R>,
+    capacity: usize,
+    builders: Vec<B>,
+) -> Result<Setup<'e, R, B>, AllocError>
+    requires readers { vec_len readers ≤ 64 }
+    requires capacity { (1 ≤ capacity) × (capacity ≤ 65536) }
+    requires builders { (1 ≤ vec_len builders) × (vec_len builders ≤ 8) }
+    ensures linked { IfOk result (λ setup. AreLinked
+        (map (λ feeder. feeder.outlets.items) setup.feeders.items) setup.gatherers.items) }
+    ensures feeds { IfOk result (λ setup. map (λ feeder. feeder.feed.to_come) setup.feeders.items
+        ≡ map (λ reader. coming_of schema.now (R.Read.remaining reader)) readers.items) }
+    ensures builders { IfOk result (λ setup.
+        map (λ gatherer. gatherer.builder) setup.gatherers.items ≡ builders.items) }
+    ensures count { IfOk result (λ setup. vec_len setup.gatherers ≡ vec_len builders) }
+    ensures start { IfOk result (λ setup.
+        MayStart (vec_len setup.gatherers) (vec_len setup.feeders) setup.roster) }
+{
+    let sources = readers.len();
+    let count = builders.len();
+    let mut gatherers = gatherers_of(alloc, builders, sources)?;
+    let feeders = feeders_of(alloc, schema, readers, capacity, gatherers.as_mut_slice())?;
+    let (words, posts) = words_for(alloc, sources + count)?;
+    let roster = Roster {
+        words,
+        posts,
+        ends: Vec::with_capacity(alloc, sources)?,
+        gatherers: Vec::with_capacity(alloc, count)?,
+    };
+    Ok(Setup {
+        gatherers,
+        feeders,
+        roster,
+    })
+}

@@ -1,0 +1,98 @@
+//! The links from the feeders to the builders, made before any thread starts.
+ghost use Rattle.std.specs.Prelude.{◌≡◌, ◌≤◌, [], length, map, vec_len, IfOk, OnOk};
+ghost use Rattle.std.specs.List.{All};
+ghost use Rattle.cube_feeders.specs.Wiring.{coming_of, Connects, AreLinked};
+
+use crate::builds::Builds;
+use crate::parcel::Parcel;
+use crate::roster::{Feeder, Gatherer};
+use crate::words::Word;
+use cube_core::Schema;
+use cube_feed::Feed;
+use cube_link::{Inlet, Outlet, link};
+use std::alloc::{AllocError, Global};
+use std::io::Read;
+
+// A link from one source to each builder.
+fn connect<B: Builds>(
+    alloc: Global,
+    capacity: usize,
+    gatherers: &mut [Gatherer<B>],
+) -> Result<Vec<Outlet<Parcel>>, AllocError>
+    requires { (1 ≤ capacity) × (capacity ≤ 65536) }
+    ensures { IfOk result (λ outlets. Connects gatherers.old gatherers.new outlets.items) }
+{
+    let mut outlets = Vec::with_capacity(alloc, gatherers.len())?;
+    for gatherer in gatherers.iter_mut() {
+        let (outlet, inlet) = link(alloc, capacity)?;
+        gatherer.inlets.push(inlet)?;
+        outlets.push(outlet)?;
+    }
+    Ok(outlets)
+}
+
+/// The feeders of all readers, each linked to every builder.
+pub(crate) fn feeders_of<'e, R: Read + Drop, B: Builds>(
+    alloc: Global,
+    schema: &'e Schema,
+    readers: Vec<R>,
+    capacity: usize,
+    gatherers: &mut [Gatherer<B>],
+) -> Result<Vec<Feeder<'e, R>>, AllocError>
+    requires capacity { (1 ≤ capacity) × (capacity ≤ 65536) }
+    requires none { All (λ gatherer. gatherer.inlets.items ≡ []) gatherers.old }
+    ensures linked { IfOk result (λ feeders.
+        AreLinked (map (λ feeder. feeder.outlets.items) feeders.items) gatherers.new) }
+    ensures feeds { IfOk result (λ feeders. map (λ feeder. feeder.feed.to_come) feeders.items
+        ≡ map (λ reader. coming_of schema.now (R.Read.remaining reader)) readers.items) }
+    ensures builders { OnOk result (map (λ gatherer. gatherer.builder) gatherers.new
+        ≡ map (λ gatherer. gatherer.builder) gatherers.old) }
+{
+    let mut feeders = Vec::with_capacity(alloc, readers.len())?;
+    for reader in readers {
+        let outlets = connect(alloc, capacity, gatherers)?;
+        let feed = Feed::new(alloc, schema, reader);
+        feeders.push(Feeder { feed, outlets })?;
+    }
+    Ok(feeders)
+}
+
+/// The builders, each with room for a link from each source.
+pub(crate) fn gatherers_of<B: Builds>(
+    alloc: Global,
+    builders: Vec<B>,
+    sources: usize,
+) -> Result<Vec<Gatherer<B>>, AllocError>
+    ensures builders { IfOk result (λ gatherers.
+        map (λ gatherer. gatherer.builder) gatherers.items ≡ builders.items) }
+    ensures none { IfOk result (λ gatherers.
+        All (λ gatherer. gatherer.inlets.items ≡ []) gatherers.items) }
+{
+    let mut gatherers = Vec::with_capacity(alloc, builders.len())?;
+    for builder in builders {
+        let inlets = Vec::with_capacity(alloc, sources)?;
+        gatherers.push(Gatherer {
+            builder,
+            inlets,
+            wanting: false,
+        })?;
+    }
+    Ok(gatherers)
+}
+
+/// The two ends of so many links for a word each.
+pub(crate) fn words_for(
+    alloc: Global,
+    count: usize,
+) -> Result<(Vec<Outlet<Word>>, Vec<Inlet<Word>>), AllocError>
+    ensures { IfOk result (λ ends. vec_len ends.1 ≡ count) }
+{
+    let mut words = Vec::with_capacity(alloc, count)?;
+    let mut posts = Vec::with_capacity(alloc, count)?;
+    for _ in 0..count {
+        let (word, post) = link(alloc, 1)?;
+        words.push(word)?;
+        posts.push(post)?;
+    }
+    Ok((words, posts))
+}

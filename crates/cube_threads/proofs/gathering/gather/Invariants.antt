@@ -1,8 +1,0 @@
-use Rattle.std.proofs.Common.{◌≡◌}
-use Rattle.cube_threads.specs.Gathering.{Gathering}
-use Rattle.cube_threads.proofs.gathering.gather.Given as goal
-
-abbrev pub invariant-loop : goal.invariant-loop
-invariant-loop g l =
-    (g.B.Builds.sources l.builder ≡ g.B.Builds.sources l.initial.builder)
-    × Gathering (g.B.Builds.stands l.initial.builder) l.initial.inlets l.inlets l.ended l.builder l.wanting

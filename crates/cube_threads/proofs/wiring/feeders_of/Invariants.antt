@@ -1,9 +1,0 @@
-use Rattle.std.proofs.Common.{◌≡◌, map}
-use Rattle.cube_threads.specs.Wiring.{coming_of, AreLinked}
-use Rattle.cube_threads.proofs.wiring.feeders_of.Given as goal
-
-abbrev pub invariant-loop-reader : goal.invariant-loop-reader
-invariant-loop-reader g l =
-    AreLinked (map (λ feeder. feeder.outlets.items) l.feeders.items) l.gatherers
-    × (map (λ feeder. feeder.feed.to_come) l.feeders.items ≡ map (λ reader. coming_of l.schema (g.R.Read.remaining reader)) l.yielded)
-    × (map (λ gatherer. gatherer.builder) l.gatherers ≡ map (λ gatherer. gatherer.builder) l.initial.gatherers)
