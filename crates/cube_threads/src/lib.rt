@@ -12,4 +12,7 @@ mod settling;
 
 pub use building::build;
 pub use built::Built;
-pub use cube_feeders::{Builds, FeederEnd, Gate, Gatherer, OpenGate, Parcel, feed_out, first_stop, first_unsealed, gather};
+pub use cube_feeders::{
+    Builds, FeederEnd, Gate, Gatherer, OpenGate, Parcel, feed_out, first_stop, first_unsealed,
+    gather,
+};

@@ -1,6 +1,3 @@
-mod AppendLaws
-mod LineLaws
-pub mod RowShapeLaws
 pub mod RefusalLaws
 pub mod RunLaws
 mod CommandLaws

@@ -9,7 +9,7 @@ use Rattle.cube_core.specs.declared.change.Refusal.{Refusal}
 use Rattle.cube_engine.specs.Ledger.{AccountView, new_account}
 use Rattle.cube_tool.specs.Command.{all_refusals, status_after}
 use Rattle.cube_tool.specs.declared.command.status.Status.TheVariants.{LinesRefused}
-use Rattle.cube_tool.specs.Lines.{Lines, AddsText, Holds}
+use Rattle.cube_text.specs.Lines.{Lines, AddsText, Holds}
 
 -- the refusals of each account
 abbrev pub refusals_of_accounts : List AccountView → List (List Refusal)

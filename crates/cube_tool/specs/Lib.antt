@@ -1,6 +1,5 @@
-pub mod Lines
-pub mod Shape
-pub mod Rows
+pub use Rattle.cube_text.specs.Rows
+pub use Rattle.cube_text.specs.Shape
 pub mod Run
 pub mod Command
 pub mod Explain

@@ -2,13 +2,9 @@
 #![tactic(auto)]
 
 pub mod command;
-mod lines;
-mod print;
 mod refusals;
 mod runs;
-mod write;
 
-pub use print::{print_cells, print_rows};
+pub use cube_text::{WriteFault, print_cells, print_rows, write_whole};
 pub use refusals::print_refusals;
 pub use runs::{run, run_plain};
-pub use write::{WriteFault, write_whole};

@@ -2,11 +2,11 @@
 ghost use Rattle.std.specs.Prelude.{◌≡◌, [], ◌∷◌, map, decimal, OnOk, IfOk};
 ghost use Rattle.std.specs.List.{flat_map};
 ghost use Rattle.cube_core.specs.Text.{lines_of_sources, refusal_header, refusal_line, text_of_refusals};
-ghost use Rattle.cube_tool.specs.Lines.{AddsFields, AddsText};
+ghost use Rattle.cube_text.specs.Lines.{AddsFields, AddsText};
 
-use crate::lines::{Lines, end_line, into_text, no_lines, put_field};
 use cube_core::Refusal;
 use cube_engine::Builder;
+use cube_text::{Lines, end_line, into_text, no_lines, put_field};
 use itoa::Buffer;
 use std::alloc::{AllocError, Global};
 

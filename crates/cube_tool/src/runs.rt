@@ -8,10 +8,9 @@ ghost use Rattle.cube_threads.specs.Building.{ExplainsRun};
 ghost use Rattle.cube_threads.specs.Parts.{StandsInParts, schema_of_run, facts_of_run};
 ghost use Rattle.cube_tool.specs.Run.{FaultLeaves, Runs};
 
-use crate::print::{print_cells, print_rows};
-use crate::write::write_whole;
 use cube_core::Schema;
 use cube_engine::{Builder, RunFault, build_plain};
+use cube_text::{print_cells, print_rows, write_whole};
 use cube_threads::{Built, Gate, build};
 use std::alloc::{AllocError, Global};
 use std::io::{Read, Write};

@@ -6,8 +6,8 @@ ghost use Rattle.cube_tool.specs.Explain.{ExplainLeaves, example_text, explained
 use crate::command::failure::Failure;
 use crate::command::notes::Note;
 use crate::command::status::Status;
-use crate::write::write_whole;
 use cube_engine::RunFault;
+use cube_text::write_whole;
 use std::alloc::{AllocError, Global};
 use std::io::Write;
 

@@ -9,12 +9,11 @@ ghost use Rattle.cube_tool.specs.Answering.{DrillLeaves, EndsWith, FailsToDrill,
 use crate::command::failure::Failure;
 use crate::command::sample::status_after;
 use crate::command::status::Status;
-use crate::print::print_rows;
 use crate::refusals::print_refusals;
 use crate::runs::run;
-use crate::write::write_whole;
 use cube_core::{Key, Pattern, Schema};
 use cube_engine::RunFault;
+use cube_text::{print_rows, write_whole};
 use cube_threads::{Built, OpenGate, build};
 use std::alloc::{AllocError, Global};
 use std::io::{Read, Write};

@@ -5,9 +5,9 @@ ghost use Rattle.cube_tool.specs.Command.{AnswersFile, CheckLeaves, IsReadFailur
 
 use crate::command::failure::Failure;
 use crate::command::status::Status;
-use crate::write::write_whole;
 use cube_core::{Schema, SchemaFault};
 use cube_engine::RunFault;
+use cube_text::write_whole;
 use std::alloc::Global;
 use std::io::{ErrorKind, Read, Write};
 

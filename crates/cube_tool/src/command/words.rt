@@ -5,9 +5,9 @@ ghost use Rattle.clap.specs.declared.error.kind.ErrorKind.TheVariants as kind;
 
 use crate::command::failure::Failure;
 use crate::command::status::Status;
-use crate::write::write_whole;
 use clap::Error;
 use cube_engine::RunFault;
+use cube_text::write_whole;
 use std::alloc::Global;
 use std::io::Write;
 

@@ -1,4 +1,4 @@
-use Rattle.cube_tool.specs.Lines.{AddsText}
+use Rattle.cube_text.specs.Lines.{AddsText}
 use Rattle.cube_tool.proofs.RefusalLaws.{lines_up_to}
 use Rattle.cube_tool.proofs.refusals.put_all_refusals.Given as goal
 

@@ -1,6 +1,6 @@
 use Rattle.std.specs.Prelude.{[], ◌∷◌, codes}
 use Rattle.std.proofs.lemmas.Result.{on_ok_weaker}
-use Rattle.cube_tool.proofs.LineLaws.{AddsText-row_text}
+use Rattle.cube_text.proofs.LineLaws.{AddsText-row_text}
 use Rattle.cube_tool.proofs.refusals.put_refusal_header.Goals as goal
 
 pub returns : goal.returns

@@ -9,7 +9,7 @@ use Rattle.cube_core.specs.Layout.{Layout}
 use Rattle.cube_cells.proofs.NewLaws.{sets_of_part-one}
 use Rattle.cube_engine.specs.Builder.{BuilderView}
 use Rattle.cube_threads.specs.Parts.{AreParts, facts_of_run, schema_of_run}
-use Rattle.cube_tool.proofs.RowShapeLaws.{HasShapeOf-AreRows}
+use Rattle.cube_text.proofs.RowShapeLaws.{HasShapeOf-AreRows}
 use Rattle.cube_tool.proofs.runs.print_built.Goals as goal
 
 pub print_cube-requires-clause-sets : goal.print_cube-requires-clause-sets

@@ -7,7 +7,7 @@ use Rattle.cube_core.specs.Takes.{fits}
 use Rattle.cube_core.specs.declared.key.Row.{Row}
 use Rattle.cube_threads.specs.Parts.{AreRowsOfRun, facts_of_run, schema_of_run}
 use Rattle.cube_tool.proofs.AnsweringLaws.{GivesUnless-Ok}
-use Rattle.cube_tool.proofs.RowShapeLaws.{HasShapeOf-AreRowsWhere}
+use Rattle.cube_text.proofs.RowShapeLaws.{HasShapeOf-AreRowsWhere}
 use Rattle.cube_tool.proofs.command.feeds.drill_text.Goals as goal
 
 pub print_rows-requires : goal.print_rows-requires

@@ -5,7 +5,7 @@ use Rattle.cube_core.specs.Layout.{Layout}
 use Rattle.cube_core.specs.Query.{AreRowsWhere, matches}
 use Rattle.cube_core.specs.Takes.{fits}
 use Rattle.cube_threads.specs.Parts.{facts_of_run}
-use Rattle.cube_tool.proofs.RowShapeLaws.{HasShapeOf-AreRowsWhere}
+use Rattle.cube_text.proofs.RowShapeLaws.{HasShapeOf-AreRowsWhere}
 use Rattle.cube_tool.proofs.command.feeds.slice_text.Goals as goal
 
 pub print_rows-requires : goal.print_rows-requires

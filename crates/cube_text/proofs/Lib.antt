@@ -1,0 +1,3 @@
+mod AppendLaws
+pub mod LineLaws
+pub mod RowShapeLaws

@@ -1,0 +1,22 @@
+use Rattle.std.proofs.Common.{◌<◌, ◌∷◌, ◌++◌, [], take, get_or, length, arith}
+use Rattle.std.proofs.lemmas.List.{take_more}
+use Rattle.cube_core.specs.declared.key.Key.{Key}
+use Rattle.cube_cells.specs.Tally.{Tally}
+use Rattle.cube_cells.specs.Rows.{IsRowOf}
+use Rattle.cube_text.proofs.LineLaws.{AddsText-row_line}
+use Rattle.cube_core.proofs.ListLaws.{AllZip-push}
+use Rattle.cube_text.proofs.print.put_cells.Goals as goal
+
+pub loop-place-preserved : goal.loop-place-preserved
+loop-place-preserved c =
+    let i = c.loop-place.place in
+    let o = c.args.cells.now in
+    let inside : i < length o.cells = omega arith in
+    let unused : Key × Tally = (record { coords = [] }, record { facts = 0; bags = [] }) in
+    let row = c.in_ok-row.row in
+    let before = c.loop-place.invariant in
+    rw (take_more o.cells i unused inside) (record {
+      rows = before.rows ++ row ∷ [];
+      are_rows = AllZip-push (IsRowOf o.aggregates) (take i o.cells) before.rows (get_or o.cells i unused) row before.are_rows (c.in_ok-row.ensures unused);
+      added = AddsText-row_line before.rows row _ _ _ before.added c.in_ok-put_row.ensures;
+    })

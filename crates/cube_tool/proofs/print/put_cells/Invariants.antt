@@ -1,6 +1,0 @@
-use Rattle.std.proofs.Common.{take}
-use Rattle.cube_tool.specs.Rows.{AddsRows}
-use Rattle.cube_tool.proofs.print.put_cells.Given as goal
-
-abbrev pub invariant-loop-place : goal.invariant-loop-place
-invariant-loop-place l = AddsRows l.cells.aggregates (take l.place l.cells.cells) l.initial.lines l.lines
