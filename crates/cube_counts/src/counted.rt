@@ -102,7 +102,7 @@ impl Counted {
     }
 
     /// Whether `value` is held.
-    pub(crate) fn holds(&self, value: i64) -> bool
+    pub fn holds(&self, value: i64) -> bool
         ensures { result ≡ nat_lt 0 (held_of self.now value) }
     {
         match &self.values {

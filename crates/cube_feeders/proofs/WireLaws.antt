@@ -1,9 +1,11 @@
 -- Links are made one by one.
-use Rattle.std.proofs.Common.{◌≡◌, ◌≢◌, ◌<◌, ◌+◌, ℕ, suc, List, [], ◌∷◌, ◌++◌, length, get_or, set, map, refl, ap, subst, sym, ◌∙◌, ◌⊎◌, inl, inr, arith, length-set, get_or-set_same, get_or-set_other}
+use Rattle.std.proofs.Common.{◌≡◌, ◌≢◌, ◌<◌, ◌+◌, ℕ, suc, List, [], ◌∷◌, ◌++◌, length, get_or, set, map, refl, ap, subst, sym, ◌∙◌, ◌⊎◌, inl, inr, arith, Option, IfSome, length-set, get_or-set_same, get_or-set_other}
 use Rattle.std.proofs.lemmas.Grind.{common_steps}
 use Rattle.std.proofs.lemmas.List.{get_or_append_left, get_or_default}
 use Rattle.std.proofs.Math.Seq.{get_or-append_seam}
 use Rattle.std.specs.List.{All}
+use Rattle.std.specs.Prelude.{Result, Ok, Err, IfOk}
+use Rattle.std.specs.Result.{result_ok}
 use Rattle.cube_link.specs.Link.{Sending, Receiving}
 use Rattle.cube_feeders.specs.Wiring.{Grows, ConnectsFirst, Connects, AreLinked}
 use Rattle.cube_feeders.specs.declared.parcel.Parcel.{Parcel}
