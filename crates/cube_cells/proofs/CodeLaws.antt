@@ -1,13 +1,12 @@
 -- Laws of codes: those of a key's coordinates, made dimension by dimension, and kept in a grouping set.
-use Rattle.std.proofs.Common.{◌≡◌, ℕ, zero, suc, ◌+◌, ◌<◌, ◌≤◌, ◌==◌, ◌%◌, ◌/◌, List, [], ◌∷◌, ◌++◌, true, sym, ap, ◌∙◌, subst, arith, length, get_or, set, take, drop, Option, None, if◌then◌else◌, append_assoc, add-one, inl, inr}
+use Rattle.std.proofs.Common.{◌≡◌, ℕ, zero, suc, ◌+◌, ◌<◌, ◌≤◌, ◌==◌, ◌%◌, ◌/◌, List, [], ◌∷◌, ◌++◌, true, sym, ap, ◌∙◌, subst, arith, length, get_or, set, take, drop, Option, None, if◌then◌else◌, add-one}
 use Rattle.std.specs.List.{list_all}
-use Rattle.std.proofs.lemmas.Bool.{and_parts, and_from, cases_eq, cases_lt}
+use Rattle.std.proofs.lemmas.Bool.{and_parts, and_from, cases_eq}
 use Rattle.std.proofs.Math.Logic.{⊎_elim}
-use Rattle.std.proofs.lemmas.List.{at_drop_more, at_drop_all, append-nil, take_more_set, drop-set-lt, take_all, take-append-le, take-set, length-set, get_or-set_same, get_or-set_other, get_or_past}
+use Rattle.std.proofs.lemmas.List.{take_all, take-append-le, take-set, length-set, get_or-set_same, get_or-set_other}
 use Rattle.cube_core.specs.declared.key.Coord.{Coord}
 use Rattle.cube_core.specs.declared.key.Coord.TheVariants as coord
-use Rattle.cube_cells.specs.Codes.{Dictionaries, IsCodeOf, AreCodesOf, is_code, are_codes, kept_codes, all_code, texts_with}
-use Rattle.cube_cells.specs.Cube.{AddsTexts, MayAddTexts}
+use Rattle.cube_cells.specs.Codes.{Dictionaries, IsCodeOf, AreCodesOf, is_code, are_codes, all_code, texts_with}
 
 -- ---- dimension by dimension
 -- one dimension more

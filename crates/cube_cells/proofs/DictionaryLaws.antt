@@ -6,11 +6,11 @@ use Rattle.std.specs.declared.string.String.{String}
 use Rattle.indexmap.specs.IndexSet.{insert_key}
 use Rattle.std.specs.Str.{bytes_eq}
 use Rattle.std.proofs.lemmas.Bool.{cases_Bool, cases_lt, or_cases, or_right, or_left, or_from, and_parts, and_from, eqb-true, ne_eqb, ltb-true, lt-ltb, le-ltb, both_ways, not-true, not_from_false, false_from_ne_true, cond-false}
-use Rattle.std.proofs.lemmas.List.{length-map, length_push, get_or_push, map_push}
+use Rattle.std.proofs.lemmas.List.{length-map, length_push, map_push}
 use Rattle.std.proofs.lemmas.Slice.Eq.{bytes_eq-Decides}
 use Rattle.cube_core.specs.Layout.{is_listed, are_distinct}
 use Rattle.cube_core.specs.declared.key.Coord.TheVariants as coord
-use Rattle.cube_cells.specs.Codes.{IsDictionary, IsCodeOf, is_code, coord_at, texts_with, all_code, null_code, no_code}
+use Rattle.cube_cells.specs.Codes.{IsDictionary, IsCodeOf, is_code, coord_at, all_code, null_code, no_code}
 
 -- ---- places
 prefix_len-map : {A B : Type 0} (f : A → B) (p : B → Bool) (xs : List A) → prefix_len (λ x. p (f x)) xs ≡ prefix_len p (map f xs)

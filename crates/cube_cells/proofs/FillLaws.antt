@@ -6,13 +6,13 @@ use Rattle.std.specs.List.Sorted.{IsPermutation}
 use Rattle.std.specs.Map.{set_value}
 use Rattle.std.proofs.lemmas.Bool.{cases_Bool, cond-true, cond-false}
 use Rattle.std.proofs.lemmas.List.{length-replicate}
-use Rattle.std.proofs.lemmas.List.Elements.{All-head, All-tail, All-nil, All-cons, All-contains, All-push}
-use Rattle.std.proofs.lemmas.List.Sorted.{All-permutation, IsPermutation-reverse, sum_by-IsPermutation}
+use Rattle.std.proofs.lemmas.List.Elements.{All-head, All-tail, All-push}
+use Rattle.std.proofs.lemmas.List.Sorted.{sum_by-IsPermutation}
 use Rattle.std.proofs.lemmas.List.Sums.{sum_by-cons}
 use Rattle.cube_counts.specs.Bag.{Bag, held_of}
 use Rattle.cube_cells.specs.Coded.{CodedCells, AreNewCells, same_codes, coded_at, total_codes}
 use Rattle.cube_cells.specs.Cube.{empty_tally, tally_or_empty}
-use Rattle.cube_cells.specs.Fill.{AreMadeFrom, FillsSet, HaveOneWidth, IsFiner, MakesLevels, MergesIn}
+use Rattle.cube_cells.specs.Fill.{AreMadeFrom, FillsSet, IsFiner, MakesLevels, MergesIn}
 use Rattle.cube_cells.specs.Tally.{Tally, PlusTally, SameTally}
 use Rattle.cube_cells.specs.Walk.{AreApart, key_in, weight_of_cells}
 use Rattle.cube_cells.specs.declared.cube.codes.Codes.{Codes}

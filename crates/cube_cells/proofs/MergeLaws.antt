@@ -1,9 +1,9 @@
 -- Laws of tallies that are joined: the bags of one added to those of another, and the tally of the facts of both.
 use Rattle.std.specs.Prelude.{ℤ, All}
-use Rattle.std.proofs.Common.{◌≡◌, ℕ, ◌+◌, ◌<◌, ◌≤◌, List, [], refl, arith, ap, sym, ◌∙◌, subst, length, set, take}
+use Rattle.std.proofs.Common.{◌≡◌, ℕ, ◌+◌, ◌<◌, ◌≤◌, List, [], arith, ap, sym, ◌∙◌, subst, length, set, take}
 use Rattle.std.proofs.lemmas.Bool.{cases_lt, cases_eq}
 use Rattle.std.proofs.Math.Logic.{⊎_elim}
-use Rattle.std.proofs.lemmas.List.{get_or-set_same, get_or-set_other, get_or-take, get_or_default, get_or_past, length-set, length-take, take_all}
+use Rattle.std.proofs.lemmas.List.{get_or-set_same, get_or-set_other, get_or-take, get_or_default, get_or_past, length-set, length-take}
 use Rattle.cube_counts.specs.Bag.{Bag, AddsBag, held_of, size_of}
 use Rattle.cube_cells.specs.Tally.{bag_at, AddsBags, SameBags}
 use Rattle.cube_counts.proofs.BagLaws.{held_le_size, size_of-bag}

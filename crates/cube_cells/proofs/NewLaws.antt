@@ -1,5 +1,5 @@
 -- Laws of the new cube: its kept sets, its empty dictionaries, and its one cell or none.
-use Rattle.std.proofs.Common.{◌≡◌, ℕ, zero, suc, ◌^◌, ◌<◌, ◌≤◌, ◌==◌, ◌%◌, List, [], ◌∷◌, ◌++◌, Bool, true, false, cond, ◌||◌, refl, sym, ap, ◌∙◌, subst, arith, inl, inr, length, filter, replicate, Some, None, if◌then◌else◌}
+use Rattle.std.proofs.Common.{◌≡◌, ℕ, zero, suc, ◌^◌, ◌<◌, ◌≤◌, ◌==◌, ◌%◌, List, [], ◌∷◌, ◌++◌, Bool, true, false, cond, ◌||◌, refl, sym, ap, ◌∙◌, subst, arith, inl, inr, length, replicate, Some, None, if◌then◌else◌}
 use Rattle.std.specs.Prelude.{All, IfSome, is_some}
 use Rattle.std.specs.Cmp.{eq_by_cmp_equiv}
 use Rattle.std.specs.List.{list_all, IsDistinct}
@@ -8,16 +8,15 @@ use Rattle.std.specs.List.Sorted.{IsStrictlySortedBy}
 use Rattle.std.specs.Ordering.{nat_cmp, eq_by_cmp}
 use Rattle.std.proofs.lemmas.Bool.{cases_Bool, and_parts, and_from, and_left, and_right, both_ways, eq-eqb}
 use Rattle.std.proofs.lemmas.List.{length-replicate, get_or-replicate, get_or_past}
-use Rattle.std.proofs.lemmas.List.Elements.{All-filter, All-replicate, All-nil, All-cons, filter-append}
+use Rattle.std.proofs.lemmas.List.Elements.{All-filter, All-replicate, All-nil, All-cons}
 use Rattle.std.proofs.lemmas.List.Kept.{IsStrictlySortedBy-filter}
 use Rattle.std.proofs.lemmas.Map.Keys.{sorted_from_strictly_increasing}
 use Rattle.std.proofs.lemmas.List.Sums.{sum_by-cons}
 use Rattle.std.proofs.lemmas.Bool.{cases_lt}
 use Rattle.cube_core.specs.Cube.{is_cell, is_total}
-use Rattle.cube_core.specs.GroupingSet.{mask_of, mask_of_coords, is_among, is_all_coord, sets_of_part}
+use Rattle.cube_core.specs.GroupingSet.{mask_of, is_among, is_all_coord, sets_of_part}
 use Rattle.cube_core.specs.Layout.{Layout, IsSchema}
 use Rattle.cube_core.specs.Order.{key_cmp}
-use Rattle.cube_core.specs.declared.key.Coord.{Coord}
 use Rattle.cube_core.specs.declared.key.Key.{Key}
 use Rattle.cube_core.proofs.CellKeyLaws.{key_cmp-is_total}
 use Rattle.cube_core.proofs.KeyOrderLaws.{key_cmp-IsTotalOrder}

@@ -1,22 +1,17 @@
 -- A feed taken into a ledger, item by item: what was taken, and what is to come.
-use Rattle.std.proofs.Common.{◌≡◌, ℕ, true, false, List, [], ◌∷◌, ◌++◌, length, map, refl, sym, ap, ◌∙◌, subst, append_assoc}
-use Rattle.std.specs.Prelude.{⊤, Option, Some, None, option_map, Result, Ok, Err, is_err, IfOk, OnOk}
+use Rattle.std.proofs.Common.{◌≡◌, ℕ, false, List, [], ◌∷◌, ◌++◌, length, map, refl, sym, ap, ◌∙◌, subst, append_assoc}
+use Rattle.std.specs.Prelude.{⊤, Option, Some, None, option_map, Result, Ok, Err, is_err, OnOk}
 use Rattle.std.proofs.Math.ListN.{length-set}
 use Rattle.std.proofs.lemmas.List.{append-nil, map-append}
 use Rattle.cube_core.specs.Arrival.{Arrivals}
 use Rattle.cube_core.specs.Layout.{Layout}
 use Rattle.cube_core.specs.Records.{records_of}
-use Rattle.cube_core.specs.Run.{IsGood, AreItemsOf}
 use Rattle.cube_core.specs.Items.{Coming, FeedEnd, Good, WrongHeader, TooManyRecords, items_of}
-use Rattle.cube_core.specs.Takes.{takes}
-use Rattle.cube_core.specs.declared.change.Change.{Change}
-use Rattle.cube_core.specs.declared.change.LineFault.{LineFault}
 use Rattle.cube_core.specs.declared.change.Item.{Item}
-use Rattle.cube_feed.specs.Feed.{Ahead, FeedView, Gives, to_come, fault_of, nothing_but}
+use Rattle.cube_feed.specs.Feed.{Ahead, FeedView, Gives, to_come, fault_of}
 use Rattle.cube_feed.specs.declared.fault.FeedFault.{FeedFault}
-use Rattle.cube_feed.specs.declared.fault.FeedFault.TheVariants.{Memory, Read, Header, TooMany}
-use Rattle.cube_engine.specs.Build.{TakesFeed, IsFaultOf}
-use Rattle.cube_engine.specs.Ledger.{LedgerView, AtSource, Enters, LedgerStandsAt, says_taken}
+use Rattle.cube_feed.specs.declared.fault.FeedFault.TheVariants.{Header, TooMany}
+use Rattle.cube_engine.specs.Ledger.{LedgerView, AtSource, Enters, LedgerStandsAt}
 
 -- what is to come of a feed at its start, where its bytes are told
 abbrev pub start_of : Layout → Option (List ℕ) → Ahead

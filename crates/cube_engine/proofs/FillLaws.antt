@@ -1,16 +1,16 @@
 -- A cube that is filled, fact after fact and book after book.
-use Rattle.std.proofs.Common.{◌≡◌, ◌<◌, ◌≤◌, ◌+◌, ℕ, List, [], ◌∷◌, ◌++◌, drop, get_or, length, append_assoc, refl, sym, ap, ◌∙◌, subst}
+use Rattle.std.proofs.Common.{◌≡◌, ◌<◌, ◌≤◌, ◌+◌, ℕ, List, [], ◌∷◌, ◌++◌, drop, get_or, length, append_assoc, sym, ap, ◌∙◌, subst}
 use Rattle.std.specs.List.Sorted.{IsPermutation}
 use Rattle.std.proofs.lemmas.List.{append-nil, at_drop_more, at_drop_all}
-use Rattle.std.proofs.lemmas.List.Sorted.{IsPermutation-refl, IsPermutation-trans, IsPermutation-append_left}
+use Rattle.std.proofs.lemmas.List.Sorted.{IsPermutation-trans, IsPermutation-append_left}
 use Rattle.cube_core.specs.declared.fact.Fact.{Fact}
 use Rattle.cube_core.specs.Layout.{Layout}
-use Rattle.cube_cells.specs.Cube.{Lattice, AddsFact, IsCubeOf, IsNewLattice}
+use Rattle.cube_cells.specs.Cube.{Lattice, IsCubeOf, IsNewLattice}
 use Rattle.cube_cells.specs.Fill.{IsCubeOfAll}
 use Rattle.cube_engine.specs.Book.{facts_of}
 use Rattle.cube_engine.specs.Builder.{GainsFacts, HasFacts}
 use Rattle.cube_engine.specs.Ledger.{AccountView, AllFit, all_facts}
-use Rattle.cube_engine.proofs.BuilderLaws.{HasFacts-add, HasFacts-permutation, SameSets-trans}
+use Rattle.cube_engine.proofs.BuilderLaws.{HasFacts-permutation, SameSets-trans}
 use Rattle.cube_engine.proofs.LedgerLaws.{swap-front}
 
 -- while a cube is filled with facts: some of them are in it, and these are left

@@ -1,6 +1,5 @@
 -- What was gathered grows look by look.
 use Rattle.std.proofs.Common.{append-nil, ◌≡◌, ◌≢◌, ◌<◌, ◌≤◌, ◌+◌, ◌==◌, ℕ, suc, Bool, true, false, List, [], ◌∷◌, ◌++◌, length, get_or, set, replicate, map, refl, ap, sym, ◌∙◌, ◌⊎◌, inl, inr, arith, rules, eq-eqb, append_assoc, length-set, get_or-set_same, get_or-set_other}
-use Rattle.std.specs.Prelude.{cond, filter}
 use Rattle.std.proofs.lemmas.List.{map-append, length-map, get_or-map, get_or_default, get_or-replicate, ext_get_or}
 use Rattle.std.proofs.lemmas.List.FromFn.{get_or-map-range_with_len, length-map-range_with_len}
 use Rattle.cube_core.specs.declared.change.Item.{Item}

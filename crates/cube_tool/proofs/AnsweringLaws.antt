@@ -1,31 +1,28 @@
 -- From builders that have taken good feeds to what a command over feeds promises.
-use Rattle.std.proofs.Common.{◌≡◌, ◌≤◌, ◌<◌, ◌∙◌, true, ℕ, List, [], ◌∷◌, ◌++◌, length, map, take, get_or, refl, sym, ap, ap₂, subst, arith}
-use Rattle.std.specs.Prelude.{Option, Some, None, Result, Ok, Err, IfOk, IfErr}
+use Rattle.std.proofs.Common.{◌≡◌, ◌≤◌, ◌<◌, ◌∙◌, ℕ, List, [], ◌∷◌, ◌++◌, length, map, get_or, refl, sym, ap, ap₂, subst}
+use Rattle.std.specs.Prelude.{Option, Some, None, Result, Ok, Err, IfOk}
 use Rattle.std.specs.Io.KnownBytes.{Appends}
-use Rattle.std.specs.List.{AllZip, flat_map, list_all}
-use Rattle.std.proofs.lemmas.List.Sums.{list_all-from_AllPass}
-use Rattle.std.proofs.lemmas.Result.{IfOk-weaker, IfErr-weaker}
+use Rattle.std.specs.List.{AllZip, flat_map}
+use Rattle.std.proofs.lemmas.Result.{IfOk-weaker}
 use Rattle.cube_core.specs.Arrival.{of_sources}
 use Rattle.cube_core.specs.Layout.{Layout}
-use Rattle.cube_core.specs.Query.{drill_fault, drills_down}
+use Rattle.cube_core.specs.Query.{drills_down}
 use Rattle.cube_core.specs.Refusals.{refusals_of}
-use Rattle.cube_core.specs.Run.{Told, AreGood}
+use Rattle.cube_core.specs.Run.{Told}
 use Rattle.cube_core.specs.Sources.{SurviveTogether}
-use Rattle.cube_core.specs.Takes.{fits}
 use Rattle.cube_core.specs.declared.change.Item.{Item}
-use Rattle.cube_core.specs.declared.change.Refusal.{Refusal}
 use Rattle.cube_core.specs.declared.key.Key.{Key}
 use Rattle.cube_core.specs.declared.query.QueryFault.{QueryFault}
 use Rattle.cube_cells.specs.Rows.{GivesUnless}
 use Rattle.cube_engine.specs.Builder.{BuilderView}
-use Rattle.cube_engine.specs.Ledger.{AccountView, AccountStandsAt, LedgerView, LedgerStandsAt, AllFit}
+use Rattle.cube_engine.specs.Ledger.{AccountView, AccountStandsAt, LedgerView}
 use Rattle.cube_engine.proofs.SurvivorLaws.{SurviveTogether-stands}
 use Rattle.cube_engine.specs.declared.fault.RunFault.{RunFault}
 use Rattle.cube_engine.specs.declared.fault.RunFault.TheVariants as run_fault
 use Rattle.cube_threads.specs.Building.{ExplainsRun}
 use Rattle.cube_threads.specs.Parts.{BuiltView, BuildsParts, StandsInParts, first_ledger, schema_of_run, facts_of_run}
 use Rattle.cube_threads.proofs.PartLaws.{first-is}
-use Rattle.cube_tool.specs.Answering.{AreFeeds, DrillLeaves, EndsWith, EndsAmid, FailsToDrill, Leaves, ShowsCube, ShowsRows, WritesPart}
+use Rattle.cube_tool.specs.Answering.{AreFeeds, DrillLeaves, EndsWith, Leaves, ShowsCube, ShowsRows, WritesPart}
 use Rattle.cube_tool.specs.Command.{all_refusals, status_after}
 use Rattle.cube_tool.specs.Run.{Runs, FaultLeaves}
 use Rattle.cube_tool.specs.declared.command.status.Status.{Status}

@@ -2,9 +2,9 @@
 use Rattle.std.proofs.Common.{◌≡◌, ◌<◌, ◌≤◌, ◌+◌, ◌-◌, ℕ, zero, suc, List, [], ◌∷◌, ◌++◌, length, get_or, map, take, refl, sym, ap, ◌∙◌, subst, arith, append_assoc}
 use Rattle.std.specs.List.{flat_map, range_with_len}
 use Rattle.std.proofs.lemmas.Grind.{flat_map-append}
-use Rattle.std.proofs.lemmas.List.{append-nil, get_or-map, length-map, take_all}
+use Rattle.std.proofs.lemmas.List.{append-nil, get_or-map}
 use Rattle.cube_core.proofs.SetLaws.{range_with_len-more}
-use Rattle.cube_core.specs.Text.{lines_of_source, lines_of_sources, refusal_line}
+use Rattle.cube_core.specs.Text.{lines_of_source, refusal_line}
 use Rattle.cube_core.specs.declared.change.Refusal.{Refusal}
 use Rattle.cube_engine.specs.Ledger.{AccountView, new_account}
 use Rattle.cube_tool.specs.Command.{all_refusals, status_after}

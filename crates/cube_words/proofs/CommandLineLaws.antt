@@ -1,14 +1,10 @@
 -- What clap makes of the program's command line.
-use Rattle.std.proofs.Common.{◌≡◌, ◌≤◌, ◌∙◌, List, [], ◌∷◌, false, true, length, refl, sym, ap, ap₂, subst, arith}
+use Rattle.std.proofs.Common.{◌≡◌, ◌≤◌, ◌∙◌, List, [], ◌∷◌, false, true, length, refl, sym, ap, subst, arith}
 use Rattle.std.specs.Prelude.{Option, Some, None, Result, Ok, IfSome, MatchResult, codes, slice_index}
-use Rattle.std.specs.Prelude.{Box, option_map, unwrap_or}
-use Rattle.std.specs.Box.{box_value}
-use Rattle.std.specs.declared.alloc.Global.{Global}
-use Rattle.clap.specs.Words.{HasMatchesOf, Row, Text, first_of, found_of, is_simple, rows_of, subcommand_name_of, subcommand_of, subcommand_rows, subcommand_rows_of, takes}
+use Rattle.std.specs.Prelude.{option_map, unwrap_or}
+use Rattle.clap.specs.Words.{HasMatchesOf, Row, Text, first_of, is_simple, subcommand_of, subcommand_rows_of, takes}
 use Rattle.clap.specs.declared.Error.{Error}
 use Rattle.clap.specs.declared.parser.matches.ArgMatches.{ArgMatches}
-use Rattle.clap.specs.declared.parser.matches.ArgMatches.TheViews.{out-ArgMatches, out-SubCommand}
-use Rattle.clap.specs.declared.parser.matches.SubCommand.{SubCommand}
 use Rattle.clap.proofs.OnLiterals.{clap_on_literals}
 use Rattle.cube_words.specs.CommandLine.{AsksToCheck, AsksToExplain, IsInBounds, IsRequest, begins_as_flag, command_line}
 use Rattle.cube_words.specs.declared.request.Request.{Request}
