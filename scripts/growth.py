@@ -60,8 +60,11 @@ def plot(lines):
         colour = COLOURS[name]
         out.append(f'<polyline points="{points}" fill="none" stroke="{colour}" stroke-width="2"/>')
         out += [f'<circle cx="{x(records):.1f}" cy="{y(seconds):.1f}" r="3" fill="{colour}"/>' for records, seconds in line]
-        records, seconds = line[-1]
-        out.append(f'<text x="{x(records) + 8:.1f}" y="{y(seconds) + 4:.1f}" fill="{colour}">{name}</text>')
+    # names stand to the right of all lines, no two on one height
+    last = -math.inf
+    for height, name in sorted((y(line[-1][1]) + 4, name) for name, line in lines.items()):
+        last = max(height, last + 13)
+        out.append(f'<text x="{WIDE - RIGHT + 8}" y="{last:.1f}" fill="{COLOURS[name]}">{name}</text>')
     return "\n".join([*out, "</svg>", ""])
 
 

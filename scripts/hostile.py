@@ -181,7 +181,7 @@ def growths_in_turn(trials):
         if not os.path.exists(path):
             continue
         listed = subprocess.run([path, "--list"], stdout=subprocess.PIPE, text=True, timeout=60).stdout
-        for name in re.findall(r"[\w:]*growth[\w:]*", listed):
+        for name in re.findall(r"^([\w:]*growth[\w:]*?)(?=: |$)", listed, re.MULTILINE):
             tests = Program(os.path.abspath(path), trials.program.shim, trials.program.folder)
             trials.trial(f"memory refused in turn: test {name}", lambda: test_in_turn(tests, name))
 
