@@ -20,6 +20,8 @@ import threading
 import oracle
 
 HERE = os.path.dirname(os.path.abspath(__file__))
+# (run_plain over a schema and feeds, where rt ci or rt run built it)
+ON_ONE_THREAD = os.path.join(HERE, "..", "crates", "run_bench", "out", "run_bench")
 SAMPLE = oracle.Schema(
     ["region", "kind"], ["amount"], [("count", None), ("sum", 0), ("min", 0), ("max", 0), ("avg", 0)]
 )
@@ -429,7 +431,7 @@ def random_case(rng):
     schema = random_schema(rng)
     texts = rng.sample(TEXTS, rng.randint(2, len(TEXTS)))
     sources = rng.choice([1, 1, 2, 3, 5, 64])
-    most = rng.choice([3, 20, 20, 60, 400]) if sources < 10 else 5
+    most = rng.choice([3, 20, 20, 60, 400] * 12 + [3000]) if sources < 10 else 5
     feeds = [[random_record(rng, schema, texts, rng.choice([2, 10, 100])) for _ in range(rng.randint(0, most))] for _ in range(sources)]
     return schema, feeds
 
@@ -475,6 +477,11 @@ def compare(program, rng):
                 return f"{words[0]}: {code} was to come, and {answer.err[:100]!r} came"
         elif (answer.status, answer.out, answer.err) != (run.status, text, b""):
             return f"{words}: status {answer.status}, {answer.err[:200]!r}, or other text"
+    if os.path.exists(ON_ONE_THREAD):
+        call = [ON_ONE_THREAD, "case.toml", *files]
+        plain = subprocess.run(call, cwd=program.folder, stdout=subprocess.PIPE, stderr=subprocess.DEVNULL, timeout=120)
+        if (plain.returncode == 0, plain.stdout) != (not fault, b"" if fault else run.print()):
+            return f"on one thread: status {plain.returncode}, or other text"
     return None
 
 
