@@ -197,18 +197,18 @@ IsCodedCell-IsPermutation dictionaries measures wants cells f places all moved =
 abbrev pub decode : Dictionaries → Codes × Tally → Key × Tally
 decode dictionaries c = (key_at dictionaries c.0.codes, c.1)
 
--- what shows the same codes and tallies shows the same cells
-pub decode-same : (dictionaries : Dictionaries) {X Y : Type 0} (f : X → Codes × Tally) (g : Y → Codes × Tally) (xs : List X) (ys : List Y) → map f xs ≡ map g ys → map (λ x. decode dictionaries (f x)) xs ≡ map (λ y. decode dictionaries (g y)) ys
-decode-same dictionaries f g xs ys same = sym (map-map f (decode dictionaries) xs) ∙ ap (map (decode dictionaries)) same ∙ map-map g (decode dictionaries) ys
+-- lists that show the same show the same of it
+pub map-same : {A B X Y : Type 0} (h : A → B) (f : X → A) (g : Y → A) (xs : List X) (ys : List Y) → map f xs ≡ map g ys → map (λ x. h (f x)) xs ≡ map (λ y. h (g y)) ys
+map-same h f g xs ys same = sym (map-map f h xs) ∙ ap (map h) same ∙ map-map g h ys
 
--- and what is true of each tally there is true of each tally here
-pub tallies-same : (P : Tally → Type 0) {X Y : Type 0} (f : X → Codes × Tally) (g : Y → Codes × Tally) (xs : List X) (ys : List Y) → map f xs ≡ map g ys → All (λ y. P (g y).1) ys → All (λ x. P (f x).1) xs
-tallies-same P f g [] ys same all = All-nil (λ x. P (f x).1)
-tallies-same P f g (x ∷ xs) [] same all = cc same
-tallies-same P f g (x ∷ xs) (y ∷ ys) same all =
+-- and what is true of all that the one shows is true of all that the other does
+pub All-same : {A X Y : Type 0} (P : A → Type 0) (f : X → A) (g : Y → A) (xs : List X) (ys : List Y) → map f xs ≡ map g ys → All (λ y. P (g y)) ys → All (λ x. P (f x)) xs
+All-same P f g [] ys same all = All-nil (λ x. P (f x))
+All-same P f g (x ∷ xs) [] same all = cc same
+All-same {A = A} P f g (x ∷ xs) (y ∷ ys) same all =
     let first : f x ≡ g y = cc same in
     let rest : map f xs ≡ map g ys = cc same in
-    All-cons (λ x. P (f x).1) x xs (subst (λ (c : Codes × Tally). P c.1) (sym first) (All-head (λ y. P (g y).1) y ys all)) (tallies-same P f g xs ys rest (All-tail (λ y. P (g y).1) y ys all))
+    All-cons (λ x. P (f x)) x xs (subst P (sym first) (All-head (λ y. P (g y)) y ys all)) (All-same P f g xs ys rest (All-tail (λ y. P (g y)) y ys all))
 
 -- wanted cells in key order give the rows
 AreRowsOf-decoded : (dictionaries : Dictionaries) (measures : ℕ) (test : Key → Bool) (wants : List Want) (aggregates : List Agg) (cells : CodedCells) {X : Type 0} (f : X → Codes × Tally) (places : List X) (rows : List Row) → All IsDictionary dictionaries → length dictionaries ≤ 8 → All (IsCodedCell dictionaries measures) cells → IsDistinct same_codes (keys_of cells) → AreWantsOf dictionaries test wants

@@ -1,11 +1,12 @@
 //! The texts of a dimension, each with its place as its code.
-ghost use Rattle.std.specs.Prelude.{◌≡◌, ◌<◌, ◌≤◌, ◌==◌, not, ◌++◌, ◌∷◌, [], IfOk, IfSome, IfNone, OnOk, OnErr, length, position, slice_get, get_or, Some, None, nat_lt, true, false, if◌then◌else◌};
+ghost use Rattle.std.specs.Prelude.{◌≡◌, ◌<◌, ◌≤◌, ◌==◌, not, ◌++◌, ◌∷◌, [], IfOk, IfSome, IfNone, OnOk, OnErr, length, position, slice_get, get_or, drop, Some, None, nat_lt, true, false, if◌then◌else◌};
+ghost use Rattle.std.specs.Cmp.Lexicographic.{slice_cmp};
 ghost use Rattle.std.specs.Str.{bytes_eq};
 ghost use Rattle.cube_core.specs.declared.key.Coord.TheVariants as coord;
 ghost use Rattle.std.specs.String.{string_bytes};
 ghost use Rattle.cube_core.specs.Layout.{is_listed};
 ghost use Rattle.cube_core.specs.Order.{coord_cmp};
-ghost use Rattle.cube_cells.specs.Codes.{IsDictionary, texts_with, is_code, no_code, IsCodeOf, coord_at, coord_of_value};
+ghost use Rattle.cube_cells.specs.Codes.{IsDictionary, texts_with, all_code, is_code, no_code, IsCodeOf, coord_at, coords_at, coord_of_value};
 
 use super::codes::{ALL, NONE, NULL};
 use cube_core::{Coord, Text};
@@ -70,15 +71,16 @@ impl Dictionary {
         }
     }
 
-    /// How the coordinates of two codes stand to each other: texts by their bytes, then null, then ALL.
-    #[tactic(auto, using(crate::proofs::TextLaws::compared_high, crate::proofs::TextLaws::compared_same, crate::proofs::TextLaws::compared_texts))]
-    pub fn compare(&self, left: u32, right: u32) -> Ordering
-        ensures { result ≡ coord_cmp (coord_at self.now left) (coord_at self.now right) }
+    /// How the coordinate of a code stands to that of a code of another dictionary: texts by their bytes, then null,
+    /// then ALL.
+    #[tactic(auto, using(crate::proofs::TextLaws::compared_high, crate::proofs::TextLaws::compared_texts))]
+    pub fn compare(&self, left: u32, other: &Dictionary, right: u32) -> Ordering
+        ensures { result ≡ coord_cmp (coord_at self.now left) (coord_at other.now right) }
     {
-        if left >= NULL || right >= NULL || left == right {
+        if left >= NULL || right >= NULL {
             return left.cmp(&right);
         }
-        self.text(left as usize).cmp(self.text(right as usize))
+        self.text(left as usize).cmp(other.text(right as usize))
     }
 
     /// A copy of the coordinate of a code; the only error is want of memory.
@@ -165,6 +167,45 @@ impl Dictionary {
         let text = String::from_str(alloc, text.as_str())?;
         self.texts.insert_full(text)?;
         Ok(code)
+    }
+}
+
+/// How the keys of codes stand to each other, dimension by dimension, each by its own dictionaries.
+#[tactic(auto, using(crate::proofs::TextLaws::first_coord))]
+pub fn compare_keys(
+    dictionaries: &[Dictionary],
+    left: &[u32],
+    others: &[Dictionary],
+    right: &[u32],
+) -> Ordering
+    ensures { result ≡ slice_cmp coord_cmp
+        (coords_at dictionaries.now left.now) (coords_at others.now right.now) }
+{
+    let Some((dictionary, dictionaries)) = dictionaries.split_first() else {
+        return match others.split_first() {
+            None => Ordering::Equal,
+            Some(_) => Ordering::Less,
+        };
+    };
+    let Some((other, others)) = others.split_first() else {
+        return Ordering::Greater;
+    };
+    let (left, lefts) = first_code(left);
+    let (right, rights) = first_code(right);
+    match dictionary.compare(left, other, right) {
+        Ordering::Equal => compare_keys(dictionaries, lefts, others, rights),
+        apart => apart,
+    }
+}
+
+// The first code, and the others; ALL where there is none.
+fn first_code(codes: &[u32]) -> (u32, &[u32])
+    ensures first { result.0 ≡ get_or codes.now 0 all_code }
+    ensures others { result.1.now ≡ drop 1 codes.now }
+{
+    match codes.split_first() {
+        None => (ALL, codes),
+        Some((code, others)) => (*code, others),
     }
 }
 

@@ -1,15 +1,18 @@
 //! The cells of a cube in order, whose rows are made one at a time.
-ghost use Rattle.std.specs.Prelude.{◌≡◌, ◌≤◌, ◌<◌, [], true, IfOk, length, map, get_or, All};
+ghost use Rattle.std.specs.Prelude.{◌≡◌, ◌≤◌, ◌<◌, ◌++◌, [], true, IfOk, OnOk, OnErr, length, map, get_or, All};
 ghost use Rattle.std.specs.List.{AllZip, list_all};
+ghost use Rattle.std.specs.List.Sorted.{IsPermutation, IsSortedBy};
+ghost use Rattle.std.specs.Ordering.{is_lt};
+ghost use Rattle.cube_core.specs.Order.{key_cmp};
 ghost use Rattle.cube_core.specs.Layout.{is_aggregate_of};
 ghost use Rattle.cube_core.specs.declared.key.Key.{Key};
-ghost use Rattle.cube_cells.specs.Codes.{coords_at, key_at};
+ghost use Rattle.cube_cells.specs.Codes.{Dictionaries, coords_at, key_at};
 ghost use Rattle.cube_cells.specs.Rows.{AreAnswersOf, AreRowsInOrder, IsRowOf};
 ghost use Rattle.cube_cells.specs.Tally.{Tally};
 ghost use Rattle.cube_cells.specs.declared.cube.codes.Codes.{Codes};
 
 use super::codes::Codes;
-use super::dictionary::Dictionary;
+use super::dictionary::{Dictionary, compare_keys};
 use crate::cell::Cell;
 use cube_core::{Agg, Answer, Coord, Key, Row, Sequence};
 use std::alloc::{AllocError, Global};
@@ -23,21 +26,21 @@ pub struct Place<'c> {
     pub cell: &'c Cell,
 }
 
-// A cell, and the codes of its key.
+// A cell, and the codes of its key by these dictionaries.
 #[derive(Drop)]
 struct Coded<'c> {
+    dictionaries: &'c [Dictionary],
     codes: Codes,
     cell: &'c Cell,
 }
 
-/// Cells of a cube in the order of their keys, with the aggregates that their rows answer.
+/// Cells of a cube, or of several, in the order of their keys, with the aggregates that their rows answer.
 ///
 /// It holds no row: each is made when it is asked for.
 #[derive(Drop)]
 pub struct OrderedCells<'c> {
     alloc: Global,
     aggregates: &'c [Agg],
-    dictionaries: &'c [Dictionary],
     cells: Vec<Coded<'c>>,
 }
 
@@ -52,11 +55,12 @@ impl<'c> Model for OrderedCells<'c> {
 
     ghost view = { λ o. record {
       aggregates = o.aggregates.now;
-      cells = map (λ coded. (key_at o.dictionaries.now coded.codes.codes, coded.cell.now)) o.cells.items;
+      cells = map (λ coded.
+          (key_at coded.dictionaries.now coded.codes.codes, coded.cell.now)) o.cells.items;
     } };
 
-    ghost invariant = { λ o. (length o.dictionaries.now ≤ 8)
-        × All (λ coded. list_all (is_aggregate_of (length coded.cell.now.bags)) o.aggregates.now ≡ true) o.cells.items };
+    ghost invariant = { λ o. All (λ coded. (length coded.dictionaries.now ≤ 8)
+        × (list_all (is_aggregate_of (length coded.cell.now.bags)) o.aggregates.now ≡ true)) o.cells.items };
 }
 
 impl<'c> OrderedCells<'c> {
@@ -74,13 +78,43 @@ impl<'c> OrderedCells<'c> {
             (ordered.cells ≡ map (λ place.
             (key_at dictionaries.now place.codes.now.codes, place.cell.now)) places.now)) }
     {
-        let cells = coded_cells(alloc, places)?;
+        let cells = coded_cells(alloc, dictionaries, places)?;
         Ok(OrderedCells {
             alloc,
             aggregates,
-            dictionaries,
             cells,
         })
+    }
+
+    /// Puts the cells of another cube after these, to be sorted with them. The only error is want of memory.
+    pub fn append(&mut self, other: OrderedCells<'c>) -> Result<(), AllocError>
+        requires { other.aggregates ≡ self.old.aggregates }
+        ensures aggregates { self.new.aggregates ≡ self.old.aggregates }
+        ensures cells { OnOk result (self.new.cells ≡ self.old.cells ++ other.entry.cells) }
+        ensures err { OnErr result (self.new.cells ≡ self.old.cells) }
+    {
+        let mut more = other.cells;
+        self.cells.append(&mut more)?;
+        Ok(())
+    }
+
+    /// Puts the cells in the order of their keys; those that stand in order together are merged. The only error is
+    /// want of memory.
+    pub fn sort(&mut self) -> Result<(), AllocError>
+        ensures aggregates { self.new.aggregates ≡ self.old.aggregates }
+        ensures same { IsPermutation self.old.cells self.new.cells }
+        ensures order { OnOk result
+            (IsSortedBy (λ a b. is_lt (key_cmp a.0 b.0)) self.new.cells) }
+    {
+        self.cells.sort_by(|a, b| {
+            compare_keys(
+                a.dictionaries,
+                &a.codes.codes,
+                b.dictionaries,
+                &b.codes.codes,
+            )
+        })?;
+        Ok(())
     }
 
     /// How many cells there are.
@@ -102,7 +136,7 @@ impl<'c> OrderedCells<'c> {
         let coded = &self.cells[place];
         let Row { key, answers } = room;
         let coords = key.coords.into_vec();
-        let key = key_in(self.alloc, self.dictionaries, &coded.codes, coords)?;
+        let key = key_in(self.alloc, coded.dictionaries, &coded.codes, coords)?;
         row_in(self.aggregates, key, coded.cell, answers.into_vec())
     }
 
@@ -120,14 +154,19 @@ impl<'c> OrderedCells<'c> {
 
 // The cells of places, with copies of their codes: one short pass, in which the codes of many cells are fetched at a
 // time.
-fn coded_cells<'c>(alloc: Global, places: &[Place<'c>]) -> Result<Vec<Coded<'c>>, AllocError>
-    ensures { IfOk result (λ cells.
-        map {B = Codes × Tally} (λ coded. (coded.codes, coded.cell.now)) cells.items
-        ≡ map (λ place. (place.codes.now, place.cell.now)) places.now) }
+fn coded_cells<'c>(
+    alloc: Global,
+    dictionaries: &'c [Dictionary],
+    places: &[Place<'c>],
+) -> Result<Vec<Coded<'c>>, AllocError>
+    ensures { IfOk result (λ cells. map {B = Dictionaries × (Codes × Tally)}
+        (λ coded. (coded.dictionaries.now, (coded.codes, coded.cell.now))) cells.items
+        ≡ map (λ place. (dictionaries.now, (place.codes.now, place.cell.now))) places.now) }
 {
     let mut cells = Vec::with_capacity(alloc, places.len())?;
     for place in places {
         cells.push(Coded {
+            dictionaries,
             codes: *place.codes,
             cell: place.cell,
         })?;

@@ -1,28 +1,27 @@
 //! The rows of a cube, in key order.
-ghost use Rattle.std.specs.Prelude.{◌≡◌, ◌≤◌, Bool, true, false, List, IfOk, IsTrue, length, map, filter, drop, get_or, All};
+ghost use Rattle.std.specs.Prelude.{◌≡◌, ◌≤◌, Bool, true, false, List, IfOk, IsTrue, length, map, filter, All};
 ghost use Rattle.std.specs.Cmp.Lexicographic.{slice_cmp};
 ghost use Rattle.std.specs.List.Sorted.{IsPermutation, IsSortedBy};
 ghost use Rattle.std.specs.Ordering.{nat_cmp, is_lt};
 ghost use Rattle.cube_core.specs.Cube.{AreRowsOver};
-ghost use Rattle.cube_core.specs.Order.{coord_cmp, key_cmp};
+ghost use Rattle.cube_core.specs.Order.{key_cmp};
 ghost use Rattle.cube_core.specs.declared.fact.Fact.{Fact};
 ghost use Rattle.cube_core.specs.declared.key.Key.{Key};
 ghost use Rattle.cube_core.specs.declared.key.Row.{Row};
-ghost use Rattle.cube_cells.specs.Codes.{all_code, are_codes, coords_at, key_at, IsDictionary};
+ghost use Rattle.cube_cells.specs.Codes.{are_codes, key_at, IsDictionary};
 ghost use Rattle.cube_cells.specs.Coded.{decoded};
 ghost use Rattle.cube_cells.specs.Cube.{IsCubeOf};
 ghost use Rattle.cube_cells.specs.Ranks.{ranks_of};
 ghost use Rattle.cube_cells.specs.Rows.{AreRowsInOrder, AreRowsOf, AreWantsOf, is_wanted_code, are_wanted_codes};
 
 use super::Cube;
-use super::codes::{ALL, Codes};
-use super::dictionary::Dictionary;
+use super::codes::Codes;
+use super::dictionary::{Dictionary, compare_keys};
 use super::ordered::{OrderedCells, Place};
 use super::ranks::{Ranks, ranks_of, ranks_of_all};
 use crate::cell::Cell;
 use cube_core::Row;
 use std::alloc::{AllocError, Global};
-use std::cmp::Ordering;
 use std::collections::HashMap;
 
 /// What is wanted of the code of a dimension.
@@ -53,6 +52,8 @@ impl Cube {
             (facts : List Fact) → IsCubeOf self.now facts →
             AreRowsOver self.now.sets (length self.now.schema.dimensions)
             self.now.schema.aggregates facts rows) }
+        ensures aggregates { IfOk result (λ ordered.
+            ordered.aggregates ≡ self.now.schema.aggregates) }
     {
         self.ordered_where(&[])
     }
@@ -79,10 +80,12 @@ impl Cube {
 
     // The cells whose codes are wanted.
     fn ordered_where(&self, wants: &[Want]) -> Result<OrderedCells<'_>, AllocError>
-        ensures { IfOk result (λ ordered. (test : Key → Bool) →
+        ensures rows { IfOk result (λ ordered. (test : Key → Bool) →
             AreWantsOf self.now.dictionaries test wants.now →
             (rows : List Row) → AreRowsInOrder ordered rows →
             AreRowsOf test self.now.schema.aggregates self.now.cells rows) }
+        ensures aggregates { IfOk result (λ ordered.
+            ordered.aggregates ≡ self.now.schema.aggregates) }
     {
         let ranks = ranks_of_all(self.alloc, &self.dictionaries)?;
         let places = places_in_order(self.alloc, &ranks, &self.cells, wants)?;
@@ -110,34 +113,10 @@ fn few_places_in_order<'c>(
         (key_at dictionaries.now b.codes.now.codes))) places.items) }
 {
     let mut places = places_of(alloc, &[], cells, wants)?;
-    places.sort_unstable_by(|a, b| compare(dictionaries, &a.codes.codes, &b.codes.codes));
+    places.sort_unstable_by(|a, b| {
+        compare_keys(dictionaries, &a.codes.codes, dictionaries, &b.codes.codes)
+    });
     Ok(places)
-}
-
-// How the keys of codes stand to each other, dimension by dimension.
-#[tactic(auto, using(crate::proofs::TextLaws::first_coord))]
-fn compare(dictionaries: &[Dictionary], left: &[u32], right: &[u32]) -> Ordering
-    ensures { result ≡ slice_cmp coord_cmp
-        (coords_at dictionaries.now left.now) (coords_at dictionaries.now right.now) }
-{
-    let Some((dictionary, others)) = dictionaries.split_first() else {
-        return Ordering::Equal;
-    };
-    let (left, others_left) = first_code(left);
-    let (right, others_right) = first_code(right);
-    let first = dictionary.compare(left, right);
-    first.then(compare(others, others_left, others_right))
-}
-
-// The first code, and the others; ALL where there is none.
-fn first_code(codes: &[u32]) -> (u32, &[u32])
-    ensures first { result.0 ≡ get_or codes.now 0 all_code }
-    ensures others { result.1.now ≡ drop 1 codes.now }
-{
-    match codes.split_first() {
-        None => (ALL, codes),
-        Some((code, others)) => (*code, others),
-    }
 }
 
 // The cells whose codes are wanted, by the ranks of their keys.

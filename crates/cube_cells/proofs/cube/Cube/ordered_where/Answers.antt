@@ -22,8 +22,8 @@ of-requires-clause-aggregates c =
     let fits : All (λ place. list_all (is_aggregate_of (length place.cell.now.bags)) c.self.inside.schema.aggregates ≡ true) c.in_ok-places.places.items = λ k d inside. rw ((placed k d inside).width) c.self.invariant.lattice.schema.aggregates_are_of_measures in
     rw (c.deref-4.ensures.value, c.aggregates.ensures.value) fits
 
-pub returns : goal.returns
-returns c =
+pub returns-clause-rows : goal.returns-clause-rows
+returns-clause-rows c =
     let dictionaries = c.self.inside.dictionaries.items in
     let entries = c.self.inside.cells.entries in
     let measures = length c.self.inside.schema.measures in
