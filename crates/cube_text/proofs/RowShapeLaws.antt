@@ -7,7 +7,7 @@ use Rattle.std.proofs.lemmas.List.Elements.{All-from_recursion}
 use Rattle.cube_core.specs.Layout.{Layout}
 use Rattle.cube_core.specs.Query.{AreRowsWhere}
 use Rattle.cube_core.specs.Takes.{fits}
-use Rattle.cube_core.specs.Cube.{AreRows, HasAnswers, key_of}
+use Rattle.cube_core.specs.Cube.{HasAnswers, key_of}
 use Rattle.cube_core.specs.declared.key.Key.{Key}
 use Rattle.cube_core.specs.declared.key.Row.{Row}
 use Rattle.cube_core.specs.declared.fact.Fact.{Fact}
@@ -22,16 +22,7 @@ HasShapeOf-HasAnswers s facts [] keys answers = tt
 HasShapeOf-HasAnswers s facts (row ∷ rows) keys answers =
     (record { coords = keys.0; answers = sym (AllZip-length _ s.aggregates row.answers answers.0) }, HasShapeOf-HasAnswers s facts rows keys.1 answers.1)
 
--- each row of a cube over facts that fit has the schema's numbers of coordinates and answers
-pub HasShapeOf-AreRows : (s : Layout) (facts : List Fact) (rows : List Row) → list_all (fits s) facts ≡ true → AreRows s facts rows → All (HasShapeOf s) rows
-HasShapeOf-AreRows s facts rows fit are =
-    All-from_recursion (HasShapeOf s) rows
-    (HasShapeOf-HasAnswers s facts rows
-    (Contains-AllByRecursion (λ (key : Key). length key.coords ≡ length s.dimensions) (map key_of rows)
-    (λ key among. is_cell-length s facts key fit (and_parts _ _ ((are.cells key).0 among)).1))
-    are.answers)
-
--- so does each of those whose keys pass a test
+-- each row of a cube over facts that fit has the schema's numbers of coordinates and answers, whatever test its key passes
 pub HasShapeOf-AreRowsWhere : (test : Key → Bool) (s : Layout) (facts : List Fact) (rows : List Row) → list_all (fits s) facts ≡ true
     → AreRowsWhere test s.grouping_sets (length s.dimensions) s.aggregates facts rows → All (HasShapeOf s) rows
 HasShapeOf-AreRowsWhere test s facts rows fit are =

@@ -4,4 +4,5 @@ pub mod SettleLaws
 pub mod DraftLaws
 pub mod PartLaws
 pub mod JoinLaws
+pub mod OrderLaws
 pub mod QueryLaws

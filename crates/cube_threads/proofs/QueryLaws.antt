@@ -1,23 +1,25 @@
 -- The answers of the builders of a run, part by part.
-use Rattle.std.proofs.Common.{◌≡◌, ◌<◌, ◌+◌, ℕ, Bool, true, List, length, get_or, ◌++◌, arith, IsPermutation, ap, subst, ◌∙◌}
+use Rattle.std.proofs.Common.{◌≡◌, ◌<◌, ◌+◌, ℕ, Bool, true, List, length, get_or, ◌++◌, arith, IsPermutation, ap, sym, subst, ◌∙◌}
 use Rattle.std.specs.Prelude.{Option, Some, None, Result, Ok, Err, IfOk}
+use Rattle.std.specs.List.{AllZip}
 use Rattle.std.specs.List.Sorted.{IsSortedBy}
 use Rattle.std.specs.Ordering.{is_lt}
-use Rattle.cube_core.specs.Cube.{AreRows, AreRowsOver}
+use Rattle.cube_core.specs.Cube.{AreRowsOver}
 use Rattle.cube_core.specs.GroupingSet.{sets_of_part}
-use Rattle.cube_core.specs.Layout.{Layout}
 use Rattle.cube_core.specs.Order.{key_cmp}
 use Rattle.cube_core.specs.Query.{AreRowsWhere}
+use Rattle.cube_core.specs.declared.aggregate.Agg.{Agg}
 use Rattle.cube_core.specs.declared.fact.Fact.{Fact}
 use Rattle.cube_core.specs.declared.key.Key.{Key}
 use Rattle.cube_core.specs.declared.key.Row.{Row}
 use Rattle.cube_core.specs.declared.query.QueryFault.{QueryFault}
-use Rattle.cube_cells.specs.Rows.{GivesUnless}
-use Rattle.cube_cells.specs.Cube.{Lattice, IsCubeOf}
+use Rattle.cube_cells.specs.Rows.{AreRowsInOrder, CellsInOrder, GivesUnless, IsRowOf}
+use Rattle.cube_cells.specs.Cube.{Cells, Lattice, IsCubeOf}
 use Rattle.cube_engine.specs.Builder.{BuilderView}
 use Rattle.cube_engine.specs.Ledger.{all_facts}
 use Rattle.cube_threads.specs.Parts.{first_ledger, AreParts}
-use Rattle.cube_threads.proofs.JoinLaws.{AreRowsBelow, rows-first, rows-more, rows-all, rows-one, rows-over, over-rows}
+use Rattle.cube_threads.proofs.JoinLaws.{AreRowsBelow, rows-first, rows-more, rows-all, rows-one, over-rows}
+use Rattle.cube_threads.proofs.OrderLaws.{AllZip-IsPermutation, AllZip-split, IsSortedBy-IsRowOf}
 
 -- these are the rows of the first so many parts, in any order, whose keys pass a test
 abbrev pub AreRowsOfParts : ℕ → (Key → Bool) → List BuilderView → List Row → Type 0
@@ -76,14 +78,46 @@ parts-alone items (Ok rows) test builders d cube parts one is answers =
     rows-one test _ _ _ _ (items rows) (rw one at of)
 parts-alone items (Err e) test builders d cube parts one is answers = tt
 
--- a query of all rows gives the rows
-pub if_ok-rows : {V E : Type 0} (items : V → List Row) (r : Result V E) (s : Layout) (facts : List Fact) → IfOk r (λ rows. AreRowsWhere (λ key. true) s.grouping_sets (length s.dimensions) s.aggregates facts (items rows)) → IfOk r (λ rows. AreRows s facts (items rows))
-if_ok-rows items (Ok rows) s facts are = rows-over _ _ _ _ (items rows) are
-if_ok-rows items (Err e) s facts are = tt
+-- what the ordered cells of a cube promise
+abbrev pub OrdersCells : Lattice → CellsInOrder → Type 0
+OrdersCells cube o = (rows : List Row) → AreRowsInOrder o rows → (facts : List Fact) → IsCubeOf cube facts → AreRowsOver cube.sets (length cube.schema.dimensions) cube.schema.aggregates facts rows
 
-pub if_ok-all : {V E : Type 0} (items : V → List Row) (r : Result V E) (cube : Lattice) → IfOk r (λ rows. (facts : List Fact) → IsCubeOf cube facts → AreRowsOver cube.sets (length cube.schema.dimensions) cube.schema.aggregates facts (items rows)) → IfOk r (λ rows. Answers (λ key. true) cube (items rows))
-if_ok-all items (Ok rows) cube are = answers-all cube (items rows) are
-if_ok-all items (Err e) cube are = tt
+-- the rows of these cells are those of the first so many parts, in any order
+abbrev pub AreCellsOfParts : ℕ → List BuilderView → CellsInOrder → Type 0
+AreCellsOfParts count builders o = (rows : List Row) → AreRowsInOrder o rows → AreRowsOfParts count (λ key. true) builders rows
+
+-- the cells of builder 0
+pub cells-first : (builders : List BuilderView) (d : BuilderView) (cube : Lattice) (o : CellsInOrder) → AreParts builders → cube ≡ (get_or builders 0 d).cube → OrdersCells cube o → AreCellsOfParts 1 builders o
+cells-first builders d cube o parts is orders rows are = parts-first (λ key. true) builders d cube rows parts is (answers-all cube rows (orders rows are))
+
+-- and those of one builder more after them
+pub cells-more : (builders : List BuilderView) (part : ℕ) (d : BuilderView) (cube : Lattice) (o more joined : CellsInOrder) → AreParts builders → part < length builders → cube ≡ (get_or builders part d).cube → OrdersCells cube more →
+    more.aggregates ≡ o.aggregates → joined.aggregates ≡ o.aggregates → joined.cells ≡ o.cells ++ more.cells → AreCellsOfParts part builders o → AreCellsOfParts (part + 1) builders joined
+cells-more builders part d cube o more joined parts below is orders same kept appended cells rows are =
+    let zipped : AllZip (IsRowOf o.aggregates) (o.cells ++ more.cells) rows =
+    subst (λ (a : List Agg). AllZip (IsRowOf a) (o.cells ++ more.cells) rows) kept (subst (λ (c : Cells). AllZip (IsRowOf joined.aggregates) c rows) appended are) in
+    let split = AllZip-split (IsRowOf o.aggregates) o.cells more.cells rows zipped in
+    let back : AreRowsInOrder more split.1 = subst (λ (a : List Agg). AllZip (IsRowOf a) more.cells split.1) (sym same) split.4 in
+    subst (λ (joined_rows : List Row). AreRowsOfParts (part + 1) (λ key. true) builders joined_rows) (sym split.2)
+    (parts-more (λ key. true) builders part d cube split.0 split.1 parts below is (answers-all cube split.1 (orders split.1 back)) (cells split.0 split.3))
+
+-- the cells of all, put in key order
+pub cells-all : (builders : List BuilderView) (count : ℕ) (o sorted : CellsInOrder) → AreParts builders → count ≡ length builders → AreCellsOfParts count builders o → sorted.aggregates ≡ o.aggregates →
+    IsPermutation o.cells sorted.cells → IsSortedBy (λ a b. is_lt (key_cmp a.0 b.0)) sorted.cells → (rows : List Row) → AreRowsInOrder sorted rows → AreRowsOfAll (λ key. true) builders rows
+cells-all builders count o sorted parts all cells kept moved order rows are =
+    let zipped : AllZip (IsRowOf o.aggregates) sorted.cells rows = subst (λ (a : List Agg). AllZip (IsRowOf a) sorted.cells rows) kept are in
+    let before = AllZip-IsPermutation (IsRowOf o.aggregates) o.cells sorted.cells rows moved zipped in
+    rows-all (length builders) (λ key. true) _ _ _ _ before.0 rows parts.some
+    (subst (λ (n : ℕ). AreRowsOfParts n (λ key. true) builders before.0) all (cells before.0 before.1)) before.2
+    (IsSortedBy-IsRowOf o.aggregates sorted.cells rows order zipped)
+
+-- the cells of a builder that is alone
+pub cells-alone : (builders : List BuilderView) (d : BuilderView) (cube : Lattice) (o : CellsInOrder) → AreParts builders → length builders ≡ 1 → cube ≡ (get_or builders 0 d).cube → OrdersCells cube o →
+    (rows : List Row) → AreRowsInOrder o rows → AreRowsOfAll (λ key. true) builders rows
+cells-alone builders d cube o parts one is orders rows are =
+    let some = parts.some in
+    let of = of-part (λ key. true) builders 0 d cube rows parts (omega arith) is (answers-all cube rows (orders rows are)) in
+    rows-one (λ key. true) _ _ _ _ rows (rw one at of)
 
 -- a drill-down that was answered had no fault
 pub gives-ok : {V W : Type 0} (fault other : Option QueryFault) (P : V → Type 0) (Q : W → Type 0) (v : V) (w : W) → fault ≡ other → GivesUnless fault P (Ok v) → Q w → GivesUnless other Q (Ok w)

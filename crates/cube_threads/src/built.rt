@@ -1,13 +1,15 @@
 //! The builders of a run, with the links by which the feeds came, and queries of all their cubes.
-ghost use Rattle.std.specs.Prelude.{◌≡◌, ◌<◌, ◌++◌, ◌∷◌, [], length, map, slice_index_or, vec_len, IfOk, OnOk, Some};
+ghost use Rattle.std.specs.Prelude.{◌≡◌, ◌<◌, ◌++◌, ◌∷◌, [], List, length, map, slice_index_or, vec_len, IfOk, OnOk, Some};
 ghost use Rattle.cube_core.specs.Cube.{AreRows};
 ghost use Rattle.cube_core.specs.Query.{matches, drills_down, drill_fault};
-ghost use Rattle.cube_cells.specs.Rows.{GivesUnless};
+ghost use Rattle.cube_core.specs.declared.key.Row.{Row};
+ghost use Rattle.cube_cells.specs.Rows.{AreRowsInOrder, GivesUnless};
 ghost use Rattle.cube_engine.specs.Builder.{BuilderView};
 ghost use Rattle.cube_threads.specs.Parts.{AreParts, AreRowsOfRun, schema_of_run, facts_of_run};
 
 use crate::draft::Part;
 use crate::joining::in_key_order;
+use cube_cells::OrderedCells;
 use cube_core::{Key, Pattern, QueryFault, Row};
 use cube_engine::Builder;
 use cube_feeders::{Gatherer, Parcel};
@@ -142,14 +144,23 @@ impl Built {
         ensures { IfOk result (λ rows.
             AreRows (schema_of_run self.now) (facts_of_run self.now) rows.items) }
     {
+        self.ordered()?.rows()
+    }
+
+    /// The cells of all parts in key order, for rows that are made one at a time. The only error is want of memory.
+    pub fn ordered(&self) -> Result<OrderedCells<'_>, AllocError>
+        ensures { IfOk result (λ ordered. (rows : List Row) → AreRowsInOrder ordered rows →
+            AreRows (schema_of_run self.now) (facts_of_run self.now) rows) }
+    {
         if self.builders.len() == 1 {
-            return self.builders[0].cube().rows();
+            return self.builders[0].cube().ordered();
         }
-        let mut rows = self.builders[0].cube().rows()?;
+        let mut cells = self.builders[0].cube().ordered()?;
         for part in 1..self.builders.len() {
-            rows.append(&mut self.builders[part].cube().rows()?)?;
+            cells.append(self.builders[part].cube().ordered()?)?;
         }
-        in_key_order(rows)
+        cells.sort()?;
+        Ok(cells)
     }
 
     /// The rows of all parts whose keys a pattern matches, in key order. The only error is want of memory.

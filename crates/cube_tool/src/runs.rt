@@ -3,14 +3,14 @@ ghost use Rattle.std.specs.Prelude.{◌≡◌, ◌≤◌, length, map, vec_len, 
 ghost use Rattle.cube_core.specs.Printed.{IsPrinted};
 ghost use Rattle.cube_engine.specs.Build.{ExplainsBuild};
 ghost use Rattle.cube_engine.specs.Builder.{StandsAt};
-ghost use Rattle.cube_engine.specs.Ledger.{AllFit, all_facts};
+ghost use Rattle.cube_engine.specs.Ledger.{all_facts};
 ghost use Rattle.cube_threads.specs.Building.{ExplainsRun};
 ghost use Rattle.cube_threads.specs.Parts.{StandsInParts, schema_of_run, facts_of_run};
 ghost use Rattle.cube_tool.specs.Run.{FaultLeaves, Runs};
 
 use cube_core::Schema;
 use cube_engine::{Builder, RunFault, build_plain};
-use cube_text::{print_cells, print_rows, write_whole};
+use cube_text::{print_cells, write_whole};
 use cube_threads::{Built, Gate, build};
 use std::alloc::{AllocError, Global};
 use std::io::{Read, Write};
@@ -54,15 +54,11 @@ pub fn run<T: Threads + Wait + Sync, R: Read + Drop + Send, G: Gate + Sync, W: W
 
 // The text of the rows of all builders of a run.
 fn print_built(alloc: Global, schema: &Schema, built: &Built) -> Result<Vec<u8>, AllocError>
-    requires schema { schema_of_run built.now ≡ schema.now }
-    requires fit { AllFit schema.now (facts_of_run built.now) }
+    requires { schema_of_run built.now ≡ schema.now }
     ensures { IfOk result (λ text. IsPrinted schema.now (facts_of_run built.now) text.items) }
 {
-    if built.builders().len() == 1 {
-        return print_cube(alloc, schema, built.builder());
-    }
-    let rows = built.rows()?;
-    print_rows(alloc, schema, &rows)
+    let cells = built.ordered()?;
+    print_cells(alloc, schema, &cells)
 }
 
 /// Takes every item of at most 64 feeds, source after source, computes the cube of the facts that are present in

@@ -1,7 +1,7 @@
 //! What runs in threads print, whatever the number of builders.
 ghost use Rattle.std.specs.Prelude.{◌≤◌};
 
-use crate::run_texts;
+use crate::{plain_text, run_texts};
 use cube_core::Schema;
 use cube_engine::RunFault;
 use cube_feed::FeedFault;
@@ -18,6 +18,24 @@ const ONE: &str = "op,id,region,kind,amount\nI,1,w,a,1\n";
 const TWO: &str = "op,id,region,kind,amount\nI,1,w,a,2\n";
 
 const TURNED: &str = "op,id,kind,region,amount\n";
+
+const PREFIXES: &str = "\
+op,id,region,kind,amount
+I,1,w,a,1
+I,2,\\N,west,2
+I,3,west,\\N,3
+I,4,we,a kind whose name is of more than 24 bytes,4
+I,5,w,a kind whose name is of more than 24 byt,5
+I,6,\\N,\\N,6
+";
+
+const LATER: &str = "\
+op,id,region,kind,amount
+I,1,west of the west of the west,\\N,7
+I,2,we,a kind whose name is of more than 24 bytes,8
+I,3,west of the west of the west,a,9
+I,4,\\N,w,10
+";
 
 const BOTH: &str = "\
 region,kind,grouping(region),grouping(kind),count(*),sum(amount),min(amount),max(amount),avg(amount)
@@ -51,20 +69,18 @@ impl Write for Narrow {
 }
 
 // What a run of so many builders over two sources writes.
-fn printed<T: Threads + Wait + Sync>(rt: &T, alloc: Global, builders: u32) -> Result<Vec<u8>, Fail>
+fn printed<T: Threads + Wait + Sync>(
+    rt: &T,
+    alloc: Global,
+    feeds: [&'static str; 2],
+    builders: u32,
+) -> Result<Vec<u8>, Fail>
     requires { (1 ≤ builders) × (builders ≤ 8) }
 {
     let schema = Schema::sample(alloc)?;
     let mut out = Vec::new(alloc);
     let ran = run_texts(
-        rt,
-        alloc,
-        &schema,
-        &[ONE, TWO],
-        1,
-        builders,
-        &OpenGate,
-        &mut out,
+        rt, alloc, &schema, &feeds, 1, builders, &OpenGate, &mut out,
     );
     ran.ok().ok_or("the run failed")?;
     Ok(out)
@@ -72,25 +88,39 @@ fn printed<T: Threads + Wait + Sync>(rt: &T, alloc: Global, builders: u32) -> Re
 
 #[test]
 fn one_builder_prints_the_cube(rt: HostRuntime) -> Result<(), Fail> {
-    assert_eq!(rt; printed(&rt, rt.alloc(), 1)?.as_slice(), BOTH.as_bytes());
+    assert_eq!(rt; printed(&rt, rt.alloc(), [ONE, TWO], 1)?.as_slice(), BOTH.as_bytes());
     Ok(())
 }
 
 #[test]
 fn two_builders_print_the_cube(rt: HostRuntime) -> Result<(), Fail> {
-    assert_eq!(rt; printed(&rt, rt.alloc(), 2)?.as_slice(), BOTH.as_bytes());
+    assert_eq!(rt; printed(&rt, rt.alloc(), [ONE, TWO], 2)?.as_slice(), BOTH.as_bytes());
     Ok(())
 }
 
 #[test]
 fn three_builders_print_the_cube(rt: HostRuntime) -> Result<(), Fail> {
-    assert_eq!(rt; printed(&rt, rt.alloc(), 3)?.as_slice(), BOTH.as_bytes());
+    assert_eq!(rt; printed(&rt, rt.alloc(), [ONE, TWO], 3)?.as_slice(), BOTH.as_bytes());
     Ok(())
 }
 
 #[test]
 fn eight_builders_print_the_cube(rt: HostRuntime) -> Result<(), Fail> {
-    assert_eq!(rt; printed(&rt, rt.alloc(), 8)?.as_slice(), BOTH.as_bytes());
+    assert_eq!(rt; printed(&rt, rt.alloc(), [ONE, TWO], 8)?.as_slice(), BOTH.as_bytes());
+    Ok(())
+}
+
+#[test]
+fn builders_print_the_same_of_nulls_prefixes_and_long_texts(rt: HostRuntime) -> Result<(), Fail> {
+    let alloc = rt.alloc();
+    let schema = Schema::sample(alloc)?;
+    let Ok(plain) = plain_text(alloc, &schema, &[PREFIXES, LATER]) else {
+        return Err(Fail::new("the plain run"));
+    };
+    for builders in [1, 2, 3, 8] {
+        let text = printed(&rt, alloc, [PREFIXES, LATER], builders)?;
+        assert_eq!(rt; text.as_slice(), plain.as_slice());
+    }
     Ok(())
 }
 

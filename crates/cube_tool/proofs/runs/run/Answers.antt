@@ -3,17 +3,13 @@ use Rattle.std.proofs.lemmas.List.{length-map}
 use Rattle.cube_core.specs.Printed.{IsPrinted}
 use Rattle.cube_threads.specs.Parts.{StandsInParts, facts_of_run}
 use Rattle.cube_tool.specs.Run.{Runs}
-use Rattle.cube_tool.proofs.RunLaws.{AllFit-BuildsParts, Runs-BuildsParts, RunsPart-BuildsParts}
+use Rattle.cube_tool.proofs.RunLaws.{Runs-BuildsParts, RunsPart-BuildsParts}
 use Rattle.cube_threads.proofs.PartLaws.{schema-run}
 use Rattle.cube_tool.proofs.runs.run.Goals as goal
 
-pub print_built-requires-clause-schema : goal.print_built-requires-clause-schema
-print_built-requires-clause-schema g c =
+pub print_built-requires : goal.print_built-requires
+print_built-requires g c =
     schema-run c.args.schema.now (map g.R.Read.remaining c.args.readers.items) c.args.builders c.in_ok-built.built c.requires.builders.0 c.in_ok-built.ensures.ok
-
-pub print_built-requires-clause-fit : goal.print_built-requires-clause-fit
-print_built-requires-clause-fit g c =
-    AllFit-BuildsParts c.args.schema.now (map g.R.Read.remaining c.args.readers.items) c.args.builders c.in_ok-built.built c.requires.builders.0 c.in_ok-built.ensures.ok
 
 pub returns-in-Ok-write_whole-clause-ok : goal.returns-in-Ok-write_whole-clause-ok
 returns-in-Ok-write_whole-clause-ok g c =
