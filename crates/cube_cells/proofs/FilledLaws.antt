@@ -305,7 +305,7 @@ IsFilled-AreNewCells schema sets dictionaries start frame ascending new =
     let n : ℕ = length schema.dimensions in
     let grown : AreGrown (replicate n []) dictionaries = subst (λ (k : ℕ). AreGrown (replicate k []) dictionaries) frame.width (AreGrown-replicate dictionaries) in
     let coded : IsCoded schema sets 0 (replicate n []) start = IsCoded-AreNewCells schema sets start frame.is_schema frame.within ascending new in
-    let moved = IsCoded-SameCells_from_AreGrown schema sets 0 (replicate n []) dictionaries start coded grown frame.texts in
+    let moved = IsCoded-SameCells_from_AreGrown dictionaries coded grown frame.texts in
     let cube : IsCubeOf (lattice_of schema sets 0 dictionaries start) [] =
     IsCubeOf-SameCells (lattice_of schema sets 0 (replicate n []) start) (lattice_of schema sets 0 dictionaries start) [] moved.1 (IsCubeOf-AreNewCells schema sets start frame.is_schema.dimensions_at_most new) in
     record {

@@ -186,13 +186,20 @@ AreNewCells-one measures cells codes t total one found empty width = record {
   alone (e ∷ f ∷ es) len at = absurd (omega (arith, len))
 
 -- ---- the whole
-pub IsNewLattice-AreNewCells : (schema : Layout) (sets : List ℕ) (dictionaries : Dictionaries) (total : Bool) (cells : CodedCells) → IsSchema schema → All (λ set. set < 2 ^ length schema.dimensions) sets → IsStrictlySortedBy nat_cmp sets → dictionaries ≡ replicate (length schema.dimensions) [] → total ≡ is_among 0 sets → AreNewCells total (length schema.measures) cells → IsCoded schema sets 0 dictionaries cells × IsCubeOf (lattice_of schema sets 0 dictionaries cells) [] × IsNewLattice schema sets (lattice_of schema sets 0 dictionaries cells)
-IsNewLattice-AreNewCells schema sets dictionaries total cells is within ascending texts_are total_is new =
-    let as_kept = subst (λ (b : Bool). AreNewCells b (length schema.measures) cells) total_is new in (
-      rw texts_are (IsCoded-AreNewCells schema sets cells is within ascending as_kept),
-      rw texts_are (IsCubeOf-AreNewCells schema sets cells is.dimensions_at_most as_kept),
-      rw texts_are (IsNewLattice-lattice_of schema sets cells),
-    )
+-- what is kept is a new cube of no fact
+pub record IsNewCube (schema : Layout) (sets : List ℕ) (dictionaries : Dictionaries) (cells : CodedCells) : Type 0 where
+  pub coded : IsCoded schema sets 0 dictionaries cells
+  pub cube : IsCubeOf (lattice_of schema sets 0 dictionaries cells) []
+  pub new : IsNewLattice schema sets (lattice_of schema sets 0 dictionaries cells)
+
+pub IsNewCube-AreNewCells : (schema : Layout) (sets : List ℕ) (dictionaries : Dictionaries) (total : Bool) (cells : CodedCells) → IsSchema schema → All (λ set. set < 2 ^ length schema.dimensions) sets → IsStrictlySortedBy nat_cmp sets → dictionaries ≡ replicate (length schema.dimensions) [] → total ≡ is_among 0 sets → AreNewCells total (length schema.measures) cells → IsNewCube schema sets dictionaries cells
+IsNewCube-AreNewCells schema sets dictionaries total cells is within ascending texts_are total_is new =
+    let as_kept = subst (λ (b : Bool). AreNewCells b (length schema.measures) cells) total_is new in
+    record {
+      coded = rw texts_are (IsCoded-AreNewCells schema sets cells is within ascending as_kept);
+      cube = rw texts_are (IsCubeOf-AreNewCells schema sets cells is.dimensions_at_most as_kept);
+      new = rw texts_are (IsNewLattice-lattice_of schema sets cells);
+    }
 
 -- the sets of a part are grouping sets of the dimensions, in ascending order
 pub sets_of_part-below : (schema : Layout) (part of : ℕ) → IsSchema schema → All (λ set. set < 2 ^ length schema.dimensions) (sets_of_part part of schema.grouping_sets)

@@ -2,7 +2,7 @@
 use Rattle.std.proofs.Common.{◌≡◌, ℕ, ◌+◌, ◌<◌, ◌≤◌, List, [], ◌∷◌, Bool, true, false, refl, sym, ap, ◌∙◌, subst, arith, inl, inr, length, map, get_or, Option, Some, None}
 use Rattle.std.specs.Prelude.{All, Contains, IsTrue, IsSome, IfSome, filter, is_some}
 use Rattle.std.specs.Cmp.{IsEquivalence}
-use Rattle.std.specs.List.{AllByRecursion, AllZip, IsDistinct}
+use Rattle.std.specs.List.{AllByRecursion, AllZip, IsDistinct, list_all}
 use Rattle.std.specs.List.Sorted.{IsSortedBy, IsPermutation, IsStrictlySortedBy}
 use Rattle.std.specs.Map.{keys_of}
 use Rattle.std.specs.Ordering.{eq_by_cmp, is_lt, nat_cmp}
@@ -17,6 +17,7 @@ use Rattle.std.proofs.lemmas.Map.Made.{IsDistinct-keys_filter}
 use Rattle.std.proofs.lemmas.Map.Views.{lookup-from_Contains, Contains-from_lookup, tells_apart}
 use Rattle.cube_core.specs.Cube.{key_of, HasAnswers, AreRowsOver}
 use Rattle.cube_core.specs.Group.{group_of}
+use Rattle.cube_core.specs.Layout.{Layout, is_aggregate_of}
 use Rattle.cube_core.specs.Order.{key_cmp}
 use Rattle.cube_core.specs.Query.{AreRowsWhere}
 use Rattle.cube_core.specs.declared.aggregate.Agg.{Agg}
@@ -26,7 +27,7 @@ use Rattle.cube_core.specs.declared.key.Row.{Row}
 use Rattle.cube_core.proofs.ListLaws.{map-Contains, Contains-map, filter-Contains, Contains-filter}
 use Rattle.cube_core.proofs.KeyOrderLaws.{key_cmp-exact, key_cmp-IsTotalOrder}
 use Rattle.cube_cells.specs.Codes.{Dictionaries, IsDictionary, are_codes, key_at}
-use Rattle.cube_cells.specs.Coded.{CodedCells, IsCodedCell, same_codes, decoded}
+use Rattle.cube_cells.specs.Coded.{CodedCells, IsCoded, IsCodedCell, same_codes, decoded}
 use Rattle.cube_cells.specs.Cube.{Cells, Lattice, IsCubeOf, cell_at}
 use Rattle.cube_cells.specs.Ranks.{AreAllRanks, ranks_of}
 use Rattle.cube_cells.specs.Rows.{AreRowsOf, IsRowOf, AreAnswersOf, AreWantsOf, are_wanted_codes}
@@ -160,6 +161,9 @@ IsDistinct-decoded dictionaries measures (c ∷ cells) texts room all distinct =
       head [] all others = tt
       head (e ∷ es) all others = (two e (All-head (IsCodedCell dictionaries measures) e es all) others.0, head es (All-tail (IsCodedCell dictionaries measures) e es all) others.1)
 
+IsDistinct-IsCoded : {schema : Layout} {sets : List ℕ} {facts : ℕ} {dictionaries : Dictionaries} {cells : CodedCells} → IsCoded schema sets facts dictionaries cells → IsDistinct same_key_as (keys_of (decoded dictionaries cells))
+IsDistinct-IsCoded {schema = schema} {dictionaries = dictionaries} {cells = cells} is = IsDistinct-decoded dictionaries (length schema.measures) cells is.texts (omega (arith, is.lattice.dictionaries, is.lattice.schema.dimensions_at_most)) is.each is.distinct
+
 -- the cells whose codes are wanted are those whose keys pass the test
 pub decoded-filter : (dictionaries : Dictionaries) (measures : ℕ) (test : Key → Bool) (wants : List Want) (cells : CodedCells) → AreWantsOf dictionaries test wants → All (IsCodedCell dictionaries measures) cells → decoded dictionaries (filter (λ c. are_wanted_codes wants c.0.codes) cells) ≡ filter (λ c. test c.0) (decoded dictionaries cells)
 decoded-filter dictionaries measures test wants [] are all = refl
@@ -193,6 +197,12 @@ IsCodedCell-IsPermutation dictionaries measures wants cells f places all moved =
     let there = Contains-permutation (map f places) wanted (f place) (IsPermutation-sym wanted (map f places) moved) (map-Contains f places place inside) in
     All-contains (IsCodedCell dictionaries measures) cells (f place) all (Contains-filter (λ (c : Codes × Tally). are_wanted_codes wants c.0.codes) cells (f place) there).0)
 
+-- of whose measures the aggregates are
+pub is_aggregate_of-IsPermutation : {schema : Layout} {sets : List ℕ} {facts : ℕ} {dictionaries : Dictionaries} {cells : CodedCells} (wants : List Want) {X : Type 0} (f : X → Codes × Tally) (places : List X) → IsCoded schema sets facts dictionaries cells → IsPermutation (filter (λ c. are_wanted_codes wants c.0.codes) cells) (map f places) → All (λ place. list_all (is_aggregate_of (length (f place).1.bags)) schema.aggregates ≡ true) places
+is_aggregate_of-IsPermutation {schema = schema} {dictionaries = dictionaries} {cells = cells} wants f places is moved =
+    let placed = IsCodedCell-IsPermutation dictionaries (length schema.measures) wants cells f places is.each moved in
+    λ k d inside. rw ((placed k d inside).width) is.lattice.schema.aggregates_are_of_measures
+
 -- a cell by its key
 abbrev pub decode : Dictionaries → Codes × Tally → Key × Tally
 decode dictionaries c = (key_at dictionaries c.0.codes, c.1)
@@ -211,50 +221,50 @@ All-same {A = A} P f g (x ∷ xs) (y ∷ ys) same all =
     All-cons (λ x. P (f x)) x xs (subst P (sym first) (All-head (λ y. P (g y)) y ys all)) (All-same P f g xs ys rest (All-tail (λ y. P (g y)) y ys all))
 
 -- wanted cells in key order give the rows
-AreRowsOf-decoded : (dictionaries : Dictionaries) (measures : ℕ) (test : Key → Bool) (wants : List Want) (aggregates : List Agg) (cells : CodedCells) {X : Type 0} (f : X → Codes × Tally) (places : List X) (rows : List Row) → All IsDictionary dictionaries → length dictionaries ≤ 8 → All (IsCodedCell dictionaries measures) cells → IsDistinct same_codes (keys_of cells) → AreWantsOf dictionaries test wants
+AreRowsOf-decoded : {schema : Layout} {sets : List ℕ} {facts : ℕ} {dictionaries : Dictionaries} {cells : CodedCells} (test : Key → Bool) (wants : List Want) {X : Type 0} (f : X → Codes × Tally) (places : List X) (rows : List Row) → IsCoded schema sets facts dictionaries cells → AreWantsOf dictionaries test wants
     → IsPermutation (filter (λ c. are_wanted_codes wants c.0.codes) cells) (map f places) → IsSortedBy (λ x y. is_lt (key_cmp x.0 y.0)) (map (λ place. decode dictionaries (f place)) places)
-    → AllZip (IsRowOf aggregates) (map (λ place. decode dictionaries (f place)) places) rows → AreRowsOf test aggregates (decoded dictionaries cells) rows
-AreRowsOf-decoded dictionaries measures test wants aggregates cells f places rows texts room all distinct are moved sorted zipped =
-    AreRowsOf-IsRowOf test aggregates (decoded dictionaries cells) (map (λ place. decode dictionaries (f place)) places) rows (IsDistinct-decoded dictionaries measures cells texts room all distinct) moved_keys sorted zipped where
+    → AllZip (IsRowOf schema.aggregates) (map (λ place. decode dictionaries (f place)) places) rows → AreRowsOf test schema.aggregates (decoded dictionaries cells) rows
+AreRowsOf-decoded {schema = schema} {dictionaries = dictionaries} {cells = cells} test wants f places rows is are moved sorted zipped =
+    AreRowsOf-IsRowOf test schema.aggregates (decoded dictionaries cells) (map (λ place. decode dictionaries (f place)) places) rows (IsDistinct-IsCoded is) moved_keys sorted zipped where
       wanted : CodedCells
       wanted = filter (λ c. are_wanted_codes wants c.0.codes) cells
 
       moved_keys : IsPermutation (filter (λ c. test c.0) (decoded dictionaries cells)) (map (λ place. decode dictionaries (f place)) places)
-      moved_keys = rw (← decoded-filter dictionaries measures test wants cells are all, ← map-map f (decode dictionaries) places) (IsPermutation-map (decode dictionaries) wanted (map f places) moved)
+      moved_keys = rw (← decoded-filter dictionaries (length schema.measures) test wants cells are is.each, ← map-map f (decode dictionaries) places) (IsPermutation-map (decode dictionaries) wanted (map f places) moved)
 
 -- so do wanted cells that are put in order by their keys
-pub AreRowsOf-key_cmp : (dictionaries : Dictionaries) (measures : ℕ) (test : Key → Bool) (wants : List Want) (aggregates : List Agg) (cells : CodedCells) {X : Type 0} (f : X → Codes × Tally) (places : List X) (rows : List Row) → All IsDictionary dictionaries → length dictionaries ≤ 8 → All (IsCodedCell dictionaries measures) cells → IsDistinct same_codes (keys_of cells) → AreWantsOf dictionaries test wants
+pub AreRowsOf-key_cmp : {schema : Layout} {sets : List ℕ} {facts : ℕ} {dictionaries : Dictionaries} {cells : CodedCells} (test : Key → Bool) (wants : List Want) {X : Type 0} (f : X → Codes × Tally) (places : List X) (rows : List Row) → IsCoded schema sets facts dictionaries cells → AreWantsOf dictionaries test wants
     → IsPermutation (filter (λ c. are_wanted_codes wants c.0.codes) cells) (map f places) → IsSortedBy (λ a b. is_lt (key_cmp (key_at dictionaries (f a).0.codes) (key_at dictionaries (f b).0.codes))) places
-    → AllZip (IsRowOf aggregates) (map (λ place. (key_at dictionaries (f place).0.codes, (f place).1)) places) rows → AreRowsOf test aggregates (decoded dictionaries cells) rows
-AreRowsOf-key_cmp dictionaries measures test wants aggregates cells f places rows texts room all distinct are moved sorted zipped =
-    AreRowsOf-decoded dictionaries measures test wants aggregates cells f places rows texts room all distinct are moved
+    → AllZip (IsRowOf schema.aggregates) (map (λ place. (key_at dictionaries (f place).0.codes, (f place).1)) places) rows → AreRowsOf test schema.aggregates (decoded dictionaries cells) rows
+AreRowsOf-key_cmp {dictionaries = dictionaries} test wants f places rows is are moved sorted zipped =
+    AreRowsOf-decoded test wants f places rows is are moved
     (IsSortedBy-map (λ place. decode dictionaries (f place)) (λ a b. is_lt (key_cmp (key_at dictionaries (f a).0.codes) (key_at dictionaries (f b).0.codes))) (λ x y. is_lt (key_cmp x.0 y.0)) places (λ a b in_a in_b. refl) sorted) zipped
 
 -- and by their ranks
-pub AreRowsOf-ranks_of : (dictionaries : Dictionaries) (measures : ℕ) (ranks : List (List ℕ)) (test : Key → Bool) (wants : List Want) (aggregates : List Agg) (cells : CodedCells) {X : Type 0} (f : X → Codes × Tally) (r : X → List ℕ) (places : List X) (rows : List Row) → All IsDictionary dictionaries → length dictionaries ≤ 8 → AreAllRanks dictionaries ranks → All (IsCodedCell dictionaries measures) cells → IsDistinct same_codes (keys_of cells) → AreWantsOf dictionaries test wants
+pub AreRowsOf-ranks_of : {schema : Layout} {sets : List ℕ} {facts : ℕ} {dictionaries : Dictionaries} {cells : CodedCells} (ranks : List (List ℕ)) (test : Key → Bool) (wants : List Want) {X : Type 0} (f : X → Codes × Tally) (r : X → List ℕ) (places : List X) (rows : List Row) → IsCoded schema sets facts dictionaries cells → AreAllRanks dictionaries ranks → AreWantsOf dictionaries test wants
     → IsPermutation (filter (λ c. are_wanted_codes wants c.0.codes) cells) (map f places) → All (λ place. r place ≡ ranks_of ranks (f place).0.codes) places → IsSortedBy (λ a b. is_lt (slice_cmp nat_cmp (r a) (r b))) places
-    → AllZip (IsRowOf aggregates) (map (λ place. (key_at dictionaries (f place).0.codes, (f place).1)) places) rows → AreRowsOf test aggregates (decoded dictionaries cells) rows
-AreRowsOf-ranks_of dictionaries measures ranks test wants aggregates cells f r places rows texts room ranked all distinct are moved ranks_are sorted zipped =
-    AreRowsOf-decoded dictionaries measures test wants aggregates cells f places rows texts room all distinct are moved sorted_keys zipped where
-      placed : All (λ place. IsCodedCell dictionaries measures (f place)) places
-      placed = IsCodedCell-IsPermutation dictionaries measures wants cells f places all moved
+    → AllZip (IsRowOf schema.aggregates) (map (λ place. (key_at dictionaries (f place).0.codes, (f place).1)) places) rows → AreRowsOf test schema.aggregates (decoded dictionaries cells) rows
+AreRowsOf-ranks_of {schema = schema} {dictionaries = dictionaries} {cells = cells} ranks test wants f r places rows is ranked are moved ranks_are sorted zipped =
+    AreRowsOf-decoded test wants f places rows is are moved sorted_keys zipped where
+      placed : All (λ place. IsCodedCell dictionaries (length schema.measures) (f place)) places
+      placed = IsCodedCell-IsPermutation dictionaries (length schema.measures) wants cells f places is.each moved
 
       sorted_keys : IsSortedBy (λ x y. is_lt (key_cmp x.0 y.0)) (map (λ place. decode dictionaries (f place)) places)
       sorted_keys = IsSortedBy-map (λ place. decode dictionaries (f place)) (λ a b. is_lt (slice_cmp nat_cmp (r a) (r b))) (λ x y. is_lt (key_cmp x.0 y.0)) places (λ a b in_a in_b.
-          let cell_a = All-contains (λ place. IsCodedCell dictionaries measures (f place)) places a placed in_a in
-          let cell_b = All-contains (λ place. IsCodedCell dictionaries measures (f place)) places b placed in_b in
+          let cell_a = All-contains (λ place. IsCodedCell dictionaries (length schema.measures) (f place)) places a placed in_a in
+          let cell_b = All-contains (λ place. IsCodedCell dictionaries (length schema.measures) (f place)) places b placed in_b in
           let rank_a = All-contains (λ place. r place ≡ ranks_of ranks (f place).0.codes) places a ranks_are in_a in
           let rank_b = All-contains (λ place. r place ≡ ranks_of ranks (f place).0.codes) places b ranks_are in_b in
-          rw (rank_a, rank_b) (ap is_lt (ranks_of-coord_cmp dictionaries ranks (f a).0.codes (f b).0.codes texts ranked cell_a.codes cell_b.codes (cell_a.eight ∙ sym cell_b.eight)))) sorted
+          rw (rank_a, rank_b) (ap is_lt (ranks_of-coord_cmp dictionaries ranks (f a).0.codes (f b).0.codes is.texts ranked cell_a.codes cell_b.codes (cell_a.eight ∙ sym cell_b.eight)))) sorted
 
 decoded-filter_none : (dictionaries : Dictionaries) (test : Key → Bool) (cells : CodedCells) → ((codes : List ℕ) → test (key_at dictionaries codes) ≡ false) → filter (λ c. test c.0) (decoded dictionaries cells) ≡ []
 decoded-filter_none dictionaries test [] none = refl
 decoded-filter_none dictionaries test (c ∷ cells) none = rw (none c.0.codes) (decoded-filter_none dictionaries test cells none)
 
 -- there is no row where no key passes
-pub AreRowsOf-nil : (dictionaries : Dictionaries) (measures : ℕ) (test : Key → Bool) (aggregates : List Agg) (cells : CodedCells) → All IsDictionary dictionaries → length dictionaries ≤ 8 → All (IsCodedCell dictionaries measures) cells → IsDistinct same_codes (keys_of cells) → ((codes : List ℕ) → test (key_at dictionaries codes) ≡ false) → AreRowsOf test aggregates (decoded dictionaries cells) []
-AreRowsOf-nil dictionaries measures test aggregates cells texts room all distinct none =
-    AreRowsOf-IsRowOf test aggregates (decoded dictionaries cells) [] [] (IsDistinct-decoded dictionaries measures cells texts room all distinct)
+pub AreRowsOf-nil : {schema : Layout} {sets : List ℕ} {facts : ℕ} {dictionaries : Dictionaries} {cells : CodedCells} (test : Key → Bool) → IsCoded schema sets facts dictionaries cells → ((codes : List ℕ) → test (key_at dictionaries codes) ≡ false) → AreRowsOf test schema.aggregates (decoded dictionaries cells) []
+AreRowsOf-nil {schema = schema} {dictionaries = dictionaries} {cells = cells} test is none =
+    AreRowsOf-IsRowOf test schema.aggregates (decoded dictionaries cells) [] [] (IsDistinct-IsCoded is)
     (rw (decoded-filter_none dictionaries test cells none) (IsPermutation-refl [])) (λ k d low inside. absurd (omega (arith, inside))) tt
 
 -- ---- rows of facts

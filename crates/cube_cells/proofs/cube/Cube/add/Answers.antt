@@ -1,178 +1,82 @@
-use Rattle.std.proofs.Common.{rules, ◌≡◌, ◌+◌, ◌<◌, ◌^◌, arith, ap, length, true}
-use Rattle.std.specs.Prelude.{All}
-use Rattle.cube_core.specs.Takes.{fits}
-use Rattle.cube_cells.specs.Codes.{IsDictionary}
-use Rattle.cube_cells.specs.Walk.{codes_in}
+use Rattle.std.proofs.Common.{◌≡◌, ◌+◌, ◌++◌, ap, arith, drop, length, rules, take}
+use Rattle.std.proofs.lemmas.Result.{on_err_weaker}
+use Rattle.cube_cells.specs.Coded.{IsCoded, lattice_of}
+use Rattle.cube_cells.specs.Cube.{AddsFact, SameCells}
 use Rattle.cube_cells.proofs.CodeLaws.{take-append-length}
 use Rattle.cube_cells.proofs.CubeLaws.{IsCubeOf-AddsFact, IsCubeOf-SameCells}
-use Rattle.cube_cells.proofs.GrowthLaws.{AreGrown, AreGrown-MayAddTexts, AreGrown-AddsTexts}
-use Rattle.cube_cells.proofs.KeyLaws.{HasFactCodes}
-use Rattle.cube_cells.proofs.StepLaws.{codes_in-HasRoom, IsCoded-AddsFact, IsCoded-SameCells, IsCoded-SameCells_from_AreGrown}
+use Rattle.cube_cells.proofs.GrowthLaws.{AreGrown-MayAddTexts, AreGrown-AddsTexts}
+use Rattle.cube_cells.proofs.StepLaws.{HasNewCodes, codes_in-HasRoom, IsCoded-AddsFact, IsCoded-SameCells, IsCoded-SameCells_from_AreGrown}
 use Rattle.cube_cells.proofs.WalkLaws.{OnErr-always}
+use Rattle.cube_cells.proofs.cube.Cube.add.Goals.{After-add_codes, In_err-codes, In_ok-codes, In_err-add_to_sets, In_ok-add_to_sets}
 use Rattle.cube_cells.proofs.cube.Cube.add.Goals as goal
 
+-- the dictionaries of the cube are the changed ones
+back : (c : After-add_codes) → take c.self.inside.dictionaries.len (c.add_codes.new.dictionaries ++ drop (length c.add_codes.new.dictionaries) c.self.inside.dictionaries.items) ≡ c.add_codes.new.dictionaries
+back c = take-append-length c.self.inside.dictionaries.items c.add_codes.new.dictionaries c.self.inside.dictionaries.len (search rules) (omega (arith, ap length c.deref_mut.ensures.value))
+
+-- ---- no room for a text
+refused : (c : In_err-codes) → IsCoded c.self.inside.schema c.self.inside.sets.items c.self.inside.facts c.add_codes.new.dictionaries c.self.inside.cells.entries × SameCells c.args.self.now (lattice_of c.self.inside.schema c.self.inside.sets.items c.self.inside.facts c.add_codes.new.dictionaries c.self.inside.cells.entries)
+refused c =
+    let grown = AreGrown-MayAddTexts c.args.fact.now.dims c.self.inside.dictionaries.items c.add_codes.new.dictionaries (omega (arith, ap length c.deref_mut.ensures.value)) (rw c.deref_mut.ensures.value at c.in_err-codes.ensures.err) in
+    rw (← c.self.view_is) (IsCoded-SameCells_from_AreGrown c.add_codes.new.dictionaries c.self.invariant grown ((rw c.deref_mut.ensures.value at c.in_err-codes.ensures.dictionaries) c.self.invariant.texts))
+
 pub invariant_of-self : goal.invariant_of-self
-invariant_of-self c =
-    let schema = c.self.inside.schema in
-    let sets = c.self.inside.sets.items in
-    let facts = c.self.inside.facts in
-    let old = c.self.inside.dictionaries.items in
-    let new = c.add_codes.new.dictionaries in
-    let cells = c.self.inside.cells.entries in
-    let lengths : length new ≡ length old = omega (arith, ap length c.deref_mut.ensures.value) in
-    let len : length old ≡ c.self.inside.dictionaries.len = search rules in
-    let back = take-append-length old new c.self.inside.dictionaries.len len lengths in
-    let grown : AreGrown old new = AreGrown-MayAddTexts c.args.fact.now.dims old new lengths (rw c.deref_mut.ensures.value at c.in_err-codes.ensures.err) in
-    let all : All IsDictionary new = (rw c.deref_mut.ensures.value at c.in_err-codes.ensures.dictionaries) c.self.invariant.texts in
-    let refused = IsCoded-SameCells_from_AreGrown schema sets facts old new cells c.self.invariant grown all in
-    rw back refused.0
+invariant_of-self c = let at = goal.at.invariant_of-self c in rw (back at.After-add_codes) (refused at.In_err-codes).0
 
 pub returns-in_err-codes-clause-err : goal.returns-in_err-codes-clause-err
 returns-in_err-codes-clause-err c =
-    let schema = c.self.inside.schema in
-    let sets = c.self.inside.sets.items in
-    let facts = c.self.inside.facts in
-    let old = c.self.inside.dictionaries.items in
-    let new = c.add_codes.new.dictionaries in
-    let cells = c.self.inside.cells.entries in
-    let lengths : length new ≡ length old = omega (arith, ap length c.deref_mut.ensures.value) in
-    let len : length old ≡ c.self.inside.dictionaries.len = search rules in
-    let back = take-append-length old new c.self.inside.dictionaries.len len lengths in
-    let grown : AreGrown old new = AreGrown-MayAddTexts c.args.fact.now.dims old new lengths (rw c.deref_mut.ensures.value at c.in_err-codes.ensures.err) in
-    let all : All IsDictionary new = (rw c.deref_mut.ensures.value at c.in_err-codes.ensures.dictionaries) c.self.invariant.texts in
-    let refused = IsCoded-SameCells_from_AreGrown schema sets facts old new cells c.self.invariant grown all in
-    OnErr-always c.from_residual.result (rw (← c.self.view_is, back) refused.1)
+    let at = goal.at.returns-in_err-codes-clause-err c in
+    OnErr-always c.from_residual.result (rw (back at.After-add_codes) (refused at.In_err-codes).1)
 
 pub returns-in_err-codes-clause-err_cube : goal.returns-in_err-codes-clause-err_cube
 returns-in_err-codes-clause-err_cube c =
-    let schema = c.self.inside.schema in
-    let sets = c.self.inside.sets.items in
-    let facts = c.self.inside.facts in
-    let old = c.self.inside.dictionaries.items in
-    let new = c.add_codes.new.dictionaries in
-    let cells = c.self.inside.cells.entries in
-    let lengths : length new ≡ length old = omega (arith, ap length c.deref_mut.ensures.value) in
-    let len : length old ≡ c.self.inside.dictionaries.len = search rules in
-    let back = take-append-length old new c.self.inside.dictionaries.len len lengths in
-    let grown : AreGrown old new = AreGrown-MayAddTexts c.args.fact.now.dims old new lengths (rw c.deref_mut.ensures.value at c.in_err-codes.ensures.err) in
-    let all : All IsDictionary new = (rw c.deref_mut.ensures.value at c.in_err-codes.ensures.dictionaries) c.self.invariant.texts in
-    let refused = IsCoded-SameCells_from_AreGrown schema sets facts old new cells c.self.invariant grown all in
-    OnErr-always c.from_residual.result (λ facts cube. IsCubeOf-SameCells c.args.self.now _ facts (rw (← c.self.view_is, back) refused.1) cube)
+    on_err_weaker c.from_residual.result (λ same. λ facts cube. IsCubeOf-SameCells c.args.self.now _ facts same cube) (returns-in_err-codes-clause-err c)
+
+-- ---- each text of the fact has a code
+coded : (c : In_ok-codes) → HasNewCodes c.self.inside.dictionaries.items c.add_codes.new.dictionaries c.args.fact.now c.in_ok-codes.codes
+coded c = record {
+  grown = AreGrown-AddsTexts c.args.fact.now.dims c.self.inside.dictionaries.items c.add_codes.new.dictionaries (omega (arith, ap length c.deref_mut.ensures.value)) (rw c.deref_mut.ensures.value at c.in_ok-codes.ensures.texts);
+  all = (rw c.deref_mut.ensures.value at c.in_ok-codes.ensures.dictionaries) c.self.invariant.texts;
+  has = record { are = c.in_ok-codes.ensures.codes; eight = c.in_ok-codes.ensures.eight };
+  valid = c.in_ok-codes.ensures.valid;
+}
 
 pub add_to_sets-requires : goal.add_to_sets-requires
 add_to_sets-requires c =
-    let schema = c.self.inside.schema in
-    let sets = c.self.inside.sets.items in
-    let facts = c.self.inside.facts in
-    let old = c.self.inside.dictionaries.items in
-    let new = c.add_codes.new.dictionaries in
-    let cells = c.self.inside.cells.entries in
-    let lengths : length new ≡ length old = omega (arith, ap length c.deref_mut.ensures.value) in
-    let codes = c.in_ok-codes.codes in
-    let grown : AreGrown old new = AreGrown-AddsTexts c.args.fact.now.dims old new lengths (rw c.deref_mut.ensures.value at c.in_ok-codes.ensures.texts) in
-    let all : All IsDictionary new = (rw c.deref_mut.ensures.value at c.in_ok-codes.ensures.dictionaries) c.self.invariant.texts in
-    let has : HasFactCodes new c.args.fact.now codes = record { are = c.in_ok-codes.ensures.codes; eight = c.in_ok-codes.ensures.eight } in
-    let fit : fits schema c.args.fact.now ≡ true = rw (← c.self.view_is) at c.requires.fits in
-    let room : facts + 1 < 2 ^ 64 = rw (← c.self.view_is) at c.requires.room in
-    let can = codes_in-HasRoom schema sets facts old new cells c.args.fact.now codes c.self.invariant fit room grown all has c.in_ok-codes.ensures.valid in
+    let has = coded (goal.at.add_to_sets-requires c).In_ok-codes in
+    let can = codes_in-HasRoom c.self.invariant (rw (← c.self.view_is) at c.requires.fits) (rw (← c.self.view_is) at c.requires.room) has in
     rw (c.deref.ensures.value, c.as_slice-values.ensures) (record { apart = can.0; room = can.1 })
+
+-- ---- no room for a cell
+refused_cells : (c : In_err-add_to_sets) → HasNewCodes c.self.inside.dictionaries.items c.add_codes.new.dictionaries c.args.fact.now c.in_ok-codes.codes → IsCoded c.self.inside.schema c.self.inside.sets.items c.self.inside.facts c.add_codes.new.dictionaries c.add_to_sets.new.cells.entries × SameCells c.args.self.now (lattice_of c.self.inside.schema c.self.inside.sets.items c.self.inside.facts c.add_codes.new.dictionaries c.add_to_sets.new.cells.entries)
+refused_cells c has =
+    rw (← c.self.view_is) (IsCoded-SameCells c.add_codes.new.dictionaries c.add_to_sets.new.cells.entries c.self.invariant has.grown has.all (c.in_err-add_to_sets.ensures.apart c.self.invariant.distinct) (rw c.deref.ensures.value at c.in_err-add_to_sets.ensures.err))
 
 pub invariant_of-self-in_err-add_to_sets : goal.invariant_of-self-in_err-add_to_sets
 invariant_of-self-in_err-add_to_sets c =
-    let schema = c.self.inside.schema in
-    let sets = c.self.inside.sets.items in
-    let facts = c.self.inside.facts in
-    let old = c.self.inside.dictionaries.items in
-    let new = c.add_codes.new.dictionaries in
-    let cells = c.self.inside.cells.entries in
-    let lengths : length new ≡ length old = omega (arith, ap length c.deref_mut.ensures.value) in
-    let len : length old ≡ c.self.inside.dictionaries.len = search rules in
-    let back = take-append-length old new c.self.inside.dictionaries.len len lengths in
-    let codes = c.in_ok-codes.codes in
-    let grown : AreGrown old new = AreGrown-AddsTexts c.args.fact.now.dims old new lengths (rw c.deref_mut.ensures.value at c.in_ok-codes.ensures.texts) in
-    let all : All IsDictionary new = (rw c.deref_mut.ensures.value at c.in_ok-codes.ensures.dictionaries) c.self.invariant.texts in
-    let has : HasFactCodes new c.args.fact.now codes = record { are = c.in_ok-codes.ensures.codes; eight = c.in_ok-codes.ensures.eight } in
-    let same = rw c.deref.ensures.value at c.in_err-add_to_sets.ensures.err in
-    let refused = IsCoded-SameCells schema sets facts old new cells c.add_to_sets.new.cells.entries (codes_in sets codes) c.self.invariant grown all (c.in_err-add_to_sets.ensures.apart c.self.invariant.distinct) same in
-    rw back refused.0
+    let at = goal.at.invariant_of-self-in_err-add_to_sets c in
+    rw (back at.After-add_codes) (refused_cells at.In_err-add_to_sets (coded at.In_ok-codes)).0
 
 pub returns-in_err-add_to_sets-clause-err : goal.returns-in_err-add_to_sets-clause-err
 returns-in_err-add_to_sets-clause-err c =
-    let schema = c.self.inside.schema in
-    let sets = c.self.inside.sets.items in
-    let facts = c.self.inside.facts in
-    let old = c.self.inside.dictionaries.items in
-    let new = c.add_codes.new.dictionaries in
-    let cells = c.self.inside.cells.entries in
-    let lengths : length new ≡ length old = omega (arith, ap length c.deref_mut.ensures.value) in
-    let len : length old ≡ c.self.inside.dictionaries.len = search rules in
-    let back = take-append-length old new c.self.inside.dictionaries.len len lengths in
-    let codes = c.in_ok-codes.codes in
-    let grown : AreGrown old new = AreGrown-AddsTexts c.args.fact.now.dims old new lengths (rw c.deref_mut.ensures.value at c.in_ok-codes.ensures.texts) in
-    let all : All IsDictionary new = (rw c.deref_mut.ensures.value at c.in_ok-codes.ensures.dictionaries) c.self.invariant.texts in
-    let has : HasFactCodes new c.args.fact.now codes = record { are = c.in_ok-codes.ensures.codes; eight = c.in_ok-codes.ensures.eight } in
-    let same = rw c.deref.ensures.value at c.in_err-add_to_sets.ensures.err in
-    let refused = IsCoded-SameCells schema sets facts old new cells c.add_to_sets.new.cells.entries (codes_in sets codes) c.self.invariant grown all (c.in_err-add_to_sets.ensures.apart c.self.invariant.distinct) same in
-    OnErr-always c.from_residual-in_err-add_to_sets.result (rw (← c.self.view_is, back) refused.1)
+    let at = goal.at.returns-in_err-add_to_sets-clause-err c in
+    OnErr-always c.from_residual-in_err-add_to_sets.result (rw (back at.After-add_codes) (refused_cells at.In_err-add_to_sets (coded at.In_ok-codes)).1)
 
 pub returns-in_err-add_to_sets-clause-err_cube : goal.returns-in_err-add_to_sets-clause-err_cube
 returns-in_err-add_to_sets-clause-err_cube c =
-    let schema = c.self.inside.schema in
-    let sets = c.self.inside.sets.items in
-    let facts = c.self.inside.facts in
-    let old = c.self.inside.dictionaries.items in
-    let new = c.add_codes.new.dictionaries in
-    let cells = c.self.inside.cells.entries in
-    let lengths : length new ≡ length old = omega (arith, ap length c.deref_mut.ensures.value) in
-    let len : length old ≡ c.self.inside.dictionaries.len = search rules in
-    let back = take-append-length old new c.self.inside.dictionaries.len len lengths in
-    let codes = c.in_ok-codes.codes in
-    let grown : AreGrown old new = AreGrown-AddsTexts c.args.fact.now.dims old new lengths (rw c.deref_mut.ensures.value at c.in_ok-codes.ensures.texts) in
-    let all : All IsDictionary new = (rw c.deref_mut.ensures.value at c.in_ok-codes.ensures.dictionaries) c.self.invariant.texts in
-    let has : HasFactCodes new c.args.fact.now codes = record { are = c.in_ok-codes.ensures.codes; eight = c.in_ok-codes.ensures.eight } in
-    let same = rw c.deref.ensures.value at c.in_err-add_to_sets.ensures.err in
-    let refused = IsCoded-SameCells schema sets facts old new cells c.add_to_sets.new.cells.entries (codes_in sets codes) c.self.invariant grown all (c.in_err-add_to_sets.ensures.apart c.self.invariant.distinct) same in
-    OnErr-always c.from_residual-in_err-add_to_sets.result (λ facts cube. IsCubeOf-SameCells c.args.self.now _ facts (rw (← c.self.view_is, back) refused.1) cube)
+    on_err_weaker c.from_residual-in_err-add_to_sets.result (λ same. λ facts cube. IsCubeOf-SameCells c.args.self.now _ facts same cube) (returns-in_err-add_to_sets-clause-err c)
+
+-- ---- the fact is added
+added : (c : In_ok-add_to_sets) → HasNewCodes c.self.inside.dictionaries.items c.add_codes.new.dictionaries c.args.fact.now c.in_ok-codes.codes → IsCoded c.self.inside.schema c.self.inside.sets.items (c.self.inside.facts + 1) c.add_codes.new.dictionaries c.add_to_sets.new.cells.entries × AddsFact c.args.fact.now c.args.self.now (lattice_of c.self.inside.schema c.self.inside.sets.items (c.self.inside.facts + 1) c.add_codes.new.dictionaries c.add_to_sets.new.cells.entries)
+added c has =
+    let adds = rw (c.deref.ensures.value, c.as_slice-values.ensures) at c.in_ok-add_to_sets.ensures.added in
+    rw (← c.self.view_is) (IsCoded-AddsFact c.add_to_sets.new.cells.entries c.self.invariant (rw (← c.self.view_is) at c.requires.fits) has (c.in_ok-add_to_sets.ensures.apart c.self.invariant.distinct) adds)
 
 pub invariant_of-self-2 : goal.invariant_of-self-2
-invariant_of-self-2 c =
-    let schema = c.self.inside.schema in
-    let sets = c.self.inside.sets.items in
-    let facts = c.self.inside.facts in
-    let old = c.self.inside.dictionaries.items in
-    let new = c.add_codes.new.dictionaries in
-    let cells = c.self.inside.cells.entries in
-    let lengths : length new ≡ length old = omega (arith, ap length c.deref_mut.ensures.value) in
-    let len : length old ≡ c.self.inside.dictionaries.len = search rules in
-    let back = take-append-length old new c.self.inside.dictionaries.len len lengths in
-    let codes = c.in_ok-codes.codes in
-    let grown : AreGrown old new = AreGrown-AddsTexts c.args.fact.now.dims old new lengths (rw c.deref_mut.ensures.value at c.in_ok-codes.ensures.texts) in
-    let all : All IsDictionary new = (rw c.deref_mut.ensures.value at c.in_ok-codes.ensures.dictionaries) c.self.invariant.texts in
-    let has : HasFactCodes new c.args.fact.now codes = record { are = c.in_ok-codes.ensures.codes; eight = c.in_ok-codes.ensures.eight } in
-    let fit : fits schema c.args.fact.now ≡ true = rw (← c.self.view_is) at c.requires.fits in
-    let adds = rw (c.deref.ensures.value, c.as_slice-values.ensures) at c.in_ok-add_to_sets.ensures.added in
-    let added = IsCoded-AddsFact schema sets facts old new cells c.add_to_sets.new.cells.entries c.args.fact.now codes c.self.invariant fit grown all has c.in_ok-codes.ensures.valid (c.in_ok-add_to_sets.ensures.apart c.self.invariant.distinct) adds in
-    rw back added.0
+invariant_of-self-2 c = let at = goal.at.invariant_of-self-2 c in rw (back at.After-add_codes) (added at.In_ok-add_to_sets (coded at.In_ok-codes)).0
 
 pub returns-clause-added : goal.returns-clause-added
-returns-clause-added c =
-    let schema = c.self.inside.schema in
-    let sets = c.self.inside.sets.items in
-    let facts = c.self.inside.facts in
-    let old = c.self.inside.dictionaries.items in
-    let new = c.add_codes.new.dictionaries in
-    let cells = c.self.inside.cells.entries in
-    let lengths : length new ≡ length old = omega (arith, ap length c.deref_mut.ensures.value) in
-    let len : length old ≡ c.self.inside.dictionaries.len = search rules in
-    let back = take-append-length old new c.self.inside.dictionaries.len len lengths in
-    let codes = c.in_ok-codes.codes in
-    let grown : AreGrown old new = AreGrown-AddsTexts c.args.fact.now.dims old new lengths (rw c.deref_mut.ensures.value at c.in_ok-codes.ensures.texts) in
-    let all : All IsDictionary new = (rw c.deref_mut.ensures.value at c.in_ok-codes.ensures.dictionaries) c.self.invariant.texts in
-    let has : HasFactCodes new c.args.fact.now codes = record { are = c.in_ok-codes.ensures.codes; eight = c.in_ok-codes.ensures.eight } in
-    let fit : fits schema c.args.fact.now ≡ true = rw (← c.self.view_is) at c.requires.fits in
-    let adds = rw (c.deref.ensures.value, c.as_slice-values.ensures) at c.in_ok-add_to_sets.ensures.added in
-    let added = IsCoded-AddsFact schema sets facts old new cells c.add_to_sets.new.cells.entries c.args.fact.now codes c.self.invariant fit grown all has c.in_ok-codes.ensures.valid (c.in_ok-add_to_sets.ensures.apart c.self.invariant.distinct) adds in
-    rw (← c.self.view_is, back) added.1
+returns-clause-added c = let at = goal.at.returns-clause-added c in rw (back at.After-add_codes) (added at.In_ok-add_to_sets (coded at.In_ok-codes)).1
 
 pub returns-clause-cube : goal.returns-clause-cube
 returns-clause-cube c = λ facts cube. IsCubeOf-AddsFact c.args.fact.now c.args.self.now _ facts c.requires.fits (returns-clause-added c) cube

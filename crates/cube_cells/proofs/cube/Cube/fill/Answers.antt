@@ -1,8 +1,10 @@
-use Rattle.std.proofs.Common.{rules, ◌≡◌, ◌∷◌, [], length}
+use Rattle.std.proofs.Common.{rules, ◌≡◌, ◌∷◌, [], List, length}
+use Rattle.cube_core.specs.declared.fact.Fact.{Fact}
 use Rattle.cube_cells.specs.Coded.{IsCoded, lattice_of}
 use Rattle.cube_cells.specs.Fill.{AreFilled, IsCubeOfAll, finest_set}
 use Rattle.cube_cells.specs.declared.cube.fill.Level.{Level}
 use Rattle.cube_cells.proofs.LevelLaws.{IsCubeOfAll-AreFilled, bit_and-finest_set}
+use Rattle.cube_cells.proofs.cube.Cube.fill.Goals.{In_ok-cells}
 use Rattle.cube_cells.proofs.cube.Cube.fill.Goals as goal
 
 pub filled_cells-requires-clause-within : goal.filled_cells-requires-clause-within
@@ -10,19 +12,8 @@ filled_cells-requires-clause-within c =
     let set : c.finest_of-set.result ≡ finest_set (length c.self.inside.schema.dimensions) = search rules in
     rw (set, c.deref.ensures.value) (bit_and-finest_set (length c.self.inside.schema.dimensions) c.self.inside.sets.items c.self.invariant.lattice.sets)
 
-pub invariant_of-self : goal.invariant_of-self
-invariant_of-self c =
-    let finest : Level = record { set = c.finest_of-set.result; cells = c.finest.inside.cells } in
-    let set : finest.set ≡ finest_set (length c.self.inside.schema.dimensions) = search rules in
-    let same : c.finest.inside.schema ≡ c.self.inside.schema = rw (← c.finest.view_is, ← c.self.view_is) at c.requires.schema in
-    let one : c.finest.inside.sets.items ≡ finest.set ∷ [] = rw (← c.finest.view_is, same, ← set) at c.requires.sets in
-    let is : IsCoded c.self.inside.schema (finest.set ∷ []) c.finest.inside.facts c.finest.inside.dictionaries.items finest.cells.entries = rw (same, one) at c.finest.invariant in
-    let all : IsCubeOfAll c.requires.facts.0 (lattice_of c.self.inside.schema (finest.set ∷ []) c.finest.inside.facts c.finest.inside.dictionaries.items finest.cells.entries) = rw (← c.finest.view_is, same, one) at c.requires.facts.1 in
-    let filled : AreFilled finest c.self.inside.sets.items (length c.self.inside.schema.measures) c.in_ok-cells.cells.entries = rw (c.deref.ensures.value, c.measures-measures.ensures.value) at c.in_ok-cells.ensures in
-    (IsCubeOfAll-AreFilled c.self.inside.schema c.self.inside.sets.items c.self.inside.facts c.finest.inside.facts c.self.inside.dictionaries.items c.finest.inside.dictionaries.items c.self.inside.cells.entries c.in_ok-cells.cells.entries finest c.requires.facts.0 c.self.invariant set is all filled).0
-
-pub returns-clause-facts : goal.returns-clause-facts
-returns-clause-facts c = λ facts of.
+filled : (c : In_ok-cells) (facts : List Fact) → IsCubeOfAll facts c.args.finest → IsCoded c.self.inside.schema c.self.inside.sets.items c.finest.inside.facts c.finest.inside.dictionaries.items c.in_ok-cells.cells.entries × IsCubeOfAll facts (lattice_of c.self.inside.schema c.self.inside.sets.items c.finest.inside.facts c.finest.inside.dictionaries.items c.in_ok-cells.cells.entries)
+filled c facts of =
     let finest : Level = record { set = c.finest_of-set.result; cells = c.finest.inside.cells } in
     let set : finest.set ≡ finest_set (length c.self.inside.schema.dimensions) = search rules in
     let same : c.finest.inside.schema ≡ c.self.inside.schema = rw (← c.finest.view_is, ← c.self.view_is) at c.requires.schema in
@@ -30,4 +21,10 @@ returns-clause-facts c = λ facts of.
     let is : IsCoded c.self.inside.schema (finest.set ∷ []) c.finest.inside.facts c.finest.inside.dictionaries.items finest.cells.entries = rw (same, one) at c.finest.invariant in
     let all : IsCubeOfAll facts (lattice_of c.self.inside.schema (finest.set ∷ []) c.finest.inside.facts c.finest.inside.dictionaries.items finest.cells.entries) = rw (← c.finest.view_is, same, one) at of in
     let filled : AreFilled finest c.self.inside.sets.items (length c.self.inside.schema.measures) c.in_ok-cells.cells.entries = rw (c.deref.ensures.value, c.measures-measures.ensures.value) at c.in_ok-cells.ensures in
-    (IsCubeOfAll-AreFilled c.self.inside.schema c.self.inside.sets.items c.self.inside.facts c.finest.inside.facts c.self.inside.dictionaries.items c.finest.inside.dictionaries.items c.self.inside.cells.entries c.in_ok-cells.cells.entries finest facts c.self.invariant set is all filled).1
+    IsCubeOfAll-AreFilled c.self.inside.schema c.self.inside.sets.items c.self.inside.facts c.finest.inside.facts c.self.inside.dictionaries.items c.finest.inside.dictionaries.items c.self.inside.cells.entries c.in_ok-cells.cells.entries finest facts c.self.invariant set is all filled
+
+pub invariant_of-self : goal.invariant_of-self
+invariant_of-self c = (filled (goal.at.invariant_of-self c).In_ok-cells c.requires.facts.0 c.requires.facts.1).0
+
+pub returns-clause-facts : goal.returns-clause-facts
+returns-clause-facts c = λ facts of. (filled (goal.at.returns-clause-facts c).In_ok-cells facts of).1

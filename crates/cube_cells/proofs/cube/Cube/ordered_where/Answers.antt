@@ -1,12 +1,10 @@
-use Rattle.std.proofs.Common.{◌≡◌, ◌≤◌, length, arith, ap, true, List, ℕ}
-use Rattle.std.specs.Prelude.{All}
-use Rattle.std.specs.List.{AllZip, list_all}
+use Rattle.std.proofs.Common.{length, arith, ap, List, ℕ}
+use Rattle.std.specs.List.{AllZip}
 use Rattle.std.proofs.lemmas.Result.{IfOk-weaker}
 use Rattle.std.proofs.lemmas.Slice.Zip.{AllZip-long}
-use Rattle.cube_core.specs.Layout.{is_aggregate_of}
 use Rattle.cube_cells.specs.Ranks.{AreRanks}
 use Rattle.cube_cells.specs.Rows.{IsRowOf}
-use Rattle.cube_cells.proofs.RowLaws.{AreRowsOf-ranks_of, IsCodedCell-IsPermutation}
+use Rattle.cube_cells.proofs.RowLaws.{AreRowsOf-ranks_of, is_aggregate_of-IsPermutation}
 use Rattle.cube_cells.proofs.cube.Cube.ordered_where.Goals as goal
 
 pub places_in_order-requires : goal.places_in_order-requires
@@ -17,22 +15,14 @@ places_in_order-requires c =
 
 pub of-requires-clause-aggregates : goal.of-requires-clause-aggregates
 of-requires-clause-aggregates c =
-    let measures = length c.self.inside.schema.measures in
-    let placed = IsCodedCell-IsPermutation c.self.inside.dictionaries.items measures c.args.wants.now c.self.inside.cells.entries (λ place. (place.codes.now, place.cell.now)) c.in_ok-places.places.items c.self.invariant.each c.in_ok-places.ensures.cells in
-    let fits : All (λ place. list_all (is_aggregate_of (length place.cell.now.bags)) c.self.inside.schema.aggregates ≡ true) c.in_ok-places.places.items = λ k d inside. rw ((placed k d inside).width) c.self.invariant.lattice.schema.aggregates_are_of_measures in
-    rw (c.deref-4.ensures.value, c.aggregates.ensures.value) fits
+    rw (c.deref-4.ensures.value, c.aggregates.ensures.value) (is_aggregate_of-IsPermutation c.args.wants.now (λ place. (place.codes.now, place.cell.now)) c.in_ok-places.places.items c.self.invariant c.in_ok-places.ensures.cells)
 
 pub returns-clause-rows : goal.returns-clause-rows
 returns-clause-rows c =
-    let dictionaries = c.self.inside.dictionaries.items in
-    let entries = c.self.inside.cells.entries in
-    let measures = length c.self.inside.schema.measures in
-    let aggregates = c.self.inside.schema.aggregates in
-    let room : length dictionaries ≤ 8 = omega (arith, c.self.invariant.lattice.dictionaries, c.self.invariant.lattice.schema.dimensions_at_most) in
     rw (← c.self.view_is) (IfOk-weaker c.of.result _ _ (λ ordered is. λ test are rows in_order.
     let zipped : AllZip (IsRowOf ordered.aggregates) ordered.cells rows = in_order in
-    AreRowsOf-ranks_of dictionaries measures c.in_ok-ranks.ranks.items test c.args.wants.now aggregates entries (λ place. (place.codes.now, place.cell.now)) (λ place. place.ranks) c.in_ok-places.places.items rows
-    c.self.invariant.texts room (rw c.deref.ensures.value at c.in_ok-ranks.ensures) c.self.invariant.each c.self.invariant.distinct are
+    AreRowsOf-ranks_of c.in_ok-ranks.ranks.items test c.args.wants.now (λ place. (place.codes.now, place.cell.now)) (λ place. place.ranks) c.in_ok-places.places.items rows c.self.invariant
+    (rw c.deref.ensures.value at c.in_ok-ranks.ensures) are
     c.in_ok-places.ensures.cells (rw c.deref-2.ensures.value at c.in_ok-places.ensures.ranks) c.in_ok-places.ensures.order
     (rw (is.0, is.1, c.aggregates.ensures.value, c.deref-3.ensures.value, c.deref-4.ensures.value) at zipped))
     c.of.ensures)

@@ -1,4 +1,4 @@
-use Rattle.std.proofs.Common.{◌≡◌, ◌≤◌, length, arith, ap, List, ℕ}
+use Rattle.std.proofs.Common.{◌≡◌, length, arith, ap, List, ℕ}
 use Rattle.std.proofs.lemmas.Result.{IfOk-weaker}
 use Rattle.cube_core.specs.Query.{matches}
 use Rattle.cube_cells.specs.Rows.{AreWantsOf, AreWantsMatched}
@@ -9,12 +9,9 @@ use Rattle.cube_cells.proofs.cube.Cube.slice.Goals as goal
 -- a pattern of another width matches no cell
 pub returns-then-wanted-len-clause-rows : goal.returns-then-wanted-len-clause-rows
 returns-then-wanted-len-clause-rows c =
-    let dictionaries = c.self.inside.dictionaries.items in
     let pattern = c.args.pattern.now in
-    let room : length dictionaries ≤ 8 = omega (arith, c.self.invariant.lattice.dictionaries, c.self.invariant.lattice.schema.dimensions_at_most) in
-    rw (← c.self.view_is, c.new.ensures.items) (AreRowsOf-nil dictionaries (length c.self.inside.schema.measures) (matches pattern) c.self.inside.schema.aggregates c.self.inside.cells.entries
-    c.self.invariant.texts room c.self.invariant.each c.self.invariant.distinct
-    (λ codes. matches-length dictionaries pattern codes (λ same. c.if-wanted-len.true (omega (arith, ap (λ ws. length ws) c.wanted-wanted.ensures, same, c.len.ensures)))))
+    rw (← c.self.view_is, c.new.ensures.items) (AreRowsOf-nil (matches pattern) c.self.invariant
+    (λ codes. matches-length c.self.inside.dictionaries.items pattern codes (λ same. c.if-wanted-len.true (omega (arith, ap (λ ws. length ws) c.wanted-wanted.ensures, same, c.len.ensures)))))
 
 pub returns-then-wanted-len-clause-cube : goal.returns-then-wanted-len-clause-cube
 returns-then-wanted-len-clause-cube c = λ facts cube. AreRowsWhere-IsCubeOf (matches c.args.pattern.now) c.args.self.now facts c.new.result.items cube (returns-then-wanted-len-clause-rows c)
