@@ -6,6 +6,7 @@ use crate::copies::next_copies;
 use crate::gate::Gate;
 use crate::offering::{offer_copies, offer_end};
 use crate::parcel::{FeederEnd, Parcel};
+use crate::patience::Patience;
 use cube_feed::{Feed, FeedFault};
 use cube_link::{Outlet, Receipt};
 use std::alloc::Global;
@@ -26,18 +27,19 @@ fn send_all<W: Wait, R: Read + Drop, G: Gate>(
 {
     let mut feed = feed;
     let mut copies = Vec::new(alloc);
+    let mut patience = Patience::new();
     let mut k = 0u64;
     for _ in rt.forever() {
         k = k.saturating_add(1);
         let stop = match next_copies(alloc, &mut feed, outlets.len(), &mut copies) {
             Ok(true) => {
-                offer_copies(rt, source, k, outlets, &mut copies, gate);
+                offer_copies(rt, source, k, outlets, &mut copies, &mut patience, gate);
                 continue;
             }
             Ok(false) => None,
             Err(fault) => Some(fault),
         };
-        offer_end(rt, source, k, outlets, gate);
+        offer_end(rt, source, k, outlets, &mut patience, gate);
         return stop;
     }
     unreachable!()

@@ -15,6 +15,7 @@ mod gate;
 mod gathering;
 mod offering;
 mod parcel;
+mod patience;
 mod roster;
 mod setup;
 mod together;

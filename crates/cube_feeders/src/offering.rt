@@ -7,35 +7,18 @@ ghost use Rattle.cube_feeders.specs.declared.parcel.Parcel.TheVariants.{Line, En
 
 use crate::gate::Gate;
 use crate::parcel::Parcel;
+use crate::patience::Patience;
 use cube_core::Item;
 use cube_link::Outlet;
 use std::sync::Wait;
-use std::thread;
-use std::thread::Parker;
-use std::time::Duration;
-
-/// How often a feeder yields at a full link before it naps.
-const YIELDS: u32 = 20;
-
-/// The fewest parcels that a link has room for where its feeder naps: they last its builder for about a nap.
-const NAPPING_RING: usize = 64;
-
-/// The microseconds of the first nap at a full link; each further one is twice as long, up to four times.
-const FIRST_NAP: u64 = 50;
-
-// Waits for room in a link after so many tries that found none: the first times it yields, then it naps, where the
-// link is large enough to keep its builder at work meanwhile.
-fn wait_for_room<W: Wait>(rt: &W, outlet: &Outlet<Parcel>, tries: u32) {
-    if tries < YIELDS || outlet.capacity() < NAPPING_RING {
-        thread::yield_now();
-        return;
-    }
-    let doublings = (tries - YIELDS).min(4);
-    Parker::new().park_timeout(rt, Duration::from_micros(FIRST_NAP << doublings));
-}
 
 // Offers a parcel again until the link has room for it.
-fn offer_until_taken<W: Wait>(rt: &W, outlet: &mut Outlet<Parcel>, parcel: Parcel)
+fn offer_until_taken<W: Wait>(
+    rt: &W,
+    outlet: &mut Outlet<Parcel>,
+    parcel: Parcel,
+    patience: &mut Patience,
+)
     ensures { outlet.new ≡ sends (parcel ∷ []) outlet.old }
 {
     let mut parcel = parcel;
@@ -45,7 +28,7 @@ fn offer_until_taken<W: Wait>(rt: &W, outlet: &mut Outlet<Parcel>, parcel: Parce
             Ok(()) => return,
             Err(back) => parcel = back,
         }
-        wait_for_room(rt, outlet, tries);
+        patience.wait(rt, outlet, tries);
         tries = tries.saturating_add(1);
     }
     unreachable!()
@@ -58,6 +41,7 @@ pub(crate) fn offer_copies<W: Wait, G: Gate>(
     k: u64,
     outlets: &mut [Outlet<Parcel>],
     copies: &mut Vec<Item>,
+    patience: &mut Patience,
     gate: &G,
 )
     requires count { vec_len copies.old ≡ length outlets.old }
@@ -69,7 +53,7 @@ pub(crate) fn offer_copies<W: Wait, G: Gate>(
     for outlet in outlets.iter_mut() {
         let copy = copies.pop().unwrap();
         gate.before_offer(source, builder, k);
-        offer_until_taken(rt, outlet, Parcel::Line(copy));
+        offer_until_taken(rt, outlet, Parcel::Line(copy), patience);
         builder += 1;
     }
 }
@@ -80,6 +64,7 @@ pub(crate) fn offer_end<W: Wait, G: Gate>(
     source: u32,
     k: u64,
     outlets: &mut [Outlet<Parcel>],
+    patience: &mut Patience,
     gate: &G,
 )
     requires { length outlets.old ≤ 8 }
@@ -88,7 +73,7 @@ pub(crate) fn offer_end<W: Wait, G: Gate>(
     let mut builder = 0u32;
     for outlet in outlets.iter_mut() {
         gate.before_offer(source, builder, k);
-        offer_until_taken(rt, outlet, Parcel::End);
+        offer_until_taken(rt, outlet, Parcel::End, patience);
         builder += 1;
     }
 }

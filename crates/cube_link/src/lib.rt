@@ -96,6 +96,13 @@ impl<T: Drop> Outlet<T> {
         self.producer.capacity()
     }
 
+    /// How many items the link has room for now; the inlet may make more at any time. No contract speaks of the answer.
+    pub fn room(&mut self) -> usize
+        ensures { self.new ≡ self.old }
+    {
+        self.producer.slots()
+    }
+
     /// Ends the sending, and gives a receipt for all that was sent. None where the inlet was dropped before.
     pub fn finish(self) -> Option<Receipt<T>>
         ensures link { IfSome result (λ receipt. receipt.link ≡ self.link) }
