@@ -33,10 +33,11 @@ loop-part-preserved c =
     let at = c.index-in-loop-part.result.now in
     let is : c.cube-in-loop-part.result.now ≡ (get_or builders c.loop-part.part at).cube = search rules in
     let below : c.loop-part.part < length builders = search rules in
+    let same = c.in_ok-ordered.ensures.aggregates ∙ ap (λ (l : Layout). l.aggregates) (schema-at builders c.loop-part.part at c.cube-in-loop-part.result.now parts below is) ∙ sym c.loop-part.invariant.aggregates in
     record {
       aggregates = c.append.ensures.aggregates ∙ c.loop-part.invariant.aggregates;
       cells = cells-more builders c.loop-part.part at c.cube-in-loop-part.result.now c.loop-part.cells c.in_ok-ordered.field-0 c.append.new.self parts below is c.in_ok-ordered.ensures.cube
-          (append-requires c) c.append.ensures.aggregates c.in_ok-append.ensures.cells c.loop-part.invariant.cells;
+          same c.append.ensures.aggregates c.in_ok-append.ensures.cells c.loop-part.invariant.cells;
     }
 
 pub returns-then-len-eq1 : goal.returns-then-len-eq1
