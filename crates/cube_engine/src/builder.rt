@@ -45,9 +45,7 @@ impl Builder {
         ensures sets { IfOk result (λ builder. builder.cube.sets ≡ schema.now.grouping_sets) }
         ensures stands { IfOk result (λ builder. StandsAt builder []) }
     {
-        let ledger = Ledger::new(alloc, schema, sources)?;
-        let cube = Cube::new(alloc, schema)?;
-        Ok(Builder { ledger, cube })
+        Builder::new_part(alloc, schema, sources, 0, 1)
     }
 
     /// The same over the grouping sets of a part of the schema's alone: those whose mask leaves `part` when it is

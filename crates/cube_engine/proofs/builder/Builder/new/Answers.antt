@@ -1,12 +1,7 @@
-use Rattle.cube_engine.proofs.BuilderLaws.{HasFacts-new, IsBuilder-new}
+use Rattle.std.proofs.Common.{◌≡◌, ℕ, List, subst}
+use Rattle.std.specs.Prelude.{IfOk}
+use Rattle.cube_cells.proofs.NewLaws.{sets_of_part-one}
 use Rattle.cube_engine.proofs.builder.Builder.new.Goals as goal
 
-pub invariant_of-result : goal.invariant_of-result
-invariant_of-result c =
-    IsBuilder-new c.in_ok-ledger.ledger c.in_ok-cube.cube c.args.schema.now _ c.args.sources c.in_ok-ledger.ensures.schema c.in_ok-ledger.ensures.accounts c.in_ok-cube.ensures.new c.in_ok-cube.ensures.cube
-
-pub returns-clause-stands : goal.returns-clause-stands
-returns-clause-stands c = record {
-  ledger = c.in_ok-ledger.ensures.stands;
-  cube = HasFacts-new c.in_ok-cube.cube c.args.schema.now _ c.in_ok-ledger.ledger.accounts c.args.sources c.in_ok-ledger.ensures.accounts c.in_ok-cube.ensures.new c.in_ok-cube.ensures.cube;
-}
+pub returns-clause-sets : goal.returns-clause-sets
+returns-clause-sets c = subst (λ (sets : List ℕ). IfOk c.new_part.result (λ builder. builder.cube.sets ≡ sets)) (sets_of_part-one c.args.schema.now.grouping_sets) c.new_part.ensures.sets
