@@ -1,9 +1,9 @@
 -- Laws of codes: those of a key's coordinates, made dimension by dimension, and kept in a grouping set.
-use Rattle.std.proofs.Common.{◌≡◌, ℕ, zero, suc, ◌+◌, ◌<◌, ◌≤◌, ◌==◌, ◌%◌, ◌/◌, List, [], ◌∷◌, ◌++◌, true, sym, ap, ◌∙◌, subst, arith, length, get_or, set, take, drop, Option, None, if◌then◌else◌, add-one}
+use Rattle.std.proofs.Common.{◌≡◌, ℕ, zero, suc, ◌+◌, ◌<◌, ◌≤◌, ◌==◌, List, [], ◌∷◌, true, sym, ap, ◌∙◌, subst, arith, length, get_or, set, take, Option, None, add-one}
 use Rattle.std.specs.List.{list_all}
 use Rattle.std.proofs.lemmas.Bool.{and_parts, and_from, cases_eq}
 use Rattle.std.proofs.Math.Logic.{⊎_elim}
-use Rattle.std.proofs.lemmas.List.{take_all, take-append-le, take-set, length-set, get_or-set_same, get_or-set_other}
+use Rattle.std.proofs.lemmas.List.{take_all, take-set, length-set, get_or-set_same, get_or-set_other}
 use Rattle.cube_core.specs.declared.key.Coord.{Coord}
 use Rattle.cube_core.specs.declared.key.Coord.TheVariants as coord
 use Rattle.cube_cells.specs.Codes.{Dictionaries, IsCodeOf, AreCodesOf, is_code, are_codes, all_code, texts_with}
@@ -58,9 +58,3 @@ AreCodesOf-set dictionaries texts coords codes i are = rw (take-set dictionaries
 
 pub are_codes-set : (dictionaries : Dictionaries) (texts : List (List ℕ)) (codes : List ℕ) (i : ℕ) → are_codes (take i dictionaries) codes ≡ true → are_codes (take i (set dictionaries i texts)) codes ≡ true
 are_codes-set dictionaries texts codes i are = rw (take-set dictionaries i texts) are
-
--- ---- a grouping set
-
--- ---- dictionaries that are written back whole
-pub take-append-length : (items new : Dictionaries) (n : ℕ) → length items ≡ n → length new ≡ length items → take n (new ++ drop (length new) items) ≡ new
-take-append-length items new n is same = take-append-le n new (drop (length new) items) (omega arith) ∙ take_all n new (omega arith)

@@ -1,16 +1,16 @@
 -- Laws of ranks: they compare as the coordinates of their codes do.
-use Rattle.std.proofs.Common.{◌≡◌, ℕ, ◌<◌, ◌≤◌, ◌==◌, List, [], ◌∷◌, ◌++◌, zero-add, Bool, true, false, refl, sym, ap, ◌∙◌, subst, arith, inl, inr, length, get_or, Bor, ◌⊎◌}
+use Rattle.std.proofs.Common.{◌≡◌, ℕ, ◌<◌, ◌≤◌, List, [], ◌∷◌, zero-add, Bool, true, false, refl, sym, ap, ◌∙◌, subst, arith, inl, inr, length, get_or, Bor, ◌⊎◌}
 use Rattle.std.specs.Prelude.{All, Contains}
 use Rattle.std.specs.Cmp.{IsTotalOrder, IsStrictWeakOrder}
 use Rattle.std.specs.Cmp.Lexicographic.{slice_cmp}
 use Rattle.std.specs.Fn.{Called, ComparesAs}
-use Rattle.std.specs.List.{list_all, AllZip, range_with_len}
+use Rattle.std.specs.List.{range_with_len}
 use Rattle.std.specs.List.Sorted.{IsSortedBy, IsPermutation}
 use Rattle.std.specs.Ordering.{nat_cmp, is_lt, ordering_reverse}
 use Rattle.std.specs.declared.cmp.Ordering.{Ordering}
 use Rattle.std.specs.declared.cmp.Ordering.TheVariants.{Less, Equal, Greater}
 use denote.Param.Members.{Mut}
-use Rattle.std.proofs.lemmas.Bool.{cases_lt, and_parts, eqb-true, lt-ltb, le-ltb}
+use Rattle.std.proofs.lemmas.Bool.{cases_lt, and_parts, lt-ltb, le-ltb}
 use Rattle.std.proofs.lemmas.Cmp.{nat_cmp_total, nat_list_cmp_total, tied_itself}
 use Rattle.std.proofs.lemmas.Fn.{always_returns_same}
 use Rattle.std.proofs.lemmas.List.Elements.{All-head, All-tail, Contains-get_or}
@@ -24,6 +24,7 @@ use Rattle.cube_core.specs.declared.key.Coord.TheVariants as coord
 use Rattle.cube_cells.specs.Codes.{Dictionaries, IsDictionary, is_code, are_codes, coord_at, coords_at, all_code, null_code}
 use Rattle.cube_cells.specs.Ranks.{AreRanks, AreAllRanks, AreInOrder, LeadBack, rank_of, ranks_of}
 use Rattle.cube_cells.proofs.DictionaryLaws.{is_code-cases, coord_at-place, StandsAt-are_distinct}
+use Rattle.cube_cells.proofs.KeyLaws.{all_code-length}
 
 -- ---- orders
 -- what a sort by a key ensures
@@ -142,20 +143,9 @@ rank_of-coord_cmp texts ranks a b is are valid_a valid_b = by_kind (is_code-case
   by_kind (inr (inr below_a)) (inr (inl null_b)) = between (get_or ranks a 0) null_code (text a) coord.Null (rank_of-text texts ranks a are below_a) (top_rank b null_code null_b (omega arith)) (text_coord a below_a) (ap (coord_at texts) null_b) (nat_cmp-Less (get_or ranks a 0) null_code (low a null_code below_a (omega arith)))
   by_kind (inr (inr below_a)) (inr (inr below_b)) = between (get_or ranks a 0) (get_or ranks b 0) (text a) (text b) (rank_of-text texts ranks a are below_a) (rank_of-text texts ranks b are below_b) (text_coord a below_a) (text_coord b below_b) (are.order a b below_a below_b)
 
-slice_cmp-all_code : (a b : List ℕ) → list_all (λ code. code == all_code) a ≡ true → list_all (λ code. code == all_code) b ≡ true → length a ≡ length b → slice_cmp nat_cmp a b ≡ Equal
-slice_cmp-all_code [] [] all_a all_b lengths = refl
-slice_cmp-all_code [] (y ∷ b) all_a all_b lengths = absurd (omega (arith, lengths))
-slice_cmp-all_code (x ∷ a) [] all_a all_b lengths = absurd (omega (arith, lengths))
-slice_cmp-all_code (x ∷ a) (y ∷ b) all_a all_b lengths =
-    let in_a = and_parts (x == all_code) (list_all (λ code. code == all_code) a) all_a in
-    let in_b = and_parts (y == all_code) (list_all (λ code. code == all_code) b) all_b in
-    let same : x ≡ y = eqb-true x all_code in_a.0 ∙ sym (eqb-true y all_code in_b.0) in
-    let head : nat_cmp x y ≡ Equal = ap (nat_cmp x) (sym same) ∙ tied_itself nat_cmp_total x in
-    rw head (slice_cmp-all_code a b in_a.1 in_b.1 (omega (arith, lengths)))
-
 -- the ranks of codes compare as their coordinates do
 pub ranks_of-coord_cmp : (dictionaries : Dictionaries) (ranks : List (List ℕ)) (a b : List ℕ) → All IsDictionary dictionaries → AreAllRanks dictionaries ranks → are_codes dictionaries a ≡ true → are_codes dictionaries b ≡ true → length a ≡ length b → slice_cmp nat_cmp (ranks_of ranks a) (ranks_of ranks b) ≡ slice_cmp coord_cmp (coords_at dictionaries a) (coords_at dictionaries b)
-ranks_of-coord_cmp [] [] a b all are valid_a valid_b lengths = slice_cmp-all_code a b valid_a valid_b lengths
+ranks_of-coord_cmp [] [] a b all are valid_a valid_b lengths = ap (slice_cmp nat_cmp a) (sym (all_code-length a b valid_a valid_b lengths)) ∙ tied_itself nat_list_cmp_total a
 ranks_of-coord_cmp [] (r ∷ ranks) a b all are valid_a valid_b lengths = absurd are
 ranks_of-coord_cmp (texts ∷ dictionaries) [] a b all are valid_a valid_b lengths = absurd are
 ranks_of-coord_cmp (texts ∷ dictionaries) (r ∷ ranks) [] b all are valid_a valid_b lengths = cc valid_a

@@ -137,5 +137,5 @@ AreWithin-holds_fact t new values h adds within = λ k d inside.
     omega (arith, size_of-taken t.facts (bag_at t.bags k) (bag_at new k) (value_at values k) held (adds.each k) (within k [] there), ap size_of (get_or_default new k d [] inside))
 
 -- ---- a list that is written back whole
-pub take-append-drop : (items new : List Bag) (n : ℕ) → length items ≡ n → length new ≡ length items → take n (new ++ drop (length new) items) ≡ new
+pub take-append-drop : {A : Type 0} (items new : List A) (n : ℕ) → length items ≡ n → length new ≡ length items → take n (new ++ drop (length new) items) ≡ new
 take-append-drop items new n is same = take-append-le n new (drop (length new) items) (omega arith) ∙ take_all n new (omega arith)

@@ -2,17 +2,17 @@ use Rattle.std.proofs.Common.{◌≡◌, ◌+◌, ◌++◌, ap, arith, drop, len
 use Rattle.std.proofs.lemmas.Result.{on_err_weaker}
 use Rattle.cube_cells.specs.Coded.{IsCoded, lattice_of}
 use Rattle.cube_cells.specs.Cube.{AddsFact, SameCells}
-use Rattle.cube_cells.proofs.CodeLaws.{take-append-length}
 use Rattle.cube_cells.proofs.CubeLaws.{IsCubeOf-AddsFact, IsCubeOf-SameCells}
 use Rattle.cube_cells.proofs.GrowthLaws.{AreGrown-MayAddTexts, AreGrown-AddsTexts}
 use Rattle.cube_cells.proofs.StepLaws.{HasNewCodes, codes_in-HasRoom, IsCoded-AddsFact, IsCoded-SameCells, IsCoded-SameCells_from_AreGrown}
+use Rattle.cube_cells.proofs.ValueLaws.{take-append-drop}
 use Rattle.cube_cells.proofs.WalkLaws.{OnErr-always}
 use Rattle.cube_cells.proofs.cube.Cube.add.Goals.{After-add_codes, In_err-codes, In_ok-codes, In_err-add_to_sets, In_ok-add_to_sets}
 use Rattle.cube_cells.proofs.cube.Cube.add.Goals as goal
 
 -- the dictionaries of the cube are the changed ones
 back : (c : After-add_codes) → take c.self.inside.dictionaries.len (c.add_codes.new.dictionaries ++ drop (length c.add_codes.new.dictionaries) c.self.inside.dictionaries.items) ≡ c.add_codes.new.dictionaries
-back c = take-append-length c.self.inside.dictionaries.items c.add_codes.new.dictionaries c.self.inside.dictionaries.len (search rules) (omega (arith, ap length c.deref_mut.ensures.value))
+back c = take-append-drop c.self.inside.dictionaries.items c.add_codes.new.dictionaries c.self.inside.dictionaries.len (search rules) (omega (arith, ap length c.deref_mut.ensures.value))
 
 -- ---- no room for a text
 refused : (c : In_err-codes) → IsCoded c.self.inside.schema c.self.inside.sets.items c.self.inside.facts c.add_codes.new.dictionaries c.self.inside.cells.entries × SameCells c.args.self.now (lattice_of c.self.inside.schema c.self.inside.sets.items c.self.inside.facts c.add_codes.new.dictionaries c.self.inside.cells.entries)
