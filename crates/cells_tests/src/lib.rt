@@ -1,5 +1,6 @@
 //! Tests of counted values, of cells and of the cube: worked values, lists of adds and removes beside the plain
-//! cube, and growths that are refused. Tests of other crates take facts by lines, and rows as text, from here.
+//! cube, and growths that are refused. Tests of other crates take facts by lines, rows as
+//! text, and schemas from here.
 #![tactic(auto)]
 
 #[cfg(test)]
@@ -17,6 +18,7 @@ mod logs;
 mod queries;
 #[cfg(test)]
 mod sample;
+mod schemas;
 #[cfg(test)]
 mod sets;
 mod text;
@@ -24,4 +26,5 @@ mod text;
 mod words;
 
 pub use facts::{FactLine, fact_of, line};
+pub use schemas::{EIGHT, SECOND_VERSION};
 pub use text::text_of;

@@ -1,16 +1,12 @@
 //! Parts of the lattice, and chosen grouping sets.
 use crate::facts::{FactLine, line};
 use crate::sample::{add_lines, cube_of, remove_line, schema_of};
+use crate::schemas::EIGHT;
 use crate::words::{drilled, rolled_up, rows_of, sliced};
 use cube_cells::Cube;
 use cube_core::{QueryFault, Schema};
 use std::alloc::Global;
 use std::process::Abort;
-
-const EIGHT: &str = "dimensions = ['d1', 'd2', 'd3', 'd4', 'd5', 'd6', 'd7', 'd8']
-measures = ['m']
-aggregates = ['count(*)']
-";
 
 const NAMES: [&str; 8] = ["a", "b", "c", "d", "e", "f", "g", "h"];
 

@@ -1,18 +1,11 @@
 //! What a builder does with items that a caller made.
 use crate::items::{amend, apply, delete, expect_shown, insert, update};
-use cells_tests::line;
+use cells_tests::{SECOND_VERSION, line};
 use cube_core::{Change, Fact, Field, LineFault, Schema, Sequence, Text};
 use cube_engine::Builder;
 use std::alloc::{AllocError, Global};
 use std::process::Abort;
 use std::test::Fail;
-
-/// The sample schema, whose feeds may amend.
-pub const SECOND_VERSION: &str = "dimensions = ['region', 'kind']
-measures = ['amount']
-aggregates = ['count(*)', 'sum(amount)', 'min(amount)', 'max(amount)', 'avg(amount)']
-version = 2
-";
 
 /// The rows of a fact of west, kind a and amount 5.
 pub const WEST: &str = "west,a,0,0,1,5,5,5,5/1

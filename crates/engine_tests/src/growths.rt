@@ -1,7 +1,7 @@
 //! Growths that are refused. To refuse each in turn, run `rt try --test --fail-alloc N` for each N from 1.
-use crate::builders::{SECOND_VERSION, WEST, builder_of_west};
+use crate::builders::{WEST, builder_of_west};
 use crate::items::{amend, apply, delete, expect_equal, expect_shown, insert, shown, update};
-use cells_tests::line;
+use cells_tests::{SECOND_VERSION, line};
 use cube_core::{Field, Item, Schema, Text};
 use cube_engine::Builder;
 use std::alloc::{AllocError, Global};
