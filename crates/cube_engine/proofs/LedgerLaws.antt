@@ -1,6 +1,6 @@
 -- What a change of one account does to the facts of all sources.
 use Rattle.std.proofs.Common.{◌≡◌, ◌<◌, ◌≤◌, ℕ, zero, suc, true, List, [], ◌∷◌, ◌++◌, length, get_or, replicate, refl, sym, ap, ◌∙◌, subst, arith, append_assoc}
-use Rattle.std.specs.Prelude.{Option, Some, None, All, IfSome, slice_set, Result, Ok, Err, IfOk, OnErr}
+use Rattle.std.specs.Prelude.{Option, Some, None, All, IfSome, slice_set, Result, Ok, Err, IfOk, OnOk, OnErr}
 use Rattle.std.specs.Option.{option_to_list}
 use Rattle.std.specs.List.Sorted.{IsPermutation}
 use Rattle.std.proofs.Math.ListN.{length-set}
@@ -9,10 +9,15 @@ use Rattle.std.proofs.lemmas.List.{length-replicate}
 use Rattle.std.proofs.lemmas.List.Elements.{All-nil, All-cons, All-tail, All-take}
 use Rattle.std.proofs.lemmas.List.Sorted.{IsPermutation-refl, IsPermutation-trans, IsPermutation-append_left, IsPermutation-append_right, IsPermutation-append_comm, All-permutation}
 use Rattle.cube_core.specs.Layout.{Layout}
+use Rattle.cube_core.specs.Life.{id_of}
 use Rattle.cube_core.specs.Takes.{fits}
+use Rattle.cube_core.specs.declared.change.Change.{Change}
+use Rattle.cube_core.specs.declared.change.Item.{Item}
+use Rattle.cube_core.specs.declared.change.LineFault.{LineFault}
 use Rattle.cube_core.specs.declared.fact.Fact.{Fact}
-use Rattle.cube_engine.specs.Book.{facts_of}
-use Rattle.cube_engine.specs.Ledger.{AccountView, Exchanges, AllFit, IsLedger, all_facts, new_account}
+use Rattle.cube_engine.specs.Book.{fact_at, fact_put, facts_of}
+use Rattle.cube_engine.specs.Ledger.{AccountView, Enters, Exchanges, AllFit, IsLedger, all_facts, code_in, new_account, says_taken}
+use Rattle.cube_engine.proofs.FitLaws.{fact_put-fits}
 
 -- what holds of all elements of joined lists holds of those of the first and of the second
 pub All-append_right : {X : Type 0} (P : X → Type 0) (xs ys : List X) → All P (xs ++ ys) → All P ys
@@ -102,6 +107,34 @@ pub IsLedger-put : (s : Layout) (accounts : List AccountView) (place : ℕ) (old
     → IsLedger s (slice_set accounts place account)
 IsLedger-put s accounts place old account id fact (Ok gone) below was is fit put same = IsLedger-set s accounts place old account (Some fact) gone below was is fit put.book.moved
 IsLedger-put s accounts place old account id fact (Err back) below was is fit put same =
+    IsLedger-same s accounts place old account below was is (ap (λ (a : AccountView). a.book) same)
+
+-- what holds of a value wherever there is one
+IfSome-each : {X : Type 0} (P : X → Type 0) (o : Option X) → ((x : X) → o ≡ Some x → P x) → IfSome o P
+IfSome-each P None each = tt
+IfSome-each P (Some x) each = each x refl
+
+-- one in which an account took an item whose change, where it says one, the schema takes
+IsLedger-code : (s : Layout) (accounts : List AccountView) (place : ℕ) (old account : AccountView) (item : Item) (what : Result Change LineFault) (code : Option ℕ)
+    → item.what ≡ what → code_in s old.book what ≡ code → place < length accounts → old ≡ get_or accounts place new_account → IsLedger s accounts
+    → says_taken s what ≡ true → Enters s item old account → IsLedger s (slice_set accounts place account)
+IsLedger-code s accounts place old account item what (Some code) says coded below was is taken enters =
+    IsLedger-same s accounts place old account below was is
+    (ap (λ (a : AccountView). a.book) (enters.refused code (ap (code_in s old.book) says ∙ coded)))
+IsLedger-code s accounts place old account item (Err fault) None says coded below was is taken enters = cc
+IsLedger-code s accounts place old account item (Ok change) None says coded below was is taken enters =
+    let exchanged = enters.taken change says (ap (code_in s old.book) says ∙ coded) in
+    let fit : AllFit s (facts_of old.book) =
+    subst (λ (a : AccountView). AllFit s (facts_of a.book)) (sym was) (AllFit-account s accounts place is.all_fit below) in
+    IsLedger-set s accounts place old account (fact_put change (fact_at old.book (id_of change))) (fact_at old.book (id_of change)) below was is
+    (IfSome-each (λ fact. fits s fact ≡ true) _ (λ fact puts. fact_put-fits s old.book change fact taken fit puts)) exchanged.book.moved
+
+pub IsLedger-enter : {T E : Type 0} (s : Layout) (accounts : List AccountView) (place : ℕ) (old account : AccountView) (item : Item) (result : Result T E)
+    → place < length accounts → old ≡ get_or accounts place new_account → IsLedger s accounts → says_taken s item.what ≡ true
+    → OnOk result (Enters s item old account) → OnErr result (account ≡ old) → IsLedger s (slice_set accounts place account)
+IsLedger-enter s accounts place old account item (Ok x) below was is taken enters same =
+    IsLedger-code s accounts place old account item item.what (code_in s old.book item.what) refl refl below was is taken enters
+IsLedger-enter s accounts place old account item (Err e) below was is taken enters same =
     IsLedger-same s accounts place old account below was is (ap (λ (a : AccountView). a.book) same)
 
 -- a ledger of new accounts has no facts

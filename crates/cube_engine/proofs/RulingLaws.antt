@@ -1,17 +1,21 @@
 -- What an item comes to, and what an account does when it takes the item.
-use Rattle.std.proofs.Common.{◌≡◌, ◌-◌, ℕ, List, length, sym, ap, ◌∙◌, subst}
-use Rattle.std.specs.Prelude.{Option, Some, None, Result}
+use Rattle.std.proofs.Common.{◌≡◌, ◌-◌, ℕ, Bool, true, false, List, [], ◌∷◌, ◌++◌, length, refl, sym, ap, ◌∙◌, subst}
+use Rattle.std.specs.Prelude.{Option, Some, None, Result, Ok, is_some, option_map}
 use Rattle.std.proofs.Math.ListN.{length-set}
 use Rattle.std.proofs.lemmas.Option.{same_Some}
 use Rattle.cube_core.specs.Layout.{Layout}
 use Rattle.cube_core.specs.Life.{id_of}
+use Rattle.cube_core.specs.Refusals.{present_code, absent_code, code_by_presence}
+use Rattle.cube_core.specs.Takes.{takes}
 use Rattle.cube_core.specs.declared.fact.Fact.{Fact}
 use Rattle.cube_core.specs.declared.change.Change.{Change}
-use Rattle.cube_core.specs.declared.change.Change.TheVariants.{Delete}
+use Rattle.cube_core.specs.declared.change.Change.TheVariants.{Insert, Update, Amend, Delete}
 use Rattle.cube_core.specs.declared.change.Item.{Item}
 use Rattle.cube_core.specs.declared.change.LineFault.{LineFault}
-use Rattle.cube_engine.specs.Book.{Entries, fact_at, fact_put}
-use Rattle.cube_engine.specs.Ledger.{AccountView, LedgerView, AtSource, Enters, Exchanges, IsRemoval, IsRuling, Obeys, Puts, account_of, code_in, with_refusal}
+use Rattle.cube_engine.specs.Book.{Entries, Makes, fact_at, fact_put, refused_by, refused_by_presence}
+use Rattle.cube_engine.specs.Ledger.{AccountView, LedgerView, AtSource, Enters, Exchanges, IsRemoval, IsRuling, Obeys, Puts, account_of, code_in, refusal, with_refusal}
+use Rattle.cube_engine.specs.declared.book.BookFault.{BookFault}
+use Rattle.cube_engine.specs.declared.book.BookFault.TheVariants.{Present, Absent, Memory}
 use Rattle.cube_engine.specs.declared.ruling.Ruling.{Ruling}
 use Rattle.cube_engine.specs.declared.ruling.Ruling.TheVariants.{Refuse, Put, Take}
 
@@ -41,6 +45,56 @@ Enters-Obeys s item old new (Take id) is obeys = Enters-Puts s item old new id N
 pub Exchanges-was : (id : List ℕ) (out come : Option Fact) (old new : AccountView) → Exchanges id out come old new
     → Exchanges id (fact_at old.book id) come old new
 Exchanges-was id out come old new exchanged = subst (λ o. Exchanges id o come old new) exchanged.book.was exchanged
+
+-- ---- a change that a book made or refused
+
+-- the code of a change that a book refused for this fault
+abbrev pub code_of_refusal : Layout → BookFault → ℕ
+code_of_refusal s Present = present_code s
+code_of_refusal s Absent = absent_code s
+code_of_refusal s Memory = 0
+
+code_by_presence-refused_by : (s : Layout) (change : Change) (present : Bool)
+    → code_by_presence s change present ≡ option_map (code_of_refusal s) (refused_by_presence change present)
+code_by_presence-refused_by s (Insert id fact) true = refl
+code_by_presence-refused_by s (Insert id fact) false = refl
+code_by_presence-refused_by s (Update id fact) true = refl
+code_by_presence-refused_by s (Update id fact) false = refl
+code_by_presence-refused_by s (Amend id part) true = refl
+code_by_presence-refused_by s (Amend id part) false = refl
+code_by_presence-refused_by s (Delete id) true = refl
+code_by_presence-refused_by s (Delete id) false = refl
+
+-- a change that the schema takes is refused where the book refuses it, with the code of the book's fault
+pub code_in-refused_by : (s : Layout) (book : Entries) (what : Result Change LineFault) (change : Change) (fault : Option BookFault) → what ≡ Ok change
+    → takes s change ≡ true → refused_by book change ≡ fault → code_in s book what ≡ option_map (code_of_refusal s) fault
+code_in-refused_by s book what change fault says taken is =
+    rw (says, taken)
+    (code_by_presence-refused_by s change (is_some (fact_at book (id_of change))) ∙ ap (option_map (code_of_refusal s)) is)
+
+-- an account whose book made the change of an item took the item
+pub Enters-Makes : (s : Layout) (item : Item) (old new : AccountView) (change : Change) (gone : Option Fact) → item.what ≡ Ok change → takes s change ≡ true
+    → Makes old.book change gone new.book → new.refusals ≡ old.refusals → Enters s item old new
+Enters-Makes s item old new change gone says taken makes refusals =
+    Enters-Puts s item old new (id_of change) (fact_put change (fact_at old.book (id_of change)))
+    (record {
+      change = change;
+      says = says;
+      lawful = code_in-refused_by s old.book item.what change None says taken makes.lawful;
+      of_id = refl;
+      comes = refl;
+    })
+    (Exchanges-was (id_of change) gone _ old new (record { book = makes.replaces; refusals = refusals }))
+
+-- one that noted the code of the fault for which its book refused the change did
+pub Enters-refused : (s : Layout) (item : Item) (old mid new : AccountView) (change : Change) (fault : BookFault) (code : ℕ) → item.what ≡ Ok change
+    → takes s change ≡ true → refused_by old.book change ≡ Some fault → mid.book ≡ old.book → mid.refusals ≡ old.refusals → code ≡ code_of_refusal s fault
+    → new ≡ with_refusal mid item.number code → Enters s item old new
+Enters-refused s item old mid new change fault code says taken refused books notes coded noted =
+    Enters-Obeys s item old new (Refuse (code_of_refusal s fault)) (code_in-refused_by s old.book item.what change (Some fault) says taken refused)
+    (noted ∙ (λ i. record { book = books i; refusals = notes i ++ refusal item.number (coded i) ∷ [] }))
+
+-- ---- at the source of an item
 
 -- a change of an account is a weaker one of it
 pub AtSource-weaker : (P Q : AccountView → AccountView → Type 0) (source : ℕ) (old new : LedgerView)

@@ -1,5 +1,5 @@
 -- The facts of one source, each under its id: a map of ids to facts, empty at first (this project's choice).
-use Rattle.std.specs.Prelude.{◌≡◌, ◌++◌, ⊤, ℕ, Bool, false, List, length, Option, Some, None, IfSome, is_some, option_map, if◌then◌else◌}
+use Rattle.std.specs.Prelude.{◌≡◌, ◌++◌, ◌∷◌, ⊤, ℕ, Bool, false, List, length, Option, Some, None, IfSome, is_some, option_map, if◌then◌else◌}
 use Rattle.std.specs.Option.{option_to_list}
 use Rattle.std.specs.Str.{bytes_eq}
 use Rattle.std.specs.List.{IsDistinct}
@@ -41,6 +41,13 @@ pub record Replaces (old : Entries) (id : List ℕ) (gone come : Option Fact) (n
   pub moved : IsPermutation (option_to_list come ++ facts_of old) (option_to_list gone ++ facts_of new)
   pub each_once : IsBook new
 
+-- the new book has one entry more: this fact, under an id that was absent
+pub record GainsEntry (old : Entries) (id : List ℕ) (fact : Fact) (new : Entries) : Type 0 where
+  pub absent : fact_at old id ≡ None
+  pub facts : (other : List ℕ) → fact_at new other ≡ (if bytes_eq id other then Some fact else fact_at old other)
+  pub more : IsPermutation ((id, fact) ∷ old) new
+  pub each_once : IsBook new
+
 -- the fact that a change puts under its id, given the one that is there: none where it is a delete, or an amendment of nothing
 abbrev pub fact_put : Change → Option Fact → Option Fact
 fact_put (Insert id fact) old = Some fact
@@ -66,6 +73,11 @@ AmendsAlike book (Update id fact) = ⊤
 AmendsAlike book (Amend id part) =
     IfSome (fact_at book id) (λ fact. (length part.dims ≡ length fact.dims) × (length part.measures ≡ length fact.measures))
 AmendsAlike book (Delete id) = ⊤
+
+-- a book made a change: it isn't refused, and its fact or none stands under its id in place of what is gone
+pub record Makes (old : Entries) (change : Change) (gone : Option Fact) (new : Entries) : Type 0 where
+  pub lawful : refused_by old change ≡ None
+  pub replaces : Replaces old (id_of change) gone (fact_put change (fact_at old (id_of change))) new
 
 -- a book took a change: it isn't refused, and its fact or none stands under its id in place of what is gone
 pub record Takes (old : Entries) (change : Change) (delta : Delta) (new : Entries) : Type 0 where

@@ -2,12 +2,12 @@
 ghost use Rattle.std.specs.Prelude.{◌≡◌, Ok, None, Some, true, IfOk, IfErr, OnOk, OnErr, IfNone};
 ghost use Rattle.std.specs.Option.{option_map};
 ghost use Rattle.cube_engine.specs.Book.{AmendsAlike, fact_at, facts_of, refused_by};
-ghost use Rattle.cube_engine.specs.Ledger.{AllFit, Exchanges, IsRuling, RulingFits, Settles, is_amendment, says_amendment, says_taken, new_account, with_refusal};
+ghost use Rattle.cube_engine.specs.Ledger.{AllFit, Enters, Exchanges, IsRuling, RulingFits, Settles, is_amendment, says_amendment, says_taken, new_account, with_refusal};
 
-use crate::book::Book;
-use crate::code::{code_by_presence, code_of_fault, id_of};
+use crate::book::{Book, BookFault};
+use crate::code::{absent_code, code_by_presence, code_of_fault, id_of, present_code};
 use crate::ruling::Ruling;
-use cube_core::{Change, Fact, LineFault, Refusal, Schema, Text};
+use cube_core::{Change, Fact, Item, LineFault, Refusal, Schema, Text};
 use std::alloc::{AllocError, Global};
 use std::marker::Model;
 
@@ -82,6 +82,28 @@ impl Account {
                 Ok(Ruling::Put { id, fact })
             }
             Change::Delete { id } => Ok(Ruling::Take { id }),
+        }
+    }
+
+    /// Takes an item whose change, where it says one, the schema takes: a refused one is noted with its code, and the
+    /// change of any other is made in the book. Where memory is wanting, the account is as it was, and the item is
+    /// given up.
+    pub fn enter(&mut self, schema: &Schema, item: Item) -> Result<(), AllocError>
+        requires all_fit { AllFit schema.now (facts_of self.old.book) }
+        requires taken { says_taken schema.now item.what ≡ true }
+        ensures enters { OnOk result (Enters schema.now item self.old self.new) }
+        ensures err { OnErr result (self.new ≡ self.old) }
+    {
+        let Item { number, what } = item;
+        let change = match what {
+            Ok(change) => change,
+            Err(fault) => return self.refuse(number, code_of_fault(schema, fault)),
+        };
+        match self.book.enter(change) {
+            Ok(_) => Ok(()),
+            Err(BookFault::Present) => self.refuse(number, present_code(schema)),
+            Err(BookFault::Absent) => self.refuse(number, absent_code(schema)),
+            Err(BookFault::Memory) => Err(AllocError),
         }
     }
 

@@ -1,15 +1,19 @@
 //! The facts of one source.
-ghost use Rattle.std.specs.Prelude.{◌≡◌, [], Some, None, length, IfOk, IfErr, OnErr, IfNone, is_some};
+ghost use Rattle.std.specs.Prelude.{◌≡◌, [], Some, None, true, false, length, IfOk, IfErr, OnErr, IfNone, is_some};
 ghost use Rattle.std.specs.Option.{option_map};
-ghost use Rattle.cube_engine.specs.Book.{AmendsAlike, IsBook, Replaces, Takes, Explains, fact_at, facts_of};
+ghost use Rattle.cube_core.specs.Life.{id_of};
+ghost use Rattle.cube_engine.specs.Book.{AmendsAlike, GainsEntry, IsBook, Makes, Replaces, Takes, Explains, fact_at, fact_put, facts_of};
 
 use cube_core::{Change, Fact, Partial, Text};
-use std::alloc::Global;
+use std::alloc::{AllocError, Global};
 use std::collections::HashMap;
-use std::collections::hash_map::Values;
+use std::collections::hash_map::{Entry, Values};
 use std::hash::{BuildHasherDefault, DefaultHasher};
 use std::marker::Model;
+use std::mem::replace;
 use thiserror::Error;
+
+type Facts = HashMap<Text, Fact, BuildHasherDefault<DefaultHasher>>;
 
 /// What a change took out of a book, and a copy of what it put in.
 #[derive(Debug, Drop)]
@@ -38,7 +42,7 @@ pub enum BookFault {
 #[derive(Drop)]
 pub struct Book {
     alloc: Global,
-    facts: HashMap<Text, Fact, BuildHasherDefault<DefaultHasher>>,
+    facts: Facts,
 }
 
 impl Model for Book {
@@ -117,63 +121,118 @@ impl Book {
         ensures refused { IfErr result (Explains self.old change) }
         ensures unchanged { OnErr result (self.new ≡ self.old) }
     {
+        let come = self.copy_come(&change)?;
+        let gone = self.enter(change)?;
+        Ok(Delta { gone, come })
+    }
+
+    // A copy of the fact that a change puts.
+    fn copy_come(&self, change: &Change) -> Result<Option<Fact>, BookFault>
+        requires { AmendsAlike self.now change.now }
+        ensures come { IfOk result
+            (λ come. come ≡ fact_put change.now (fact_at self.now (id_of change.now))) }
+        ensures refused { IfErr result (Explains self.now change.now) }
+    {
+        match change {
+            Change::Insert { id, fact } => {
+                if self.has(id) {
+                    return Err(BookFault::Present);
+                }
+                copy_fact(self.alloc, fact)
+            }
+            Change::Update { id, fact } => {
+                if !self.has(id) {
+                    return Err(BookFault::Absent);
+                }
+                copy_fact(self.alloc, fact)
+            }
+            Change::Amend { id, part } => self.copy_amended(id, part),
+            Change::Delete { .. } => Ok(None),
+        }
+    }
+
+    // The fact that an amendment puts.
+    fn copy_amended(&self, id: &Text, part: &Partial) -> Result<Option<Fact>, BookFault>
+        requires { AmendsAlike self.now (Change.Amend id.now part.now) }
+        ensures come { IfOk result
+            (λ come. come ≡ fact_put (Change.Amend id.now part.now) (fact_at self.now id.now)) }
+        ensures refused { IfErr result (Explains self.now (Change.Amend id.now part.now)) }
+    {
+        let Some(old) = self.get(id) else {
+            return Err(BookFault::Absent);
+        };
+        match part.over(self.alloc, old) {
+            Ok(fact) => Ok(Some(fact)),
+            Err(_) => Err(BookFault::Memory),
+        }
+    }
+
+    /// Takes a change as `apply` does, and copies no fact: the one of the change is moved into the book. The answer
+    /// is what went out. The id is looked up once.
+    pub(crate) fn enter(&mut self, change: Change) -> Result<Option<Fact>, BookFault>
+        requires { AmendsAlike self.old change }
+        ensures made { IfOk result (λ gone. Makes self.old change gone self.new) }
+        ensures refused { IfErr result (Explains self.old change) }
+        ensures unchanged { OnErr result (self.new ≡ self.old) }
+    {
         match change {
             Change::Insert { id, fact } => self.insert(id, fact),
-            Change::Update { id, fact } => self.update(id, fact),
-            Change::Amend { id, part } => self.amend(id, &part),
+            Change::Update { id, fact } => self.update(&id, fact),
+            Change::Amend { id, part } => self.amend(&id, &part),
             Change::Delete { id } => self.delete(&id),
         }
     }
 
-    fn insert(&mut self, id: Text, fact: Fact) -> Result<Delta, BookFault>
-        ensures taken { IfOk result
-            (λ delta. Takes self.old (Change.Insert id fact) delta self.new) }
+    fn insert(&mut self, id: Text, fact: Fact) -> Result<Option<Fact>, BookFault>
+        ensures made { IfOk result
+            (λ gone. Makes self.old (Change.Insert id fact) gone self.new) }
         ensures refused { IfErr result (Explains self.old (Change.Insert id fact)) }
         ensures unchanged { OnErr result (self.new ≡ self.old) }
     {
-        if self.has(&id) {
-            return Err(BookFault::Present);
+        match put_new(&mut self.facts, id, fact) {
+            Ok(true) => Ok(None),
+            Ok(false) => Err(BookFault::Present),
+            Err(_) => Err(BookFault::Memory),
         }
-        self.put_copied(id, fact)
     }
 
-    fn update(&mut self, id: Text, fact: Fact) -> Result<Delta, BookFault>
-        ensures taken { IfOk result
-            (λ delta. Takes self.old (Change.Update id fact) delta self.new) }
-        ensures refused { IfErr result (Explains self.old (Change.Update id fact)) }
+    fn update(&mut self, id: &Text, fact: Fact) -> Result<Option<Fact>, BookFault>
+        ensures made { IfOk result
+            (λ gone. Makes self.old (Change.Update id.now fact) gone self.new) }
+        ensures refused { IfErr result (Explains self.old (Change.Update id.now fact)) }
         ensures unchanged { OnErr result (self.new ≡ self.old) }
     {
-        if !self.has(&id) {
+        let Some(place) = self.facts.get_mut(id) else {
             return Err(BookFault::Absent);
-        }
-        self.put_copied(id, fact)
+        };
+        Ok(Some(replace(place, fact)))
     }
 
-    fn amend(&mut self, id: Text, part: &Partial) -> Result<Delta, BookFault>
-        requires { AmendsAlike self.old (Change.Amend id part.now) }
-        ensures taken { IfOk result
-            (λ delta. Takes self.old (Change.Amend id part.now) delta self.new) }
-        ensures refused { IfErr result (Explains self.old (Change.Amend id part.now)) }
+    fn amend(&mut self, id: &Text, part: &Partial) -> Result<Option<Fact>, BookFault>
+        requires { AmendsAlike self.old (Change.Amend id.now part.now) }
+        ensures made { IfOk result
+            (λ gone. Makes self.old (Change.Amend id.now part.now) gone self.new) }
+        ensures refused { IfErr result (Explains self.old (Change.Amend id.now part.now)) }
         ensures unchanged { OnErr result (self.new ≡ self.old) }
     {
-        let Some(old) = self.get(&id) else {
+        let Some(place) = self.facts.get_mut(id) else {
             return Err(BookFault::Absent);
         };
-        let Ok(fact) = part.over(self.alloc, old) else {
-            return Err(BookFault::Memory);
-        };
-        self.put_copied(id, fact)
+        match part.over(self.alloc, place) {
+            Ok(fact) => Ok(Some(replace(place, fact))),
+            Err(_) => Err(BookFault::Memory),
+        }
     }
 
-    fn delete(&mut self, id: &Text) -> Result<Delta, BookFault>
-        ensures taken { IfOk result
-            (λ delta. Takes self.old (Change.Delete id.now) delta self.new) }
+    fn delete(&mut self, id: &Text) -> Result<Option<Fact>, BookFault>
+        ensures made { IfOk result
+            (λ gone. Makes self.old (Change.Delete id.now) gone self.new) }
         ensures refused { IfErr result (Explains self.old (Change.Delete id.now)) }
         ensures unchanged { OnErr result (self.new ≡ self.old) }
     {
         match self.take(id) {
+            Some(gone) => Ok(Some(gone)),
             None => Err(BookFault::Absent),
-            gone => Ok(Delta { gone, come: None }),
         }
     }
 
@@ -183,24 +242,31 @@ impl Book {
     {
         self.facts.contains_key(id)
     }
+}
 
-    // Puts a fact under an id, and answers a copy of it.
-    fn put_copied(&mut self, id: Text, fact: Fact) -> Result<Delta, BookFault>
-        ensures put { IfOk result (λ delta. Replaces self.old id delta.gone delta.come self.new) }
-        ensures come { IfOk result (λ delta. delta.come ≡ Some fact) }
-        ensures memory { IfErr result (λ fault. fault ≡ BookFault.Memory) }
-        ensures unchanged { OnErr result (self.new ≡ self.old) }
-    {
-        let Ok(come) = fact.copy(self.alloc) else {
-            return Err(BookFault::Memory);
-        };
-        match self.put(id, fact) {
-            Ok(gone) => Ok(Delta {
-                gone,
-                come: Some(come),
-            }),
-            Err(_) => Err(BookFault::Memory),
-        }
+// Puts a fact under an id that is absent; answers whether it was.
+fn put_new(facts: &mut Facts, id: Text, fact: Fact) -> Result<bool, AllocError>
+    ensures put { IfOk result (λ was. was ≡ true → GainsEntry facts.old.entries id fact facts.new.entries) }
+    ensures present { IfOk result (λ was. was ≡ false → is_some (fact_at facts.old.entries id) ≡ true) }
+    ensures left { IfOk result (λ was. was ≡ false → facts.new.entries ≡ facts.old.entries) }
+    ensures err { OnErr result (facts.new.entries ≡ facts.old.entries) }
+    ensures memory { OnErr result (fact_at facts.old.entries id ≡ None) }
+{
+    if let Entry::Vacant(place) = facts.entry(id)? {
+        place.insert(fact);
+        return Ok(true);
+    }
+    Ok(false)
+}
+
+// A copy of a fact.
+fn copy_fact(alloc: Global, fact: &Fact) -> Result<Option<Fact>, BookFault>
+    ensures copy { IfOk result (λ copy. copy ≡ Some fact.now) }
+    ensures memory { IfErr result (λ fault. fault ≡ BookFault.Memory) }
+{
+    match fact.copy(alloc) {
+        Ok(copy) => Ok(Some(copy)),
+        Err(_) => Err(BookFault::Memory),
     }
 }
 

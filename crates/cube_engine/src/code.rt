@@ -68,13 +68,15 @@ fn may_amend(schema: &Schema) -> bool
     schema.version() == 2
 }
 
-fn present_code(schema: &Schema) -> u8
+/// The code of an insert of an id that is present.
+pub fn present_code(schema: &Schema) -> u8
     ensures { result ≡ present_code schema.now }
 {
     if may_amend(schema) { 7 } else { 6 }
 }
 
-fn absent_code(schema: &Schema) -> u8
+/// The code of an update, an amendment or a delete of an id that is absent.
+pub fn absent_code(schema: &Schema) -> u8
     ensures { result ≡ absent_code schema.now }
 {
     if may_amend(schema) { 8 } else { 7 }

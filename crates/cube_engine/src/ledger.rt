@@ -3,7 +3,7 @@ ghost use Rattle.std.specs.Prelude.{◌≡◌, ◌≤◌, ◌++◌, ◌∷◌, [
 ghost use Rattle.std.specs.Option.{option_map};
 ghost use Rattle.cube_core.specs.Arrival.{Arrivals};
 ghost use Rattle.cube_core.specs.Takes.{fits};
-ghost use Rattle.cube_engine.specs.Ledger.{AllFit, AtSource, Enters, Exchanges, IsRuling, LedgerStandsAt, Obeys, RulingFits, account_of, all_facts, new_account, says_amendment, says_taken, with_refusal};
+ghost use Rattle.cube_engine.specs.Ledger.{AllFit, AtSource, Enters, Exchanges, IsRuling, LedgerStandsAt, RulingFits, account_of, all_facts, new_account, says_amendment, says_taken, with_refusal};
 
 use crate::account::Account;
 use crate::code::{says_taken, shape_code};
@@ -80,19 +80,6 @@ impl Ledger {
                 code: shape_code(&self.schema),
             });
         }
-        self.rule_taken(source, what)
-    }
-
-    /// The same of an item whose change, where it says one, the schema takes, as a feed's items are.
-    fn rule_taken(&self, source: u32, what: Result<Change, LineFault>) -> Result<Ruling, AllocError>
-        requires first { 1 ≤ source }
-        requires last { source ≤ length self.now.accounts }
-        requires taken { says_taken self.now.schema what ≡ true }
-        ensures ruling { IfOk result
-            (IsRuling self.now.schema (account_of self.now source).book what) }
-        ensures fits { IfOk result (RulingFits self.now.schema) }
-        ensures amends { OnErr result (says_amendment what ≡ true) }
-    {
         let account = &self.accounts[source as usize - 1];
         account.rule(self.alloc, &self.schema, what)
     }
@@ -170,9 +157,11 @@ impl Ledger {
             (AtSource (Enters self.old.schema item) source self.old self.new) }
         ensures err { OnErr result (self.new ≡ self.old) }
     {
-        let Item { number, what } = item;
-        let ruling = self.rule(source, what)?;
-        self.obey(source, number, ruling)
+        if !says_taken(&self.schema, &item.what) {
+            let code = shape_code(&self.schema);
+            return self.refuse(source, item.number, code);
+        }
+        self.enter_taken(source, item)
     }
 
     fn enter_taken(&mut self, source: u32, item: Item) -> Result<(), AllocError>
@@ -183,30 +172,8 @@ impl Ledger {
             (AtSource (Enters self.old.schema item) source self.old self.new) }
         ensures err { OnErr result (self.new ≡ self.old) }
     {
-        let Item { number, what } = item;
-        let ruling = self.rule_taken(source, what)?;
-        self.obey(source, number, ruling)
-    }
-
-    // Does what an item of a number came to.
-    fn obey(&mut self, source: u32, number: u32, ruling: Ruling) -> Result<(), AllocError>
-        requires first { 1 ≤ source }
-        requires last { source ≤ length self.old.accounts }
-        requires fits { RulingFits self.old.schema ruling }
-        ensures obeys { OnOk result (AtSource (Obeys number ruling) source self.old self.new) }
-        ensures err { OnErr result (self.new ≡ self.old) }
-    {
-        match ruling {
-            Ruling::Refuse { code } => self.refuse(source, number, code),
-            Ruling::Put { id, fact } => match self.put(source, id, fact) {
-                Ok(_) => Ok(()),
-                Err(_) => Err(AllocError),
-            },
-            Ruling::Take { id } => {
-                let _ = self.take(source, &id);
-                Ok(())
-            }
-        }
+        let account = &mut self.accounts[source as usize - 1];
+        account.enter(&self.schema, item)
     }
 
     /// The accounts of the sources, from the first.

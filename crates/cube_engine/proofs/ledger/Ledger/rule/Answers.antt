@@ -2,7 +2,7 @@ use Rattle.std.proofs.Common.{◌≡◌, ◌<◌, ◌-◌, length, get_or, rules
 use Rattle.cube_engine.specs.Book.{facts_of}
 use Rattle.cube_engine.specs.Ledger.{AccountView, AllFit, new_account}
 use Rattle.cube_engine.proofs.LedgerLaws.{account-at, AllFit-account}
-use Rattle.cube_engine.proofs.ledger.Ledger.rule_taken.Goals as goal
+use Rattle.cube_engine.proofs.ledger.Ledger.rule.Goals as goal
 
 pub rule-requires-clause-all_fit : goal.rule-requires-clause-all_fit
 rule-requires-clause-all_fit c =
