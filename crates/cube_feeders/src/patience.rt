@@ -16,6 +16,7 @@ const NAPPING_RING: usize = 64;
 
 /// The microseconds of the shortest nap, and of the longest.
 const SHORTEST_NAP: u64 = 50;
+
 const LONGEST_NAP: u64 = 800;
 
 /// What a feeder has learned of how long its links stay full. It naps at once where its last nap was no longer than its

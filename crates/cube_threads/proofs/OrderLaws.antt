@@ -44,10 +44,10 @@ pub AllZip-IsPermutation : {X Y : Type 0} (R : X → Y → Type 0) (xs sorted : 
     (zs : List Y) × AllZip R xs zs × IsPermutation zs ys
 AllZip-IsPermutation {Y = Y} R xs sorted ys moved all =
     let back = IsPermutation-keeps sorted (λ l. (zs : List Y) × AllZip R l zs × IsPermutation ys zs) (ys, all, IsPermutation-refl ys) (λ l i j below_i below_j so_far.
-      let zs = so_far.0 in
-      let long = AllZip-length R l zs so_far.1 in
-      (swap zs i j, AllZip-swap R l zs i j below_i below_j so_far.1, IsPermutation-trans ys zs (swap zs i j) so_far.2 (IsPermutation-swap zs (swap zs i j) i j (omega (arith, long, below_i)) (omega (arith, long, below_j)) refl)))
-      xs (IsPermutation-sym xs sorted moved) in
+    let zs = so_far.0 in
+    let long = AllZip-length R l zs so_far.1 in
+    (swap zs i j, AllZip-swap R l zs i j below_i below_j so_far.1, IsPermutation-trans ys zs (swap zs i j) so_far.2 (IsPermutation-swap zs (swap zs i j) i j (omega (arith, long, below_i)) (omega (arith, long, below_j)) refl)))
+    xs (IsPermutation-sym xs sorted moved) in
     (back.0, back.1, IsPermutation-sym ys back.0 back.2)
 
 -- what is related to a list and another after it is related to each

@@ -79,34 +79,44 @@ fn printed<T: Threads + Wait + Sync>(
 {
     let schema = Schema::sample(alloc)?;
     let mut out = Vec::new(alloc);
-    let ran = run_texts(
-        rt, alloc, &schema, &feeds, 1, builders, &OpenGate, &mut out,
-    );
+    let ran = run_texts(rt, alloc, &schema, &feeds, 1, builders, &OpenGate, &mut out);
     ran.ok().ok_or("the run failed")?;
     Ok(out)
 }
 
 #[test]
 fn one_builder_prints_the_cube(rt: HostRuntime) -> Result<(), Fail> {
-    assert_eq!(rt; printed(&rt, rt.alloc(), [ONE, TWO], 1)?.as_slice(), BOTH.as_bytes());
+    assert_eq!(rt;
+        printed(&rt, rt.alloc(), [ONE, TWO], 1)?.as_slice(),
+        BOTH.as_bytes()
+    );
     Ok(())
 }
 
 #[test]
 fn two_builders_print_the_cube(rt: HostRuntime) -> Result<(), Fail> {
-    assert_eq!(rt; printed(&rt, rt.alloc(), [ONE, TWO], 2)?.as_slice(), BOTH.as_bytes());
+    assert_eq!(rt;
+        printed(&rt, rt.alloc(), [ONE, TWO], 2)?.as_slice(),
+        BOTH.as_bytes()
+    );
     Ok(())
 }
 
 #[test]
 fn three_builders_print_the_cube(rt: HostRuntime) -> Result<(), Fail> {
-    assert_eq!(rt; printed(&rt, rt.alloc(), [ONE, TWO], 3)?.as_slice(), BOTH.as_bytes());
+    assert_eq!(rt;
+        printed(&rt, rt.alloc(), [ONE, TWO], 3)?.as_slice(),
+        BOTH.as_bytes()
+    );
     Ok(())
 }
 
 #[test]
 fn eight_builders_print_the_cube(rt: HostRuntime) -> Result<(), Fail> {
-    assert_eq!(rt; printed(&rt, rt.alloc(), [ONE, TWO], 8)?.as_slice(), BOTH.as_bytes());
+    assert_eq!(rt;
+        printed(&rt, rt.alloc(), [ONE, TWO], 8)?.as_slice(),
+        BOTH.as_bytes()
+    );
     Ok(())
 }
 
