@@ -246,8 +246,10 @@ impl Book {
 
 // Puts a fact under an id that is absent; answers whether it was.
 fn put_new(facts: &mut Facts, id: Text, fact: Fact) -> Result<bool, AllocError>
-    ensures put { IfOk result (λ was. was ≡ true → GainsEntry facts.old.entries id fact facts.new.entries) }
-    ensures present { IfOk result (λ was. was ≡ false → is_some (fact_at facts.old.entries id) ≡ true) }
+    ensures put { IfOk result
+        (λ was. was ≡ true → GainsEntry facts.old.entries id fact facts.new.entries) }
+    ensures present { IfOk result
+        (λ was. was ≡ false → is_some (fact_at facts.old.entries id) ≡ true) }
     ensures left { IfOk result (λ was. was ≡ false → facts.new.entries ≡ facts.old.entries) }
     ensures err { OnErr result (facts.new.entries ≡ facts.old.entries) }
     ensures memory { OnErr result (fact_at facts.old.entries id ≡ None) }
