@@ -12,7 +12,7 @@ import math
 import os
 import tempfile
 
-from threads import ROOT, THREADS, timed
+from measure import DATACUBE, ROOT, need, run
 from workloads import WORKLOADS, make
 
 SCALES = (0.1, 0.3, 1.0, 3.0, 10.0)
@@ -23,7 +23,7 @@ WIDE, HIGH, LEFT, BELOW, ABOVE, RIGHT = 640, 400, 60, 44, 14, 90
 def measure(name, scale, runs):
     with tempfile.TemporaryDirectory() as folder:
         files = make(folder, name, 1, scale)
-        return min(timed([THREADS, "print", *files])[1] for _ in range(runs))
+        return min(run([DATACUBE, "print", *files])[0].processor for _ in range(runs))
 
 
 def place(value, ends, low, high):
@@ -74,6 +74,7 @@ def main():
     parser.add_argument("--runs", type=int, default=3)
     parser.add_argument("--most", type=float, default=SCALES[-1], help="the most times the workload's records")
     words = parser.parse_args()
+    need(DATACUBE)
     scales = [scale for scale in SCALES if scale <= words.most]
     print("| workload | " + " | ".join(f"× {scale:g}" for scale in scales) + " |\n|" + "---|" * (len(scales) + 1))
     lines = {}

@@ -8,50 +8,19 @@ programs in turn: crates/run_bench on one thread, and the program with 1, 2, 3 a
 processor seconds, each the lowest of N runs. All runs over the same feeds must write the same bytes.
 """
 import argparse
-import hashlib
-import os
-import resource
-import subprocess
-import sys
 import tempfile
-import time
 
+from measure import DATACUBE, RUN_BENCH, best_of, need
 from workloads import WORKLOADS, make
 
-ROOT = os.path.dirname(os.path.dirname(os.path.realpath(__file__)))
-THREADS = f"{ROOT}/crates/datacube/out/datacube"
-PLAIN = f"{ROOT}/crates/run_bench/out/run_bench"
 SOURCES = (1, 4, 64)
 BUILDERS = (1, 2, 3, 4)
 
 
-def timed(words):
-    """Wall and processor seconds of a run, and a digest of what it wrote."""
-    before = resource.getrusage(resource.RUSAGE_CHILDREN)
-    start = time.monotonic()
-    with subprocess.Popen(words, stdout=subprocess.PIPE) as child:
-        digest = hashlib.sha256()
-        while piece := child.stdout.read(1 << 20):
-            digest.update(piece)
-    wall = time.monotonic() - start
-    after = resource.getrusage(resource.RUSAGE_CHILDREN)
-    if child.returncode != 0:
-        sys.exit(f"{words[0]} ended with {child.returncode}")
-    processor = after.ru_utime - before.ru_utime + after.ru_stime - before.ru_stime
-    return wall, processor, digest.hexdigest()
-
-
 def measure(files, ring, runs):
-    """The lowest wall and processor seconds of each program, in turn."""
-    ways = [[PLAIN, *files]]
-    ways += [[THREADS, "print", "--builders", str(count), "--ring", str(ring), *files] for count in BUILDERS]
-    found = [[] for _ in ways]
-    for _ in range(runs):
-        for way, all_runs in zip(ways, found):
-            all_runs.append(timed(way))
-    if len({digest for all_runs in found for _, _, digest in all_runs}) != 1:
-        sys.exit("the runs wrote different bytes")
-    return [(min(run[0] for run in all_runs), min(run[1] for run in all_runs)) for all_runs in found]
+    """What the run on one thread used, and what the program did with each number of builders."""
+    threaded = [[DATACUBE, "print", "--builders", str(count), "--ring", str(ring), *files] for count in BUILDERS]
+    return best_of([[RUN_BENCH, *files], *threaded], runs)
 
 
 def main():
@@ -62,9 +31,7 @@ def main():
     parser.add_argument("--ring", type=int, default=64)
     parser.add_argument("--folder", help="where the feeds are made")
     words = parser.parse_args()
-    for program in (THREADS, PLAIN):
-        if not os.path.exists(program):
-            sys.exit(f"{program} is missing: rt run in its crate builds it")
+    need(DATACUBE, RUN_BENCH)
     heads = ["workload", "sources", "one thread"] + [f"{count} builder{'s' * (count > 1)}" for count in BUILDERS]
     print("| " + " | ".join(heads) + " |\n|" + "---|" * len(heads))
     for name in words.workloads or WORKLOADS:
@@ -72,7 +39,7 @@ def main():
             with tempfile.TemporaryDirectory(dir=words.folder) as folder:
                 files = make(folder, name, sources, words.scale)
                 found = measure(files, words.ring, words.runs)
-            cells = [f"{wall:.2f}, {processor:.2f}" for wall, processor in found]
+            cells = [f"{use.wall:.2f}, {use.processor:.2f}" for use in found]
             print("| " + " | ".join([name, str(sources), *cells]) + " |", flush=True)
 
 

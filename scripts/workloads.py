@@ -1,4 +1,12 @@
-"""The workloads of the measurements: schemas and feeds, made anew and the same on every machine."""
+#!/usr/bin/env python3
+"""The workloads of the measurements: schemas and feeds, made anew and the same on every machine.
+
+    scripts/workloads.py WORKLOAD FOLDER [--sources N] [--scale F]
+
+writes the schema and the feeds of one to a folder, and prints their paths.
+"""
+import argparse
+import os
 import random
 
 # records, the number of values of each dimension, measures with their ranges, shares of updates and of deletes
@@ -59,3 +67,18 @@ def make(folder, name, sources, scale):
     for feed in feeds:
         feed.out.close()
     return [schema, *paths]
+
+
+def main():
+    parser = argparse.ArgumentParser(description=__doc__, formatter_class=argparse.RawDescriptionHelpFormatter)
+    parser.add_argument("workload", choices=WORKLOADS)
+    parser.add_argument("folder")
+    parser.add_argument("--sources", type=int, default=1)
+    parser.add_argument("--scale", type=float, default=1.0)
+    words = parser.parse_args()
+    os.makedirs(words.folder, exist_ok=True)
+    print(*make(words.folder, words.workload, words.sources, words.scale))
+
+
+if __name__ == "__main__":
+    main()

@@ -1,8 +1,8 @@
 //! Times the building of a cube from feeds.
 //!
 //! With words, the file of a schema and those of its feeds, one for each source, it prints how many milliseconds of
-//! processor time the ledger of the feeds takes, and how many the builder with the filled cube. With no word it checks
-//! a small case.
+//! processor time the ledger of the feeds takes, how many the builder with the filled cube, and how many a builder that
+//! changes its cells at each item. With no word it checks a small case.
 #![tactic(auto)]
 
 mod timing;
