@@ -17,9 +17,13 @@ use Rattle.cube_cells.specs.Rows.{AreRowsInOrder, CellsInOrder, GivesUnless, IsR
 use Rattle.cube_cells.specs.Cube.{Cells, Lattice, IsCubeOf}
 use Rattle.cube_engine.specs.Builder.{BuilderView}
 use Rattle.cube_engine.specs.Ledger.{all_facts}
-use Rattle.cube_threads.specs.Parts.{first_ledger, AreParts}
+use Rattle.cube_threads.specs.Parts.{BuiltView, first_ledger, AreParts}
 use Rattle.cube_threads.proofs.JoinLaws.{AreRowsBelow, rows-first, rows-more, rows-all, rows-one, over-rows}
 use Rattle.cube_threads.proofs.OrderLaws.{AllZip-IsPermutation, AllZip-split, IsSortedBy-IsRowOf}
+
+-- the builders that a caller sees are parts, as those inside are
+pub parts-of : {inside seen : BuiltView} → inside ≡ seen → AreParts inside.builders → AreParts seen.builders
+parts-of same parts = subst (λ (v : BuiltView). AreParts v.builders) same parts
 
 -- these are the rows of the first so many parts, in any order, whose keys pass a test
 abbrev pub AreRowsOfParts : ℕ → (Key → Bool) → List BuilderView → List Row → Type 0
