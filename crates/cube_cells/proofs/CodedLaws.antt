@@ -1,6 +1,6 @@
 -- Laws that join cells kept by codes to the cube: what the walk did to them is what the cube promises, and what is true of each cube stays so.
 use Rattle.std.proofs.Common.{◌≡◌, ℕ, ◌+◌, ◌^◌, ◌<◌, ◌≤◌, ◌==◌, List, [], ◌∷◌, Bool, true, false, refl, sym, ap, ◌∙◌, subst, arith, inl, inr, length, Option, Some, None}
-use Rattle.std.specs.Prelude.{ℤ, All, IfSome, ◌↔◌}
+use Rattle.std.specs.Prelude.{All, IfSome, ◌↔◌}
 use Rattle.std.specs.List.{list_all}
 use Rattle.std.proofs.lemmas.Bool.{cases_eq, or_cases, or_left, or_right, and_parts, and_from, eq-eqb, eqb-true}
 use Rattle.cube_core.specs.Covers.{covers}

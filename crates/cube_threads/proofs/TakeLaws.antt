@@ -5,7 +5,7 @@ use Rattle.std.specs.List.{All, AllZip, AllByRecursion}
 use Rattle.std.proofs.lemmas.List.{ext_get_or, get_or-map, get_or-take, get_or_default, length-map, length-take}
 use Rattle.std.proofs.lemmas.List.FromFn.{get_or-map-range_with_len, length-map-range_with_len}
 use Rattle.cube_core.specs.Arrival.{Arrivals, of_source, of_sources}
-use Rattle.cube_core.specs.Items.{Coming, FeedEnd, Good, WrongHeader, TooManyRecords, items_of}
+use Rattle.cube_core.specs.Items.{Coming, items_of}
 use Rattle.cube_core.specs.Layout.{Layout}
 use Rattle.cube_core.specs.Records.{records_of}
 use Rattle.cube_core.specs.Run.{Told, IsGood, AreItemsOf, AreGood}
@@ -13,7 +13,7 @@ use Rattle.cube_core.specs.declared.change.Item.{Item}
 use Rattle.cube_engine.specs.Build.{IsFaultOf, IsLowestFault}
 use Rattle.cube_engine.specs.declared.fault.RunFault.{RunFault}
 use Rattle.cube_engine.specs.declared.fault.RunFault.TheVariants as run_fault
-use Rattle.cube_feed.specs.Feed.{Ahead, fault_of}
+use Rattle.cube_feed.specs.Feed.{Ahead}
 use Rattle.cube_feed.specs.declared.fault.FeedFault.{FeedFault}
 use Rattle.cube_feed.specs.declared.fault.FeedFault.TheVariants.{Memory, Read, Header, TooMany}
 use Rattle.cube_link.specs.Link.{Sending, Receiving}

@@ -1,4 +1,4 @@
-use Rattle.std.proofs.Common.{◌≡◌, List, ◌++◌, length, take, arith, subst, ap}
+use Rattle.std.proofs.Common.{◌≡◌, List, length, arith, subst, ap}
 use Rattle.std.proofs.lemmas.List.{length-map}
 use Rattle.cube_link.specs.Link.{Sending}
 use Rattle.cube_feeders.specs.Parcels.{parcels_of, sends}

@@ -1,4 +1,4 @@
-use Rattle.std.proofs.Common.{arith, ◌≡◌, ◌++◌, ◌∙◌, List, ap, length, map, take}
+use Rattle.std.proofs.Common.{arith, ◌≡◌, ◌∙◌, ap, length, map}
 use Rattle.std.proofs.lemmas.List.{length-map}
 use Rattle.cube_feeders.specs.Wiring.{coming_of}
 use Rattle.cube_feeders.specs.declared.roster.Feeder.{Feeder}
