@@ -44,6 +44,7 @@ def best_of(ways, runs):
 
 
 def need(*programs):
+    """Ends where a program isn't built."""
     for program in programs:
         if not os.path.exists(program):
             sys.exit(f"{program} is missing: rt run in its crate builds it")
