@@ -8,6 +8,7 @@ ghost use Rattle.cube_feeders.specs.declared.parcel.Parcel.{Parcel as TheParcel}
 use crate::builds::Builds;
 use crate::gate::Gate;
 use crate::parcel::Parcel;
+use crate::patience::wait_for_parcels;
 use cube_core::Item;
 use cube_link::Inlet;
 use std::alloc::AllocError;
@@ -156,8 +157,8 @@ fn have_ended(ended: &[bool; MOST_SOURCES], count: usize) -> bool
 /// Takes from the links of all sources, inlet s - 1 from source s, until each has given its end, and applies each item to
 /// the builder as it comes; `number` is the builder's, handed to the gate.
 ///
-/// It goes round the links, takes up to 32 parcels from each, and yields after a round in which nothing was found. The
-/// only error is want of memory: from the item on that finds none it goes on taking, and drops what comes. Where the
+/// It goes round the links, takes up to 32 parcels from each, and after a round in which nothing was found it naps as
+/// briefly as the system lets it, or yields where the links have room for less than 64 parcels. The only error is want of memory: from the item on that finds none it goes on taking, and drops what comes. Where the
 /// builder is full it waits for good.
 pub fn gather<W: Wait, B: Builds, G: Gate>(
     rt: &W,
@@ -191,7 +192,7 @@ pub fn gather<W: Wait, B: Builds, G: Gate>(
             &mut wanting,
             gate,
         ) {
-            thread::yield_now();
+            wait_for_parcels(rt, inlets);
         }
     }
     unreachable!()

@@ -1,8 +1,8 @@
-//! How long a feeder waits at full links.
+//! How long a feeder waits at full links, and a builder at empty ones.
 ghost use Rattle.std.specs.Prelude.{◌≡◌};
 
 use crate::parcel::Parcel;
-use cube_link::Outlet;
+use cube_link::{Inlet, Outlet};
 use std::sync::Wait;
 use std::thread;
 use std::thread::Parker;
@@ -11,13 +11,16 @@ use std::time::Duration;
 /// How often a feeder yields at a full link before it naps.
 const YIELDS: u32 = 20;
 
-/// The fewest parcels that a link has room for where its feeder naps: a smaller one would run empty meanwhile.
+/// The fewest parcels that a link has room for where its ends nap: a smaller one would run empty or full meanwhile.
 const NAPPING_RING: usize = 64;
 
 /// The microseconds of the shortest nap, and of the longest.
 const SHORTEST_NAP: u64 = 50;
 
 const LONGEST_NAP: u64 = 800;
+
+/// The microseconds of a builder's nap, the least: all feeders wait for it.
+const BUILDER_NAP: u64 = 1;
 
 /// What a feeder has learned of how long its links stay full. It naps at once where its last nap was no longer than its
 /// builder took to empty the link, and yields first where it was.
@@ -58,5 +61,17 @@ impl Patience {
         } else if room > capacity / 2 {
             self.nap = (self.nap / 2).max(SHORTEST_NAP);
         }
+    }
+}
+
+/// Waits for parcels after a round over the links of a builder in which none was found.
+pub(crate) fn wait_for_parcels<W: Wait>(rt: &W, inlets: &[Inlet<Parcel>]) {
+    let naps = inlets
+        .first()
+        .is_some_and(|inlet| inlet.capacity() >= NAPPING_RING);
+    if naps {
+        Parker::new().park_timeout(rt, Duration::from_micros(BUILDER_NAP));
+    } else {
+        thread::yield_now();
     }
 }

@@ -33,6 +33,7 @@ impl<T: Drop> Model for Outlet<T> {
 #[derive(Drop)]
 pub struct Inlet<T: Drop> {
     consumer: Consumer<T>,
+    capacity: usize,
 }
 
 impl<T: Drop> Model for Inlet<T> {
@@ -75,7 +76,7 @@ pub fn link<T: Drop>(alloc: Global, capacity: usize) -> Result<(Outlet<T>, Inlet
     ensures received { IfOk result (λ ends. (ends.1.received ≡ []) × (ends.1.left ≡ [])) }
 {
     let (producer, consumer) = RingBuffer::new(alloc, capacity)?;
-    Ok((Outlet { producer }, Inlet { consumer }))
+    Ok((Outlet { producer }, Inlet { consumer, capacity }))
 }
 
 impl<T: Drop> Outlet<T> {
@@ -114,6 +115,11 @@ impl<T: Drop> Outlet<T> {
 }
 
 impl<T: Drop> Inlet<T> {
+    /// How many items the link has room for. No contract speaks of the answer.
+    pub fn capacity(&self) -> usize {
+        self.capacity
+    }
+
     /// Takes the next item where one is seen. None says nothing of the outlet, which may send more.
     pub fn take(&mut self) -> Option<T>
         ensures link { self.new.link ≡ self.old.link }
