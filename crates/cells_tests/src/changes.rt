@@ -8,7 +8,7 @@ use crate::sample::{add, cube_of, holds, remove, remove_line, schema_of};
 use crate::text::text_of;
 use crate::words::rows_of;
 use cube_cells::Cube;
-use cube_core::{Fact, Row, Schema, Sequence, Text};
+use cube_core::{DimensionValues, Fact, Row, Schema, SmallSequence};
 use plain_cube::plain_rows;
 use std::alloc::{AllocError, Global};
 use std::process::Abort;
@@ -180,49 +180,40 @@ fn add_one(
 fn generated(alloc: Global, schema: &Schema, seed: u64) -> Result<Fact, AllocError> {
     let dims = generated_values(alloc, schema.dimensions().len(), seed)?;
     let measures = generated_measures(alloc, schema.measures().len(), seed)?;
-    Ok(Fact {
-        dims: Sequence::from_vec(dims),
-        measures: Sequence::from_vec(measures),
-    })
+    Ok(Fact { dims, measures })
 }
 
-fn generated_values(
-    alloc: Global,
-    count: usize,
-    seed: u64,
-) -> Result<Vec<Option<Text>>, AllocError> {
-    let mut values = Vec::with_capacity(alloc, count)?;
+fn generated_values(alloc: Global, count: usize, seed: u64) -> Result<DimensionValues, AllocError> {
+    let mut values = DimensionValues::new(alloc);
     let mut state = seed;
     for _ in 0..count {
         state = next_state(state);
-        values.push(generated_value(alloc, state >> 33)?)?;
+        values.push(generated_value(state >> 33))?;
     }
     Ok(values)
 }
 
-fn generated_value(alloc: Global, number: u64) -> Result<Option<Text>, AllocError> {
-    let text = match number % 4 {
-        0 => "",
-        1 => "a",
-        2 => "ab",
-        _ => return Ok(None),
-    };
-    let text = Text::from_str(alloc, text)?;
-    Ok(Some(text))
+fn generated_value(number: u64) -> Option<&'static str> {
+    match number % 4 {
+        0 => Some(""),
+        1 => Some("a"),
+        2 => Some("ab"),
+        _ => None,
+    }
 }
 
 fn generated_measures(
     alloc: Global,
     count: usize,
     seed: u64,
-) -> Result<Vec<Option<i64>>, AllocError> {
+) -> Result<SmallSequence<Option<i64>>, AllocError> {
     let mut values = Vec::with_capacity(alloc, count)?;
     let mut state = seed ^ 0x5555;
     for _ in 0..count {
         state = next_state(state);
         values.push(measure_of(state >> 33))?;
     }
-    Ok(values)
+    Ok(SmallSequence::from_vec(values))
 }
 
 fn measure_of(number: u64) -> Option<i64> {

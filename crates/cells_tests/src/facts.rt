@@ -1,5 +1,5 @@
 //! Facts by their lines.
-use cube_core::{Fact, Sequence, Text};
+use cube_core::{DimensionValues, Fact, SmallSequence};
 use std::alloc::{AllocError, Global};
 
 /// What a test says of a fact: a text for each dimension, `\N` for null, and its measure.
@@ -19,21 +19,14 @@ pub fn line<'a>(values: &'a [&'a str], measure: i64) -> FactLine<'a> {
 
 /// The fact that a line says. The only error is want of memory.
 pub fn fact_of(alloc: Global, line: FactLine) -> Result<Fact, AllocError> {
-    let mut dims = Vec::with_capacity(alloc, line.values.len())?;
+    let mut dims = DimensionValues::new(alloc);
     for value in line.values {
-        dims.push(value_of(alloc, value)?)?;
+        dims.push(value_of(value))?;
     }
-    let measures = vec![in alloc; line.measure]?;
-    Ok(Fact {
-        dims: Sequence::from_vec(dims),
-        measures: Sequence::from_vec(measures),
-    })
+    let measures = SmallSequence::from_slice(alloc, &[line.measure])?;
+    Ok(Fact { dims, measures })
 }
 
-fn value_of(alloc: Global, value: &str) -> Result<Option<Text>, AllocError> {
-    if value == "\\N" {
-        return Ok(None);
-    }
-    let text = Text::from_str(alloc, value)?;
-    Ok(Some(text))
+fn value_of(value: &str) -> Option<&str> {
+    if value == "\\N" { None } else { Some(value) }
 }

@@ -1,5 +1,5 @@
-//! Tests of the schema, its grouping and its faults, of patterns, amendments, means, and the plain cube, over the
-//! public calls of `cube_core` and `plain_cube`.
+//! Tests of the schema, its grouping and its faults, of patterns, amendments, means, the values of a fact,
+//! and the plain cube, over the public calls of `cube_core` and `plain_cube`.
 #![tactic(auto)]
 
 #[cfg(test)]
@@ -20,3 +20,5 @@ mod reading;
 mod rows;
 #[cfg(test)]
 mod schemas;
+#[cfg(test)]
+mod values;

@@ -4,7 +4,9 @@ ghost use Rattle.std.specs.List.{list_all};
 ghost use Rattle.cube_core.specs.Takes.{fits};
 
 use crate::reading::{expect_equal, sample_with};
-use cube_core::{Answer, Coord, Fact, Key, Pattern, Row, Schema, Sequence, Text};
+use cube_core::{
+    Answer, Coord, DimensionValues, Fact, Key, Pattern, Row, Schema, Sequence, SmallSequence, Text,
+};
 use plain_cube::plain_rows;
 use std::alloc::{AllocError, Global};
 use std::process::Abort;
@@ -38,12 +40,11 @@ pub(crate) fn fact_of(
     kind: Option<&str>,
     amount: Option<i64>,
 ) -> Result<Fact, AllocError> {
-    let dims = vec![in alloc; value_of(alloc, region)?, value_of(alloc, kind)?]?;
-    let measures = vec![in alloc; amount]?;
-    Ok(Fact {
-        dims: Sequence::from_vec(dims),
-        measures: Sequence::from_vec(measures),
-    })
+    let mut dims = DimensionValues::new(alloc);
+    dims.push(region)?;
+    dims.push(kind)?;
+    let measures = SmallSequence::from_slice(alloc, &[amount])?;
+    Ok(Fact { dims, measures })
 }
 
 fn show_coord(out: &mut String, coord: &Coord) -> Result<(), AllocError> {

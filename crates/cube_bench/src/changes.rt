@@ -1,7 +1,7 @@
 //! Processor time of a builder that takes changes one by one.
 use crate::timing::{cpu_nanos, per};
 use anyhow::{Result, ensure};
-use cube_core::{Change, Fact, Item, Schema, Sequence, Text};
+use cube_core::{Change, Fact, Item, Schema, SmallSequence, Text};
 use cube_engine::Builder;
 use std::alloc::{AllocError, Global};
 use std::time::CpuClock;
@@ -84,11 +84,11 @@ fn change_of(alloc: Global, number: u32, fact: &Fact, kind: Kind) -> Result<Chan
 
 // A copy of a fact with another first measure.
 fn with_other_measure(alloc: Global, fact: &Fact) -> Result<Fact, AllocError> {
-    let Fact { dims, measures } = fact.copy(alloc)?;
-    let mut measures = measures.into_vec();
+    let dims = fact.dims.copy(alloc)?;
+    let mut measures = Vec::from_slice(alloc, fact.measures.as_slice())?;
     if let Some(first) = measures.first_mut() {
         *first = first.map(|value| value ^ 1);
     }
-    let measures = Sequence::from_vec(measures);
+    let measures = SmallSequence::from_vec(measures);
     Ok(Fact { dims, measures })
 }

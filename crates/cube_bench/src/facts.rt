@@ -1,6 +1,6 @@
 //! Made facts and their schemas.
 use anyhow::{Result, ensure};
-use cube_core::{Fact, Schema, Sequence, Text};
+use cube_core::{DimensionValues, Fact, Schema, SmallSequence};
 use std::alloc::{AllocError, Global};
 
 /// What is made: so many facts of so many dimensions and measures, of so many different values in a dimension.
@@ -49,17 +49,18 @@ fn fact_of(alloc: Global, shape: Shape, seed: u64) -> Result<Fact, AllocError> {
     let dims = dims_of(alloc, shape, seed)?;
     let measures = measures_of(alloc, shape.measures, seed ^ 0x5555)?;
     Ok(Fact {
-        dims: Sequence::from_vec(dims),
-        measures: Sequence::from_vec(measures),
+        dims,
+        measures: SmallSequence::from_vec(measures),
     })
 }
 
-fn dims_of(alloc: Global, shape: Shape, seed: u64) -> Result<Vec<Option<Text>>, AllocError> {
-    let mut dims = Vec::with_capacity(alloc, shape.dimensions)?;
+fn dims_of(alloc: Global, shape: Shape, seed: u64) -> Result<DimensionValues, AllocError> {
+    let mut dims = DimensionValues::new(alloc);
     let mut state = seed;
     for _ in 0..shape.dimensions {
         state = next_state(state);
-        dims.push(Some(text_of(alloc, state, shape.values)?))?;
+        let text = text_of(alloc, state, shape.values)?;
+        dims.push(Some(text.as_str()))?;
     }
     Ok(dims)
 }
@@ -74,10 +75,9 @@ fn measures_of(alloc: Global, count: usize, seed: u64) -> Result<Vec<Option<i64>
     Ok(measures)
 }
 
-fn text_of(alloc: Global, state: u64, values: u64) -> Result<Text, AllocError> {
+fn text_of(alloc: Global, state: u64, values: u64) -> Result<String, AllocError> {
     let number = (state >> 33).checked_rem(values).unwrap_or(0);
-    let text = format!(in alloc; "value-{number}")?;
-    Ok(Text::from_string(text))
+    format!(in alloc; "value-{number}")
 }
 
 fn next_state(state: u64) -> u64 {

@@ -23,7 +23,7 @@ mod walk;
 
 use crate::cell::Cell;
 use codes::{ALL, Codes};
-use cube_core::{Coord, Fact, Key, Schema, Text};
+use cube_core::{Coord, DimensionValues, Fact, Key, Schema};
 use dictionary::Dictionary;
 pub use ordered::{OrderedCells, no_row};
 use std::alloc::{AllocError, Global};
@@ -134,7 +134,7 @@ impl Cube {
         if self.facts == 0 || !self.schema.fits(fact) {
             return false;
         }
-        let codes = codes_of_values(&self.dictionaries, fact.dims.as_slice());
+        let codes = codes_of_values(&self.dictionaries, &fact.dims);
         hold_in_sets(&self.cells, &codes, &self.sets, fact.measures.as_slice())
     }
 
@@ -145,7 +145,7 @@ impl Cube {
         ensures taken { TakesFact fact.now self.old self.new }
         ensures cube { (facts : List Fact) → IsCubeOf self.old (fact.now ∷ facts) → IsCubeOf self.new facts }
     {
-        let codes = codes_of_values(&self.dictionaries, fact.dims.as_slice());
+        let codes = codes_of_values(&self.dictionaries, &fact.dims);
         take_from_sets(
             &mut self.cells,
             &codes,
@@ -275,23 +275,23 @@ fn add_codes(
     ensures dictionaries { All IsDictionary dictionaries.old → All IsDictionary dictionaries.new }
 {
     let mut codes = [ALL; 8];
-    for (place, value) in fact.dims.as_slice().iter().enumerate() {
+    for place in 0..fact.dims.len() {
         let dictionary = &mut dictionaries[place];
-        codes[place] = dictionary.code_with(alloc, value)?;
+        codes[place] = dictionary.code_with(alloc, fact.dims.get(place))?;
     }
     Ok(Codes { codes })
 }
 
 // The codes of values.
-fn codes_of_values(dictionaries: &[Dictionary], values: &[Option<Text>]) -> Codes
+fn codes_of_values(dictionaries: &[Dictionary], values: &DimensionValues) -> Codes
     requires places { length dictionaries.now ≤ 8 }
     requires width { length values.now ≡ length dictionaries.now }
     ensures codes { AreCodesOf dictionaries.now (map coord_of_value values.now) result.codes }
     ensures eight { length result.codes ≡ 8 }
 {
     let mut codes = [ALL; 8];
-    for (place, value) in values.iter().enumerate() {
-        codes[place] = dictionaries[place].code_of_value(value);
+    for place in 0..values.len() {
+        codes[place] = dictionaries[place].code_of_value(values.get(place));
     }
     Codes { codes }
 }

@@ -1,4 +1,5 @@
 pub mod ListLaws
+mod ValueLaws
 pub mod ArrivalLaws
 pub mod CommonDivisorLaws
 mod ReducedFractionLaws

@@ -1,4 +1,5 @@
 pub mod Stored
+pub mod Values
 pub mod Layout
 pub mod SchemaDocument
 pub mod Records

@@ -1,11 +1,12 @@
 //! Keys of cells, their order, and the rows of a cube.
-ghost use Rattle.std.specs.Prelude.{◌≡◌, IfOk, slice_get, Some};
+ghost use Rattle.std.specs.Prelude.{◌≡◌, ◌≤◌, IfOk, slice_get, Some, length, drop, option_map};
 ghost use Rattle.std.specs.declared.cmp.Ordering.{Ordering};
 ghost use Rattle.cube_core.specs.Covers.{covers, all_stand_for, stands_for};
 ghost use Rattle.cube_core.specs.GroupingSet.{is_all_at};
 ghost use Rattle.cube_core.specs.Order.{key_cmp};
 
 use crate::aggregate::Answer;
+use crate::dimension_values::DimensionValues;
 use crate::fact::Fact;
 use crate::sequence::Sequence;
 use crate::text::Text;
@@ -68,29 +69,30 @@ impl Key {
 pub fn covers(key: &Key, fact: &Fact) -> bool
     ensures { result ≡ covers key.now fact.now }
 {
-    all_stand_for(key.coords.as_slice(), fact.dims.as_slice())
+    all_stand_for(key.coords.as_slice(), &fact.dims, 0)
 }
 
-fn all_stand_for(coords: &[Coord], values: &[Option<Text>]) -> bool
-    ensures { result ≡ all_stand_for coords.now values.now }
+// Whether there are as many coordinates as values from a place on, and each stands for its value.
+fn all_stand_for(coords: &[Coord], values: &DimensionValues, place: usize) -> bool
+    requires { place ≤ length values.now }
+    ensures { result ≡ all_stand_for coords.now (drop place values.now) }
 {
     let Some((coord, other_coords)) = coords.split_first() else {
-        return values.is_empty();
+        return place == values.len();
     };
-    let Some((value, other_values)) = values.split_first() else {
-        return false;
-    };
-    stands_for(coord, value) && all_stand_for(other_coords, other_values)
+    place < values.len()
+        && stands_for(coord, values.get(place))
+        && all_stand_for(other_coords, values, place + 1)
 }
 
-fn stands_for(coord: &Coord, value: &Option<Text>) -> bool
-    ensures { result ≡ stands_for coord.now value.now }
+fn stands_for(coord: &Coord, value: Option<&str>) -> bool
+    ensures { result ≡ stands_for coord.now (option_map (λ text. text.now) value.entry) }
 {
     match (coord, value) {
         (Coord::All, _) => true,
         (Coord::Null, value) => value.is_none(),
         (Coord::Text(_), None) => false,
-        (Coord::Text(name), Some(text)) => name == text,
+        (Coord::Text(name), Some(text)) => name.as_str() == text,
     }
 }
 

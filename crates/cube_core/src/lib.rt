@@ -6,6 +6,7 @@
 
 mod aggregate;
 mod change;
+mod dimension_values;
 mod fact;
 mod fraction;
 mod key;
@@ -16,10 +17,12 @@ mod schema;
 mod schema_fault;
 mod schema_toml;
 mod sequence;
+mod small_sequence;
 mod text;
 
 pub use aggregate::{Agg, Answer};
 pub use change::{Change, Item, LineFault, Refusal};
+pub use dimension_values::DimensionValues;
 pub use fact::Fact;
 pub use fraction::reduced;
 pub use key::{Coord, Key, Row, covers};
@@ -29,4 +32,5 @@ pub use query::QueryFault;
 pub use schema::Schema;
 pub use schema_fault::SchemaFault;
 pub use sequence::Sequence;
+pub use small_sequence::{IN_PLACE, SmallSequence};
 pub use text::Text;

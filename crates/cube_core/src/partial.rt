@@ -2,9 +2,12 @@
 ghost use Rattle.std.specs.Prelude.{◌≡◌, IfOk, length};
 ghost use Rattle.cube_core.specs.Amendment.{field_over, fields_over, over};
 
+use crate::dimension_values::{DimensionValues, text_of};
 use crate::fact::{Fact, copy_value};
 use crate::sequence::Sequence;
+use crate::small_sequence::{IN_PLACE, SmallSequence};
 use crate::text::Text;
+use smallvec::SmallVec;
 use std::alloc::{AllocError, Global};
 
 /// What an amendment says of one field.
@@ -44,11 +47,11 @@ impl Partial {
         requires measures { length self.now.measures ≡ length old.now.measures }
         ensures { IfOk result (λ new. new ≡ over self.now old.now) }
     {
-        let dims = dims_over(alloc, self.dims.as_slice(), old.dims.as_slice())?;
+        let dims = dims_over(alloc, self.dims.as_slice(), &old.dims)?;
         let measures = measures_over(alloc, self.measures.as_slice(), old.measures.as_slice())?;
         Ok(Fact {
-            dims: Sequence::from_vec(dims),
-            measures: Sequence::from_vec(measures),
+            dims,
+            measures: SmallSequence::from_small_vec(measures),
         })
     }
 
@@ -68,15 +71,17 @@ impl Partial {
 fn dims_over(
     alloc: Global,
     fields: &[Field<Option<Text>>],
-    olds: &[Option<Text>],
-) -> Result<Vec<Option<Text>>, AllocError>
+    olds: &DimensionValues,
+) -> Result<DimensionValues, AllocError>
     requires { length fields.now ≡ length olds.now }
-    ensures { IfOk result (λ values. values.items ≡ fields_over fields.now olds.now) }
+    ensures { IfOk result (λ values. values ≡ fields_over fields.now olds.now) }
 {
-    let mut values = Vec::with_capacity(alloc, olds.len())?;
+    let mut values = DimensionValues::new(alloc);
     for (i, field) in fields.iter().enumerate() {
-        let value = field.over(&olds[i]);
-        values.push(copy_value(alloc, value)?)?;
+        values.push(match field {
+            Field::Keep => olds.get(i),
+            Field::Put(value) => text_of(value),
+        })?;
     }
     Ok(values)
 }
@@ -85,11 +90,11 @@ fn measures_over(
     alloc: Global,
     fields: &[Field<Option<i64>>],
     olds: &[Option<i64>],
-) -> Result<Vec<Option<i64>>, AllocError>
+) -> Result<SmallVec<Option<i64>, IN_PLACE>, AllocError>
     requires { length fields.now ≡ length olds.now }
     ensures { IfOk result (λ values. values.items ≡ fields_over fields.now olds.now) }
 {
-    let mut values = Vec::with_capacity(alloc, olds.len())?;
+    let mut values = SmallVec::with_capacity(alloc, olds.len())?;
     for (i, field) in fields.iter().enumerate() {
         let value = field.over(&olds[i]);
         values.push(*value)?;

@@ -1,5 +1,5 @@
 //! The schema of a cube.
-ghost use Rattle.std.specs.Prelude.{◌≡◌, ◌≤◌, ◌<◌, ◌+◌, ◌^◌, IfOk, length};
+ghost use Rattle.std.specs.Prelude.{◌≡◌, ◌≤◌, ◌<◌, ◌+◌, ◌^◌, IfOk, length, option_map};
 ghost use Rattle.std.specs.List.{list_all};
 ghost use Rattle.cube_core.specs.Layout.{IsSchema, sample_layout, keeps};
 ghost use Rattle.cube_core.specs.Takes.{fits, fits_part, takes, is_id, is_dimension_value, puts_dimension_value};
@@ -7,6 +7,7 @@ ghost use Rattle.cube_core.specs.GroupingSet.{is_among, mask_of, mask_of_coords}
 
 use crate::aggregate::Agg;
 use crate::change::Change;
+use crate::dimension_values::{DimensionValues, text_of};
 use crate::fact::Fact;
 use crate::key::{Coord, Key};
 use crate::partial::{Field, Partial};
@@ -178,7 +179,7 @@ impl Schema {
     {
         fact.dims.len() == self.dimensions.len()
             && fact.measures.len() == self.measures.len()
-            && are_dimension_values(fact.dims.as_slice())
+            && are_dimension_values(&fact.dims)
     }
 
     /// Whether a change has an id that isn't empty and, where it has a fact, one that fits; an amendment is taken in
@@ -225,7 +226,8 @@ fn bit_of(dim: usize) -> u32
     1u32 << dim
 }
 
-fn is_among(set: u32, sets: &[u8]) -> bool
+/// Whether a grouping set is one of these.
+pub(crate) fn is_among(set: u32, sets: &[u8]) -> bool
     ensures { result ≡ is_among set sets.now }
 {
     sets.iter().any(|other| u32::from(*other) == set)
@@ -237,10 +239,15 @@ fn is_id(id: &Text) -> bool
     !id.as_str().is_empty()
 }
 
-fn are_dimension_values(values: &[Option<Text>]) -> bool
+fn are_dimension_values(values: &DimensionValues) -> bool
     ensures { result ≡ list_all is_dimension_value values.now }
 {
-    values.iter().all(|value| is_dimension_value(value))
+    for place in 0..values.len() {
+        if !is_dimension_value(values.get(place)) {
+            return false;
+        }
+    }
+    true
 }
 
 fn put_dimension_values(fields: &[Field<Option<Text>>]) -> bool
@@ -254,16 +261,16 @@ fn puts_dimension_value(field: &Field<Option<Text>>) -> bool
 {
     match field {
         Field::Keep => true,
-        Field::Put(value) => is_dimension_value(value),
+        Field::Put(value) => is_dimension_value(text_of(value)),
     }
 }
 
-fn is_dimension_value(value: &Option<Text>) -> bool
-    ensures { result ≡ is_dimension_value value.now }
+fn is_dimension_value(value: Option<&str>) -> bool
+    ensures { result ≡ is_dimension_value (option_map (λ text. text.now) value.entry) }
 {
     match value {
         None => true,
-        Some(text) => text.as_str() != "\\N",
+        Some(text) => text != "\\N",
     }
 }
 

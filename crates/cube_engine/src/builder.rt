@@ -134,11 +134,13 @@ impl Builder {
         match self.ledger.put(source, id, fact) {
             Ok(Some(gone)) => {
                 self.cube.remove(&gone);
+                drop(gone);
                 Ok(())
             }
             Ok(None) => Ok(()),
             Err(fact) => {
                 self.cube.remove(&fact);
+                drop(fact);
                 Err(AllocError)
             }
         }
@@ -154,7 +156,10 @@ impl Builder {
         ensures has { HasFacts (all_facts self.new.ledger.accounts) self.new.cube }
     {
         match self.ledger.take(source, id) {
-            Some(gone) => self.cube.remove(&gone),
+            Some(taken) => {
+                self.cube.remove(&taken);
+                drop(taken);
+            }
             None => {}
         }
     }

@@ -159,7 +159,9 @@ impl Ledger {
     {
         if !says_taken(&self.schema, &item.what) {
             let code = shape_code(&self.schema);
-            return self.refuse(source, item.number, code);
+            let Item { number, what } = item;
+            drop(what);
+            return self.refuse(source, number, code);
         }
         self.enter_taken(source, item)
     }

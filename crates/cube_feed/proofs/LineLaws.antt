@@ -1,6 +1,6 @@
 -- What a record spells, by its parts.
 use Rattle.std.proofs.Common.{◌≡◌, ◌<◌, ◌≤◌, ◌+◌, ◌-◌, ℕ, ℤ, Bool, true, false, List, [], ◌∷◌, ◌++◌, length, get_or, drop, map, refl, sym, ap, ◌∙◌, inl, inr, arith, drop-cons}
-use Rattle.std.specs.Prelude.{◌&&◌, ◌==◌, not, slice_range, Option, Some, is_some, option_map, Result, Ok, Err, if◌then◌else◌}
+use Rattle.std.specs.Prelude.{◌&&◌, ◌==◌, not, slice_range, Option, Some, is_some, Result, Ok, Err, if◌then◌else◌}
 use Rattle.std.specs.Str.{bytes_eq, is_utf8}
 use Rattle.std.specs.List.{list_all, list_any, filter_map}
 use Rattle.std.proofs.lemmas.List.{take-append-drop, drop-drop, take_all, length-drop}
@@ -12,13 +12,12 @@ use Rattle.cube_core.specs.Items.{width_of, field_at, keep_text, is_keep, keeps_
 use Rattle.cube_core.proofs.ItemLaws.{is_measure-value, keeps_any-measures, may_amend-keeps}
 use Rattle.cube_core.specs.declared.fact.Fact.{Fact}
 use Rattle.cube_core.specs.declared.partial.Field.{Field}
-use Rattle.cube_core.specs.declared.partial.Field.TheVariants.{Keep, Put}
 use Rattle.cube_core.specs.declared.partial.Partial.{Partial}
 use Rattle.cube_core.specs.declared.change.Change.{Change}
 use Rattle.cube_core.specs.declared.change.Change.TheVariants.{Insert, Update, Amend}
 use Rattle.cube_core.specs.declared.change.LineFault.{LineFault}
 use Rattle.cube_core.specs.declared.change.LineFault.TheVariants as fault
-use Rattle.cube_feed.specs.SoundFields.{is_sound_id, is_sound, are_sound, read_of}
+use Rattle.cube_feed.specs.SoundFields.{is_sound_id, is_sound, are_sound, dimension_put, measure_put, read_of}
 
 -- two tests of each field
 list_all-and : (p q : List ℕ → Bool) (fields : List (List ℕ)) → list_all (λ field. p field && q field) fields ≡ (list_all p fields && list_all q fields)
@@ -134,13 +133,6 @@ keeps_any-none s fields version is other =
     ne_eqb version 2 other
     ∙ ap (λ b. b && list_any (λ field. bytes_eq field keep_text) (drop 2 fields)) (sym never) ∙ keeps_any-parts s (drop 2 fields)
 
--- what a feed of version 2 puts in a dimension and in a measure
-abbrev pub dimension_put : List ℕ → Option (Field (Option (List ℕ)))
-dimension_put text = if bytes_eq text keep_text then Some Keep else option_map Put (Some (dimension_of text))
-
-abbrev pub measure_put : List ℕ → Option (Field (Option ℤ))
-measure_put text = if bytes_eq text keep_text then Some Keep else option_map Put (measure_of text)
-
 -- a record without a kept field spells a fact
 then_say-fact_of : (s : Layout) (fields : List (List ℕ)) → keeps_any s fields ≡ false
     → (read : Result (List ℕ × List (Option (List ℕ)) × List (Option ℤ)) LineFault) → read ≡ read_of (λ text. Some (dimension_of text)) measure_of s fields
@@ -217,6 +209,10 @@ update_of-keep s fields keeps read is =
     ∙ ap (λ b. put_of (if b then Ok (Amend (field_at fields 1) (part_of s fields)) else Ok (Update (field_at fields 1) (fact_of s fields))) s fields) keeps
 
 -- a part of a record that isn't sound
+pub are_sound-id : {D M : Type 0} (dimension : List ℕ → Option D) (measure : List ℕ → Option M) (s : Layout) (fields : List (List ℕ))
+    → is_sound_id (field_at fields 1) ≡ false → are_sound dimension measure s fields ≡ false
+are_sound-id dimension measure s fields bad = rw bad refl
+
 pub are_sound-dimensions : {D M : Type 0} (dimension : List ℕ → Option D) (measure : List ℕ → Option M) (s : Layout) (fields : List (List ℕ)) (names : List (List ℕ))
     → names ≡ s.dimensions → list_all (is_sound dimension) (slice_range fields 2 (2 + length names)) ≡ false → are_sound dimension measure s fields ≡ false
 are_sound-dimensions dimension measure s fields names is bad =

@@ -1,9 +1,12 @@
 -- When the fields of a record of the right width spell a change, and what is wrong with them else (this project's choice).
-use Rattle.std.specs.Prelude.{◌==◌, ◌&&◌, ℕ, Bool, not, List, length, drop, Option, is_some, Result, Ok, Err, if◌then◌else◌}
-use Rattle.std.specs.Str.{is_utf8}
+use Rattle.std.specs.Prelude.{◌==◌, ◌&&◌, ℕ, ℤ, Bool, not, List, length, drop, Option, Some, is_some, option_map, Result, Ok, Err, if◌then◌else◌}
+use Rattle.std.specs.Str.{bytes_eq, is_utf8}
 use Rattle.std.specs.List.{list_all, filter_map}
 use Rattle.cube_core.specs.Layout.{Layout}
-use Rattle.cube_core.specs.Items.{width_of, field_at, dimension_fields, measure_fields}
+use Rattle.cube_core.specs.Items.{width_of, field_at, keep_text, dimension_of, measure_of, dimension_fields, measure_fields}
+use Rattle.cube_core.specs.declared.partial.Field.{Field}
+use Rattle.cube_core.specs.declared.partial.Field.TheVariants.{Keep, Put}
+use Rattle.cube_core.specs.declared.partial.Partial.{Partial}
 use Rattle.cube_core.specs.declared.change.LineFault.{LineFault}
 use Rattle.cube_core.specs.declared.change.LineFault.TheVariants as fault
 
@@ -28,6 +31,23 @@ put_fault fields =
     if not (list_all is_utf8 (drop 1 fields)) then fault.Text
     else if length (field_at fields 1) == 0 then fault.Id
     else fault.Measure
+
+-- what is read of a record, its id with its dimensions and its measures
+abbrev pub listed : {D M : Type 0} → List D → List M → Result (List ℕ) LineFault → Result (List ℕ × List D × List M) LineFault
+listed dimensions measures (Ok id) = Ok (id, dimensions, measures)
+listed dimensions measures (Err why) = Err why
+
+-- what is read of a record with an amendment
+abbrev pub part_listed : Result (List ℕ × Partial) LineFault → Result (List ℕ × List (Field (Option (List ℕ))) × List (Field (Option ℤ))) LineFault
+part_listed (Ok amendment) = Ok (amendment.0, amendment.1.dims, amendment.1.measures)
+part_listed (Err why) = Err why
+
+-- what a feed of version 2 puts in a dimension and in a measure
+abbrev pub dimension_put : List ℕ → Option (Field (Option (List ℕ)))
+dimension_put text = if bytes_eq text keep_text then Some Keep else option_map Put (Some (dimension_of text))
+
+abbrev pub measure_put : List ℕ → Option (Field (Option ℤ))
+measure_put text = if bytes_eq text keep_text then Some Keep else option_map Put (measure_of text)
 
 -- what reading a record gives: its id, its dimensions and its measures, or its first fault
 abbrev pub read_of : {D M : Type 0} → (List ℕ → Option D) → (List ℕ → Option M) → Layout → List (List ℕ)

@@ -108,7 +108,8 @@ fn number(text: &str) -> Option<i64>
     text.parse::<i64>().ok()
 }
 
-fn is_null(text: &str) -> bool
+/// Whether a text is null's.
+pub(crate) fn is_null(text: &str) -> bool
     ensures { result ≡ is_null text.now }
 {
     text == "\\N"

@@ -9,6 +9,7 @@ mod field;
 mod header;
 mod line;
 mod records;
+mod spelled_list;
 
 pub use fault::FeedFault;
 pub use feed::Feed;

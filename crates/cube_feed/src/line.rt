@@ -1,37 +1,42 @@
 //! The change that a record spells, or the first fault that it has.
-ghost use Rattle.std.specs.Prelude.{◌≡◌, ◌≤◌, ◌∷◌, [], true, false, length, drop, slice_range, IfOk, IfErr};
+ghost use Rattle.std.specs.Prelude.{◌≡◌, ◌≤◌, ◌∷◌, [], true, false, length, drop, slice_range, IfOk, IfErr, OnOk};
 ghost use Rattle.std.specs.Str.{bytes_eq, is_utf8};
 ghost use Rattle.std.specs.List.{list_all, list_any, filter_map};
 ghost use Rattle.cube_core.specs.Items.{width_of, field_at, keep_text, keeps_any, dimension_fields, measure_fields, put_of, insert_of, update_of, delete_of, change_of};
-ghost use Rattle.cube_feed.specs.SoundFields.{is_sound_id, is_sound, are_sound, put_fault, read_of};
+ghost use Rattle.cube_feed.specs.SoundFields.{is_sound_id, is_sound, are_sound, put_fault, listed, part_listed, dimension_put, measure_put, read_of};
 ghost use Rattle.cube_feed.specs.declared.field.Stop.TheVariants as stop;
 
 use crate::field::{Fields, Spelled, Stop, is_keep_text};
-use cube_core::{Change, Fact, Field, LineFault, Partial, Schema, Sequence, Text};
+use crate::spelled_list::SpelledList;
+use cube_core::{
+    Change, DimensionValues, Fact, Field, LineFault, Partial, Schema, Sequence, SmallSequence, Text,
+};
+use smallvec::SmallVec;
 use std::alloc::{AllocError, Global};
 
-fn values<T: Spelled>(
+// Puts the values of the fields from a place to another into a list that has none.
+fn read_values<T: Spelled, L: SpelledList<T>>(
     alloc: Global,
     fields: &Fields<'_>,
     start: usize,
     end: usize,
-) -> Result<Sequence<T>, Stop>
+    values: &mut L,
+) -> Result<(), Stop>
     requires in_order { start ≤ end }
     requires in_record { end ≤ length fields.now }
-    ensures values { IfOk result (λ values.
-        values ≡ filter_map T.spells (slice_range fields.now start end)) }
-    ensures sound { IfOk result (λ _.
-        list_all (is_sound T.spells) (slice_range fields.now start end) ≡ true) }
+    requires empty { L.values values.old ≡ [] }
+    ensures values { OnOk result
+        (L.values values.new ≡ filter_map T.spells (slice_range fields.now start end)) }
+    ensures sound { OnOk result
+        (list_all (is_sound T.spells) (slice_range fields.now start end) ≡ true) }
     ensures line { IfErr result (λ e. e ≡ stop.Line →
         list_all (is_sound T.spells) (slice_range fields.now start end) ≡ false) }
 {
-    let mut values = Vec::with_capacity(alloc, end - start)?;
     for place in start..end {
         let text = fields.text_at(place)?;
-        let value = T::read(alloc, text)?;
-        values.push(value)?;
+        values.add(alloc, text)?;
     }
-    Ok(Sequence::from_vec(values))
+    Ok(())
 }
 
 fn id(alloc: Global, fields: &Fields<'_>) -> Result<Text, Stop>
@@ -53,28 +58,30 @@ pub(crate) fn width(schema: &Schema) -> usize
     2 + schema.dimensions().len() + schema.measures().len()
 }
 
-// The id, the dimensions and the measures of a record of the right width. Each field is looked at once: which fault it is
-// that stops it is looked for only then.
-fn parts<D: Spelled, M: Spelled>(
+// The id of a record of the right width, with its dimensions and its measures put into lists that have none. Each field
+// is looked at once: which fault it is that stops it is looked for only then.
+fn parts<D: Spelled, M: Spelled, L: SpelledList<D>, N: SpelledList<M>>(
     alloc: Global,
     schema: &Schema,
     fields: &Fields<'_>,
-) -> Result<(Text, Sequence<D>, Sequence<M>), Stop>
-    requires { length fields.now ≡ width_of schema.now }
-    ensures id { IfOk result (λ parts. parts.0 ≡ field_at fields.now 1) }
-    ensures dims { IfOk result (λ parts.
-        parts.1 ≡ filter_map D.spells (dimension_fields schema.now fields.now)) }
-    ensures measures { IfOk result (λ parts.
-        parts.2 ≡ filter_map M.spells (measure_fields schema.now fields.now)) }
-    ensures sound { IfOk result (λ _. are_sound D.spells M.spells schema.now fields.now ≡ true) }
+    dims: &mut L,
+    measures: &mut N,
+) -> Result<Text, Stop>
+    requires width { length fields.now ≡ width_of schema.now }
+    requires empty { (L.values dims.old ≡ []) × (N.values measures.old ≡ []) }
+    ensures id { IfOk result (λ id. id ≡ field_at fields.now 1) }
+    ensures dims { OnOk result
+        (L.values dims.new ≡ filter_map D.spells (dimension_fields schema.now fields.now)) }
+    ensures measures { OnOk result
+        (N.values measures.new ≡ filter_map M.spells (measure_fields schema.now fields.now)) }
+    ensures sound { OnOk result (are_sound D.spells M.spells schema.now fields.now ≡ true) }
     ensures line { IfErr result (λ e.
         e ≡ stop.Line → are_sound D.spells M.spells schema.now fields.now ≡ false) }
 {
     let first_measure = 2 + schema.dimensions().len();
-    let id = id(alloc, fields)?;
-    let dims = values::<D>(alloc, fields, 2, first_measure)?;
-    let measures = values::<M>(alloc, fields, first_measure, fields.len())?;
-    Ok((id, dims, measures))
+    read_values::<D, L>(alloc, fields, 2, first_measure, dims)?;
+    read_values::<M, N>(alloc, fields, first_measure, fields.len(), measures)?;
+    id(alloc, fields)
 }
 
 // Whether all fields after the operation are UTF-8.
@@ -102,19 +109,24 @@ fn put_fault(fields: &Fields<'_>) -> LineFault
     }
 }
 
-// The parts of a record with a fact or an amendment, or its first fault.
-fn put<D: Spelled, M: Spelled>(
+// The id of a record with a fact or an amendment, whose dimensions and measures are put into lists that have none, or its
+// first fault.
+fn put<D: Spelled, M: Spelled, L: SpelledList<D>, N: SpelledList<M>>(
     alloc: Global,
     schema: &Schema,
     fields: &Fields<'_>,
-) -> Result<Result<(Text, Sequence<D>, Sequence<M>), LineFault>, AllocError>
-    ensures { IfOk result (λ read. read ≡ read_of D.spells M.spells schema.now fields.now) }
+    dims: &mut L,
+    measures: &mut N,
+) -> Result<Result<Text, LineFault>, AllocError>
+    requires { (L.values dims.old ≡ []) × (N.values measures.old ≡ []) }
+    ensures { IfOk result (λ read. listed (L.values dims.new) (N.values measures.new) read
+        ≡ read_of D.spells M.spells schema.now fields.now) }
 {
     if fields.len() != width(schema) {
         return Ok(Err(LineFault::Fields));
     }
-    match parts::<D, M>(alloc, schema, fields) {
-        Ok(parts) => Ok(Ok(parts)),
+    match parts::<D, M, L, N>(alloc, schema, fields, dims, measures) {
+        Ok(id) => Ok(Ok(id)),
         Err(Stop::Memory) => Err(AllocError),
         Err(Stop::Line) => Ok(Err(put_fault(fields))),
     }
@@ -139,6 +151,35 @@ fn keeps_any(schema: &Schema, fields: &Fields<'_>) -> bool
     schema.version() == 2 && has_keep_text(fields)
 }
 
+// The amendment of a record that keeps a field, with its id, or the record's first fault.
+fn amendment(
+    alloc: Global,
+    schema: &Schema,
+    fields: &Fields<'_>,
+) -> Result<Result<(Text, Partial), LineFault>, AllocError>
+    ensures { IfOk result (λ read. part_listed read
+        ≡ read_of dimension_put measure_put schema.now fields.now) }
+{
+    let mut dims = Vec::with_capacity(alloc, schema.dimensions().len())?;
+    let mut measures = Vec::with_capacity(alloc, schema.measures().len())?;
+    match put::<Field<Option<Text>>, Field<Option<i64>>, _, _>(
+        alloc,
+        schema,
+        fields,
+        &mut dims,
+        &mut measures,
+    )? {
+        Ok(id) => {
+            let part = Partial {
+                dims: Sequence::from_vec(dims),
+                measures: Sequence::from_vec(measures),
+            };
+            Ok(Ok((id, part)))
+        }
+        Err(fault) => Ok(Err(fault)),
+    }
+}
+
 fn insert(
     alloc: Global,
     schema: &Schema,
@@ -148,13 +189,16 @@ fn insert(
         what ≡ put_of (insert_of schema.now fields.now) schema.now fields.now) }
 {
     if keeps_any(schema, fields) {
-        return match put::<Field<Option<Text>>, Field<Option<i64>>>(alloc, schema, fields)? {
-            Ok(_parts) => Ok(Err(LineFault::Keep)),
+        return match amendment(alloc, schema, fields)? {
+            Ok(_amendment) => Ok(Err(LineFault::Keep)),
             Err(fault) => Ok(Err(fault)),
         };
     }
-    match put::<Option<Text>, Option<i64>>(alloc, schema, fields)? {
-        Ok((id, dims, measures)) => {
+    let mut dims = DimensionValues::new(alloc);
+    let mut measures = SmallVec::with_capacity(alloc, schema.measures().len())?;
+    match put::<Option<Text>, Option<i64>, _, _>(alloc, schema, fields, &mut dims, &mut measures)? {
+        Ok(id) => {
+            let measures = SmallSequence::from_small_vec(measures);
             let fact = Fact { dims, measures };
             Ok(Ok(Change::Insert { id, fact }))
         }
@@ -171,16 +215,16 @@ fn update(
         what ≡ put_of (update_of schema.now fields.now) schema.now fields.now) }
 {
     if keeps_any(schema, fields) {
-        return match put::<Field<Option<Text>>, Field<Option<i64>>>(alloc, schema, fields)? {
-            Ok((id, dims, measures)) => {
-                let part = Partial { dims, measures };
-                Ok(Ok(Change::Amend { id, part }))
-            }
+        return match amendment(alloc, schema, fields)? {
+            Ok((id, part)) => Ok(Ok(Change::Amend { id, part })),
             Err(fault) => Ok(Err(fault)),
         };
     }
-    match put::<Option<Text>, Option<i64>>(alloc, schema, fields)? {
-        Ok((id, dims, measures)) => {
+    let mut dims = DimensionValues::new(alloc);
+    let mut measures = SmallVec::with_capacity(alloc, schema.measures().len())?;
+    match put::<Option<Text>, Option<i64>, _, _>(alloc, schema, fields, &mut dims, &mut measures)? {
+        Ok(id) => {
+            let measures = SmallSequence::from_small_vec(measures);
             let fact = Fact { dims, measures };
             Ok(Ok(Change::Update { id, fact }))
         }

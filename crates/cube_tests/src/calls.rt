@@ -1,6 +1,7 @@
 //! Each public call of the values and of the schema, once with ample memory.
 use cube_core::{
-    Agg, Answer, Change, Coord, Fact, Key, LineFault, Schema, Sequence, Text, covers, reduced,
+    Agg, Answer, Change, Coord, DimensionValues, Fact, Key, LineFault, Schema, Sequence,
+    SmallSequence, Text, covers, reduced,
 };
 use cube_engine::Builder;
 use cube_tool::{print_rows, write_whole};
@@ -15,19 +16,11 @@ fn text(alloc: Global, text: &str) -> Result<Text, AllocError> {
 
 /// The fact of a region, a kind, and an amount of 5; null where the region is none.
 fn fact_of(alloc: Global, region: Option<&str>, kind: &str) -> Result<Fact, AllocError> {
-    let region = match region {
-        Some(name) => Some(text(alloc, name)?),
-        None => None,
-    };
-    let mut dims = Vec::with_capacity(alloc, 2)?;
+    let mut dims = DimensionValues::new(alloc);
     dims.push(region)?;
-    dims.push(Some(text(alloc, kind)?))?;
-    let mut measures = Vec::with_capacity(alloc, 1)?;
-    measures.push(Some(5))?;
-    Ok(Fact {
-        dims: Sequence::from_vec(dims),
-        measures: Sequence::from_vec(measures),
-    })
+    dims.push(Some(kind))?;
+    let measures = SmallSequence::from_slice(alloc, &[Some(5)])?;
+    Ok(Fact { dims, measures })
 }
 
 /// The key of two coordinates.

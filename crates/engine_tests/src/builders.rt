@@ -1,7 +1,7 @@
 //! What a builder does with items that a caller made.
 use crate::items::{amend, apply, delete, expect_shown, insert, update};
 use cells_tests::{SECOND_VERSION, line};
-use cube_core::{Change, Fact, Field, LineFault, Schema, Sequence, Text};
+use cube_core::{Change, DimensionValues, Fact, Field, LineFault, Schema, SmallSequence, Text};
 use cube_engine::Builder;
 use std::alloc::{AllocError, Global};
 use std::process::Abort;
@@ -55,10 +55,10 @@ fn expect_misshapen(
 // An insert of two texts, which may be the text of null.
 fn insert_of_texts(alloc: Global, first: &str, second: &str) -> Result<Change, AllocError> {
     let id = Text::from_str(alloc, "2")?;
-    let first = Some(Text::from_str(alloc, first)?);
-    let second = Some(Text::from_str(alloc, second)?);
-    let dims = Sequence::from_vec(vec![in alloc; first, second]?);
-    let measures = Sequence::from_vec(vec![in alloc; Some(5)]?);
+    let mut dims = DimensionValues::new(alloc);
+    dims.push(Some(first))?;
+    dims.push(Some(second))?;
+    let measures = SmallSequence::from_slice(alloc, &[Some(5)])?;
     let fact = Fact { dims, measures };
     Ok(Change::Insert { id, fact })
 }

@@ -1,9 +1,10 @@
-//! Items by themselves: how much memory they hold, and copies of them.
+//! Copies of items, also of those whose values lie on the heap.
 use crate::reading::{answers, schema_with};
 use crate::shown::show_item;
-use cube_core::{Change, Fact, Item, Schema};
+use cube_core::{Item, Schema};
 use cube_feed::Feed;
 use std::alloc::{AllocError, Global};
+use std::process::Abort;
 use std::test::Fail;
 
 // Every fault of a line of version 1, and an amendment.
@@ -31,41 +32,66 @@ fn show_copies(alloc: Global, schema: &Schema, bytes: &[u8]) -> Result<String, A
     Ok(out)
 }
 
-// The copies are shown as the items themselves.
+// The items of a feed, and their copies, are shown so.
+fn expect_items(
+    rt: &impl Abort,
+    alloc: Global,
+    schema: &Schema,
+    bytes: &[u8],
+    items: &str,
+) -> Result<(), Fail> {
+    let copies = show_copies(alloc, schema, bytes)?;
+    assert_eq!(rt; copies.as_str(), items);
+    let found = answers(alloc, schema, bytes)?;
+    assert_eq!(rt; found.as_str().strip_suffix("None\nNone\n"), Some(items));
+    Ok(())
+}
+
 #[test]
 fn a_copy_of_an_item_equals_its_source(rt: HostRuntime) -> Result<(), Fail> {
     let schema = schema_with(rt.alloc(), "version = 2\n")?;
-    let copies = show_copies(rt.alloc(), &schema, TEN)?;
-    assert_eq!(rt; copies.as_str(), TEN_ITEMS);
-    let items = answers(rt.alloc(), &schema, TEN)?;
-    assert!(rt; items.as_str().starts_with(TEN_ITEMS));
-    Ok(())
+    expect_items(&rt, rt.alloc(), &schema, TEN, TEN_ITEMS)
 }
 
-// The room that the list of dimensions and the list of measures have.
-fn room_of(item: Item) -> Option<(usize, usize)> {
-    match item.what {
-        Ok(Change::Insert { fact, .. }) => {
-            let Fact { dims, measures } = fact;
-            Some((dims.into_vec().capacity(), measures.into_vec().capacity()))
-        }
-        _ => None,
-    }
-}
+// In the first two facts more than 40 bytes of texts, in the last ones 40 and 41.
+const LONG: &str = "op,id,region,kind,amount
+I,1,a text of more than four and twenty bytes,and another of more than that,5
+I,2,a text of more than four and twenty bytes,\\N,-5
+I,3,01234567890123456789,abcdefghijklmnopqrst,\\N
+U,4,01234567890123456789,abcdefghijklmnopqrstu,7
+";
 
-fn first_item(alloc: Global, schema: &Schema, bytes: &[u8]) -> Option<Item> {
-    let mut feed = Feed::new(alloc, schema, bytes);
-    match feed.next() {
-        Ok(item) => item,
-        Err(_) => None,
-    }
-}
+const LONG_ITEMS: &str =
+    "1 insert 1 a text of more than four and twenty bytes and another of more than that 5
+2 insert 2 a text of more than four and twenty bytes null -5
+3 insert 3 01234567890123456789 abcdefghijklmnopqrst null
+4 update 4 01234567890123456789 abcdefghijklmnopqrstu 7
+";
 
 #[test]
-fn an_item_has_no_more_memory_than_its_lists(rt: HostRuntime) -> Result<(), Fail> {
+fn facts_of_long_texts_are_read_and_copied(rt: HostRuntime) -> Result<(), Fail> {
     let schema = Schema::sample(rt.alloc())?;
-    let bytes = b"op,id,region,kind,amount\nI,12,west,\\N,5\n";
-    let item = first_item(rt.alloc(), &schema, bytes).ok_or("no item")?;
-    assert_eq!(rt; room_of(item), Some((2, 1)));
-    Ok(())
+    expect_items(&rt, rt.alloc(), &schema, LONG.as_bytes(), LONG_ITEMS)
+}
+
+const SIX: &str = "dimensions = ['a', 'b', 'c', 'd', 'e', 'f']
+measures = ['p', 'q', 'r']
+aggregates = ['count(*)']
+";
+
+const MANY: &str = "op,id,a,b,c,d,e,f,p,q,r
+I,1,A,B,C,D,E,F,1,2,3
+I,2,\\N,,\\N,D,\\N,,\\N,2,\\N
+U,1,A,B,C,a text of more than four and twenty bytes,\\N,F,1,\\N,3
+";
+
+const MANY_ITEMS: &str = "1 insert 1 A B C D E F 1 2 3
+2 insert 2 null  null D null  null 2 null
+3 update 1 A B C a text of more than four and twenty bytes null F 1 null 3
+";
+
+#[test]
+fn facts_of_many_values_are_read_and_copied(rt: HostRuntime) -> Result<(), Fail> {
+    let schema = Schema::from_toml(rt.alloc(), SIX.as_bytes())?;
+    expect_items(&rt, rt.alloc(), &schema, MANY.as_bytes(), MANY_ITEMS)
 }

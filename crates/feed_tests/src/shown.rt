@@ -2,9 +2,9 @@
 use cube_core::{Change, Fact, Field, Item, Partial, Text};
 use std::alloc::AllocError;
 
-fn show_text(out: &mut String, value: &Option<Text>) -> Result<(), AllocError> {
+fn show_text(out: &mut String, value: Option<&str>) -> Result<(), AllocError> {
     match value {
-        Some(text) => write!(out, " {}", text.as_str()),
+        Some(text) => write!(out, " {text}"),
         None => write!(out, " null"),
     }
 }
@@ -17,8 +17,8 @@ fn show_number(out: &mut String, value: Option<i64>) -> Result<(), AllocError> {
 }
 
 fn show_fact(out: &mut String, fact: &Fact) -> Result<(), AllocError> {
-    for value in fact.dims.as_slice() {
-        show_text(out, value)?;
+    for place in 0..fact.dims.len() {
+        show_text(out, fact.dims.get(place))?;
     }
     for value in fact.measures.as_slice() {
         show_number(out, *value)?;
@@ -26,11 +26,18 @@ fn show_fact(out: &mut String, fact: &Fact) -> Result<(), AllocError> {
     Ok(())
 }
 
+fn text_of(value: &Option<Text>) -> Option<&str> {
+    match value {
+        Some(text) => Some(text.as_str()),
+        None => None,
+    }
+}
+
 fn show_part(out: &mut String, part: &Partial) -> Result<(), AllocError> {
     for field in part.dims.as_slice() {
         match field {
             Field::Keep => write!(out, " keep")?,
-            Field::Put(value) => show_text(out, value)?,
+            Field::Put(value) => show_text(out, text_of(value))?,
         }
     }
     for field in part.measures.as_slice() {

@@ -1,5 +1,5 @@
 //! What is sent: numbers, and items of a feed.
-use cube_core::{Change, Fact, Item, Sequence, Text};
+use cube_core::{Change, DimensionValues, Fact, Item, SmallSequence, Text};
 use std::alloc::{AllocError, Global};
 
 /// What can be made of its number.
@@ -37,16 +37,13 @@ impl Numbered for Item {
 }
 
 fn fact_of(alloc: Global, number: u32) -> Result<Fact, AllocError> {
-    let mut dims = Vec::with_capacity(alloc, 3)?;
+    let mut dims = DimensionValues::new(alloc);
     for name in ["region", "kind", "customer"] {
         let value = format!(in alloc; "{name}-{number}")?;
-        dims.push(Some(Text::from_string(value)))?;
+        dims.push(Some(value.as_str()))?;
     }
-    let measures = Vec::from_slice(alloc, &[Some(i64::from(number))])?;
-    Ok(Fact {
-        dims: Sequence::from_vec(dims),
-        measures: Sequence::from_vec(measures),
-    })
+    let measures = SmallSequence::from_slice(alloc, &[Some(i64::from(number))])?;
+    Ok(Fact { dims, measures })
 }
 
 /// So many of them, numbered from 0.

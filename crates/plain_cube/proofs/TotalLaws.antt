@@ -1,14 +1,13 @@
 -- Lemmas for the key of the grand total, where its set is kept.
-use Rattle.std.proofs.Common.{◌≡◌, ◌==◌, ℕ, Bool, true, false, ◌&&◌, ◌||◌, List, [], ◌∷◌, length, refl, sym, ap, ◌∙◌}
+use Rattle.std.proofs.Common.{◌≡◌, ◌==◌, ℕ, Bool, true, false, ◌&&◌, ◌||◌, [], length, refl, sym, ap, ◌∙◌}
 use Rattle.std.specs.BTreeSet.{BTreeSet, contains}
 use Rattle.std.specs.List.{list_all}
 use Rattle.std.specs.Ordering.{eq_by_cmp}
 use Rattle.std.proofs.lemmas.Bool.{and_parts}
 use Rattle.cube_core.specs.Cube.{is_total}
-use Rattle.cube_core.specs.GroupingSet.{is_all_coord, is_among, mask_of_coords}
+use Rattle.cube_core.specs.GroupingSet.{is_all_coord, is_among}
 use Rattle.cube_core.specs.Layout.{Layout, keeps}
 use Rattle.cube_core.specs.Order.{key_cmp}
-use Rattle.cube_core.specs.declared.key.Coord.{Coord}
 use Rattle.cube_core.specs.declared.key.Key.{Key}
 use Rattle.cube_core.proofs.CellKeyLaws.{key_cmp-is_total}
 use Rattle.cube_core.proofs.AncestorLaws.{mask_of_coords-All}

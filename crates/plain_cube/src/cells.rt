@@ -1,5 +1,5 @@
 //! The keys of the cells of a cube.
-ghost use Rattle.std.specs.Prelude.{◌≡◌, ◌≤◌, ◌<◌, ◌^◌, ◌==◌, ◌||◌, ◌&&◌, true, not, IfOk, OnOk, length, All};
+ghost use Rattle.std.specs.Prelude.{◌≡◌, ◌≤◌, ◌<◌, ◌^◌, ◌==◌, ◌||◌, ◌&&◌, true, not, IfOk, OnOk, length, All, option_map};
 ghost use Rattle.std.specs.BTreeSet.{contains};
 ghost use Rattle.std.specs.List.{list_all};
 ghost use Rattle.std.specs.Ordering.{eq_by_cmp};
@@ -11,7 +11,7 @@ ghost use Rattle.cube_core.specs.Order.{key_cmp};
 ghost use Rattle.cube_core.specs.Takes.{fits};
 ghost use Rattle.cube_core.specs.declared.key.Key.{Key};
 
-use cube_core::{Coord, Fact, Key, Schema, Sequence, Text};
+use cube_core::{Coord, DimensionValues, Fact, Key, Schema, Sequence, Text};
 use std::alloc::{AllocError, Global};
 use std::collections::BTreeSet;
 
@@ -63,7 +63,7 @@ fn insert_ancestors(
         || (is_among (mask_of key) sets.now && covers key fact.now))) }
 {
     for set in sets {
-        insert_key(keys, ancestor(alloc, fact.dims.as_slice(), *set)?)?;
+        insert_key(keys, ancestor(alloc, &fact.dims, *set)?)?;
     }
     Ok(())
 }
@@ -91,15 +91,15 @@ fn total_key(alloc: Global, dimensions: usize) -> Result<Key, AllocError>
 }
 
 // The key that covers a fact of these values and whose grouping set has this mask.
-fn ancestor(alloc: Global, values: &[Option<Text>], mask: u8) -> Result<Key, AllocError>
+fn ancestor(alloc: Global, values: &DimensionValues, mask: u8) -> Result<Key, AllocError>
     requires { mask < 2 ^ length values.now }
     ensures covers { IfOk result (λ key. all_stand_for key.coords values.now ≡ true) }
     ensures set { IfOk result (λ key. mask_of key ≡ mask) }
 {
     let mut coords = Vec::with_capacity(alloc, values.len())?;
     let mut rest = mask;
-    for value in values {
-        coords.push(coord_of(alloc, value, rest % 2 == 1)?)?;
+    for place in 0..values.len() {
+        coords.push(coord_of(alloc, values.get(place), rest % 2 == 1)?)?;
         rest /= 2;
     }
     let coords = Sequence::from_vec(coords);
@@ -107,13 +107,14 @@ fn ancestor(alloc: Global, values: &[Option<Text>], mask: u8) -> Result<Key, All
 }
 
 // What stands for a value: the value itself where its dimension is grouped by, else ALL.
-fn coord_of(alloc: Global, value: &Option<Text>, is_grouped: bool) -> Result<Coord, AllocError>
-    ensures stands { IfOk result (λ coord. stands_for coord value.now ≡ true) }
+fn coord_of(alloc: Global, value: Option<&str>, is_grouped: bool) -> Result<Coord, AllocError>
+    ensures stands { IfOk result
+        (λ coord. stands_for coord (option_map (λ text. text.now) value.entry) ≡ true) }
     ensures grouped { IfOk result (λ coord. is_all_coord coord ≡ not is_grouped) }
 {
     match value {
         _ if !is_grouped => Ok(Coord::All),
         None => Ok(Coord::Null),
-        Some(text) => Ok(Coord::Text(text.copy(alloc)?)),
+        Some(text) => Ok(Coord::Text(Text::from_str(alloc, text)?)),
     }
 }

@@ -1,5 +1,5 @@
 //! The texts of a dimension, each with its place as its code.
-ghost use Rattle.std.specs.Prelude.{◌≡◌, ◌<◌, ◌≤◌, ◌==◌, not, ◌++◌, ◌∷◌, [], IfOk, IfSome, IfNone, OnOk, OnErr, length, position, slice_get, get_or, drop, Some, None, nat_lt, true, false, if◌then◌else◌};
+ghost use Rattle.std.specs.Prelude.{◌≡◌, ◌<◌, ◌≤◌, ◌==◌, not, ◌++◌, ◌∷◌, [], IfOk, IfSome, IfNone, OnOk, OnErr, length, position, slice_get, get_or, drop, Some, None, nat_lt, true, false, option_map, if◌then◌else◌};
 ghost use Rattle.std.specs.Cmp.Lexicographic.{slice_cmp};
 ghost use Rattle.std.specs.Str.{bytes_eq};
 ghost use Rattle.cube_core.specs.declared.key.Coord.TheVariants as coord;
@@ -99,8 +99,9 @@ impl Dictionary {
 
     /// The code of a value or of null.
     #[tactic(auto, using(crate::proofs::DictionaryLaws::code_of_null))]
-    pub fn code_of_value(&self, value: &Option<Text>) -> u32
-        ensures { IsCodeOf self.now (coord_of_value value.now) result }
+    pub fn code_of_value(&self, value: Option<&str>) -> u32
+        ensures { IsCodeOf self.now
+            (coord_of_value (option_map (λ text. text.now) value.entry)) result }
     {
         let _ = &self.texts;
         match value {
@@ -118,14 +119,16 @@ impl Dictionary {
         match coord {
             Coord::All => ALL,
             Coord::Null => NULL,
-            Coord::Text(text) => self.code_of_text(text),
+            Coord::Text(text) => self.code_of_text(text.as_str()),
         }
     }
 
     /// The code of a value or of null, where a text that isn't there becomes the last.
-    pub fn code_with(&mut self, alloc: Global, value: &Option<Text>) -> Result<u32, AllocError>
-        ensures texts { OnOk result (self.new ≡ texts_with value.now self.old) }
-        ensures code { IfOk result (IsCodeOf self.new (coord_of_value value.now)) }
+    pub fn code_with(&mut self, alloc: Global, value: Option<&str>) -> Result<u32, AllocError>
+        ensures texts { OnOk result (self.new ≡
+            texts_with (option_map (λ text. text.now) value.entry) self.old) }
+        ensures code { IfOk result (IsCodeOf self.new
+            (coord_of_value (option_map (λ text. text.now) value.entry))) }
         ensures valid { IfOk result (λ code. is_code self.new code ≡ true) }
         ensures dictionary { IsDictionary self.new }
         ensures err { OnErr result (self.new ≡ self.old) }
@@ -142,19 +145,19 @@ impl Dictionary {
     }
 
     // The place of a text, as a number of 32 bits.
-    fn code_of_text(&self, text: &Text) -> u32
+    fn code_of_text(&self, text: &str) -> u32
         ensures code { IsCodeOf self.now (coord.Text text.now) result }
         ensures listed { is_listed text.now self.now ≡ not (result == no_code) }
     {
         let _ = &self.texts;
-        match self.code_of(text.as_str()) {
+        match self.code_of(text) {
             None => NONE,
             Some(place) => place as u32,
         }
     }
 
     // Puts a text that isn't there last, and answers its code.
-    fn push(&mut self, alloc: Global, text: &Text) -> Result<u32, AllocError>
+    fn push(&mut self, alloc: Global, text: &str) -> Result<u32, AllocError>
         requires { is_listed text.now self.old ≡ false }
         ensures texts { OnOk result (self.new ≡ self.old ++ text.now ∷ []) }
         ensures code { IfOk result (λ code. code ≡ length self.old) }
@@ -164,7 +167,7 @@ impl Dictionary {
         let Some(code) = next_code(self.texts.len()) else {
             return Err(AllocError);
         };
-        let text = String::from_str(alloc, text.as_str())?;
+        let text = String::from_str(alloc, text)?;
         self.texts.insert_full(text)?;
         Ok(code)
     }

@@ -7,6 +7,7 @@ ghost use Rattle.cube_core.specs.Layout.{is_listed};
 ghost use Rattle.cube_core.specs.SchemaDocument.{sets_of_grouping, named_sets, kept_sets, sets_of_word, rollup_sets, sets_of_items, set_of_item, set_of_names, is_set_of, mask_of_names, are_lawful_sets, are_distinct_sets};
 
 use super::{are_distinct, is_listed, texts_of};
+use crate::schema::is_among;
 use crate::text::Text;
 use std::alloc::{AllocError, Global};
 use toml::Value;
@@ -35,7 +36,7 @@ fn kept_sets(alloc: Global, dimensions: usize, named: &[u8]) -> Result<Vec<u8>, 
     let all = all_sets(alloc, dimensions)?;
     all.iter()
         .copied()
-        .filter(|set| is_among(*set, named))
+        .filter(|set| is_among(u32::from(*set), named))
         .collect(alloc)
 }
 
@@ -195,11 +196,5 @@ fn are_distinct_sets(sets: &[u8]) -> bool
     let Some((set, others)) = sets.split_first() else {
         return true;
     };
-    !is_among(*set, others) && are_distinct_sets(others)
-}
-
-fn is_among(set: u8, sets: &[u8]) -> bool
-    ensures { result ≡ is_among set sets.now }
-{
-    sets.iter().any(|other| *other == set)
+    !is_among(u32::from(*set), others) && are_distinct_sets(others)
 }

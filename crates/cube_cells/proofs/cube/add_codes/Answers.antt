@@ -1,5 +1,6 @@
 use Rattle.std.proofs.Common.{◌≡◌, ◌<◌, ◌∙◌, length, get_or, map, set, ℕ, List, Option, None, [], true, arith, sym, ap}
-use Rattle.std.proofs.lemmas.List.{get_or_default, get_or_read, get_or-map, get_or-set_same, length-map, length-set}
+use Rattle.std.specs.Prelude.{option_map}
+use Rattle.std.proofs.lemmas.List.{get_or_default, get_or-map, get_or-set_same, length-map, length-set}
 use Rattle.std.proofs.lemmas.List.Elements.{All-set}
 use Rattle.cube_core.specs.declared.key.Coord.TheVariants as coord
 use Rattle.cube_cells.specs.Codes.{IsCodeOf, IsDictionary, is_code, coord_of_value, texts_with}
@@ -15,15 +16,14 @@ loop-place-preserved c =
     let texts = c.code_with.new.self in
     let old = c.loop-place.dictionaries in
     let new = set old i texts in
-    let inside : i < length dims = omega (arith, ap length c.as_slice-value-items.ensures) in
+    let inside : i < length dims = omega (arith, c.len-place-end.ensures) in
     let room : i < length old = omega (arith, c.requires.width) in
     let more : i < length new = omega (arith, length-set old i texts) in
-    let value : c.value-item.result ≡ get_or dims i None = rw c.as_slice-value-items.ensures at (get_or_read c.as_slice-value-items.result.now i c.value-item.result (omega arith) c.value-item.is None) in
-    let coordinate = ap coord_of_value value ∙ sym (get_or-map coord_of_value dims i None coord.All inside) in
+    let coordinate = ap coord_of_value c.get.ensures ∙ sym (get_or-map coord_of_value dims i None coord.All inside) in
     let here = get_or-set_same old i texts [] room in
     let of : IsCodeOf (get_or new i []) (get_or coords i coord.All) code = rw (here, ← coordinate) c.in_ok-codes.ensures.code in
     let valid : is_code (get_or new i []) code ≡ true = rw here c.in_ok-codes.ensures.valid in
-    let added : texts ≡ texts_with (get_or dims i None) (get_or old i []) = c.in_ok-codes.ensures.texts ∙ ap (texts_with c.value-item.result) (get_or_default old i c.index-dictionaries-place.result [] room) ∙ ap (λ (v : Option (List ℕ)). texts_with v (get_or old i [])) value in
+    let added : texts ≡ texts_with (get_or dims i None) (get_or old i []) = c.in_ok-codes.ensures.texts ∙ ap (texts_with (option_map (λ text. text.now) c.get.result)) (get_or_default old i c.index-dictionaries-place.result [] room) ∙ ap (λ (v : Option (List ℕ)). texts_with v (get_or old i [])) c.get.ensures in
     record {
       eight = omega (arith, length-set c.loop-place.codes i code);
       codes = AreCodesOf-more new coords c.loop-place.codes i code (AreCodesOf-set old texts coords c.loop-place.codes i c.loop-place.invariant.codes) more (omega (arith, length-map dims coord_of_value, length-set old i texts, c.requires.width)) (omega arith) of;

@@ -11,8 +11,7 @@ loop-place-preserved c =
     let coords = map coord_of_value c.args.values.now in
     let inside : i < length c.args.values.now = omega arith in
     let dictionary = get_or_read c.args.dictionaries.now i c.index-dictionaries-place.result (omega arith) c.index-dictionaries-place.is [] in
-    let value = get_or_read c.args.values.now i c.index-values-place.result inside c.index-values-place.is None in
-    let coordinate = ap coord_of_value value ∙ sym (get_or-map coord_of_value c.args.values.now i None coord.All inside) in
+    let coordinate = ap coord_of_value c.get.ensures ∙ sym (get_or-map coord_of_value c.args.values.now i None coord.All inside) in
     let of : IsCodeOf (get_or c.args.dictionaries.now i []) (get_or coords i coord.All) c.code_of_value.result = rw (← dictionary, ← coordinate) c.code_of_value.ensures in
     record {
       eight = omega (arith, length-set c.loop-place.codes i c.code_of_value.result);

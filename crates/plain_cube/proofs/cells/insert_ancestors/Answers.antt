@@ -11,5 +11,5 @@ pub loop-set-preserved : goal.loop-set-preserved
 loop-set-preserved c = λ key.
     contains-ancestors (contains key_cmp c.args.keys.now key) (contains key_cmp c.loop-set.keys key) (contains key_cmp c.insert_key.new.keys key)
     c.in_ok-ancestor.field-0 key c.args.fact.now c.args.sets.now c.loop-set.set-index (omega arith)
-    (rw (← c.as_slice.ensures) c.in_ok-ancestor.ensures.covers) c.in_ok-ancestor.ensures.set
+    c.in_ok-ancestor.ensures.covers c.in_ok-ancestor.ensures.set
     (c.loop-set.invariant key) (c.in_ok-insert_key.ensures key)

@@ -14,10 +14,10 @@ returns-clause-held c =
     let cells = c.self.inside.cells.entries in
     let codes = c.codes_of_values-codes.result in
     let fit : fits schema c.args.fact.now ≡ true = sym c.if-not-fits.ensures in
-    let has : HasFactCodes dictionaries c.args.fact.now codes = record { are = rw (c.deref.ensures.value, c.as_slice.ensures) at c.codes_of_values-codes.ensures.codes; eight = c.codes_of_values-codes.ensures.eight } in
+    let has : HasFactCodes dictionaries c.args.fact.now codes = record { are = rw c.deref.ensures.value at c.codes_of_values-codes.ensures.codes; eight = c.codes_of_values-codes.ensures.eight } in
     let of = IsCodedFact-IsCoded schema sets facts dictionaries dictionaries cells c.args.fact.now codes c.self.invariant fit refl c.self.invariant.texts has in
     let is = cell_holds-HoldsFact schema sets facts dictionaries cells c.args.fact.now codes c.self.invariant fit (omega arith) of in
-    let result = rw (c.as_slice-2.ensures, c.deref-2.ensures.value) at c.hold_in_sets.ensures in
+    let result = rw (c.as_slice.ensures, c.deref-2.ensures.value) at c.hold_in_sets.ensures in
     rw (← c.self.view_is, result) is
 
 pub returns-clause-cube : goal.returns-clause-cube

@@ -6,13 +6,13 @@ use Rattle.cube_cells.proofs.cube.dictionary.Dictionary.code_of_text.Goals as go
 pub overflow_cast-result : goal.overflow_cast-result
 overflow_cast-result c =
     let is : IsDictionary c.args.self.now = subst IsDictionary c.self.view_is c.self.invariant in
-    let stands = StandsAt-position c.as_str.result.now c.args.self.now c.in-Some.place (sym c.in-Some.ensures) in
+    let stands = StandsAt-position c.args.text.now c.args.self.now c.in-Some.place (sym c.in-Some.ensures) in
     omega (arith, stands.below, is.few)
 
 pub returns-in-None : goal.returns-in-None
 returns-in-None c =
     let is : IsDictionary c.args.self.now = subst IsDictionary c.self.view_is c.self.invariant in
-    let unlisted = rw c.as_str.ensures.value at (is_listed-position c.as_str.result.now c.args.self.now (sym c.in-None.ensures)) in
+    let unlisted = is_listed-position c.args.text.now c.args.self.now (sym c.in-None.ensures) in
     record {
       code = IsCodeOf-no_code c.args.self.now c.args.text.now is unlisted;
       listed = unlisted;
@@ -21,7 +21,7 @@ returns-in-None c =
 pub returns-in-Some : goal.returns-in-Some
 returns-in-Some c =
     let is : IsDictionary c.args.self.now = subst IsDictionary c.self.view_is c.self.invariant in
-    let stands = rw c.as_str.ensures.value at (StandsAt-position c.as_str.result.now c.args.self.now c.in-Some.place (sym c.in-Some.ensures)) in
+    let stands = StandsAt-position c.args.text.now c.args.self.now c.in-Some.place (sym c.in-Some.ensures) in
     record {
       code = IsCodeOf-StandsAt c.args.self.now c.args.text.now c.in-Some.place is stands;
       listed = is_listed-StandsAt c.args.text.now c.args.self.now c.in-Some.place stands ∙ no_code-place c.args.self.now c.in-Some.place is stands.below;

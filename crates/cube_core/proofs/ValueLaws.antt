@@ -1,0 +1,52 @@
+-- What lies in a block of texts lies there still when more is put at its end, and what covers no value.
+use Rattle.std.proofs.Common.{◌≡◌, ◌≤◌, ◌-◌, ℕ, suc, List, [], ◌∷◌, ◌++◌, length, get_or, map, take, drop, nat_eq, Option, refl, ap, ◌∙◌, arith}
+use Rattle.std.specs.Prelude.{All, slice_range}
+use Rattle.std.proofs.lemmas.List.{drop-append-le, take-append-le, length-drop, length-append, take_all}
+use Rattle.std.proofs.Math.Seq.{drop-append_seam}
+use Rattle.cube_core.specs.declared.key.Coord.{Coord}
+use Rattle.cube_core.specs.declared.dimension_values.Span.{Span}
+use Rattle.cube_core.specs.declared.dimension_values.Span.TheVariants.{Null, Text}
+use Rattle.std.proofs.lemmas.Bool.{eq-eqb, ne_eqb}
+use Rattle.cube_core.specs.Covers.{all_stand_for}
+use Rattle.cube_core.specs.Values.{value_of, LiesIn}
+
+-- a range within a list
+slice_range-append : (block more : List ℕ) (start end : ℕ) → start ≤ end → end ≤ length block → slice_range (block ++ more) start end ≡ slice_range block start end
+slice_range-append block more start end order inside =
+    ap (take (end - start)) (drop-append-le start block more (omega arith))
+    ∙ take-append-le (end - start) (drop start block) more (omega (arith, length-drop start block))
+
+-- all that was put at the end
+pub slice_range-more : (block more : List ℕ) (end : ℕ) → end ≡ length (block ++ more) → slice_range (block ++ more) (length block) end ≡ more
+slice_range-more block more end is =
+    ap (take (end - length block)) (drop-append_seam block more)
+    ∙ take_all (end - length block) more (omega (arith, is, length-append block more))
+
+LiesIn-append : (block more : List ℕ) (span : Span) → LiesIn block span → LiesIn (block ++ more) span
+LiesIn-append block more Null lies = lies
+LiesIn-append block more (Text start end) lies =
+    (lies.0, omega (arith, lies.1, length-append block more), rw (slice_range-append block more start end lies.0 lies.1) lies.2)
+
+value_of-append : (block more : List ℕ) (span : Span) → LiesIn block span → value_of (block ++ more) span ≡ value_of block span
+value_of-append block more Null lies = refl
+value_of-append block more (Text start end) lies = rw (slice_range-append block more start end lies.0 lies.1) refl
+
+values_of-append : (block more : List ℕ) (spans : List Span) → All (LiesIn block) spans → map (value_of (block ++ more)) spans ≡ map (value_of block) spans
+values_of-append block more [] all = refl
+values_of-append block more (span ∷ spans) all =
+    rw (value_of-append block more span (all 0 span (omega arith)), values_of-append block more spans (λ k d below. all (suc k) d (omega (arith, below)))) refl
+
+-- all spans, and their values
+pub all-append : (block more : List ℕ) (spans : List Span) → All (LiesIn block) spans
+    → All (LiesIn (block ++ more)) spans × (map (value_of (block ++ more)) spans ≡ map (value_of block) spans)
+all-append block more spans all = ((λ k d below. LiesIn-append block more (get_or spans k d) (all k d below)), values_of-append block more spans all)
+
+-- no coordinate stands for no value, and for the values from a place on only where there are none
+no_coords : (rest : List (Option (List ℕ))) (place count : ℕ) → length rest ≡ count - place → place ≤ count → nat_eq place count ≡ all_stand_for [] rest
+no_coords [] place count none order = eq-eqb place count (omega (arith, none))
+no_coords (value ∷ rest) place count some order = ne_eqb place count (λ same. absurd (omega (arith, some, same)))
+
+pub all_stand_for-end : (coords : List Coord) (values : List (Option (List ℕ))) (place : ℕ) → length coords ≡ 0 → place ≤ length values
+    → nat_eq place (length values) ≡ all_stand_for coords (drop place values)
+all_stand_for-end [] values place none order = no_coords (drop place values) place (length values) (length-drop place values) order
+all_stand_for-end (coord ∷ coords) values place none order = absurd (omega (arith, none))
