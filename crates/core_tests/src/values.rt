@@ -102,6 +102,12 @@ fn measures_come_back_in_order(rt: HostRuntime) -> Result<(), Fail> {
         );
         let measures = SmallSequence::from_vec(wanted.to_vec(rt.alloc())?);
         expect_equal(&rt, measures.as_slice(), wanted, "measures of a vector");
+        let mut measures = SmallSequence::new(rt.alloc());
+        measures.reserve_exact(count)?;
+        for measure in wanted {
+            measures.push(*measure)?;
+        }
+        expect_equal(&rt, measures.as_slice(), wanted, "measures pushed");
     }
     Ok(())
 }

@@ -1,14 +1,15 @@
 -- What lies in a block of texts lies there still when more is put at its end, and what covers no value.
-use Rattle.std.proofs.Common.{◌≡◌, ◌≤◌, ◌-◌, ℕ, suc, List, [], ◌∷◌, ◌++◌, length, get_or, map, take, drop, nat_eq, Option, refl, ap, ◌∙◌, arith}
-use Rattle.std.specs.Prelude.{All, slice_range}
-use Rattle.std.proofs.lemmas.List.{drop-append-le, take-append-le, length-drop, length-append, take_all}
+use Rattle.std.proofs.Common.{◌≡◌, ◌≤◌, ◌+◌, ◌-◌, ℕ, suc, List, [], ◌∷◌, ◌++◌, length, get_or, map, take, drop, nat_eq, Option, Some, refl, sym, ap, ◌∙◌, arith}
+use Rattle.std.specs.Prelude.{All, slice_range, IsUtf8}
+use Rattle.std.proofs.lemmas.List.{drop-append-le, take-append-le, length-drop, length-append, map-append, take_all}
 use Rattle.std.proofs.Math.Seq.{drop-append_seam}
 use Rattle.cube_core.specs.declared.key.Coord.{Coord}
 use Rattle.cube_core.specs.declared.dimension_values.Span.{Span}
 use Rattle.cube_core.specs.declared.dimension_values.Span.TheVariants.{Null, Text}
 use Rattle.std.proofs.lemmas.Bool.{eq-eqb, ne_eqb}
 use Rattle.cube_core.specs.Covers.{all_stand_for}
-use Rattle.cube_core.specs.Values.{value_of, LiesIn}
+use Rattle.std.proofs.lemmas.List.Elements.{All-push}
+use Rattle.cube_core.specs.Values.{Adds, value_of, LiesIn}
 
 -- a range within a list
 slice_range-append : (block more : List ℕ) (start end : ℕ) → start ≤ end → end ≤ length block → slice_range (block ++ more) start end ≡ slice_range block start end
@@ -17,7 +18,7 @@ slice_range-append block more start end order inside =
     ∙ take-append-le (end - start) (drop start block) more (omega (arith, length-drop start block))
 
 -- all that was put at the end
-pub slice_range-more : (block more : List ℕ) (end : ℕ) → end ≡ length (block ++ more) → slice_range (block ++ more) (length block) end ≡ more
+slice_range-more : (block more : List ℕ) (end : ℕ) → end ≡ length (block ++ more) → slice_range (block ++ more) (length block) end ≡ more
 slice_range-more block more end is =
     ap (take (end - length block)) (drop-append_seam block more)
     ∙ take_all (end - length block) more (omega (arith, is, length-append block more))
@@ -37,9 +38,20 @@ values_of-append block more (span ∷ spans) all =
     rw (value_of-append block more span (all 0 span (omega arith)), values_of-append block more spans (λ k d below. all (suc k) d (omega (arith, below)))) refl
 
 -- all spans, and their values
-pub all-append : (block more : List ℕ) (spans : List Span) → All (LiesIn block) spans
+all-append : (block more : List ℕ) (spans : List Span) → All (LiesIn block) spans
     → All (LiesIn (block ++ more)) spans × (map (value_of (block ++ more)) spans ≡ map (value_of block) spans)
 all-append block more spans all = ((λ k d below. LiesIn-append block more (get_or spans k d) (all k d below)), values_of-append block more spans all)
+
+-- a text at the end of a block, and its span at the end of the spans
+pub Adds-text : (block text : List ℕ) (spans : List Span) → IsUtf8 text
+    → Adds block spans (block ++ text) (spans ++ Text (length block) (length block + length text) ∷ []) (Some text)
+Adds-text block text spans utf8 all =
+    let span = Text (length block) (length block + length text) in
+    let kept = all-append block text spans all in
+    let whole = slice_range-more block text (length block + length text) (sym (length-append block text)) in (
+      All-push (LiesIn (block ++ text)) spans span kept.0 (omega arith, omega (arith, length-append block text), rw whole utf8),
+      rw (map-append (value_of (block ++ text)) spans (span ∷ []), kept.1, whole) refl,
+    )
 
 -- no coordinate stands for no value, and for the values from a place on only where there are none
 no_coords : (rest : List (Option (List ℕ))) (place count : ℕ) → length rest ≡ count - place → place ≤ count → nat_eq place count ≡ all_stand_for [] rest

@@ -32,5 +32,5 @@ pub use query::QueryFault;
 pub use schema::Schema;
 pub use schema_fault::SchemaFault;
 pub use sequence::Sequence;
-pub use small_sequence::{IN_PLACE, SmallSequence};
+pub use small_sequence::SmallSequence;
 pub use text::Text;

@@ -5,9 +5,8 @@ ghost use Rattle.cube_core.specs.Amendment.{field_over, fields_over, over};
 use crate::dimension_values::{DimensionValues, text_of};
 use crate::fact::{Fact, copy_value};
 use crate::sequence::Sequence;
-use crate::small_sequence::{IN_PLACE, SmallSequence};
+use crate::small_sequence::SmallSequence;
 use crate::text::Text;
-use smallvec::SmallVec;
 use std::alloc::{AllocError, Global};
 
 /// What an amendment says of one field.
@@ -49,10 +48,7 @@ impl Partial {
     {
         let dims = dims_over(alloc, self.dims.as_slice(), &old.dims)?;
         let measures = measures_over(alloc, self.measures.as_slice(), old.measures.as_slice())?;
-        Ok(Fact {
-            dims,
-            measures: SmallSequence::from_small_vec(measures),
-        })
+        Ok(Fact { dims, measures })
     }
 
     /// A copy; the only error is want of memory.
@@ -90,11 +86,12 @@ fn measures_over(
     alloc: Global,
     fields: &[Field<Option<i64>>],
     olds: &[Option<i64>],
-) -> Result<SmallVec<Option<i64>, IN_PLACE>, AllocError>
+) -> Result<SmallSequence<Option<i64>>, AllocError>
     requires { length fields.now ≡ length olds.now }
-    ensures { IfOk result (λ values. values.items ≡ fields_over fields.now olds.now) }
+    ensures { IfOk result (λ values. values ≡ fields_over fields.now olds.now) }
 {
-    let mut values = SmallVec::with_capacity(alloc, olds.len())?;
+    let mut values = SmallSequence::new(alloc);
+    values.reserve_exact(olds.len())?;
     for (i, field) in fields.iter().enumerate() {
         let value = field.over(&olds[i]);
         values.push(*value)?;

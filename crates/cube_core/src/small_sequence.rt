@@ -1,12 +1,12 @@
 //! A list of few values in the value itself, which contracts see as the plain list.
-ghost use Rattle.std.specs.Prelude.{◌≡◌, ◌==◌, IfOk, length};
+ghost use Rattle.std.specs.Prelude.{◌≡◌, ◌==◌, ◌∷◌, [], ◌++◌, IfOk, OnOk, length};
 
 use smallvec::SmallVec;
 use std::alloc::{AllocError, Global};
 use std::marker::Model;
 
 /// The most items of a small sequence that lie in the value itself.
-pub const IN_PLACE: usize = 2;
+const IN_PLACE: usize = 2;
 
 /// A list of values in order, of which up to two lie in the value itself and more on the heap.
 #[derive(Debug, Drop)]
@@ -23,13 +23,6 @@ impl<T> Model for SmallSequence<T> {
 }
 
 impl<T> SmallSequence<T> {
-    /// The sequence of a `SmallVec`, which is moved.
-    pub fn from_small_vec(items: SmallVec<T, IN_PLACE>) -> SmallSequence<T>
-        ensures { result ≡ items.items }
-    {
-        SmallSequence { items }
-    }
-
     /// The items in order.
     pub fn as_slice(&self) -> &[T]
         ensures { result.now ≡ self.now }
@@ -53,6 +46,30 @@ impl<T> SmallSequence<T> {
 }
 
 impl<T: Default + Drop> SmallSequence<T> {
+    /// No items; it takes no memory.
+    pub fn new(alloc: Global) -> SmallSequence<T>
+        ensures { result ≡ [] }
+    {
+        SmallSequence {
+            items: SmallVec::new(alloc),
+        }
+    }
+
+    /// Makes room for exactly so many more items; the only error is want of memory.
+    pub fn reserve_exact(&mut self, additional: usize) -> Result<(), AllocError>
+        ensures { self.new ≡ self.old }
+    {
+        self.items.reserve_exact(additional)
+    }
+
+    /// Adds an item at the end; the only error is want of memory.
+    pub fn push(&mut self, item: T) -> Result<(), AllocError>
+        ensures { OnOk result (self.new ≡ self.old ++ item ∷ []) }
+    {
+        self.items.push(item)?;
+        Ok(())
+    }
+
     /// The sequence of a `Vec`, which is moved, and freed where its items lie in the value itself.
     pub fn from_vec(items: Vec<T>) -> SmallSequence<T>
         ensures { result ≡ items.items }

@@ -17,7 +17,9 @@ use Rattle.cube_core.specs.declared.change.Change.{Change}
 use Rattle.cube_core.specs.declared.change.Change.TheVariants.{Insert, Update, Amend}
 use Rattle.cube_core.specs.declared.change.LineFault.{LineFault}
 use Rattle.cube_core.specs.declared.change.LineFault.TheVariants as fault
-use Rattle.cube_feed.specs.SoundFields.{is_sound_id, is_sound, are_sound, dimension_put, measure_put, read_of}
+use Rattle.cube_feed.specs.declared.line.Operation.{Operation}
+use Rattle.cube_feed.specs.declared.line.Operation.TheVariants as operation
+use Rattle.cube_feed.specs.SoundFields.{is_sound_id, is_sound, are_sound, dimension_put, measure_put, read_of, change_by}
 
 -- two tests of each field
 list_all-and : (p q : List ℕ → Bool) (fields : List (List ℕ)) → list_all (λ field. p field && q field) fields ≡ (list_all p fields && list_all q fields)
@@ -207,6 +209,17 @@ pub update_of-keep : (s : Layout) (fields : List (List ℕ)) → true ≡ keeps_
 update_of-keep s fields keeps read is =
     then_say-part_of s fields (sym keeps) read is (λ id part. Ok (Amend id part))
     ∙ ap (λ b. put_of (if b then Ok (Amend (field_at fields 1) (part_of s fields)) else Ok (Update (field_at fields 1) (fact_of s fields))) s fields) keeps
+
+-- the fault of either, where a field is kept and where none is
+pub change_by-keep_fault : (s : Layout) (fields : List (List ℕ)) (operation : Operation) → keeps_any s fields ≡ true
+    → (why : LineFault) → Err why ≡ read_of dimension_put measure_put s fields → Err why ≡ put_of (change_by operation s fields) s fields
+change_by-keep_fault s fields operation.Insert keeps why read = insert_of-keep s fields (sym keeps) (Err why) read
+change_by-keep_fault s fields operation.Update keeps why read = update_of-keep s fields (sym keeps) (Err why) read
+
+pub change_by-fact_fault : (s : Layout) (fields : List (List ℕ)) (operation : Operation) → false ≡ keeps_any s fields
+    → (why : LineFault) → Err why ≡ read_of (λ text. Some (dimension_of text)) measure_of s fields → Err why ≡ put_of (change_by operation s fields) s fields
+change_by-fact_fault s fields operation.Insert none why read = insert_of-fact s fields none (Err why) read
+change_by-fact_fault s fields operation.Update none why read = update_of-fact s fields none (Err why) read
 
 -- a part of a record that isn't sound
 pub are_sound-id : {D M : Type 0} (dimension : List ℕ → Option D) (measure : List ℕ → Option M) (s : Layout) (fields : List (List ℕ))

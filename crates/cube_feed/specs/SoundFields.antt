@@ -3,12 +3,15 @@ use Rattle.std.specs.Prelude.{◌==◌, ◌&&◌, ℕ, ℤ, Bool, not, List, len
 use Rattle.std.specs.Str.{bytes_eq, is_utf8}
 use Rattle.std.specs.List.{list_all, filter_map}
 use Rattle.cube_core.specs.Layout.{Layout}
-use Rattle.cube_core.specs.Items.{width_of, field_at, keep_text, dimension_of, measure_of, dimension_fields, measure_fields}
+use Rattle.cube_core.specs.Items.{width_of, field_at, keep_text, dimension_of, measure_of, dimension_fields, measure_fields, insert_of, update_of}
 use Rattle.cube_core.specs.declared.partial.Field.{Field}
 use Rattle.cube_core.specs.declared.partial.Field.TheVariants.{Keep, Put}
 use Rattle.cube_core.specs.declared.partial.Partial.{Partial}
+use Rattle.cube_core.specs.declared.change.Change.{Change}
 use Rattle.cube_core.specs.declared.change.LineFault.{LineFault}
 use Rattle.cube_core.specs.declared.change.LineFault.TheVariants as fault
+use Rattle.cube_feed.specs.declared.line.Operation.{Operation}
+use Rattle.cube_feed.specs.declared.line.Operation.TheVariants.{Insert, Update}
 
 -- whether a field is UTF-8 and may be an id
 abbrev pub is_sound_id : List ℕ → Bool
@@ -56,3 +59,8 @@ read_of dimension measure s fields =
     if not (length fields == width_of s) then Err fault.Fields
     else if not (are_sound dimension measure s fields) then Err (put_fault fields)
     else Ok (field_at fields 1, filter_map dimension (dimension_fields s fields), filter_map measure (measure_fields s fields))
+
+-- the change that a record with lawful fields spells, by its operation
+abbrev pub change_by : Operation → Layout → List (List ℕ) → Result Change LineFault
+change_by Insert s fields = insert_of s fields
+change_by Update s fields = update_of s fields

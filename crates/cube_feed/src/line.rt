@@ -2,8 +2,8 @@
 ghost use Rattle.std.specs.Prelude.{◌≡◌, ◌≤◌, ◌∷◌, [], true, false, length, drop, slice_range, IfOk, IfErr, OnOk};
 ghost use Rattle.std.specs.Str.{bytes_eq, is_utf8};
 ghost use Rattle.std.specs.List.{list_all, list_any, filter_map};
-ghost use Rattle.cube_core.specs.Items.{width_of, field_at, keep_text, keeps_any, dimension_fields, measure_fields, put_of, insert_of, update_of, delete_of, change_of};
-ghost use Rattle.cube_feed.specs.SoundFields.{is_sound_id, is_sound, are_sound, put_fault, listed, part_listed, dimension_put, measure_put, read_of};
+ghost use Rattle.cube_core.specs.Items.{width_of, field_at, keep_text, keeps_any, dimension_fields, measure_fields, put_of, delete_of, change_of};
+ghost use Rattle.cube_feed.specs.SoundFields.{is_sound_id, is_sound, are_sound, put_fault, listed, part_listed, dimension_put, measure_put, read_of, change_by};
 ghost use Rattle.cube_feed.specs.declared.field.Stop.TheVariants as stop;
 
 use crate::field::{Fields, Spelled, Stop, is_keep_text};
@@ -11,8 +11,14 @@ use crate::spelled_list::SpelledList;
 use cube_core::{
     Change, DimensionValues, Fact, Field, LineFault, Partial, Schema, Sequence, SmallSequence, Text,
 };
-use smallvec::SmallVec;
 use std::alloc::{AllocError, Global};
+
+/// What a record with a fact does.
+#[derive(Clone, Copy)]
+enum Operation {
+    Insert,
+    Update,
+}
 
 // Puts the values of the fields from a place to another into a list that has none.
 fn read_values<T: Spelled, L: SpelledList<T>>(
@@ -39,6 +45,7 @@ fn read_values<T: Spelled, L: SpelledList<T>>(
     Ok(())
 }
 
+#[inline]
 fn id(alloc: Global, fields: &Fields<'_>) -> Result<Text, Stop>
     ensures id { IfOk result (λ id. id ≡ field_at fields.now 1) }
     ensures sound { IfOk result (λ _. is_sound_id (field_at fields.now 1) ≡ true) }
@@ -180,54 +187,55 @@ fn amendment(
     }
 }
 
-fn insert(
+// The change of a record that keeps a field, or the record's first fault: an insert has no value to keep.
+fn keep(
     alloc: Global,
     schema: &Schema,
     fields: &Fields<'_>,
+    operation: Operation,
 ) -> Result<Result<Change, LineFault>, AllocError>
+    requires { keeps_any schema.now fields.now ≡ true }
     ensures { IfOk result (λ what.
-        what ≡ put_of (insert_of schema.now fields.now) schema.now fields.now) }
+        what ≡ put_of (change_by operation schema.now fields.now) schema.now fields.now) }
 {
-    if keeps_any(schema, fields) {
-        return match amendment(alloc, schema, fields)? {
-            Ok(_amendment) => Ok(Err(LineFault::Keep)),
-            Err(fault) => Ok(Err(fault)),
-        };
-    }
-    let mut dims = DimensionValues::new(alloc);
-    let mut measures = SmallVec::with_capacity(alloc, schema.measures().len())?;
-    match put::<Option<Text>, Option<i64>, _, _>(alloc, schema, fields, &mut dims, &mut measures)? {
-        Ok(id) => {
-            let measures = SmallSequence::from_small_vec(measures);
-            let fact = Fact { dims, measures };
-            Ok(Ok(Change::Insert { id, fact }))
-        }
+    match amendment(alloc, schema, fields)? {
+        Ok((id, part)) => match operation {
+            Operation::Insert => Ok(Err(LineFault::Keep)),
+            Operation::Update => Ok(Ok(Change::Amend { id, part })),
+        },
         Err(fault) => Ok(Err(fault)),
     }
 }
 
-fn update(
+// The change of a record that inserts or updates, or the record's first fault.
+fn insert_or_update(
     alloc: Global,
     schema: &Schema,
     fields: &Fields<'_>,
+    operation: Operation,
 ) -> Result<Result<Change, LineFault>, AllocError>
     ensures { IfOk result (λ what.
-        what ≡ put_of (update_of schema.now fields.now) schema.now fields.now) }
+        what ≡ put_of (change_by operation schema.now fields.now) schema.now fields.now) }
 {
     if keeps_any(schema, fields) {
-        return match amendment(alloc, schema, fields)? {
-            Ok((id, part)) => Ok(Ok(Change::Amend { id, part })),
-            Err(fault) => Ok(Err(fault)),
-        };
+        return keep(alloc, schema, fields, operation);
     }
-    let mut dims = DimensionValues::new(alloc);
-    let mut measures = SmallVec::with_capacity(alloc, schema.measures().len())?;
-    match put::<Option<Text>, Option<i64>, _, _>(alloc, schema, fields, &mut dims, &mut measures)? {
-        Ok(id) => {
-            let measures = SmallSequence::from_small_vec(measures);
-            let fact = Fact { dims, measures };
-            Ok(Ok(Change::Update { id, fact }))
-        }
+    let mut fact = Fact {
+        dims: DimensionValues::new(alloc),
+        measures: SmallSequence::new(alloc),
+    };
+    fact.measures.reserve_exact(schema.measures().len())?;
+    match put::<Option<Text>, Option<i64>, _, _>(
+        alloc,
+        schema,
+        fields,
+        &mut fact.dims,
+        &mut fact.measures,
+    )? {
+        Ok(id) => match operation {
+            Operation::Insert => Ok(Ok(Change::Insert { id, fact })),
+            Operation::Update => Ok(Ok(Change::Update { id, fact })),
+        },
         Err(fault) => Ok(Err(fault)),
     }
 }
@@ -268,10 +276,10 @@ pub(crate) fn change(
 {
     let operation = fields.bytes_at(0);
     if is_operation(operation, b'I') {
-        return insert(alloc, schema, fields);
+        return insert_or_update(alloc, schema, fields, Operation::Insert);
     }
     if is_operation(operation, b'U') {
-        return update(alloc, schema, fields);
+        return insert_or_update(alloc, schema, fields, Operation::Update);
     }
     if is_operation(operation, b'D') {
         return delete(alloc, schema, fields);

@@ -3,8 +3,7 @@ ghost use Rattle.std.specs.Prelude.{◌≡◌, ◌∷◌, [], ◌++◌, List, So
 ghost use Rattle.cube_feed.specs.declared.field.Stop.TheVariants as stop;
 
 use crate::field::{Spelled, Stop, is_null};
-use cube_core::{DimensionValues, IN_PLACE, Text};
-use smallvec::SmallVec;
+use cube_core::{DimensionValues, SmallSequence, Text};
 use std::alloc::Global;
 
 /// A list of values, to which a value that a text spells is added at the end.
@@ -44,8 +43,8 @@ impl SpelledList<Option<Text>> for DimensionValues {
 }
 
 /// The measures of a fact.
-impl SpelledList<Option<i64>> for SmallVec<Option<i64>, IN_PLACE> {
-    ghost values = { λ list. list.items };
+impl SpelledList<Option<i64>> for SmallSequence<Option<i64>> {
+    ghost values = { λ list. list };
 
     fn add(&mut self, alloc: Global, text: &str) -> Result<(), Stop> {
         let value = Spelled::read(alloc, text)?;

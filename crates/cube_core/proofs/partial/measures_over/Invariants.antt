@@ -4,4 +4,4 @@ use Rattle.cube_core.proofs.partial.measures_over.Given as goal
 
 abbrev pub invariant-loop-i : goal.invariant-loop-i
 invariant-loop-i l =
-    (length l.fields ≡ length l.olds) × (l.values.items ≡ fields_over (take l.i l.fields) (take l.i l.olds))
+    (length l.fields ≡ length l.olds) × (l.values ≡ fields_over (take l.i l.fields) (take l.i l.olds))
