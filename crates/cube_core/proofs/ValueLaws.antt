@@ -23,27 +23,27 @@ slice_range-more block more end is =
     ap (take (end - length block)) (drop-append_seam block more)
     ∙ take_all (end - length block) more (omega (arith, is, length-append block more))
 
-LiesIn-append : (block more : List ℕ) (span : Span) → LiesIn block span → LiesIn (block ++ more) span
+LiesIn-append : (block more : List ℕ) (span : Span ℕ) → LiesIn block span → LiesIn (block ++ more) span
 LiesIn-append block more Null lies = lies
 LiesIn-append block more (Text start end) lies =
     (lies.0, omega (arith, lies.1, length-append block more), rw (slice_range-append block more start end lies.0 lies.1) lies.2)
 
-value_of-append : (block more : List ℕ) (span : Span) → LiesIn block span → value_of (block ++ more) span ≡ value_of block span
+value_of-append : (block more : List ℕ) (span : Span ℕ) → LiesIn block span → value_of (block ++ more) span ≡ value_of block span
 value_of-append block more Null lies = refl
 value_of-append block more (Text start end) lies = rw (slice_range-append block more start end lies.0 lies.1) refl
 
-values_of-append : (block more : List ℕ) (spans : List Span) → All (LiesIn block) spans → map (value_of (block ++ more)) spans ≡ map (value_of block) spans
+values_of-append : (block more : List ℕ) (spans : List (Span ℕ)) → All (LiesIn block) spans → map (value_of (block ++ more)) spans ≡ map (value_of block) spans
 values_of-append block more [] all = refl
 values_of-append block more (span ∷ spans) all =
     rw (value_of-append block more span (all 0 span (omega arith)), values_of-append block more spans (λ k d below. all (suc k) d (omega (arith, below)))) refl
 
 -- all spans, and their values
-all-append : (block more : List ℕ) (spans : List Span) → All (LiesIn block) spans
+all-append : (block more : List ℕ) (spans : List (Span ℕ)) → All (LiesIn block) spans
     → All (LiesIn (block ++ more)) spans × (map (value_of (block ++ more)) spans ≡ map (value_of block) spans)
 all-append block more spans all = ((λ k d below. LiesIn-append block more (get_or spans k d) (all k d below)), values_of-append block more spans all)
 
 -- a text at the end of a block, and its span at the end of the spans
-pub Adds-text : (block text : List ℕ) (spans : List Span) → IsUtf8 text
+pub Adds-text : (block text : List ℕ) (spans : List (Span ℕ)) → IsUtf8 text
     → Adds block spans (block ++ text) (spans ++ Text (length block) (length block + length text) ∷ []) (Some text)
 Adds-text block text spans utf8 all =
     let span = Text (length block) (length block + length text) in

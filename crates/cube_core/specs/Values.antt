@@ -11,29 +11,29 @@ block_of (Short block spans) = block.items
 block_of (Long block spans) = block.items
 
 -- the spans of the values, in the value or on the heap
-abbrev pub spans_of : StoredValues → List Span
+abbrev pub spans_of : StoredValues → List (Span ℕ)
 spans_of (Short block spans) = spans.items
 spans_of (Long block spans) = spans.items
 
 -- the value at a span of a block: null, or the bytes from the span's start to its end
-abbrev pub value_of : List ℕ → Span → Option (List ℕ)
+abbrev pub value_of : List ℕ → Span ℕ → Option (List ℕ)
 value_of block Null = None
 value_of block (Text start end) = Some (slice_range block start end)
 
 -- the values at all spans of a block
-abbrev pub values_in : List ℕ → List Span → List (Option (List ℕ))
+abbrev pub values_in : List ℕ → List (Span ℕ) → List (Option (List ℕ))
 values_in block spans = map (value_of block) spans
 
 -- a span of a text lies within the block, and what lies there is UTF-8
-abbrev pub LiesIn : List ℕ → Span → Type 0
+abbrev pub LiesIn : List ℕ → Span ℕ → Type 0
 LiesIn block Null = ⊤
 LiesIn block (Text start end) = (start ≤ end) × (end ≤ length block) × IsUtf8 (slice_range block start end)
 
 -- a block and its spans have one value more than another block and its spans, whose spans lie within it
-abbrev pub Adds : List ℕ → List Span → List ℕ → List Span → Option (List ℕ) → Type 0
+abbrev pub Adds : List ℕ → List (Span ℕ) → List ℕ → List (Span ℕ) → Option (List ℕ) → Type 0
 Adds block spans more_block more_spans value =
     All (LiesIn block) spans → All (LiesIn more_block) more_spans × (values_in more_block more_spans ≡ values_in block spans ++ value ∷ [])
 
 -- where the spans lie within a block, as many lie within another
-abbrev pub Keeps : List ℕ → List Span → List ℕ → List Span → Type 0
+abbrev pub Keeps : List ℕ → List (Span ℕ) → List ℕ → List (Span ℕ) → Type 0
 Keeps block spans more_block more_spans = All (LiesIn block) spans → All (LiesIn more_block) more_spans

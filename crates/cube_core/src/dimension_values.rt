@@ -1,6 +1,6 @@
 //! The values of a fact's dimensions, whose texts lie in one block.
-ghost use Rattle.std.specs.Prelude.{◌≡◌, ◌∷◌, ◌+◌, [], ◌++◌, false, true, None, IfOk, IfSome, OnOk, OnErr, length, get_or, option_map};
-ghost use Rattle.cube_core.specs.Values.{Adds, Keeps, block_of, spans_of};
+ghost use Rattle.std.specs.Prelude.{◌≡◌, ◌∷◌, ◌+◌, [], ◌++◌, false, true, None, IfOk, IfSome, OnOk, OnErr, length, get_or, option_map, slice_range};
+ghost use Rattle.cube_core.specs.Values.{Adds, Keeps, LiesIn, block_of, spans_of};
 ghost use Rattle.cube_core.specs.declared.dimension_values.Span.TheVariants.{Text as TheText};
 
 use crate::text::Text;
@@ -9,7 +9,7 @@ use std::alloc::{AllocError, Global};
 use std::marker::Model;
 use std::str;
 
-/// The most bytes of texts that lie in the value itself.
+/// The most bytes of texts that lie in the value itself: fewer than 256, so that a `u8` tells a place among them.
 const BLOCK: usize = 40;
 
 /// The most values that lie in the value itself.
@@ -17,10 +17,10 @@ const SPANS: usize = 4;
 
 // Where a value lies in the block.
 #[derive(Clone, Copy, Debug, Default)]
-enum Span {
+enum Span<N> {
     #[default]
     Null,
-    Text { start: u32, end: u32 },
+    Text { start: N, end: N },
 }
 
 // The block of texts with the spans of the values, in the value itself or on the heap.
@@ -28,11 +28,11 @@ enum Span {
 enum StoredValues {
     Short {
         block: ArrayVec<u8, BLOCK>,
-        spans: ArrayVec<Span, SPANS>,
+        spans: ArrayVec<Span<u8>, SPANS>,
     },
     Long {
         block: Vec<u8>,
-        spans: Vec<Span>,
+        spans: Vec<Span<u32>>,
     },
 }
 
@@ -88,37 +88,41 @@ impl DimensionValues {
         ensures { OnOk result (self.new ≡
             self.old ++ option_map (λ text. text.now) value.entry ∷ []) }
     {
-        match &mut self.stored {
-            StoredValues::Short { block, spans } => {
-                if add_in_place(block, spans, value) {
-                    return Ok(());
-                }
-                spill(self.alloc, &mut self.stored, value)
+        if let StoredValues::Short { block, spans } = &mut self.stored {
+            if add_in_place(block, spans, value) {
+                return Ok(());
             }
-            StoredValues::Long { block, spans } => add_on_heap(block, spans, value),
         }
+        push_on_heap(self.alloc, &mut self.stored, value)
     }
 
     /// How many values there are.
     pub fn len(&self) -> usize
         ensures { result ≡ length self.now }
     {
-        let (_, spans) = parts(&self.stored);
-        spans.len()
+        match &self.stored {
+            StoredValues::Short { spans, .. } => spans.len(),
+            StoredValues::Long { spans, .. } => spans.as_slice().len(),
+        }
     }
 
     /// The text at a place, counted from 0; None where null stands there, and past the last one.
     pub fn get(&self, place: usize) -> Option<&str>
         ensures { option_map (λ text. text.now) result ≡ get_or self.now place None }
     {
-        let (block, spans) = parts(&self.stored);
-        match spans.get(place) {
-            Some(Span::Text { start, end }) => {
-                let bytes = &block[*start as usize..*end as usize];
-                // The bytes of each span are UTF-8.
-                Some(unsafe { str::from_utf8_unchecked(bytes) })
-            }
-            _ => None,
+        match &self.stored {
+            StoredValues::Short { block, spans } => match spans.as_slice().get(place) {
+                Some(Span::Text { start, end }) => {
+                    Some(text_between(block.as_slice(), *start as usize, *end as usize))
+                }
+                _ => None,
+            },
+            StoredValues::Long { block, spans } => match spans.as_slice().get(place) {
+                Some(Span::Text { start, end }) => {
+                    Some(text_between(block.as_slice(), *start as usize, *end as usize))
+                }
+                _ => None,
+            },
         }
     }
 
@@ -126,52 +130,33 @@ impl DimensionValues {
     pub fn copy(&self, alloc: Global) -> Result<DimensionValues, AllocError>
         ensures { IfOk result (λ copy. copy ≡ self.now) }
     {
-        let (block, spans) = parts(&self.stored);
-        let stored = stored(alloc, block, spans)?;
+        let stored = match &self.stored {
+            StoredValues::Short { block, spans } => StoredValues::Short {
+                block: ArrayVec::try_from(block.as_slice()).unwrap(),
+                spans: ArrayVec::try_from(spans.as_slice()).unwrap(),
+            },
+            StoredValues::Long { block, spans } => StoredValues::Long {
+                block: Vec::from_slice(alloc, block.as_slice())?,
+                spans: Vec::from_slice(alloc, spans.as_slice())?,
+            },
+        };
         Ok(DimensionValues { alloc, stored })
     }
 }
 
-// The block and the spans, wherever they lie.
-fn parts(stored: &StoredValues) -> (&[u8], &[Span])
-    ensures block { result.0.now ≡ block_of stored.now }
-    ensures spans { result.1.now ≡ spans_of stored.now }
+// The text from a place of a block to another.
+fn text_between(block: &[u8], start: usize, end: usize) -> &str
+    requires { LiesIn block.now (TheText start end) }
+    ensures { result.now ≡ slice_range block.now start end }
 {
-    match stored {
-        StoredValues::Short { block, spans } => (block.as_slice(), spans.as_slice()),
-        StoredValues::Long { block, spans } => (block.as_slice(), spans.as_slice()),
-    }
-}
-
-// A copy of a block and its spans, in the value itself where they have room there.
-fn stored(alloc: Global, block: &[u8], spans: &[Span]) -> Result<StoredValues, AllocError>
-    ensures { IfOk result (λ copy. (block_of copy ≡ block.now) × (spans_of copy ≡ spans.now)) }
-{
-    if let (Ok(block), Ok(spans)) = (ArrayVec::try_from(block), ArrayVec::try_from(spans)) {
-        return Ok(StoredValues::Short { block, spans });
-    }
-    Ok(StoredValues::Long {
-        block: Vec::from_slice(alloc, block)?,
-        spans: Vec::from_slice(alloc, spans)?,
-    })
-}
-
-// Where a text lies that is put at the end of a block; None past 2^32 - 1 bytes.
-fn span_after(block: &[u8], text: &str) -> Option<Span>
-    ensures { IfSome result (λ span.
-        span ≡ TheText (length block.now) (length block.now + length text.now)) }
-{
-    let end = block.len().checked_add(text.len())?;
-    match (u32::try_from(block.len()), u32::try_from(end)) {
-        (Ok(start), Ok(end)) => Some(Span::Text { start, end }),
-        _ => None,
-    }
+    // The bytes of each span are UTF-8.
+    unsafe { str::from_utf8_unchecked(&block[start..end]) }
 }
 
 // Adds a value where there is room for it; else nothing changes.
 fn add_in_place(
     block: &mut ArrayVec<u8, BLOCK>,
-    spans: &mut ArrayVec<Span, SPANS>,
+    spans: &mut ArrayVec<Span<u8>, SPANS>,
     value: Option<&str>,
 ) -> bool
     ensures added { result ≡ true → Adds block.old.items spans.old.items block.new.items spans.new.items
@@ -185,20 +170,32 @@ fn add_in_place(
         spans.push(Span::Null);
         return true;
     };
-    let Some(span) = span_after(block.as_slice(), text) else {
+    let Some((start, end)) = places_after(block.as_slice(), text) else {
+        return false;
+    };
+    let (Ok(start), Ok(end)) = (u8::try_from(start), u8::try_from(end)) else {
         return false;
     };
     let Ok(()) = block.try_extend_from_slice(text.as_bytes()) else {
         return false;
     };
-    spans.push(span);
+    spans.push(Span::Text { start, end });
     true
+}
+
+// Where a text begins and ends that is put at the end of a block; None past the largest `usize`.
+fn places_after(block: &[u8], text: &str) -> Option<(usize, usize)>
+    ensures { IfSome result (λ places.
+        (places.0 ≡ length block.now) × (places.1 ≡ length block.now + length text.now)) }
+{
+    let end = block.len().checked_add(text.len())?;
+    Some((block.len(), end))
 }
 
 // Adds a value on the heap; the only error is want of memory.
 fn add_on_heap(
     block: &mut Vec<u8>,
-    spans: &mut Vec<Span>,
+    spans: &mut Vec<Span<u32>>,
     value: Option<&str>,
 ) -> Result<(), AllocError>
     ensures added { OnOk result (Adds block.old.items spans.old.items block.new.items spans.new.items
@@ -209,27 +206,55 @@ fn add_on_heap(
         spans.push(Span::Null)?;
         return Ok(());
     };
-    let Some(span) = span_after(block.as_slice(), text) else {
+    let Some((start, end)) = places_after(block.as_slice(), text) else {
+        return Err(AllocError);
+    };
+    let (Ok(start), Ok(end)) = (u32::try_from(start), u32::try_from(end)) else {
         return Err(AllocError);
     };
     block.extend_from_slice(text.as_bytes())?;
-    spans.push(span)?;
+    spans.push(Span::Text { start, end })?;
     Ok(())
 }
 
-// Moves a block and its spans to the heap, with one value more.
+// The same spans, with room for larger places.
+fn widened(alloc: Global, spans: &[Span<u8>]) -> Result<Vec<Span<u32>>, AllocError>
+    ensures { IfOk result (λ wide. wide.items ≡ spans.now) }
+{
+    let mut wide = Vec::with_capacity(alloc, spans.len())?;
+    for span in spans {
+        wide.push(match span {
+            Span::Null => Span::Null,
+            Span::Text { start, end } => Span::Text {
+                start: u32::from(*start),
+                end: u32::from(*end),
+            },
+        })?;
+    }
+    Ok(wide)
+}
+
+// Adds a value on the heap, to which a block and spans are moved first that don't lie there.
 #[cold]
-fn spill(alloc: Global, stored: &mut StoredValues, value: Option<&str>) -> Result<(), AllocError>
+fn push_on_heap(
+    alloc: Global,
+    stored: &mut StoredValues,
+    value: Option<&str>,
+) -> Result<(), AllocError>
     ensures added { OnOk result (Adds (block_of stored.old) (spans_of stored.old) (block_of stored.new) (spans_of stored.new)
         (option_map (λ text. text.now) value.entry)) }
-    ensures kept { OnErr result (stored.new ≡ stored.old) }
+    ensures kept { OnErr result (Keeps (block_of stored.old) (spans_of stored.old) (block_of stored.new) (spans_of stored.new)) }
 {
-    let (block, spans) = parts(stored);
-    let mut block = Vec::from_slice(alloc, block)?;
-    let mut spans = Vec::from_slice(alloc, spans)?;
-    add_on_heap(&mut block, &mut spans, value)?;
-    *stored = StoredValues::Long { block, spans };
-    Ok(())
+    match stored {
+        StoredValues::Long { block, spans } => add_on_heap(block, spans, value),
+        StoredValues::Short { block, spans } => {
+            let mut block = Vec::from_slice(alloc, block.as_slice())?;
+            let mut spans = widened(alloc, spans.as_slice())?;
+            add_on_heap(&mut block, &mut spans, value)?;
+            *stored = StoredValues::Long { block, spans };
+            Ok(())
+        }
+    }
 }
 
 /// The text of a value; None of null.
