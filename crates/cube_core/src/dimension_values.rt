@@ -170,16 +170,14 @@ fn add_in_place(
         spans.push(Span::Null);
         return true;
     };
-    let Some((start, end)) = places_after(block.as_slice(), text) else {
-        return false;
-    };
-    let (Ok(start), Ok(end)) = (u8::try_from(start), u8::try_from(end)) else {
-        return false;
-    };
+    let start = block.len();
     let Ok(()) = block.try_extend_from_slice(text.as_bytes()) else {
         return false;
     };
-    spans.push(Span::Text { start, end });
+    spans.push(Span::Text {
+        start: start as u8,
+        end: block.len() as u8,
+    });
     true
 }
 

@@ -58,6 +58,7 @@ impl<'r> Model for Fields<'r> {
 
 impl<'r> Fields<'r> {
     /// The fields of a record.
+    #[inline]
     pub(crate) fn of(row: &'r ByteRecord) -> Fields<'r>
         ensures { result ≡ fields_of row.now }
     {
@@ -82,6 +83,17 @@ impl<'r> Fields<'r> {
         }
     }
 
+    /// Whether the field at a place is UTF-8.
+    pub(crate) fn is_text_at(&self, place: usize) -> bool
+        ensures { result ≡ is_utf8 (field_at self.now place) }
+    {
+        if self.are_ascii {
+            // Each field of a record of ASCII is UTF-8.
+            return true;
+        }
+        is_text(self.bytes_at(place))
+    }
+
     /// The text of the field at a place; the record is at fault where it isn't UTF-8.
     pub(crate) fn text_at(&self, place: usize) -> Result<&str, Stop>
         ensures text { IfOk result (λ text. text.now ≡ field_at self.now place) }
@@ -89,15 +101,21 @@ impl<'r> Fields<'r> {
         ensures line { IfErr result (λ e.
             (e ≡ stop.Line) × (is_utf8 (field_at self.now place) ≡ false)) }
     {
-        let field = self.bytes_at(place);
-        if self.are_ascii {
-            // Each field of a record of ASCII is UTF-8.
-            return Ok(unsafe { str::from_utf8_unchecked(field) });
+        if self.is_text_at(place) {
+            return Ok(unsafe { str::from_utf8_unchecked(self.bytes_at(place)) });
         }
-        match str::from_utf8(field) {
-            Ok(text) => Ok(text),
-            Err(_) => Err(Stop::Line),
-        }
+        Err(Stop::Line)
+    }
+}
+
+// Whether a field is UTF-8.
+#[cold]
+fn is_text(field: &[u8]) -> bool
+    ensures { result ≡ is_utf8 field.now }
+{
+    match str::from_utf8(field) {
+        Ok(_) => true,
+        Err(_) => false,
     }
 }
 
@@ -141,6 +159,7 @@ impl Spelled for Option<Text> {
 impl Spelled for Option<i64> {
     ghost spells = { measure_of };
 
+    #[inline]
     fn read(alloc: Global, text: &str) -> Result<Option<i64>, Stop> {
         let _ = alloc;
         if is_null(text) {

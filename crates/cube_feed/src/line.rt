@@ -13,7 +13,7 @@ use cube_core::{
 };
 use std::alloc::{AllocError, Global};
 
-/// What a record with a fact does.
+// What a record with a fact does.
 #[derive(Clone, Copy)]
 enum Operation {
     Insert,
@@ -96,7 +96,7 @@ fn are_texts(fields: &Fields<'_>) -> bool
     ensures { result ≡ list_all is_utf8 (drop 1 fields.now) }
 {
     for place in 1..fields.len() {
-        if fields.text_at(place).is_err() {
+        if !fields.is_text_at(place) {
             return false;
         }
     }
@@ -207,19 +207,17 @@ fn keep(
     }
 }
 
-// The change of a record that inserts or updates, or the record's first fault.
+// The change of a record that inserts or updates and keeps no field, or the record's first fault.
 fn insert_or_update(
     alloc: Global,
     schema: &Schema,
     fields: &Fields<'_>,
     operation: Operation,
 ) -> Result<Result<Change, LineFault>, AllocError>
+    requires { keeps_any schema.now fields.now ≡ false }
     ensures { IfOk result (λ what.
         what ≡ put_of (change_by operation schema.now fields.now) schema.now fields.now) }
 {
-    if keeps_any(schema, fields) {
-        return keep(alloc, schema, fields, operation);
-    }
     let mut fact = Fact {
         dims: DimensionValues::new(alloc),
         measures: SmallSequence::new(alloc),
@@ -274,15 +272,18 @@ pub(crate) fn change(
 ) -> Result<Result<Change, LineFault>, AllocError>
     ensures { IfOk result (λ what. what ≡ change_of schema.now fields.now) }
 {
-    let operation = fields.bytes_at(0);
-    if is_operation(operation, b'I') {
-        return insert_or_update(alloc, schema, fields, Operation::Insert);
-    }
-    if is_operation(operation, b'U') {
-        return insert_or_update(alloc, schema, fields, Operation::Update);
-    }
-    if is_operation(operation, b'D') {
+    let field = fields.bytes_at(0);
+    let operation = if is_operation(field, b'I') {
+        Operation::Insert
+    } else if is_operation(field, b'U') {
+        Operation::Update
+    } else if is_operation(field, b'D') {
         return delete(alloc, schema, fields);
+    } else {
+        return Ok(Err(LineFault::Op));
+    };
+    if keeps_any(schema, fields) {
+        return keep(alloc, schema, fields, operation);
     }
-    Ok(Err(LineFault::Op))
+    insert_or_update(alloc, schema, fields, operation)
 }

@@ -58,6 +58,7 @@ impl<R: Read> Records<R> {
     }
 
     /// The fields of the record that was taken last.
+    #[inline]
     pub(crate) fn fields(&self) -> Fields<'_>
         ensures { result ≡ self.now.fields }
     {
