@@ -10,7 +10,7 @@ ghost use Rattle.std.specs.Prelude.{◌≡◌, ◌≤◌, ◌<◌, ℕ, [], ◌�
 ghost use mathlib.Core.List.{IsPrefix};
 ghost use Rattle.cube_link.specs.Link.{IsDrained};
 
-use rtrb::{Consumer, Finished, Producer, PushError, RingBuffer};
+use rtrb::{Consumer, Finished, Producer, RingBuffer};
 use std::alloc::{AllocError, Global};
 use std::marker::Model;
 
@@ -86,10 +86,11 @@ impl<T: Drop> Outlet<T> {
         ensures sent { OnOk result (self.new.sent ≡ self.old.sent ++ item ∷ []) }
         ensures back { IfErr result (λ back. (back ≡ item) × (self.new ≡ self.old)) }
     {
-        match self.producer.push(item) {
-            Ok(()) => Ok(()),
-            Err(PushError::Full(back)) => Err(back),
+        if self.producer.is_full() {
+            return Err(item);
         }
+        self.producer.push_reserved(item);
+        Ok(())
     }
 
     /// How many items the link has room for. No contract speaks of the answer.
@@ -128,7 +129,10 @@ impl<T: Drop> Inlet<T> {
         ensures next { IfSome result (λ item. IsPrefix self.old.left (item ∷ self.new.left)) }
         ensures none { IfNone result ((self.old.left ≡ []) × (self.new ≡ self.old)) }
     {
-        self.consumer.pop().ok()
+        if self.consumer.is_empty() {
+            return None;
+        }
+        Some(self.consumer.pop_known())
     }
 
     /// How many items that were sent are left, by this link's receipt. The next takes give them.
