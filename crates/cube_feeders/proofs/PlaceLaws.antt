@@ -35,6 +35,12 @@ first_mapped-more f n xs now d y are below is =
     let next : suc n ≡ n + 1 = omega arith in
     ap (λ ys. set ys n y) are ∙ set-first_mapped f n xs d y within (is ∙ ap f here) ∙ ap (λ m. first_mapped f m xs) next
 
+-- the next place is changed where it lies
+pub first_mapped-set : {A : Type 0} (f : A → A) (n : ℕ) (xs now next : List A) → now ≡ first_mapped f n xs → n < length now
+    → ((d : A) → next ≡ set now n (f (get_or now n d))) → next ≡ first_mapped f (n + 1) xs
+first_mapped-set f n xs [] next are below is = absurd (omega (arith, below))
+first_mapped-set f n xs (d ∷ now) next are below is = is d ∙ first_mapped-more f n xs (d ∷ now) d (f (get_or (d ∷ now) n d)) are below refl
+
 -- all places are changed
 pub first_mapped-all : {A : Type 0} (f : A → A) (n : ℕ) (xs : List A) → n ≡ length xs → first_mapped f n xs ≡ map f xs
 first_mapped-all f zero [] all = refl

@@ -1,35 +1,33 @@
 //! The copies of an item, one for each builder.
-ghost use Rattle.std.specs.Prelude.{◌≡◌, ◌≤◌, vec_len, OnOk, IfOk, IfErr, IsTrue, IsFalse, Ok, Err, Some, None};
+ghost use Rattle.std.specs.Prelude.{◌≡◌, ◌≤◌, ◌+◌, vec_len, OnOk, IfOk, IfSome};
 ghost use Rattle.std.specs.List.{All};
 ghost use Rattle.cube_feed.specs.Feed.{Gives};
-ghost use Rattle.cube_core.specs.declared.change.Item.{Item as TheItem};
 
 use cube_core::Item;
 use cube_feed::{Feed, FeedFault};
 use std::alloc::{AllocError, Global};
 use std::io::Read;
 
-// An item and its copies, so many in all; none are made where one is asked for.
+// Puts copies of an item into a list in place of what it has: one less than so many.
 fn copy_item(
     alloc: Global,
-    item: Item,
+    item: &Item,
     count: usize,
     copies: &mut Vec<Item>,
 ) -> Result<(), AllocError>
     requires { 1 ≤ count }
-    ensures count { OnOk result (vec_len copies.new ≡ count) }
-    ensures equal { OnOk result (All (λ copy. copy ≡ item) copies.new.items) }
+    ensures count { OnOk result (vec_len copies.new + 1 ≡ count) }
+    ensures equal { OnOk result (All (λ copy. copy ≡ item.now) copies.new.items) }
 {
     copies.clear();
     for _ in 1..count {
         let copy = item.copy(alloc)?;
         copies.push(copy)?;
     }
-    copies.push(item)?;
     Ok(())
 }
 
-/// Takes the next item of a feed, with its copies, so many in all; false where the feed came to its end.
+/// Takes the next item of a feed and makes its copies, so many in all with the item; None where the feed came to its end.
 ///
 /// A copy that finds no memory is the feed's fault F1.
 pub(crate) fn next_copies<R: Read>(
@@ -37,20 +35,17 @@ pub(crate) fn next_copies<R: Read>(
     feed: &mut Feed<'_, R>,
     count: usize,
     copies: &mut Vec<Item>,
-) -> Result<bool, FeedFault>
+) -> Result<Option<Item>, FeedFault>
     requires { 1 ≤ count }
-    ensures some { IfOk result (λ some. IsTrue some → (item : TheItem) ×
-        Gives feed.old.to_come (Ok (Some item)) feed.new.to_come ×
-        (vec_len copies.new ≡ count) × All (λ copy. copy ≡ item) copies.new.items) }
-    ensures none { IfOk result (λ some. IsFalse some →
-        Gives feed.old.to_come (Ok None) feed.new.to_come) }
-    ensures err { IfErr result (λ fault. Gives feed.old.to_come (Err fault) feed.new.to_come) }
+    ensures gives { Gives feed.old.to_come result feed.new.to_come }
+    ensures copies { IfOk result (λ next. IfSome next (λ item.
+        (vec_len copies.new + 1 ≡ count) × All (λ copy. copy ≡ item) copies.new.items)) }
 {
-    let Some(item) = feed.next()? else {
-        return Ok(false);
-    };
-    match copy_item(alloc, item, count, copies) {
-        Ok(()) => Ok(true),
-        Err(_) => Err(FeedFault::Memory),
+    let next = feed.next()?;
+    if let Some(item) = &next {
+        let Ok(()) = copy_item(alloc, item, count, copies) else {
+            return Err(FeedFault::Memory);
+        };
     }
+    Ok(next)
 }

@@ -32,11 +32,20 @@ fn send_all<W: Wait, R: Read + Drop, G: Gate>(
     for _ in rt.forever() {
         k = k.saturating_add(1);
         let stop = match next_copies(alloc, &mut feed, outlets.len(), &mut copies) {
-            Ok(true) => {
-                offer_copies(rt, source, k, outlets, &mut copies, &mut patience, gate);
+            Ok(Some(item)) => {
+                offer_copies(
+                    rt,
+                    source,
+                    k,
+                    outlets,
+                    item,
+                    &mut copies,
+                    &mut patience,
+                    gate,
+                );
                 continue;
             }
-            Ok(false) => None,
+            Ok(None) => None,
             Err(fault) => Some(fault),
         };
         offer_end(rt, source, k, outlets, &mut patience, gate);

@@ -4,7 +4,7 @@ use Rattle.cube_feeders.specs.Parcels.{sends}
 use Rattle.cube_feeders.specs.declared.parcel.Parcel.TheVariants.{Line}
 use Rattle.cube_feeders.proofs.SendLaws.{has_sent-none, has_sent-more, sends_all-end, sends_all-fault}
 use Rattle.cube_feeders.proofs.feeding.send_all.Goals as goal
-use Rattle.cube_feeders.proofs.feeding.send_all.Goals.{in-Ok-false, in-Err}
+use Rattle.cube_feeders.proofs.feeding.send_all.Goals.{in-Ok-None, in-Err}
 
 pub loop-init : goal.loop-init
 loop-init g c = (refl, has_sent-none c.args.feed.to_come c.args.outlets.now)
@@ -12,22 +12,23 @@ loop-init g c = (refl, has_sent-none c.args.feed.to_come c.args.outlets.now)
 pub loop-preserved : goal.loop-preserved
 loop-preserved g c =
     let loop = c.loop in
-    let next = c.in-Ok-true.ensures.some c.in-Ok-true.field-0-test in
-    let sent = c.offer_copies.ensures next.0 next.3 in (
-      ap length sent ∙ length-map loop.outlets (sends (Line next.0 ∷ [])) ∙ loop.invariant.0,
-      has_sent-more c.args.feed.to_come loop.feed.to_come c.next_copies.new.feed.to_come c.args.outlets.now loop.outlets c.offer_copies.new.outlets next.0 loop.invariant.1 next.1 sent,
+    let item = c.in-Ok-Some.item in
+    let sent = c.offer_copies.ensures in (
+      ap length sent ∙ length-map loop.outlets (sends (Line item ∷ [])) ∙ loop.invariant.0,
+      has_sent-more c.args.feed.to_come loop.feed.to_come c.next_copies.new.feed.to_come c.args.outlets.now loop.outlets c.offer_copies.new.outlets item loop.invariant.1
+          (rw c.in-Ok-Some.field-0-is at c.in-Ok-Some.ensures.gives) sent,
     )
 
 pub returns-in-loop : goal.returns-in-loop
 returns-in-loop g c =
     let loop = c.loop in
     elim c.match-next_copies.branch [
-      | in-Ok-false w ↦
+      | in-Ok-None w ↦
           rw w.stop-is
           (sends_all-end c.args.feed.to_come loop.feed.to_come c.next_copies.new.feed.to_come c.args.outlets.now loop.outlets c.offer_end.new.outlets loop.invariant.1
-          (w.in-Ok-false.ensures.none w.in-Ok-false.field-0-test) c.offer_end.ensures)
+          (rw w.in-Ok-None.field-0-is at w.in-Ok-None.ensures.gives) c.offer_end.ensures)
       | in-Err w ↦
           rw w.stop-is
           (sends_all-fault c.args.feed.to_come loop.feed.to_come c.next_copies.new.feed.to_come c.args.outlets.now loop.outlets c.offer_end.new.outlets w.in-Err.fault loop.invariant.1
-          w.in-Err.ensures.err c.offer_end.ensures)
+          w.in-Err.ensures.gives c.offer_end.ensures)
     ]
