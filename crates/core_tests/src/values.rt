@@ -77,6 +77,17 @@ fn values_of_a_slice_come_back_in_order(rt: HostRuntime) -> Result<(), Fail> {
 }
 
 #[test]
+fn fields_are_added_together_or_not_at_all(rt: HostRuntime) -> Result<(), Fail> {
+    let mut dims = DimensionValues::new(rt.alloc());
+    assert!(rt; dims.push_fields(b"westab\\N", &[4, 0, 2, 2]));
+    let wanted = [Some("west"), Some(""), Some("ab"), None];
+    expect_values(&rt, &dims, &wanted, "fields at once");
+    assert!(rt; !dims.push_fields(b"c", &[1]));
+    expect_values(&rt, &dims, &wanted, "a field too many");
+    Ok(())
+}
+
+#[test]
 fn a_copy_is_by_itself(rt: HostRuntime) -> Result<(), Fail> {
     let dims = pushed(rt.alloc(), &LONG)?;
     let mut copy = dims.copy(rt.alloc())?;

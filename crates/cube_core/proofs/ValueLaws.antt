@@ -1,7 +1,7 @@
 -- What lies in a block of texts lies there still when more is put at its end, and what covers no value.
-use Rattle.std.proofs.Common.{◌≡◌, ◌≤◌, ◌+◌, ◌-◌, ℕ, suc, List, [], ◌∷◌, ◌++◌, length, get_or, map, take, drop, nat_eq, Option, Some, refl, sym, ap, ◌∙◌, arith}
+use Rattle.std.proofs.Common.{◌≡◌, ◌≤◌, ◌+◌, ◌-◌, ℕ, suc, List, [], ◌∷◌, ◌++◌, append_assoc, length, get_or, map, take, drop, nat_eq, Option, Some, refl, sym, ap, ◌∙◌, arith}
 use Rattle.std.specs.Prelude.{All, slice_range, IsUtf8}
-use Rattle.std.proofs.lemmas.List.{drop-append-le, take-append-le, length-drop, length-append, map-append, take_all}
+use Rattle.std.proofs.lemmas.List.{drop-drop, drop-append-le, take-append-le, length-drop, length-append, map-append, take_all}
 use Rattle.std.proofs.Math.Seq.{drop-append_seam}
 use Rattle.cube_core.specs.declared.key.Coord.{Coord}
 use Rattle.cube_core.specs.declared.dimension_values.Span.{Span}
@@ -9,7 +9,8 @@ use Rattle.cube_core.specs.declared.dimension_values.Span.TheVariants.{Null, Tex
 use Rattle.std.proofs.lemmas.Bool.{eq-eqb, ne_eqb}
 use Rattle.cube_core.specs.Covers.{all_stand_for}
 use Rattle.std.proofs.lemmas.List.Elements.{All-push}
-use Rattle.cube_core.specs.Values.{Adds, value_of, LiesIn}
+use Rattle.cube_core.specs.Items.{dimension_of}
+use Rattle.cube_core.specs.Values.{Adds, value_of, parts_of, LiesIn}
 
 -- a range within a list
 slice_range-append : (block more : List ℕ) (start end : ℕ) → start ≤ end → end ≤ length block → slice_range (block ++ more) start end ≡ slice_range block start end
@@ -51,6 +52,25 @@ Adds-text block text spans utf8 all =
     let whole = slice_range-more block text (length block + length text) (sym (length-append block text)) in (
       All-push (LiesIn (block ++ text)) spans span kept.0 (omega arith, omega (arith, length-append block text), rw whole utf8),
       rw (map-append (value_of (block ++ text)) spans (span ∷ []), kept.1, whole) refl,
+    )
+
+-- texts at the end of a block, before any of their fields is a value
+pub AddsAll-none : (block text : List ℕ) (spans : List (Span ℕ)) (lens : List ℕ) → All (LiesIn block) spans
+    → All (LiesIn (block ++ text)) spans
+    × (map (value_of (block ++ text)) spans ++ map dimension_of (parts_of lens (drop (length block) (block ++ text))) ≡ map (value_of block) spans ++ map dimension_of (parts_of lens text))
+AddsAll-none block text spans lens all = let kept = all-append block text spans all in (kept.0, rw (kept.1, drop-append_seam block text) refl)
+
+-- one field more
+pub AddsAll-more : (block : List ℕ) (spans : List (Span ℕ)) (span : Span ℕ) (end len : ℕ) (lens : List ℕ) (whole : List (Option (List ℕ)))
+    → All (LiesIn block) spans → LiesIn block span → value_of block span ≡ dimension_of (slice_range block end (end + len))
+    → map (value_of block) spans ++ map dimension_of (parts_of (len ∷ lens) (drop end block)) ≡ whole
+    → All (LiesIn block) (spans ++ span ∷ [])
+    × (map (value_of block) (spans ++ span ∷ []) ++ map dimension_of (parts_of lens (drop (end + len) block)) ≡ whole)
+AddsAll-more block spans span end len lens whole all lies is so_far =
+    let count : (end + len) - end ≡ len = omega arith in
+    let value = rw count at is in (
+      All-push (LiesIn block) spans span all lies,
+      rw (map-append (value_of block) spans (span ∷ []), append_assoc (map (value_of block) spans) (value_of block span ∷ []) (map dimension_of (parts_of lens (drop (end + len) block))), value, ← drop-drop len end block) so_far,
     )
 
 -- no coordinate stands for no value, and for the values from a place on only where there are none

@@ -1,6 +1,8 @@
 //! The values of a fact's dimensions, whose texts lie in one block.
-ghost use Rattle.std.specs.Prelude.{◌≡◌, ◌∷◌, ◌+◌, [], ◌++◌, false, true, None, IfOk, IfSome, OnOk, OnErr, length, get_or, option_map, slice_range};
-ghost use Rattle.cube_core.specs.Values.{Adds, Keeps, LiesIn, block_of, spans_of};
+ghost use Rattle.std.specs.Prelude.{◌≡◌, ◌≤◌, ◌∷◌, ◌+◌, [], ◌++◌, false, true, None, IfOk, IfSome, OnOk, OnErr, length, map, sum_by, get_or, option_map, slice_range};
+ghost use Rattle.std.specs.Str.{IsAscii};
+ghost use Rattle.cube_core.specs.Items.{dimension_of};
+ghost use Rattle.cube_core.specs.Values.{Adds, AddsAll, Keeps, LiesIn, block_of, spans_of, value_of, parts_of};
 ghost use Rattle.cube_core.specs.declared.dimension_values.Span.TheVariants.{Text as TheText};
 
 use crate::text::Text;
@@ -96,6 +98,21 @@ impl DimensionValues {
         push_on_heap(self.alloc, &mut self.stored, value)
     }
 
+    /// Adds the values of fields of ASCII, whose bytes lie one after another in a text: null where a field is `\N`, and
+    /// else the field's text. False where there is no room for them in the value itself, and then nothing changes.
+    #[inline]
+    pub fn push_fields(&mut self, text: &[u8], lens: &[usize]) -> bool
+        requires ascii { IsAscii text.now }
+        requires whole { sum_by (λ len. len) lens.now ≡ length text.now }
+        ensures added { result ≡ true → self.new ≡ self.old ++ map dimension_of (parts_of lens.now text.now) }
+        ensures full { result ≡ false → self.new ≡ self.old }
+    {
+        match &mut self.stored {
+            StoredValues::Short { block, spans } => add_fields_in_place(block, spans, text, lens),
+            StoredValues::Long { .. } => false,
+        }
+    }
+
     /// How many values there are.
     pub fn len(&self) -> usize
         ensures { result ≡ length self.now }
@@ -179,6 +196,49 @@ fn add_in_place(
         end: block.len() as u8,
     });
     true
+}
+
+// Adds the values of fields whose bytes lie one after another where there is room for all of them; else nothing changes.
+fn add_fields_in_place(
+    block: &mut ArrayVec<u8, BLOCK>,
+    spans: &mut ArrayVec<Span<u8>, SPANS>,
+    text: &[u8],
+    lens: &[usize],
+) -> bool
+    requires ascii { IsAscii text.now }
+    requires whole { sum_by (λ len. len) lens.now ≡ length text.now }
+    ensures added { result ≡ true → AddsAll block.old.items spans.old.items block.new.items spans.new.items
+        (map dimension_of (parts_of lens.now text.now)) }
+    ensures full { result ≡ false → (block.new ≡ block.old) × (spans.new ≡ spans.old) }
+{
+    if spans.remaining_capacity() < lens.len() {
+        return false;
+    }
+    let mut end = block.len();
+    let Ok(()) = block.try_extend_from_slice(text) else {
+        return false;
+    };
+    for len in lens {
+        let start = end;
+        end += *len;
+        spans.push(span_of(block.as_slice(), start, end));
+    }
+    true
+}
+
+// The span of a field's value from a place of a block to another.
+fn span_of(block: &[u8], start: usize, end: usize) -> Span<u8>
+    requires { (start ≤ end) × (end ≤ length block.now) × (length block.now ≤ 40) }
+    ensures value { value_of block.now result ≡ dimension_of (slice_range block.now start end) }
+    ensures lies { IsAscii (slice_range block.now start end) → LiesIn block.now result }
+{
+    if &block[start..end] == b"\\N".as_slice() {
+        return Span::Null;
+    }
+    Span::Text {
+        start: start as u8,
+        end: end as u8,
+    }
 }
 
 // Where a text begins and ends that is put at the end of a block; None past the largest `usize`.

@@ -1,3 +1,4 @@
 pub mod Reading
 pub mod SoundFields
+pub mod Contiguous
 pub mod Feed

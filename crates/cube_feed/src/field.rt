@@ -1,11 +1,14 @@
 //! The fields of a record, and what each of them spells.
-ghost use Rattle.std.specs.Prelude.{◌≡◌, true, false, Some, None, List, ℕ, Option, IfOk, IfErr, length, option_map, if◌then◌else◌};
-ghost use Rattle.std.specs.Str.{bytes_eq, is_utf8};
+ghost use Rattle.std.specs.Prelude.{◌≡◌, ◌≤◌, true, false, Some, None, [], List, ℕ, Option, IfOk, IfErr, IfSome, length, sum_by, slice_range, option_map, if◌then◌else◌};
+ghost use Rattle.std.specs.Str.{bytes_eq, is_utf8, IsAscii};
 ghost use Rattle.csv.specs.Records.{fields_of};
 ghost use Rattle.cube_core.specs.Items.{field_at, number_of, is_null, keep_text, dimension_of, measure_of};
+ghost use Rattle.cube_core.specs.Values.{parts_of};
 ghost use Rattle.cube_core.specs.declared.partial.Field.TheVariants as field;
 ghost use Rattle.cube_feed.specs.declared.field.Stop.TheVariants as stop;
 
+use crate::contiguous::{AT_ONCE, begin_of, end_of};
+use arrayvec::ArrayVec;
 use csv::ByteRecord;
 use cube_core::{Field, Text};
 use std::alloc::{AllocError, AllocFailed, Global};
@@ -81,6 +84,28 @@ impl<'r> Fields<'r> {
             Some(field) => field,
             None => &[],
         }
+    }
+
+    /// The bytes of the fields from a place to another, which lie one after another, with the length of each in a list. None
+    /// where a byte isn't ASCII, where a field up to the last of them is empty, or where they are more than the list takes.
+    pub(crate) fn contiguous(
+        &self,
+        start: usize,
+        end: usize,
+        lens: &mut ArrayVec<usize, AT_ONCE>,
+    ) -> Option<&[u8]>
+        requires order { (start ≤ end) × (end ≤ length self.now) }
+        requires empty { lens.old.items ≡ [] }
+        ensures ascii { IfSome result (λ text. IsAscii text.now) }
+        ensures whole { IfSome result (λ text. sum_by (λ len. len) lens.new.items ≡ length text.now) }
+        ensures parts { IfSome result (λ text. parts_of lens.new.items text.now ≡ slice_range self.now start end) }
+    {
+        if !self.are_ascii {
+            return None;
+        }
+        let begin = begin_of(self.row, start)?;
+        let stop = end_of(self.row, begin, start, end, lens)?;
+        Some(&self.row.as_slice()[begin..stop])
     }
 
     /// Whether the field at a place is UTF-8.

@@ -3,6 +3,7 @@
 //! [`Feed::next`] gives the items in order, then `None`; a [`FeedFault`] is its last word.
 #![tactic(auto)]
 
+mod contiguous;
 mod fault;
 mod feed;
 mod field;

@@ -38,6 +38,9 @@ fn read_values<T: Spelled, L: SpelledList<T>>(
     ensures line { IfErr result (λ e. e ≡ stop.Line →
         list_all (is_sound T.spells) (slice_range fields.now start end) ≡ false) }
 {
+    if values.add_at_once(fields, start, end) {
+        return Ok(());
+    }
     for place in start..end {
         let text = fields.text_at(place)?;
         values.add(alloc, text)?;

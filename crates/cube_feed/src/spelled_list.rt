@@ -1,8 +1,11 @@
 //! Lists of the values that the fields of a record spell.
-ghost use Rattle.std.specs.Prelude.{◌≡◌, ◌∷◌, [], ◌++◌, List, Some, None, IfErr, OnOk};
+ghost use Rattle.std.specs.Prelude.{◌≡◌, ◌≤◌, ◌∷◌, [], ◌++◌, true, false, List, Some, None, IfErr, OnOk, length, slice_range};
+ghost use Rattle.std.specs.List.{list_all, filter_map};
+ghost use Rattle.cube_feed.specs.SoundFields.{is_sound};
 ghost use Rattle.cube_feed.specs.declared.field.Stop.TheVariants as stop;
 
-use crate::field::{Spelled, Stop, is_null};
+use crate::field::{Fields, Spelled, Stop, is_null};
+use arrayvec::ArrayVec;
 use cube_core::{DimensionValues, SmallSequence, Text};
 use std::alloc::Global;
 
@@ -15,6 +18,15 @@ pub(crate) trait SpelledList<T: Spelled>: Drop {
         ensures value { OnOk result ((value : T) × (Some value ≡ T.spells text.now)
             × (values self.new ≡ values self.old ++ value ∷ [])) }
         ensures line { IfErr result (λ e. e ≡ stop.Line → None ≡ T.spells text.now) };
+
+    /// Adds the values that the fields from a place to another spell, all at once, where that can be done; else nothing
+    /// changes.
+    fn add_at_once(&mut self, fields: &Fields<'_>, start: usize, end: usize) -> bool
+        requires { (start ≤ end) × (end ≤ length fields.now) }
+        ensures values { result ≡ true →
+            values self.new ≡ values self.old ++ filter_map T.spells (slice_range fields.now start end) }
+        ensures sound { result ≡ true → list_all (is_sound T.spells) (slice_range fields.now start end) ≡ true }
+        ensures kept { result ≡ false → values self.new ≡ values self.old };
 }
 
 impl<T: Spelled> SpelledList<T> for Vec<T> {
@@ -24,6 +36,10 @@ impl<T: Spelled> SpelledList<T> for Vec<T> {
         let value = T::read(alloc, text)?;
         self.push(value)?;
         Ok(())
+    }
+
+    fn add_at_once(&mut self, _fields: &Fields<'_>, _start: usize, _end: usize) -> bool {
+        false
     }
 }
 
@@ -40,6 +56,14 @@ impl SpelledList<Option<Text>> for DimensionValues {
         }
         Ok(())
     }
+
+    fn add_at_once(&mut self, fields: &Fields<'_>, start: usize, end: usize) -> bool {
+        let mut lens = ArrayVec::new();
+        match fields.contiguous(start, end, &mut lens) {
+            Some(text) => self.push_fields(text, lens.as_slice()),
+            None => false,
+        }
+    }
 }
 
 /// The measures of a fact.
@@ -50,5 +74,9 @@ impl SpelledList<Option<i64>> for SmallSequence<Option<i64>> {
         let value = Spelled::read(alloc, text)?;
         self.push(value)?;
         Ok(())
+    }
+
+    fn add_at_once(&mut self, _fields: &Fields<'_>, _start: usize, _end: usize) -> bool {
+        false
     }
 }
