@@ -15,7 +15,7 @@ use std::str;
 const BLOCK: usize = 40;
 
 /// The most values that lie in the value itself.
-const SPANS: usize = 4;
+pub const VALUES_IN_PLACE: usize = 4;
 
 // Where a value lies in the block.
 #[derive(Clone, Copy, Debug, Default)]
@@ -30,7 +30,7 @@ enum Span<N> {
 enum StoredValues {
     Short {
         block: ArrayVec<u8, BLOCK>,
-        spans: ArrayVec<Span<u8>, SPANS>,
+        spans: ArrayVec<Span<u8>, VALUES_IN_PLACE>,
     },
     Long {
         block: Vec<u8>,
@@ -173,7 +173,7 @@ fn text_between(block: &[u8], start: usize, end: usize) -> &str
 // Adds a value where there is room for it; else nothing changes.
 fn add_in_place(
     block: &mut ArrayVec<u8, BLOCK>,
-    spans: &mut ArrayVec<Span<u8>, SPANS>,
+    spans: &mut ArrayVec<Span<u8>, VALUES_IN_PLACE>,
     value: Option<&str>,
 ) -> bool
     ensures added { result ≡ true → Adds block.old.items spans.old.items block.new.items spans.new.items
@@ -201,7 +201,7 @@ fn add_in_place(
 // Adds the values of fields whose bytes lie one after another where there is room for all of them; else nothing changes.
 fn add_fields_in_place(
     block: &mut ArrayVec<u8, BLOCK>,
-    spans: &mut ArrayVec<Span<u8>, SPANS>,
+    spans: &mut ArrayVec<Span<u8>, VALUES_IN_PLACE>,
     text: &[u8],
     lens: &[usize],
 ) -> bool

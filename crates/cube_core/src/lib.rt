@@ -22,7 +22,7 @@ mod text;
 
 pub use aggregate::{Agg, Answer};
 pub use change::{Change, Item, LineFault, Refusal};
-pub use dimension_values::DimensionValues;
+pub use dimension_values::{DimensionValues, VALUES_IN_PLACE};
 pub use fact::Fact;
 pub use fraction::reduced;
 pub use key::{Coord, Key, Row, covers};

@@ -6,9 +6,7 @@ ghost use Rattle.cube_feed.specs.Contiguous.{BeginsAt};
 
 use arrayvec::ArrayVec;
 use csv::ByteRecord;
-
-/// The most fields whose bytes are taken at once.
-pub(crate) const AT_ONCE: usize = 4;
+use cube_core::VALUES_IN_PLACE;
 
 fn len_of(row: &ByteRecord, place: usize) -> usize
     ensures { result ≡ length (get_or (fields_of row.now) place []) }
@@ -44,7 +42,7 @@ pub(crate) fn end_of(
     begin: usize,
     start: usize,
     end: usize,
-    lens: &mut ArrayVec<usize, AT_ONCE>,
+    lens: &mut ArrayVec<usize, VALUES_IN_PLACE>,
 ) -> Option<usize>
     requires order { (start ≤ end) × (end ≤ length (fields_of row.now)) }
     requires begins { BeginsAt row.now start begin }

@@ -7,10 +7,10 @@ ghost use Rattle.cube_core.specs.Values.{parts_of};
 ghost use Rattle.cube_core.specs.declared.partial.Field.TheVariants as field;
 ghost use Rattle.cube_feed.specs.declared.field.Stop.TheVariants as stop;
 
-use crate::contiguous::{AT_ONCE, begin_of, end_of};
+use crate::contiguous::{begin_of, end_of};
 use arrayvec::ArrayVec;
 use csv::ByteRecord;
-use cube_core::{Field, Text};
+use cube_core::{Field, Text, VALUES_IN_PLACE};
 use std::alloc::{AllocError, AllocFailed, Global};
 use std::marker::Model;
 use std::str;
@@ -88,11 +88,11 @@ impl<'r> Fields<'r> {
 
     /// The bytes of the fields from a place to another, which lie one after another, with the length of each in a list. None
     /// where a byte isn't ASCII, where a field up to the last of them is empty, or where they are more than the list takes.
-    pub(crate) fn contiguous(
+    pub(crate) fn bytes_between(
         &self,
         start: usize,
         end: usize,
-        lens: &mut ArrayVec<usize, AT_ONCE>,
+        lens: &mut ArrayVec<usize, VALUES_IN_PLACE>,
     ) -> Option<&[u8]>
         requires order { (start ≤ end) × (end ≤ length self.now) }
         requires empty { lens.old.items ≡ [] }

@@ -26,7 +26,12 @@ pub(crate) trait SpelledList<T: Spelled>: Drop {
         ensures values { result ≡ true →
             values self.new ≡ values self.old ++ filter_map T.spells (slice_range fields.now start end) }
         ensures sound { result ≡ true → list_all (is_sound T.spells) (slice_range fields.now start end) ≡ true }
-        ensures kept { result ≡ false → values self.new ≡ values self.old };
+        ensures kept { result ≡ false → values self.new ≡ values self.old }
+    {
+        let _ = fields;
+        let _ = (start, end);
+        false
+    }
 }
 
 impl<T: Spelled> SpelledList<T> for Vec<T> {
@@ -36,10 +41,6 @@ impl<T: Spelled> SpelledList<T> for Vec<T> {
         let value = T::read(alloc, text)?;
         self.push(value)?;
         Ok(())
-    }
-
-    fn add_at_once(&mut self, _fields: &Fields<'_>, _start: usize, _end: usize) -> bool {
-        false
     }
 }
 
@@ -59,7 +60,7 @@ impl SpelledList<Option<Text>> for DimensionValues {
 
     fn add_at_once(&mut self, fields: &Fields<'_>, start: usize, end: usize) -> bool {
         let mut lens = ArrayVec::new();
-        match fields.contiguous(start, end, &mut lens) {
+        match fields.bytes_between(start, end, &mut lens) {
             Some(text) => self.push_fields(text, lens.as_slice()),
             None => false,
         }
@@ -74,9 +75,5 @@ impl SpelledList<Option<i64>> for SmallSequence<Option<i64>> {
         let value = Spelled::read(alloc, text)?;
         self.push(value)?;
         Ok(())
-    }
-
-    fn add_at_once(&mut self, _fields: &Fields<'_>, _start: usize, _end: usize) -> bool {
-        false
     }
 }

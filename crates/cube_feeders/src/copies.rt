@@ -9,7 +9,7 @@ use std::alloc::{AllocError, Global};
 use std::io::Read;
 
 // Puts copies of an item into a list in place of what it has: one less than so many.
-fn copy_item(
+fn fill_copies(
     alloc: Global,
     item: &Item,
     count: usize,
@@ -43,7 +43,7 @@ pub(crate) fn next_copies<R: Read>(
 {
     let next = feed.next()?;
     if let Some(item) = &next {
-        let Ok(()) = copy_item(alloc, item, count, copies) else {
+        let Ok(()) = fill_copies(alloc, item, count, copies) else {
             return Err(FeedFault::Memory);
         };
     }

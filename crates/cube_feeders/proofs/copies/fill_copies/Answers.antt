@@ -1,6 +1,6 @@
 use Rattle.std.proofs.Common.{rules, ◌≡◌}
 use Rattle.std.proofs.lemmas.List.Elements.{All-push}
-use Rattle.cube_feeders.proofs.copies.copy_item.Goals as goal
+use Rattle.cube_feeders.proofs.copies.fill_copies.Goals as goal
 
 pub loop-preserved : goal.loop-preserved
 loop-preserved c = (
