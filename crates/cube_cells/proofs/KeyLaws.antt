@@ -1,5 +1,5 @@
 -- Laws of codes and keys: a look-up by key is one by its codes, and the codes of a fact in a set are those of the key that covers it.
-use Rattle.std.proofs.Common.{◌≡◌, ℕ, zero, suc, ◌^◌, ◌<◌, ◌≤◌, ◌==◌, ◌%◌, ◌/◌, List, [], ◌∷◌, Bool, true, false, Decides, refl, sym, ap, ◌∙◌, subst, arith, inl, inr, length, map, replicate, Option, Some, None, Bor, if◌then◌else◌}
+use Rattle.std.proofs.Common.{◌≡◌, ℕ, zero, suc, ◌^◌, ◌<◌, ◌≤◌, ◌==◌, ◌%◌, ◌/◌, List, [], ◌∷◌, Bool, true, false, Decides, refl, sym, ap, ◌∙◌, subst, arith, inl, inr, length, map, get_or, replicate, Option, Some, None, Bor, if◌then◌else◌}
 use Rattle.std.specs.Prelude.{All, IfSome}
 use Rattle.std.specs.Option.{option_copied}
 use Rattle.std.specs.List.{list_all}
@@ -130,6 +130,13 @@ pub length-coords_at : (dictionaries : Dictionaries) (codes : List ℕ) → leng
 length-coords_at [] codes = refl
 length-coords_at (texts ∷ dictionaries) [] = ap suc (length-coords_at dictionaries [])
 length-coords_at (texts ∷ dictionaries) (code ∷ codes) = ap suc (length-coords_at dictionaries codes)
+
+-- the coordinate in a dimension is that of its code
+pub get_or-coords_at : (dictionaries : Dictionaries) (codes : List ℕ) (d : ℕ) → d < length dictionaries → d < length codes → get_or (coords_at dictionaries codes) d coord.All ≡ coord_at (get_or dictionaries d []) (get_or codes d 0)
+get_or-coords_at [] codes d inside within = absurd (omega (arith, inside))
+get_or-coords_at (texts ∷ dictionaries) [] d inside within = absurd (omega (arith, within))
+get_or-coords_at (texts ∷ dictionaries) (code ∷ codes) zero inside within = refl
+get_or-coords_at (texts ∷ dictionaries) (code ∷ codes) (suc d) inside within = get_or-coords_at dictionaries codes d (omega (arith, inside)) (omega (arith, within))
 
 -- a key of another width is no cell
 pub no_cell-width : (dictionaries : Dictionaries) (cells : CodedCells) (key : Key) → (length key.coords ≡ length dictionaries → ⊥) → cell_at (decoded dictionaries cells) key ≡ None

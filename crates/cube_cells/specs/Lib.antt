@@ -8,3 +8,4 @@ pub mod Walk
 pub mod Ranks
 pub mod Rows
 pub mod Fill
+pub mod Keyed

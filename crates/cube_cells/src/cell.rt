@@ -86,6 +86,15 @@ impl Cell {
         merge_measures(&mut self.measures, &more.measures)
     }
 
+    /// Gives back the room beyond the values of each measure, which a cell of one fact has none of. It takes no memory.
+    pub fn shrink_to_fit(&mut self)
+        ensures { self.new ≡ self.old }
+    {
+        if self.facts > 1 {
+            shrink_measures(&mut self.measures);
+        }
+    }
+
     /// Whether the cell has a fact, and for each measure holds the value given; a null is held where some fact of
     /// the cell has no value of the measure.
     pub fn holds(&self, values: &[Option<i64>]) -> bool
@@ -162,6 +171,14 @@ fn merge_measures(measures: &mut [Measure], more: &[Measure]) -> Result<(), Allo
         measure.merge(other)?;
     }
     Ok(())
+}
+
+fn shrink_measures(measures: &mut [Measure])
+    ensures { measures.new ≡ measures.old }
+{
+    for measure in measures.iter_mut() {
+        measure.shrink_to_fit();
+    }
 }
 
 // Takes the values of a fact away.

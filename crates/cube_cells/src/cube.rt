@@ -15,6 +15,7 @@ ghost use Rattle.cube_cells.specs.Cube.{Lattice, IsLattice, IsCubeOf, HoldsFact,
 mod codes;
 mod dictionary;
 mod fill;
+mod keyed;
 mod ordered;
 mod queries;
 mod ranks;
@@ -25,7 +26,8 @@ use crate::cell::Cell;
 use codes::{ALL, Codes};
 use cube_core::{Coord, DimensionValues, Fact, Key, Schema};
 use dictionary::Dictionary;
-pub use ordered::{OrderedCells, no_row};
+pub use keyed::{CoordRef, KeyedCell};
+pub use ordered::OrderedCells;
 use std::alloc::{AllocError, Global};
 use std::collections::HashMap;
 use std::marker::Model;

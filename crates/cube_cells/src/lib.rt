@@ -3,7 +3,7 @@
 //! [`Counted`] is a multiset of numbers, which makes the least and the greatest value right under deletes.
 //! [`Cell`] is the tally of a group of facts, which answers every aggregate of them.
 //! [`Cube`] is the cells of all kept grouping sets, kept right under adds and removes.
-//! [`OrderedCells`] are its cells in key order, whose rows are made one at a time.
+//! [`OrderedCells`] are its cells in key order, each a [`KeyedCell`].
 #![tactic(auto)]
 
 mod cell;
@@ -12,6 +12,6 @@ pub mod laws;
 mod measure;
 
 pub use cell::Cell;
-pub use cube::{Cube, OrderedCells, no_row};
+pub use cube::{CoordRef, Cube, KeyedCell, OrderedCells};
 pub use cube_core::reduced;
 pub use cube_counts::Counted;

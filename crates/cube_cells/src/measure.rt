@@ -69,6 +69,13 @@ impl Measure {
         Ok(())
     }
 
+    /// Gives back the room beyond the values. It takes no memory.
+    pub fn shrink_to_fit(&mut self)
+        ensures { self.new ≡ self.old }
+    {
+        self.values.shrink_to_fit();
+    }
+
     /// Takes a value away; a null changes nothing. It takes no memory.
     pub fn minus(&mut self, value: Option<i64>)
         requires { ForSome value (λ v. 0 < held_of self.old v) }

@@ -6,6 +6,6 @@ use Rattle.cube_counts.specs.declared.counted.Values.TheVariants.{One, Few, Logg
 -- the bag of each representation
 abbrev pub bag_of : Values → Bag
 bag_of (One single) = single
-bag_of (Few short) = short.value
+bag_of (Few short) = short
 bag_of (Logged log) = log.value
 bag_of (Many table) = table.value

@@ -28,7 +28,7 @@ pub struct Counted {
 #[derive(Drop)]
 enum Values {
     One(Single),
-    Few(Box<Short>),
+    Few(Short),
     Logged(Box<Log>),
     Many(Box<Table>),
 }
@@ -84,6 +84,18 @@ impl Counted {
         }
         self.len += more.len;
         Ok(())
+    }
+
+    /// Gives back the room that lists have beyond their numbers; an add makes room again where it needs some. It takes
+    /// no memory.
+    pub fn shrink_to_fit(&mut self)
+        ensures { self.new ≡ self.old }
+    {
+        match &mut self.values {
+            Values::Few(short) => short.shrink_to_fit(),
+            Values::Logged(log) => log.shrink_to_fit(),
+            Values::One(_) | Values::Many(_) => {}
+        }
     }
 
     /// Takes one `value` away; answers whether there was one. It takes no memory.
@@ -163,7 +175,7 @@ fn merge_values(alloc: Global, values: &mut Values, more: &Values) -> Result<(),
 {
     match more {
         Values::One(single) => merge_pair(alloc, values, single.pair()),
-        Values::Few(short) => merge_pairs(alloc, values, short.pairs()),
+        Values::Few(short) => merge_short(alloc, values, short),
         Values::Logged(log) => merge_log(alloc, values, log),
         Values::Many(table) => merge_counts(alloc, values, table.counts()),
     }
@@ -189,6 +201,35 @@ fn merge_pairs(alloc: Global, values: &mut Values, pairs: &[(i64, u64)]) -> Resu
         merge_pair(alloc, values, *pair)?;
     }
     Ok(())
+}
+
+// Adds the numbers of a short list: behind those of a log at once, and to a copy of it where there is one number at most.
+fn merge_short(alloc: Global, values: &mut Values, more: &Short) -> Result<(), AllocError>
+    requires { size_of (bag_of values.old) + size_of more.now < 2 ^ 64 }
+    ensures { OnOk result (AddsBag (bag_of values.old) (bag_of values.new) more.now) }
+{
+    let grown = match values {
+        Values::One(single) => single_and_short(alloc, single, more)?,
+        Values::Logged(log) => {
+            if log.append_few(more.pairs())? {
+                return Ok(());
+            }
+            return merge_pairs(alloc, values, more.pairs());
+        }
+        Values::Few(_) | Values::Many(_) => return merge_pairs(alloc, values, more.pairs()),
+    };
+    *values = grown;
+    Ok(())
+}
+
+// A copy of a short list, with the number that is held alone.
+fn single_and_short(alloc: Global, single: &Single, short: &Short) -> Result<Values, AllocError>
+    requires { size_of single.now + size_of short.now < 2 ^ 64 }
+    ensures { IfOk result (λ values. AddsBag single.now (bag_of values) short.now) }
+{
+    let mut values = Values::Few(short.copy(alloc)?);
+    merge_pair(alloc, &mut values, single.pair())?;
+    Ok(values)
 }
 
 // Adds the numbers of a log: behind those of a log at once, and to a copy of it where there are few.
@@ -229,7 +270,7 @@ fn short_and_log(alloc: Global, short: &Short, log: &Log) -> Result<Values, Allo
 {
     let copied = log.copy(alloc)?;
     let mut values = Values::Logged(Box::new(alloc, copied)?);
-    merge_pairs(alloc, &mut values, short.pairs())?;
+    merge_short(alloc, &mut values, short)?;
     Ok(values)
 }
 
@@ -282,14 +323,12 @@ fn add_value(alloc: Global, values: &mut Values, value: i64, times: u64) -> Resu
 }
 
 // A list of the number that is held alone and another, so many times.
-fn short_of(alloc: Global, single: &Single, more: (i64, u64)) -> Result<Box<Short>, AllocError>
+fn short_of(alloc: Global, single: &Single, more: (i64, u64)) -> Result<Short, AllocError>
     requires held { 0 < size_of single.now }
     requires some { 0 < more.1 }
-    ensures { IfOk result (λ short. AddsTimes single.now short.value more.0 more.1) }
+    ensures { IfOk result (λ short. AddsTimes single.now short more.0 more.1) }
 {
-    let short = Short::of_two(alloc, single.pair(), more)?;
-    let short = Box::new(alloc, short)?;
-    Ok(short)
+    Short::of_two(alloc, single.pair(), more)
 }
 
 // A log of the numbers of a list and another, so many times.

@@ -124,16 +124,48 @@ impl Log {
         ensures added { result ≡ Ok true → AddsBag self.old self.new more.now }
         ensures refused { result ≡ Ok false → self.new ≡ self.old }
     {
-        let (Some(ends), Some(more_ends)) = (self.ends, more.ends) else {
+        match more.ends {
+            Some(more_ends) => self.append_pairs(&more.pairs, more_ends),
+            None => Ok(false),
+        }
+    }
+
+    /// Adds the numbers of few pairs, and answers whether it did: not after a removal, nor where a table of the
+    /// numbers would be much smaller.
+    pub fn append_few(&mut self, few: &[(i64, u64)]) -> Result<bool, AllocError>
+        requires { All (λ e. 0 < e.1) few.now }
+        ensures added { result ≡ Ok true → AddsBag self.old self.new few.now }
+        ensures refused { result ≡ Ok false → self.new ≡ self.old }
+    {
+        match ends_of(few) {
+            Some(more_ends) => self.append_pairs(few, more_ends),
+            None => Ok(true),
+        }
+    }
+
+    // Adds the numbers of pairs with these ends.
+    fn append_pairs(&mut self, more: &[(i64, u64)], more_ends: Ends) -> Result<bool, AllocError>
+        requires { IsAdded more.now more_ends.least more_ends.greatest }
+        ensures added { result ≡ Ok true → AddsBag self.old self.new more.now }
+        ensures refused { result ≡ Ok false → self.new ≡ self.old }
+    {
+        let Some(ends) = self.ends else {
             return Ok(false);
         };
         let room = self.pairs.capacity() - self.pairs.len();
-        if more.pairs.len() > room && is_repetitive(&self.pairs) {
+        if more.len() > room && is_repetitive(&self.pairs) {
             return Ok(false);
         }
-        self.pairs.extend_from_slice(&more.pairs)?;
+        self.pairs.extend_from_slice(more)?;
         self.ends = Some(ends.joined(more_ends));
         Ok(true)
+    }
+
+    /// Gives back the room beyond the pairs.
+    pub fn shrink_to_fit(&mut self)
+        ensures { self.new ≡ self.old }
+    {
+        self.pairs.shrink_to_fit();
     }
 
     /// Takes one `value` away; answers whether there was one. The first one that is there brings the pairs in order.

@@ -42,6 +42,22 @@ impl Short {
         Ok(Short { pairs })
     }
 
+    /// A list of the same pairs, with no room for more.
+    pub fn copy(&self, alloc: Global) -> Result<Short, AllocError>
+        ensures { IfOk result (λ short. short ≡ self.now) }
+    {
+        let mut pairs = Vec::with_capacity(alloc, self.pairs.len())?;
+        pairs.extend_from_slice(&self.pairs)?;
+        Ok(Short { pairs })
+    }
+
+    /// Gives back the room beyond the pairs.
+    pub fn shrink_to_fit(&mut self)
+        ensures { self.new ≡ self.old }
+    {
+        self.pairs.shrink_to_fit();
+    }
+
     /// The numbers, each with how often it is held.
     pub fn pairs(&self) -> &[(i64, u64)]
         ensures pairs { result.now ≡ self.now }

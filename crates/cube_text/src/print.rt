@@ -1,16 +1,18 @@
 //! The rows of a cube as text.
 
-ghost use Rattle.std.specs.Prelude.{◌≡◌, ◌++◌, map, codes, decimal, All, OnOk, IfOk};
-ghost use Rattle.std.specs.List.{flat_map};
+ghost use Rattle.std.specs.Prelude.{◌≡◌, ◌++◌, true, length, map, codes, decimal, All, OnOk, IfOk};
+ghost use Rattle.std.specs.List.{flat_map, list_all};
 ghost use Rattle.std.specs.Fmt.{signed_decimal};
+ghost use Rattle.cube_core.specs.Layout.{is_aggregate_of};
 ghost use Rattle.cube_core.specs.Text.{line, header_fields, grouping_name, coord_text, grouping_text, answer_text, row_line, text_of_rows};
 ghost use Rattle.cube_text.specs.Lines.{AddsFields, AddsText};
-ghost use Rattle.cube_text.specs.Rows.{AddsRows, IsTextOfCells};
+ghost use Rattle.cube_cells.specs.Keyed.{referred_coord};
+ghost use Rattle.cube_text.specs.Rows.{AddsAnswers, AddsRow, AddsRows, IsTextOfCells};
 ghost use Rattle.cube_text.specs.Shape.{HasShapeOf};
 
 use crate::lines::{Lines, end_line, into_text, no_lines, put_field};
-use cube_cells::{OrderedCells, no_row};
-use cube_core::{Answer, Coord, Row, Schema, Text};
+use cube_cells::{CoordRef, KeyedCell, OrderedCells};
+use cube_core::{Agg, Answer, Coord, Row, Schema, Text};
 use itoa::Buffer;
 use std::alloc::{AllocError, Global};
 
@@ -97,16 +99,65 @@ fn put_rows(alloc: Global, lines: &mut Lines, rows: &[Row]) -> Result<(), AllocE
     Ok(())
 }
 
-// Each row is made in the memory of the one before it.
 fn put_cells(alloc: Global, lines: &mut Lines, cells: &OrderedCells) -> Result<(), AllocError>
     ensures { OnOk result
         (AddsRows cells.now.aggregates cells.now.cells lines.old lines.new) }
 {
     let mut fraction = Vec::new(alloc);
-    let mut row = no_row(alloc);
     for place in 0..cells.len() {
-        row = cells.row_at(place, row)?;
-        put_row(lines, &mut fraction, &row)?;
+        let cell = cells.cell_at(place);
+        put_cell(lines, &mut fraction, cells.aggregates(), &cell)?;
+    }
+    Ok(())
+}
+
+// The buffer is for fractions, and what it holds doesn't matter.
+fn put_cell(
+    lines: &mut Lines,
+    fraction: &mut Vec<u8>,
+    aggregates: &[Agg],
+    cell: &KeyedCell,
+) -> Result<(), AllocError>
+    requires { list_all (is_aggregate_of (length cell.now.1.bags)) aggregates.now ≡ true }
+    ensures { OnOk result (AddsRow aggregates.now cell.now lines.old lines.new) }
+{
+    put_key(lines, cell)?;
+    put_key_groupings(lines, cell)?;
+    put_cell_answers(lines, fraction, aggregates, cell)?;
+    end_line(lines)
+}
+
+fn put_key(lines: &mut Lines, cell: &KeyedCell) -> Result<(), AllocError>
+    ensures { OnOk result (AddsFields (map coord_text cell.now.0.coords) lines.old lines.new) }
+{
+    for dimension in 0..cell.dimensions() {
+        put_field(lines, coord_field(cell.coord(dimension)))?;
+    }
+    Ok(())
+}
+
+fn put_key_groupings(lines: &mut Lines, cell: &KeyedCell) -> Result<(), AllocError>
+    ensures { OnOk result (AddsFields (map grouping_text cell.now.0.coords) lines.old lines.new) }
+{
+    for dimension in 0..cell.dimensions() {
+        put_field(lines, grouping_field(cell.coord(dimension)))?;
+    }
+    Ok(())
+}
+
+fn put_cell_answers(
+    lines: &mut Lines,
+    fraction: &mut Vec<u8>,
+    aggregates: &[Agg],
+    cell: &KeyedCell,
+) -> Result<(), AllocError>
+    requires { list_all (is_aggregate_of (length cell.now.1.bags)) aggregates.now ≡ true }
+    ensures { OnOk result (AddsAnswers aggregates.now cell.now.1 lines.old lines.new) }
+{
+    let mut number = Buffer::new();
+    for aggregate in aggregates {
+        let answer = cell.answer(aggregate);
+        put_field(lines, answer_field(&mut number, fraction, &answer)?)?;
     }
     Ok(())
 }
@@ -126,17 +177,17 @@ fn put_coords(lines: &mut Lines, coords: &[Coord]) -> Result<(), AllocError>
     ensures { OnOk result (AddsFields (map coord_text coords.now) lines.old lines.new) }
 {
     for coord in coords {
-        put_field(lines, coord_field(coord))?;
+        put_field(lines, coord_field(CoordRef::of(coord)))?;
     }
     Ok(())
 }
 
-fn coord_field(coord: &Coord) -> &[u8]
-    ensures { result.now ≡ coord_text coord.now }
+fn coord_field(coord: CoordRef<'_>) -> &[u8]
+    ensures { result.now ≡ coord_text (referred_coord coord.entry) }
 {
     match coord {
-        Coord::Text(text) => text.as_str().as_bytes(),
-        Coord::Null | Coord::All => b"\\N",
+        CoordRef::Text(text) => text.as_bytes(),
+        CoordRef::Null | CoordRef::All => b"\\N",
     }
 }
 
@@ -144,17 +195,17 @@ fn put_groupings(lines: &mut Lines, coords: &[Coord]) -> Result<(), AllocError>
     ensures { OnOk result (AddsFields (map grouping_text coords.now) lines.old lines.new) }
 {
     for coord in coords {
-        put_field(lines, grouping_field(coord))?;
+        put_field(lines, grouping_field(CoordRef::of(coord)))?;
     }
     Ok(())
 }
 
-fn grouping_field(coord: &Coord) -> &'static [u8]
-    ensures { result.now ≡ grouping_text coord.now }
+fn grouping_field(coord: CoordRef<'_>) -> &'static [u8]
+    ensures { result.now ≡ grouping_text (referred_coord coord.entry) }
 {
     match coord {
-        Coord::Text(_) | Coord::Null => b"0",
-        Coord::All => b"1",
+        CoordRef::Text(_) | CoordRef::Null => b"0",
+        CoordRef::All => b"1",
     }
 }
 

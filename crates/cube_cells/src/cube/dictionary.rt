@@ -7,8 +7,10 @@ ghost use Rattle.std.specs.String.{string_bytes};
 ghost use Rattle.cube_core.specs.Layout.{is_listed};
 ghost use Rattle.cube_core.specs.Order.{coord_cmp};
 ghost use Rattle.cube_cells.specs.Codes.{IsDictionary, texts_with, all_code, is_code, no_code, IsCodeOf, coord_at, coords_at, coord_of_value};
+ghost use Rattle.cube_cells.specs.Keyed.{referred_coord};
 
 use super::codes::{ALL, NONE, NULL};
+use super::keyed::CoordRef;
 use cube_core::{Coord, Text};
 use indexmap::IndexSet;
 use std::alloc::{AllocError, Global};
@@ -81,6 +83,17 @@ impl Dictionary {
             return left.cmp(&right);
         }
         self.text(left as usize).cmp(other.text(right as usize))
+    }
+
+    /// The coordinate of a code.
+    pub fn coord_ref_at(&self, code: u32) -> CoordRef<'_>
+        ensures { referred_coord result ≡ coord_at self.now code }
+    {
+        match code {
+            ALL => CoordRef::All,
+            NULL => CoordRef::Null,
+            place => CoordRef::Text(self.text(place as usize)),
+        }
     }
 
     /// A copy of the coordinate of a code; the only error is want of memory.

@@ -54,9 +54,10 @@ impl Cube {
         let Cube {
             facts,
             dictionaries,
-            cells,
+            mut cells,
             ..
         } = finest;
+        shrink_cells(&mut cells);
         let cells = filled_cells(self.alloc, Level { set, cells }, &self.sets, measures)?;
         self.facts = facts;
         self.dictionaries = dictionaries;
@@ -156,7 +157,18 @@ fn cells_from(
 {
     let mut cells = new_cells(alloc, measures, set == 0)?;
     fill_set(alloc, &mut cells, finer, set)?;
+    shrink_cells(&mut cells);
     Ok(cells)
+}
+
+// Gives back the room beyond the values of each cell.
+fn shrink_cells(cells: &mut HashMap<Codes, Cell>)
+    ensures { cells.new.entries ≡ cells.old.entries }
+{
+    cells.retain(|_, cell| {
+        cell.shrink_to_fit();
+        true
+    });
 }
 
 // The cells of all levels besides others, which have room for all of them at once.

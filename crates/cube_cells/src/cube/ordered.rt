@@ -1,4 +1,4 @@
-//! The cells of a cube in order, whose rows are made one at a time.
+//! The cells of a cube in order.
 ghost use Rattle.std.specs.Prelude.{◌≡◌, ◌≤◌, ◌<◌, ◌++◌, [], true, IfOk, OnOk, OnErr, length, map, get_or, All};
 ghost use Rattle.std.specs.List.{AllZip, list_all};
 ghost use Rattle.std.specs.List.Sorted.{IsPermutation, IsSortedBy};
@@ -13,8 +13,9 @@ ghost use Rattle.cube_cells.specs.declared.cube.codes.Codes.{Codes};
 
 use super::codes::Codes;
 use super::dictionary::{Dictionary, compare_keys};
+use super::keyed::KeyedCell;
 use crate::cell::Cell;
-use cube_core::{Agg, Answer, Coord, Key, Row, Sequence};
+use cube_core::{Agg, Key, Row, Sequence};
 use std::alloc::{AllocError, Global};
 use std::marker::Model;
 
@@ -36,7 +37,7 @@ struct Coded<'c> {
 
 /// Cells of a cube, or of several, in the order of their keys, with the aggregates that their rows answer.
 ///
-/// It holds no row: each is made when it is asked for.
+/// It holds no row: each cell and its key are read where they lie.
 #[derive(Drop)]
 pub struct OrderedCells<'c> {
     alloc: Global,
@@ -124,20 +125,36 @@ impl<'c> OrderedCells<'c> {
         self.cells.len()
     }
 
-    /// The row of the cell at a place, counted from 0, in the memory of another row, whose values are dropped.
-    ///
-    /// It takes memory only where the other row has less room, and for a text of more than 24 bytes. The only error is
-    /// want of memory.
-    pub fn row_at(&self, place: usize, room: Row) -> Result<Row, AllocError>
+    /// What the rows answer.
+    pub fn aggregates(&self) -> &[Agg]
+        ensures { result.now ≡ self.now.aggregates }
+    {
+        self.aggregates
+    }
+
+    /// The cell at a place, counted from 0, with its key.
+    pub fn cell_at(&self, place: usize) -> KeyedCell<'_>
+        requires { place < length self.now.cells }
+        ensures cell { (unused : Key × Tally) → result ≡ get_or self.now.cells place unused }
+        ensures aggregates { list_all (is_aggregate_of (length result.1.bags)) self.now.aggregates ≡ true }
+    {
+        let found = &self.cells[place];
+        KeyedCell {
+            dictionaries: found.dictionaries,
+            codes: &found.codes,
+            cell: found.cell,
+        }
+    }
+
+    // The row of the cell at a place.
+    fn row_at(&self, place: usize) -> Result<Row, AllocError>
         requires { place < length self.now.cells }
         ensures { IfOk result (λ row. (unused : Key × Tally) →
             IsRowOf self.now.aggregates (get_or self.now.cells place unused) row) }
     {
         let coded = &self.cells[place];
-        let Row { key, answers } = room;
-        let coords = key.coords.into_vec();
-        let key = key_in(self.alloc, coded.dictionaries, &coded.codes, coords)?;
-        row_in(self.aggregates, key, coded.cell, answers.into_vec())
+        let key = key_in(self.alloc, coded.dictionaries, &coded.codes)?;
+        row_in(self.alloc, self.aggregates, key, coded.cell)
     }
 
     /// The rows of the cells, in their order. The only error is want of memory.
@@ -146,7 +163,7 @@ impl<'c> OrderedCells<'c> {
     {
         let mut rows = Vec::with_capacity(self.alloc, self.len())?;
         for place in 0..self.len() {
-            rows.push(self.row_at(place, no_row(self.alloc))?)?;
+            rows.push(self.row_at(place)?)?;
         }
         Ok(rows)
     }
@@ -174,32 +191,12 @@ fn coded_cells<'c>(
     Ok(cells)
 }
 
-/// A row of no coordinate and no answer; it takes no memory.
-pub fn no_row(alloc: Global) -> Row
-    ensures key { result.key.coords ≡ [] }
-    ensures answers { result.answers ≡ [] }
-{
-    Row {
-        key: Key {
-            coords: Sequence::from_vec(Vec::new(alloc)),
-        },
-        answers: Sequence::from_vec(Vec::new(alloc)),
-    }
-}
-
-// The key of codes, in the memory of other coordinates.
-fn key_in(
-    alloc: Global,
-    dictionaries: &[Dictionary],
-    codes: &Codes,
-    room: Vec<Coord>,
-) -> Result<Key, AllocError>
+// The key of codes.
+fn key_in(alloc: Global, dictionaries: &[Dictionary], codes: &Codes) -> Result<Key, AllocError>
     requires { length dictionaries.now ≤ 8 }
     ensures { IfOk result (λ key. key ≡ key_at dictionaries.now codes.now.codes) }
 {
-    let mut coords = room;
-    coords.clear();
-    coords.reserve(dictionaries.len())?;
+    let mut coords = Vec::with_capacity(alloc, dictionaries.len())?;
     for (place, dictionary) in dictionaries.iter().enumerate() {
         coords.push(dictionary.coord_at(alloc, codes.codes[place])?)?;
     }
@@ -208,19 +205,12 @@ fn key_in(
     })
 }
 
-/// The row of a key with a cell, in the memory of other answers.
-pub fn row_in(
-    aggregates: &[Agg],
-    key: Key,
-    cell: &Cell,
-    room: Vec<Answer>,
-) -> Result<Row, AllocError>
+/// The row of a key with a cell.
+pub fn row_in(alloc: Global, aggregates: &[Agg], key: Key, cell: &Cell) -> Result<Row, AllocError>
     requires { list_all (is_aggregate_of (length cell.now.bags)) aggregates.now ≡ true }
     ensures { IfOk result (IsRowOf aggregates.now (key, cell.now)) }
 {
-    let mut answers = room;
-    answers.clear();
-    answers.reserve(aggregates.len())?;
+    let mut answers = Vec::with_capacity(alloc, aggregates.len())?;
     for aggregate in aggregates {
         answers.push(cell.answer(aggregate))?;
     }

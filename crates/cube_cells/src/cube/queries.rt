@@ -46,7 +46,7 @@ impl Cube {
         let Some(cell) = self.get(&above) else {
             return Ok(None);
         };
-        let row = row_in(self.schema.aggregates(), above, cell, Vec::new(self.alloc))?;
+        let row = row_in(self.alloc, self.schema.aggregates(), above, cell)?;
         Ok(Some(row))
     }
 

@@ -6,5 +6,5 @@ use Rattle.cube_counts.proofs.counted.short_and_log.Goals as goal
 
 pub returns : goal.returns
 returns c =
-    let added : AddsBag c.args.log.now (bag_of c.merge_pairs.new.values) c.args.short.now = search rules in
-    AddsBag-sym c.args.log.now c.args.short.now (bag_of c.merge_pairs.new.values) added
+    let added : AddsBag c.args.log.now (bag_of c.merge_short.new.values) c.args.short.now = search rules in
+    AddsBag-sym c.args.log.now c.args.short.now (bag_of c.merge_short.new.values) added

@@ -3,6 +3,7 @@ use Rattle.std.proofs.lemmas.List.{take_more}
 use Rattle.cube_core.specs.declared.key.Key.{Key}
 use Rattle.cube_cells.specs.Tally.{Tally}
 use Rattle.cube_cells.specs.Rows.{IsRowOf}
+use Rattle.cube_text.specs.Rows.{AddsRow}
 use Rattle.cube_text.proofs.LineLaws.{AddsText-row_line}
 use Rattle.cube_core.proofs.ListLaws.{AllZip-push}
 use Rattle.cube_text.proofs.print.put_cells.Goals as goal
@@ -13,10 +14,10 @@ loop-place-preserved c =
     let o = c.args.cells.now in
     let inside : i < length o.cells = omega arith in
     let unused : Key × Tally = (record { coords = [] }, record { facts = 0; bags = [] }) in
-    let row = c.in_ok-row.row in
     let before = c.loop-place.invariant in
+    let line : AddsRow o.aggregates (get_or o.cells i unused) c.loop-place.lines c.put_cell.new.lines = rw (c.aggregates.ensures, c.cell_at-cell.ensures.cell unused) at c.in_ok-put_cell.ensures in
     rw (take_more o.cells i unused inside) (record {
-      rows = before.rows ++ row ∷ [];
-      are_rows = AllZip-push (IsRowOf o.aggregates) (take i o.cells) before.rows (get_or o.cells i unused) row before.are_rows (c.in_ok-row.ensures unused);
-      added = AddsText-row_line before.rows row _ _ _ before.added c.in_ok-put_row.ensures;
+      rows = before.rows ++ line.row ∷ [];
+      are_rows = AllZip-push (IsRowOf o.aggregates) (take i o.cells) before.rows (get_or o.cells i unused) line.row before.are_rows line.is_row;
+      added = AddsText-row_line before.rows line.row _ _ _ before.added line.added;
     })

@@ -14,12 +14,12 @@ filled_cells-requires-clause-within c =
 
 filled : (c : In_ok-cells) (facts : List Fact) → IsCubeOfAll facts c.args.finest → IsCoded c.self.inside.schema c.self.inside.sets.items c.finest.inside.facts c.finest.inside.dictionaries.items c.in_ok-cells.cells.entries × IsCubeOfAll facts (lattice_of c.self.inside.schema c.self.inside.sets.items c.finest.inside.facts c.finest.inside.dictionaries.items c.in_ok-cells.cells.entries)
 filled c facts of =
-    let finest : Level = record { set = c.finest_of-set.result; cells = c.finest.inside.cells } in
+    let finest : Level = record { set = c.finest_of-set.result; cells = c.shrink_cells.new.cells } in
     let set : finest.set ≡ finest_set (length c.self.inside.schema.dimensions) = search rules in
     let same : c.finest.inside.schema ≡ c.self.inside.schema = rw (← c.finest.view_is, ← c.self.view_is) at c.requires.schema in
     let one : c.finest.inside.sets.items ≡ finest.set ∷ [] = rw (← c.finest.view_is, same, ← set) at c.requires.sets in
-    let is : IsCoded c.self.inside.schema (finest.set ∷ []) c.finest.inside.facts c.finest.inside.dictionaries.items finest.cells.entries = rw (same, one) at c.finest.invariant in
-    let all : IsCubeOfAll facts (lattice_of c.self.inside.schema (finest.set ∷ []) c.finest.inside.facts c.finest.inside.dictionaries.items finest.cells.entries) = rw (← c.finest.view_is, same, one) at of in
+    let is : IsCoded c.self.inside.schema (finest.set ∷ []) c.finest.inside.facts c.finest.inside.dictionaries.items finest.cells.entries = rw (same, one, ← c.shrink_cells.ensures) at c.finest.invariant in
+    let all : IsCubeOfAll facts (lattice_of c.self.inside.schema (finest.set ∷ []) c.finest.inside.facts c.finest.inside.dictionaries.items finest.cells.entries) = rw (← c.finest.view_is, same, one, ← c.shrink_cells.ensures) at of in
     let filled : AreFilled finest c.self.inside.sets.items (length c.self.inside.schema.measures) c.in_ok-cells.cells.entries = rw (c.deref.ensures.value, c.measures-measures.ensures.value) at c.in_ok-cells.ensures in
     IsCubeOfAll-AreFilled c.self.inside.schema c.self.inside.sets.items c.self.inside.facts c.finest.inside.facts c.self.inside.dictionaries.items c.finest.inside.dictionaries.items c.self.inside.cells.entries c.in_ok-cells.cells.entries finest facts c.self.invariant set is all filled
 
