@@ -54,6 +54,22 @@ fn a_log_is_emptied_from_the_last_to_the_first(rt: HostRuntime) -> Result<(), Fa
 }
 
 #[test]
+fn each_form_goes_on_with_no_room_to_spare(rt: HostRuntime) -> Result<(), Fail> {
+    for form in FORMS {
+        let (mut values, mut plain) = of_form(&rt, rt.alloc(), form)?;
+        values.shrink_to_fit();
+        expect_same(&rt, &values, &plain);
+        add(&mut values, &mut plain, MANY)?;
+        values.shrink_to_fit();
+        take(&rt, &mut values, &mut plain, 1);
+        add(&mut values, &mut plain, -1)?;
+        expect_same(&rt, &values, &plain);
+        expect_drained(&rt, values, plain);
+    }
+    Ok(())
+}
+
+#[test]
 fn adds_and_removes_come_in_turn(rt: HostRuntime) -> Result<(), Fail> {
     let (mut values, mut plain) = of_form(&rt, rt.alloc(), Form::Log)?;
     for step in 0..MANY {

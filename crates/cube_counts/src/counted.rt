@@ -5,7 +5,7 @@ ghost use Rattle.cube_counts.specs.Bag.{Bag, AddsBag, AddsOne, AddsTimes, held_o
 ghost use Rattle.cube_counts.specs.Values.{bag_of};
 
 use crate::log::Log;
-use crate::short::Short;
+use crate::short::{FEW, Short};
 use crate::single::Single;
 use crate::table::Table;
 use std::alloc::{AllocError, Global};
@@ -203,13 +203,17 @@ fn merge_pairs(alloc: Global, values: &mut Values, pairs: &[(i64, u64)]) -> Resu
     Ok(())
 }
 
-// Adds the numbers of a short list: behind those of a log at once, and to a copy of it where there is one number at most.
+// Adds the numbers of a short list: behind those of a log at once, to a copy of it where there is one number at most, and
+// as a log of both where two lists are too long for one.
 fn merge_short(alloc: Global, values: &mut Values, more: &Short) -> Result<(), AllocError>
     requires { size_of (bag_of values.old) + size_of more.now < 2 ^ 64 }
     ensures { OnOk result (AddsBag (bag_of values.old) (bag_of values.new) more.now) }
 {
     let grown = match values {
         Values::One(single) => single_and_short(alloc, single, more)?,
+        Values::Few(short) if short.pairs().len() + more.pairs().len() > FEW => {
+            Values::Logged(log_of(alloc, short.pairs(), more.pairs())?)
+        }
         Values::Logged(log) => {
             if log.append_few(more.pairs())? {
                 return Ok(());
@@ -308,7 +312,7 @@ fn add_value(alloc: Global, values: &mut Values, value: i64, times: u64) -> Resu
             if short.add(value, times)? {
                 return Ok(());
             }
-            Values::Logged(log_of(alloc, short, (value, times))?)
+            Values::Logged(log_of(alloc, short.pairs(), &[(value, times)])?)
         }
         Values::Logged(log) => {
             if log.add(value, times)? {
@@ -331,12 +335,13 @@ fn short_of(alloc: Global, single: &Single, more: (i64, u64)) -> Result<Short, A
     Short::of_two(alloc, single.pair(), more)
 }
 
-// A log of the numbers of a list and another, so many times.
-fn log_of(alloc: Global, short: &Short, more: (i64, u64)) -> Result<Box<Log>, AllocError>
-    requires { 0 < more.1 }
-    ensures { IfOk result (λ log. AddsTimes short.now log.value more.0 more.1) }
+// A log of the numbers of few pairs and others.
+fn log_of(alloc: Global, few: &[(i64, u64)], others: &[(i64, u64)]) -> Result<Box<Log>, AllocError>
+    requires few { All (λ e. 0 < e.1) few.now }
+    requires others { All (λ e. 0 < e.1) others.now }
+    ensures { IfOk result (λ log. AddsBag few.now log.value others.now) }
 {
-    let log = Log::of_both(alloc, short.pairs(), more)?;
+    let log = Log::of_both(alloc, few, others)?;
     let log = Box::new(alloc, log)?;
     Ok(log)
 }

@@ -63,15 +63,19 @@ impl Model for Log {
 }
 
 impl Log {
-    /// A log of the numbers of few pairs and another, so many times.
-    pub fn of_both(alloc: Global, few: &[(i64, u64)], more: (i64, u64)) -> Result<Log, AllocError>
+    /// A log of the numbers of few pairs and others.
+    pub fn of_both(
+        alloc: Global,
+        few: &[(i64, u64)],
+        others: &[(i64, u64)],
+    ) -> Result<Log, AllocError>
         requires few { All (λ e. 0 < e.1) few.now }
-        requires more { 0 < more.1 }
-        ensures { IfOk result (λ log. AddsTimes few.now log more.0 more.1) }
+        requires others { All (λ e. 0 < e.1) others.now }
+        ensures { IfOk result (λ log. AddsBag few.now log others.now) }
     {
         let mut pairs = Vec::with_capacity(alloc, ROOM)?;
         pairs.extend_from_slice(few)?;
-        pairs.push(more)?;
+        pairs.extend_from_slice(others)?;
         let ends = ends_of(&pairs);
         Ok(Log { pairs, ends })
     }
