@@ -1,3 +1,4 @@
 mod AppendLaws
+mod ColumnLaws
 pub mod LineLaws
 pub mod RowShapeLaws

@@ -1,16 +1,20 @@
 -- The text of cells in an order, each printed as its row (this project's choice).
-use Rattle.std.specs.Prelude.{◌≡◌, ℕ, List, map}
+use Rattle.std.specs.Prelude.{◌≡◌, ◌+◌, ◌<◌, ℕ, List, length, map, get_or, take, All}
+use Rattle.std.specs.Global.{Vec}
 use Rattle.std.specs.List.{AllZip, flat_map}
+use Rattle.cube_core.specs.Answer.{IsAnswer}
 use Rattle.cube_core.specs.Layout.{Layout}
-use Rattle.cube_core.specs.Text.{answer_text, row_line, text_of_rows}
+use Rattle.cube_core.specs.Text.{row_line, text_of_rows}
 use Rattle.cube_core.specs.declared.aggregate.Agg.{Agg}
 use Rattle.cube_core.specs.declared.aggregate.Answer.{Answer}
+use Rattle.cube_core.specs.declared.aggregate.Answer.TheVariants as answer
+use Rattle.cube_core.specs.declared.fact.Fact.{Fact}
 use Rattle.cube_core.specs.declared.key.Key.{Key}
 use Rattle.cube_core.specs.declared.key.Row.{Row}
 use Rattle.cube_cells.specs.Cube.{Cells}
 use Rattle.cube_cells.specs.Rows.{AreAnswersOf, AreRowsInOrder, CellsInOrder, IsRowOf}
-use Rattle.cube_cells.specs.Tally.{Tally}
-use Rattle.cube_text.specs.Lines.{AddsFields, AddsText, Lines}
+use Rattle.cube_cells.specs.Tally.{Tally, IsTallyOf}
+use Rattle.cube_text.specs.Lines.{AddsText, Lines}
 
 -- this is the text of the rows of cells, in their order
 pub record IsTextOfCells (s : Layout) (o : CellsInOrder) (text : List ℕ) : Type 0 where
@@ -30,8 +34,23 @@ pub record AddsRow (aggregates : List Agg) (cell : Key × Tally) (old new : Line
   pub is_row : IsRowOf aggregates cell row
   pub added : AddsText (row_line row) old new
 
--- the answers of a tally were added as fields
-pub record AddsAnswers (aggregates : List Agg) (tally : Tally) (old new : Lines) : Type 0 where
-  pub answers : List Answer
-  pub are_answers : AreAnswersOf aggregates tally answers
-  pub added : AddsFields (map answer_text answers) old new
+-- after the lines of the first cells up to one place, those up to another were added
+abbrev pub GoesOn : CellsInOrder → ℕ → ℕ → Lines → Lines → Type 0
+GoesOn o from to old new = (start : Lines) → AddsRows o.aggregates (take from o.cells) start old → AddsRows o.aggregates (take to o.cells) start new
+
+-- the answer of an aggregate over any facts that this is the tally of
+abbrev pub IsAnswerOf : Agg → Tally → Answer → Type 0
+IsAnswerOf aggregate tally a = (facts : List Fact) → IsTallyOf facts tally → IsAnswer facts aggregate a
+
+-- the answers of an aggregate for the cells from a place on
+pub record IsColumn (aggregate : Agg) (cells : Cells) (from : ℕ) (column : List Answer) : Type 0 where
+  pub each : (i : ℕ) (unused : Key × Tally) → i < length column → IsAnswerOf aggregate (get_or cells (from + i) unused).1 (get_or column i answer.Null)
+
+-- what columns of answers have at a place
+abbrev pub answers_at : List (Vec Answer) → ℕ → List Answer
+answers_at columns i = map (λ column. get_or column.items i answer.Null) columns
+
+-- columns of answers, one for each aggregate, for the cells from a place to another
+pub record AreColumns (aggregates : List Agg) (cells : Cells) (from to : ℕ) (columns : List (Vec Answer)) : Type 0 where
+  pub long : All (λ column. from + length column.items ≡ to) columns
+  pub each : (i : ℕ) (unused : Key × Tally) → from + i < to → AreAnswersOf aggregates (get_or cells (from + i) unused).1 (answers_at columns i)

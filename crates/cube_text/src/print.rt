@@ -1,13 +1,15 @@
 //! The rows of a cube as text.
 
-ghost use Rattle.std.specs.Prelude.{◌≡◌, ◌++◌, true, length, map, codes, decimal, All, OnOk, IfOk};
-ghost use Rattle.std.specs.List.{flat_map, list_all};
+ghost use Rattle.std.specs.Prelude.{◌≡◌, ◌<◌, ◌≤◌, ◌+◌, ◌++◌, length, get_or, map, codes, decimal, All, OnOk, IfOk};
+ghost use Rattle.std.specs.List.{flat_map};
 ghost use Rattle.std.specs.Fmt.{signed_decimal};
-ghost use Rattle.cube_core.specs.Layout.{is_aggregate_of};
 ghost use Rattle.cube_core.specs.Text.{line, header_fields, grouping_name, coord_text, grouping_text, answer_text, row_line, text_of_rows};
 ghost use Rattle.cube_text.specs.Lines.{AddsFields, AddsText};
 ghost use Rattle.cube_cells.specs.Keyed.{referred_coord};
-ghost use Rattle.cube_text.specs.Rows.{AddsAnswers, AddsRow, AddsRows, IsTextOfCells};
+ghost use Rattle.cube_text.specs.Rows.{AddsRow, AddsRows, AreColumns, GoesOn, IsColumn, IsTextOfCells, answers_at};
+ghost use Rattle.cube_core.specs.declared.key.Key.{Key};
+ghost use Rattle.cube_cells.specs.Rows.{AreAnswersOf};
+ghost use Rattle.cube_cells.specs.Tally.{Tally};
 ghost use Rattle.cube_text.specs.Shape.{HasShapeOf};
 
 use crate::lines::{Lines, end_line, into_text, no_lines, put_field};
@@ -15,6 +17,9 @@ use cube_cells::{CoordRef, KeyedCell, OrderedCells};
 use cube_core::{Agg, Answer, Coord, Row, Schema, Text};
 use itoa::Buffer;
 use std::alloc::{AllocError, Global};
+
+// For how many lines the answers are found at a time.
+const BLOCK: usize = 64;
 
 /// The header line of the schema, and a line for each row in the order given.
 ///
@@ -104,26 +109,99 @@ fn put_cells(alloc: Global, lines: &mut Lines, cells: &OrderedCells) -> Result<(
         (AddsRows cells.now.aggregates cells.now.cells lines.old lines.new) }
 {
     let mut fraction = Vec::new(alloc);
-    for place in 0..cells.len() {
-        let cell = cells.cell_at(place);
-        put_cell(lines, &mut fraction, cells.aggregates(), &cell)?;
+    let mut done = 0;
+    while done < cells.len() {
+        let end = done + (cells.len() - done).min(BLOCK);
+        put_block(alloc, lines, &mut fraction, cells, done, end)?;
+        done = end;
     }
     Ok(())
 }
 
-// The buffer is for fractions, and what it holds doesn't matter.
+// Puts the lines of the cells from a place to another.
+fn put_block(
+    alloc: Global,
+    lines: &mut Lines,
+    fraction: &mut Vec<u8>,
+    cells: &OrderedCells,
+    from: usize,
+    to: usize,
+) -> Result<(), AllocError>
+    requires order { from ≤ to }
+    requires within { to ≤ length cells.now.cells }
+    ensures { OnOk result (GoesOn cells.now from to lines.old lines.new) }
+{
+    let columns = columns_of(alloc, cells, from, to)?;
+    for place in from..to {
+        put_cell(lines, fraction, cells, place, &columns, place - from)?;
+    }
+    Ok(())
+}
+
+// The answers for the cells from a place to another, aggregate by aggregate.
+fn columns_of(
+    alloc: Global,
+    cells: &OrderedCells,
+    from: usize,
+    to: usize,
+) -> Result<Vec<Vec<Answer>>, AllocError>
+    requires order { from ≤ to }
+    requires within { to ≤ length cells.now.cells }
+    ensures { IfOk result (λ columns.
+        AreColumns cells.now.aggregates cells.now.cells from to columns.items) }
+{
+    let mut columns = Vec::with_capacity(alloc, cells.aggregates().len())?;
+    for which in 0..cells.aggregates().len() {
+        columns.push(column_of(alloc, cells, which, from, to)?)?;
+    }
+    Ok(columns)
+}
+
+// The answers of one of the aggregates for the cells from a place to another. Cells lie anywhere in memory, and nothing
+// is waited for between one and the next, so that several are fetched at a time.
+fn column_of(
+    alloc: Global,
+    cells: &OrderedCells,
+    which: usize,
+    from: usize,
+    to: usize,
+) -> Result<Vec<Answer>, AllocError>
+    requires which { which < length cells.now.aggregates }
+    requires order { from ≤ to }
+    requires within { to ≤ length cells.now.cells }
+    ensures long { IfOk result (λ column. from + length column.items ≡ to) }
+    ensures each { IfOk result (λ column. (unused : Agg) →
+        IsColumn (get_or cells.now.aggregates which unused) cells.now.cells from column.items) }
+{
+    let aggregate = &cells.aggregates()[which];
+    let mut column = Vec::with_capacity(alloc, to - from)?;
+    for place in from..to {
+        column.push(cells.cell_at(place).answer(aggregate))?;
+    }
+    Ok(column)
+}
+
+// Puts the line of the cell at a place, whose answers the columns have at a place of theirs. The buffer is for
+// fractions, and what it holds doesn't matter.
 fn put_cell(
     lines: &mut Lines,
     fraction: &mut Vec<u8>,
-    aggregates: &[Agg],
-    cell: &KeyedCell,
+    cells: &OrderedCells,
+    place: usize,
+    columns: &[Vec<Answer>],
+    at: usize,
 ) -> Result<(), AllocError>
-    requires { list_all (is_aggregate_of (length cell.now.1.bags)) aggregates.now ≡ true }
-    ensures { OnOk result (AddsRow aggregates.now cell.now lines.old lines.new) }
+    requires within { place < length cells.now.cells }
+    requires long { All (λ column. at < length column.items) columns.now }
+    requires answers { (unused : Key × Tally) → AreAnswersOf cells.now.aggregates
+        (get_or cells.now.cells place unused).1 (answers_at columns.now at) }
+    ensures { OnOk result ((unused : Key × Tally) →
+        AddsRow cells.now.aggregates (get_or cells.now.cells place unused) lines.old lines.new) }
 {
-    put_key(lines, cell)?;
-    put_key_groupings(lines, cell)?;
-    put_cell_answers(lines, fraction, aggregates, cell)?;
+    let cell = cells.cell_at(place);
+    put_key(lines, &cell)?;
+    put_key_groupings(lines, &cell)?;
+    put_answers_at(lines, fraction, columns, at)?;
     end_line(lines)
 }
 
@@ -145,19 +223,19 @@ fn put_key_groupings(lines: &mut Lines, cell: &KeyedCell) -> Result<(), AllocErr
     Ok(())
 }
 
-fn put_cell_answers(
+fn put_answers_at(
     lines: &mut Lines,
     fraction: &mut Vec<u8>,
-    aggregates: &[Agg],
-    cell: &KeyedCell,
+    columns: &[Vec<Answer>],
+    at: usize,
 ) -> Result<(), AllocError>
-    requires { list_all (is_aggregate_of (length cell.now.1.bags)) aggregates.now ≡ true }
-    ensures { OnOk result (AddsAnswers aggregates.now cell.now.1 lines.old lines.new) }
+    requires { All (λ column. at < length column.items) columns.now }
+    ensures { OnOk result
+        (AddsFields (map answer_text (answers_at columns.now at)) lines.old lines.new) }
 {
     let mut number = Buffer::new();
-    for aggregate in aggregates {
-        let answer = cell.answer(aggregate);
-        put_field(lines, answer_field(&mut number, fraction, &answer)?)?;
+    for column in columns {
+        put_field(lines, answer_field(&mut number, fraction, &column[at])?)?;
     }
     Ok(())
 }

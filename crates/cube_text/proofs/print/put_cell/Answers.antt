@@ -1,12 +1,19 @@
-use Rattle.std.proofs.Common.{map, refl}
+use Rattle.std.proofs.Common.{map, ap}
 use Rattle.std.proofs.lemmas.Result.{on_ok_weaker}
 use Rattle.cube_core.specs.Text.{coord_text, grouping_text, answer_text}
+use Rattle.cube_core.specs.declared.key.Key.{Key}
+use Rattle.cube_cells.specs.Tally.{Tally}
+use Rattle.cube_text.specs.Rows.{answers_at}
 use Rattle.cube_text.proofs.LineLaws.{AddsText-row_text}
 use Rattle.cube_text.proofs.print.put_cell.Goals as goal
 
 pub returns : goal.returns
 returns c =
-    let key = c.args.cell.now.0 in
-    let told = c.in_ok-put_cell_answers.ensures in
-    let line = AddsText-row_text (map coord_text key.coords) (map grouping_text key.coords) (map answer_text told.answers) _ _ _ _ c.end_line.new.lines c.in_ok-put_key.ensures c.in_ok-put_key_groupings.ensures told.added in
-    on_ok_weaker c.end_line.result (λ ended. record { row = record { key = key; answers = told.answers }; is_row = record { key = refl; answers = told.are_answers }; added = line ended }) c.end_line.ensures
+    let key = c.cell_at-cell.result.0 in
+    let answers = answers_at c.args.columns.now c.args.at in
+    let line = AddsText-row_text (map coord_text key.coords) (map grouping_text key.coords) (map answer_text answers) _ _ _ _ c.end_line.new.lines c.in_ok-put_key.ensures c.in_ok-put_key_groupings.ensures c.in_ok-put_answers_at.ensures in
+    on_ok_weaker c.end_line.result (λ ended unused. record {
+      row = record { key = key; answers = answers };
+      is_row = record { key = ap (λ (cell : Key × Tally). cell.0) (c.cell_at-cell.ensures.cell unused); answers = c.requires.answers unused };
+      added = line ended;
+    }) c.end_line.ensures

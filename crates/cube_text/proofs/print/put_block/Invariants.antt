@@ -1,0 +1,5 @@
+use Rattle.cube_text.specs.Rows.{GoesOn}
+use Rattle.cube_text.proofs.print.put_block.Given as goal
+
+abbrev pub invariant-loop-place : goal.invariant-loop-place
+invariant-loop-place l = GoesOn l.cells l.from l.place l.initial.lines l.lines
