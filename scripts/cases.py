@@ -1,14 +1,21 @@
 #!/usr/bin/env python3
-"""Runs the built program on the cases of the folder cases/, and says `N passed, M failed`.
+"""Runs the program on the cases of the folder cases/, and says `N passed, M failed`.
 
-    scripts/cases.py [-v] [NAME...]    all cases, or those whose name has one of the words
+    scripts/cases.py [-v] [--program PATH] [--first] [NAME...]
+
+All cases are run, or those whose name has one of the words, on the program that stands at PATH, else on the one that
+`./datacube` would run; `--first` ends at the first case that fails.
 
 Each case runs in a folder of its own, which has copies of the files in cases/files, beside one of examples/, which
 is ../examples. A case is a block of lines:
 
     case NAME
-    words WORDS          the words after `datacube`, quoted as in a shell; \\xFF there is a byte
-    file NAME            a file with the lines below it, each behind `| `; a last line behind `|. ` has no line end
+    words WORDS          the words after `datacube`, quoted as in a shell; \\xFF there is a byte, and a word with
+                         {1..3} in it is three words
+    file NAME            a file with the lines below it, each behind `| `; a last line behind `|. ` has no line end;
+                         `|* N TEXT` is N lines, in which # is the line's number from 1; a NAME with {1..3} in it is
+                         three files, in which ## is the file's number
+    coded NAME           a file as `file`, in which \\xFF is a byte
     folder NAME          a folder
     locked NAME          takes all rights from a file
     bytes NAME N         a file of N bytes: the sample schema and then a comment
@@ -17,24 +24,28 @@ is ../examples. A case is a block of lines:
     out                  the output, as the lines below it; `out FILE` as that file, `out has TEXT` with this text in it
     err TEXT             the line on standard error; `err has TEXT` with this text in it
     status N             the status
+    row A || B || C      the case once more, with A for $1, B for $2 and C for $3 in all its lines; a \\n in a value is
+                         the end of a line. A case with rows is those alone, each named after its first value
 
-After all cases it is seen whether the documents say of codes and commands what the program says (documents.py).
 No line `out` or `err` means that nothing is written there, and no `status` means 0.
 """
+import argparse
 import os
+import re
 import shlex
 import shutil
 import subprocess
 import sys
 import tempfile
+from concurrent.futures import ThreadPoolExecutor
 
 sys.dont_write_bytecode = True
-import documents
+import programs
 
 ROOT = os.path.dirname(os.path.dirname(os.path.realpath(__file__)))
-PROGRAM = f"{ROOT}/crates/datacube/out/datacube"
 SECONDS = 60
 NOBODY = ["setpriv", "--reuid=65534", "--regid=65534", "--clear-groups"]
+RANGE = re.compile(r"\{(\d+)\.\.(\d+)\}")
 
 
 class Case:
@@ -53,35 +64,73 @@ class Case:
 
 def read_cases(path):
     """Reads the cases of a file."""
-    cases, lines = [], None
+    blocks = []
     with open(path, encoding="utf-8") as file:
         for number, line in enumerate(file, 1):
-            line = line.rstrip("\n")
-            if line.startswith("|"):
-                if lines is None:
-                    sys.exit(f"{path}:{number}: a line belongs to no file and no output")
-                lines.append(line[2:] + ("" if line.startswith("|.") else "\n"))
-                if line.startswith("|."):
-                    lines[-1] = line[3:]
-                continue
-            lines = None
-            if not line or line.startswith("#"):
-                continue
+            if line.startswith("case "):
+                blocks.append([])
+            if blocks:
+                blocks[-1].append((number, line.rstrip("\n")))
+            elif line.strip() and not line.startswith("#"):
+                sys.exit(f"{path}:{number}: a line belongs to no case")
+    return [read_case(block, path) for it in blocks for block in with_rows(it)]
+
+
+def with_rows(block):
+    """Gives a block once for each of its rows, with the row's values in it, or the block where it has none."""
+    rows = [line[4:].split(" || ") for _, line in block if line.startswith("row ")]
+    rest = [it for it in block if not it[1].startswith("row ")]
+    return [with_values(rest, values) for values in rows] or [rest]
+
+
+def with_values(block, values):
+    """Gives a block with a row's values in it, as lines of their own where a value has several."""
+    made = []
+    for number, line in block:
+        mark = re.match(r"(\|[.*]?) ", line)
+        for at, value in enumerate(values, 1):
+            line = line.replace(f"${at}", value.replace("\\n", "\n" + (mark[0] if mark else "")))
+        made += [(number, it) for it in line.split("\n")]
+    number, name = made[0]
+    return [(number, f"{name}: {values[0]}"), *made[1:]]
+
+
+def read_case(block, path):
+    """Reads the lines of a case."""
+    case, lines = Case(block[0][1][5:]), None
+    for number, line in block[1:]:
+        place = f"{path}:{number}"
+        if line.startswith("|"):
+            if lines is None:
+                sys.exit(f"{place}: a line belongs to no file and no output")
+            lines += read_lines(line, place)
+            continue
+        lines = None
+        if line and not line.startswith("#"):
             word, _, rest = line.partition(" ")
-            if word == "case":
-                cases.append(Case(rest))
-            else:
-                lines = read_line(cases[-1], word, rest, f"{path}:{number}")
-    return cases
+            lines = read_line(case, word, rest, place)
+    return case
+
+
+def read_lines(line, place):
+    """Reads a line of a file or an output, which may stand for several."""
+    if line.startswith("|* "):
+        count, _, text = line[3:].partition(" ")
+        return [re.sub("(?<!#)#(?!#)", str(it), text) + "\n" for it in range(1, int(count) + 1)]
+    if line.startswith("|. "):
+        return [line[3:]]
+    if line != "|" and not line.startswith("| "):
+        sys.exit(f"{place}: neither `| `, `|. ` nor `|* `")
+    return [line[2:] + "\n"]
 
 
 def read_line(case, word, rest, place):
     """Takes a line of a case, and gives the list for the lines below it."""
     lines = []
     if word == "words":
-        case.words = [bytes_of(it) for it in shlex.split(rest.replace("\\x", "\\\\x"))]
-    elif word in ("file", "folder", "locked"):
-        case.made.append((word, rest, lines))
+        case.words = [bytes_of(it) for word in shlex.split(rest.replace("\\x", "\\\\x")) for it in spread(word)]
+    elif word in ("file", "coded", "folder", "locked"):
+        case.made += [(word, name, (number, lines)) for number, name in enumerate(spread(rest), 1)]
     elif word == "bytes":
         name, _, count = rest.partition(" ")
         case.made.append((word, name, int(count)))
@@ -108,17 +157,27 @@ def read_line(case, word, rest, place):
     return lines
 
 
-def bytes_of(word):
-    r"""Gives a word's bytes, where \xFF is a byte."""
-    return word.encode().decode("unicode_escape").encode("latin-1") if "\\x" in word else word.encode()
+def spread(text):
+    """Gives the texts that a text with {1..3} stands for, or the text alone."""
+    found = RANGE.search(text)
+    if not found:
+        return [text]
+    return [text[: found.start()] + str(it) + text[found.end() :] for it in range(int(found[1]), int(found[2]) + 1)]
+
+
+def bytes_of(text):
+    r"""Gives a text's bytes, where \xFF is a byte."""
+    return re.sub(rb"\\x([0-9A-Fa-f]{2})", lambda it: bytes([int(it[1], 16)]), text.encode())
 
 
 def make(room, kind, name, what):
     """Makes what a case wants to be there before the run."""
     path = f"{room}/{name}"
-    if kind == "file":
+    if kind in ("file", "coded"):
+        number, lines = what
+        text = "".join(lines).replace("##", str(number))
         with open(path, "wb") as file:
-            file.write(text_of(what))
+            file.write(bytes_of(text) if kind == "coded" else text.encode())
     elif kind == "folder":
         os.mkdir(path)
     elif kind == "locked":
@@ -130,15 +189,11 @@ def make(room, kind, name, what):
             file.write(start + b"#" * (what - len(start)))
 
 
-def text_of(lines):
-    return "".join(lines).encode()
-
-
 def wanted_of(what):
     """Gives what is wanted of an output, with lines and files as bytes."""
     kind, value = what
     if kind == "lines":
-        return "is", text_of(value)
+        return "is", "".join(value).encode()
     if kind == "file":
         with open(f"{ROOT}/{value}", "rb") as file:
             return "is", file.read()
@@ -191,34 +246,50 @@ def give_away(room):
             os.chown(it, 65534, 65534, follow_symlinks=False)
 
 
-def main(words):
-    loud = "-v" in words
-    words = [it for it in words if it != "-v"]
-    if not os.access(PROGRAM, os.X_OK):
-        sys.exit("the program isn't built: run ./datacube or rt ci first")
+def try_case(case, room, folder):
+    """Runs a case in a folder of its own, and says what is wrong, or gives None."""
+    shutil.copytree(f"{ROOT}/cases/files", f"{room}/{folder}")
+    return run(case, f"{room}/{folder}")
+
+
+def all_cases(words):
+    """The cases of all files, or those whose name has one of the words."""
     files = sorted(it for it in os.listdir(f"{ROOT}/cases") if it.endswith(".case"))
     cases = [it for name in files for it in read_cases(f"{ROOT}/cases/{name}")]
-    passed = failed = 0
+    return [it for it in cases if not words or any(word in it.name for word in words)]
+
+
+def tried(cases, program, first):
+    """Runs the cases on a program, and gives each with what is wrong of it; no more once one failed, where first is so."""
     with tempfile.TemporaryDirectory(prefix="datacube-cases-") as room:
         os.chmod(room, 0o755)
-        shutil.copy(PROGRAM, f"{room}/datacube")
+        shutil.copy(program, f"{room}/datacube")
         shutil.copytree(f"{ROOT}/examples", f"{room}/examples")
-        for number, case in enumerate(cases):
-            if words and not any(it in case.name for it in words):
-                continue
-            folder = f"{room}/{number}"
-            shutil.copytree(f"{ROOT}/cases/files", folder)
-            fault = run(case, folder)
-            passed, failed = passed + (fault is None), failed + (fault is not None)
-            if fault or loud:
-                print(f"{'FAILED' if fault else 'passed'}: {case.name}" + (f": {fault}" if fault else ""))
-    if not words:
-        found = documents.stale()
-        passed, failed = passed + (not found), failed + bool(found)
-        if found:
-            print(f"FAILED: not what the program says: {', '.join(found)}")
+        with ThreadPoolExecutor(os.cpu_count()) as pool:
+            for start in range(0, len(cases), 16):
+                some = cases[start : start + 16]
+                faults = list(pool.map(lambda at: try_case(some[at], room, start + at), range(len(some))))
+                yield from zip(some, faults)
+                if first and any(faults):
+                    return
+
+
+def main():
+    parser = argparse.ArgumentParser()
+    parser.add_argument("-v", action="store_true", dest="loud")
+    parser.add_argument("--program")
+    parser.add_argument("--first", action="store_true")
+    parser.add_argument("name", nargs="*")
+    given = parser.parse_args()
+    program = given.program or programs.datacube()
+    passed = failed = 0
+    for case, fault in tried(all_cases(given.name), program, given.first):
+        passed, failed = passed + (fault is None), failed + (fault is not None)
+        if fault or given.loud:
+            print(f"{'FAILED' if fault else 'passed'}: {case.name}" + (f": {fault}" if fault else ""))
     print(f"{passed} passed, {failed} failed")
     return 1 if failed or not passed else 0
 
 
-sys.exit(main(sys.argv[1:]))
+if __name__ == "__main__":
+    sys.exit(main())
