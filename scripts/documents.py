@@ -1,31 +1,44 @@
 #!/usr/bin/env python3
-"""Makes what the documents say of codes and of the command line from the built program.
+"""Makes what documents and completions say of codes and of the command line from what the program says.
 
-    scripts/documents.py            writes docs/datacube.1 and the tables of codes in docs/FORMATS.md
-    scripts/documents.py --check    says what of them isn't what the program says, and fails where something isn't
+    scripts/documents.py [--program PATH]            writes docs/datacube.1, the tables of codes in docs/FORMATS.md, and
+                                                     the completions for shells (completions/)
+    scripts/documents.py --check [--program PATH]    says what of them isn't what the program says; the last line is
+                                                     `N passed, M failed`, and it fails where something isn't
 
-In docs/FORMATS.md a table stands between `<!-- codes: ABOUT -->` and `<!-- end of codes -->`; ABOUT is what the
+The program is the one at PATH, else the one that `./datacube` would run. In docs/FORMATS.md a table stands between `<!-- codes: ABOUT -->` and `<!-- end of codes -->`; ABOUT is what the
 program's notes say that a code is about.
 """
+import argparse
 import os
 import re
 import subprocess
 import sys
 
+sys.dont_write_bytecode = True
+import completions
+import programs
+
 ROOT = os.path.dirname(os.path.dirname(os.path.realpath(__file__)))
-PROGRAM = f"{ROOT}/crates/datacube/out/datacube"
 FORMATS = f"{ROOT}/docs/FORMATS.md"
 MANUAL = f"{ROOT}/docs/datacube.1"
 
 
-def said(*words):
-    return subprocess.run([PROGRAM, *words], stdin=subprocess.DEVNULL, stdout=subprocess.PIPE, check=True).stdout.decode()
+class Program:
+    """The program that is asked."""
+
+    def __init__(self, path):
+        self.path = path
+
+    def said(self, *words):
+        """What it prints."""
+        return subprocess.run([self.path, *words], stdin=subprocess.DEVNULL, stdout=subprocess.PIPE, check=True).stdout.decode()
 
 
-def read_notes():
+def read_notes(program):
     """The notes of `explain`: for each code what it is about, what it means, how to mend it, and an example or ''."""
     notes = []
-    for line in said("explain").splitlines():
+    for line in program.said("explain").splitlines():
         if line.startswith("  "):
             part, _, text = line[2:].partition(": ")
             notes[-1][part] = text
@@ -65,19 +78,24 @@ def literal(text):
     return f".nf\n{roff(text.rstrip())}\n.fi\n"
 
 
-def manual_of(notes):
+def commands_of(program):
+    """The names of the commands."""
+    return [name for name, _ in completions.commands_of(program.said("--help"))]
+
+
+def manual_of(program, notes):
     """The manual page."""
-    help_text = said("--help")
-    commands = re.findall(r"^  ([a-z]+)  ", help_text.split("Commands:\n")[1].split("\n\n")[0], re.MULTILINE)
+    help_text = program.said("--help")
     usage = re.search(r"Usage: (.*?)\n\n", help_text, re.DOTALL)[1]
     about = help_text.split("\n\nUsage: ")[0]
     after = help_text.split("\n\n", 4)[-1]
-    page = '.TH DATACUBE 1\n.SH NAME\ndatacube \\- a data cube of feeds of facts\n.SH SYNOPSIS\n'
+    version = program.said("--version").strip()
+    page = f'.TH DATACUBE 1 "" "{version}"\n.SH NAME\ndatacube \\- a data cube of feeds of facts\n.SH SYNOPSIS\n'
     page += literal(re.sub(r"^ +", "", usage, flags=re.MULTILINE))
     page += ".SH DESCRIPTION\n" + roff(about) + "\n.PP\n" + literal(after)
     page += ".SH COMMANDS\n"
-    for name in commands:
-        page += f".SS {name}\n" + literal(said(name, "--help"))
+    for name in commands_of(program):
+        page += f".SS {name}\n" + literal(program.said(name, "--help"))
     page += ".SH CODES\n"
     for note in notes:
         page += f'.TP\n.B "{roff(note["code"])}"\n({roff(note["about"])}) {roff(note["means"])} {roff(note["mend"])}\n'
@@ -86,33 +104,45 @@ def manual_of(notes):
     return page + ".SH FILES\n.TP\ndocs/FORMATS.md\nthe formats of schemas, feeds, cells and cubes\n"
 
 
-def wanted():
+def wanted(program):
     """What the documents should be, by their paths."""
-    notes = read_notes()
+    notes = read_notes(program)
+    line = completions.CommandLine(
+        program.said("--help"),
+        {name: program.said(name, "--help") for name in commands_of(program)},
+        list(dict.fromkeys(note["code"] for note in notes)),
+    )
     with open(FORMATS, encoding="utf-8") as file:
-        return {FORMATS: formats_with(notes, file.read()), MANUAL: manual_of(notes)}
+        made = {FORMATS: formats_with(notes, file.read()), MANUAL: manual_of(program, notes)}
+    return {**made, **{f"{ROOT}/completions/{name}": text for name, text in completions.made_of(line).items()}}
 
 
-def stale():
-    """The documents that aren't what the program says."""
-    found = []
-    for path, text in wanted().items():
-        with open(path, encoding="utf-8") as file:
-            if file.read() != text:
-                found.append(os.path.relpath(path, ROOT))
-    return found
+def text_at(path):
+    """A file's text, or None."""
+    if not os.path.exists(path):
+        return None
+    with open(path, encoding="utf-8") as file:
+        return file.read()
 
 
-def main(words):
-    if words == ["--check"]:
-        found = stale()
-        if found:
-            sys.exit(f"not what the program says: {', '.join(found)}; scripts/documents.py writes them anew")
-        return
-    for path, text in wanted().items():
+def main():
+    parser = argparse.ArgumentParser()
+    parser.add_argument("--check", action="store_true")
+    parser.add_argument("--program")
+    given = parser.parse_args()
+    documents = wanted(Program(given.program or programs.datacube()))
+    if given.check:
+        stale = [path for path, text in documents.items() if text_at(path) != text]
+        for path in stale:
+            print(f"FAILED: {os.path.relpath(path, ROOT)} isn't what the program says: scripts/documents.py writes it anew")
+        print(f"{len(documents) - len(stale)} passed, {len(stale)} failed")
+        return 1 if stale else 0
+    for path, text in documents.items():
+        os.makedirs(os.path.dirname(path), exist_ok=True)
         with open(path, "w", encoding="utf-8") as file:
             file.write(text)
+    return 0
 
 
 if __name__ == "__main__":
-    main(sys.argv[1:])
+    sys.exit(main())

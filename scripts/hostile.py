@@ -1,7 +1,8 @@
 """Hostile use of the built program: memory, reads, writes and threads refused in turn, and feeds that lie.
 
-    scripts/hostile.sh [--program FILE] [--only WORD] [--cases N] [--seed N]
+    scripts/hostile.sh [--program FILE] [--short] [--only WORD] [--cases N] [--seed N]
 
+The program is the one given, else the one that `./datacube` would run. The short form takes 45 seconds or so.
 Each trial is a line; the last line is `N passed, M failed`. A trial fails where the program answers what its formats
 don't allow for the cause, where standard output is neither empty nor whole (or, under G6, the first bytes that the
 number says), where it crashes, or where it runs past its time. Needs python3 and cc.
@@ -17,7 +18,9 @@ import sys
 import tempfile
 import threading
 
+sys.dont_write_bytecode = True
 import oracle
+import programs
 
 HERE = os.path.dirname(os.path.abspath(__file__))
 # (run_plain over a schema and feeds, where rt ci or rt run built it)
@@ -37,6 +40,8 @@ MIXED = [
 ]
 STATUS = {"S": 3, "P": 2, "G": 1}
 MEMORY = [r"S1", r"G1", r"G2", r"G3 \d+ F1", r"G4", r"P6"]
+# (what the short form refuses memory, reads and writes; threads are refused everywhere)
+SHORT = ("no words", "check", "print, 3 feeds, 2 builders", "slice")
 # (what is said where there is no memory for the words themselves)
 NO_WORDS = b"error: out of memory\n"
 
@@ -102,11 +107,12 @@ def why_wrong(answer, whole, codes):
 
 
 class Trials:
-    def __init__(self, program, only):
-        self.program, self.only, self.passed, self.failed = program, only, 0, 0
+    def __init__(self, program, only, is_short):
+        self.program, self.only, self.is_short, self.passed, self.failed = program, only, is_short, 0, 0
 
     def trial(self, name, call):
-        if self.only not in name:
+        kind, _, what = name.partition(": ")
+        if self.only not in name or self.is_short and what and kind != "threads refused in turn" and what not in SHORT:
             return
         try:
             why = call()
@@ -498,24 +504,26 @@ def generated(trials, cases, seed):
 
 def main():
     asks = argparse.ArgumentParser(description=__doc__, formatter_class=argparse.RawDescriptionHelpFormatter)
-    asks.add_argument("--program", default=os.path.join(HERE, "..", "crates", "datacube", "out", "datacube"))
+    asks.add_argument("--program")
+    asks.add_argument("--short", action="store_true", help="the short form")
     asks.add_argument("--only", default="", help="only the trials whose name has this word")
-    asks.add_argument("--cases", type=int, default=1000, help="how many generated cases")
+    asks.add_argument("--cases", type=int, help="how many generated cases: 1000, and 50 in the short form, where left out")
     asks.add_argument("--seed", type=int, default=1)
     given = asks.parse_args()
     resource.setrlimit(resource.RLIMIT_CORE, (0, 0))
     with tempfile.TemporaryDirectory(prefix="hostile-") as folder:
         shim = os.path.join(folder, "refuse.so")
         subprocess.run(["cc", "-O2", "-shared", "-fPIC", "-o", shim, os.path.join(HERE, "refuse.c"), "-ldl"], check=True)
-        trials = Trials(Program(os.path.abspath(given.program), shim, folder), given.only)
+        trials = Trials(Program(os.path.abspath(given.program or programs.datacube()), shim, folder), given.only, given.short)
         refusals_in_turn(trials)
-        growths_in_turn(trials)
         ends_of_output(trials)
         cut_feeds(trials)
-        big_inputs(trials)
-        hurtful(trials)
-        under_valgrind(trials)
-        generated(trials, given.cases, given.seed)
+        if not given.short:
+            growths_in_turn(trials)
+            big_inputs(trials)
+            hurtful(trials)
+            under_valgrind(trials)
+        generated(trials, given.cases or (50 if given.short else 1000), given.seed)
     print(f"{trials.passed} passed, {trials.failed} failed")
     return 1 if trials.failed else 0
 

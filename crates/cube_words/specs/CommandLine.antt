@@ -8,10 +8,10 @@ use Rattle.cube_words.specs.declared.request.RunWords.{RunWords}
 use Rattle.cube_words.specs.declared.request.Request.{Request}
 use Rattle.cube_words.specs.declared.request.Request.TheVariants.{Sample, Check, Explain, Print, Refusals, Slice, Drill}
 
--- the program's own settings: `help` is no command
+-- the program's own settings: `help` is no command, and `--version` is answered
 abbrev pub named_line : App
 named_line = record (new_app (codes "datacube")) {
-  top = record (new_app (codes "datacube")).top { disable_help_subcommand = true };
+  top = record (new_app (codes "datacube")).top { disable_help_subcommand = true; has_version = true };
 }
 
 -- a word that has to be there

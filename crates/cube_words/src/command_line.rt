@@ -14,6 +14,9 @@ Prints the data cube of feeds of facts: the aggregates of every group, over ever
 dimensions. Each feed is a CSV file of inserts, updates and deletes; the cube is that of the facts
 which are present in the end.";
 
+/// The program's version, by the rules of Semantic Versioning 2.0.0. It stands here alone.
+const VERSION: &str = "1.0.0";
+
 /// The forms of a command line.
 const USAGE: &str = "datacube < FEED
        datacube check SCHEMA
@@ -105,6 +108,7 @@ fn named<'a>(alloc: Global) -> Result<Command<'a>, AllocError>
 {
     Command::new(alloc, "datacube")
         .about(ABOUT)
+        .version(VERSION)
         .override_usage(USAGE)
         .after_help(AFTER_HELP)
         .disable_help_subcommand(true)

@@ -1,0 +1,56 @@
+#!/bin/sh
+# Proves the program and what it stands on from nothing, builds it, and says whether its bytes are the released ones.
+#
+#   scripts/build.sh [--jobs N]    N checks side by side; as many as there are processors and memory, where left out
+#
+# The work is done on a copy of the sources, so nothing that lies in a crate's out/ is read, and an edit meanwhile does
+# no harm. The program goes to crates/datacube/out, beside a record of the sources that it was built from. The status is
+# 0 if it was built, and its bytes are not others than those of a release of the same sources.
+set -eu
+root=$(dirname -- "$(dirname -- "$(readlink -f -- "$0")")")
+. "$root/scripts/programs.sh"
+if [ "${1-}" = --jobs ]; then
+    export RT_JOBS="$2"
+fi
+out=$root/crates/datacube/out
+if ! mkdir -p "$out" || [ ! -w "$out" ]; then
+    echo "build: there is no leave to write in $out"
+    exit 1
+fi
+work=$(mktemp -d)
+trap 'rm -rf "$work"' EXIT
+trap 'exit 1' HUP INT TERM
+mkdir "$work/crates"
+program_lines "$root" >"$work/crates.txt"
+cp "$root/HANDLES" "$work"
+for crate in $(program_crates "$root"); do
+    mkdir "$work/crates/$crate"
+    for part in src specs proofs stdin stdout args status data; do
+        if [ -e "$root/crates/$crate/$part" ]; then
+            cp -R "$root/crates/$crate/$part" "$work/crates/$crate"
+        fi
+    done
+done
+
+if ! (cd "$work" && rt ci </dev/null >"$work/log" 2>&1); then
+    tail -n 20 "$work/log"
+    echo "build: not everything is proved, so nothing was built"
+    exit 1
+fi
+tail -n 1 "$work/log"
+cp "$work/crates/datacube/out/datacube" "$out/datacube.new"
+rm -f "$out/datacube.txt"
+mv "$out/datacube.new" "$out/datacube"
+record "$out" "$(sources_of "$work")"
+
+release=$root/release/x86_64-linux
+if cmp -s "$out/datacube" "$release/datacube"; then
+    echo "build: these are the released bytes, $(recorded "$out" program)"
+elif [ "$(recorded "$release" sources)" != "$(recorded "$out" sources)" ]; then
+    echo "build: the released program is of other sources; built is $(recorded "$out" program)"
+else
+    echo "build: the released program is of the same sources, and its bytes are others"
+    echo "build: released $(recorded "$release" program) by $(recorded "$release" kit)"
+    echo "build: built    $(recorded "$out" program) by $(recorded "$out" kit)"
+    exit 1
+fi

@@ -1,0 +1,38 @@
+#!/bin/sh
+# Makes a Debian package of the files that scripts/install.sh installs, by dpkg-deb.
+#
+#   scripts/deb.sh [FOLDER]    the package goes to FOLDER, or to the current one where it is left out
+set -eu
+root=$(dirname -- "$(dirname -- "$(readlink -f -- "$0")")")
+to=$(readlink -f -- "${1:-.}")
+room=$(mktemp -d)
+trap 'rm -rf "$room"' EXIT
+umask 022
+mkdir "$room/files" "$room/files/DEBIAN"
+chmod 755 "$room/files"
+DESTDIR=$room/files "$root/scripts/install.sh" /usr >/dev/null
+files=$room/files/usr
+version=$("$files/bin/datacube" --version)
+version=${version#datacube }
+gzip -9n "$files/share/man/man1/datacube.1" "$files/share/doc/datacube/CHANGELOG.md"
+mv "$files/share/doc/datacube/CHANGELOG.md.gz" "$files/share/doc/datacube/changelog.gz"
+mv "$files/share/doc/datacube/NOTICES" "$files/share/doc/datacube/copyright"
+mkdir -p "$files/share/zsh/vendor-completions"
+mv "$files/share/zsh/site-functions/_datacube" "$files/share/zsh/vendor-completions/_datacube"
+rmdir "$files/share/zsh/site-functions"
+cat >"$room/files/DEBIAN/control" <<END
+Package: datacube
+Version: $version
+Architecture: amd64
+Maintainer: $(git -C "$root" log -1 --format='%an <%ae>' 2>/dev/null || echo "datacube <root@localhost>")
+Depends: libc6 (>= 2.34)
+Section: utils
+Priority: optional
+Installed-Size: $(du -sk "$files" | cut -f 1)
+Description: data cube of feeds of facts, with proved totals
+ Reads change feeds of facts (CSV) and prints the whole CUBE over the facts that
+ are present in the end: COUNT, SUM, MIN, MAX and AVG of every cell of every
+ subset of the dimensions, as sorted CSV.
+END
+(cd "$room/files" && find usr -type f -print0 | LC_ALL=C sort -z | xargs -0 md5sum >DEBIAN/md5sums)
+dpkg-deb --root-owner-group --build "$room/files" "$to/datacube_${version}_amd64.deb"

@@ -1,0 +1,203 @@
+"""The gate: what takes seconds first, then the proofs, then whether the released program is what they give.
+
+    scripts/test.sh [--quick | --anew]
+
+The program that the first parts run is one that was built here from these very sources, else the released one. The last
+line is `N passed, M failed` over all parts; before it stands a table of the seconds that each part took.
+"""
+import argparse
+import os
+import re
+import shutil
+import subprocess
+import sys
+import threading
+import time
+
+sys.dont_write_bytecode = True
+import programs
+
+ROOT = os.path.dirname(os.path.dirname(os.path.realpath(__file__)))
+BUILT = f"{ROOT}/crates/datacube/out"
+RELEASE = f"{ROOT}/release/x86_64-linux"
+COUNTS = re.compile(r"(\d+) passed, (\d+) failed")
+
+
+class Tally:
+    """What passed and what failed, and the seconds that each part took: of the clock, and of processors."""
+
+    def __init__(self):
+        self.passed = self.failed = 0
+        self.rows = []
+
+    def note(self, is_right, what):
+        """Counts one thing that was looked at."""
+        self.passed, self.failed = self.passed + is_right, self.failed + (not is_right)
+        print(f"{'ok     ' if is_right else 'FAILED '} {what}", flush=True)
+
+    def run(self, name, command):
+        """Runs a part, shows what it says but for its last line, and adds up what that counts."""
+        print(f"== {name}", flush=True)
+        start, before = time.time(), os.times()
+        said = stream(command)
+        after = os.times()
+        spent = after.children_user + after.children_system - before.children_user - before.children_system
+        self.rows.append((name, time.time() - start, spent))
+        self.add(said)
+
+    def add(self, ran):
+        """Adds up what a part's last line counts; a part without such a line, or with a status that it doesn't tell of, failed."""
+        status, last = ran
+        found = COUNTS.fullmatch(last)
+        passed, failed = map(int, found.groups()) if found else (0, 1)
+        if not found:
+            print(last, flush=True)
+        self.passed, self.failed = self.passed + passed, self.failed + (failed or int(status != 0))
+
+
+def stream(command):
+    """Runs a command and shows what it says but for its last line; gives its status and that line."""
+    ran = subprocess.Popen(command, cwd=ROOT, stdin=subprocess.DEVNULL, stdout=subprocess.PIPE, stderr=subprocess.STDOUT, text=True, errors="replace")
+    last = ""
+    for line in ran.stdout:
+        if last:
+            print(last, end="", flush=True)
+        last = line
+    return ran.wait(), last.strip()
+
+
+class Sampler(threading.Thread):
+    """Looks twice a second which crates the prover is at, and adds up the seconds of each crate's proof, tests and edits."""
+
+    def __init__(self):
+        super().__init__(daemon=True)
+        self.ended = threading.Event()
+        self.seen = {}
+        self.spans = {}
+
+    def run(self):
+        while not self.ended.wait(0.5):
+            for process in filter(str.isdigit, os.listdir("/proc")):
+                try:
+                    self.look(process)
+                except OSError:
+                    pass
+
+    def look(self, process):
+        with open(f"/proc/{process}/cmdline", "rb") as file:
+            words = file.read().split(b"\0")
+        if not words[0].endswith(b"/rattle") or b"--crate-name" not in words:
+            return
+        crate = words[words.index(b"--crate-name") + 1].decode()
+        folder = os.readlink(f"/proc/{process}/cwd")
+        if not folder.startswith(ROOT + "/") and "/rt-edit-" not in folder:
+            return
+        with open(f"/proc/{process}/stat", encoding="utf-8") as file:
+            fields = file.read().rpartition(")")[2].split()
+        key = crate, self.kind(words, folder)
+        spent = (int(fields[11]) + int(fields[12])) / os.sysconf("SC_CLK_TCK")
+        self.seen[process, fields[19]] = key, spent
+        now = time.time()
+        self.spans[key] = self.spans.get(key, (now, now))[0], now
+
+    def kind(self, words, folder):
+        if "/rt-edit-" in folder:
+            return "edits"
+        return "tests" if b"--test" in words else "building" if b"--crate-checked" in words else "proof"
+
+    def rows(self):
+        """The seconds of each crate's parts: from the first to the last look, and of processors."""
+        spent = {}
+        for key, seconds in self.seen.values():
+            spent[key] = spent.get(key, 0) + seconds
+        return [(f"{crate}: {kind}", self.spans[crate, kind][1] - self.spans[crate, kind][0], seconds) for (crate, kind), seconds in spent.items()]
+
+
+def quick_parts(program):
+    """The parts that take seconds, and need no kit."""
+    parts = [
+        ("cases", ["scripts/cases.py", "--program", program]),
+        ("documents", ["scripts/documents.py", "--check", "--program", program]),
+        ("a wrong program", ["scripts/spoil.py", "--program", program]),
+    ]
+    if shutil.which("cc"):
+        parts.append(("hostile use, the short form", ["scripts/hostile.sh", "--short", "--program", program]))
+    else:
+        print("left out, since there is no C compiler: hostile use")
+    return parts
+
+
+def prove(tally, is_anew):
+    """Proves everything from nothing, and records what was built."""
+    ci = ["rt", "ci"]
+    if is_anew and "--anew" in subprocess.run(["rt", "help"], stdout=subprocess.PIPE, stderr=subprocess.STDOUT, text=True).stdout:
+        ci.append("--anew")
+    print("== proofs, tests and edits of all crates; this takes the better part of an hour on four processors", flush=True)
+    sources, start = shell(f"sources_of {ROOT}"), time.time()
+    sampler = Sampler()
+    sampler.start()
+    tally.add(stream(ci))
+    sampler.ended.set()
+    sampler.join()
+    rows = sampler.rows()
+    tally.rows += [("proofs, tests and edits", time.time() - start, sum(it[2] for it in rows)), *sorted(rows, key=lambda it: -it[2])]
+    if os.path.exists(f"{BUILT}/datacube") and shell(f"sources_of {ROOT}") == sources:
+        shell(f"record {BUILT} {sources}")
+
+
+def see_release(tally):
+    """Sees that the released program is what the proved sources give."""
+    print("== the released program", flush=True)
+    sources = shell(f"sources_of {ROOT}")
+    recorded = {place: dict(key_values(place)) for place in (BUILT, RELEASE)}
+    tally.note(recorded[RELEASE].get("sources") == sources, "the released program was built from these sources")
+    tally.note(shell(f"is_whole {RELEASE} && echo yes") == "yes", "its bytes are those that were recorded")
+    is_same = recorded[BUILT].get("sources") == sources and contents(f"{BUILT}/datacube") == contents(f"{RELEASE}/datacube")
+    tally.note(is_same, "they are those that were built from the proved sources")
+    if not is_same:
+        print(f"        released by {recorded[RELEASE].get('kit')}, built by {recorded[BUILT].get('kit')}")
+        print("        scripts/release.sh makes what was built the released program")
+
+
+def key_values(place):
+    """The lines of a program's record."""
+    for line in contents(f"{place}/datacube.txt").decode().splitlines():
+        key, _, value = line.partition(": ")
+        yield key, value
+
+
+def contents(path):
+    if not os.path.exists(path):
+        return b""
+    with open(path, "rb") as file:
+        return file.read()
+
+
+def shell(call):
+    """What a function of programs.sh says."""
+    return subprocess.run(["sh", "-c", f". {ROOT}/scripts/programs.sh; {call}"], stdout=subprocess.PIPE, text=True).stdout.strip()
+
+
+def main():
+    parser = argparse.ArgumentParser()
+    parser.add_argument("--quick", action="store_true")
+    parser.add_argument("--anew", action="store_true")
+    given = parser.parse_args()
+    tally = Tally()
+    program = programs.datacube()
+    print(f"the program that is run: {os.path.relpath(program, ROOT)}", flush=True)
+    for name, command in quick_parts(program):
+        tally.run(name, command)
+    if not given.quick:
+        prove(tally, given.anew)
+        see_release(tally)
+        tally.run("cases of the library", ["scripts/library_cases.py"])
+    print("== seconds of the clock, and of processors")
+    for name, clock, spent in tally.rows:
+        print(f"{clock:8.0f} {spent:8.0f}  {name}")
+    print(f"{tally.passed} passed, {tally.failed} failed")
+    return 1 if tally.failed or not tally.passed else 0
+
+
+if __name__ == "__main__":
+    sys.exit(main())

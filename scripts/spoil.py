@@ -1,0 +1,82 @@
+#!/usr/bin/env python3
+"""Sees that the cases notice a wrong program: runs them on the program behind a wrapper that spoils what it says.
+
+    scripts/spoil.py [--program PATH] [WAY...]
+
+In each of the ways below some case has to fail. The last line is `N passed, M failed`, where a way passes that fails a
+case. The program is the one at PATH, else the one that `./datacube` would run.
+"""
+import argparse
+import os
+import shlex
+import shutil
+import subprocess
+import sys
+import tempfile
+
+sys.dont_write_bytecode = True
+import programs
+
+HERE = os.path.dirname(os.path.realpath(__file__))
+# (what the wrapper does with the output $out, the line of standard error $err, and the status)
+WAYS = {
+    "a row left out": "sed -i 2d $out",
+    "a count one too high": """awk -F, -v OFS=, 'NR == 1 { for (at = 1; at <= NF; at++) if ($at == "count(*)") count = at }
+        NR > 1 && count { $count++ } { print }' $out >$new; cp $new $out""",
+    "a refusal's code changed": """awk -F, -v OFS=, 'NR == 1 { is_refusals = $0 == "source,record,code" }
+        NR > 1 && is_refusals { $3++ } { print }' $out >$new; cp $new $out""",
+    "status 0 for 4": "[ $status -ne 4 ] || status=0",
+    "a part's rows printed twice": """awk -F, 'NR == 1 { for (at = NF; at; at--) if ($at ~ /^grouping/) first = at } { print }
+        NR > 1 && first && $first == 1 { print }' $out >$new; cp $new $out""",
+    r"\N printed for an empty text": r"sed -i '2,$s/^,/\\N,/; 2,$s/,,/,\\N,/g' $out",
+    "the last line end missing": "head -c -1 $out >$new; cp $new $out",
+    "a fault told as another": "sed -i 's/F3$/F4/; s/S4$/S5/' $err",
+}
+
+
+def wrapper_of(spoiling, program):
+    """The text of a program that spoils what another says."""
+    return f"""#!/bin/sh
+out=$(mktemp) err=$(mktemp) new=$(mktemp)
+{shlex.quote(program)} "$@" >$out 2>$err
+status=$?
+{spoiling}
+cat $err >&2
+cat $out
+rm $out $err $new
+exit $status
+"""
+
+
+def fault_of(spoiling, program, room):
+    """The first case that fails on the spoiled program, or None."""
+    wrapper = f"{room}/spoiled"
+    with open(wrapper, "w", encoding="utf-8") as file:
+        file.write(wrapper_of(spoiling, program))
+    os.chmod(wrapper, 0o755)
+    ran = subprocess.run([sys.executable, f"{HERE}/cases.py", "--first", "--program", wrapper], stdout=subprocess.PIPE, text=True)
+    failed = [it for it in ran.stdout.splitlines() if it.startswith("FAILED: ")]
+    return failed[0].split(": the ")[0].removeprefix("FAILED: ") if ran.returncode and failed else None
+
+
+def main():
+    parser = argparse.ArgumentParser()
+    parser.add_argument("--program")
+    parser.add_argument("way", nargs="*")
+    given = parser.parse_args()
+    passed = failed = 0
+    with tempfile.TemporaryDirectory(prefix="datacube-spoiled-") as room:
+        os.chmod(room, 0o755)
+        shutil.copy(given.program or programs.datacube(), f"{room}/program")
+        for way, spoiling in WAYS.items():
+            if given.way and way not in given.way:
+                continue
+            case = fault_of(spoiling, f"{room}/program", room)
+            passed, failed = passed + bool(case), failed + (not case)
+            print(f"ok      spoiled: {way} (fails: {case})" if case else f"FAILED  spoiled: {way}: no case fails", flush=True)
+    print(f"{passed} passed, {failed} failed")
+    return 1 if failed or not passed else 0
+
+
+if __name__ == "__main__":
+    sys.exit(main())
