@@ -158,6 +158,3 @@ impl<T: Drop> Inlet<T> {
         self.consumer.pop_known()
     }
 }
-
-#[cfg(test)]
-mod tests;

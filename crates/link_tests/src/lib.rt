@@ -1,4 +1,4 @@
-//! Links between two real threads.
+//! Links on one thread and between two.
 #![tactic(auto)]
 
 mod crossing;

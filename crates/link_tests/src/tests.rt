@@ -1,5 +1,7 @@
-//! What crosses a link between two threads.
+//! What crosses a link, on one thread and between two, ends dropped early, and what may move to another thread.
 use crate::cross;
+use cube_link::{Inlet, Outlet, Receipt, link};
+use std::sync::Arc;
 use std::test::Fail;
 
 #[test]
@@ -15,5 +17,75 @@ fn numbers_cross_in_order(rt: HostRuntime) -> Result<(), Fail> {
             assert_eq!(rt; *number, index as u64 + 1);
         }
     }
+    Ok(())
+}
+
+#[test]
+fn a_full_link_gives_the_item_back(rt: HostRuntime) -> Result<(), Fail> {
+    let (mut outlet, mut inlet) = link(rt.alloc(), 2)?;
+    assert_eq!(rt; outlet.offer(1u64), Ok(()));
+    assert_eq!(rt; outlet.offer(2), Ok(()));
+    assert_eq!(rt; outlet.offer(3), Err(3));
+    assert_eq!(rt; inlet.take(), Some(1));
+    assert_eq!(rt; outlet.offer(3), Ok(()));
+    assert_eq!(rt; inlet.take(), Some(2));
+    assert_eq!(rt; inlet.take(), Some(3));
+    assert_eq!(rt; inlet.take(), None);
+    let mut receipt = outlet.finish().expect(&rt, "a receipt");
+    assert_eq!(rt; inlet.left_after(&mut receipt), 0);
+    Ok(())
+}
+
+#[test]
+fn what_a_receipt_leaves_is_taken(rt: HostRuntime) -> Result<(), Fail> {
+    let (mut outlet, mut inlet) = link(rt.alloc(), 2)?;
+    assert_eq!(rt; outlet.offer(7u64), Ok(()));
+    assert_eq!(rt; outlet.offer(8), Ok(()));
+    let mut receipt = outlet.finish().expect(&rt, "a receipt");
+    assert!(rt; inlet.left_after(&mut receipt) == 2);
+    assert_eq!(rt; inlet.take_known(), 7);
+    assert_eq!(rt; inlet.take_known(), 8);
+    assert_eq!(rt; inlet.left_after(&mut receipt), 0);
+    assert_eq!(rt; inlet.take(), None);
+    Ok(())
+}
+
+#[test]
+fn items_in_the_ring_are_dropped_with_it(rt: HostRuntime) -> Result<(), Fail> {
+    let item = Arc::new(rt.alloc(), 5u64)?;
+    let (mut outlet, inlet) = link(rt.alloc(), 3)?;
+    assert!(rt; outlet.offer(Arc::try_clone(&item)?).is_ok());
+    drop(inlet);
+    assert!(rt; outlet.offer(Arc::try_clone(&item)?).is_ok());
+    assert!(rt; outlet.finish().is_none());
+    assert_eq!(rt; Arc::strong_count(&item), 1);
+    let (mut outlet, mut inlet) = link(rt.alloc(), 3)?;
+    assert!(rt; outlet.offer(Arc::try_clone(&item)?).is_ok());
+    assert!(rt; outlet.offer(Arc::try_clone(&item)?).is_ok());
+    drop(outlet);
+    assert!(rt; inlet.take().is_some());
+    assert_eq!(rt; Arc::strong_count(&item), 2);
+    drop(inlet);
+    assert_eq!(rt; Arc::strong_count(&item), 1);
+    Ok(())
+}
+
+// Takes what may move to another thread.
+fn hand_over<M: Send + Drop>(_moved: M) {}
+
+// The ends and the receipt of a link may move where its items may.
+fn hand_over_all<T: Send + Drop>(outlet: Outlet<T>, inlet: Inlet<T>, receipt: Option<Receipt<T>>) {
+    hand_over(outlet);
+    hand_over(inlet);
+    hand_over(receipt);
+}
+
+#[test]
+fn ends_and_receipts_can_move(rt: HostRuntime) -> Result<(), Fail> {
+    let (sealed, inlet) = link::<String>(rt.alloc(), 1)?;
+    let receipt = sealed.finish();
+    assert!(rt; receipt.is_some());
+    let (outlet, _) = link(rt.alloc(), 1)?;
+    hand_over_all(outlet, inlet, receipt);
     Ok(())
 }

@@ -1,6 +1,8 @@
 //! Feeds at fault while others go on.
 ghost use Rattle.std.specs.Prelude.{◌≡◌, ◌≤◌, vec_len, IfOk};
 
+use crate::feeds::Failing;
+use crate::gates::Held;
 use cube_core::Schema;
 use cube_engine::RunFault;
 use cube_feed::FeedFault;
@@ -10,7 +12,6 @@ use std::alloc::{AllocError, Global};
 use std::sync::Wait;
 use std::test::Fail;
 use std::thread::Threads;
-use thread_tests::{Failing, Held};
 
 const CAPPED: &[u8] =
     b"dimensions = [\"region\", \"kind\"]\nmeasures = [\"amount\"]\naggregates = [\"count(*)\"]\nmax_records = 3\n";

@@ -1,13 +1,16 @@
 //! Runs of which one source is held while the others go on.
 ghost use Rattle.std.specs.Prelude.{◌≤◌, length};
 
-use crate::{plain_text, run_texts};
+use crate::feeds::{one_of, thousand_of};
+use crate::gates::Held;
+use crate::texts::{plain_text, run_texts};
 use cube_core::Schema;
+use cube_threads::OpenGate;
 use std::alloc::Global;
+use std::str;
 use std::sync::Wait;
 use std::test::Fail;
 use std::thread::Threads;
-use thread_tests::{Held, one_of, thousand_of};
 
 // Whether a run whose source was held until so many parcels of the others were taken writes this text.
 fn writes_though_held<'a, T: Threads + Wait + Sync>(
@@ -91,6 +94,34 @@ fn more_builders_wait_for_a_held_source(rt: HostRuntime) -> Result<(), Fail> {
             three_held_in_turn(&rt, rt.alloc(), 64, builders)?,
             "at {builders}"
         );
+    }
+    Ok(())
+}
+
+#[test]
+fn three_sources_print_what_one_thread_prints(rt: HostRuntime) -> Result<(), Fail> {
+    let alloc = rt.alloc();
+    let schema = Schema::sample(alloc)?;
+    let one = thousand_of(alloc, 1)?;
+    let two = thousand_of(alloc, 2)?;
+    let three = thousand_of(alloc, 3)?;
+    let feeds = [one.as_str(), two.as_str(), three.as_str()];
+    let plain = plain_text(alloc, &schema, &feeds);
+    let plain = plain.ok().ok_or("the run on one thread failed")?;
+    let text = str::from_utf8(&plain)?;
+    assert_eq!(rt; text.lines().count(), 33);
+    assert_eq!(rt; text.lines().nth(1), Some("w0,k1,0,0,71,35287,7,987,497/1"));
+    assert_eq!(rt;
+        text.lines().last(),
+        Some("\\N,\\N,1,1,1500,750000,1,999,500/1")
+    );
+    for (capacity, builders) in [(1, 8), (2, 3)] {
+        let mut out = Vec::new(alloc);
+        let ran = run_texts(
+            &rt, alloc, &schema, &feeds, capacity, builders, &OpenGate, &mut out,
+        );
+        assert!(rt; ran.is_ok());
+        assert!(rt; out == plain, "at {capacity} with {builders}");
     }
     Ok(())
 }

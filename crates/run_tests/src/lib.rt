@@ -1,18 +1,21 @@
-//! Runs and commands in threads, from texts to what is printed.
+//! Tests of runs in threads with gates that hold them, and of readers and writers that fail.
 #![tactic(auto)]
 
 #[cfg(test)]
-mod commands;
-#[cfg(test)]
-mod examples;
+mod failures;
 #[cfg(test)]
 mod faults;
 #[cfg(test)]
-mod held;
-mod queries;
+mod feeds;
 #[cfg(test)]
-mod tests;
+mod gates;
+#[cfg(test)]
+mod held;
+#[cfg(test)]
+mod meetings;
+#[cfg(test)]
 mod texts;
-
-pub use queries::{drilled, printed, refused, sliced};
-pub use texts::{plain_text, run_texts};
+#[cfg(test)]
+mod turn;
+#[cfg(test)]
+mod writers;

@@ -1,15 +1,45 @@
-//! Runs over feeds that are texts.
-ghost use Rattle.std.specs.Prelude.{◌≤◌, length};
+//! Builds and runs over feeds that are texts.
+ghost use Rattle.std.specs.Prelude.{◌≡◌, ◌≤◌, length, vec_len, IfOk};
 
 use cube_core::Schema;
 use cube_engine::RunFault;
-use cube_threads::Gate;
+use cube_threads::{Gate, build};
 use cube_tool::{run, run_plain};
-use std::alloc::Global;
+use std::alloc::{AllocError, Global};
 use std::io::Write;
 use std::sync::Wait;
 use std::thread::Threads;
-use thread_tests::readers_of;
+
+/// A reader of each text.
+fn readers_of<'a>(alloc: Global, feeds: &[&'a str]) -> Result<Vec<&'a [u8]>, AllocError>
+    ensures { IfOk result (λ readers. vec_len readers ≡ length feeds.now) }
+{
+    let mut readers = Vec::with_capacity(alloc, feeds.len())?;
+    for feed in feeds {
+        readers.push(feed.as_bytes())?;
+    }
+    Ok(readers)
+}
+
+/// The fault of the build of the feeds that texts are, the first by source 1.
+pub fn fault_of_build<'a, T: Threads + Wait + Sync, G: Gate + Sync>(
+    rt: &T,
+    alloc: Global,
+    schema: &Schema,
+    feeds: &[&'a str],
+    capacity: usize,
+    builders: u32,
+    gate: &G,
+) -> Option<RunFault>
+    requires feeds { (1 ≤ length feeds.now) × (length feeds.now ≤ 64) }
+    requires capacity { (1 ≤ capacity) × (capacity ≤ 65536) }
+    requires builders { (1 ≤ builders) × (builders ≤ 8) }
+{
+    let Ok(readers) = readers_of(alloc, feeds) else {
+        return Some(RunFault::Memory);
+    };
+    build(rt, alloc, schema, readers, capacity, builders, gate).err()
+}
 
 /// Writes the printed cube of the feeds that texts are, the first by source 1.
 pub fn run_texts<'a, T: Threads + Wait + Sync, G: Gate + Sync, W: Write>(

@@ -1,4 +1,4 @@
-//! Feeds that are made for tests, and a reader that fails.
+//! Feeds that are made, and a reader that fails.
 use std::alloc::{AllocError, Global};
 use std::io;
 use std::io::Read;
@@ -21,26 +21,6 @@ pub fn thousand_of(alloc: Global, source: u32) -> Result<String, AllocError> {
 /// The feed of one insert, whose amount is the source.
 pub fn one_of(alloc: Global, source: u32) -> Result<String, AllocError> {
     format!(in alloc; "op,id,region,kind,amount\nI,1,w,a,{source}\n")
-}
-
-/// Hands its bytes out, and then fails where it is torn.
-#[derive(Drop)]
-pub struct Torn<'a> {
-    pub bytes: &'a [u8],
-    pub is_torn: bool,
-}
-
-impl<'a> Read for Torn<'a> {
-    fn read(&mut self, buf: &mut [u8]) -> io::Result<usize> {
-        if self.bytes.is_empty() && self.is_torn {
-            return Err(io::Error::from(io::ErrorKind::BrokenPipe));
-        }
-        let count = buf.len().min(self.bytes.len());
-        let (piece, rest) = self.bytes.split_at(count);
-        buf[..count].copy_from_slice(piece);
-        self.bytes = rest;
-        Ok(count)
-    }
 }
 
 /// Hands its bytes out, at most 16 a read, and fails at the read after so many.

@@ -1,0 +1,123 @@
+//! Commands whose readers and writers fail, and the lines of failures that no command can be made to show.
+use crate::feeds::Failing;
+use crate::texts::run_texts;
+use crate::writers::{Full, Narrow};
+use cube_core::{Schema, SchemaFault};
+use cube_engine::RunFault;
+use cube_threads::OpenGate;
+use cube_tool::WriteFault;
+use cube_tool::command::{Failure, answer_words, check, run_sample};
+use cube_words::read_words;
+use std::alloc::Global;
+use std::io;
+use std::io::Read;
+use std::test::Fail;
+
+// The sample schema as a file.
+const SCHEMA: &[u8] = b"\
+dimensions = [\"region\", \"kind\"]
+measures = [\"amount\"]
+aggregates = [\"count(*)\", \"sum(amount)\", \"min(amount)\", \"max(amount)\", \"avg(amount)\"]
+";
+
+// A feed of one insert.
+const FEED: &str = "op,id,region,kind,amount\nI,1,west,a,5\n";
+
+// A writer that takes some bytes and then fails.
+fn writer_of(alloc: Global, room: usize) -> Narrow {
+    Narrow::new(
+        alloc,
+        usize::MAX,
+        room,
+        Full::Fails(io::ErrorKind::BrokenPipe),
+    )
+}
+
+#[test]
+fn a_failed_write_tells_how_much_went_out(rt: HostRuntime) -> Result<(), Fail> {
+    let alloc = rt.alloc();
+    let ten = RunFault::Write { sent: 10 };
+    let mut out = writer_of(alloc, 10);
+    assert_eq!(rt;
+        run_sample(alloc, FEED.as_bytes(), &mut out),
+        Err(Failure::Run(ten))
+    );
+    assert_eq!(rt; out.taken.as_slice(), b"region,kin".as_slice());
+    let mut out = writer_of(alloc, 10);
+    let schema = Schema::sample(alloc)?;
+    let fault = run_texts(
+        &rt,
+        alloc,
+        &schema,
+        &[FEED, FEED],
+        1,
+        2,
+        &OpenGate,
+        &mut out,
+    )
+    .err();
+    assert_eq!(rt; fault, Some(ten));
+    assert_eq!(rt; out.taken.as_slice(), b"region,kin".as_slice());
+    for room in [0, 1, 2] {
+        let mut out = writer_of(alloc, room);
+        let fault = RunFault::Write { sent: room };
+        assert_eq!(rt; check(alloc, SCHEMA, &mut out), Err(Failure::Run(fault)));
+        assert_eq!(rt; Some(out.taken.as_slice()), b"ok\n".get(..room));
+    }
+    Ok(())
+}
+
+#[test]
+fn help_that_cannot_be_written_fails(rt: HostRuntime) -> Result<(), Fail> {
+    let Err(error) = read_words(rt.alloc(), &["datacube", "--help"]) else {
+        return Err(Fail::from("the words were taken"));
+    };
+    let mut out = writer_of(rt.alloc(), 6);
+    let mut err = Vec::new(rt.alloc());
+    assert_eq!(rt;
+        answer_words(rt.alloc(), &error, &mut out, &mut err),
+        Err(Failure::Run(RunFault::Write { sent: 6 }))
+    );
+    assert_eq!(rt; out.taken.as_slice(), b"Prints".as_slice());
+    Ok(())
+}
+
+#[test]
+fn a_schema_whose_reading_fails_is_unreadable(rt: HostRuntime) {
+    let mut out = Vec::new(rt.alloc());
+    for start in [b"".as_slice(), SCHEMA] {
+        let file = start.chain(Failing {
+            bytes: b"",
+            reads: 0,
+        });
+        assert_eq!(rt; check(rt.alloc(), file, &mut out), Err(Failure::Unreadable));
+    }
+    assert_eq!(rt; out.as_slice().len(), 0);
+}
+
+#[test]
+fn failures_that_no_command_shows_have_their_lines(rt: HostRuntime) -> Result<(), Fail> {
+    let alloc = rt.alloc();
+    let table = [
+        (Failure::Schema(SchemaFault::Memory), "datacube: S1"),
+        (Failure::Run(RunFault::Memory), "datacube: G1"),
+        (Failure::Run(RunFault::NoThread), "datacube: G2"),
+        (Failure::Run(RunFault::Full), "datacube: G4"),
+        (
+            Failure::Run(RunFault::Unsealed { source: 2 }),
+            "datacube: G5 2",
+        ),
+        (
+            Failure::Run(RunFault::Write { sent: 10 }),
+            "datacube: G6 10",
+        ),
+    ];
+    for (failure, text) in table {
+        assert_eq!(rt; failure.to_string(alloc)?.as_str(), text);
+    }
+    assert_eq!(rt;
+        WriteFault { sent: 7 }.to_string(alloc)?.as_str(),
+        "WriteFault"
+    );
+    Ok(())
+}
