@@ -1,24 +1,19 @@
-//! Tests of the schema, its grouping and its faults, of patterns, amendments, means, the values of a fact,
-//! and the plain cube, over the public calls of `cube_core` and `plain_cube`.
+//! Tests of values, schemas, patterns and the reader of a feed that need code: memory that is refused, readers that fail
+//! or give pieces, texts of faults that no command shows, and calls that the command line doesn't reach. All else of
+//! them is in `cases/`.
 #![tactic(auto)]
 
 #[cfg(test)]
-mod amendments;
+mod faults;
 #[cfg(test)]
-mod groupings;
-#[cfg(test)]
-mod means;
-#[cfg(test)]
-mod names;
-#[cfg(test)]
-mod patterns;
+mod memory;
 #[cfg(test)]
 mod plain;
 #[cfg(test)]
+mod readers;
+#[cfg(test)]
 mod reading;
 #[cfg(test)]
-mod rows;
-#[cfg(test)]
-mod schemas;
+mod shown;
 #[cfg(test)]
 mod values;

@@ -1,7 +1,6 @@
-//! The values of a fact: few and many, in short texts and in long ones.
-use crate::reading::expect_equal;
-use crate::rows::value_of;
-use cube_core::{DimensionValues, SmallSequence};
+//! The values of a fact, few and many, in short texts and in long ones: calls that no command makes, or that can't be
+//! told apart by what it prints.
+use cube_core::{DimensionValues, SmallSequence, Text};
 use std::alloc::{AllocError, Global};
 use std::process::Abort;
 use std::test::Fail;
@@ -26,54 +25,51 @@ const LONG: [Option<&str>; 3] = [
     Some("a"),
 ];
 
-/// The values that are pushed one by one.
-fn pushed(alloc: Global, values: &[Option<&str>]) -> Result<DimensionValues, AllocError> {
-    let mut dims = DimensionValues::new(alloc);
-    for value in values {
-        dims.push(*value)?;
+/// The values of these texts.
+fn values_of(alloc: Global, texts: &[Option<&str>]) -> Result<Vec<Option<Text>>, AllocError> {
+    let mut values = Vec::new(alloc);
+    for text in texts {
+        values.push(match text {
+            Some(text) => Some(Text::from_str(alloc, *text)?),
+            None => None,
+        })?;
     }
-    Ok(dims)
+    Ok(values)
 }
 
 /// There are these values in order, and none past them.
 fn expect_values(rt: &impl Abort, dims: &DimensionValues, wanted: &[Option<&str>], case: &str) {
-    expect_equal(rt, dims.len(), wanted.len(), case);
+    assert_eq!(rt; dims.len(), wanted.len(), "{case}");
     for (place, value) in wanted.iter().enumerate() {
-        expect_equal(rt, dims.get(place), *value, case);
+        assert_eq!(rt; dims.get(place), *value, "{case} at {place}");
     }
-    expect_equal(rt, dims.get(wanted.len()), None, case);
-    expect_equal(rt, dims.get(usize::MAX), None, case);
+    assert_eq!(rt; dims.get(wanted.len()), None, "{case}");
+    assert_eq!(rt; dims.get(usize::MAX), None, "{case}");
 }
 
-/// The values come back after each push, and from a copy.
+/// The values come back after each push, from a copy, which is by itself, and from a slice.
 fn expect_pushed(rt: &impl Abort, alloc: Global, values: &[Option<&str>]) -> Result<(), Fail> {
-    for count in 0..=values.len() {
-        let wanted = &values[..count];
-        let dims = pushed(alloc, wanted)?;
-        expect_values(rt, &dims, wanted, "values pushed");
-        let copy = dims.copy(alloc)?;
-        expect_values(rt, &copy, wanted, "a copy");
-        expect_values(rt, &dims, wanted, "values copied");
+    let mut dims = DimensionValues::new(alloc);
+    for (place, value) in values.iter().enumerate() {
+        dims.push(*value)?;
+        expect_values(rt, &dims, &values[..=place], "values pushed");
+        let mut copy = dims.copy(alloc)?;
+        expect_values(rt, &copy, &values[..=place], "a copy");
+        copy.push(Some("b"))?;
+        assert_eq!(rt; copy.get(copy.len() - 1), Some("b"));
+        expect_values(rt, &dims, &values[..=place], "the source of a copy");
     }
+    let slice = values_of(alloc, values)?;
+    let dims = DimensionValues::from_slice(alloc, &slice)?;
+    expect_values(rt, &dims, values, "values of a slice");
     Ok(())
 }
 
 #[test]
-fn values_pushed_come_back_in_order(rt: HostRuntime) -> Result<(), Fail> {
+fn values_come_back_in_order(rt: HostRuntime) -> Result<(), Fail> {
     expect_pushed(&rt, rt.alloc(), &SIX)?;
     expect_pushed(&rt, rt.alloc(), &FIVE)?;
     expect_pushed(&rt, rt.alloc(), &LONG)
-}
-
-#[test]
-fn values_of_a_slice_come_back_in_order(rt: HostRuntime) -> Result<(), Fail> {
-    let mut values = Vec::new(rt.alloc());
-    for value in &SIX {
-        values.push(value_of(rt.alloc(), *value)?)?;
-    }
-    let dims = DimensionValues::from_slice(rt.alloc(), &values)?;
-    expect_values(&rt, &dims, &SIX, "values of a slice");
-    Ok(())
 }
 
 #[test]
@@ -88,37 +84,22 @@ fn fields_are_added_together_or_not_at_all(rt: HostRuntime) -> Result<(), Fail> 
 }
 
 #[test]
-fn a_copy_is_by_itself(rt: HostRuntime) -> Result<(), Fail> {
-    let dims = pushed(rt.alloc(), &LONG)?;
-    let mut copy = dims.copy(rt.alloc())?;
-    copy.push(Some("b"))?;
-    expect_equal(&rt, copy.get(3), Some("b"), "the copy");
-    expect_values(&rt, &dims, &LONG, "its source");
-    Ok(())
-}
-
-#[test]
 fn measures_come_back_in_order(rt: HostRuntime) -> Result<(), Fail> {
     let wanted = [Some(5), None, Some(i64::MIN), Some(i64::MAX)];
     for count in 0..=wanted.len() {
         let wanted = &wanted[..count];
         let measures = SmallSequence::from_slice(rt.alloc(), wanted)?;
-        expect_equal(&rt, measures.as_slice(), wanted, "measures of a slice");
-        expect_equal(&rt, measures.len(), count, "their number");
-        expect_equal(
-            &rt,
-            measures.is_empty(),
-            count == 0,
-            "whether there is none",
-        );
+        assert_eq!(rt; measures.as_slice(), wanted, "measures of a slice");
+        assert_eq!(rt; measures.len(), count, "their number");
+        assert_eq!(rt; measures.is_empty(), count == 0, "whether there is none");
         let measures = SmallSequence::from_vec(wanted.to_vec(rt.alloc())?);
-        expect_equal(&rt, measures.as_slice(), wanted, "measures of a vector");
+        assert_eq!(rt; measures.as_slice(), wanted, "measures of a vector");
         let mut measures = SmallSequence::new(rt.alloc());
         measures.reserve_exact(count)?;
         for measure in wanted {
             measures.push(*measure)?;
         }
-        expect_equal(&rt, measures.as_slice(), wanted, "measures pushed");
+        assert_eq!(rt; measures.as_slice(), wanted, "measures pushed");
     }
     Ok(())
 }
