@@ -1,6 +1,4 @@
 //! Growths that are refused. To refuse each in turn, run `rt try --test --fail-alloc N` for each N from 1.
-use crate::expect::expect_equal;
-use crate::sample::SAMPLE_SCHEMA;
 use cube_core::SchemaFault;
 use cube_engine::RunFault;
 use cube_feed::FeedFault;
@@ -14,6 +12,12 @@ west,a,0,0,1,5,5,5,5/1
 west,\\N,0,1,1,5,5,5,5/1
 \\N,a,1,0,1,5,5,5,5/1
 \\N,\\N,1,1,1,5,5,5,5/1
+";
+
+const SCHEMA: &[u8] = b"\
+dimensions = ['region', 'kind']
+measures = ['amount']
+aggregates = ['count(*)', 'sum(amount)', 'min(amount)', 'max(amount)', 'avg(amount)']
 ";
 
 /// Whether a run's failure is want of memory: for the sample schema, before a record, in reading, or later.
@@ -36,21 +40,19 @@ fn a_refused_growth_of_a_run_is_told_as_want_of_memory(rt: HostRuntime) {
     };
     match run_sample(rt.alloc(), FEED, &mut out) {
         Ok(status) => {
-            expect_equal(&rt, status, Status::Done, "the status");
-            expect_equal(&rt, out.as_slice(), CUBE, "the cube");
+            assert_eq!(rt; status, Status::Done);
+            assert_eq!(rt; out.as_slice(), CUBE);
         }
         Err(failure) => {
-            expect_equal(&rt, wants_memory(failure), true, "the failure");
-            expect_equal(&rt, out.len(), 0, "what was written");
+            assert!(rt; wants_memory(failure), "{failure}");
+            assert!(rt; out.is_empty());
         }
     }
 }
 
 #[test]
 fn a_refused_growth_of_a_schema_is_told_as_want_of_memory(rt: HostRuntime) {
-    let found = read_schema(rt.alloc(), SAMPLE_SCHEMA.as_bytes()).err();
-    if found.is_some() {
-        let wanted = Some(Failure::Schema(SchemaFault::Memory));
-        expect_equal(&rt, found, wanted, "the failure");
+    if let Err(failure) = read_schema(rt.alloc(), SCHEMA) {
+        assert_eq!(rt; failure, Failure::Schema(SchemaFault::Memory));
     }
 }

@@ -1,26 +1,11 @@
-//! Tests that cross crates: whole runs, from the bytes of a feed to the bytes of the printed cube.
+//! Tests of readers and growths that fail, of the texts of line faults, and of counted values at the ends of their range.
 #![tactic(auto)]
 
 #[cfg(test)]
-mod books;
-#[cfg(test)]
-mod calls;
-#[cfg(test)]
-mod cells;
-#[cfg(test)]
-mod commands;
-#[cfg(test)]
-mod expect;
-#[cfg(test)]
-mod failures;
-#[cfg(test)]
-mod groupings;
+mod ends;
 #[cfg(test)]
 mod growths;
 #[cfg(test)]
-mod runs;
-pub mod sample;
+mod line_faults;
 #[cfg(test)]
-mod sizes;
-#[cfg(test)]
-mod sources;
+mod readers;
