@@ -3,12 +3,11 @@ ghost use Rattle.std.specs.Prelude.{◌≡◌, OnOk, true};
 ghost use Rattle.std.specs.List.{list_all};
 ghost use Rattle.cube_core.specs.Takes.{fits};
 
-use crate::facts::line;
 use crate::sample::{add, cube_of, holds, remove, remove_line, schema_of};
-use crate::text::text_of;
 use crate::words::rows_of;
 use cube_cells::Cube;
 use cube_core::{DimensionValues, Fact, Row, Schema, SmallSequence};
+use fixtures::{line, text_of};
 use plain_cube::plain_rows;
 use std::alloc::{AllocError, Global};
 use std::process::Abort;

@@ -1,8 +1,8 @@
 //! Growths that are refused. To refuse each in turn, run `rt try --test --fail-alloc N` for each N from 1.
-use crate::facts::{fact_of, line};
 use crate::sample::{add, cube_of};
 use crate::words::rows_of;
 use cube_core::{QueryFault, Schema};
+use fixtures::{fact_of, line};
 use std::alloc::{AllocError, Global};
 use std::process::Abort;
 use std::test::Fail;

@@ -1,8 +1,8 @@
 //! Rows, slices, roll-up and drill-down of small cubes.
-use crate::facts::{FactLine, line};
 use crate::sample::cube_of;
 use crate::words::{drilled, rolled_up, rows_of, sliced};
 use cube_core::{QueryFault, Schema};
+use fixtures::{FactLine, line};
 use std::alloc::Global;
 use std::process::Abort;
 

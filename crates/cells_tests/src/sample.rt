@@ -1,9 +1,9 @@
 //! Schemas, and cubes of facts.
 ghost use Rattle.std.specs.Prelude.{◌≡◌, IfOk, OnOk};
 
-use crate::facts::{FactLine, fact_of};
 use cube_cells::Cube;
 use cube_core::{Fact, Schema};
+use fixtures::{FactLine, fact_of};
 use std::alloc::{AllocError, Global};
 use std::process::Abort;
 

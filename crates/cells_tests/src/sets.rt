@@ -1,10 +1,9 @@
 //! Parts of the lattice, and chosen grouping sets.
-use crate::facts::{FactLine, line};
 use crate::sample::{add_lines, cube_of, remove_line, schema_of};
-use crate::schemas::EIGHT;
 use crate::words::{drilled, rolled_up, rows_of, sliced};
 use cube_cells::Cube;
 use cube_core::{QueryFault, Schema};
+use fixtures::{EIGHT, FactLine, line};
 use std::alloc::Global;
 use std::process::Abort;
 

@@ -1,9 +1,9 @@
 //! Queries by words, answered as text.
 ghost use Rattle.std.specs.Prelude.{◌≡◌, ◌<◌, IfOk, length};
 
-use crate::text::text_of;
 use cube_cells::Cube;
 use cube_core::{Key, Pattern, QueryFault, Schema};
+use fixtures::text_of;
 use std::alloc::Global;
 
 /// The rows of a cube, as text.

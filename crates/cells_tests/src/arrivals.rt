@@ -4,9 +4,9 @@ ghost use Rattle.std.specs.List.{list_all};
 ghost use Rattle.cube_core.specs.Takes.{fits};
 
 use crate::items::{apply, delete, expect_shown, insert, push_refusal, update};
-use cells_tests::{FactLine, fact_of, text_of};
 use cube_core::{Change, Fact, LineFault, Schema};
 use cube_engine::Builder;
+use fixtures::{FactLine, fact_of, text_of};
 use plain_cube::plain_rows;
 use std::alloc::{AllocError, Global};
 use std::process::Abort;

@@ -1,7 +1,7 @@
 //! Changes, builders that take them, and what a builder has come to.
-use cells_tests::{FactLine, fact_of, text_of};
 use cube_core::{Change, Fact, Field, Item, LineFault, Partial, Refusal, Sequence, Text};
 use cube_engine::Builder;
+use fixtures::{FactLine, fact_of, text_of};
 use std::alloc::{AllocError, Global};
 use std::process::Abort;
 

@@ -2,7 +2,7 @@
 ghost use Rattle.std.specs.Prelude.{◌≡◌};
 
 use crate::cubes::{add_all, expect_alike, expect_plain, fill, remove_all};
-use crate::facts::facts_from;
+use crate::generated::facts_from;
 use cube_cells::Cube;
 use cube_core::{Fact, Schema};
 use std::alloc::{AllocError, Global};

@@ -1,6 +1,6 @@
 //! Facts that are generated from a seed: few texts, nulls, and extreme numbers.
-use cells_tests::{FactLine, fact_of};
 use cube_core::{Fact, Schema};
+use fixtures::{FactLine, fact_of};
 use std::alloc::{AllocError, Global};
 
 const TEXTS: [&str; 4] = ["", "a", "ab", "\\N"];

@@ -1,8 +1,8 @@
 //! What a book answers to changes.
 use crate::items::expect_equal;
-use cells_tests::{FactLine, fact_of};
 use cube_core::{Change, Fact, Text};
 use cube_engine::{Book, BookFault, Delta};
+use fixtures::{FactLine, fact_of};
 use std::alloc::{AllocError, Global};
 use std::process::Abort;
 use std::test::Fail;

@@ -1,7 +1,7 @@
 //! Growths that are refused while a cube is filled. To refuse each in turn, run `rt try --test --fail-alloc N` for each
 //! N from 1.
 use crate::cubes::{add_all, expect_plain, fill};
-use crate::facts::facts_from;
+use crate::generated::facts_from;
 use cube_cells::Cube;
 use cube_core::Schema;
 use std::alloc::{AllocError, Global};

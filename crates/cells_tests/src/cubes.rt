@@ -6,9 +6,9 @@ ghost use Rattle.cube_core.specs.declared.fact.Fact.{Fact};
 ghost use Rattle.cube_cells.specs.Cube.{SameSets};
 ghost use Rattle.cube_cells.specs.Fill.{IsCubeOfAll};
 
-use cells_tests::text_of;
 use cube_cells::Cube;
 use cube_core::{Fact, Schema};
+use fixtures::text_of;
 use plain_cube::plain_rows;
 use std::alloc::{AllocError, Global};
 use std::process::Abort;

@@ -1,9 +1,9 @@
 //! Growths that are refused. To refuse each in turn, run `rt try --test --fail-alloc N` for each N from 1.
 use crate::builders::{WEST, builder_of_west};
 use crate::items::{amend, apply, delete, expect_equal, expect_shown, insert, shown, update};
-use cells_tests::{SECOND_VERSION, line};
 use cube_core::{Field, Item, Schema, Text};
 use cube_engine::Builder;
+use fixtures::{SECOND_VERSION, line};
 use std::alloc::{AllocError, Global};
 use std::process::Abort;
 use std::test::Fail;

@@ -1,8 +1,8 @@
 //! What a builder does with items that a caller made.
 use crate::items::{amend, apply, delete, expect_shown, insert, update};
-use cells_tests::{SECOND_VERSION, line};
 use cube_core::{Change, DimensionValues, Fact, Field, LineFault, Schema, SmallSequence, Text};
 use cube_engine::Builder;
+use fixtures::{SECOND_VERSION, line};
 use std::alloc::{AllocError, Global};
 use std::process::Abort;
 use std::test::Fail;
