@@ -1,5 +1,5 @@
-//! What a builder does with items that a caller made.
-use crate::items::{amend, apply, delete, expect_shown, insert, update};
+//! What a builder does with items that no feed has.
+use crate::items::{amend, apply, delete, expect_shown, insert};
 use cube_core::{Change, DimensionValues, Fact, Field, LineFault, Schema, SmallSequence, Text};
 use cube_engine::Builder;
 use fixtures::{SECOND_VERSION, line};
@@ -84,37 +84,5 @@ fn what_only_the_second_version_has_is_misshapen_in_the_first(rt: HostRuntime) -
     apply(&rt, &mut builder, 1, 2, Ok(change))?;
     apply(&rt, &mut builder, 1, 3, Err(LineFault::Keep))?;
     expect_west(&rt, alloc, &builder, "1,2,8\n1,3,8\n")?;
-    Ok(())
-}
-
-#[test]
-fn the_second_version_has_its_codes_of_presence(rt: HostRuntime) -> Result<(), Fail> {
-    let alloc = rt.alloc();
-    let schema = Schema::from_toml(alloc, SECOND_VERSION.as_bytes())?;
-    let mut builder = Builder::new(alloc, &schema, 1)?;
-    apply(&rt, &mut builder, 1, 1, Ok(delete(alloc, "1")?))?;
-    let first = insert(alloc, "2", line(&["west", "a"], 5))?;
-    apply(&rt, &mut builder, 1, 2, Ok(first))?;
-    let second = insert(alloc, "2", line(&["west", "a"], 7))?;
-    apply(&rt, &mut builder, 1, 3, Ok(second))?;
-    let absent = update(alloc, "9", line(&["west", "a"], 7))?;
-    apply(&rt, &mut builder, 1, 4, Ok(absent))?;
-    expect_west(&rt, alloc, &builder, "1,1,8\n1,3,7\n1,4,8\n")?;
-    Ok(())
-}
-
-#[test]
-fn an_amendment_puts_null_and_keeps_the_rest(rt: HostRuntime) -> Result<(), Fail> {
-    let alloc = rt.alloc();
-    let schema = Schema::from_toml(alloc, SECOND_VERSION.as_bytes())?;
-    let mut builder = builder_of_west(&rt, alloc, &schema)?;
-    let change = amend(alloc, "1", Field::Keep, Field::Put(None), Field::Keep)?;
-    apply(&rt, &mut builder, 1, 2, Ok(change))?;
-    let rows = "west,\\N,0,0,1,5,5,5,5/1
-west,\\N,0,1,1,5,5,5,5/1
-\\N,\\N,1,0,1,5,5,5,5/1
-\\N,\\N,1,1,1,5,5,5,5/1
-";
-    expect_shown(&rt, alloc, &builder, rows, "an amendment")?;
     Ok(())
 }

@@ -24,21 +24,19 @@ pub fn add_all(
     ensures { cube.new.schema ≡ cube.old.schema }
 {
     for fact in facts {
-        assert!(rt; schema.fits(fact));
-        assert!(rt; cube.facts() < u64::MAX);
-        cube.add(fact)?;
+        add(rt, schema, cube, fact)?;
     }
     Ok(())
 }
 
-/// Removes facts that are held, one after another.
-pub fn remove_all(rt: &impl Abort, cube: &mut Cube, facts: &[Fact])
+/// Adds a fact that fits the schema. The only error is want of memory.
+pub fn add(rt: &impl Abort, schema: &Schema, cube: &mut Cube, fact: &Fact) -> Result<(), AllocError>
+    requires { cube.old.schema ≡ schema.now }
     ensures { cube.new.schema ≡ cube.old.schema }
 {
-    for fact in facts {
-        assert!(rt; cube.holds(fact));
-        cube.remove(fact);
-    }
+    assert!(rt; schema.fits(fact));
+    assert!(rt; cube.facts() < u64::MAX);
+    cube.add(fact)
 }
 
 /// Fills a cube with facts that fit the schema. The only error is want of memory.
@@ -88,20 +86,6 @@ fn gather_one(
     assert!(rt; schema.fits(fact));
     assert!(rt; cube.facts() < u64::MAX);
     cube.add(fact)?;
-    Ok(())
-}
-
-/// Checks that two cubes have the same rows and as many facts. The only error is want of memory.
-pub fn expect_alike(
-    rt: &impl Abort,
-    alloc: Global,
-    cube: &Cube,
-    other: &Cube,
-) -> Result<(), AllocError> {
-    let text = text_of(alloc, &cube.rows()?)?;
-    let wanted = text_of(alloc, &other.rows()?)?;
-    assert_eq!(rt; text.as_str(), wanted.as_str());
-    assert_eq!(rt; cube.facts(), other.facts());
     Ok(())
 }
 

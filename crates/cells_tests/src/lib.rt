@@ -1,11 +1,7 @@
-//! Tests of counted values, cells, the cube, books and the builder: growths that are refused, and what only code can
-//! ask of them.
+//! Tests of what only code can ask of counted values, cells, cubes and builders: growths that are refused, and items
+//! that no feed has. What their calls answer else, the cases of cases/library say.
 #![tactic(auto)]
 
-#[cfg(test)]
-mod arrivals;
-#[cfg(test)]
-mod books;
 #[cfg(test)]
 mod builder_growths;
 #[cfg(test)]
@@ -13,15 +9,9 @@ mod builders;
 #[cfg(test)]
 mod cells;
 #[cfg(test)]
-mod changes;
-#[cfg(test)]
-mod counted;
-#[cfg(test)]
 mod cubes;
 #[cfg(test)]
 mod fill_growths;
-#[cfg(test)]
-mod fills;
 #[cfg(test)]
 mod generated;
 #[cfg(test)]
@@ -30,11 +20,3 @@ mod growths;
 mod items;
 #[cfg(test)]
 mod logs;
-#[cfg(test)]
-mod queries;
-#[cfg(test)]
-mod sample;
-#[cfg(test)]
-mod sets;
-#[cfg(test)]
-mod words;
