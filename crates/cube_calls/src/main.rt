@@ -20,7 +20,7 @@ mod questions;
 mod schemas;
 mod script;
 
-use anyhow::{Result, bail};
+use anyhow::{Result, bail, ensure};
 use cube_core::Schema;
 use script::{Printout, words_of};
 use std::io::Write;
@@ -67,6 +67,7 @@ fn schema_of(rt: &HostRuntime) -> Result<Schema> {
     let Some(path) = words.next() else {
         return Ok(Schema::sample(rt.alloc())?);
     };
+    ensure!(words.next().is_none(), "more than one word");
     let document = fs::read(rt, &path)?;
     Ok(Schema::from_toml(rt.alloc(), &document)?)
 }
