@@ -19,7 +19,8 @@ is ../examples. A case is a block of lines:
     folder NAME          a folder
     locked NAME          takes all rights from a file
     bytes NAME N         a file of N bytes: the sample schema and then a comment
-    stdin FILE           what stands on standard input; it is empty else, and `stdin closed` closes it
+    stdin FILE           what stands on standard input, and `stdin` alone the lines below it; it is empty else, and
+                         `stdin closed` closes it
     stdout WAY           where the output goes: `closed`, `full` (a full disk), `gone` (a pipe that nobody reads)
     out                  the output, as the lines below it; `out FILE` as that file, `out has TEXT` with this text in it
     err TEXT             the line on standard error; `err has TEXT` with this text in it
@@ -135,7 +136,9 @@ def read_line(case, word, rest, place):
         name, _, count = rest.partition(" ")
         case.made.append((word, name, int(count)))
     elif word == "stdin":
-        case.stdin = rest
+        case.stdin = rest or "stdin"
+        if not rest:
+            case.made.append(("file", "stdin", (1, lines)))
     elif word == "stdout":
         case.stdout = rest
         case.out = []
@@ -252,11 +255,10 @@ def try_case(case, room, folder):
     return run(case, f"{room}/{folder}")
 
 
-def all_cases(words):
-    """The cases of all files, or those whose name has one of the words."""
-    files = sorted(it for it in os.listdir(f"{ROOT}/cases") if it.endswith(".case"))
-    cases = [it for name in files for it in read_cases(f"{ROOT}/cases/{name}")]
-    return [it for it in cases if not words or any(word in it.name for word in words)]
+def all_cases(folder="cases"):
+    """The cases of all files of a folder."""
+    files = sorted(it for it in os.listdir(f"{ROOT}/{folder}") if it.endswith(".case"))
+    return [it for name in files for it in read_cases(f"{ROOT}/{folder}/{name}")]
 
 
 def tried(cases, program, first):
@@ -274,16 +276,17 @@ def tried(cases, program, first):
                     return
 
 
-def main():
+def main(cases, program):
+    """Runs those of the cases that the words name on the program that they give, or on this one."""
     parser = argparse.ArgumentParser()
     parser.add_argument("-v", action="store_true", dest="loud")
     parser.add_argument("--program")
     parser.add_argument("--first", action="store_true")
     parser.add_argument("name", nargs="*")
     given = parser.parse_args()
-    program = given.program or programs.datacube()
+    named = [it for it in cases if not given.name or any(word in it.name for word in given.name)]
     passed = failed = 0
-    for case, fault in tried(all_cases(given.name), program, given.first):
+    for case, fault in tried(named, given.program or program(), given.first):
         passed, failed = passed + (fault is None), failed + (fault is not None)
         if fault or given.loud:
             print(f"{'FAILED' if fault else 'passed'}: {case.name}" + (f": {fault}" if fault else ""))
@@ -292,4 +295,4 @@ def main():
 
 
 if __name__ == "__main__":
-    sys.exit(main())
+    sys.exit(main(all_cases(), programs.datacube))

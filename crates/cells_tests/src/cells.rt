@@ -1,33 +1,10 @@
-//! Cells: worked values, and growths that are refused.
+//! Growths of a cell that are refused.
 ghost use Rattle.std.specs.Prelude.{◌≡◌, length};
 
 use cube_cells::Cell;
 use cube_core::{Agg, Answer};
 use std::alloc::AllocError;
 use std::test::Fail;
-
-#[test]
-fn a_null_is_a_fact_and_no_value(rt: HostRuntime) -> Result<(), Fail> {
-    let mut cell = Cell::new(rt.alloc(), 1)?;
-    add_values(&mut cell, &[Some(5)])?;
-    add_values(&mut cell, &[None])?;
-    assert_eq!(rt; cell.count(), 2);
-    assert_eq!(rt; cell.answer(&Agg::CountAll), Answer::Count(2));
-    assert_eq!(rt; cell.answer(&Agg::Count(0)), Answer::Count(1));
-    assert_eq!(rt; cell.answer(&Agg::Sum(0)), Answer::Whole(5));
-    assert_eq!(rt; cell.answer(&Agg::Avg(0)), Answer::Ratio { p: 5, q: 1 });
-    assert!(rt; cell.holds(&[Some(5)]));
-    cell.minus(&[Some(5)]);
-    assert_eq!(rt; cell.answer(&Agg::CountAll), Answer::Count(1));
-    assert_eq!(rt; cell.answer(&Agg::Count(0)), Answer::Count(0));
-    assert_eq!(rt; cell.answer(&Agg::Sum(0)), Answer::Null);
-    assert_eq!(rt; cell.answer(&Agg::Min(0)), Answer::Null);
-    assert_eq!(rt; cell.answer(&Agg::Max(0)), Answer::Null);
-    assert_eq!(rt; cell.answer(&Agg::Avg(0)), Answer::Null);
-    assert!(rt; !cell.holds(&[Some(5)]));
-    assert!(rt; cell.holds(&[None]));
-    Ok(())
-}
 
 // A fact is added again where memory was wanting, and until then nothing may have changed. To refuse each growth
 // in turn, run it as `rt try --test --fail-alloc N` for each N from 1.

@@ -1,8 +1,8 @@
 //! Growths that are refused. To refuse each in turn, run `rt try --test --fail-alloc N` for each N from 1.
-use crate::facts::{fact_of, line};
-use crate::sample::{add, cube_of};
-use crate::words::rows_of;
-use cube_core::{QueryFault, Schema};
+use crate::cubes::add;
+use cube_cells::Cube;
+use cube_core::Schema;
+use fixtures::{fact_of, line, text_of};
 use std::alloc::{AllocError, Global};
 use std::process::Abort;
 use std::test::Fail;
@@ -23,14 +23,14 @@ fn a_refused_growth_leaves_rows_and_facts(rt: HostRuntime) -> Result<(), Fail> {
 }
 
 // Adds a fact beside another, and adds it again where memory was wanting.
-fn expect_four_or_seven(rt: &impl Abort, alloc: Global) -> Result<(), QueryFault> {
-    let Ok(schema) = Schema::sample(alloc) else {
-        return Err(QueryFault::Memory);
-    };
-    let mut cube = cube_of(rt, alloc, &schema, &[line(&["w", "a"], 5)])?;
+fn expect_four_or_seven(rt: &impl Abort, alloc: Global) -> Result<(), AllocError> {
+    let schema = Schema::sample(alloc)?;
+    let mut cube = Cube::new(alloc, &schema)?;
+    let first = fact_of(alloc, line(&["w", "a"], 5))?;
+    add(rt, &schema, &mut cube, &first)?;
     let fact = fact_of(alloc, line(&["e", "b"], 7))?;
     if add(rt, &schema, &mut cube, &fact).is_err() {
-        assert_eq!(rt; rows_of(alloc, &cube)?.as_str(), FOUR);
+        assert_eq!(rt; text_of(alloc, &cube.rows()?)?.as_str(), FOUR);
         assert_eq!(rt; cube.facts(), 1);
         add(rt, &schema, &mut cube, &fact)?;
     }

@@ -1,30 +1,22 @@
-//! Tests of counted values, of cells and of the cube: worked values, lists of adds and removes beside the plain
-//! cube, and growths that are refused. Tests of other crates take facts by lines, rows as
-//! text, and schemas from here.
+//! Tests of what only code can ask of counted values, cells, cubes and builders: growths that are refused, and items
+//! that no feed has. What their calls answer else, the cases of cases/library say.
 #![tactic(auto)]
 
 #[cfg(test)]
+mod builder_growths;
+#[cfg(test)]
+mod builders;
+#[cfg(test)]
 mod cells;
 #[cfg(test)]
-mod changes;
+mod cubes;
 #[cfg(test)]
-mod counted;
-mod facts;
+mod fill_growths;
+#[cfg(test)]
+mod generated;
 #[cfg(test)]
 mod growths;
 #[cfg(test)]
+mod items;
+#[cfg(test)]
 mod logs;
-#[cfg(test)]
-mod queries;
-#[cfg(test)]
-mod sample;
-mod schemas;
-#[cfg(test)]
-mod sets;
-mod text;
-#[cfg(test)]
-mod words;
-
-pub use facts::{FactLine, fact_of, line};
-pub use schemas::{EIGHT, SECOND_VERSION};
-pub use text::text_of;

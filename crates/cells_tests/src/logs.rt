@@ -1,5 +1,4 @@
-//! Counted values in each of their forms, beside a plain list: removals in each order, the least and the greatest of
-//! all numbers, merges of each form into each, and growths that are refused.
+//! Growths of counted values in each of their forms that are refused, beside a plain list.
 use cube_cells::Counted;
 use std::alloc::{AllocError, Global};
 use std::process::Abort;
@@ -28,98 +27,6 @@ const FORMS: [Form; 7] = [
     Form::Table,
     Form::Repeated,
 ];
-
-#[test]
-fn a_log_is_emptied_from_the_first_to_the_last(rt: HostRuntime) -> Result<(), Fail> {
-    let (mut values, mut plain) = of_form(&rt, rt.alloc(), Form::Log)?;
-    for value in 0..MANY {
-        take(&rt, &mut values, &mut plain, value);
-        take(&rt, &mut values, &mut plain, value);
-        expect_same(&rt, &values, &plain);
-    }
-    assert!(rt; values.is_empty());
-    Ok(())
-}
-
-#[test]
-fn a_log_is_emptied_from_the_last_to_the_first(rt: HostRuntime) -> Result<(), Fail> {
-    let (mut values, mut plain) = of_form(&rt, rt.alloc(), Form::Log)?;
-    for value in (0..MANY).rev() {
-        take(&rt, &mut values, &mut plain, value);
-        take(&rt, &mut values, &mut plain, value);
-        expect_same(&rt, &values, &plain);
-    }
-    assert!(rt; values.is_empty());
-    Ok(())
-}
-
-#[test]
-fn each_form_goes_on_with_no_room_to_spare(rt: HostRuntime) -> Result<(), Fail> {
-    for form in FORMS {
-        let (mut values, mut plain) = of_form(&rt, rt.alloc(), form)?;
-        values.shrink_to_fit();
-        expect_same(&rt, &values, &plain);
-        add(&mut values, &mut plain, MANY)?;
-        values.shrink_to_fit();
-        take(&rt, &mut values, &mut plain, 1);
-        add(&mut values, &mut plain, -1)?;
-        expect_same(&rt, &values, &plain);
-        expect_drained(&rt, values, plain);
-    }
-    Ok(())
-}
-
-#[test]
-fn adds_and_removes_come_in_turn(rt: HostRuntime) -> Result<(), Fail> {
-    let (mut values, mut plain) = of_form(&rt, rt.alloc(), Form::Log)?;
-    for step in 0..MANY {
-        take(&rt, &mut values, &mut plain, step);
-        expect_same(&rt, &values, &plain);
-        add(&mut values, &mut plain, step.wrapping_neg())?;
-        expect_same(&rt, &values, &plain);
-    }
-    expect_drained(&rt, values, plain);
-    Ok(())
-}
-
-#[test]
-fn a_log_takes_the_least_and_the_greatest_of_all_numbers(rt: HostRuntime) -> Result<(), Fail> {
-    let (mut values, mut plain) = of_form(&rt, rt.alloc(), Form::Log)?;
-    for value in [i64::MAX, i64::MIN, 0, i64::MIN, i64::MAX] {
-        add(&mut values, &mut plain, value)?;
-        expect_same(&rt, &values, &plain);
-    }
-    for value in [i64::MAX, i64::MIN, i64::MAX, i64::MIN, i64::MIN, i64::MAX] {
-        take(&rt, &mut values, &mut plain, value);
-        expect_same(&rt, &values, &plain);
-    }
-    expect_drained(&rt, values, plain);
-    Ok(())
-}
-
-#[test]
-fn each_form_is_merged_into_each(rt: HostRuntime) -> Result<(), Fail> {
-    for into in FORMS {
-        for from in FORMS {
-            expect_merged(&rt, rt.alloc(), into, from)?;
-        }
-    }
-    Ok(())
-}
-
-fn expect_merged(rt: &impl Abort, alloc: Global, into: Form, from: Form) -> Result<(), AllocError> {
-    let (mut values, mut plain) = of_form(rt, alloc, into)?;
-    let (more, plain_more) = of_form(rt, alloc, from)?;
-    merge(rt, &mut values, &more)?;
-    plain.extend_from_slice(&plain_more)?;
-    expect_same(rt, &values, &plain);
-    add(&mut values, &mut plain, MANY / 2)?;
-    take(rt, &mut values, &mut plain, MANY / 3);
-    expect_same(rt, &values, &plain);
-    expect_drained(rt, values, plain);
-    expect_drained(rt, more, plain_more);
-    Ok(())
-}
 
 // One growth is refused in all, so the second try has all the memory that it wants.
 #[test]

@@ -1,0 +1,5 @@
+use Rattle.std.proofs.Common.{◌≡◌, length}
+use Rattle.cube_calls.proofs.cells.run.Given as goal
+
+abbrev pub invariant-loop-call : goal.invariant-loop-call
+invariant-loop-call l = length l.cell.bags ≡ length l.schema.measures

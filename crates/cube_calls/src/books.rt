@@ -1,0 +1,79 @@
+//! Calls of a book: `apply RECORD` (what went and what came, or the fault; no amendment), `get ID` and `len`.
+use crate::facts::item_of;
+use crate::script::{Printout, words_of};
+use anyhow::{Result, bail};
+use cube_core::{Change, Fact, Schema, Text};
+use cube_engine::{Book, BookFault, Delta};
+use std::alloc::{AllocError, Global};
+
+/// Does the calls on a book.
+pub fn run(alloc: Global, schema: &Schema, calls: &str, out: &mut Printout) -> Result<()> {
+    let mut book = Book::new(alloc);
+    for call in calls.lines() {
+        out.next_line();
+        obey(alloc, schema, &mut book, call, out)?;
+    }
+    Ok(())
+}
+
+fn obey(
+    alloc: Global,
+    schema: &Schema,
+    book: &mut Book,
+    call: &str,
+    out: &mut Printout,
+) -> Result<()> {
+    match words_of(call) {
+        ("apply", record) => match item_of(alloc, schema, record)?.what {
+            Ok(change) => answer_delta(apply(book, change)?, out)?,
+            Err(fault) => out.answer(fault)?,
+        },
+        ("get", id) => answer_fact("", book.get(&Text::from_str(alloc, id)?), out)?,
+        ("len", "") => out.answer(book.len())?,
+        _ => bail!("no call of a book"),
+    }
+    Ok(())
+}
+
+fn apply(book: &mut Book, change: Change) -> Result<Result<Delta, BookFault>> {
+    match change {
+        Change::Insert { id, fact } => Ok(book.apply(Change::Insert { id, fact })),
+        Change::Update { id, fact } => Ok(book.apply(Change::Update { id, fact })),
+        Change::Delete { id } => Ok(book.apply(Change::Delete { id })),
+        Change::Amend { .. } => bail!("an amendment"),
+    }
+}
+
+fn answer_delta(answer: Result<Delta, BookFault>, out: &mut Printout) -> Result<(), AllocError> {
+    match answer {
+        Ok(delta) => {
+            answer_fact("gone ", delta.gone.as_ref(), out)?;
+            answer_fact("come ", delta.come.as_ref(), out)
+        }
+        Err(fault) => out.answer(fault),
+    }
+}
+
+// A line of a fact's values behind a name.
+fn answer_fact(name: &str, fact: Option<&Fact>, out: &mut Printout) -> Result<(), AllocError> {
+    out.text.push_str(name)?;
+    let Some(fact) = fact else {
+        return out.answer("none");
+    };
+    for place in 0..fact.dims.len() {
+        write!(out.text, "{},", fact.dims.get(place).unwrap_or("\\N"))?;
+    }
+    push_measures(&mut out.text, fact.measures.as_slice())?;
+    out.answer("")
+}
+
+fn push_measures(text: &mut String, measures: &[Option<i64>]) -> Result<(), AllocError> {
+    for (place, measure) in measures.iter().enumerate() {
+        text.push_str(if place > 0 { "," } else { "" })?;
+        match measure {
+            Some(measure) => write!(text, "{measure}")?,
+            None => text.push_str("\\N")?,
+        }
+    }
+    Ok(())
+}

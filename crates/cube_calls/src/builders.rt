@@ -1,0 +1,74 @@
+//! Calls of a builder: `apply SOURCE NUMBER RECORD`, `facts`, `sources`, `rows` (of its cube) and `refusals` (the
+//! source, the number and the code of each).
+use crate::facts::item_of;
+use crate::script::{Printout, words_of};
+use anyhow::{Result, bail, ensure};
+use cube_core::{Item, Refusal, Schema};
+use cube_engine::Builder;
+use fixtures::text_of;
+use std::alloc::{AllocError, Global};
+
+/// Does the calls on a builder of so many sources.
+pub fn run(
+    alloc: Global,
+    schema: &Schema,
+    sources: u32,
+    calls: &str,
+    out: &mut Printout,
+) -> Result<()> {
+    ensure!(sources <= 64, "more than 64 sources");
+    let mut builder = Builder::new(alloc, schema, sources)?;
+    for call in calls.lines() {
+        out.next_line();
+        obey(alloc, schema, &mut builder, call, out)?;
+    }
+    Ok(())
+}
+
+fn obey(
+    alloc: Global,
+    schema: &Schema,
+    builder: &mut Builder,
+    call: &str,
+    out: &mut Printout,
+) -> Result<()> {
+    match words_of(call) {
+        ("apply", words) => apply(alloc, schema, builder, words)?,
+        ("facts", "") => out.answer(builder.facts())?,
+        ("sources", "") => out.answer(builder.sources())?,
+        ("rows", "") => {
+            let rows = builder.cube().rows()?;
+            out.text.push_str(text_of(alloc, &rows)?.as_str())?;
+        }
+        ("refusals", "") => answer_refusals(builder, out)?,
+        _ => bail!("no call of a builder"),
+    }
+    Ok(())
+}
+
+fn apply(alloc: Global, schema: &Schema, builder: &mut Builder, words: &str) -> Result<()> {
+    let (source, words) = words_of(words);
+    let (number, record) = words_of(words);
+    let (source, number) = (source.parse()?, number.parse()?);
+    let what = item_of(alloc, schema, record)?.what;
+    ensure!(source >= 1, "no such source");
+    ensure!(source <= builder.sources(), "no such source");
+    ensure!(builder.facts() < u64::MAX, "too many facts");
+    builder.apply(source, Item { number, what })?;
+    Ok(())
+}
+
+fn answer_refusals(builder: &Builder, out: &mut Printout) -> Result<(), AllocError> {
+    for place in 0..builder.sources() {
+        let source = place + 1;
+        push_refusals(&mut out.text, source, builder.refusals(source))?;
+    }
+    Ok(())
+}
+
+fn push_refusals(text: &mut String, source: u32, refusals: &[Refusal]) -> Result<(), AllocError> {
+    for refusal in refusals {
+        write!(text, "{source},{},{}\n", refusal.number, refusal.code)?;
+    }
+    Ok(())
+}

@@ -1,0 +1,93 @@
+//! Calls of a cell: `add FACT`, `remove FACT`, `holds FACT`, `count`, and `answers M`: how many facts there are, and of
+//! the measure at a place how many values, their sum, the least, the greatest and the mean.
+ghost use Rattle.std.specs.Prelude.{◌≡◌, ◌<◌, IfOk, OnOk, length};
+
+use crate::facts::fact_of;
+use crate::script::{Printout, words_of};
+use anyhow::{Result, bail, ensure};
+use cube_cells::Cell;
+use cube_core::{Agg, Fact, Schema};
+use fixtures::push_answer;
+use std::alloc::{AllocError, Global};
+
+/// Does the calls on a cell of the schema's measures.
+pub fn run(alloc: Global, schema: &Schema, calls: &str, out: &mut Printout) -> Result<()> {
+    let mut cell = Cell::new(alloc, schema.measures().len())?;
+    for call in calls.lines() {
+        out.next_line();
+        obey(alloc, schema, &mut cell, call, out)?;
+    }
+    Ok(())
+}
+
+fn obey(
+    alloc: Global,
+    schema: &Schema,
+    cell: &mut Cell,
+    call: &str,
+    out: &mut Printout,
+) -> Result<()>
+    requires { length cell.old.bags ≡ length schema.now.measures }
+    ensures { OnOk result (length cell.new.bags ≡ length cell.old.bags) }
+{
+    match words_of(call) {
+        ("add", fields) => add(cell, &measured(alloc, schema, fields)?)?,
+        ("remove", fields) => remove(cell, &measured(alloc, schema, fields)?, out)?,
+        ("holds", fields) => {
+            let fact = measured(alloc, schema, fields)?;
+            out.answer(cell.holds(fact.measures.as_slice()))?;
+        }
+        ("count", "") => out.answer(cell.count())?,
+        ("answers", place) => {
+            let place = place.parse()?;
+            ensure!(place < schema.measures().len(), "no such measure");
+            answers(cell, place, out)?;
+        }
+        _ => bail!("no call of a cell"),
+    }
+    Ok(())
+}
+
+// A fact with a value for each measure.
+fn measured(alloc: Global, schema: &Schema, fields: &str) -> Result<Fact>
+    ensures { IfOk result (λ fact. length fact.measures ≡ length schema.now.measures) }
+{
+    let fact = fact_of(alloc, schema, fields)?;
+    ensure!(
+        fact.measures.len() == schema.measures().len(),
+        "other measures"
+    );
+    Ok(fact)
+}
+
+fn add(cell: &mut Cell, fact: &Fact) -> Result<()>
+    requires { length fact.now.measures ≡ length cell.old.bags }
+    ensures { length cell.new.bags ≡ length cell.old.bags }
+{
+    ensure!(cell.count() < u64::MAX, "too many facts");
+    cell.plus(fact.measures.as_slice())?;
+    Ok(())
+}
+
+fn remove(cell: &mut Cell, fact: &Fact, out: &mut Printout) -> Result<(), AllocError>
+    ensures { length cell.new.bags ≡ length cell.old.bags }
+{
+    if cell.holds(fact.measures.as_slice()) {
+        cell.minus(fact.measures.as_slice());
+    } else {
+        out.answer("not held")?;
+    }
+    Ok(())
+}
+
+fn answers(cell: &Cell, place: usize, out: &mut Printout) -> Result<(), AllocError>
+    requires { place < length cell.now.bags }
+{
+    write!(out.text, "{}", cell.count())?;
+    push_answer(&mut out.text, &cell.answer(&Agg::Count(place)))?;
+    push_answer(&mut out.text, &cell.answer(&Agg::Sum(place)))?;
+    push_answer(&mut out.text, &cell.answer(&Agg::Min(place)))?;
+    push_answer(&mut out.text, &cell.answer(&Agg::Max(place)))?;
+    push_answer(&mut out.text, &cell.answer(&Agg::Avg(place)))?;
+    out.answer("")
+}

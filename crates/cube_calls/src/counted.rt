@@ -1,0 +1,51 @@
+//! Calls of two multisets: `add N`, `remove N`, `holds N`, `shrink`, `show`, `merge` (adds the other's numbers) and
+//! `swap` (the other is asked from then on).
+use crate::script::{Printout, words_of};
+use anyhow::{Result, bail, ensure};
+use cube_cells::Counted;
+use std::alloc::{AllocError, Global};
+use std::mem::swap;
+
+/// Does the calls on two multisets.
+pub fn run(alloc: Global, calls: &str, out: &mut Printout) -> Result<()> {
+    let mut values = Counted::new(alloc);
+    let mut other = Counted::new(alloc);
+    for call in calls.lines() {
+        out.next_line();
+        obey(&mut values, &mut other, call, out)?;
+    }
+    Ok(())
+}
+
+fn obey(values: &mut Counted, other: &mut Counted, call: &str, out: &mut Printout) -> Result<()> {
+    match words_of(call) {
+        ("add", value) => {
+            ensure!(values.len() < u64::MAX, "too many numbers");
+            values.add(value.parse()?)?;
+        }
+        ("remove", value) => out.answer(values.remove(value.parse()?))?,
+        ("holds", value) => out.answer(values.holds(value.parse()?))?,
+        ("shrink", "") => values.shrink_to_fit(),
+        ("show", "") => show(values, out)?,
+        ("merge", "") => {
+            ensure!(values.len() < 1 << 32, "too many numbers");
+            ensure!(other.len() < 1 << 32, "too many numbers");
+            values.merge(other)?;
+        }
+        ("swap", "") => swap(values, other),
+        _ => bail!("no call of a multiset"),
+    }
+    Ok(())
+}
+
+// A line with how many numbers there are, the least and the greatest, and whether there is none.
+fn show(values: &Counted, out: &mut Printout) -> Result<(), AllocError> {
+    write!(out.text, "{}", values.len())?;
+    match (values.least(), values.greatest()) {
+        (Some(least), Some(greatest)) => write!(out.text, " from {least} to {greatest}")?,
+        (Some(least), None) => write!(out.text, " from {least}")?,
+        (None, Some(greatest)) => write!(out.text, " to {greatest}")?,
+        (None, None) => {}
+    }
+    out.answer(if values.is_empty() { ", empty" } else { "" })
+}

@@ -1,0 +1,72 @@
+//! Calls of a cube: `add FACT`, `remove FACT`, `gather FACT`, `fill` (with all facts that were gathered), and the
+//! questions.
+ghost use Rattle.std.specs.Prelude.{◌≡◌, OnOk};
+
+use crate::facts::fact_of;
+use crate::fills::fill;
+use crate::questions::ask;
+use crate::script::{Printout, words_of};
+use anyhow::{Result, ensure};
+use cube_cells::Cube;
+use cube_core::{Fact, Schema};
+use std::alloc::Global;
+
+/// Does the calls on a cube of a part of the schema's sets.
+pub fn run(
+    alloc: Global,
+    schema: &Schema,
+    (part, of): (u32, u32),
+    calls: &str,
+    out: &mut Printout,
+) -> Result<()> {
+    ensure!(part < of, "no such part");
+    ensure!(of <= 8, "more than eight parts");
+    let mut cube = Cube::new_part(alloc, schema, part, of)?;
+    let mut gathered = Vec::new(alloc);
+    for call in calls.lines() {
+        out.next_line();
+        obey(alloc, schema, &mut cube, &mut gathered, call, out)?;
+    }
+    Ok(())
+}
+
+fn obey(
+    alloc: Global,
+    schema: &Schema,
+    cube: &mut Cube,
+    gathered: &mut Vec<Fact>,
+    call: &str,
+    out: &mut Printout,
+) -> Result<()>
+    requires { cube.old.schema ≡ schema.now }
+    ensures { OnOk result (cube.new.schema ≡ cube.old.schema) }
+{
+    match words_of(call) {
+        ("add", fact) => add(schema, cube, &fact_of(alloc, schema, fact)?),
+        ("remove", fact) => remove(cube, &fact_of(alloc, schema, fact)?, out),
+        ("gather", fact) => Ok(gathered.push(fact_of(alloc, schema, fact)?)?),
+        ("fill", "") => fill(schema, cube, gathered),
+        _ => ask(alloc, schema, cube, call, out),
+    }
+}
+
+fn add(schema: &Schema, cube: &mut Cube, fact: &Fact) -> Result<()>
+    requires { cube.old.schema ≡ schema.now }
+    ensures { cube.new.schema ≡ cube.old.schema }
+{
+    ensure!(schema.fits(fact), "a fact that doesn't fit");
+    ensure!(cube.facts() < u64::MAX, "too many facts");
+    cube.add(fact)?;
+    Ok(())
+}
+
+fn remove(cube: &mut Cube, fact: &Fact, out: &mut Printout) -> Result<()>
+    ensures { cube.new.schema ≡ cube.old.schema }
+{
+    if cube.holds(fact) {
+        cube.remove(fact);
+    } else {
+        out.answer("not held")?;
+    }
+    Ok(())
+}

@@ -1,0 +1,35 @@
+//! Items and facts, read as those of a feed.
+use anyhow::{Result, bail};
+use cube_core::{Change, Fact, Item, Schema, Text};
+use cube_feed::Feed;
+use std::alloc::{AllocError, Global};
+
+/// The item of a record.
+pub fn item_of(alloc: Global, schema: &Schema, record: &str) -> Result<Item> {
+    let mut text = String::from_str(alloc, "op,id")?;
+    push_names(&mut text, schema.dimensions())?;
+    push_names(&mut text, schema.measures())?;
+    write!(text, "\n{record}\n")?;
+    let mut feed = Feed::new(alloc, schema, text.as_bytes());
+    match feed.next()? {
+        Some(item) => Ok(item),
+        None => bail!("no record"),
+    }
+}
+
+fn push_names(text: &mut String, names: &[Text]) -> Result<(), AllocError> {
+    for name in names {
+        write!(text, ",\"{}\"", name.as_str())?;
+    }
+    Ok(())
+}
+
+/// The fact of the fields of an insert, which stand behind its id.
+pub fn fact_of(alloc: Global, schema: &Schema, fields: &str) -> Result<Fact> {
+    let record = format!(in alloc; "I,1,{fields}")?;
+    match item_of(alloc, schema, record.as_str())?.what {
+        Ok(Change::Insert { id: _, fact }) => Ok(fact),
+        Ok(_) => bail!("no insert"),
+        Err(fault) => Err(fault.into()),
+    }
+}

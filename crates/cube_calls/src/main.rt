@@ -1,0 +1,73 @@
+//! Runs a script of calls of the library, which comes on standard input, and prints what they answer.
+//!
+//! The word is the file of a schema; with none it is the sample schema. The first line of the script says what the
+//! calls are of: `schema`, `cube`, `part J N` (the cube of a part of the sets), `counted` (two multisets, of which one
+//! is asked), `cell`, `book` or `builder N` (of so many sources). Each other line is a call; those that there are stand
+//! in the module of what they are of. A fact is written as the fields of an insert are in a feed, and a fault is
+//! answered as its code.
+//!
+//! A line that is no call ends the program with status 1, and its number goes to standard error.
+#![tactic(auto)]
+
+mod books;
+mod builders;
+mod cells;
+mod counted;
+mod cubes;
+mod facts;
+mod fills;
+mod questions;
+mod schemas;
+mod script;
+
+use anyhow::{Result, bail, ensure};
+use cube_core::Schema;
+use script::{Printout, words_of};
+use std::io::Write;
+use std::process::ExitCode;
+use std::{env, fs, io};
+
+fn main(rt: HostRuntime) -> ExitCode {
+    let mut out = Printout::new(rt.alloc());
+    let ran = run(&rt, &mut out);
+    let printed = rt.stdout().write_all(out.text.as_bytes());
+    if let Err(error) = ran {
+        let line = out.line;
+        let _ = eprintln!(rt; "line {line}: {error}");
+        return ExitCode::from(1);
+    }
+    ExitCode::from(if printed.is_ok() { 0 } else { 1 })
+}
+
+fn run(rt: &HostRuntime, out: &mut Printout) -> Result<()> {
+    let alloc = rt.alloc();
+    let schema = schema_of(rt)?;
+    let script = io::read_to_string(alloc, rt.stdin())?;
+    let text = script.as_str();
+    let (first, calls) = text.split_once('\n').unwrap_or((text, ""));
+    out.next_line();
+    match words_of(first) {
+        ("schema", "") => schemas::run(alloc, &schema, calls, out),
+        ("cube", "") => cubes::run(alloc, &schema, (0, 1), calls, out),
+        ("part", words) => {
+            let (part, of) = words_of(words);
+            cubes::run(alloc, &schema, (part.parse()?, of.parse()?), calls, out)
+        }
+        ("counted", "") => counted::run(alloc, calls, out),
+        ("cell", "") => cells::run(alloc, &schema, calls, out),
+        ("book", "") => books::run(alloc, &schema, calls, out),
+        ("builder", sources) => builders::run(alloc, &schema, sources.parse()?, calls, out),
+        _ => bail!("nothing that calls are of"),
+    }
+}
+
+fn schema_of(rt: &HostRuntime) -> Result<Schema> {
+    let mut words = env::args(rt)?;
+    let _program = words.next();
+    let Some(path) = words.next() else {
+        return Ok(Schema::sample(rt.alloc())?);
+    };
+    ensure!(words.next().is_none(), "more than one word");
+    let document = fs::read(rt, &path)?;
+    Ok(Schema::from_toml(rt.alloc(), &document)?)
+}

@@ -1,0 +1,66 @@
+//! Calls of a schema: `show` (all that it says), `place DIM`, `keeps CELL`, `cell PATTERN` (its coordinates) and
+//! `matches PATTERN CELL`.
+use crate::questions::{key_of, place_of};
+use crate::script::{Printout, words_of};
+use anyhow::{Result, bail};
+use cube_core::{Coord, Pattern, QueryFault, Schema, Text};
+use std::alloc::{AllocError, Global};
+
+/// Does the calls on a schema.
+pub fn run(alloc: Global, schema: &Schema, calls: &str, out: &mut Printout) -> Result<()> {
+    for call in calls.lines() {
+        out.next_line();
+        match words_of(call) {
+            ("show", "") => show(schema, &mut out.text)?,
+            ("place", name) => out.answer_or(place_of(schema, name))?,
+            ("keeps", word) => out.answer_or(keeps(alloc, schema, word))?,
+            ("cell", word) => out.answer_lines(cell(alloc, schema, word))?,
+            ("matches", words) => out.answer_or(matches(alloc, schema, words))?,
+            _ => bail!("no call of a schema"),
+        }
+    }
+    Ok(())
+}
+
+fn keeps(alloc: Global, schema: &Schema, word: &str) -> Result<bool, QueryFault> {
+    Ok(schema.keeps(&key_of(alloc, schema, word)?))
+}
+
+fn matches(alloc: Global, schema: &Schema, words: &str) -> Result<bool, QueryFault> {
+    let (pattern, word) = words_of(words);
+    let pattern = Pattern::parse(alloc, schema, pattern)?;
+    Ok(pattern.matches(&key_of(alloc, schema, word)?))
+}
+
+// A line for each coordinate of the cell.
+fn cell(alloc: Global, schema: &Schema, word: &str) -> Result<String, QueryFault> {
+    let mut text = String::new(alloc);
+    for coord in key_of(alloc, schema, word)?.coords.as_slice() {
+        match coord {
+            Coord::Text(name) => write!(text, "={}\n", name.as_str())?,
+            Coord::Null => text.push_str("\\N\n")?,
+            Coord::All => text.push_str("\\A\n")?,
+        }
+    }
+    Ok(text)
+}
+
+fn show(schema: &Schema, text: &mut String) -> Result<(), AllocError> {
+    push_names(text, "dimensions", schema.dimensions())?;
+    push_names(text, "measures", schema.measures())?;
+    push_names(text, "aggregates", schema.aggregate_texts())?;
+    text.push_str("sets")?;
+    for set in schema.grouping_sets() {
+        write!(text, " {set}")?;
+    }
+    write!(text, "\nmax_records {}\n", schema.max_records())?;
+    write!(text, "version {}\n", schema.version())
+}
+
+fn push_names(text: &mut String, title: &str, names: &[Text]) -> Result<(), AllocError> {
+    text.push_str(title)?;
+    for name in names {
+        write!(text, " {}", name.as_str())?;
+    }
+    text.push_str("\n")
+}
