@@ -12,6 +12,7 @@ use std::rt::Files;
 use std::time::CpuClock;
 use subject::{OneMeasure, Subject, Tree, all_agree, made, put_all, take_all};
 
+/// Times so many multisets of so many values, or says whether the three agree.
 pub fn run<R: Print + AllocGlobal + Files + CpuClock>(rt: &R, words: &[String]) -> Result<()> {
     if let [multisets, values, ..] = words {
         return time_all(rt, multisets.parse()?, values.parse()?);

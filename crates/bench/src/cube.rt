@@ -17,6 +17,7 @@ use facts::{Shape, facts_of, schema_of};
 use std::rt::Files;
 use std::time::CpuClock;
 
+/// Times facts of the shape that the words give, or counts the rows of a small cube.
 pub fn run<R: Print + AllocGlobal + Files + CpuClock>(rt: &R, words: &[String]) -> Result<()> {
     let mut numbers = Vec::new(rt.alloc());
     for word in words {

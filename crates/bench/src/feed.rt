@@ -20,6 +20,7 @@ struct Measured {
     nanos: u128,
 }
 
+/// Times the reading of so many inserts, or counts a few.
 pub fn run<R: CpuClock + AllocGlobal + Print>(rt: &R, words: &[String]) -> Result<()> {
     let [word, ..] = words else {
         return read_all(rt, 3, false);

@@ -20,6 +20,7 @@ const FEED: &str = "op,id,a,b,m\nI,1,x,y,5\nI,2,x,z,7\nI,3,w,z,1\nD,2\n";
 
 const NANOS_IN_MILLISECOND: u128 = 1_000_000;
 
+/// Times the building from a schema and feeds, or counts the facts and rows of a small cube.
 pub fn run<R: Print + AllocGlobal + Files + CpuClock>(rt: &R, words: &[String]) -> Result<()> {
     let [schema, paths @ ..] = words else {
         return check(rt);

@@ -30,6 +30,7 @@ struct Measured {
     is_same: bool,
 }
 
+/// Times so many items, or says whether a link and a ring carry the same.
 pub fn run<H: Threads + Clock + AllocGlobal + Print>(rt: &H, words: &[String]) -> Result<()> {
     let [word, ..] = words else {
         let numbers = measure::<u64, H>(rt, 3, 100)?.is_same;

@@ -8,6 +8,7 @@ use cube_tool::run_plain;
 use std::fs;
 use std::fs::File;
 
+/// Prints the cube of the feeds under the schema that the words name.
 pub fn run(rt: &HostRuntime, words: &[String]) -> Result<()> {
     let alloc = rt.alloc();
     let (schema, paths) = match words {
