@@ -23,8 +23,8 @@ import oracle
 import programs
 
 HERE = os.path.dirname(os.path.abspath(__file__))
-# (run_plain over a schema and feeds, where rt ci or rt run built it)
-ON_ONE_THREAD = os.path.join(HERE, "..", "crates", "run_bench", "out", "run_bench")
+# (its sub-command `run` is run_plain over a schema and feeds, where rt ci or rt run built it)
+BENCH = os.path.join(HERE, "..", "crates", "bench", "out", "bench")
 SAMPLE = oracle.Schema(
     ["region", "kind"], ["amount"], [("count", None), ("sum", 0), ("min", 0), ("max", 0), ("avg", 0)]
 )
@@ -483,8 +483,8 @@ def compare(program, rng):
                 return f"{words[0]}: {code} was to come, and {answer.err[:100]!r} came"
         elif (answer.status, answer.out, answer.err) != (run.status, text, b""):
             return f"{words}: status {answer.status}, {answer.err[:200]!r}, or other text"
-    if os.path.exists(ON_ONE_THREAD):
-        call = [ON_ONE_THREAD, "case.toml", *files]
+    if os.path.exists(BENCH):
+        call = [BENCH, "run", "case.toml", *files]
         plain = subprocess.run(call, cwd=program.folder, stdout=subprocess.PIPE, stderr=subprocess.DEVNULL, timeout=120)
         if (plain.returncode == 0, plain.stdout) != (not fault, b"" if fault else run.print()):
             return f"on one thread: status {plain.returncode}, or other text"

@@ -8,7 +8,7 @@ import time
 
 ROOT = os.path.dirname(os.path.dirname(os.path.realpath(__file__)))
 DATACUBE = f"{ROOT}/crates/datacube/out/datacube"
-RUN_BENCH = f"{ROOT}/crates/run_bench/out/run_bench"
+BENCH = f"{ROOT}/crates/bench/out/bench"
 
 # processor seconds of all threads, wall seconds, the largest memory in MiB
 Use = collections.namedtuple("Use", "processor wall memory")

@@ -4,13 +4,13 @@
     scripts/threads.py [--runs N] [--scale F] [--ring N] [--folder DIR] [WORKLOAD...]
 
 It makes the feeds of each workload anew (the same on every machine), split into 1, 4 and 64 sources, and runs the two
-programs in turn: crates/run_bench on one thread, and the program with 1, 2, 3 and 4 builders. Each figure is wall and
+programs in turn: `bench run` on one thread, and the program with 1, 2, 3 and 4 builders. Each figure is wall and
 processor seconds, each the lowest of N runs. All runs over the same feeds must write the same bytes.
 """
 import argparse
 import tempfile
 
-from measure import DATACUBE, RUN_BENCH, best_of, need
+from measure import BENCH, DATACUBE, best_of, need
 from workloads import WORKLOADS, make
 
 SOURCES = (1, 4, 64)
@@ -20,7 +20,7 @@ BUILDERS = (1, 2, 3, 4)
 def measure(files, ring, runs):
     """What the run on one thread used, and what the program did with each number of builders."""
     threaded = [[DATACUBE, "print", "--builders", str(count), "--ring", str(ring), *files] for count in BUILDERS]
-    return best_of([[RUN_BENCH, *files], *threaded], runs)
+    return best_of([[BENCH, "run", *files], *threaded], runs)
 
 
 def main():
@@ -31,7 +31,7 @@ def main():
     parser.add_argument("--ring", type=int, default=64)
     parser.add_argument("--folder", help="where the feeds are made")
     words = parser.parse_args()
-    need(DATACUBE, RUN_BENCH)
+    need(DATACUBE, BENCH)
     heads = ["workload", "sources", "one thread"] + [f"{count} builder{'s' * (count > 1)}" for count in BUILDERS]
     print("| " + " | ".join(heads) + " |\n|" + "---|" * len(heads))
     for name in words.workloads or WORKLOADS:

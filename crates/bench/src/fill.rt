@@ -1,0 +1,145 @@
+//! Times the building of a cube from feeds.
+//!
+//! With words, the file of a schema and those of its feeds, one for each source, it prints how many milliseconds of
+//! processor time the ledger of the feeds takes, how many the builder with the filled cube, and how many a builder that
+//! changes its cells at each item. With no word it checks a small case.
+use crate::measure::{cpu_nanos, nanos_since};
+use anyhow::{Result, anyhow, ensure};
+use cube_core::{Item, Schema};
+use cube_engine::{Builder, build_ledger, build_plain};
+use cube_feed::Feed;
+use std::alloc::{AllocError, Global};
+use std::fs;
+use std::rt::Files;
+use std::time::CpuClock;
+
+const SCHEMA: &str =
+    "dimensions = ['a', 'b']\nmeasures = ['m']\naggregates = ['count(*)', 'sum(m)', 'max(m)']\n";
+
+const FEED: &str = "op,id,a,b,m\nI,1,x,y,5\nI,2,x,z,7\nI,3,w,z,1\nD,2\n";
+
+const NANOS_IN_MILLISECOND: u128 = 1_000_000;
+
+/// Times the building from a schema and feeds, or counts the facts and rows of a small cube.
+pub fn run<R: Print + AllocGlobal + Files + CpuClock>(rt: &R, words: &[String]) -> Result<()> {
+    let [schema, paths @ ..] = words else {
+        return check(rt);
+    };
+    let schema = fs::read(rt, schema)?;
+    let mut feeds = Vec::new(rt.alloc());
+    for path in paths {
+        feeds.push(fs::read(rt, path)?)?;
+    }
+    ensure!(feeds.len() <= 64, "at most 64 feeds");
+    time_feeds(rt, &schema, &feeds)
+}
+
+// Prints how many facts and rows a small cube has.
+fn check<R: Print + AllocGlobal>(rt: &R) -> Result<()> {
+    let schema = Schema::from_toml(rt.alloc(), SCHEMA.as_bytes())?;
+    let mut readers = Vec::new(rt.alloc());
+    readers.push(FEED.as_bytes())?;
+    let Ok(builder) = build_plain(rt.alloc(), &schema, readers) else {
+        return Err(anyhow!("a feed at fault"));
+    };
+    let facts = builder.facts();
+    let rows = builder.cube().rows()?.len();
+    println!(rt; "{facts} facts, {rows} rows")?;
+    Ok(())
+}
+
+// Times the ledger of feeds alone, then the builder of the same feeds, whose cube is filled in the end, and then a
+// builder that changes its cells at each item.
+fn time_feeds<R: Print + AllocGlobal + CpuClock>(
+    rt: &R,
+    schema: &[u8],
+    feeds: &[Vec<u8>],
+) -> Result<()> {
+    let schema = Schema::from_toml(rt.alloc(), schema)?;
+    let ledger = time_ledger(rt, &schema, readers_of(rt.alloc(), feeds)?)?;
+    let builder = time_builder(rt, &schema, readers_of(rt.alloc(), feeds)?)?;
+    let changes = time_changes(rt, &schema, readers_of(rt.alloc(), feeds)?)?;
+    println!(rt; "ledger {ledger} ms, builder {builder} ms, item by item {changes} ms")?;
+    Ok(())
+}
+
+fn readers_of(alloc: Global, feeds: &[Vec<u8>]) -> Result<Vec<&[u8]>, AllocError> {
+    let mut readers = Vec::with_capacity(alloc, feeds.len())?;
+    for feed in feeds {
+        readers.push(feed.as_slice())?;
+    }
+    Ok(readers)
+}
+
+fn time_ledger<R: AllocGlobal + CpuClock>(
+    rt: &R,
+    schema: &Schema,
+    readers: Vec<&[u8]>,
+) -> Result<u128> {
+    ensure!(readers.len() <= 64, "at most 64 feeds");
+    let start = cpu_nanos(rt)?;
+    let built = build_ledger(rt.alloc(), schema, readers);
+    let nanos = nanos_since(rt, start)?;
+    ensure!(built.is_ok(), "a feed at fault");
+    Ok(nanos / NANOS_IN_MILLISECOND)
+}
+
+fn time_builder<R: Print + AllocGlobal + CpuClock>(
+    rt: &R,
+    schema: &Schema,
+    readers: Vec<&[u8]>,
+) -> Result<u128> {
+    ensure!(readers.len() <= 64, "at most 64 feeds");
+    let start = cpu_nanos(rt)?;
+    let Ok(builder) = build_plain(rt.alloc(), schema, readers) else {
+        return Err(anyhow!("a feed at fault"));
+    };
+    let nanos = nanos_since(rt, start)?;
+    let facts = builder.facts();
+    println!(rt; "{facts} facts")?;
+    Ok(nanos / NANOS_IN_MILLISECOND)
+}
+
+fn time_changes<R: AllocGlobal + CpuClock>(
+    rt: &R,
+    schema: &Schema,
+    readers: Vec<&[u8]>,
+) -> Result<u128> {
+    ensure!(readers.len() <= 64, "at most 64 feeds");
+    let mut builder = Builder::new(rt.alloc(), schema, readers.len() as u32)?;
+    let start = cpu_nanos(rt)?;
+    let mut source = 0u32;
+    for reader in readers {
+        source = source.saturating_add(1);
+        take_feed(rt.alloc(), schema, reader, source, &mut builder)?;
+    }
+    Ok(nanos_since(rt, start)? / NANOS_IN_MILLISECOND)
+}
+
+fn take_feed(
+    alloc: Global,
+    schema: &Schema,
+    reader: &[u8],
+    source: u32,
+    builder: &mut Builder,
+) -> Result<()> {
+    let mut feed = Feed::new(alloc, schema, reader);
+    for _ in 0..u32::MAX {
+        let Ok(next) = feed.next() else {
+            return Err(anyhow!("a feed at fault"));
+        };
+        let Some(item) = next else {
+            return Ok(());
+        };
+        take(builder, source, item)?;
+    }
+    Err(anyhow!("too many items"))
+}
+
+/// Takes an item, where the source is one of the builder's.
+pub fn take(builder: &mut Builder, source: u32, item: Item) -> Result<()> {
+    ensure!(1 <= source && source <= builder.sources(), "another source");
+    ensure!(builder.facts() < u64::MAX, "too many facts");
+    builder.apply(source, item)?;
+    Ok(())
+}

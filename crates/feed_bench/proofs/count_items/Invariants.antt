@@ -1,6 +1,0 @@
-use Rattle.std.proofs.Common.{◌-◌}
-use Rattle.feed_bench.proofs.count_items.Given as goal
-
--- how many numbers of items are left
-abbrev pub decreases-loop-feed : goal.decreases-loop-feed
-decreases-loop-feed l = l.feed.schema.max_records - l.feed.number
