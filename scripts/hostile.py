@@ -184,7 +184,7 @@ def refusals_in_turn(trials):
 
 def growths_in_turn(trials):
     """Each allocation refused in turn in the library's tests of growths, where their program was built (rt ci, rt test)."""
-    for crate in ("cells_tests", "engine_tests"):
+    for crate in ("cells_tests", "core_tests", "run_tests"):
         path = os.path.join(HERE, "..", "crates", crate, "out", f"{crate}_tests")
         if not os.path.exists(path):
             continue

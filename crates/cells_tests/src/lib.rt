@@ -11,6 +11,8 @@ mod cells;
 #[cfg(test)]
 mod cubes;
 #[cfg(test)]
+mod ends;
+#[cfg(test)]
 mod fill_growths;
 #[cfg(test)]
 mod generated;

@@ -6,6 +6,8 @@
 #[cfg(test)]
 mod faults;
 #[cfg(test)]
+mod line_faults;
+#[cfg(test)]
 mod memory;
 #[cfg(test)]
 mod plain;
