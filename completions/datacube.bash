@@ -1,0 +1,74 @@
+# Completion of datacube for bash, made by scripts/documents.py from what the program says.
+_datacube_codes='S1
+S2
+S3
+S4
+S5
+S6
+S7
+S8
+S9
+S10
+L1
+L2
+L3
+L4
+L5
+L6
+F1
+F2
+F3
+F4
+P1
+P2
+P3
+P4
+P5
+P6
+P7
+G1
+G2
+G3
+G4
+G5
+G6
+1
+2
+3
+4
+5
+6
+7
+8
+9
+schema unreadable
+feed unreadable
+too many feeds
+unknown code'
+
+_datacube() {
+    local word=${COMP_WORDS[COMP_CWORD]} command=${COMP_WORDS[1]} words IFS=$' \t\n'
+    COMPREPLY=()
+    case $command in
+    check) words='-h --help' ;;
+    print) words='--ring --builders -h --help' ;;
+    refusals) words='--ring --builders -h --help' ;;
+    slice) words='--ring --builders -h --help' ;;
+    drill) words='--ring --builders -h --help' ;;
+    explain) words='-h --help' ;;
+    *) words= ;;
+    esac
+    if [ "$COMP_CWORD" -eq 1 ]; then
+        COMPREPLY=($(compgen -W 'check print refusals slice drill explain -h --help -V --version' -- "$word"))
+    elif [[ ${COMP_WORDS[COMP_CWORD - 1]} == @(--builders|--ring) ]]; then
+        compopt +o default
+    elif [[ $word == -* ]]; then
+        COMPREPLY=($(compgen -W "$words" -- "$word"))
+    elif [ "$command" = explain ]; then
+        IFS=$'\n'
+        COMPREPLY=($(compgen -W "$_datacube_codes" -- "$word"))
+        COMPREPLY=("${COMPREPLY[@]// /\\ }")
+        compopt +o default
+    fi
+}
+complete -o default -F _datacube datacube

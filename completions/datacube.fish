@@ -1,0 +1,30 @@
+# Completion of datacube for fish, made by scripts/documents.py from what the program says.
+complete -c datacube -f
+complete -c datacube -n __fish_use_subcommand -s h -l help -d 'Print help'
+complete -c datacube -n __fish_use_subcommand -s V -l version -d 'Print version'
+complete -c datacube -n __fish_use_subcommand -a check -d 'Says whether a schema file is right: `ok`, or the code of its first fault'
+complete -c datacube -n __fish_use_subcommand -a print -d 'Prints the whole cube of all feeds, as CSV'
+complete -c datacube -n __fish_use_subcommand -a refusals -d 'Lists the refused lines of all feeds, as CSV: source, record, code'
+complete -c datacube -n __fish_use_subcommand -a slice -d 'Prints the lines of the cube that CELL matches, as CSV'
+complete -c datacube -n __fish_use_subcommand -a drill -d 'Prints the lines one step below CELL: those with each value of dimension DIM, as CSV'
+complete -c datacube -n __fish_use_subcommand -a explain -d 'Says what a code means, what causes it, and how to mend it'
+complete -c datacube -n '__fish_seen_subcommand_from check' -s h -l help -d 'Print help'
+complete -c datacube -n '__fish_seen_subcommand_from check' -F
+complete -c datacube -n '__fish_seen_subcommand_from print' -l ring -x -d 'How many records may wait between a feed and a builder, 1 to 65536 [default: 64]'
+complete -c datacube -n '__fish_seen_subcommand_from print' -l builders -x -d 'How many threads build the cube, 1 to 8; what is printed is the same [default: 1]'
+complete -c datacube -n '__fish_seen_subcommand_from print' -s h -l help -d 'Print help'
+complete -c datacube -n '__fish_seen_subcommand_from print' -F
+complete -c datacube -n '__fish_seen_subcommand_from refusals' -l ring -x -d 'How many records may wait between a feed and a builder, 1 to 65536 [default: 64]'
+complete -c datacube -n '__fish_seen_subcommand_from refusals' -l builders -x -d 'How many threads build the cube, 1 to 8; what is printed is the same [default: 1]'
+complete -c datacube -n '__fish_seen_subcommand_from refusals' -s h -l help -d 'Print help'
+complete -c datacube -n '__fish_seen_subcommand_from refusals' -F
+complete -c datacube -n '__fish_seen_subcommand_from slice' -l ring -x -d 'How many records may wait between a feed and a builder, 1 to 65536 [default: 64]'
+complete -c datacube -n '__fish_seen_subcommand_from slice' -l builders -x -d 'How many threads build the cube, 1 to 8; what is printed is the same [default: 1]'
+complete -c datacube -n '__fish_seen_subcommand_from slice' -s h -l help -d 'Print help'
+complete -c datacube -n '__fish_seen_subcommand_from slice' -F
+complete -c datacube -n '__fish_seen_subcommand_from drill' -l ring -x -d 'How many records may wait between a feed and a builder, 1 to 65536 [default: 64]'
+complete -c datacube -n '__fish_seen_subcommand_from drill' -l builders -x -d 'How many threads build the cube, 1 to 8; what is printed is the same [default: 1]'
+complete -c datacube -n '__fish_seen_subcommand_from drill' -s h -l help -d 'Print help'
+complete -c datacube -n '__fish_seen_subcommand_from drill' -F
+complete -c datacube -n '__fish_seen_subcommand_from explain' -s h -l help -d 'Print help'
+complete -c datacube -n '__fish_seen_subcommand_from explain' -a '"S1" "S2" "S3" "S4" "S5" "S6" "S7" "S8" "S9" "S10" "L1" "L2" "L3" "L4" "L5" "L6" "F1" "F2" "F3" "F4" "P1" "P2" "P3" "P4" "P5" "P6" "P7" "G1" "G2" "G3" "G4" "G5" "G6" "1" "2" "3" "4" "5" "6" "7" "8" "9" "schema unreadable" "feed unreadable" "too many feeds" "unknown code"'
