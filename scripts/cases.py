@@ -1,10 +1,10 @@
 #!/usr/bin/env python3
 """Runs the program on the cases of the folder cases/, and says `N passed, M failed`.
 
-    scripts/cases.py [-v] [--program PATH] [--first] [NAME...]
+    scripts/cases.py [-v] [--folder FOLDER] [--program PATH] [--first] [NAME...]
 
-All cases are run, or those whose name has one of the words, on the program that stands at PATH, else on the one that
-`./datacube` would run; `--first` ends at the first case that fails.
+All cases of the folder are run, or those whose name has one of the words, on the program that stands at PATH, else on
+the one that `./datacube` would run; `--first` ends at the first case that fails.
 
 Each case runs in a folder of its own, which has copies of the files in cases/files, beside one of examples/, which
 is ../examples. A case is a block of lines:
@@ -13,8 +13,9 @@ is ../examples. A case is a block of lines:
     words WORDS          the words after `datacube`, quoted as in a shell; \\xFF there is a byte, and a word with
                          {1..3} in it is three words
     file NAME            a file with the lines below it, each behind `| `; a last line behind `|. ` has no line end;
-                         `|* N TEXT` is N lines, in which # is the line's number from 1; a NAME with {1..3} in it is
-                         three files, in which ## is the file's number
+                         `|* N TEXT` is N lines, in which # is the line's number from 1, and #%7 what is left of it
+                         when it is divided by 7; a NAME with {1..3} in it is three files, in which ## is the file's
+                         number
     coded NAME           a file as `file`, in which \\xFF is a byte
     folder NAME          a folder
     locked NAME          takes all rights from a file
@@ -46,6 +47,7 @@ import programs
 ROOT = os.path.dirname(os.path.dirname(os.path.realpath(__file__)))
 SECONDS = 60
 NOBODY = ["setpriv", "--reuid=65534", "--regid=65534", "--clear-groups"]
+NUMBER = re.compile(r"(?<!#)#(?!#)(?:%(\d+))?")
 RANGE = re.compile(r"\{(\d+)\.\.(\d+)\}")
 
 
@@ -117,7 +119,8 @@ def read_lines(line, place):
     """Reads a line of a file or an output, which may stand for several."""
     if line.startswith("|* "):
         count, _, text = line[3:].partition(" ")
-        return [re.sub("(?<!#)#(?!#)", str(it), text) + "\n" for it in range(1, int(count) + 1)]
+        value = lambda found, line: str(line % int(found[1]) if found[1] else line)
+        return [NUMBER.sub(lambda found: value(found, line), text) + "\n" for line in range(1, int(count) + 1)]
     if line.startswith("|. "):
         return [line[3:]]
     if line != "|" and not line.startswith("| "):
@@ -255,7 +258,7 @@ def try_case(case, room, folder):
     return run(case, f"{room}/{folder}")
 
 
-def all_cases(folder="cases"):
+def all_cases(folder):
     """The cases of all files of a folder."""
     files = sorted(it for it in os.listdir(f"{ROOT}/{folder}") if it.endswith(".case"))
     return [it for name in files for it in read_cases(f"{ROOT}/{folder}/{name}")]
@@ -276,15 +279,16 @@ def tried(cases, program, first):
                     return
 
 
-def main(cases, program):
-    """Runs those of the cases that the words name on the program that they give, or on this one."""
+def main(cases_of, program):
+    """Runs those of a folder's cases that the words name on the program that they give, or on this one."""
     parser = argparse.ArgumentParser()
+    parser.add_argument("--folder", default="cases")
     parser.add_argument("-v", action="store_true", dest="loud")
     parser.add_argument("--program")
     parser.add_argument("--first", action="store_true")
     parser.add_argument("name", nargs="*")
     given = parser.parse_args()
-    named = [it for it in cases if not given.name or any(word in it.name for word in given.name)]
+    named = [it for it in cases_of(given.folder) if not given.name or any(word in it.name for word in given.name)]
     passed = failed = 0
     for case, fault in tried(named, given.program or program(), given.first):
         passed, failed = passed + (fault is None), failed + (fault is not None)
@@ -295,4 +299,4 @@ def main(cases, program):
 
 
 if __name__ == "__main__":
-    sys.exit(main(all_cases(), programs.datacube))
+    sys.exit(main(all_cases, programs.datacube))

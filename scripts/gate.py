@@ -192,6 +192,8 @@ def main():
         prove(tally, given.anew)
         see_release(tally)
         tally.run("cases of the library", ["scripts/library_cases.py"])
+        bench = ["--folder", "cases/bench", "--program", "crates/bench/out/bench"]
+        tally.run("cases of the benchmarks", ["scripts/cases.py", *bench])
     print("== seconds of the clock, and of processors")
     for name, clock, spent in tally.rows:
         print(f"{clock:8.0f} {spent:8.0f}  {name}")

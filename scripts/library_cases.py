@@ -24,4 +24,4 @@ def program():
 
 
 if __name__ == "__main__":
-    sys.exit(cases.main(cases.all_cases("cases/library") + generated_calls.all_cases(), program))
+    sys.exit(cases.main(lambda _: cases.all_cases("cases/library") + generated_calls.all_cases(), program))

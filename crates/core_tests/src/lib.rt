@@ -6,8 +6,6 @@
 #[cfg(test)]
 mod faults;
 #[cfg(test)]
-mod line_faults;
-#[cfg(test)]
 mod memory;
 #[cfg(test)]
 mod plain;
