@@ -119,8 +119,8 @@ def read_lines(line, place):
     """Reads a line of a file or an output, which may stand for several."""
     if line.startswith("|* "):
         count, _, text = line[3:].partition(" ")
-        value = lambda found, line: str(line % int(found[1]) if found[1] else line)
-        return [NUMBER.sub(lambda found: value(found, line), text) + "\n" for line in range(1, int(count) + 1)]
+        value = lambda found, at: str(at % int(found[1]) if found[1] else at)
+        return [NUMBER.sub(lambda found: value(found, at), text) + "\n" for at in range(1, int(count) + 1)]
     if line.startswith("|. "):
         return [line[3:]]
     if line != "|" and not line.startswith("| "):
