@@ -288,9 +288,12 @@ def main(cases_of, program):
     parser.add_argument("--first", action="store_true")
     parser.add_argument("name", nargs="*")
     given = parser.parse_args()
+    path = given.program or program()
+    if not os.access(path, os.X_OK):
+        sys.exit(f"no program is there to run: {path}")
     named = [it for it in cases_of(given.folder) if not given.name or any(word in it.name for word in given.name)]
     passed = failed = 0
-    for case, fault in tried(named, given.program or program(), given.first):
+    for case, fault in tried(named, path, given.first):
         passed, failed = passed + (fault is None), failed + (fault is not None)
         if fault or given.loud:
             print(f"{'FAILED' if fault else 'passed'}: {case.name}" + (f": {fault}" if fault else ""))

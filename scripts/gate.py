@@ -184,10 +184,13 @@ def main():
     parser.add_argument("--anew", action="store_true")
     given = parser.parse_args()
     tally = Tally()
-    program = programs.datacube()
-    print(f"the program that is run: {os.path.relpath(program, ROOT)}", flush=True)
-    for name, command in quick_parts(program):
-        tally.run(name, command)
+    program = programs.found()
+    if program:
+        print(f"the program that is run: {os.path.relpath(program, ROOT)}", flush=True)
+        for name, command in quick_parts(program):
+            tally.run(name, command)
+    else:
+        tally.note(False, "there is a program to run the cases on")
     if not given.quick:
         prove(tally, given.anew)
         see_release(tally)
