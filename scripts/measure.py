@@ -6,8 +6,11 @@ import subprocess
 import sys
 import time
 
+sys.dont_write_bytecode = True
+import programs
+
 ROOT = os.path.dirname(os.path.dirname(os.path.realpath(__file__)))
-DATACUBE = f"{ROOT}/crates/datacube/out/datacube"
+DATACUBE = programs.datacube()
 BENCH = f"{ROOT}/crates/bench/out/bench"
 
 # processor seconds of all threads, wall seconds, the largest memory in MiB
