@@ -3,12 +3,13 @@
 
     scripts/sql.py [--program PATH] [--cases N] [--seed N]
     scripts/sql.py [--program PATH] SCHEMA FEED...
-    scripts/sql.py --show SCHEMA
+    scripts/sql.py --show SCHEMA [FEED...]
 
 The first form takes the examples and N generated schemas with their feeds, the second the files that are named.
 Python's `csv` splits the feeds into records; which records are refused, which facts are present and what their cube
 is, SQL works out (docs/SQL.md). A case passes where the program's `refusals` and `print` say the very same. The third
-form shows the SQL for a schema. The program is the one at PATH, else the one that `./datacube` would run.
+form shows the SQL, with the records of the feeds, as psql takes it, and asks no server. The program is the one at
+PATH, else the one that `./datacube` would run.
 
 The server is begun for this run alone, in a folder of its own, with a socket there and no port; as nobody where this
 is run as root. Records that PostgreSQL can't hold, for a NUL or for bytes that aren't UTF-8, are left out of the
@@ -45,7 +46,7 @@ IN_COPY = str.maketrans({"\\": r"\\", "\n": r"\n", "\r": r"\r", "\t": r"\t"})
 NO_SERVER = ["-c", "listen_addresses=", "-c", "autovacuum=off", "-c", "fsync=off", "-c", "synchronous_commit=off"]
 QUICK = ["-c", "jit=off", "-c", "max_parallel_workers_per_gather=0", "-c", "work_mem=64MB"]
 
-FUNCTIONS = r"""
+IS_NUMBER = r"""
 CREATE FUNCTION is_number(field text) RETURNS boolean IMMUTABLE LANGUAGE sql AS $$
     SELECT CASE
         WHEN field !~ '^[+-]?[0-9]+$' THEN false
@@ -53,7 +54,9 @@ CREATE FUNCTION is_number(field text) RETURNS boolean IMMUTABLE LANGUAGE sql AS 
         ELSE field::numeric BETWEEN -9223372036854775808 AND 9223372036854775807
     END
 $$;
+"""
 
+FRACTION = """
 CREATE FUNCTION fraction(total numeric, number numeric) RETURNS text IMMUTABLE STRICT LANGUAGE sql AS $$
     SELECT div(total, gcd(total, number)) || '/' || div(number, gcd(total, number))
 $$;
@@ -179,12 +182,17 @@ def script_of(schema, feeds):
     """What psql is given: the records, and then the statements, of which two are copied out."""
     made = statements(schema)
     copied = lambda query: rf"COPY ({query}) TO STDOUT WITH (FORMAT csv, NULL '\N');" + "\n"
-    lines = [f"{source}\t{record}\t{copy_text(fields)}\n"
-             for source, records in enumerate(feeds, 1) for record, fields in enumerate(records, 1)]
     return "".join([
-        RECORDS, "COPY records FROM STDIN;\n", *lines, "\\.\n", made["changes"], made["judged"], made["facts"],
-        copied(made["refusals"]), f"\\echo {END_OF_REFUSALS.decode()}", copied(made["cube"]),
+        RECORDS, copy_records(feeds), made["changes"], made["judged"], made["facts"], copied(made["refusals"]),
+        f"\\echo {END_OF_REFUSALS.decode()}", copied(made["cube"]),
     ]).encode()
+
+
+def copy_records(feeds):
+    """What fills the table of records; those that PostgreSQL can't hold are left out."""
+    lines = [f"{source}\t{record}\t{copy_text(fields)}\n"
+             for source, records in enumerate(feeds, 1) for record, fields in enumerate(records, 1) if is_held(fields)]
+    return "".join(["COPY records FROM STDIN;\n", *lines, "\\.\n"])
 
 
 def copy_text(fields):
@@ -215,7 +223,7 @@ class Server:
             how = {"stdin": subprocess.DEVNULL, "stdout": log, "stderr": log, "env": self.env, "cwd": "/"}
             self.process = subprocess.Popen([*front, *serve], **how)
         self.wait()
-        self.ask(FUNCTIONS.encode())
+        self.ask((IS_NUMBER + FRACTION).encode())
         return self
 
     def __exit__(self, *_):
@@ -344,9 +352,9 @@ def differs(command, ran, status, wanted):
         return f"{command} ends with status {ran.returncode}, and not {status}"
     if ran.stdout == wanted:
         return None
-    lines = zip(ran.stdout.splitlines(True) + [None], wanted.splitlines(True) + [None])
-    at, (ours, theirs) = next(it for it in enumerate(lines, 1) if it[1][0] != it[1][1])
-    return f"line {at} of {command} is {ours!r}, and SQL says {theirs!r}"
+    place = len(os.path.commonprefix([ran.stdout, wanted]))
+    ours, theirs = (it[max(place - 40, 0) : place + 80] for it in (ran.stdout, wanted))
+    return f"{command} differs in line {wanted.count(10, 0, place) + 1}: it has {ours!r}, and SQL {theirs!r}"
 
 
 def examples(trials):
@@ -358,7 +366,7 @@ def examples(trials):
     trials.trial("examples/shop", f"{shop}/schema.toml", feeds)
     with open(f"{ROOT}/docs/SQL.md", encoding="utf-8") as file:
         page = file.read()
-    parts = [FUNCTIONS, RECORDS, *statements(read_schema(f"{shop}/schema.toml")).values()]
+    parts = [IS_NUMBER, FRACTION, RECORDS, *statements(read_schema(f"{shop}/schema.toml")).values()]
     missing = [it.strip() for it in parts if it.strip() not in page]
     trials.note("docs/SQL.md shows what is asked of the shop", f"it lacks {missing[0]!r}" if missing else None)
 
@@ -375,10 +383,16 @@ def generated(trials, count, seed):
     print(f"        {count} generated cases of seed {seed}")
 
 
-def show(path):
-    """Shows the SQL for a schema."""
-    parts = [FUNCTIONS, RECORDS, *statements(read_schema(path)).values()]
-    print("\n\n".join(it.strip().removesuffix(";") + ";" for it in parts))
+def show(path, files):
+    """Shows the SQL for a schema, with the records of feeds."""
+    feeds = [read_feed(it)[1:] for it in files]
+    filled = [copy_records(feeds)] if feeds else []
+    ends = lambda text: text.strip().removesuffix(";") + ";\n"
+    made = map(ends, statements(read_schema(path)).values())
+    print("\n".join([*map(ends, [IS_NUMBER, FRACTION, RECORDS]), *filled, *made]), end="")
+    left_out = sum(not is_held(it) for records in feeds for it in records)
+    if left_out:
+        print(f"{left_out} records left out, with a NUL or bytes that aren't UTF-8", file=sys.stderr)
 
 
 def main():
@@ -386,17 +400,19 @@ def main():
     asks.add_argument("--program")
     asks.add_argument("--cases", type=int, default=50)
     asks.add_argument("--seed", type=int, default=1)
-    asks.add_argument("--show", metavar="SCHEMA")
+    asks.add_argument("--show", action="store_true")
     asks.add_argument("schema", nargs="?")
     asks.add_argument("feed", nargs="*")
     given = asks.parse_args()
+    if given.show and not given.schema:
+        asks.error("--show wants a schema")
     found = sorted(glob.glob("/usr/lib/postgresql/*/bin/initdb"), key=lambda it: float(it.split("/")[4]))
     if not tomllib or not found and not given.show:
         print("Debian's package postgresql isn't installed" if tomllib else "Python 3.11 or later isn't installed")
         print("0 passed, 0 failed")
         return 77
     if given.show:
-        return show(given.show)
+        return show(given.schema, given.feed)
     program = os.path.abspath(given.program or programs.datacube())
     folder = lambda: tempfile.TemporaryDirectory(prefix="datacube-sql-")
     with folder() as room, folder() as ours, Server(os.path.dirname(found[-1]), room) as server:
