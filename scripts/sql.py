@@ -43,8 +43,9 @@ LONGEST_NAME = 63
 END_OF_REFUSALS = b"--\n"
 IN_ARRAY = str.maketrans({"\\": r"\\", '"': r'\"'})
 IN_COPY = str.maketrans({"\\": r"\\", "\n": r"\n", "\r": r"\r", "\t": r"\t"})
-NO_SERVER = ["-c", "listen_addresses=", "-c", "autovacuum=off", "-c", "fsync=off", "-c", "synchronous_commit=off"]
-QUICK = ["-c", "jit=off", "-c", "max_parallel_workers_per_gather=0", "-c", "work_mem=64MB"]
+# (no port, nothing that saves data from a crash, one processor)
+SETTINGS = ["listen_addresses=", "autovacuum=off", "fsync=off", "synchronous_commit=off", "full_page_writes=off",
+            "jit=off", "max_parallel_workers_per_gather=0", "work_mem=64MB"]
 
 IS_NUMBER = r"""
 CREATE FUNCTION is_number(field text) RETURNS boolean IMMUTABLE LANGUAGE sql AS $$
@@ -218,7 +219,8 @@ class Server:
         made = self.call([*front, f"{self.binaries}/initdb", "-D", data, *make])
         if made.returncode:
             sys.exit(f"initdb failed: {made.stderr.decode(errors='replace').strip()}")
-        serve = [f"{self.binaries}/postgres", "-D", data, "-k", self.room, *NO_SERVER, *QUICK]
+        settings = [word for it in SETTINGS for word in ("-c", it)]
+        serve = [f"{self.binaries}/postgres", "-D", data, "-k", self.room, *settings]
         with open(f"{self.room}/log", "wb") as log:
             how = {"stdin": subprocess.DEVNULL, "stdout": log, "stderr": log, "env": self.env, "cwd": "/"}
             self.process = subprocess.Popen([*front, *serve], **how)
@@ -383,8 +385,11 @@ def generated(trials, count, seed):
     print(f"        {count} generated cases of seed {seed}")
 
 
-def show(path, files):
-    """Shows the SQL for a schema, with the records of feeds."""
+def show(program, path, files):
+    """Shows the SQL for a schema that the program takes, with the records of feeds."""
+    checked = subprocess.run([program, "check", path], stdout=subprocess.DEVNULL)
+    if checked.returncode:
+        return checked.returncode
     feeds = [read_feed(it)[1:] for it in files]
     filled = [copy_records(feeds)] if feeds else []
     ends = lambda text: text.strip().removesuffix(";") + ";\n"
@@ -393,6 +398,7 @@ def show(path, files):
     left_out = sum(not is_held(it) for records in feeds for it in records)
     if left_out:
         print(f"{left_out} records left out, with a NUL or bytes that aren't UTF-8", file=sys.stderr)
+    return 0
 
 
 def main():
@@ -411,9 +417,9 @@ def main():
         print("Debian's package postgresql isn't installed" if tomllib else "Python 3.11 or later isn't installed")
         print("0 passed, 0 failed")
         return 77
-    if given.show:
-        return show(given.schema, given.feed)
     program = os.path.abspath(given.program or programs.datacube())
+    if given.show:
+        return show(program, given.schema, given.feed)
     folder = lambda: tempfile.TemporaryDirectory(prefix="datacube-sql-")
     with folder() as room, folder() as ours, Server(os.path.dirname(found[-1]), room) as server:
         trials = Trials(server, program, ours)
