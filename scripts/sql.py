@@ -1,0 +1,437 @@
+#!/usr/bin/env python3
+"""Asks the same question in SQL: what a private PostgreSQL says of feeds beside what the program writes, byte for byte.
+
+    scripts/sql.py [--program PATH] [--cases N] [--seed N]
+    scripts/sql.py [--program PATH] SCHEMA FEED...
+    scripts/sql.py --show SCHEMA [FEED...]
+
+The first form takes the examples and N generated schemas with their feeds, the second the files that are named.
+Python's `csv` splits the feeds into records; which records are refused, which facts are present and what their cube
+is, SQL works out (docs/SQL.md). A case passes where the program's `refusals` and `print` say the very same. The third
+form shows the SQL, with the records of the feeds, as psql takes it, and asks no server. The program is the one at
+PATH, else the one that `./datacube` would run.
+
+The server is begun for this run alone, in a folder of its own, with a socket there and no port; as nobody where this
+is run as root. Records that PostgreSQL can't hold, for a NUL or for bytes that aren't UTF-8, are left out of the
+feeds, and it is said how many. Needs Debian's package postgresql, of version 13 or later, and Python 3.11 or later.
+"""
+import argparse
+import csv
+import glob
+import os
+import random
+import signal
+import subprocess
+import sys
+import tempfile
+import time
+
+sys.dont_write_bytecode = True
+import cases
+import hostile
+import oracle
+import programs
+
+try:
+    import tomllib
+except ImportError:
+    tomllib = None
+
+ROOT = programs.ROOT
+SECONDS = 600
+LONGEST_NAME = 63
+END_OF_REFUSALS = b"--\n"
+IN_ARRAY = str.maketrans({"\\": r"\\", '"': r'\"'})
+IN_COPY = str.maketrans({"\\": r"\\", "\n": r"\n", "\r": r"\r", "\t": r"\t"})
+# (no port, nothing that saves data from a crash, one processor)
+SETTINGS = ["listen_addresses=", "autovacuum=off", "fsync=off", "synchronous_commit=off", "full_page_writes=off",
+            "jit=off", "max_parallel_workers_per_gather=0", "work_mem=64MB"]
+
+IS_NUMBER = r"""
+CREATE FUNCTION is_number(field text) RETURNS boolean IMMUTABLE LANGUAGE sql AS $$
+    SELECT CASE
+        WHEN field !~ '^[+-]?[0-9]+$' THEN false
+        WHEN length(ltrim(field, '+-0')) > 19 THEN false
+        ELSE field::numeric BETWEEN -9223372036854775808 AND 9223372036854775807
+    END
+$$;
+"""
+
+FRACTION = """
+CREATE FUNCTION fraction(total numeric, number numeric) RETURNS text IMMUTABLE STRICT LANGUAGE sql AS $$
+    SELECT div(total, gcd(total, number)) || '/' || div(number, gcd(total, number))
+$$;
+"""
+
+RECORDS = """
+CREATE TEMP TABLE records (source int, record int, fields text[]);
+"""
+
+CHANGES = r"""
+CREATE TEMP TABLE changes AS
+SELECT source, record, fields[1] AS op, fields[2] AS id, fields,
+    CASE
+        WHEN fields[1] NOT IN ('I', 'U', 'D') THEN 1
+        WHEN cardinality(fields) <> {width} AND NOT (fields[1] = 'D' AND cardinality(fields) = 2) THEN 2
+        WHEN fields[2] = '' THEN 4
+        WHEN fields[1] <> 'D' AND EXISTS (
+            SELECT FROM unnest(fields[{measures}]) AS field WHERE field NOT IN ({no_numbers}) AND NOT is_number(field)
+        ) THEN 5{sixth}
+    END AS fault
+FROM records;
+"""
+
+SIXTH = r"""
+        WHEN fields[1] = 'I' AND '\=' = ANY (fields[3:]) THEN 6"""
+
+JUDGED = """
+CREATE TEMP TABLE judged AS
+SELECT *,
+    coalesce(max(record) FILTER (WHERE op = 'I') OVER earlier, 0)
+        > coalesce(max(record) FILTER (WHERE op = 'D') OVER earlier, 0) AS is_present
+FROM changes
+WHERE fault IS NULL
+WINDOW earlier AS (PARTITION BY source, id ORDER BY record ROWS BETWEEN UNBOUNDED PRECEDING AND 1 PRECEDING);
+"""
+
+REFUSALS = """
+SELECT source, record, fault AS code FROM changes WHERE fault IS NOT NULL
+UNION ALL
+SELECT source, record, CASE op WHEN 'I' THEN {present} ELSE {absent} END FROM judged WHERE (op = 'I') = is_present
+ORDER BY source, record
+"""
+
+FACTS = """
+CREATE TEMP TABLE facts AS
+SELECT
+    {columns}
+FROM (
+    SELECT *, count(*) FILTER (WHERE op = 'I') OVER (PARTITION BY source, id ORDER BY record) AS life
+    FROM judged
+    WHERE (op = 'I') <> is_present
+) AS taken
+GROUP BY source, id, life
+HAVING bool_and(op <> 'D');
+"""
+
+CUBE = """
+SELECT
+    {columns}
+FROM facts
+GROUP BY {grouping}{order}
+"""
+
+
+def name_of(text):
+    """A name of SQL."""
+    return '"' + text.replace('"', '""') + '"'
+
+
+def statements(schema):
+    """The SQL over a schema's records: a statement for the changes, the judged ones, the refusals, facts and cube."""
+    keeps = schema.version == 2
+    middle = 3 + len(schema.dimensions)
+    width = middle - 1 + len(schema.measures)
+    changes = {
+        "width": width,
+        "measures": f"{middle}:{width}",
+        "no_numbers": r"'\N', '\='" if keeps else r"'\N'",
+        "sixth": SIXTH if keeps else "",
+    }
+    return {
+        "changes": CHANGES.format(**changes),
+        "judged": JUDGED,
+        "refusals": REFUSALS.format(present=7 if keeps else 6, absent=8 if keeps else 7),
+        "facts": FACTS.format(columns=",\n    ".join(fact_columns(schema))),
+        "cube": cube(schema),
+    }
+
+
+def fact_columns(schema):
+    r"""A column of facts for each dimension and measure: the field that was put last, where `\=` puts none."""
+    for at, name in enumerate(schema.dimensions + schema.measures, 3):
+        put = rf" FILTER (WHERE fields[{at}] <> '\=')" if schema.version == 2 else ""
+        kind = "::bigint" if at >= 3 + len(schema.dimensions) else ""
+        last = f"(array_agg(fields[{at}] ORDER BY record DESC){put})[1]"
+        yield rf"nullif({last}, '\N'){kind} AS {name_of(name)}"
+
+
+def cube(schema):
+    """The query for a schema's cube over the facts that are present; a dimension that no kept set has is ALL always."""
+    kept = [it for at, it in enumerate(schema.dimensions) if any(mask >> at & 1 for mask in schema.masks)]
+    columns = [", ".join(name_of(it) if it in kept else f"NULL AS {name_of(it)}" for it in schema.dimensions)]
+    for it in schema.dimensions:
+        columns.append(f"{f'grouping({name_of(it)})' if it in kept else '1'} AS {name_of(f'grouping({it})')}")
+    for (kind, at), text in zip(schema.aggregates, schema.aggregate_texts()):
+        measure = "*" if at is None else name_of(schema.measures[at])
+        call = f"fraction(sum({measure}), count({measure}))" if kind == "avg" else f"{kind}({measure})"
+        columns.append(f"{call} AS {name_of(text)}")
+    order = [f'grouping({name}), {name} COLLATE "C" NULLS LAST' for name in map(name_of, kept)]
+    ordered = "\nORDER BY\n    " + ",\n    ".join(order) if order else ""
+    return CUBE.format(columns=",\n    ".join(columns), grouping=grouping_of(schema), order=ordered)
+
+
+def grouping_of(schema):
+    """What a schema's cube is grouped by."""
+    list_of = lambda names: "(" + ", ".join(map(name_of, names)) + ")"
+    if schema.grouping in ("cube", "rollup"):
+        return f"{schema.grouping.upper()} {list_of(schema.dimensions)}"
+    return "GROUPING SETS (" + ", ".join(map(list_of, schema.grouping)) + ")"
+
+
+def script_of(schema, feeds):
+    """What psql is given: the records, and then the statements, of which two are copied out."""
+    made = statements(schema)
+    copied = lambda query: rf"COPY ({query}) TO STDOUT WITH (FORMAT csv, NULL '\N');" + "\n"
+    return "".join([
+        RECORDS, copy_records(feeds), made["changes"], made["judged"], made["facts"], copied(made["refusals"]),
+        f"\\echo {END_OF_REFUSALS.decode()}", copied(made["cube"]),
+    ]).encode()
+
+
+def copy_records(feeds):
+    """What fills the table of records; those that PostgreSQL can't hold are left out."""
+    lines = [f"{source}\t{record}\t{copy_text(fields)}\n"
+             for source, records in enumerate(feeds, 1) for record, fields in enumerate(records, 1) if is_held(fields)]
+    return "".join(["COPY records FROM STDIN;\n", *lines, "\\.\n"])
+
+
+def copy_text(fields):
+    """A record as an array, as COPY reads it."""
+    array = ",".join('"' + it.decode().translate(IN_ARRAY) + '"' for it in fields)
+    return "{" + array.translate(IN_COPY) + "}"
+
+
+class Server:
+    """A PostgreSQL that this run alone asks: it is begun in a folder, and ended with the block that it is for."""
+
+    def __init__(self, binaries, room):
+        self.binaries, self.room, self.process = binaries, room, None
+        self.env = {"PATH": "/usr/bin:/bin", "LC_ALL": "C", "PGCLIENTENCODING": "UTF8"}
+
+    def __enter__(self):
+        front = ["setpriv", "--pdeathsig", "INT"]
+        if os.geteuid() == 0:
+            os.chown(self.room, 65534, 65534)
+            front += cases.NOBODY[1:]
+        data = f"{self.room}/data"
+        make = ["--no-sync", "--encoding=UTF8", "--locale=C", "--auth=trust", "--username=datacube"]
+        made = self.call([*front, f"{self.binaries}/initdb", "-D", data, *make])
+        if made.returncode:
+            sys.exit(f"initdb failed: {made.stderr.decode(errors='replace').strip()}")
+        settings = [word for it in SETTINGS for word in ("-c", it)]
+        serve = [f"{self.binaries}/postgres", "-D", data, "-k", self.room, *settings]
+        with open(f"{self.room}/log", "wb") as log:
+            how = {"stdin": subprocess.DEVNULL, "stdout": log, "stderr": log, "env": self.env, "cwd": "/"}
+            self.process = subprocess.Popen([*front, *serve], **how)
+        self.wait()
+        self.ask((IS_NUMBER + FRACTION).encode())
+        return self
+
+    def __exit__(self, *_):
+        self.process.send_signal(signal.SIGINT)
+        self.process.wait()
+
+    def call(self, command, given=b""):
+        how = {"stdout": subprocess.PIPE, "stderr": subprocess.PIPE, "timeout": SECONDS, "env": self.env, "cwd": "/"}
+        return subprocess.run(command, input=given, **how)
+
+    def wait(self):
+        """Waits until the server answers."""
+        asks = [f"{self.binaries}/pg_isready", "-h", self.room]
+        for _ in range(300):
+            if self.process.poll() is not None:
+                break
+            if self.call(asks).returncode == 0:
+                return
+            time.sleep(0.1)
+        self.process.kill()
+        with open(f"{self.room}/log", encoding="utf-8", errors="replace") as log:
+            sys.exit(f"the server doesn't answer: {log.read().strip()}")
+
+    def ask(self, script):
+        """What psql says of a script."""
+        words = ["-X", "-q", "-v", "ON_ERROR_STOP=1", "-h", self.room, "-U", "datacube", "-d", "postgres"]
+        said = self.call([f"{self.binaries}/psql", *words], script)
+        if said.returncode:
+            raise RuntimeError("PostgreSQL: " + said.stderr.decode(errors="replace").strip())
+        return said.stdout
+
+
+def read_schema(path):
+    """The schema of a file that the program takes."""
+    with open(path, "rb") as file:
+        table = tomllib.load(file)
+    aggregates = [(kind, table["measures"].index(rest[:-1]) if rest != "*)" else None)
+                  for kind, rest in (it.split("(", 1) for it in table["aggregates"])]
+    rest = {it: table[it] for it in ("grouping", "version", "max_records") if it in table}
+    return oracle.Schema(table["dimensions"], table["measures"], aggregates, **rest)
+
+
+def read_feed(path):
+    """The records of a feed, the header too, as Python's csv splits them."""
+    csv.field_size_limit(2**31 - 1)
+    with open(path, encoding="utf-8-sig", errors="surrogateescape", newline="") as file:
+        return [[it.encode(errors="surrogateescape") for it in fields] for fields in csv.reader(file) if fields]
+
+
+def is_held(fields):
+    """Whether PostgreSQL can hold the fields of a record."""
+    whole = b",".join(fields)
+    return b"\0" not in whole and oracle.is_text(whole)
+
+
+class Trials:
+    """What passed and what failed, and what was seen on the way."""
+
+    def __init__(self, server, program, room):
+        self.server, self.program, self.room = server, program, room
+        self.passed = self.failed = self.records = self.lines = self.refused = self.left_out = 0
+
+    def note(self, name, why, is_shown=True):
+        """Counts a case, which failed where it says why."""
+        self.passed, self.failed = self.passed + (why is None), self.failed + (why is not None)
+        if why or is_shown:
+            print(f"{'FAILED ' if why else 'ok     '} {name}" + (f": {why}" if why else ""), flush=True)
+
+    def trial(self, name, schema_path, paths, is_shown=True):
+        """Compares over a schema's feeds, and counts that as a case."""
+        try:
+            why = self.compare(schema_path, paths)
+        except (OSError, RuntimeError, csv.Error, subprocess.SubprocessError) as error:
+            why = str(error)
+        self.note(name, why, is_shown)
+
+    def run(self, words):
+        how = {"stdin": subprocess.DEVNULL, "stdout": subprocess.PIPE, "stderr": subprocess.PIPE, "timeout": SECONDS}
+        return subprocess.run([self.program, *words], **how)
+
+    def kept(self, records):
+        """The records that PostgreSQL can hold; the others are counted."""
+        kept = [it for it in records if is_held(it)]
+        self.left_out += len(records) - len(kept)
+        return kept
+
+    def compare(self, schema_path, paths):
+        """Says how the program and SQL differ over the feeds, or gives None."""
+        files, feeds = [], []
+        for at, path in enumerate(paths):
+            records = read_feed(path)
+            kept = self.kept(records)
+            feeds.append(kept[1:])
+            files.append(path if kept == records else self.write(f"kept{at}.csv", oracle.encode(kept)))
+        ran = {it: self.run([it, schema_path, *files]) for it in ("refusals", "print")}
+        for it in ran.values():
+            if it.returncode not in (0, 4):
+                return it.stderr.decode(errors="replace").strip()
+        schema = read_schema(schema_path)
+        if any(len(it.encode()) > LONGEST_NAME or "\0" in it for it in schema.dimensions + schema.measures):
+            return f"PostgreSQL holds no name of a column with a NUL or more than {LONGEST_NAME} bytes"
+        refusals, _, rows = self.server.ask(script_of(schema, feeds)).partition(END_OF_REFUSALS)
+        self.records += sum(map(len, feeds))
+        self.refused += refusals.count(b"\n")
+        self.lines += rows.count(b"\n")
+        status = 4 if refusals else 0
+        wanted = {"refusals": b"source,record,code\n" + refusals, "print": oracle.text_of(schema, []) + rows}
+        faults = (differs(it, ran[it], status, wanted[it]) for it in ran)
+        return next((it for it in faults if it), None)
+
+    def write(self, name, data):
+        path = f"{self.room}/{name}"
+        with open(path, "wb") as file:
+            file.write(data)
+        return path
+
+    def seen(self):
+        said = f"{self.records} records, {self.refused} refused, {self.lines} lines of cubes"
+        left = f"; {self.left_out} records left out, with a NUL or bytes that aren't UTF-8"
+        return said + (left if self.left_out else "")
+
+
+def differs(command, ran, status, wanted):
+    """Says how a command's answer differs from what SQL says, or gives None."""
+    if ran.returncode != status:
+        return f"{command} ends with status {ran.returncode}, and not {status}"
+    if ran.stdout == wanted:
+        return None
+    place = len(os.path.commonprefix([ran.stdout, wanted]))
+    ours, theirs = (it[max(place - 40, 0) : place + 80] for it in (ran.stdout, wanted))
+    return f"{command} differs in line {wanted.count(10, 0, place) + 1}: it has {ours!r}, and SQL {theirs!r}"
+
+
+def examples(trials):
+    """The examples, and whether docs/SQL.md shows what is asked over the second."""
+    sample = trials.write("sample.toml", hostile.SAMPLE.toml())
+    trials.trial("examples/first", sample, [f"{ROOT}/examples/first/feed.csv"])
+    shop = f"{ROOT}/examples/shop"
+    feeds = [f"{shop}/{it}.csv" for it in ("market", "street", "online")]
+    trials.trial("examples/shop", f"{shop}/schema.toml", feeds)
+    with open(f"{ROOT}/docs/SQL.md", encoding="utf-8") as file:
+        page = file.read()
+    parts = [IS_NUMBER, FRACTION, RECORDS, *statements(read_schema(f"{shop}/schema.toml")).values()]
+    missing = [it.strip() for it in parts if it.strip() not in page]
+    trials.note("docs/SQL.md shows what is asked of the shop", f"it lacks {missing[0]!r}" if missing else None)
+
+
+def generated(trials, count, seed):
+    """Generated schemas, each with its feeds."""
+    for at in range(count):
+        rng = random.Random(f"{seed} {at}")
+        schema, feeds = hostile.random_case(rng)
+        schema.max_records = 2**32 - 1
+        written = [oracle.encode([schema.header(), *trials.kept(records)], rng) for records in feeds]
+        files = [trials.write(f"feed{number}.csv", it) for number, it in enumerate(written)]
+        trials.trial(f"generated case {at} of seed {seed}", trials.write("schema.toml", schema.toml()), files, False)
+    print(f"        {count} generated cases of seed {seed}")
+
+
+def show(program, path, files):
+    """Shows the SQL for a schema that the program takes, with the records of feeds."""
+    checked = subprocess.run([program, "check", path], stdout=subprocess.DEVNULL)
+    if checked.returncode:
+        return checked.returncode
+    feeds = [read_feed(it)[1:] for it in files]
+    filled = [copy_records(feeds)] if feeds else []
+    ends = lambda text: text.strip().removesuffix(";") + ";\n"
+    made = map(ends, statements(read_schema(path)).values())
+    print("\n".join([*map(ends, [IS_NUMBER, FRACTION, RECORDS]), *filled, *made]), end="")
+    left_out = sum(not is_held(it) for records in feeds for it in records)
+    if left_out:
+        print(f"{left_out} records left out, with a NUL or bytes that aren't UTF-8", file=sys.stderr)
+    return 0
+
+
+def main():
+    asks = argparse.ArgumentParser(description=__doc__, formatter_class=argparse.RawDescriptionHelpFormatter)
+    asks.add_argument("--program")
+    asks.add_argument("--cases", type=int, default=50)
+    asks.add_argument("--seed", type=int, default=1)
+    asks.add_argument("--show", action="store_true")
+    asks.add_argument("schema", nargs="?")
+    asks.add_argument("feed", nargs="*")
+    given = asks.parse_args()
+    if given.show and not given.schema:
+        asks.error("--show wants a schema")
+    found = sorted(glob.glob("/usr/lib/postgresql/*/bin/initdb"), key=lambda it: float(it.split("/")[4]))
+    if not tomllib or not found and not given.show:
+        print("Debian's package postgresql isn't installed" if tomllib else "Python 3.11 or later isn't installed")
+        print("0 passed, 0 failed")
+        return 77
+    program = os.path.abspath(given.program or programs.datacube())
+    if given.show:
+        return show(program, given.schema, given.feed)
+    folder = lambda: tempfile.TemporaryDirectory(prefix="datacube-sql-")
+    with folder() as room, folder() as ours, Server(os.path.dirname(found[-1]), room) as server:
+        trials = Trials(server, program, ours)
+        if given.schema:
+            trials.trial(given.schema, given.schema, given.feed)
+        else:
+            examples(trials)
+            generated(trials, given.cases, given.seed)
+    print(f"        {trials.seen()}")
+    print(f"{trials.passed} passed, {trials.failed} failed")
+    return 1 if trials.failed else 0
+
+
+if __name__ == "__main__":
+    sys.exit(main())
