@@ -31,6 +31,13 @@ WAYS = {
     r"\N printed for an empty text": r"sed -i '2,$s/^,/\\N,/; 2,$s/,,/,\\N,/g' $out",
     "the last line end missing": "head -c -1 $out >$new; cp $new $out",
     "a fault told as another": "sed -i 's/F3$/F4/; s/S4$/S5/' $err",
+    "G2 told for G3": "sed -i 's/^datacube: G3 .*/datacube: G2/' $err",
+    "S1 told for each fault of a schema": "sed -i 's/^datacube: S[0-9]*$/datacube: S1/' $err",
+    "F1 told for F2": "sed -i 's/F2$/F1/' $err",
+    "a note under another code": "sed -i '1s/^G4: run$/G5: run/' $out",
+    "the grand total always printed": r"""grep -q '^.N,.N,1,1,' $out || ! grep -q '^region,kind,g' $out ||
+        echo '\N,\N,1,1,0' >>$out""",
+    "status 3 for 2": "[ $status -ne 2 ] || status=3",
 }
 
 
