@@ -3,23 +3,25 @@
 
     scripts/spoil.py [--program PATH] [WAY...]
 
-In each of the ways below some case has to fail. The last line is `N passed, M failed`, where a way passes that fails a
-case. The program is the one at PATH, else the one that `./datacube` would run.
+In each of the ways below some case has to fail, and none where the wrapper spoils nothing. Cases whose output isn't read
+are left out, since a wrapper shows there. The last line is `N passed, M failed`. The program is the one at PATH, else the
+one that `./datacube` would run.
 """
 import argparse
 import os
 import shlex
 import shutil
-import subprocess
 import sys
 import tempfile
 
 sys.dont_write_bytecode = True
+import cases
 import programs
 
-HERE = os.path.dirname(os.path.realpath(__file__))
+NOTHING = "nothing"
 # (what the wrapper does with the output $out, the line of standard error $err, and the status)
 WAYS = {
+    NOTHING: ":",
     "a row left out": "sed -i 2d $out",
     "a count one too high": """awk -F, -v OFS=, 'NR == 1 { for (at = 1; at <= NF; at++) if ($at == "count(*)") count = at }
         NR > 1 && count { $count++ } { print }' $out >$new; cp $new $out""",
@@ -55,15 +57,13 @@ exit $status
 """
 
 
-def fault_of(spoiling, program, room):
+def fault_of(spoiling, program, room, tried):
     """The first case that fails on the spoiled program, or None."""
     wrapper = f"{room}/spoiled"
     with open(wrapper, "w", encoding="utf-8") as file:
         file.write(wrapper_of(spoiling, program))
     os.chmod(wrapper, 0o755)
-    ran = subprocess.run([sys.executable, f"{HERE}/cases.py", "--first", "--program", wrapper], stdout=subprocess.PIPE, text=True)
-    failed = [it for it in ran.stdout.splitlines() if it.startswith("FAILED: ")]
-    return failed[0].split(": the ")[0].removeprefix("FAILED: ") if ran.returncode and failed else None
+    return next((case.name for case, fault in cases.tried(tried, wrapper, True) if fault), None)
 
 
 def main():
@@ -72,15 +72,17 @@ def main():
     parser.add_argument("way", nargs="*")
     given = parser.parse_args()
     passed = failed = 0
+    read = [it for it in cases.all_cases("cases") if it.stdout is None]
     with tempfile.TemporaryDirectory(prefix="datacube-spoiled-") as room:
         os.chmod(room, 0o755)
         shutil.copy(given.program or programs.datacube(), f"{room}/program")
         for way, spoiling in WAYS.items():
             if given.way and way not in given.way:
                 continue
-            case = fault_of(spoiling, f"{room}/program", room)
-            passed, failed = passed + bool(case), failed + (not case)
-            print(f"ok      spoiled: {way} (fails: {case})" if case else f"FAILED  spoiled: {way}: no case fails", flush=True)
+            case = fault_of(spoiling, f"{room}/program", room, read)
+            is_right = bool(case) != (way == NOTHING)
+            passed, failed = passed + is_right, failed + (not is_right)
+            print(f"{'ok     ' if is_right else 'FAILED '} spoiled: {way} (fails: {case})", flush=True)
     print(f"{passed} passed, {failed} failed")
     return 1 if failed or not passed else 0
 
