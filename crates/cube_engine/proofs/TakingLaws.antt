@@ -32,13 +32,18 @@ HasFacts-SameCells facts old new same has = record {
   facts_are = same.facts ∙ has.facts_are;
 }
 
+-- a builder with as many accounts as before, over the same sets
+pub record TakesOne (old new : BuilderView) : Type 0 where
+  pub all : length new.ledger.accounts ≡ length old.ledger.accounts
+  pub same : SameSets old.cube new.cube
+
 -- a builder that took an item
-pub builder-further : (old new : BuilderView) (source : ℕ) (item : Item) → length new.ledger.accounts ≡ length old.ledger.accounts → SameSets old.cube new.cube
+pub builder-further : (old new : BuilderView) (source : ℕ) (item : Item) → TakesOne old new
     → ((arrivals : Arrivals) → StandsAt old arrivals → StandsAt new (arrivals ++ (source, item) ∷ []))
     → (first : BuilderView) (arrivals : Arrivals) → BuilderStandsFrom first old arrivals → BuilderStandsFrom first new (arrivals ++ (source, item) ∷ [])
-builder-further old new source item all same stands first arrivals from = record {
-  same = SameSets-trans first.cube old.cube new.cube from.same same;
-  all = all ∙ from.all;
+builder-further old new source item takes stands first arrivals from = record {
+  same = SameSets-trans first.cube old.cube new.cube from.same takes.same;
+  all = takes.all ∙ from.all;
   stands_at = stands arrivals from.stands_at;
 }
 

@@ -29,21 +29,21 @@ impl TakesItems for Ledger {
 }
 
 impl TakesItems for Builder {
-    ghost use Rattle.std.specs.Prelude.{length, ◌==◌, ◌-◌, ◌^◌};
+    ghost use Rattle.std.specs.Prelude.{length, nat_lt, not, ◌-◌, ◌^◌};
     ghost use Rattle.cube_engine.specs.Taking.{BuilderStandsFrom};
 
     ghost sources = { λ builder. length builder.ledger.accounts };
 
     ghost stands = { BuilderStandsFrom };
 
-    ghost full = { λ builder. builder.cube.facts == 2 ^ 64 - 1 };
+    ghost full = { λ builder. not (nat_lt builder.cube.facts (2 ^ 64 - 1)) };
 
     fn sources(&self) -> u32 {
         self.sources()
     }
 
     fn is_full(&self) -> bool {
-        self.facts() == u64::MAX
+        !(self.facts() < u64::MAX)
     }
 
     fn take_item(&mut self, source: u32, item: Item) -> Result<(), AllocError> {
