@@ -1,17 +1,15 @@
-use Rattle.std.proofs.Common.{ap, sym, ◌∙◌, ◌++◌, ◌∷◌, [], map, Some}
+use Rattle.std.proofs.Common.{◌≡◌, ap, sym, ◌∙◌, ◌++◌, ◌∷◌, [], map, Some}
+use Rattle.std.specs.Prelude.{option_map}
 use Rattle.std.proofs.lemmas.List.{map-append}
-use Rattle.cube_threads.proofs.built.Making.keep_all.Goals as goal
+use Rattle.cube_threads.proofs.DraftLaws.{map-one_more}
+use Rattle.cube_threads.proofs.making.Making.keep_all.Goals as goal
 
-pub loop-gatherer-preserved : goal.loop-gatherer-preserved
-loop-gatherer-preserved c =
-    let loop = c.loop-gatherer in
-    let made = c.in_ok-keep.ensures.builders in (
-      map-append (λ gatherer. gatherer.builder.builder) loop.yielded (c.in-Some.gatherer ∷ [])
-          ∙ ap (λ all. all ++ c.in-Some.gatherer.builder.builder ∷ []) loop.invariant.0
-          ∙ ap (λ one. map Some loop.self.builders.items ++ one ∷ []) made.1
-          ∙ sym (map-append Some loop.self.builders.items (made.0 ∷ []))
-          ∙ sym (ap (map Some) made.2),
-      c.in_ok-keep.ensures.links
-          ∙ ap (λ all. all ++ c.in-Some.gatherer.inlets.items ∷ []) loop.invariant.1
-          ∙ sym (map-append (λ gatherer. gatherer.inlets.items) loop.yielded (c.in-Some.gatherer ∷ [])),
+pub loop-part-preserved : goal.loop-part-preserved
+loop-part-preserved c =
+    let loop = c.loop-part in
+    let kept = c.in_ok-keep.ensures in (
+      map-one_more (option_map (λ part. part.builder)) Some loop.yielded c.in-Some.part loop.self.builders.items kept.0.builder c.keep.new.self.builders.items loop.invariant.0
+          (ap (option_map (λ part. part.builder)) kept.1) kept.2,
+      map-one_more (option_map (λ part. part.inlets.items)) Some loop.yielded c.in-Some.part (map (λ links. links.inlets.items) loop.self.links.items) kept.0.inlets.items
+          (map (λ links. links.inlets.items) c.keep.new.self.links.items) loop.invariant.1 (ap (option_map (λ part. part.inlets.items)) kept.1) kept.3,
     )
