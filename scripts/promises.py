@@ -18,7 +18,7 @@ CRATES = ["cube_core", "cube_feed", "cube_counts", "cube_cells", "cube_engine", 
 PLACE = re.compile(r"(<!-- promises -->\n).*?(<!-- end of promises -->)", re.DOTALL)
 
 OWNER = re.compile(r"(impl|pub trait|trait)(?:<.*?>)? (\w+)")
-FUNCTION = re.compile(r"( *)(pub )?fn (\w+)")
+FUNCTION = re.compile(r"( *)(pub )?(?:const |unsafe )*fn (\w+)")
 CLAUSE = re.compile(r" *(requires|ensures)(?: (\w+))? \{")
 TYPE = re.compile(r"pub (enum|struct) (\w+)")
 VARIANT = re.compile(r"    (\w+)\b.*,$")
