@@ -152,3 +152,16 @@ builds-parts s sources parts drafts gatherers built good some new taken are =
       taken = rw of taken.items;
       stands = stand-parts s (length sources) parts takes.arrivals taken.feeds drafts gatherers built (record { long = long; are = of }) new taken.each are;
     }
+
+-- what is seen of builders that have taken the feeds has taken them
+pub builds-seen : (s : Layout) (sources : Told) (parts : ℕ) (inside seen : BuiltView) → seen.builders ≡ inside.builders → seen.inlets ≡ inside.inlets → BuildsParts s sources parts inside → BuildsParts s sources parts seen
+builds-seen s sources parts inside seen builders inlets builds = record {
+  good = builds.good;
+  arrivals = builds.arrivals;
+  taken = builds.taken;
+  stands = record {
+      builders = ap length builders ∙ builds.stands.builders;
+      inlets = ap length inlets ∙ builds.stands.inlets;
+      each = λ part d below. rw (builders, inlets) (builds.stands.each part d below);
+  };
+}

@@ -79,22 +79,23 @@ impl Making {
         ensures links { OnOk result (map (option_map (λ part. part.inlets.items)) made.items
             ≡ map Some (map (λ links. links.inlets.items) self.new.links.items)) }
     {
-        for part in made {
+        for one in made {
+            let Some(part) = one else {
+                return Err(AllocError);
+            };
             self.keep(part)?;
         }
         Ok(())
     }
 
-    fn keep(&mut self, made: Option<MadePart>) -> Result<(), AllocError>
-        ensures { OnOk result ((part : _) × (made ≡ Some part)
-            × (self.new.builders.items ≡ self.old.builders.items ++ part.builder ∷ [])
-            × (map (λ links. links.inlets.items) self.new.links.items
-                ≡ map (λ links. links.inlets.items) self.old.links.items
-                ++ part.inlets.items ∷ [])) }
+    fn keep(&mut self, part: MadePart) -> Result<(), AllocError>
+        ensures builders { OnOk result
+            (self.new.builders.items ≡ self.old.builders.items ++ part.builder ∷ []) }
+        ensures links { OnOk result (map (λ links. links.inlets.items) self.new.links.items
+            ≡ map (λ links. links.inlets.items) self.old.links.items
+            ++ part.inlets.items ∷ []) }
     {
-        let Some(MadePart { builder, inlets }) = made else {
-            return Err(AllocError);
-        };
+        let MadePart { builder, inlets } = part;
         self.builders.push(builder)?;
         self.links.push(Links { inlets })?;
         Ok(())
