@@ -9,8 +9,12 @@ mod feed;
 mod field;
 mod header;
 mod line;
+mod record_reader;
 mod records;
+mod rest;
 mod spelled_list;
 
 pub use fault::FeedFault;
 pub use feed::Feed;
+pub use record_reader::RecordReader;
+pub use rest::{change_of_record, put_rest};
