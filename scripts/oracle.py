@@ -1,15 +1,37 @@
-"""A slow program of its own for what `datacube` prints: it shares no line with it, and is read beside docs/FORMATS.md.
+#!/usr/bin/env python3
+"""A slow program of its own for what `datacube` writes: it shares no line with it, and is read beside docs/FORMATS.md.
 
-A feed is a list of records, each a list of fields (bytes). `encode` writes a feed as CSV; nothing here reads CSV.
+    scripts/oracle.py WORDS...
+
+It takes the words of `datacube` and answers as that does, so that a case says of both what is wanted of them:
+`scripts/cases.py --folder cases/oracle --program scripts/oracle.py`. Only the texts of help and of what is wrong with
+a command line are its own, and it meets no want of memory.
+
+A feed is a list of records, each a list of fields (bytes). `encode` writes a feed as CSV, `records_of` reads one.
 """
 import itertools
 import math
+import os
+import re
+import sys
 
 NULL = b"\\N"
 KEEP = b"\\="
 ALL = object()
 KEPT = object()
 LEAST, GREATEST = -(2**63), 2**63 - 1
+MARK = b"\xef\xbb\xbf"
+MOST_FEEDS = 64
+MOST_SHARDS = 65536
+MOST_BYTES = 1048576
+
+
+class Failure(Exception):
+    """The end of a command: the line on standard error, after `datacube: `, and the status."""
+
+    def __init__(self, line, status):
+        super().__init__(line)
+        self.line, self.status = line, status
 
 
 class Schema:
@@ -26,6 +48,10 @@ class Schema:
         else:
             masks = [sum(2 ** dimensions.index(name) for name in names) for names in grouping]
         self.masks = sorted(masks)
+
+    def keeps(self, key):
+        """Whether the grouping set of a key is kept."""
+        return sum(2**at for at, it in enumerate(key) if it is not ALL) in self.masks
 
     def header(self):
         return [b"op", b"id"] + [it.encode() for it in self.dimensions + self.measures]
@@ -71,6 +97,54 @@ def encode(records, rng=None):
     return b"".join(out)
 
 
+PLAIN = re.compile(rb"[^,\r\n]*")
+
+
+def records_of(data):
+    """The records of CSV, as the crate `csv` reads them: RFC 4180, one byte order mark at the start left out."""
+    at, records = len(MARK) if data.startswith(MARK) else 0, []
+    while True:
+        while data[at : at + 1] in (b"\r", b"\n"):
+            at += 1
+        if at == len(data):
+            return records
+        record = []
+        while not record or data[at : at + 1] == b",":
+            field, at = field_at(data, at + 1 if record else at)
+            record.append(field)
+        records.append(record)
+
+
+def field_at(data, at):
+    """The field that begins there, and where it ends: a quote that is never closed takes all that follows."""
+    parts = []
+    if data[at : at + 1] == b'"':
+        while not parts or data[at : at + 1] == b'"':
+            close = data.find(b'"', at + 1)
+            if close < 0:
+                return b'"'.join([*parts, data[at + 1 :]]), len(data)
+            parts.append(data[at + 1 : close])
+            at = close + 1
+    end = PLAIN.match(data, at).end()
+    return b'"'.join(parts) + data[at:end], end
+
+
+def data_records(schema, data):
+    """The data records of a feed, and the code of what is wrong with the feed, or None."""
+    records, head = records_of(data), schema.header()
+    if records and records[0] not in (head, [MARK + head[0], *head[1:]]):
+        return [], "F3"
+    return records[1 : schema.max_records + 1], "F4" if len(records) - 1 > schema.max_records else None
+
+
+def shard_of(record, count):
+    """The shard of a data record among so many, from 0: FNV-1a of 64 bits over its second field, which may not be there."""
+    value = 14695981039346656037
+    for byte in record[1] if len(record) > 1 else b"":
+        value = (value ^ byte) * 1099511628211 % 2**64
+    return value % count
+
+
 def number(field):
     digits = field[1:] if field[:1] in (b"+", b"-") else field
     if not digits or any(it not in b"0123456789" for it in digits):
@@ -114,28 +188,37 @@ def change_of(schema, record):
     return op, record[1], dims, measures
 
 
-def run_feed(schema, records):
-    """The facts that a feed's data records leave, by id, and its refusals as (record, code)."""
-    present, absent = (7, 8) if schema.version == 2 else (6, 7)
-    book, refusals = {}, []
-    for at, record in enumerate(records, 1):
-        change = change_of(schema, record)
+class Source:
+    """The facts that are present of a source, by id, and its refusals as (record, code)."""
+
+    def __init__(self, schema):
+        self.schema, self.book, self.refusals, self.count = schema, {}, [], 0
+
+    def take(self, record, shard=(1, 1)):
+        """Takes the next data record, which is only counted where it is in another shard."""
+        self.count += 1
+        if shard_of(record, shard[1]) == shard[0] - 1:
+            code = self.code_of(change_of(self.schema, record))
+            self.refusals += [(self.count, code)] if code else []
+
+    def code_of(self, change):
+        """Makes a change, or gives the code by which it is refused."""
         if isinstance(change, int):
-            refusals.append((at, change))
-            continue
+            return change
         op, name, dims, measures = change
-        if op == b"I" and name in book:
-            refusals.append((at, present))
-        elif op != b"I" and name not in book:
-            refusals.append((at, absent))
-        elif op == b"D":
-            del book[name]
+        present = 7 if self.schema.version == 2 else 6
+        if op == b"I" and name in self.book:
+            return present
+        if op != b"I" and name not in self.book:
+            return present + 1
+        if op == b"D":
+            del self.book[name]
         elif op == b"I":
-            book[name] = (dims, measures)
+            self.book[name] = (dims, measures)
         else:
-            old = book[name]
-            book[name] = (keep_over(dims, old[0]), keep_over(measures, old[1]))
-    return book, refusals
+            old = self.book[name]
+            self.book[name] = (keep_over(dims, old[0]), keep_over(measures, old[1]))
+        return None
 
 
 def keep_over(new, old):
@@ -192,22 +275,28 @@ def text_of(schema, rows):
     return b"".join(out)
 
 
+def text_of_refusals(refused):
+    return "".join(["source,record,code\n"] + [f"{a},{b},{c}\n" for a, b, c in refused]).encode()
+
+
 class Run:
     """What a run over the data records of several feeds prints, row by row, with its refusals and its status."""
 
-    def __init__(self, schema, feeds):
-        ran = [run_feed(schema, records) for records in feeds]
-        self.schema = schema
-        self.facts = list(itertools.chain.from_iterable(book.values() for book, _ in ran))
+    def __init__(self, schema, feeds, shard=(1, 1)):
+        self.schema, self.sources = schema, [Source(schema) for _ in feeds]
+        for source, records in zip(self.sources, feeds):
+            for record in records:
+                source.take(record, shard)
+        self.facts = [fact for source in self.sources for fact in source.book.values()]
         self.rows = rows_of(schema, self.facts)
-        self.refused = [(source, at, code) for source, (_, refusals) in enumerate(ran, 1) for at, code in refusals]
+        self.refused = [(at, *it) for at, source in enumerate(self.sources, 1) for it in source.refusals]
         self.status = 4 if self.refused else 0
 
     def print(self):
         return text_of(self.schema, self.rows)
 
     def refusals(self):
-        return "".join(["source,record,code\n"] + [f"{a},{b},{c}\n" for a, b, c in self.refused]).encode()
+        return text_of_refusals(self.refused)
 
     def slice(self, pattern):
         """The rows that a pattern matches: for each dimension a value, None, ALL, or "any"."""
@@ -218,11 +307,14 @@ class Run:
         """The rows below a key along a dimension, or the code of the fault."""
         if key[at] is not ALL:
             return "P4"
-        mask = sum(2**place for place, it in enumerate(key) if it is not ALL) + 2**at
-        if mask not in self.schema.masks:
+        if not self.schema.keeps(with_value(key, at, None)):
             return "P7"
         below = lambda it: it[at] is not ALL and all(same(a, b) for place, (a, b) in enumerate(zip(key, it)) if place != at)
         return text_of(self.schema, [row for row in self.rows if below(row[0])])
+
+
+def with_value(key, at, value):
+    return [*key[:at], value, *key[at + 1 :]]
 
 
 def same(a, b):
@@ -233,3 +325,258 @@ def word_of(pattern):
     """A pattern as a word of the command line."""
     forms = [b"?" if it == "any" else b"\\A" if it is ALL else NULL if it is None else b"=" + it for it in pattern]
     return encode([forms]).rstrip(b"\n") if forms != [b""] else b'""'
+
+
+def schema_of(data):
+    """The schema that a TOML document writes; its first fault ends the command."""
+    import tomllib
+
+    try:
+        table = tomllib.loads(data.decode())
+    except (UnicodeDecodeError, tomllib.TOMLDecodeError):
+        raise Failure("S2", 3) from None
+    if not all(LEAST <= it <= GREATEST for it in numbers_in(table)):
+        raise Failure("S2", 3)
+    if not set(table) <= {"dimensions", "measures", "aggregates", "max_records", "grouping", "version"}:
+        raise Failure("S3", 3)
+    dimensions = texts_of(table, "dimensions", 8, "S4")
+    measures = texts_of(table, "measures", 4, "S5")
+    names = dimensions + measures
+    if len(set(names)) < len(names) or set(names) & {"", "op", "id", "*"}:
+        raise Failure("S6", 3)
+    spelled = {f"{kind}({name})": (kind, at) for at, name in enumerate(measures) for kind in KINDS} | {"count(*)": ("count", None)}
+    aggregates = [spelled.get(it) for it in texts_of(table, "aggregates", 16, "S7")]
+    if None in aggregates:
+        raise Failure("S7", 3)
+    most = table.get("max_records", 2**32 - 1)
+    if type(most) is not int or not 1 <= most < 2**32:
+        raise Failure("S8", 3)
+    grouping = table.get("grouping", "cube")
+    if grouping not in ("cube", "rollup") and not are_sets(grouping, dimensions):
+        raise Failure("S9", 3)
+    version = table.get("version", 1)
+    if type(version) is not int or version not in (1, 2):
+        raise Failure("S10", 3)
+    return Schema(dimensions, measures, aggregates, grouping, version, most)
+
+
+KINDS = ("count", "sum", "min", "max", "avg")
+
+
+def numbers_in(value):
+    if isinstance(value, (dict, list)):
+        return itertools.chain.from_iterable(map(numbers_in, value.values() if isinstance(value, dict) else value))
+    return [value] if type(value) is int else []
+
+
+def texts_of(table, key, most, code):
+    value = table.get(key)
+    if not isinstance(value, list) or not all(isinstance(it, str) for it in value) or not 1 <= len(value) <= most:
+        raise Failure(code, 3)
+    return value
+
+
+def are_sets(grouping, dimensions):
+    if not isinstance(grouping, list) or not grouping or not all(isinstance(it, list) for it in grouping):
+        return False
+    if not all(isinstance(name, str) and name in dimensions for names in grouping for name in names):
+        return False
+    sets = {frozenset(it) for it in grouping}
+    return len(sets) == len(grouping) and all(len(set(it)) == len(it) for it in grouping)
+
+
+def wanted_of(fields):
+    """What the fields of a pattern want, or the code P2."""
+    wanted = []
+    for field in fields:
+        if not is_text(field) or field not in (b"?", b"\\A", NULL) and field[:1] != b"=":
+            return "P2"
+        wanted.append({b"?": "any", b"\\A": ALL, NULL: None}.get(field, field[1:]))
+    return wanted
+
+
+def wanted_of_word(schema, word):
+    records = records_of(word)
+    if len(records) != 1 or len(records[0]) != len(schema.dimensions):
+        return "P1"
+    return wanted_of(records[0])
+
+
+def place_of(schema, name):
+    """The place of a dimension, or None."""
+    names = [it.encode() for it in schema.dimensions]
+    return names.index(name) if name in names else None
+
+
+def is_up_to(most):
+    return lambda word: word.isdigit() and 1 <= int(word) <= most
+
+
+def is_shard(word):
+    found = re.fullmatch(rb"([1-9][0-9]*)/([1-9][0-9]*)", word)
+    return bool(found) and int(found[1]) <= int(found[2]) <= MOST_SHARDS
+
+
+# (whether an option's word is right; None where it has none)
+OPTIONS = {b"--ring": is_up_to(65536), b"--builders": is_up_to(8), b"--threads": is_up_to(16), b"--shard": is_shard}
+OF_FEEDS = [b"--ring", b"--builders", b"--threads", b"--shard"]
+
+
+class Words:
+    """The words of a command: its options and the others."""
+
+    def __init__(self, words, options, least, most):
+        self.options, self.rest = {}, []
+        words = list(words)
+        while words:
+            word = words.pop(0)
+            if word == b"--":
+                self.rest += words
+                break
+            if not word.startswith(b"-") or word == b"-":
+                self.rest.append(word)
+                continue
+            name, has_value, value = word.partition(b"=")
+            check = OPTIONS.get(name)
+            if check and not has_value:
+                value = words.pop(0) if words else b""
+            if name not in options or name in self.options or not (check(value) if check else not has_value):
+                raise wrong_words(f"'{value.decode()}' for '{name.decode()}'")
+            self.options[name] = value
+        if not least <= len(self.rest) <= most or not all(map(is_text, self.rest)):
+            raise wrong_words("another number of words is wanted")
+
+    def shard(self):
+        return tuple(map(int, self.options.get(b"--shard", b"1/1").split(b"/")))
+
+
+def wrong_words(text):
+    return Failure(f"error: {text}", 2)
+
+
+def read_schema(path):
+    try:
+        with open(path, "rb") as file:
+            data = file.read(MOST_BYTES + 1)
+    except OSError:
+        raise Failure("schema unreadable", 3) from None
+    if len(data) > MOST_BYTES:
+        raise Failure("schema unreadable", 3)
+    return schema_of(data)
+
+
+def read_feeds(schema, paths):
+    """The data records of feeds; a feed at fault ends the command."""
+    files = []
+    for at, path in enumerate(paths, 1):
+        try:
+            files.append(os.open(path, os.O_RDONLY))
+        except OSError:
+            raise Failure(f"feed {at} unreadable", 1) from None
+    feeds, faults = [], []
+    for at, file in enumerate(files, 1):
+        try:
+            with open(file, "rb", closefd=True) as opened:
+                records, code = data_records(schema, opened.read())
+        except OSError:
+            records, code = [], "F2"
+        feeds.append(records)
+        faults += [Failure(f"G3 {at} {code}", 1)] if code else []
+    if faults:
+        raise faults[0]
+    return feeds
+
+
+def run_of(words, at):
+    """The schema of a command, what it checks of CELL and DIM, and its run: FEED is the word at a place and those after it."""
+    given = Words(words, OF_FEEDS, at + 1, sys.maxsize)
+    if len(given.rest) - at > MOST_FEEDS:
+        raise Failure("too many feeds", 2)
+    schema = read_schema(given.rest[0])
+    wanted = wanted_of_word(schema, given.rest[1]) if at > 1 else None
+    if at > 2 and isinstance(wanted, list) and "any" in wanted:
+        wanted = "P3"
+    if isinstance(wanted, str):
+        raise Failure(wanted, 2)
+    place = place_of(schema, given.rest[2]) if at > 2 else None
+    if at > 2 and place is None:
+        raise Failure("P5", 2)
+    return Run(schema, read_feeds(schema, given.rest[at:]), given.shard()), wanted, place
+
+
+def written(run, text):
+    """Writes what a run answers, or ends by the code that it answers."""
+    if isinstance(text, str):
+        raise Failure(text, 2)
+    write(text)
+    return run.status
+
+
+def write(data):
+    """Writes to standard output, or ends the command by how many bytes of it went out."""
+    sent = 0
+    while sent < len(data):
+        try:
+            sent += os.write(1, data[sent:])
+        except OSError:
+            raise Failure(f"G6 {sent}", 1) from None
+
+
+def check_command(words):
+    read_schema(Words(words, [], 1, 1).rest[0])
+    write(b"ok\n")
+    return 0
+
+
+def print_command(words):
+    run, _, _ = run_of(words, 1)
+    return written(run, run.print())
+
+
+def refusals_command(words):
+    run, _, _ = run_of(words, 1)
+    return written(run, run.refusals())
+
+
+def slice_command(words):
+    run, wanted, _ = run_of(words, 2)
+    return written(run, run.slice(wanted))
+
+
+def drill_command(words):
+    run, wanted, place = run_of(words, 3)
+    return written(run, run.drill(wanted, place))
+
+
+SAMPLE = Schema(["region", "kind"], ["amount"], [("count", None)] + [(it, 0) for it in ("sum", "min", "max", "avg")])
+COMMANDS = {
+    b"check": check_command,
+    b"print": print_command,
+    b"refusals": refusals_command,
+    b"slice": slice_command,
+    b"drill": drill_command,
+}
+
+
+def main(words):
+    try:
+        if not words:
+            records, code = data_records(SAMPLE, sys.stdin.buffer.read())
+            if code:
+                raise Failure(f"G3 1 {code}", 1)
+            run = Run(SAMPLE, [records])
+            return written(run, run.print())
+        command = COMMANDS.get(words[0])
+        if b"--help" in words:
+            write(b"datacube, as its oracle plays it; see docs/FORMATS.md\n")
+            return 0 if command or words[0] == b"--help" else 2
+        if not command:
+            raise wrong_words(f"'{words[0].decode()}' is no command")
+        return command(words[1:])
+    except Failure as it:
+        print(it.line if it.line.startswith("error: ") else f"datacube: {it.line}", file=sys.stderr)
+        return it.status
+
+
+if __name__ == "__main__":
+    sys.exit(main([os.fsencode(it) for it in sys.argv[1:]]))
