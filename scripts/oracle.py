@@ -59,6 +59,13 @@ class Schema:
     def aggregate_texts(self):
         return [f"{kind}({self.measures[at] if at is not None else '*'})" for kind, at in self.aggregates]
 
+    def partial(self):
+        """The partial form: for each mean, its sum and its count too, where they aren't there yet."""
+        aggregates = list(self.aggregates)
+        for _, at in [it for it in self.aggregates if it[0] == "avg"]:
+            aggregates += [it for it in (("sum", at), ("count", at)) if it not in aggregates]
+        return Schema(self.dimensions, self.measures, aggregates, self.grouping, self.version, self.max_records)
+
     def toml(self):
         quoted = lambda it: '"' + it.replace("\\", "\\\\").replace('"', '\\"').replace("\n", "\\n").replace("\r", "\\r") + '"'
         array = lambda items: "[" + ", ".join(items) + "]"
@@ -239,8 +246,12 @@ def answer(kind, at, facts):
         return str(min(values))
     if kind == "max":
         return str(max(values))
-    divisor = math.gcd(sum(values), len(values))
-    return f"{sum(values) // divisor}/{len(values) // divisor}"
+    return fraction(sum(values), len(values))
+
+
+def fraction(total, count):
+    divisor = math.gcd(total, count)
+    return f"{total // divisor}/{count // divisor}"
 
 
 def rows_of(schema, facts):
@@ -255,8 +266,12 @@ def rows_of(schema, facts):
             groups.setdefault(key, []).append(fact)
         for key, group in groups.items():
             rows.append((key, [answer(kind, at, group) for kind, at in schema.aggregates]))
-    place = lambda it: (2, b"") if it is ALL else (1, b"") if it is None else (0, it)
-    return sorted(rows, key=lambda row: [place(it) for it in row[0]])
+    return sorted(rows, key=lambda row: order_of(row[0]))
+
+
+def order_of(key):
+    """What keys are ordered by: texts by their bytes, then null, then ALL."""
+    return [(2, b"") if it is ALL else (1, b"") if it is None else (0, it) for it in key]
 
 
 def line_of(fields):
@@ -265,14 +280,19 @@ def line_of(fields):
 
 
 def text_of(schema, rows):
+    return head_of(schema) + b"".join(row_line(*it) for it in rows)
+
+
+def head_of(schema):
     head = [it.encode() for it in schema.dimensions]
     head += [f"grouping({it})".encode() for it in schema.dimensions] + [it.encode() for it in schema.aggregate_texts()]
-    out = [line_of(head)]
-    for key, answers in rows:
-        coords = [NULL if it is ALL or it is None else it for it in key]
-        marks = [b"1" if it is ALL else b"0" for it in key]
-        out.append(line_of(coords + marks + [it.encode() for it in answers]))
-    return b"".join(out)
+    return line_of(head)
+
+
+def row_line(key, answers):
+    coords = [NULL if it is ALL or it is None else it for it in key]
+    marks = [b"1" if it is ALL else b"0" for it in key]
+    return line_of(coords + marks + [it.encode() for it in answers])
 
 
 def text_of_refusals(refused):
@@ -327,6 +347,180 @@ def word_of(pattern):
     return encode([forms]).rstrip(b"\n") if forms != [b""] else b'""'
 
 
+QUOTED = re.compile(rb'"((?:[^"]|"")*)"')
+BARE = re.compile(rb'[^",\r\n]*')
+NEEDS_QUOTES = re.compile(rb'[",\r\n]')
+COUNT = re.compile(rb"0|[1-9][0-9]*")
+WHOLE = re.compile(rb"0|-?[1-9][0-9]*")
+MOST_COUNT = 2**64 - 1
+MOST_SUM = 2**127 - 1
+
+
+class CubeFault(Exception):
+    """A code of a cube that is merged, with its input and the number of its record, where the header is 1."""
+
+    def __init__(self, code, source=0, record=0):
+        super().__init__(code)
+        self.code, self.source, self.record = code, source, record
+
+    def line(self):
+        return f"{self.code} {self.source} {self.record}"
+
+
+class Printed:
+    """A printed cube, read line by line: it has to be what `print` writes under a schema, and None can't be read."""
+
+    def __init__(self, schema, data, source):
+        self.schema, self.data, self.source, self.at, self.record, self.row = schema, data, source, 0, 1, None
+        self.is_over, self.before = False, None
+
+    def fault(self, code):
+        return CubeFault(code, self.source, self.record)
+
+    def take_head(self):
+        if self.data is None:
+            raise self.fault("M3")
+        head = head_of(self.schema)
+        if not self.data.startswith(head):
+            raise self.fault("M4")
+        self.at = len(head)
+
+    def take_line(self):
+        """Takes the next line as a row, a key and its values by aggregate, or sees that there is no more."""
+        self.record += 1
+        if self.at == len(self.data):
+            total = (ALL,) * len(self.schema.dimensions)
+            if 0 in self.schema.masks and self.before != total:
+                raise self.fault("M8")
+            self.row, self.is_over = None, True
+            return
+        fields, self.at = printed_line(self.data, self.at)
+        row = fields and printed_row(self.schema, fields)
+        if not row:
+            raise self.fault("M5")
+        if self.before is not None and order_of(row[0]) <= order_of(self.before):
+            raise self.fault("M6")
+        self.row, self.before = row, row[0]
+
+
+def printed_line(data, at):
+    """The fields of the line that begins there, and where it ends; None for what isn't spelled as `print` does."""
+    fields = []
+    while True:
+        quoted = QUOTED.match(data, at)
+        found = quoted or BARE.match(data, at)
+        if quoted and not NEEDS_QUOTES.search(quoted[1]):
+            return None, at
+        fields.append(quoted[1].replace(b'""', b'"') if quoted else found[0])
+        at = found.end() + 1
+        if data[at - 1 : at] == b"\n":
+            return fields, at
+        if data[at - 1 : at] != b",":
+            return None, at
+
+
+def printed_row(schema, fields):
+    """The key of a line and its values by aggregate, or None where `print` writes no such line."""
+    count = len(schema.dimensions)
+    if len(fields) != 2 * count + len(schema.aggregates):
+        return None
+    texts, marks, answers = fields[:count], fields[count : 2 * count], fields[2 * count :]
+    if not set(marks) <= {b"0", b"1"} or not all(map(is_text, texts)):
+        return None
+    if any(mark == b"1" and text != NULL for mark, text in zip(marks, texts)):
+        return None
+    key = tuple(ALL if mark == b"1" else None if text == NULL else text for mark, text in zip(marks, texts))
+    values = {}
+    for aggregate, field in zip(schema.aggregates, answers):
+        value = printed_value(aggregate[0], field)
+        if value == "wrong" or values.setdefault(aggregate, value) != value:
+            return None
+    return (key, values) if schema.keeps(key) and are_sound(key, values) else None
+
+
+def printed_value(kind, field):
+    """The number that an answer spells, a pair for a mean, None for null, or "wrong"."""
+    whole = lambda text, form, least, most: int(text) if form.fullmatch(text) and least <= int(text) <= most else "wrong"
+    if kind == "count":
+        return whole(field, COUNT, 0, MOST_COUNT)
+    if field == NULL:
+        return None
+    if kind == "sum":
+        return whole(field, WHOLE, -MOST_SUM - 1, MOST_SUM)
+    if kind in ("min", "max"):
+        return whole(field, WHOLE, LEAST, GREATEST)
+    above, _, below = field.partition(b"/")
+    pair = whole(above, WHOLE, -MOST_SUM - 1, MOST_SUM), whole(below, COUNT, 1, MOST_COUNT)
+    return pair if "wrong" not in pair and math.gcd(*pair) == 1 else "wrong"
+
+
+def are_sound(key, values):
+    """Whether the values of a line go together."""
+    if values.get(("count", None)) == 0 and any(it is not ALL for it in key):
+        return False
+    for at in {at for _, at in values if at is not None}:
+        of = {kind: value for (kind, place), value in values.items() if place == at}
+        nulls = {value is None for kind, value in of.items() if kind != "count"}
+        if len(nulls) > 1 or "count" in of and nulls and nulls != {of["count"] == 0}:
+            return False
+        if True not in nulls:
+            if "min" in of and "max" in of and of["min"] > of["max"]:
+                return False
+            if "avg" in of and of["avg"][0] * of["count"] != of["avg"][1] * of["sum"]:
+                return False
+    return True
+
+
+def merged_answers(schema, used):
+    """The answers of a merged row; used has the inputs whose lines have its key."""
+    answers = []
+    for kind, at in schema.aggregates:
+        held = lambda kind: [(it, it.row[1][kind, at]) for it in used if it.row[1][kind, at] is not None]
+        if kind == "count":
+            answers.append(str(added(held(kind), 0, MOST_COUNT)))
+        elif not held(kind):
+            answers.append("\\N")
+        elif kind == "sum":
+            answers.append(str(added(held(kind), -MOST_SUM - 1, MOST_SUM)))
+        elif kind == "avg":
+            sums, counts = added(held("sum"), -MOST_SUM - 1, MOST_SUM), added(held("count"), 0, MOST_COUNT)
+            answers.append(fraction(sums, counts))
+        else:
+            answers.append(str((min if kind == "min" else max)(value for _, value in held(kind))))
+    return answers
+
+
+def added(held, least, most):
+    """The sum of values; one out of bounds is told of the first input with which it is."""
+    sums = list(itertools.accumulate(value for _, value in held))
+    if not sums or least <= sums[-1] <= most:
+        return sums[-1] if sums else 0
+    raise next(it.fault("M7") for (it, _), value in zip(held, sums) if not least <= value <= most)
+
+
+def merge(schema, datas, is_partial=False):
+    """The text of the merged cubes, each the bytes of a printed partial cube or None, and the fault that ends it or None."""
+    partial = schema.partial()
+    wanted = partial if is_partial else schema
+    inputs, out = [Printed(partial, data, at) for at, data in enumerate(datas, 1)], []
+    try:
+        for it in inputs:
+            it.take_head()
+        out.append(head_of(wanted))
+        used = inputs
+        while True:
+            for it in used:
+                it.take_line()
+            if all(it.is_over for it in inputs):
+                return b"".join(out), None
+            key = min((it.row[0] for it in inputs if not it.is_over), key=order_of)
+            used = [it for it in inputs if not it.is_over and it.row[0] == key]
+            merged_answers(partial, used)
+            out.append(row_line(key, merged_answers(wanted, used)))
+    except CubeFault as fault:
+        return b"".join(out), fault
+
+
 def schema_of(data):
     """The schema that a TOML document writes; its first fault ends the command."""
     import tomllib
@@ -344,7 +538,8 @@ def schema_of(data):
     names = dimensions + measures
     if len(set(names)) < len(names) or set(names) & {"", "op", "id", "*"}:
         raise Failure("S6", 3)
-    spelled = {f"{kind}({name})": (kind, at) for at, name in enumerate(measures) for kind in KINDS} | {"count(*)": ("count", None)}
+    spelled = {f"{kind}({name})": (kind, at) for at, name in enumerate(measures) for kind in KINDS}
+    spelled["count(*)"] = ("count", None)
     aggregates = [spelled.get(it) for it in texts_of(table, "aggregates", 16, "S7")]
     if None in aggregates:
         raise Failure("S7", 3)
@@ -418,7 +613,8 @@ def is_shard(word):
 
 
 # (whether an option's word is right; None where it has none)
-OPTIONS = {b"--ring": is_up_to(65536), b"--builders": is_up_to(8), b"--threads": is_up_to(16), b"--shard": is_shard}
+OPTIONS = {b"--ring": is_up_to(65536), b"--builders": is_up_to(8), b"--threads": is_up_to(16), b"--shard": is_shard,
+           b"--partial": None, b"--check": None}
 OF_FEEDS = [b"--ring", b"--builders", b"--threads", b"--shard"]
 
 
@@ -487,9 +683,9 @@ def read_feeds(schema, paths):
     return feeds
 
 
-def run_of(words, at):
+def run_of(words, at, *others):
     """The schema of a command, what it checks of CELL and DIM, and its run: FEED is the word at a place and those after it."""
-    given = Words(words, OF_FEEDS, at + 1, sys.maxsize)
+    given = Words(words, [*OF_FEEDS, *others], at + 1, sys.maxsize)
     if len(given.rest) - at > MOST_FEEDS:
         raise Failure("too many feeds", 2)
     schema = read_schema(given.rest[0])
@@ -501,7 +697,8 @@ def run_of(words, at):
     place = place_of(schema, given.rest[2]) if at > 2 else None
     if at > 2 and place is None:
         raise Failure("P5", 2)
-    return Run(schema, read_feeds(schema, given.rest[at:]), given.shard()), wanted, place
+    feeds = read_feeds(schema, given.rest[at:])
+    return Run(schema.partial() if b"--partial" in given.options else schema, feeds, given.shard()), wanted, place
 
 
 def written(run, text):
@@ -529,7 +726,7 @@ def check_command(words):
 
 
 def print_command(words):
-    run, _, _ = run_of(words, 1)
+    run, _, _ = run_of(words, 1, b"--partial")
     return written(run, run.print())
 
 
@@ -548,6 +745,41 @@ def drill_command(words):
     return written(run, run.drill(wanted, place))
 
 
+def merge_command(words):
+    given = Words(words, [b"--partial", b"--check"], 2, sys.maxsize)
+    paths = given.rest[1:]
+    if len(paths) > MOST_FEEDS:
+        raise Failure("too many cubes", 2)
+    schema = read_schema(given.rest[0])
+    for at, path in enumerate(paths, 1):
+        if path in paths[: at - 1]:
+            raise Failure(f"M2 {at}", 2)
+    text, fault = merge(schema, read_cubes(paths), b"--partial" in given.options)
+    if not fault or b"--check" not in given.options:
+        write(text)
+    if fault:
+        raise Failure(fault.line(), 1)
+    return 0
+
+
+def read_cubes(paths):
+    """The bytes of files, None for one that opens and can't be read."""
+    files = []
+    for at, path in enumerate(paths, 1):
+        try:
+            files.append(os.open(path, os.O_RDONLY))
+        except OSError:
+            raise Failure(f"M3 {at}", 1) from None
+    datas = []
+    for file in files:
+        try:
+            with open(file, "rb") as opened:
+                datas.append(opened.read())
+        except OSError:
+            datas.append(None)
+    return datas
+
+
 SAMPLE = Schema(["region", "kind"], ["amount"], [("count", None)] + [(it, 0) for it in ("sum", "min", "max", "avg")])
 COMMANDS = {
     b"check": check_command,
@@ -555,6 +787,7 @@ COMMANDS = {
     b"refusals": refusals_command,
     b"slice": slice_command,
     b"drill": drill_command,
+    b"merge": merge_command,
 }
 
 
