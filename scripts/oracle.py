@@ -9,6 +9,7 @@ a command line are its own, and it meets no want of memory.
 
 A feed is a list of records, each a list of fields (bytes). `encode` writes a feed as CSV, `records_of` reads one.
 """
+import errno
 import itertools
 import math
 import os
@@ -109,17 +110,29 @@ PLAIN = re.compile(rb"[^,\r\n]*")
 
 def records_of(data):
     """The records of CSV, as the crate `csv` reads them: RFC 4180, one byte order mark at the start left out."""
-    at, records = len(MARK) if data.startswith(MARK) else 0, []
+    records, at = [], start_of(data)
     while True:
-        while data[at : at + 1] in (b"\r", b"\n"):
-            at += 1
-        if at == len(data):
+        record, at = record_at(data, at)
+        if record is None:
             return records
-        record = []
-        while not record or data[at : at + 1] == b",":
-            field, at = field_at(data, at + 1 if record else at)
-            record.append(field)
         records.append(record)
+
+
+def start_of(data):
+    return len(MARK) if data.startswith(MARK) else 0
+
+
+def record_at(data, at):
+    """The first record from there on, or None, and where it ends, before its line end."""
+    while data[at : at + 1] in (b"\r", b"\n"):
+        at += 1
+    if at == len(data):
+        return None, at
+    record = []
+    while not record or data[at : at + 1] == b",":
+        field, at = field_at(data, at + 1 if record else at)
+        record.append(field)
+    return record, at
 
 
 def field_at(data, at):
@@ -170,7 +183,7 @@ def is_text(field):
 
 def change_of(schema, record):
     """The change of a record as (op, id, dims, measures), or the number of its fault."""
-    op, width = record[0], 2 + len(schema.dimensions) + len(schema.measures)
+    op, width = record[0] if record else None, 2 + len(schema.dimensions) + len(schema.measures)
     if op not in (b"I", b"U", b"D"):
         return 1
     if len(record) != width and not (op == b"D" and len(record) == 2):
@@ -295,6 +308,16 @@ def row_line(key, answers):
     return line_of(coords + marks + [it.encode() for it in answers])
 
 
+def matching(rows, pattern):
+    """The rows that a pattern matches: for each dimension a value, None, ALL, or "any"."""
+    return [row for row in rows if all(wanted == "any" or same(wanted, it) for wanted, it in zip(pattern, row[0]))]
+
+
+def below(rows, key, at):
+    """The rows that drill down from a key along a dimension."""
+    return [row for row in matching(rows, with_value(key, at, "any")) if row[0][at] is not ALL]
+
+
 def text_of_refusals(refused):
     return "".join(["source,record,code\n"] + [f"{a},{b},{c}\n" for a, b, c in refused]).encode()
 
@@ -319,9 +342,7 @@ class Run:
         return text_of_refusals(self.refused)
 
     def slice(self, pattern):
-        """The rows that a pattern matches: for each dimension a value, None, ALL, or "any"."""
-        fits = lambda key: all(wanted == "any" or same(wanted, it) for wanted, it in zip(pattern, key))
-        return text_of(self.schema, [row for row in self.rows if fits(row[0])])
+        return text_of(self.schema, matching(self.rows, pattern))
 
     def drill(self, key, at):
         """The rows below a key along a dimension, or the code of the fault."""
@@ -329,8 +350,99 @@ class Run:
             return "P4"
         if not self.schema.keeps(with_value(key, at, None)):
             return "P7"
-        below = lambda it: it[at] is not ALL and all(same(a, b) for place, (a, b) in enumerate(zip(key, it)) if place != at)
-        return text_of(self.schema, [row for row in self.rows if below(row[0])])
+        return text_of(self.schema, below(self.rows, key, at))
+
+    def rollup(self, key, at):
+        """The row of a key with ALL at a dimension, where it is a cell that is kept."""
+        return text_of(self.schema, matching(self.rows, with_value(key, at, ALL)))
+
+
+class Session:
+    """A cube that stays, over 64 sources, the first of which begin with the data records of feeds."""
+
+    def __init__(self, schema, feeds):
+        self.schema, self.sources, self.kept = schema, [Source(schema) for _ in range(MOST_FEEDS)], None
+        for source, records in zip(self.sources, feeds):
+            for record in records:
+                source.take(record)
+
+    def status(self):
+        return 4 if self.refused() else 0
+
+    def refused(self):
+        return [(at, *it) for at, source in enumerate(self.sources, 1) for it in source.refusals]
+
+    def run(self):
+        """What a run over what came until now would answer."""
+        if not self.kept:
+            self.kept = Run(self.schema, [])
+            self.kept.facts = [fact for source in self.sources for fact in source.book.values()]
+            self.kept.rows = rows_of(self.schema, self.kept.facts)
+        return self.kept
+
+    def reply(self, record):
+        """Takes a record, and gives the bytes of its answer: none for a change. A record too many ends the session."""
+        at = counted(record[0])
+        if at is None or not 1 <= at <= MOST_FEEDS:
+            answer = self.answer(record)
+            return answer.encode() + b"\n" if isinstance(answer, str) else b"ok %d\n" % len(answer) + answer
+        source = self.sources[at - 1]
+        if source.count == self.schema.max_records:
+            raise Failure(f"G3 {at} F4", 1)
+        source.take(record[1:])
+        self.kept = None
+        return b""
+
+    def answer(self, record):
+        """The text that answers a question, or the code of what is wrong with it."""
+        name, count = record[0], len(self.schema.dimensions)
+        widths = {b"print": [1], b"slice": [1 + count], b"drill": [2 + count], b"rollup": [2 + count], b"refusals": [1, 3]}
+        if name not in widths:
+            return "Q1"
+        if len(record) not in widths[name]:
+            return "Q2"
+        if name == b"print":
+            return self.run().print()
+        if name == b"refusals":
+            return self.refusals(*record[1:])
+        wanted = wanted_of(record[1 if name == b"slice" else 2 :])
+        if name == b"slice" or isinstance(wanted, str):
+            return wanted if isinstance(wanted, str) else self.run().slice(wanted)
+        place = place_of(self.schema, record[1])
+        if "any" in wanted or place is None:
+            return "P3" if "any" in wanted else "P5"
+        return self.run().drill(wanted, place) if name == b"drill" else self.run().rollup(wanted, place)
+
+    def refusals(self, source=b"1", after=None):
+        """The refusals of all sources, or those of one after a record."""
+        source, number = counted(source), counted(b"0" if after is None else after)
+        if source is None or not 1 <= source <= MOST_FEEDS or number is None:
+            return "Q2"
+        return text_of_refusals(it for it in self.refused() if after is None or it[0] == source and it[1] > number)
+
+
+def counted(field):
+    """The whole number that digits alone spell, without a leading zero, or None."""
+    return int(field) if COUNT.fullmatch(field) and int(field) <= GREATEST else None
+
+
+def serve(session, read, write):
+    """Writes the answers to the records that are read; each is taken as soon as its line end is there."""
+    data, at, chunk = b"", None, True
+    while chunk:
+        chunk = read()
+        data, at = data[at or 0 :] + chunk, at and 0
+        if at is None and chunk and MARK.startswith(data):
+            continue
+        at = start_of(data) if at is None else at
+        while True:
+            record, end = record_at(data, at)
+            if record is None or chunk and end == len(data):
+                break
+            at = end
+            reply = session.reply(record)
+            if reply:
+                write(reply)
 
 
 def with_value(key, at, value):
@@ -637,17 +749,17 @@ class Words:
             if check and not has_value:
                 value = words.pop(0) if words else b""
             if name not in options or name in self.options or not (check(value) if check else not has_value):
-                raise wrong_words(f"'{value.decode()}' for '{name.decode()}'")
+                raise wrong_words(b"'%s' for '%s'" % (value, name))
             self.options[name] = value
         if not least <= len(self.rest) <= most or not all(map(is_text, self.rest)):
-            raise wrong_words("another number of words is wanted")
+            raise wrong_words(b"another number of words is wanted, in UTF-8")
 
     def shard(self):
         return tuple(map(int, self.options.get(b"--shard", b"1/1").split(b"/")))
 
 
 def wrong_words(text):
-    return Failure(f"error: {text}", 2)
+    return Failure("error: " + text.decode(errors="replace"), 2)
 
 
 def read_schema(path):
@@ -709,14 +821,25 @@ def written(run, text):
     return run.status
 
 
-def write(data):
-    """Writes to standard output, or ends the command by how many bytes of it went out."""
+def write(data, before=0):
+    """Writes to standard output, or ends the command by how many bytes went out, with those before. Gives their number."""
     sent = 0
     while sent < len(data):
         try:
             sent += os.write(1, data[sent:])
         except OSError:
-            raise Failure(f"G6 {sent}", 1) from None
+            raise Failure(f"G6 {before + sent}", 1) from None
+    return before + sent
+
+
+def read():
+    """The next bytes of standard input, none at its end."""
+    try:
+        return os.read(0, 65536)
+    except OSError as error:
+        if error.errno == errno.EBADF:
+            return b""
+        raise Failure("Q3", 1) from None
 
 
 def check_command(words):
@@ -743,6 +866,21 @@ def slice_command(words):
 def drill_command(words):
     run, wanted, place = run_of(words, 3)
     return written(run, run.drill(wanted, place))
+
+
+def rollup_command(words):
+    run, wanted, place = run_of(words, 3)
+    return written(run, run.rollup(wanted, place))
+
+
+def live_command(words):
+    given = Words(words, [b"--ring", b"--threads"], 1, sys.maxsize)
+    if len(given.rest) - 1 > MOST_FEEDS:
+        raise Failure("too many feeds", 2)
+    schema = read_schema(given.rest[0])
+    session, sent = Session(schema, read_feeds(schema, given.rest[1:])), [0]
+    serve(session, read, lambda data: sent.append(write(data, sent[-1])))
+    return session.status()
 
 
 def merge_command(words):
@@ -787,6 +925,8 @@ COMMANDS = {
     b"refusals": refusals_command,
     b"slice": slice_command,
     b"drill": drill_command,
+    b"rollup": rollup_command,
+    b"live": live_command,
     b"merge": merge_command,
 }
 
@@ -794,7 +934,7 @@ COMMANDS = {
 def main(words):
     try:
         if not words:
-            records, code = data_records(SAMPLE, sys.stdin.buffer.read())
+            records, code = data_records(SAMPLE, b"".join(iter(read, b"")))
             if code:
                 raise Failure(f"G3 1 {code}", 1)
             run = Run(SAMPLE, [records])
@@ -804,7 +944,7 @@ def main(words):
             write(b"datacube, as its oracle plays it; see docs/FORMATS.md\n")
             return 0 if command or words[0] == b"--help" else 2
         if not command:
-            raise wrong_words(f"'{words[0].decode()}' is no command")
+            raise wrong_words(b"'%s' is no command" % words[0])
         return command(words[1:])
     except Failure as it:
         print(it.line if it.line.startswith("error: ") else f"datacube: {it.line}", file=sys.stderr)
