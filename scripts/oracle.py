@@ -25,6 +25,7 @@ MARK = b"\xef\xbb\xbf"
 MOST_FEEDS = 64
 MOST_SHARDS = 65536
 MOST_BYTES = 1048576
+sys.set_int_max_str_digits(0)
 
 
 class Failure(Exception):
@@ -941,7 +942,7 @@ def main(words):
             return written(run, run.print())
         command = COMMANDS.get(words[0])
         if b"--help" in words:
-            write(b"datacube, as its oracle plays it; see docs/FORMATS.md\n")
+            write(b"datacube, as its oracle plays it; see docs/FORMATS.md\noptions: %s\n" % b" ".join(OPTIONS))
             return 0 if command or words[0] == b"--help" else 2
         if not command:
             raise wrong_words(b"'%s' is no command" % words[0])

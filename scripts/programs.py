@@ -25,8 +25,8 @@ def datacube():
 class Room:
     """A folder in which a program is run on files; `seen` counts what the cases met."""
 
-    def __init__(self, program, folder):
-        self.program, self.folder, self.seen = program, folder, collections.Counter()
+    def __init__(self, program, folder, if_there):
+        self.program, self.folder, self.if_there, self.seen = program, folder, if_there, collections.Counter()
 
     def write(self, name, data):
         """Writes a file, and gives its name."""
@@ -71,7 +71,7 @@ def beside_oracle(about, command, compare, cases):
         return 0 if given.if_there else 1
     failed = 0
     with tempfile.TemporaryDirectory(prefix="datacube-generated-") as folder:
-        room = Room(program, folder)
+        room = Room(program, folder, given.if_there)
         for at in range(given.cases):
             try:
                 why = compare(room, random.Random(f"{given.seed} {at}"))
