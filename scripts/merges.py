@@ -20,8 +20,16 @@ SPELLINGS = [
     lambda it: b"+" + it, lambda it: b"0" + it, lambda it: b"-" + it, lambda it: b'"' + it + b'"', lambda it: it + b" ",
     lambda it: it + b"\r", lambda it: it + b"/2", lambda it: it + b",", lambda it: b"", lambda it: b"\\N", lambda it: b"-0",
     lambda it: b"0", lambda it: b"1", lambda it: b"2", lambda it: b"\xff", lambda it: b"%d" % 2**64, lambda it: b"%d" % 2**127,
-    lambda it: b"%d" % 2**63, lambda it: b"\\A",
+    lambda it: b"%d" % 2**63, lambda it: b"\\A", lambda it: doubled(it), lambda it: doubled(it),
 ]
+
+
+def doubled(field):
+    """Twice a whole number; a fraction that isn't in lowest terms."""
+    try:
+        return b"/".join(b"%d" % (2 * int(it)) for it in field.split(b"/"))
+    except ValueError:
+        return field + field
 
 
 def case_of(rng):
@@ -124,7 +132,7 @@ def lines_of(text):
 
 def spoiled(text, rng):
     """A printed cube with something wrong in it, mostly."""
-    lines, way = lines_of(text), rng.randrange(9)
+    lines, way = lines_of(text), rng.randrange(12)
     at = rng.randrange(len(lines))
     if way == 0:
         return b"".join(lines[:at])
@@ -141,21 +149,25 @@ def spoiled(text, rng):
         return text[:place] + rng.choice([b'"', b"\n", b"0", b"9", b",", b"-", b"\xff", b""]) + text[place + 1 :]
     fields = oracle.printed_line(lines[at], 0)[0]
     fields = [oracle.line_of([it])[:-1] for it in fields]
-    place = rng.randrange(len(fields))
+    place = rng.randrange(len(fields) // 2 if rng.random() < 0.7 else 0, len(fields))
     fields[place] = rng.choice(SPELLINGS)(fields[place])
     return b"".join(lines[:at] + [b",".join(fields) + b"\n"] + lines[at + 1 :])
 
 
 def faults(room, rng):
-    """Cubes of which one, now and then two, are spoiled."""
+    """Cubes of which one, now and then two, are spoiled, in one way after another."""
     schema, feeds = case_of(rng)
     partial, facts = schema.partial(), oracle.Run(schema, feeds).facts
-    texts = [oracle.text_of(partial, oracle.rows_of(partial, it)) for it in parted(facts, rng.choice([1, 2, 3, 5]), rng)]
-    for _ in range(rng.choice([1, 1, 1, 2])):
-        at = rng.randrange(len(texts))
-        texts[at] = spoiled(texts[at], rng) if texts[at] else b""
-    tail = [it for it in ("--check", "--partial") if rng.random() < 0.5]
-    return merged(room, schema, texts, oracle.merge(schema, texts, "--partial" in tail), rng, tail)
+    good = [oracle.text_of(partial, oracle.rows_of(partial, it)) for it in parted(facts, rng.choice([1, 2, 3, 5]), rng)]
+    for _ in range(8):
+        texts = list(good)
+        for at in rng.choices(range(len(texts)), k=rng.choice([1, 1, 1, 2])):
+            texts[at] = spoiled(good[at], rng)
+        tail = [it for it in ("--check", "--partial") if rng.random() < 0.5]
+        why = merged(room, schema, texts, oracle.merge(schema, texts, "--partial" in tail), rng, tail)
+        if why:
+            return why
+    return None
 
 
 def paths(room, rng):

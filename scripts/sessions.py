@@ -97,6 +97,14 @@ def pieces_of(rng, records, made):
         yield from [(data[:cut], 0), (data[cut:], size)] if cut else [(data, size)]
 
 
+def is_as_run(schema, feeds, records, live):
+    """Whether the oracle's session ends where a run over the feeds, each with its changes after it, would."""
+    feeds = feeds + [[]] * (oracle.MOST_FEEDS - len(feeds))
+    changes = lambda source: [it[1:] for it in records if it[0] == b"%d" % source]
+    run = oracle.Run(schema, [it + changes(source) for source, it in enumerate(feeds, 1)])
+    return (run.print(), run.refusals(), run.status) == (live.run().print(), live.refusals(), live.status())
+
+
 def compare(room, rng):
     schema, feeds, records = session(rng)
     room.write("schema.toml", schema.toml())
@@ -106,6 +114,8 @@ def compare(room, rng):
     last = oracle.records_of(data)
     live = oracle.Session(schema, feeds)
     made, line = replies(live, records + last)
+    if not line and not is_as_run(schema, feeds, records + last, live):
+        return "the oracle's own session isn't as its run"
     wanted = 1 if line else live.status(), b"".join(made), said(line)
     room.seen.update({"records": len(records), "answers": sum(map(bool, made)), "sessions": 1, "ended by F4": bool(line)})
     words = ["live", *options, "schema.toml", *names]
