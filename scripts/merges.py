@@ -8,6 +8,7 @@ numbers are near their bounds; or cubes of which one is spoiled. In the first tw
 all facts, which the oracle makes without merging. The program is the one at PATH, else the one that `./datacube` would
 run. The last line is `N passed, M failed`.
 """
+import re
 import sys
 
 sys.dont_write_bytecode = True
@@ -20,16 +21,20 @@ SPELLINGS = [
     lambda it: b"+" + it, lambda it: b"0" + it, lambda it: b"-" + it, lambda it: b'"' + it + b'"', lambda it: it + b" ",
     lambda it: it + b"\r", lambda it: it + b"/2", lambda it: it + b",", lambda it: b"", lambda it: b"\\N", lambda it: b"-0",
     lambda it: b"0", lambda it: b"1", lambda it: b"2", lambda it: b"\xff", lambda it: b"%d" % 2**64, lambda it: b"%d" % 2**127,
-    lambda it: b"%d" % 2**63, lambda it: b"\\A", lambda it: doubled(it), lambda it: doubled(it),
+    lambda it: b"%d" % 2**63, lambda it: b"\\A",
+]
+# (of a whole number, or of the numbers of a fraction)
+NUMBERS = [
+    lambda it: [2 * part for part in it], lambda it: [it[0] + 1, *it[1:]], lambda it: [it[0] - 1, *it[1:]],
+    lambda it: [-part for part in it], lambda it: it + [1],
 ]
 
 
-def doubled(field):
-    """Twice a whole number; a fraction that isn't in lowest terms."""
-    try:
-        return b"/".join(b"%d" % (2 * int(it)) for it in field.split(b"/"))
-    except ValueError:
-        return field + field
+def respelled(field, rng):
+    """A field in another spelling, or another number in its place."""
+    if not re.fullmatch(rb"-?[0-9]+(/[0-9]+)?", field) or rng.random() < 0.5:
+        return rng.choice(SPELLINGS)(field)
+    return b"/".join(b"%d" % it for it in rng.choice(NUMBERS)([int(it) for it in field.split(b"/")]))
 
 
 def case_of(rng):
@@ -108,7 +113,8 @@ def bounds(room, rng):
     schema, feeds = case_of(rng)
     partial, facts = schema.partial(), oracle.Run(schema, feeds).facts
     groups = [it for it in parted(facts, rng.choice([1, 2, 2]), rng) if it] or [[]]
-    times = rng.choice([1, 2**64 - 1, 2**63, (2**64 - 1) // max(len(facts), 1), (2**64 - 1) // max(len(it) for it in [*groups, [0]])])
+    most, largest = 2**64 - 1, max(map(len, groups))
+    times = rng.choice([1, most, 2**63, most // max(len(facts), 1), most // max(largest, 1)])
     texts = []
     for group in groups:
         rows = [(key, [times_of(it, kind, times) for it, (kind, _) in zip(answers, partial.aggregates)])
@@ -150,7 +156,7 @@ def spoiled(text, rng):
     fields = oracle.printed_line(lines[at], 0)[0]
     fields = [oracle.line_of([it])[:-1] for it in fields]
     place = rng.randrange(len(fields) // 2 if rng.random() < 0.7 else 0, len(fields))
-    fields[place] = rng.choice(SPELLINGS)(fields[place])
+    fields[place] = respelled(fields[place], rng)
     return b"".join(lines[:at] + [b",".join(fields) + b"\n"] + lines[at + 1 :])
 
 

@@ -59,6 +59,14 @@ def session(rng):
     return schema, feeds, records
 
 
+def tail(rng, record):
+    """The bytes in which the input ends: most often none, else a record whose last quote isn't closed, or odd ones."""
+    if rng.random() < 0.6:
+        return b""
+    quoted = b",".join(b'"' + it.replace(b'"', b'""') + b'"' for it in record)
+    return rng.choice([quoted[:-1], quoted[:-1], quoted, quoted[:-1] + b"\n", b"3", b'""', b"print", b"\r\n\n", b'"print'])
+
+
 def replies(live, records):
     """The replies to records one by one, and the line of the failure that ends them or None."""
     made = []
@@ -110,7 +118,7 @@ def compare(room, rng):
     room.write("schema.toml", schema.toml())
     names = [room.write(f"feed{at}.csv", oracle.encode([schema.header(), *it], rng)) for at, it in enumerate(feeds)]
     options = rng.choice([[], ["--ring", "1"], ["--threads", "2"]])
-    data = b"" if rng.random() < 0.9 else rng.choice([b'1,I,"a,b\n', b'"slice","=a', b"print,\"", b"3", b'""', b"print", b"\r\n\n"])
+    data = tail(rng, rng.choice(records) if records else [b"print"])
     last = oracle.records_of(data)
     live = oracle.Session(schema, feeds)
     made, line = replies(live, records + last)
