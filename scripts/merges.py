@@ -155,7 +155,8 @@ def spoiled(text, rng):
         return text[:place] + rng.choice([b'"', b"\n", b"0", b"9", b",", b"-", b"\xff", b""]) + text[place + 1 :]
     fields = oracle.printed_line(lines[at], 0)[0]
     fields = [oracle.line_of([it])[:-1] for it in fields]
-    place = rng.randrange(len(fields) // 2 if rng.random() < 0.7 else 0, len(fields))
+    means = [place for place, it in enumerate(fields) if b"/" in it] if rng.random() < 0.3 else []
+    place = rng.choice(means or range(len(fields) // 2 if rng.random() < 0.7 else 0, len(fields)))
     fields[place] = respelled(fields[place], rng)
     return b"".join(lines[:at] + [b",".join(fields) + b"\n"] + lines[at + 1 :])
 
