@@ -1,15 +1,38 @@
-"""A slow program of its own for what `datacube` prints: it shares no line with it, and is read beside docs/FORMATS.md.
+#!/usr/bin/env python3
+"""A slow program of its own for what `datacube` writes: it shares no line with it, and is read beside docs/FORMATS.md.
 
-A feed is a list of records, each a list of fields (bytes). `encode` writes a feed as CSV; nothing here reads CSV.
+    scripts/oracle.py WORDS...
+
+It takes the words of `datacube` and answers as that does, so that a case says of both what is wanted of them:
+`scripts/cases.py --folder cases/oracle --program scripts/oracle.py`. Only the texts of help and of what is wrong with
+a command line are its own, and it meets no want of memory.
+
+A feed is a list of records, each a list of fields (bytes). `encode` writes a feed as CSV, `records_of` reads one.
 """
 import itertools
 import math
+import os
+import re
+import sys
 
 NULL = b"\\N"
 KEEP = b"\\="
 ALL = object()
 KEPT = object()
 LEAST, GREATEST = -(2**63), 2**63 - 1
+MARK = b"\xef\xbb\xbf"
+MOST_FEEDS = 64
+MOST_SHARDS = 65536
+MOST_BYTES = 1048576
+sys.set_int_max_str_digits(0)
+
+
+class Failure(Exception):
+    """The end of a command: the line on standard error, after `datacube: `, and the status."""
+
+    def __init__(self, line, status):
+        super().__init__(line)
+        self.line, self.status = line, status
 
 
 class Schema:
@@ -27,11 +50,22 @@ class Schema:
             masks = [sum(2 ** dimensions.index(name) for name in names) for names in grouping]
         self.masks = sorted(masks)
 
+    def keeps(self, key):
+        """Whether the grouping set of a key is kept."""
+        return sum(2**at for at, it in enumerate(key) if it is not ALL) in self.masks
+
     def header(self):
         return [b"op", b"id"] + [it.encode() for it in self.dimensions + self.measures]
 
     def aggregate_texts(self):
         return [f"{kind}({self.measures[at] if at is not None else '*'})" for kind, at in self.aggregates]
+
+    def partial(self):
+        """The partial form: for each mean, its sum and its count too, where they aren't there yet."""
+        aggregates = list(self.aggregates)
+        for _, at in [it for it in self.aggregates if it[0] == "avg"]:
+            aggregates += [it for it in (("sum", at), ("count", at)) if it not in aggregates]
+        return Schema(self.dimensions, self.measures, aggregates, self.grouping, self.version, self.max_records)
 
     def toml(self):
         quoted = lambda it: '"' + it.replace("\\", "\\\\").replace('"', '\\"').replace("\n", "\\n").replace("\r", "\\r") + '"'
@@ -71,6 +105,66 @@ def encode(records, rng=None):
     return b"".join(out)
 
 
+PLAIN = re.compile(rb"[^,\r\n]*")
+
+
+def records_of(data):
+    """The records of CSV, as the crate `csv` reads them: RFC 4180, one byte order mark at the start left out."""
+    records, at = [], start_of(data)
+    while True:
+        record, at = record_at(data, at)
+        if record is None:
+            return records
+        records.append(record)
+
+
+def start_of(data):
+    return len(MARK) if data.startswith(MARK) else 0
+
+
+def record_at(data, at):
+    """The first record from there on, or None, and where it ends, before its line end."""
+    while data[at : at + 1] in (b"\r", b"\n"):
+        at += 1
+    if at == len(data):
+        return None, at
+    record = []
+    while not record or data[at : at + 1] == b",":
+        field, at = field_at(data, at + 1 if record else at)
+        record.append(field)
+    return record, at
+
+
+def field_at(data, at):
+    """The field that begins there, and where it ends: a quote that is never closed takes all that follows."""
+    parts = []
+    if data[at : at + 1] == b'"':
+        while not parts or data[at : at + 1] == b'"':
+            close = data.find(b'"', at + 1)
+            if close < 0:
+                return b'"'.join([*parts, data[at + 1 :]]), len(data)
+            parts.append(data[at + 1 : close])
+            at = close + 1
+    end = PLAIN.match(data, at).end()
+    return b'"'.join(parts) + data[at:end], end
+
+
+def data_records(schema, data):
+    """The data records of a feed, and the code of what is wrong with the feed, or None."""
+    records, head = records_of(data), schema.header()
+    if records and records[0] not in (head, [MARK + head[0], *head[1:]]):
+        return [], "F3"
+    return records[1 : schema.max_records + 1], "F4" if len(records) - 1 > schema.max_records else None
+
+
+def shard_of(record, count):
+    """The shard of a data record among so many, from 0: FNV-1a of 64 bits over its second field, which may not be there."""
+    value = 14695981039346656037
+    for byte in record[1] if len(record) > 1 else b"":
+        value = (value ^ byte) * 1099511628211 % 2**64
+    return value % count
+
+
 def number(field):
     digits = field[1:] if field[:1] in (b"+", b"-") else field
     if not digits or any(it not in b"0123456789" for it in digits):
@@ -89,7 +183,7 @@ def is_text(field):
 
 def change_of(schema, record):
     """The change of a record as (op, id, dims, measures), or the number of its fault."""
-    op, width = record[0], 2 + len(schema.dimensions) + len(schema.measures)
+    op, width = record[0] if record else None, 2 + len(schema.dimensions) + len(schema.measures)
     if op not in (b"I", b"U", b"D"):
         return 1
     if len(record) != width and not (op == b"D" and len(record) == 2):
@@ -114,28 +208,37 @@ def change_of(schema, record):
     return op, record[1], dims, measures
 
 
-def run_feed(schema, records):
-    """The facts that a feed's data records leave, by id, and its refusals as (record, code)."""
-    present, absent = (7, 8) if schema.version == 2 else (6, 7)
-    book, refusals = {}, []
-    for at, record in enumerate(records, 1):
-        change = change_of(schema, record)
+class Source:
+    """The facts that are present of a source, by id, and its refusals as (record, code)."""
+
+    def __init__(self, schema):
+        self.schema, self.book, self.refusals, self.count = schema, {}, [], 0
+
+    def take(self, record, shard=(1, 1)):
+        """Takes the next data record, which is only counted where it is in another shard."""
+        self.count += 1
+        if shard_of(record, shard[1]) == shard[0] - 1:
+            code = self.code_of(change_of(self.schema, record))
+            self.refusals += [(self.count, code)] if code else []
+
+    def code_of(self, change):
+        """Makes a change, or gives the code by which it is refused."""
         if isinstance(change, int):
-            refusals.append((at, change))
-            continue
+            return change
         op, name, dims, measures = change
-        if op == b"I" and name in book:
-            refusals.append((at, present))
-        elif op != b"I" and name not in book:
-            refusals.append((at, absent))
-        elif op == b"D":
-            del book[name]
+        present = 7 if self.schema.version == 2 else 6
+        if op == b"I" and name in self.book:
+            return present
+        if op != b"I" and name not in self.book:
+            return present + 1
+        if op == b"D":
+            del self.book[name]
         elif op == b"I":
-            book[name] = (dims, measures)
+            self.book[name] = (dims, measures)
         else:
-            old = book[name]
-            book[name] = (keep_over(dims, old[0]), keep_over(measures, old[1]))
-    return book, refusals
+            old = self.book[name]
+            self.book[name] = (keep_over(dims, old[0]), keep_over(measures, old[1]))
+        return None
 
 
 def keep_over(new, old):
@@ -156,8 +259,12 @@ def answer(kind, at, facts):
         return str(min(values))
     if kind == "max":
         return str(max(values))
-    divisor = math.gcd(sum(values), len(values))
-    return f"{sum(values) // divisor}/{len(values) // divisor}"
+    return fraction(sum(values), len(values))
+
+
+def fraction(total, count):
+    divisor = math.gcd(total, count)
+    return f"{total // divisor}/{count // divisor}"
 
 
 def rows_of(schema, facts):
@@ -172,8 +279,12 @@ def rows_of(schema, facts):
             groups.setdefault(key, []).append(fact)
         for key, group in groups.items():
             rows.append((key, [answer(kind, at, group) for kind, at in schema.aggregates]))
-    place = lambda it: (2, b"") if it is ALL else (1, b"") if it is None else (0, it)
-    return sorted(rows, key=lambda row: [place(it) for it in row[0]])
+    return sorted(rows, key=lambda row: order_of(row[0]))
+
+
+def order_of(key):
+    """What keys are ordered by: texts by their bytes, then null, then ALL."""
+    return [(2, b"") if it is ALL else (1, b"") if it is None else (0, it) for it in key]
 
 
 def line_of(fields):
@@ -182,47 +293,160 @@ def line_of(fields):
 
 
 def text_of(schema, rows):
+    return head_of(schema) + b"".join(row_line(*it) for it in rows)
+
+
+def head_of(schema):
     head = [it.encode() for it in schema.dimensions]
     head += [f"grouping({it})".encode() for it in schema.dimensions] + [it.encode() for it in schema.aggregate_texts()]
-    out = [line_of(head)]
-    for key, answers in rows:
-        coords = [NULL if it is ALL or it is None else it for it in key]
-        marks = [b"1" if it is ALL else b"0" for it in key]
-        out.append(line_of(coords + marks + [it.encode() for it in answers]))
-    return b"".join(out)
+    return line_of(head)
+
+
+def row_line(key, answers):
+    coords = [NULL if it is ALL or it is None else it for it in key]
+    marks = [b"1" if it is ALL else b"0" for it in key]
+    return line_of(coords + marks + [it.encode() for it in answers])
+
+
+def matching(rows, pattern):
+    """The rows that a pattern matches: for each dimension a value, None, ALL, or "any"."""
+    return [row for row in rows if all(wanted == "any" or same(wanted, it) for wanted, it in zip(pattern, row[0]))]
+
+
+def below(rows, key, at):
+    """The rows that drill down from a key along a dimension."""
+    return [row for row in matching(rows, with_value(key, at, "any")) if row[0][at] is not ALL]
+
+
+def text_of_refusals(refused):
+    return "".join(["source,record,code\n"] + [f"{a},{b},{c}\n" for a, b, c in refused]).encode()
 
 
 class Run:
     """What a run over the data records of several feeds prints, row by row, with its refusals and its status."""
 
-    def __init__(self, schema, feeds):
-        ran = [run_feed(schema, records) for records in feeds]
-        self.schema = schema
-        self.facts = list(itertools.chain.from_iterable(book.values() for book, _ in ran))
+    def __init__(self, schema, feeds, shard=(1, 1)):
+        self.schema, self.sources = schema, [Source(schema) for _ in feeds]
+        for source, records in zip(self.sources, feeds):
+            for record in records:
+                source.take(record, shard)
+        self.facts = [fact for source in self.sources for fact in source.book.values()]
         self.rows = rows_of(schema, self.facts)
-        self.refused = [(source, at, code) for source, (_, refusals) in enumerate(ran, 1) for at, code in refusals]
+        self.refused = [(at, *it) for at, source in enumerate(self.sources, 1) for it in source.refusals]
         self.status = 4 if self.refused else 0
 
     def print(self):
         return text_of(self.schema, self.rows)
 
     def refusals(self):
-        return "".join(["source,record,code\n"] + [f"{a},{b},{c}\n" for a, b, c in self.refused]).encode()
+        return text_of_refusals(self.refused)
 
     def slice(self, pattern):
-        """The rows that a pattern matches: for each dimension a value, None, ALL, or "any"."""
-        fits = lambda key: all(wanted == "any" or same(wanted, it) for wanted, it in zip(pattern, key))
-        return text_of(self.schema, [row for row in self.rows if fits(row[0])])
+        return text_of(self.schema, matching(self.rows, pattern))
 
     def drill(self, key, at):
         """The rows below a key along a dimension, or the code of the fault."""
         if key[at] is not ALL:
             return "P4"
-        mask = sum(2**place for place, it in enumerate(key) if it is not ALL) + 2**at
-        if mask not in self.schema.masks:
+        if not self.schema.keeps(with_value(key, at, None)):
             return "P7"
-        below = lambda it: it[at] is not ALL and all(same(a, b) for place, (a, b) in enumerate(zip(key, it)) if place != at)
-        return text_of(self.schema, [row for row in self.rows if below(row[0])])
+        return text_of(self.schema, below(self.rows, key, at))
+
+    def rollup(self, key, at):
+        """The row of a key with ALL at a dimension, where it is a cell that is kept."""
+        return text_of(self.schema, matching(self.rows, with_value(key, at, ALL)))
+
+
+class Session:
+    """A cube that stays, over 64 sources, the first of which begin with the data records of feeds."""
+
+    def __init__(self, schema, feeds):
+        self.schema, self.sources, self.kept = schema, [Source(schema) for _ in range(MOST_FEEDS)], None
+        for source, records in zip(self.sources, feeds):
+            for record in records:
+                source.take(record)
+
+    def status(self):
+        return 4 if self.refused() else 0
+
+    def refused(self):
+        return [(at, *it) for at, source in enumerate(self.sources, 1) for it in source.refusals]
+
+    def run(self):
+        """What a run over what came until now would answer."""
+        if not self.kept:
+            self.kept = Run(self.schema, [])
+            self.kept.facts = [fact for source in self.sources for fact in source.book.values()]
+            self.kept.rows = rows_of(self.schema, self.kept.facts)
+        return self.kept
+
+    def reply(self, record):
+        """Takes a record, and gives the bytes of its answer: none for a change. A record too many ends the session."""
+        at = counted(record[0])
+        if at is None or not 1 <= at <= MOST_FEEDS:
+            answer = self.answer(record)
+            return answer.encode() + b"\n" if isinstance(answer, str) else b"ok %d\n" % len(answer) + answer
+        source = self.sources[at - 1]
+        if source.count == self.schema.max_records:
+            raise Failure(f"G3 {at} F4", 1)
+        source.take(record[1:])
+        self.kept = None
+        return b""
+
+    def answer(self, record):
+        """The text that answers a question, or the code of what is wrong with it."""
+        name, count = record[0], len(self.schema.dimensions)
+        widths = {b"print": [1], b"slice": [1 + count], b"drill": [2 + count], b"rollup": [2 + count], b"refusals": [1, 3]}
+        if name not in widths:
+            return "Q1"
+        if len(record) not in widths[name]:
+            return "Q2"
+        if name == b"print":
+            return self.run().print()
+        if name == b"refusals":
+            return self.refusals(*record[1:])
+        wanted = wanted_of(record[1 if name == b"slice" else 2 :])
+        if name == b"slice" or isinstance(wanted, str):
+            return wanted if isinstance(wanted, str) else self.run().slice(wanted)
+        place = place_of(self.schema, record[1])
+        if "any" in wanted or place is None:
+            return "P3" if "any" in wanted else "P5"
+        return self.run().drill(wanted, place) if name == b"drill" else self.run().rollup(wanted, place)
+
+    def refusals(self, source=b"1", after=None):
+        """The refusals of all sources, or those of one after a record."""
+        source, number = counted(source), counted(b"0" if after is None else after)
+        if source is None or not 1 <= source <= MOST_FEEDS or number is None:
+            return "Q2"
+        return text_of_refusals(it for it in self.refused() if after is None or it[0] == source and it[1] > number)
+
+
+def counted(field):
+    """The whole number that digits alone spell, without a leading zero, or None."""
+    return int(field) if COUNT.fullmatch(field) and int(field) <= GREATEST else None
+
+
+def serve(session, read, write):
+    """Writes the answers to the records that are read; each is taken as soon as its line end is there."""
+    data, at, chunk = b"", None, True
+    while chunk:
+        chunk = read()
+        data, at = data[at or 0 :] + chunk, at and 0
+        if at is None and chunk and MARK.startswith(data):
+            continue
+        at = start_of(data) if at is None else at
+        while True:
+            record, end = record_at(data, at)
+            if record is None or chunk and end == len(data):
+                break
+            at = end
+            reply = session.reply(record)
+            if reply:
+                write(reply)
+
+
+def with_value(key, at, value):
+    return [*key[:at], value, *key[at + 1 :]]
 
 
 def same(a, b):
@@ -233,3 +457,497 @@ def word_of(pattern):
     """A pattern as a word of the command line."""
     forms = [b"?" if it == "any" else b"\\A" if it is ALL else NULL if it is None else b"=" + it for it in pattern]
     return encode([forms]).rstrip(b"\n") if forms != [b""] else b'""'
+
+
+QUOTED = re.compile(rb'"((?:[^"]|"")*)"')
+BARE = re.compile(rb'[^",\r\n]*')
+NEEDS_QUOTES = re.compile(rb'[",\r\n]')
+COUNT = re.compile(rb"0|[1-9][0-9]*")
+WHOLE = re.compile(rb"0|-?[1-9][0-9]*")
+MOST_COUNT = 2**64 - 1
+MOST_SUM = 2**127 - 1
+
+
+class CubeFault(Exception):
+    """A code of a cube that is merged, with its input and the number of its record, where the header is 1."""
+
+    def __init__(self, code, source=0, record=0):
+        super().__init__(code)
+        self.code, self.source, self.record = code, source, record
+
+    def line(self):
+        return f"{self.code} {self.source} {self.record}"
+
+
+class Printed:
+    """A printed cube, read line by line: it has to be what `print` writes under a schema, and None can't be read."""
+
+    def __init__(self, schema, data, source):
+        self.schema, self.data, self.source, self.at, self.record, self.row = schema, data, source, 0, 1, None
+        self.is_over, self.before = False, None
+
+    def fault(self, code):
+        return CubeFault(code, self.source, self.record)
+
+    def take_head(self):
+        if self.data is None:
+            raise self.fault("M3")
+        head = head_of(self.schema)
+        if not self.data.startswith(head):
+            raise self.fault("M4")
+        self.at = len(head)
+
+    def take_line(self):
+        """Takes the next line as a row, a key and its values by aggregate, or sees that there is no more."""
+        self.record += 1
+        if self.at == len(self.data):
+            total = (ALL,) * len(self.schema.dimensions)
+            if 0 in self.schema.masks and self.before != total:
+                raise self.fault("M8")
+            self.row, self.is_over = None, True
+            return
+        fields, self.at = printed_line(self.data, self.at)
+        row = fields and printed_row(self.schema, fields)
+        if not row:
+            raise self.fault("M5")
+        if self.before is not None and order_of(row[0]) <= order_of(self.before):
+            raise self.fault("M6")
+        self.row, self.before = row, row[0]
+
+
+def printed_line(data, at):
+    """The fields of the line that begins there, and where it ends; None for what isn't spelled as `print` does."""
+    fields = []
+    while True:
+        quoted = QUOTED.match(data, at)
+        found = quoted or BARE.match(data, at)
+        if quoted and not NEEDS_QUOTES.search(quoted[1]):
+            return None, at
+        fields.append(quoted[1].replace(b'""', b'"') if quoted else found[0])
+        at = found.end() + 1
+        if data[at - 1 : at] == b"\n":
+            return fields, at
+        if data[at - 1 : at] != b",":
+            return None, at
+
+
+def printed_row(schema, fields):
+    """The key of a line and its values by aggregate, or None where `print` writes no such line."""
+    count = len(schema.dimensions)
+    if len(fields) != 2 * count + len(schema.aggregates):
+        return None
+    texts, marks, answers = fields[:count], fields[count : 2 * count], fields[2 * count :]
+    if not set(marks) <= {b"0", b"1"} or not all(map(is_text, texts)):
+        return None
+    if any(mark == b"1" and text != NULL for mark, text in zip(marks, texts)):
+        return None
+    key = tuple(ALL if mark == b"1" else None if text == NULL else text for mark, text in zip(marks, texts))
+    values = {}
+    for aggregate, field in zip(schema.aggregates, answers):
+        value = printed_value(aggregate[0], field)
+        if value == "wrong" or values.setdefault(aggregate, value) != value:
+            return None
+    return (key, values) if schema.keeps(key) and are_sound(key, values) else None
+
+
+def printed_value(kind, field):
+    """The number that an answer spells, a pair for a mean, None for null, or "wrong"."""
+    whole = lambda text, form, least, most: int(text) if form.fullmatch(text) and least <= int(text) <= most else "wrong"
+    if kind == "count":
+        return whole(field, COUNT, 0, MOST_COUNT)
+    if field == NULL:
+        return None
+    if kind == "sum":
+        return whole(field, WHOLE, -MOST_SUM - 1, MOST_SUM)
+    if kind in ("min", "max"):
+        return whole(field, WHOLE, LEAST, GREATEST)
+    above, _, below = field.partition(b"/")
+    pair = whole(above, WHOLE, -MOST_SUM - 1, MOST_SUM), whole(below, COUNT, 1, MOST_COUNT)
+    return pair if "wrong" not in pair and math.gcd(*pair) == 1 else "wrong"
+
+
+def are_sound(key, values):
+    """Whether the values of a line go together."""
+    if values.get(("count", None)) == 0 and any(it is not ALL for it in key):
+        return False
+    for at in {at for _, at in values if at is not None}:
+        of = {kind: value for (kind, place), value in values.items() if place == at}
+        nulls = {value is None for kind, value in of.items() if kind != "count"}
+        if len(nulls) > 1 or "count" in of and nulls and nulls != {of["count"] == 0}:
+            return False
+        if True not in nulls:
+            if "min" in of and "max" in of and of["min"] > of["max"]:
+                return False
+            if "avg" in of and of["avg"][0] * of["count"] != of["avg"][1] * of["sum"]:
+                return False
+    return True
+
+
+def merged_answers(schema, used):
+    """The answers of a merged row; used has the inputs whose lines have its key."""
+    answers = []
+    for kind, at in schema.aggregates:
+        held = lambda kind: [(it, it.row[1][kind, at]) for it in used if it.row[1][kind, at] is not None]
+        if kind == "count":
+            answers.append(str(added(held(kind), 0, MOST_COUNT)))
+        elif not held(kind):
+            answers.append("\\N")
+        elif kind == "sum":
+            answers.append(str(added(held(kind), -MOST_SUM - 1, MOST_SUM)))
+        elif kind == "avg":
+            sums, counts = added(held("sum"), -MOST_SUM - 1, MOST_SUM), added(held("count"), 0, MOST_COUNT)
+            answers.append(fraction(sums, counts))
+        else:
+            answers.append(str((min if kind == "min" else max)(value for _, value in held(kind))))
+    return answers
+
+
+def added(held, least, most):
+    """The sum of values; one out of bounds is told of the first input with which it is."""
+    sums = list(itertools.accumulate(value for _, value in held))
+    if not sums or least <= sums[-1] <= most:
+        return sums[-1] if sums else 0
+    raise next(it.fault("M7") for (it, _), value in zip(held, sums) if not least <= value <= most)
+
+
+def merge(schema, datas, is_partial=False):
+    """The text of the merged cubes, each the bytes of a printed partial cube or None, and the fault that ends it or None."""
+    partial = schema.partial()
+    wanted = partial if is_partial else schema
+    inputs, out = [Printed(partial, data, at) for at, data in enumerate(datas, 1)], []
+    try:
+        for it in inputs:
+            it.take_head()
+        out.append(head_of(wanted))
+        used = inputs
+        while True:
+            for it in used:
+                it.take_line()
+            if all(it.is_over for it in inputs):
+                return b"".join(out), None
+            key = min((it.row[0] for it in inputs if not it.is_over), key=order_of)
+            used = [it for it in inputs if not it.is_over and it.row[0] == key]
+            merged_answers(partial, used)
+            out.append(row_line(key, merged_answers(wanted, used)))
+    except CubeFault as fault:
+        return b"".join(out), fault
+
+
+def schema_of(data):
+    """The schema that a TOML document writes; its first fault ends the command."""
+    import tomllib
+
+    try:
+        table = tomllib.loads(data.decode())
+    except (UnicodeDecodeError, tomllib.TOMLDecodeError):
+        raise Failure("S2", 3) from None
+    if not all(LEAST <= it <= GREATEST for it in numbers_in(table)):
+        raise Failure("S2", 3)
+    if not set(table) <= {"dimensions", "measures", "aggregates", "max_records", "grouping", "version"}:
+        raise Failure("S3", 3)
+    dimensions = texts_of(table, "dimensions", 8, "S4")
+    measures = texts_of(table, "measures", 4, "S5")
+    names = dimensions + measures
+    if len(set(names)) < len(names) or set(names) & {"", "op", "id", "*"}:
+        raise Failure("S6", 3)
+    spelled = {f"{kind}({name})": (kind, at) for at, name in enumerate(measures) for kind in KINDS}
+    spelled["count(*)"] = ("count", None)
+    aggregates = [spelled.get(it) for it in texts_of(table, "aggregates", 16, "S7")]
+    if None in aggregates:
+        raise Failure("S7", 3)
+    most = table.get("max_records", 2**32 - 1)
+    if type(most) is not int or not 1 <= most < 2**32:
+        raise Failure("S8", 3)
+    grouping = table.get("grouping", "cube")
+    if grouping not in ("cube", "rollup") and not are_sets(grouping, dimensions):
+        raise Failure("S9", 3)
+    version = table.get("version", 1)
+    if type(version) is not int or version not in (1, 2):
+        raise Failure("S10", 3)
+    return Schema(dimensions, measures, aggregates, grouping, version, most)
+
+
+KINDS = ("count", "sum", "min", "max", "avg")
+
+
+def numbers_in(value):
+    if isinstance(value, (dict, list)):
+        return itertools.chain.from_iterable(map(numbers_in, value.values() if isinstance(value, dict) else value))
+    return [value] if type(value) is int else []
+
+
+def texts_of(table, key, most, code):
+    value = table.get(key)
+    if not isinstance(value, list) or not all(isinstance(it, str) for it in value) or not 1 <= len(value) <= most:
+        raise Failure(code, 3)
+    return value
+
+
+def are_sets(grouping, dimensions):
+    if not isinstance(grouping, list) or not grouping or not all(isinstance(it, list) for it in grouping):
+        return False
+    if not all(isinstance(name, str) and name in dimensions for names in grouping for name in names):
+        return False
+    sets = {frozenset(it) for it in grouping}
+    return len(sets) == len(grouping) and all(len(set(it)) == len(it) for it in grouping)
+
+
+def wanted_of(fields):
+    """What the fields of a pattern want, or the code P2."""
+    wanted = []
+    for field in fields:
+        if not is_text(field) or field not in (b"?", b"\\A", NULL) and field[:1] != b"=":
+            return "P2"
+        wanted.append({b"?": "any", b"\\A": ALL, NULL: None}.get(field, field[1:]))
+    return wanted
+
+
+def wanted_of_word(schema, word):
+    records = records_of(word)
+    if len(records) != 1 or len(records[0]) != len(schema.dimensions):
+        return "P1"
+    return wanted_of(records[0])
+
+
+def place_of(schema, name):
+    """The place of a dimension, or None."""
+    names = [it.encode() for it in schema.dimensions]
+    return names.index(name) if name in names else None
+
+
+def is_up_to(most):
+    return lambda word: word.isdigit() and 1 <= int(word) <= most
+
+
+def is_shard(word):
+    found = re.fullmatch(rb"([1-9][0-9]*)/([1-9][0-9]*)", word)
+    return bool(found) and int(found[1]) <= int(found[2]) <= MOST_SHARDS
+
+
+# (whether an option's word is right; None where it has none)
+OPTIONS = {b"--ring": is_up_to(65536), b"--builders": is_up_to(8), b"--threads": is_up_to(16), b"--shard": is_shard,
+           b"--partial": None, b"--check": None}
+OF_FEEDS = [b"--ring", b"--builders", b"--threads", b"--shard"]
+
+
+class Words:
+    """The words of a command: its options and the others."""
+
+    def __init__(self, words, options, least, most):
+        self.options, self.rest = {}, []
+        words = list(words)
+        while words:
+            word = words.pop(0)
+            if word == b"--":
+                self.rest += words
+                break
+            if not word.startswith(b"-") or word == b"-":
+                self.rest.append(word)
+                continue
+            name, has_value, value = word.partition(b"=")
+            check = OPTIONS.get(name)
+            if check and not has_value:
+                value = words.pop(0) if words else b""
+            if name not in options or name in self.options or not (check(value) if check else not has_value):
+                raise wrong_words(b"'%s' for '%s'" % (value, name))
+            self.options[name] = value
+        if not least <= len(self.rest) <= most or not all(map(is_text, self.rest)):
+            raise wrong_words(b"another number of words is wanted, in UTF-8")
+
+    def shard(self):
+        return tuple(map(int, self.options.get(b"--shard", b"1/1").split(b"/")))
+
+
+def wrong_words(text):
+    return Failure("error: " + text.decode(errors="replace"), 2)
+
+
+def read_schema(path):
+    try:
+        with open(path, "rb") as file:
+            data = file.read(MOST_BYTES + 1)
+    except OSError:
+        raise Failure("schema unreadable", 3) from None
+    if len(data) > MOST_BYTES:
+        raise Failure("schema unreadable", 3)
+    return schema_of(data)
+
+
+def read_feeds(schema, paths):
+    """The data records of feeds; a feed at fault ends the command."""
+    files = []
+    for at, path in enumerate(paths, 1):
+        try:
+            files.append(os.open(path, os.O_RDONLY))
+        except OSError:
+            raise Failure(f"feed {at} unreadable", 1) from None
+    feeds, faults = [], []
+    for at, file in enumerate(files, 1):
+        try:
+            with open(file, "rb", closefd=True) as opened:
+                records, code = data_records(schema, opened.read())
+        except OSError:
+            records, code = [], "F2"
+        feeds.append(records)
+        faults += [Failure(f"G3 {at} {code}", 1)] if code else []
+    if faults:
+        raise faults[0]
+    return feeds
+
+
+def run_of(words, at, *others):
+    """The schema of a command, what it checks of CELL and DIM, and its run: FEED is the word at a place and those after it."""
+    given = Words(words, [*OF_FEEDS, *others], at + 1, sys.maxsize)
+    if len(given.rest) - at > MOST_FEEDS:
+        raise Failure("too many feeds", 2)
+    schema = read_schema(given.rest[0])
+    wanted = wanted_of_word(schema, given.rest[1]) if at > 1 else None
+    if at > 2 and isinstance(wanted, list) and "any" in wanted:
+        wanted = "P3"
+    if isinstance(wanted, str):
+        raise Failure(wanted, 2)
+    place = place_of(schema, given.rest[2]) if at > 2 else None
+    if at > 2 and place is None:
+        raise Failure("P5", 2)
+    feeds = read_feeds(schema, given.rest[at:])
+    return Run(schema.partial() if b"--partial" in given.options else schema, feeds, given.shard()), wanted, place
+
+
+def written(run, text):
+    """Writes what a run answers, or ends by the code that it answers."""
+    if isinstance(text, str):
+        raise Failure(text, 2)
+    write(text)
+    return run.status
+
+
+def write(data, before=0):
+    """Writes to standard output, or ends the command by how many bytes went out, with those before. Gives their number."""
+    sent = 0
+    while sent < len(data):
+        try:
+            sent += os.write(1, data[sent:])
+        except OSError:
+            raise Failure(f"G6 {before + sent}", 1) from None
+    return before + sent
+
+
+def read(line="Q3"):
+    """The next bytes of standard input, none at its end; where it can't be read the command ends with a line."""
+    try:
+        return os.read(0, 65536)
+    except OSError:
+        raise Failure(line, 1) from None
+
+
+def check_command(words):
+    read_schema(Words(words, [], 1, 1).rest[0])
+    write(b"ok\n")
+    return 0
+
+
+def print_command(words):
+    run, _, _ = run_of(words, 1, b"--partial")
+    return written(run, run.print())
+
+
+def refusals_command(words):
+    run, _, _ = run_of(words, 1)
+    return written(run, run.refusals())
+
+
+def slice_command(words):
+    run, wanted, _ = run_of(words, 2)
+    return written(run, run.slice(wanted))
+
+
+def drill_command(words):
+    run, wanted, place = run_of(words, 3)
+    return written(run, run.drill(wanted, place))
+
+
+def rollup_command(words):
+    run, wanted, place = run_of(words, 3)
+    return written(run, run.rollup(wanted, place))
+
+
+def live_command(words):
+    given = Words(words, [b"--ring", b"--threads"], 1, sys.maxsize)
+    if len(given.rest) - 1 > MOST_FEEDS:
+        raise Failure("too many feeds", 2)
+    schema = read_schema(given.rest[0])
+    session, sent = Session(schema, read_feeds(schema, given.rest[1:])), [0]
+    serve(session, read, lambda data: sent.append(write(data, sent[-1])))
+    return session.status()
+
+
+def merge_command(words):
+    given = Words(words, [b"--partial", b"--check"], 2, sys.maxsize)
+    paths = given.rest[1:]
+    if len(paths) > MOST_FEEDS:
+        raise Failure("too many cubes", 2)
+    schema = read_schema(given.rest[0])
+    for at, path in enumerate(paths, 1):
+        if path in paths[: at - 1]:
+            raise Failure(f"M2 {at}", 2)
+    text, fault = merge(schema, read_cubes(paths), b"--partial" in given.options)
+    if not fault or b"--check" not in given.options:
+        write(text)
+    if fault:
+        raise Failure(fault.line(), 1)
+    return 0
+
+
+def read_cubes(paths):
+    """The bytes of files, None for one that opens and can't be read."""
+    files = []
+    for at, path in enumerate(paths, 1):
+        try:
+            files.append(os.open(path, os.O_RDONLY))
+        except OSError:
+            raise Failure(f"M3 {at}", 1) from None
+    datas = []
+    for file in files:
+        try:
+            with open(file, "rb") as opened:
+                datas.append(opened.read())
+        except OSError:
+            datas.append(None)
+    return datas
+
+
+SAMPLE = Schema(["region", "kind"], ["amount"], [("count", None)] + [(it, 0) for it in ("sum", "min", "max", "avg")])
+COMMANDS = {
+    b"check": check_command,
+    b"print": print_command,
+    b"refusals": refusals_command,
+    b"slice": slice_command,
+    b"drill": drill_command,
+    b"rollup": rollup_command,
+    b"live": live_command,
+    b"merge": merge_command,
+}
+
+
+def main(words):
+    try:
+        if not words:
+            records, code = data_records(SAMPLE, b"".join(iter(lambda: read("G3 1 F2"), b"")))
+            if code:
+                raise Failure(f"G3 1 {code}", 1)
+            run = Run(SAMPLE, [records])
+            return written(run, run.print())
+        command = COMMANDS.get(words[0])
+        if b"--help" in words:
+            write(b"datacube, as its oracle plays it; see docs/FORMATS.md\noptions: %s\n" % b" ".join(OPTIONS))
+            return 0 if command or words[0] == b"--help" else 2
+        if not command:
+            raise wrong_words(b"'%s' is no command" % words[0])
+        return command(words[1:])
+    except Failure as it:
+        print(it.line if it.line.startswith("error: ") else f"datacube: {it.line}", file=sys.stderr)
+        return it.status
+
+
+if __name__ == "__main__":
+    sys.exit(main([os.fsencode(it) for it in sys.argv[1:]]))
