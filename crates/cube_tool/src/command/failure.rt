@@ -3,6 +3,7 @@ ghost use Rattle.std.specs.Prelude.{◌≡◌};
 ghost use Rattle.cube_tool.specs.Command.{status_of};
 
 use crate::command::status::Status;
+use crate::fault::TextFault;
 use cube_core::{QueryFault, SchemaFault};
 use cube_engine::RunFault;
 use std::fmt;
@@ -36,6 +37,51 @@ impl Failure {
             Failure::TooManyFeeds | Failure::Query(_) | Failure::UnknownCode => Status::WrongWords,
             Failure::FeedUnreadable { source: _ } | Failure::Run(_) => Status::Failed,
         }
+    }
+}
+
+impl From<SchemaFault> for Failure {
+    ghost use Rattle.std.specs.Prelude.{◌≡◌};
+    ghost use Rattle.cube_tool.specs.declared.command.failure.Failure.TheVariants.{Schema};
+
+    ghost from_gives = { λ fault failure. failure ≡ Schema fault };
+
+    fn from(fault: SchemaFault) -> Failure {
+        Failure::Schema(fault)
+    }
+}
+
+impl From<QueryFault> for Failure {
+    ghost use Rattle.std.specs.Prelude.{◌≡◌};
+    ghost use Rattle.cube_tool.specs.declared.command.failure.Failure.TheVariants.{Query};
+
+    ghost from_gives = { λ fault failure. failure ≡ Query fault };
+
+    fn from(fault: QueryFault) -> Failure {
+        Failure::Query(fault)
+    }
+}
+
+impl From<RunFault> for Failure {
+    ghost use Rattle.std.specs.Prelude.{◌≡◌};
+    ghost use Rattle.cube_tool.specs.declared.command.failure.Failure.TheVariants.{Run};
+
+    ghost from_gives = { λ fault failure. failure ≡ Run fault };
+
+    fn from(fault: RunFault) -> Failure {
+        Failure::Run(fault)
+    }
+}
+
+impl From<TextFault> for Failure {
+    ghost use Rattle.std.specs.Prelude.{◌≡◌};
+    ghost use Rattle.cube_tool.specs.Faults.{run_fault_of};
+    ghost use Rattle.cube_tool.specs.declared.command.failure.Failure.TheVariants.{Run};
+
+    ghost from_gives = { λ fault failure. failure ≡ Run (run_fault_of fault) };
+
+    fn from(fault: TextFault) -> Failure {
+        Failure::Run(RunFault::from(fault))
     }
 }
 

@@ -41,10 +41,7 @@ pub fn read_schema<R: Read + Drop>(alloc: Global, file: R) -> Result<Schema, Fai
     ensures err { IfErr result IsSchemaFailure }
 {
     let bytes = read_limited(alloc, file, SCHEMA_LIMIT)?;
-    match Schema::from_toml(alloc, &bytes) {
-        Ok(schema) => Ok(schema),
-        Err(fault) => Err(Failure::Schema(fault)),
-    }
+    Ok(Schema::from_toml(alloc, &bytes)?)
 }
 
 /// All bytes of a file that has at most so many.

@@ -1,7 +1,7 @@
 use Rattle.std.proofs.Common.{◌≡◌, ◌<◌, ◌+◌, ◌-◌, ℕ, get_or, length, ap, arith, rules, sym, ◌∙◌}
 use Rattle.cube_engine.specs.Ledger.{new_account}
-use Rattle.cube_tool.proofs.RefusalLaws.{status_after-some}
-use Rattle.cube_tool.proofs.command.sample.status_after.Goals as goal
+use Rattle.cube_tool.proofs.RefusalLaws.{status_after-none, status_after-some}
+use Rattle.cube_tool.proofs.command.status.status_after.Goals as goal
 
 pub returns-then-not-is_empty : goal.returns-then-not-is_empty
 returns-then-not-is_empty c =
