@@ -3,7 +3,8 @@ use Rattle.std.proofs.Common.{◌≡◌, ◌≤◌, ℕ, List, length, refl, sub
 use Rattle.std.specs.Prelude.{All, Bool, Option, Some, None, Result, Ok, Err}
 use Rattle.std.proofs.lemmas.List.Sums.{list_all-from_AllPass}
 use Rattle.cube_core.specs.Layout.{Layout}
-use Rattle.cube_core.specs.Query.{AreRowsWhere}
+use Rattle.std.specs.Global.{Vec}
+use Rattle.cube_core.specs.Query.{AreRowsWhere, drill_fault, drills_down}
 use Rattle.cube_core.specs.Run.{Told}
 use Rattle.cube_core.specs.Takes.{fits}
 use Rattle.cube_core.specs.Text.{text_of_rows}
@@ -63,17 +64,17 @@ Leaves-ExplainsBuild question s sources (run_fault.Write sent) old new same expl
 
 -- ---- what a fault of the text leaves
 
-pub Leaves-text : {question : Question} {s : Layout} {sources : Told} {parts : ℕ} {built : BuiltView} (why : TextFault) (old new : Option (List ℕ)) → 1 ≤ parts
+pub Leaves-text : (question : Question) {s : Layout} {sources : Told} {parts : ℕ} {built : BuiltView} (why : TextFault) (old new : Option (List ℕ)) → 1 ≤ parts
     → BuildsParts s sources parts built → Writes {T = Unit {0}} (Tells question s (facts_of_run built) (refusals_of_run built)) (Err why) old new
     → Leaves (ExplainsRun s sources) question s sources (run_fault_of why) old new
-Leaves-text text_fault.Full old new some builds same = (same, builds.good)
-Leaves-text (text_fault.Write sent) old new some builds wrote = OfFeeds-first some builds wrote
+Leaves-text question text_fault.Full old new some builds same = (same, builds.good)
+Leaves-text question (text_fault.Write sent) old new some builds wrote = OfFeeds-first some builds wrote
 
-pub Leaves-plain_text : {question : Question} {s : Layout} {sources : Told} {builder : BuilderView} (why : TextFault) (old new : Option (List ℕ))
+pub Leaves-plain_text : (question : Question) {s : Layout} {sources : Told} {builder : BuilderView} (why : TextFault) (old new : Option (List ℕ))
     → BuildsWhole s sources builder → Writes {T = Unit {0}} (Tells question s (all_facts builder.ledger.accounts) (refused builder.ledger.accounts)) (Err why) old new
     → Leaves (ExplainsBuild s sources) question s sources (run_fault_of why) old new
-Leaves-plain_text text_fault.Full old new builds same = (same, tt)
-Leaves-plain_text (text_fault.Write sent) old new builds wrote = OfFeeds-whole_first builds wrote
+Leaves-plain_text question text_fault.Full old new builds same = (same, tt)
+Leaves-plain_text question (text_fault.Write sent) old new builds wrote = OfFeeds-whole_first builds wrote
 
 -- ---- rows of what was built
 
@@ -99,25 +100,44 @@ IsTextWhere-rows test s built rows text schema are is = record { rows = rows; ar
 -- ---- answers
 
 -- a question that isn't refused, and whose text wasn't written whole
-pub Answers-text : {T : Type 0} (question : Question) (s : Layout) (facts : List Fact) (refusals : List (List Refusal)) (why : TextFault) (old new : Option (List ℕ)) → question_fault s question ≡ None
-    → Writes {T = T} (Tells question s facts refusals) (Err why) old new → Answers {T = T} question s facts refusals (Err (failure.Run (run_fault_of why))) old new
+pub Answers-text : (question : Question) (s : Layout) (facts : List Fact) (refusals : List (List Refusal)) (why : TextFault) (old new : Option (List ℕ)) → question_fault s question ≡ None
+    → Writes {T = Unit {0}} (Tells question s facts refusals) (Err why) old new → Answers {T = Unit {0}} question s facts refusals (Err (failure.Run (run_fault_of why))) old new
 Answers-text question s facts refusals text_fault.Full old new lawful same = (same, lawful)
 Answers-text question s facts refusals (text_fault.Write sent) old new lawful wrote = wrote
 
 -- rows that are given hold, and there is nothing for which they would be refused
 pub GivesUnless-Ok : {T : Type 0} (said : Option QueryFault) (Holds : T → Type 0) (value : T) → GivesUnless said Holds (Ok value) → (said ≡ None) × Holds value
 GivesUnless-Ok None Holds value holds = (refl, holds)
-GivesUnless-Ok (Some fault) Holds value refused = let bad : Ok value ≡ Err fault = refused in cc
+GivesUnless-Ok (Some fault) Holds value told = let bad : Ok value ≡ Err fault = told in cc
 
 -- the fault for which none are
 pub GivesUnless-Err : {T : Type 0} (said : Option QueryFault) (Holds : T → Type 0) (fault : QueryFault) → GivesUnless said Holds (Err fault) → IsToldOf said fault
-GivesUnless-Err {T = T} None Holds fault memory = memory
-GivesUnless-Err {T = T} (Some said) Holds fault refused = let same : Err {T = T} fault ≡ Err said = refused in cc
+GivesUnless-Err None Holds fault memory = memory
+GivesUnless-Err {T = T} (Some why) Holds fault told =
+    let first : Result T QueryFault = Err fault in
+    let second : Result T QueryFault = Err why in
+    let same : first ≡ second = told in
+    cc
+
+-- rows that drill down over a schema, where there is nothing for which they would be refused
+pub record DrillsDown (dimension : ℕ) (key : Key) (s : Layout) (built : BuiltView) (rows : List Row) : Type 0 where
+  pub lawful : drill_fault s.grouping_sets dimension key ≡ None
+  pub are_rows : AreRowsOfRun (drills_down dimension key) built rows
+
+pub DrillsDown-given : (dimension : ℕ) (key : Key) (s : Layout) (built : BuiltView) (rows : Vec Row) → schema_of_run built ≡ s
+    → GivesUnless (drill_fault (schema_of_run built).grouping_sets dimension key) (λ (rows : Vec Row). AreRowsOfRun (drills_down dimension key) built rows.items) (Ok rows)
+    → DrillsDown dimension key s built rows.items
+DrillsDown-given dimension key s built rows schema gives =
+    let given = GivesUnless-Ok (drill_fault (schema_of_run built).grouping_sets dimension key) (λ (rows : Vec Row). AreRowsOfRun (drills_down dimension key) built rows.items) rows gives in
+    record {
+      lawful = subst (λ (l : Layout). drill_fault l.grouping_sets dimension key ≡ None) schema given.0;
+      are_rows = given.1;
+    }
 
 -- ---- what a failure of a question over feeds leaves
 
-pub FailsToAnswer-Answers : {T : Type 0} {s : Layout} {sources : Told} {parts : ℕ} {built : BuiltView} (question : Question) (why : Failure) (old new : Option (List ℕ)) → 1 ≤ parts
-    → BuildsParts s sources parts built → Answers {T = T} question s (facts_of_run built) (refusals_of_run built) (Err why) old new
+pub FailsToAnswer-Answers : {s : Layout} {sources : Told} {parts : ℕ} {built : BuiltView} (question : Question) (why : Failure) (old new : Option (List ℕ)) → 1 ≤ parts
+    → BuildsParts s sources parts built → Answers {T = Unit {0}} question s (facts_of_run built) (refusals_of_run built) (Err why) old new
     → FailsToAnswer question s sources why old new
 FailsToAnswer-Answers question (failure.Query fault) old new some builds answers = (answers.0, builds.good, answers.1)
 FailsToAnswer-Answers question (failure.Run run_fault.Full) old new some builds answers = (answers.0, builds.good)

@@ -196,13 +196,17 @@ refused-StandsOver {s = s} {feeds = feeds} {builder = builder} schema all over =
     let under : StandsUnder s (length feeds) over.arrivals builder.ledger = record { schema = schema; all = all; stands = over.stands.ledger } in
     refused-under under ∙ ap (map (refusals_of s)) over.same
 
--- so is the status by its refusals
-pub OfFeeds-sample : {s : Layout} {sources : Told} {builder : BuilderView} {status : Status} {Wrote_of : List (List Item) → Type 0} → builder.ledger.schema ≡ s
-    → length builder.ledger.accounts ≡ length sources → status ≡ status_after (refused builder.ledger.accounts)
-    → OfFeeds s sources (λ feeds. Wrote_of feeds × StandsOver (StandsAt builder) feeds) → OfFeeds s sources (λ feeds. Wrote_of feeds × (status ≡ status_over s feeds))
-OfFeeds-sample {s = s} {sources = sources} schema all status_is of = record {
-  feeds = of.feeds;
-  good = of.good;
-  items = of.items;
-  holds = (of.holds.0, status_is ∙ ap status_after (refused-StandsOver schema (all ∙ AllZip-length (AreItemsOf s) sources of.feeds of.items) of.holds.1));
-}
+-- so is the status by its refusals, of a run over the sources of the sample
+pub OfFeeds-sample : {s : Layout} {sources : Told} {builder : BuilderView} {status : Status} {old new : Option (List ℕ)} (question : Question) (under : Layout) (told : Told) → under ≡ s → told ≡ sources
+    → builder.ledger.schema ≡ under → length builder.ledger.accounts ≡ length told → status ≡ status_after (refused builder.ledger.accounts)
+    → OfFeeds under told (λ feeds. Wrote (IsTextOf question under feeds) old new × StandsOver (StandsAt builder) feeds)
+    → OfFeeds s sources (λ feeds. Wrote (IsTextOf question s feeds) old new × (status ≡ status_over s feeds))
+OfFeeds-sample {sources = sources} {builder = builder} {status = status} {old = old} {new = new} question under told schema_is told_is schema all status_is of =
+    let answers : OfFeeds under told (λ feeds. Wrote (IsTextOf question under feeds) old new × (status ≡ status_over under feeds)) = record {
+      feeds = of.feeds;
+      good = of.good;
+      items = of.items;
+      holds = (of.holds.0, status_is ∙ ap status_after (refused-StandsOver {builder = builder} schema (all ∙ AllZip-length (AreItemsOf under) told of.feeds of.items) of.holds.1));
+    } in
+    subst (λ (l : Layout). OfFeeds l sources (λ feeds. Wrote (IsTextOf question l feeds) old new × (status ≡ status_over l feeds))) schema_is
+    (subst (λ (t : Told). OfFeeds under t (λ feeds. Wrote (IsTextOf question under feeds) old new × (status ≡ status_over under feeds))) told_is answers)

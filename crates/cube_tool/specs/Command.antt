@@ -83,6 +83,11 @@ AnswersQuery said (Ok value) = Says said (Ok value)
 AnswersQuery said (Err (Query fault)) = Says said (Err fault)
 AnswersQuery said (Err _) = ⊥
 
+-- the answer to a query's word that takes no memory: what is said of it
+abbrev pub answer_of : {T : Type 0} → Result T QueryFault → Result T Failure
+answer_of (Ok value) = Ok value
+answer_of (Err fault) = Err (Query fault)
+
 -- the key of a pattern, where there is a pattern
 abbrev pub key_of_pattern : Result Wanted QueryFault → Result Key QueryFault
 key_of_pattern (Ok pattern) = cell_of pattern

@@ -3,9 +3,9 @@
 //! `cube_words` tells what the words of a command line ask for. Each command is one call, which gives the
 //! [`Status`] to end with, or a [`Failure`], whose text is the line for standard error.
 
-mod ask;
 mod explanation;
 mod failure;
+mod feeds;
 mod notes;
 mod query;
 mod sample;
@@ -14,9 +14,9 @@ mod status;
 mod words;
 
 pub use crate::question::Question;
-pub use ask::ask;
 pub use explanation::explain;
 pub use failure::Failure;
+pub use feeds::ask;
 pub use notes::{NOTES, Note};
 pub use query::{read_cell, read_dimension, read_pattern};
 pub use sample::run_sample;

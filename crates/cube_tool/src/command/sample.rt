@@ -10,7 +10,7 @@ use crate::question::Question;
 use crate::runs::run_plain;
 use cube_core::{Schema, SchemaFault};
 use cube_engine::RunFault;
-use std::alloc::Global;
+use std::alloc::{AllocError, Global};
 use std::io::{Read, Write};
 
 /// Writes the printed cube of a feed under the sample schema, on the caller's thread.
@@ -31,10 +31,18 @@ pub fn run_sample<R: Read + Drop, W: Write>(
     let Ok(schema) = Schema::sample(alloc) else {
         return Err(Failure::Schema(SchemaFault::Memory));
     };
-    let mut readers = Vec::new(alloc);
-    if readers.push(feed).is_err() {
+    let Ok(readers) = only(alloc, feed) else {
         return Err(Failure::Run(RunFault::Memory));
-    }
+    };
     let builder = run_plain(alloc, &schema, readers, out)?;
     Ok(status_after(&builder))
+}
+
+// The readers of a run over one feed.
+fn only<R: Read + Drop>(alloc: Global, feed: R) -> Result<Vec<R>, AllocError>
+    ensures { IfOk result (λ readers. readers.items ≡ feed ∷ []) }
+{
+    let mut readers = Vec::new(alloc);
+    readers.push(feed)?;
+    Ok(readers)
 }

@@ -2,7 +2,7 @@ use Rattle.std.proofs.Common.{map, refl}
 use Rattle.std.proofs.lemmas.Result.{err_from_is_err_and}
 use Rattle.cube_tool.proofs.AnsweringLaws.{FailsToAnswer-Answers, Leaves-ExplainsRun}
 use Rattle.cube_tool.proofs.RunLaws.{OfFeeds-status}
-use Rattle.cube_tool.proofs.command.ask.ask.Goals as goal
+use Rattle.cube_tool.proofs.command.feeds.ask.Goals as goal
 
 pub returns-in_err-built-clause-err : goal.returns-in_err-built-clause-err
 returns-in_err-built-clause-err g c =
