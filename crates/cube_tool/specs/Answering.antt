@@ -21,6 +21,7 @@ use Rattle.cube_tool.specs.declared.question.Question.TheVariants.{Cube, Slice, 
 use Rattle.cube_tool.specs.declared.fault.TextFault.{TextFault}
 use Rattle.cube_tool.specs.declared.fault.TextFault.TheVariants as text_fault
 use Rattle.cube_tool.specs.declared.command.status.Status.{Status}
+use Rattle.cube_tool.specs.declared.command.status.Status.TheVariants.{Done}
 use Rattle.cube_tool.specs.declared.command.failure.Failure.{Failure}
 use Rattle.cube_tool.specs.declared.command.failure.Failure.TheVariants.{Query, Run, Schema}
 
@@ -85,3 +86,10 @@ abbrev pub SampleLeaves : Layout → Told → Failure → Option (List ℕ) → 
 SampleLeaves s sources (Schema fault) old new = (fault ≡ schema_fault.Memory) × (new ≡ old)
 SampleLeaves s sources (Run fault) old new = Leaves (ExplainsBuild s sources) Cube s sources fault old new
 SampleLeaves s sources _ old new = ⊥
+
+-- what showing a text comes to, of which nothing is said: it was written whole, or its first bytes, as many as the failure says, or for want of memory nothing
+abbrev pub ShowsText : Result Status Failure → Option (List ℕ) → Option (List ℕ) → Type 0
+ShowsText (Ok status) old new = (status ≡ Done) × Wrote (λ text. ⊤) old new
+ShowsText (Err (Run run_fault.Full)) old new = new ≡ old
+ShowsText (Err (Run (run_fault.Write sent))) old new = WroteFirst (λ text. ⊤) sent old new
+ShowsText (Err _) old new = ⊥

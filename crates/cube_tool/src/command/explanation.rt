@@ -32,10 +32,8 @@ pub fn explain<W: Write>(
     if text.is_empty() {
         return Err(Failure::UnknownCode);
     }
-    match write_whole(out, &text) {
-        Ok(()) => Ok(Status::Done),
-        Err(fault) => Err(Failure::Run(RunFault::Write { sent: fault.sent })),
-    }
+    write_whole(out, &text)?;
+    Ok(Status::Done)
 }
 
 // The text of the notes that have a code, or of all.

@@ -6,6 +6,7 @@ use crate::command::status::Status;
 use crate::fault::TextFault;
 use cube_core::{QueryFault, SchemaFault};
 use cube_engine::RunFault;
+use cube_text::WriteFault;
 use std::fmt;
 
 /// Why a command failed. Its text is the line for standard error, without the line end.
@@ -82,6 +83,18 @@ impl From<TextFault> for Failure {
 
     fn from(fault: TextFault) -> Failure {
         Failure::Run(RunFault::from(fault))
+    }
+}
+
+impl From<WriteFault> for Failure {
+    ghost use Rattle.std.specs.Prelude.{◌≡◌};
+    ghost use Rattle.cube_engine.specs.declared.fault.RunFault.TheVariants.{Write};
+    ghost use Rattle.cube_tool.specs.declared.command.failure.Failure.TheVariants.{Run};
+
+    ghost from_gives = { λ fault failure. failure ≡ Run (Write fault.sent) };
+
+    fn from(fault: WriteFault) -> Failure {
+        Failure::Run(RunFault::Write { sent: fault.sent })
     }
 }
 

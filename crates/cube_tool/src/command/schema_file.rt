@@ -7,7 +7,6 @@ ghost use Rattle.cube_tool.specs.Command.{AnswersFile, CheckLeaves, IsReadFailur
 use crate::command::failure::Failure;
 use crate::command::status::Status;
 use cube_core::{Schema, SchemaFault};
-use cube_engine::RunFault;
 use cube_text::write_whole;
 use std::alloc::Global;
 use std::io::{Error, ErrorKind, Read, Write};
@@ -30,10 +29,8 @@ pub fn check<R: Read + Drop, W: Write>(
         CheckLeaves (R.Read.remaining file) failure (W.contents out.old) (W.contents out.new)) }
 {
     let _schema = read_schema(alloc, file)?;
-    match write_whole(out, b"ok\n") {
-        Ok(()) => Ok(Status::Done),
-        Err(fault) => Err(Failure::Run(RunFault::Write { sent: fault.sent })),
-    }
+    write_whole(out, b"ok\n")?;
+    Ok(Status::Done)
 }
 
 /// The schema in a file of at most 1048576 bytes.
