@@ -1,13 +1,15 @@
 #!/usr/bin/env python3
-"""Makes what documents and completions say of codes and of the command line from what the program says.
+"""Makes what documents and completions say of codes and of the command line from what the program says, and what
+docs/PROMISES.md says of calls from the code.
 
-    scripts/documents.py [--program PATH]            writes docs/datacube.1, the tables of codes in docs/FORMATS.md, and
-                                                     the completions for shells (completions/)
-    scripts/documents.py --check [--program PATH]    says what of them isn't what the program says; the last line is
-                                                     `N passed, M failed`, and it fails where something isn't
+    scripts/documents.py [--program PATH]            writes docs/datacube.1, the tables of codes in docs/FORMATS.md, the
+                                                     completions for shells (completions/), and the tables of calls in
+                                                     docs/PROMISES.md (scripts/promises.py)
+    scripts/documents.py --check [--program PATH]    says what of them isn't what the program or the code says; the last
+                                                     line is `N passed, M failed`, and it fails where something isn't
 
-The program is the one at PATH, else the one that `./datacube` would run. In docs/FORMATS.md a table stands between `<!-- codes: ABOUT -->` and `<!-- end of codes -->`; ABOUT is what the
-program's notes say that a code is about.
+The program is the one at PATH, else the one that `./datacube` would run. In docs/FORMATS.md a table stands between
+`<!-- codes: ABOUT -->` and `<!-- end of codes -->`; ABOUT is what the program's notes say that a code is about.
 """
 import argparse
 import os
@@ -18,9 +20,11 @@ import sys
 sys.dont_write_bytecode = True
 import completions
 import programs
+import promises
 
 ROOT = os.path.dirname(os.path.dirname(os.path.realpath(__file__)))
 FORMATS = f"{ROOT}/docs/FORMATS.md"
+PROMISES = f"{ROOT}/docs/PROMISES.md"
 MANUAL = f"{ROOT}/docs/datacube.1"
 
 
@@ -112,8 +116,11 @@ def wanted(program):
         {name: program.said(name, "--help") for name in commands_of(program)},
         list(dict.fromkeys(note["code"] for note in notes)),
     )
-    with open(FORMATS, encoding="utf-8") as file:
-        made = {FORMATS: formats_with(notes, file.read()), MANUAL: manual_of(program, notes)}
+    made = {
+        FORMATS: formats_with(notes, text_at(FORMATS)),
+        PROMISES: promises.page_with(text_at(PROMISES)),
+        MANUAL: manual_of(program, notes),
+    }
     return {**made, **{f"{ROOT}/completions/{name}": text for name, text in completions.made_of(line).items()}}
 
 
@@ -134,7 +141,7 @@ def main():
     if given.check:
         stale = [path for path, text in documents.items() if text_at(path) != text]
         for path in stale:
-            print(f"FAILED: {os.path.relpath(path, ROOT)} isn't what the program says: scripts/documents.py writes it anew")
+            print(f"FAILED: {os.path.relpath(path, ROOT)} isn't what the program or the code says: scripts/documents.py writes it anew")
         print(f"{len(documents) - len(stale)} passed, {len(stale)} failed")
         return 1 if stale else 0
     for path, text in documents.items():

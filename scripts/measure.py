@@ -2,8 +2,10 @@
 import collections
 import hashlib
 import os
+import resource
 import subprocess
 import sys
+import threading
 import time
 
 sys.dont_write_bytecode = True
@@ -24,12 +26,92 @@ def run(words):
     digest = hashlib.sha256()
     while piece := child.stdout.read(1 << 20):
         digest.update(piece)
+    return used_by(child, start), digest.hexdigest()
+
+
+def run_into(words, out):
+    """What a run used that wrote to a file."""
+    start = time.monotonic()
+    with open(out, "wb") as file:
+        return used_by(subprocess.Popen(words, stdout=file), start)
+
+
+def used_by(child, start):
+    """What a program used that began then; it is waited for, and this ends where it failed."""
     _, status, use = os.wait4(child.pid, 0)
     wall = time.monotonic() - start
     child.returncode = os.waitstatus_to_exitcode(status)
     if child.returncode != 0:
-        sys.exit(f"{words[0]} ended with {child.returncode}")
-    return Use(use.ru_utime + use.ru_stime, wall, use.ru_maxrss / 1024), digest.hexdigest()
+        sys.exit(f"{child.args[0]} ended with {child.returncode}")
+    return Use(use.ru_utime + use.ru_stime, wall, use.ru_maxrss / 1024)
+
+
+def run_at(server, job):
+    """What a job used of a server, by its process, and of the commands that the job runs."""
+    commands = lambda: sum(resource.getrusage(resource.RUSAGE_CHILDREN)[:2])
+    before = of_family(server, spent_by) + commands()
+    watch = Watch(server)
+    start = time.monotonic()
+    job()
+    wall = time.monotonic() - start
+    memory = watch.end()
+    # (until a server's process that served the job has ended)
+    time.sleep(0.3)
+    return Use(of_family(server, spent_by) + commands() - before, wall, memory)
+
+
+class Watch(threading.Thread):
+    """Looks twenty times a second at the memory of a process and those that it started."""
+
+    def __init__(self, server):
+        super().__init__(daemon=True)
+        self.server, self.most, self.ended = server, 0, threading.Event()
+        self.start()
+
+    def run(self):
+        while not self.ended.wait(0.05):
+            self.most = max(self.most, of_family(self.server, memory_of))
+
+    def end(self):
+        """Ends the looking, and gives the largest memory that was seen, in MiB."""
+        self.ended.set()
+        self.join()
+        return self.most
+
+
+def of_family(first, figure):
+    """A figure of a process, of those that it started, and so on, added up; those that have ended meanwhile have none."""
+    parents = {}
+    for process in filter(str.isdigit, os.listdir("/proc")):
+        parents.setdefault(told(lambda: int(stat_of(process)[1])), []).append(int(process))
+    family = [first]
+    for process in family:
+        family += parents.get(process, [])
+    return sum(told(lambda: figure(process)) for process in family)
+
+
+def told(figure):
+    """A figure of a process, 0 where it has ended."""
+    try:
+        return figure()
+    except OSError:
+        return 0
+
+
+def stat_of(process):
+    with open(f"/proc/{process}/stat", encoding="utf-8") as file:
+        return file.read().rpartition(")")[2].split()
+
+
+def spent_by(process):
+    """Processor seconds of a process, and of those that it started and that have ended."""
+    return sum(map(int, stat_of(process)[11:15])) / os.sysconf("SC_CLK_TCK")
+
+
+def memory_of(process):
+    """A process's memory in MiB, with its share of what it has with others."""
+    with open(f"/proc/{process}/smaps_rollup", encoding="utf-8") as file:
+        return next((int(line.split()[1]) for line in file if line.startswith("Pss:")), 0) / 1024
 
 
 def best_of(ways, runs):

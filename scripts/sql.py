@@ -202,11 +202,17 @@ def copy_text(fields):
     return "{" + array.translate(IN_COPY) + "}"
 
 
+def newest_server():
+    """The folder of the newest PostgreSQL's programs, or None."""
+    found = sorted(glob.glob("/usr/lib/postgresql/*/bin/initdb"), key=lambda it: float(it.split("/")[4]))
+    return os.path.dirname(found[-1]) if found else None
+
+
 class Server:
     """A PostgreSQL that this run alone asks: it is begun in a folder, and ended with the block that it is for."""
 
-    def __init__(self, binaries, room):
-        self.binaries, self.room, self.process = binaries, room, None
+    def __init__(self, binaries, room, settings=SETTINGS):
+        self.binaries, self.room, self.settings, self.process = binaries, room, settings, None
         self.env = {"PATH": "/usr/bin:/bin", "LC_ALL": "C", "PGCLIENTENCODING": "UTF8"}
 
     def __enter__(self):
@@ -219,7 +225,7 @@ class Server:
         made = self.call([*front, f"{self.binaries}/initdb", "-D", data, *make])
         if made.returncode:
             sys.exit(f"initdb failed: {made.stderr.decode(errors='replace').strip()}")
-        settings = [word for it in SETTINGS for word in ("-c", it)]
+        settings = [word for it in self.settings for word in ("-c", it)]
         serve = [f"{self.binaries}/postgres", "-D", data, "-k", self.room, *settings]
         with open(f"{self.room}/log", "wb") as log:
             how = {"stdin": subprocess.DEVNULL, "stdout": log, "stderr": log, "env": self.env, "cwd": "/"}
@@ -412,8 +418,8 @@ def main():
     given = asks.parse_args()
     if given.show and not given.schema:
         asks.error("--show wants a schema")
-    found = sorted(glob.glob("/usr/lib/postgresql/*/bin/initdb"), key=lambda it: float(it.split("/")[4]))
-    if not tomllib or not found and not given.show:
+    binaries = newest_server()
+    if not tomllib or not binaries and not given.show:
         print("Debian's package postgresql isn't installed" if tomllib else "Python 3.11 or later isn't installed")
         print("0 passed, 0 failed")
         return 77
@@ -421,7 +427,7 @@ def main():
     if given.show:
         return show(program, given.schema, given.feed)
     folder = lambda: tempfile.TemporaryDirectory(prefix="datacube-sql-")
-    with folder() as room, folder() as ours, Server(os.path.dirname(found[-1]), room) as server:
+    with folder() as room, folder() as ours, Server(binaries, room) as server:
         trials = Trials(server, program, ours)
         if given.schema:
             trials.trial(given.schema, given.schema, given.feed)

@@ -1,18 +1,20 @@
 -- Laws of cells into which others are merged: what one merge says of each look-up and of each weight, and how sets are filled one after another.
-use Rattle.std.proofs.Common.{◌≡◌, ℕ, ◌+◌, ◌*◌, ◌==◌, List, [], ◌∷◌, ◌++◌, Bool, true, false, cond, refl, sym, ap, ◌∙◌, subst, arith, inl, inr, length, Option, Some, None}
-use Rattle.std.specs.Prelude.{All, Contains, IfSome, IsSome, reverse}
+use Rattle.std.proofs.Common.{◌≡◌, ℕ, ◌+◌, ◌*◌, ◌==◌, List, [], ◌∷◌, ◌++◌, Bool, true, false, cond, suc, take, get_or, append_assoc, refl, sym, ap, ◌∙◌, subst, arith, inl, inr, length, Option, Some, None}
+use Rattle.std.specs.Prelude.{◌<◌, All, IfSome, IsSome, Result, Ok}
 use Rattle.std.specs.List.{IsDistinct}
 use Rattle.std.specs.List.Sorted.{IsPermutation}
 use Rattle.std.specs.Map.{set_value}
-use Rattle.std.proofs.lemmas.Bool.{cases_Bool, cond-true, cond-false}
-use Rattle.std.proofs.lemmas.List.{length-replicate}
-use Rattle.std.proofs.lemmas.List.Elements.{All-head, All-tail, All-push}
+use Rattle.std.specs.declared.alloc.AllocError.{AllocError}
+use Rattle.std.proofs.lemmas.Bool.{cases_Bool, cases_lt, cond-true, cond-false}
+use Rattle.std.proofs.lemmas.List.{length-replicate, length-append, append-nil, map-append, get_or_append_left, take_more}
+use Rattle.std.proofs.Math.Seq.{get_or-append_seam}
+use Rattle.std.proofs.lemmas.List.Elements.{All-head, All-tail, All-push, Contains-append_left}
 use Rattle.std.proofs.lemmas.List.Sorted.{sum_by-IsPermutation}
 use Rattle.std.proofs.lemmas.List.Sums.{sum_by-cons}
 use Rattle.cube_counts.specs.Bag.{Bag, held_of}
 use Rattle.cube_cells.specs.Coded.{CodedCells, AreNewCells, same_codes, coded_at, total_codes}
 use Rattle.cube_cells.specs.Cube.{empty_tally, tally_or_empty}
-use Rattle.cube_cells.specs.Fill.{AreMadeFrom, FillsSet, IsFiner, MakesLevels, MergesIn}
+use Rattle.cube_cells.specs.Fill.{AreMadeFrom, AreMadeLevels, ArePushed, FillsSet, IsFiner, IsMadeLevel, MakesLevels, MergesIn}
 use Rattle.cube_cells.specs.Tally.{Tally, PlusTally, SameTally}
 use Rattle.cube_cells.specs.Walk.{AreApart, key_in, weight_of_cells}
 use Rattle.cube_cells.specs.declared.cube.codes.Codes.{Codes}
@@ -115,17 +117,70 @@ AreMadeFrom-width measures set finer cells each made =
       at codes t found width = rw found at width
 
 -- ---- one level after another
--- while levels are made: these sets are left
-pub record IsMakingLevels (measures : ℕ) (finest : Level) (sets left : List ℕ) (now : List Level) : Type 0 where
+-- while levels are made in an order: these sets are left
+pub record IsMakingLevels (measures : ℕ) (finest : Level) (order left : List ℕ) (now : List Level) : Type 0 where
   pub finer : All (IsFiner finest.set) left
   pub first : All (λ cell. length cell.1.bags ≡ measures) finest.cells.entries
   pub widths : All (λ level. All (λ cell. length cell.1.bags ≡ measures) level.cells.entries) now
-  pub makes : (end : List Level) → MakesLevels measures finest left now end → MakesLevels measures finest (reverse sets) [] end
+  pub makes : (end : List Level) → MakesLevels measures finest left now end → MakesLevels measures finest order [] end
 
-pub IsMakingLevels-more : (measures : ℕ) (finest : Level) (sets left : List ℕ) (now : List Level) (set : ℕ) (finer level : Level) → IsMakingLevels measures finest sets (set ∷ left) now → Contains (finest ∷ now) finer → IsFiner finer.set set → level.set ≡ set → AreMadeFrom finer.cells.entries set measures level.cells.entries → All (λ cell. length cell.1.bags ≡ measures) level.cells.entries → IsMakingLevels measures finest sets left (now ++ level ∷ [])
-IsMakingLevels-more measures finest sets left now set finer level making made is_finer of_set from width = record {
+-- a level more, which was made from one of those that were there before
+IsMakingLevels-more : (measures : ℕ) (finest : Level) (order left : List ℕ) (old before : List Level) (set : ℕ) (level : Level) → IsMakingLevels measures finest order (set ∷ left) (old ++ before) → IsMadeLevel measures finest old set level → IsMakingLevels measures finest order left ((old ++ before) ++ level ∷ [])
+IsMakingLevels-more measures finest order left old before set level making is = record {
   finer = All-tail (IsFiner finest.set) set left making.finer;
   first = making.first;
-  widths = All-push (λ (level : Level). All (λ cell. length cell.1.bags ≡ measures) level.cells.entries) now level making.widths width;
-  makes = λ end rest. making.makes end (finer, level, made, is_finer, of_set, from, rest);
+  widths = All-push (λ (level : Level). All (λ cell. length cell.1.bags ≡ measures) level.cells.entries) (old ++ before) level making.widths is.width;
+  makes = λ end rest. making.makes end (is.finer, level, Contains-append_left (finest ∷ old) before is.finer is.there, is.is_finer, is.set_is, is.made, rest);
+}
+
+-- the levels of a layer more
+pub IsMakingLevels-layer : (measures : ℕ) (finest : Level) (order layer left : List ℕ) (old before more : List Level) → IsMakingLevels measures finest order (layer ++ left) (old ++ before) → length more ≡ length layer
+    → ((i : ℕ) (unused : Level) → i < length layer → IsMadeLevel measures finest old (get_or layer i 0) (get_or more i unused)) → IsMakingLevels measures finest order left ((old ++ before) ++ more)
+IsMakingLevels-layer measures finest order [] left old before [] making long each = rw (append-nil (old ++ before)) making
+IsMakingLevels-layer measures finest order [] left old before (level ∷ more) making long each = absurd (omega (arith, long))
+IsMakingLevels-layer measures finest order (set ∷ layer) left old before [] making long each = absurd (omega (arith, long))
+IsMakingLevels-layer measures finest order (set ∷ layer) left old before (level ∷ more) making long each =
+    let is = each 0 level (omega arith) in
+    let next = rw (append_assoc old before (level ∷ [])) at (IsMakingLevels-more measures finest order (layer ++ left) old before set level making is) in
+    let all = IsMakingLevels-layer measures finest order layer left old (before ++ level ∷ []) more next (omega (arith, long)) (λ i unused inside. each (suc i) unused (omega (arith, inside))) in
+    rw (← append_assoc old before (level ∷ []), append_assoc (old ++ before) (level ∷ []) more) at all
+
+-- the same, where all that were there before are those that the layer was made from
+pub IsMakingLevels-next : (measures : ℕ) (finest : Level) (order layer left : List ℕ) (old more : List Level) → IsMakingLevels measures finest order (layer ++ left) old → length more ≡ length layer
+    → ((i : ℕ) (unused : Level) → i < length layer → IsMadeLevel measures finest old (get_or layer i 0) (get_or more i unused)) → IsMakingLevels measures finest order left (old ++ more)
+IsMakingLevels-next measures finest order layer left old more making long each =
+    subst (λ (now : List Level). IsMakingLevels measures finest order left (now ++ more)) (append-nil old)
+    (IsMakingLevels-layer measures finest order layer left old [] more (subst (λ (now : List Level). IsMakingLevels measures finest order (layer ++ left) now) (sym (append-nil old)) making) long each)
+
+-- no set, no result
+pub AreMadeLevels-none : (measures : ℕ) (finest : Level) (levels : List Level) → AreMadeLevels measures finest levels [] []
+AreMadeLevels-none measures finest levels = record { long = refl; each = λ i unused inside. absurd (omega (arith, inside)) }
+
+-- the level of one set more
+AreMadeLevels-push : (measures : ℕ) (finest : Level) (levels : List Level) (layer : List ℕ) (made : List (Result Level AllocError)) (set : ℕ) (level : Level)
+    → AreMadeLevels measures finest levels layer made → IsMadeLevel measures finest levels set level → AreMadeLevels measures finest levels (layer ++ set ∷ []) (made ++ Ok level ∷ [])
+AreMadeLevels-push measures finest levels layer made set level are is = record {
+  long = omega (arith, length-append made (Ok level ∷ []), length-append layer (set ∷ []), are.long);
+  each = λ k unused inside. elim (cases_lt k (length layer)) [
+    | inl before ↦
+        rw (get_or_append_left made (Ok level ∷ []) unused k (omega (arith, before, are.long)), get_or_append_left layer (set ∷ []) 0 k before) (are.each k unused before)
+    | inr after ↦
+        let here : k ≡ length layer = omega (arith, inside, after, length-append layer (set ∷ [])) in
+        let first : get_or (made ++ Ok level ∷ []) k unused ≡ Ok level = ap (λ (n : ℕ). get_or (made ++ Ok level ∷ []) n unused) (here ∙ sym are.long) ∙ get_or-append_seam made (Ok level) [] unused in
+        let second : get_or (layer ++ set ∷ []) k 0 ≡ set = ap (λ (n : ℕ). get_or (layer ++ set ∷ []) n 0) here ∙ get_or-append_seam layer set [] 0 in
+        rw (first, second) is
+  ];
+}
+
+pub AreMadeLevels-more : (measures : ℕ) (finest : Level) (levels : List Level) (layer : List ℕ) (made : List (Result Level AllocError)) (i : ℕ) (level : Level) → i < length layer
+    → AreMadeLevels measures finest levels (take i layer) made → IsMadeLevel measures finest levels (get_or layer i 0) level → AreMadeLevels measures finest levels (take (i + 1) layer) (made ++ Ok level ∷ [])
+AreMadeLevels-more measures finest levels layer made i level inside are is =
+    rw (take_more layer i 0 inside) (AreMadeLevels-push measures finest levels (take i layer) made (get_or layer i 0) level are is)
+
+-- one result more is a level and was put behind the others
+pub ArePushed-more : (results : List (Result Level AllocError)) (old now : List Level) (level : Level) → ArePushed results old now → ArePushed (results ++ Ok level ∷ []) old (now ++ level ∷ [])
+ArePushed-more results old now level are = record {
+  levels = are.levels ++ level ∷ [];
+  are = map-append Ok are.levels (level ∷ []) ∙ ap (λ (l : List (Result Level AllocError)). l ++ Ok level ∷ []) are.are;
+  pushed = ap (λ (l : List Level). l ++ level ∷ []) are.pushed ∙ append_assoc old are.levels (level ∷ []);
 }

@@ -1,6 +1,6 @@
 -- Laws of levels: each that is made has all facts, and so have the cells of all of them together.
 use Rattle.std.proofs.Common.{◌≡◌, ℕ, ◌+◌, ◌*◌, ◌^◌, ◌<◌, ◌≤◌, ◌==◌, ◌⊎◌, List, [], ◌∷◌, ◌++◌, Bool, true, false, ◌&&◌, ◌||◌, refl, sym, ap, ◌∙◌, subst, arith, inl, inr, length, map, append_assoc, Option, Some, None, if◌then◌else◌}
-use Rattle.std.specs.Prelude.{All, IfSome, IsSome, is_some, bit_and, reverse}
+use Rattle.std.specs.Prelude.{All, IfSome, IsSome, is_some, bit_and}
 use Rattle.std.specs.List.{AllByRecursion, IsDistinct, list_any}
 use Rattle.std.specs.List.Sorted.{IsPermutation, IsStrictlySortedBy}
 use Rattle.std.specs.Map.{keys_of}
@@ -8,7 +8,7 @@ use Rattle.std.specs.Ordering.{nat_cmp, eq_by_cmp}
 use Rattle.std.proofs.lemmas.Bool.{cases_Bool, cases_eq, cases_lt, and_parts, or_cases, both_ways, eqb-true, ne_eqb, false_from_ne_true}
 use Rattle.std.proofs.lemmas.List.{append-nil, map-append}
 use Rattle.std.proofs.lemmas.List.Elements.{All-head, All-tail, All-nil, All-cons, All-append, All-contains, All-push, All-weaker, Contains-push, recursion_from_All}
-use Rattle.std.proofs.lemmas.List.Sorted.{All-permutation, Contains-permutation, IsPermutation-sym, IsPermutation-reverse, IsPermutation-append_left, list_any-IsPermutation, sum_by-IsPermutation}
+use Rattle.std.proofs.lemmas.List.Sorted.{All-permutation, Contains-permutation, IsPermutation-sym, IsPermutation-append_left, list_any-IsPermutation, sum_by-IsPermutation}
 use Rattle.std.proofs.lemmas.List.Sums.{sum_by-append, sum_by-cons}
 use Rattle.std.proofs.lemmas.Cmp.{nat_eq_equiv}
 use Rattle.std.proofs.lemmas.Map.Keys.{IsDistinct-IsPermutation, IsDistinct-cons, IsDistinct-head, IsDistinct-tail}
@@ -320,17 +320,17 @@ IsCubeOf-AreFilled schema sets number dictionaries finest cells facts within asc
     by_kept true = first.all
     by_kept false = HaveAll-nil schema dictionaries facts
 
-  names : sets_of filled.levels ≡ reverse filled.coarser
-  names = sets_of-MakesLevels (length schema.measures) finest (reverse filled.coarser) [] filled.levels filled.made
+  names : sets_of filled.levels ≡ filled.made.order
+  names = sets_of-MakesLevels (length schema.measures) finest filled.made.order [] filled.levels filled.made.makes
 
   moved : IsPermutation (sets_of filled.levels ++ kept) sets
-  moved = rw (names, filled.sets_are) (IsPermutation-append_left kept (reverse filled.coarser) filled.coarser (IsPermutation-sym filled.coarser (reverse filled.coarser) (IsPermutation-reverse filled.coarser)))
+  moved = rw (names, filled.sets_are) (IsPermutation-append_left kept filled.made.order filled.coarser (IsPermutation-sym filled.coarser filled.made.order filled.made.moved))
 
   once : IsDistinct is_same_set (sets_of filled.levels ++ kept)
   once = IsDistinct-IsPermutation is_same_set is_same_set-sym sets (sets_of filled.levels ++ kept) (IsPermutation-sym (sets_of filled.levels ++ kept) sets moved) (is_same_set-IsDistinct sets ascending)
 
   levels : All (IsLevel schema dictionaries facts) filled.levels
-  levels = IsLevel-MakesLevels schema dictionaries facts finest (reverse filled.coarser) [] filled.levels base first filled.made (All-nil (IsLevel schema dictionaries facts))
+  levels = IsLevel-MakesLevels schema dictionaries facts finest filled.made.order [] filled.levels base first filled.made.makes (All-nil (IsLevel schema dictionaries facts))
 
   together : HaveAll schema dictionaries facts sets (joined_cells filled.levels start)
   together = HaveAll-IsPermutation_sets schema dictionaries facts (sets_of filled.levels ++ kept) sets (joined_cells filled.levels start) moved (HaveAll-joined_cells schema dictionaries facts filled.levels kept start base levels of_start once)

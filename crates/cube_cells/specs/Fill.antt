@@ -1,6 +1,7 @@
 -- Filling a cube at once: the cells of each grouping set are made from those of a finer one (Gray et al. 1997; which finer one is this project's choice).
-use Rattle.std.specs.Prelude.{◌≡◌, ◌+◌, ◌-◌, ◌*◌, ◌<◌, ◌==◌, ◌^◌, ◌++◌, ℕ, Bool, true, false, bit_and, List, [], ◌∷◌, length, reverse, Option, Some, IfSome, All, Contains, if◌then◌else◌}
+use Rattle.std.specs.Prelude.{◌≡◌, ◌+◌, ◌-◌, ◌*◌, ◌<◌, ◌==◌, ◌^◌, ◌++◌, ℕ, Bool, true, false, bit_and, List, [], ◌∷◌, length, map, get_or, Result, Ok, Option, Some, IfOk, IfSome, All, Contains, if◌then◌else◌}
 use Rattle.std.specs.List.Sorted.{IsPermutation}
+use Rattle.std.specs.declared.alloc.AllocError.{AllocError}
 use Rattle.cube_core.specs.Takes.{fits}
 use Rattle.cube_core.specs.declared.fact.Fact.{Fact}
 use Rattle.cube_cells.specs.Coded.{CodedCells, AreNewCells, same_codes, coded_at}
@@ -61,6 +62,32 @@ MakesLevels measures finest (set ∷ sets) old new =
     (finer : Level) × (level : Level) × Contains (finest ∷ old) finer × IsFiner finer.set set × (level.set ≡ set)
     × AreMadeFrom finer.cells.entries set measures level.cells.entries × MakesLevels measures finest sets (old ++ level ∷ []) new
 
+-- levels of these sets are made, in some order of them
+pub record MakesLevelsOf (measures : ℕ) (finest : Level) (sets : List ℕ) (levels : List Level) : Type 0 where
+  pub order : List ℕ
+  pub moved : IsPermutation sets order
+  pub makes : MakesLevels measures finest order [] levels
+
+-- the level of a set is made from the finest or one that is there
+pub record IsMadeLevel (measures : ℕ) (finest : Level) (levels : List Level) (set : ℕ) (level : Level) : Type 0 where
+  pub finer : Level
+  pub there : Contains (finest ∷ levels) finer
+  pub is_finer : IsFiner finer.set set
+  pub set_is : level.set ≡ set
+  pub made : AreMadeFrom finer.cells.entries set measures level.cells.entries
+  pub width : All (λ cell. length cell.1.bags ≡ measures) level.cells.entries
+
+-- for each set of a layer a result: its level, unless memory was wanting
+pub record AreMadeLevels (measures : ℕ) (finest : Level) (levels : List Level) (layer : List ℕ) (made : List (Result Level AllocError)) : Type 0 where
+  pub long : length made ≡ length layer
+  pub each : (i : ℕ) (unused : Result Level AllocError) → i < length layer → IfOk (get_or made i unused) (IsMadeLevel measures finest levels (get_or layer i 0))
+
+-- each of these results is a level, and they were put behind others
+pub record ArePushed (results : List (Result Level AllocError)) (old new : List Level) : Type 0 where
+  pub levels : List Level
+  pub are : map Ok levels ≡ results
+  pub pushed : new ≡ old ++ levels
+
 -- the cells of levels, one level before another, and then others
 abbrev pub joined_cells : List Level → CodedCells → CodedCells
 joined_cells [] others = others
@@ -80,5 +107,5 @@ pub record AreFilled (finest : Level) (sets : List ℕ) (measures : ℕ) (cells 
   pub coarser : List ℕ
   pub levels : List Level
   pub sets_are : sets ≡ coarser ++ (if keeps_finest then finest.set ∷ [] else [])
-  pub made : MakesLevels measures finest (reverse coarser) [] levels
+  pub made : MakesLevelsOf measures finest coarser levels
   pub joined : AreJoined levels (if keeps_finest then finest.cells.entries else []) cells

@@ -21,6 +21,7 @@ mod queries;
 mod ranks;
 mod rows;
 mod walk;
+mod workers;
 
 use crate::cell::Cell;
 use codes::{ALL, Codes};

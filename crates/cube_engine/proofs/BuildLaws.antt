@@ -11,10 +11,11 @@ use Rattle.cube_core.specs.Arrival.{Arrivals, of_source, of_sources}
 use Rattle.cube_core.specs.Layout.{Layout}
 use Rattle.cube_core.specs.Run.{Told, IsGood, AreItemsOf, AreGood}
 use Rattle.cube_core.specs.declared.change.Item.{Item}
-use Rattle.cube_engine.specs.Build.{Builds, TakesFeed, StopsFeed, ExplainsBuild, IsFaultOf}
+use Rattle.cube_feed.specs.Faults.{IsFaultOf}
+use Rattle.cube_engine.specs.Build.{Builds, TakesFeed, StopsFeed, ExplainsBuild}
 use Rattle.cube_engine.specs.Ledger.{LedgerView, LedgerStandsAt}
-use Rattle.cube_engine.specs.declared.fault.RunFault.{RunFault}
-use Rattle.cube_engine.specs.declared.fault.RunFault.TheVariants.{Memory, NoThread, Feed, Full, Unsealed, Write}
+use Rattle.cube_engine.specs.declared.fault.BuildFault.{BuildFault}
+use Rattle.cube_engine.specs.declared.fault.BuildFault.TheVariants.{Memory, Feed, Full}
 use Rattle.cube_engine.proofs.FeedLaws.{from_source}
 
 -- the arrival list of feeds one after another, from a source on
@@ -148,13 +149,10 @@ get_or-seam [] rest bytes = refl
 get_or-seam (x ∷ done) rest bytes = get_or-seam done rest bytes
 
 -- a feed that stopped is the lowest at fault
-pub ExplainsBuild-stops : (s : Layout) (sources left rest : Told) (bytes : Option (List ℕ)) (count : ℕ) (ledger : LedgerView) (fault : RunFault) → left ≡ bytes ∷ rest
+pub ExplainsBuild-stops : (s : Layout) (sources left rest : Told) (bytes : Option (List ℕ)) (count : ℕ) (ledger : LedgerView) (fault : BuildFault) → left ≡ bytes ∷ rest
     → HasBuilt s sources left count ledger → StopsFeed s bytes (count + 1) fault → ExplainsBuild s sources fault
 ExplainsBuild-stops s sources left rest bytes count ledger Memory is built stops = tt
-ExplainsBuild-stops s sources left rest bytes count ledger NoThread is built stops = absurd stops
 ExplainsBuild-stops s sources left rest bytes count ledger Full is built stops = tt
-ExplainsBuild-stops s sources left rest bytes count ledger (Unsealed source) is built stops = absurd stops
-ExplainsBuild-stops s sources left rest bytes count ledger (Write sent) is built stops = absurd stops
 ExplainsBuild-stops s sources left rest bytes count ledger (Feed source fault) is built stops =
     let whole : sources ≡ built.done ++ bytes ∷ rest = built.split ∙ ap (λ l. built.done ++ l) is in
     let place : source - 1 ≡ length built.done = omega (arith, stops.0, built.counted) in

@@ -1,16 +1,15 @@
 -- A feed taken into a ledger, item by item: what was taken, and what is to come.
-use Rattle.std.proofs.Common.{◌≡◌, ℕ, false, List, [], ◌∷◌, ◌++◌, length, map, refl, sym, ap, ◌∙◌, subst, append_assoc}
-use Rattle.std.specs.Prelude.{⊤, Option, Some, None, option_map, Result, Ok, Err, is_err, OnOk}
+use Rattle.std.proofs.Common.{◌≡◌, ℕ, List, [], ◌∷◌, ◌++◌, length, map, refl, sym, ap, ◌∙◌, subst, append_assoc}
+use Rattle.std.specs.Prelude.{⊤, Option, Some, None, option_map, Ok}
 use Rattle.std.proofs.Math.ListN.{length-set}
 use Rattle.std.proofs.lemmas.List.{append-nil, map-append}
 use Rattle.cube_core.specs.Arrival.{Arrivals}
 use Rattle.cube_core.specs.Layout.{Layout}
 use Rattle.cube_core.specs.Records.{records_of}
-use Rattle.cube_core.specs.Items.{Coming, FeedEnd, Good, WrongHeader, TooManyRecords, items_of}
+use Rattle.cube_core.specs.Items.{Coming, items_of}
 use Rattle.cube_core.specs.declared.change.Item.{Item}
-use Rattle.cube_feed.specs.Feed.{Ahead, FeedView, Gives, to_come, fault_of}
+use Rattle.cube_feed.specs.Feed.{Ahead, FeedView, Gives, to_come}
 use Rattle.cube_feed.specs.declared.fault.FeedFault.{FeedFault}
-use Rattle.cube_feed.specs.declared.fault.FeedFault.TheVariants.{Header, TooMany}
 use Rattle.cube_engine.specs.Ledger.{LedgerView, AtSource, Enters, LedgerStandsAt}
 
 -- what is to come of a feed at its start, where its bytes are told
@@ -84,25 +83,3 @@ HasTaken-more s bytes source old feed next now new item gives same at stands tak
       subst (LedgerStandsAt new) (from_source-more arrivals source taken.done item)
       (stands (arrivals ++ from_source source taken.done) (taken.stands arrivals before));
 }
-
--- a feed with no fault at its end is good
-pub fault_of-None : (end : FeedEnd) → fault_of end ≡ None → end ≡ Good
-fault_of-None Good none = refl
-fault_of-None WrongHeader none = cc
-fault_of-None TooManyRecords none = cc
-
--- the end of a feed tells the fault that it answers
-pub fault_of-Header : (end : FeedEnd) → fault_of end ≡ Some Header → end ≡ WrongHeader
-fault_of-Header Good is = cc
-fault_of-Header WrongHeader is = refl
-fault_of-Header TooManyRecords is = cc
-
-pub fault_of-TooMany : (end : FeedEnd) → fault_of end ≡ Some TooMany → end ≡ TooManyRecords
-fault_of-TooMany Good is = cc
-fault_of-TooMany WrongHeader is = cc
-fault_of-TooMany TooManyRecords is = refl
-
--- a call that didn't fail did what it promises
-pub OnOk-holds : {T E : Type 0} (r : Result T E) (P : Type 0) → is_err r ≡ false → OnOk r P → P
-OnOk-holds (Ok x) P fine holds = holds
-OnOk-holds (Err e) P fine holds = cc

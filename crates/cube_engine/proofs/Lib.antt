@@ -9,3 +9,4 @@ pub mod BuildLaws
 pub mod RulingLaws
 pub mod BuilderLaws
 pub mod FillLaws
+pub mod TakingLaws

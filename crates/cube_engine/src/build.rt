@@ -3,7 +3,7 @@ ghost use Rattle.std.specs.Prelude.{◌≡◌, ◌≤◌, length, map, vec_len, 
 ghost use Rattle.cube_engine.specs.Build.{Builds, BuildsWhole, ExplainsBuild, StopsFeed, TakesFeed};
 
 use crate::builder::Builder;
-use crate::fault::RunFault;
+use crate::fault::BuildFault;
 use crate::ledger::Ledger;
 use cube_cells::Cube;
 use cube_core::Schema;
@@ -20,13 +20,13 @@ pub fn build_ledger<R: Read + Drop>(
     alloc: Global,
     schema: &Schema,
     readers: Vec<R>,
-) -> Result<Ledger, RunFault>
+) -> Result<Ledger, BuildFault>
     requires { vec_len readers ≤ 64 }
     ensures ok { IfOk result (Builds schema.now (map R.Read.remaining readers.items)) }
     ensures err { IfErr result (ExplainsBuild schema.now (map R.Read.remaining readers.items)) }
 {
     let Ok(mut ledger) = Ledger::new(alloc, schema, readers.len() as u32) else {
-        return Err(RunFault::Memory);
+        return Err(BuildFault::Memory);
     };
     let mut source = 0;
     for reader in readers {
@@ -45,18 +45,18 @@ pub fn build_plain<R: Read + Drop>(
     alloc: Global,
     schema: &Schema,
     readers: Vec<R>,
-) -> Result<Builder, RunFault>
+) -> Result<Builder, BuildFault>
     requires { vec_len readers ≤ 64 }
     ensures ok { IfOk result (BuildsWhole schema.now (map R.Read.remaining readers.items)) }
     ensures err { IfErr result (ExplainsBuild schema.now (map R.Read.remaining readers.items)) }
 {
     let Ok(cube) = Cube::new(alloc, schema) else {
-        return Err(RunFault::Memory);
+        return Err(BuildFault::Memory);
     };
     let ledger = build_ledger(alloc, schema, readers)?;
     match Builder::of(ledger, cube) {
         Ok(builder) => Ok(builder),
-        Err(_) => Err(RunFault::Full),
+        Err(_) => Err(BuildFault::Full),
     }
 }
 
@@ -67,7 +67,7 @@ fn take_feed<R: Read + Drop>(
     ledger: &mut Ledger,
     source: u32,
     reader: R,
-) -> Result<(), RunFault>
+) -> Result<(), BuildFault>
     requires first { 1 ≤ source }
     requires last { source ≤ length ledger.old.accounts }
     requires schema { ledger.old.schema ≡ schema.now }
@@ -80,10 +80,10 @@ fn take_feed<R: Read + Drop>(
         let item = match feed.next() {
             Ok(Some(item)) => item,
             Ok(None) => return Ok(()),
-            Err(fault) => return Err(RunFault::Feed { source, fault }),
+            Err(fault) => return Err(BuildFault::Feed { source, fault }),
         };
         if ledger.apply_taken(source, item).is_err() {
-            return Err(RunFault::Full);
+            return Err(BuildFault::Full);
         }
     }
 }

@@ -15,6 +15,7 @@ use cube_cells::Cube;
 use cube_core::{Fact, Item, Refusal, Schema, Text};
 use std::alloc::{AllocError, Global};
 use std::marker::Model;
+use std::thread::Threads;
 
 /// What 1 to 64 sources have sent so far: the books and the refusals of each, and the cube of the facts in all books.
 ///
@@ -84,6 +85,27 @@ impl Builder {
         fill(&mut finest, &ledger)?;
         let mut cube = cube;
         cube.fill(finest)?;
+        Ok(Builder { ledger, cube })
+    }
+
+    /// The builder of a ledger as [`Builder::of`] makes it, with the cube's cells made by as many threads as this says.
+    /// With one thread, or none, no thread is started.
+    pub fn of_with<T: Threads + Sync>(
+        rt: &T,
+        threads: usize,
+        ledger: Ledger,
+        cube: Cube,
+    ) -> Result<Builder, AllocError>
+        requires schema { cube.schema ≡ ledger.schema }
+        requires empty { HasFacts [] cube }
+        ensures ledger { IfOk result (λ builder. builder.ledger ≡ ledger) }
+        ensures same { IfOk result (λ builder. SameSets cube builder.cube) }
+        ensures has { IfOk result (λ builder. HasFacts (all_facts ledger.accounts) builder.cube) }
+    {
+        let mut finest = cube.finest()?;
+        fill(&mut finest, &ledger)?;
+        let mut cube = cube;
+        cube.fill_with(rt, threads, finest)?;
         Ok(Builder { ledger, cube })
     }
 

@@ -15,9 +15,10 @@ mod fill;
 pub mod laws;
 mod ledger;
 mod ruling;
+mod taking;
 
 pub use book::{Book, BookFault, Delta};
 pub use build::{build_ledger, build_plain};
 pub use builder::Builder;
-pub use fault::RunFault;
+pub use fault::BuildFault;
 pub use ledger::Ledger;

@@ -5,3 +5,4 @@ pub mod ContiguousLaws
 pub mod LineLaws
 pub mod HeaderLaws
 pub mod FeedLaws
+pub mod FaultLaws

@@ -1,6 +1,7 @@
 //! The reader of a feed: from the bytes that any reader gives to the items that they say, one at a time.
 //!
-//! [`Feed::next`] gives the items in order, then `None`; a [`FeedFault`] is its last word.
+//! [`Feed::next`] gives the items in order, then `None`; a [`FeedFault`] is its last word. What takes the items of
+//! several feeds in is told by [`TakesItems`] alone.
 #![tactic(auto)]
 
 mod contiguous;
@@ -11,6 +12,8 @@ mod header;
 mod line;
 mod records;
 mod spelled_list;
+mod takes_items;
 
 pub use fault::FeedFault;
 pub use feed::Feed;
+pub use takes_items::TakesItems;

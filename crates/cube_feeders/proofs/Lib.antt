@@ -2,3 +2,6 @@ pub mod PlaceLaws
 pub mod SendLaws
 pub mod GatherLaws
 pub mod WireLaws
+pub mod TakeLaws
+pub mod SettleLaws
+pub mod JoinedLaws

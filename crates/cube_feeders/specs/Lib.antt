@@ -4,3 +4,5 @@ pub mod Ends
 pub mod Gathering
 pub mod Starting
 pub mod Wiring
+pub mod Settling
+pub mod FeedingAll

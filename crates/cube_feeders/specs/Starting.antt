@@ -13,13 +13,13 @@ pub record IsReady {B : Type 0} (sources : B → ℕ) (stands : B → B → Arri
   pub fresh : AreFresh gatherer.inlets.items
   pub stands_at : stands gatherer.builder gatherer.builder []
 
--- what a builder has gathered from its links: each has given the lines of its source's arrivals and then its end, and the builder is
--- completed at these arrivals where memory was never wanting
-pub record HasGathered {B : Type 0} (completes : B → B → Arrivals → Type 0) (old new : Gatherer B) : Type 0 where
+-- what a builder has gathered from its links: each has given the lines of its source's arrivals and then its end, and the builder
+-- stands at these arrivals where memory was never wanting
+pub record HasGathered {B : Type 0} (stands : B → B → Arrivals → Type 0) (old new : Gatherer B) : Type 0 where
   pub arrivals : Arrivals
   pub links : map (λ inlet. inlet.link) new.inlets.items ≡ map (λ inlet. inlet.link) old.inlets.items
   pub received : map (λ inlet. inlet.received) new.inlets.items ≡ map parcels_of (of_sources (length old.inlets.items) arrivals)
-  pub complete : new.wanting ≡ false → completes old.builder new.builder arrivals
+  pub stands_at : new.wanting ≡ false → stands old.builder new.builder arrivals
 
 -- no feeder was joined yet, and there are room for so many ends and a post for each of so many threads
 pub record HasRoom {B : Type 0} (feeders threads : ℕ) (roster : Roster B) : Type 0 where

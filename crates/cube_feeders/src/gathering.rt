@@ -5,7 +5,7 @@ ghost use Rattle.cube_core.specs.Arrival.{Arrivals};
 ghost use Rattle.cube_feeders.specs.Gathering.{AreFresh, StandsAtFirst, Looks, Gathering, Gathers};
 ghost use Rattle.cube_feeders.specs.declared.parcel.Parcel.{Parcel as TheParcel};
 
-use crate::builds::Builds;
+use cube_feed::TakesItems;
 use crate::gate::Gate;
 use crate::parcel::Parcel;
 use crate::patience::wait_for_parcels;
@@ -22,7 +22,7 @@ const MOST_SOURCES: usize = 64;
 const MOST_AT_A_VISIT: u32 = 32;
 
 // Applies an item, or drops it where memory was wanting before; waits for good where the builder is full.
-fn accept<W: Wait, B: Builds>(rt: &W, builder: &mut B, source: u32, item: Item, wanting: &mut bool)
+fn accept<W: Wait, B: TakesItems>(rt: &W, builder: &mut B, source: u32, item: Item, wanting: &mut bool)
     requires { (1 ≤ source) × (source ≤ B.sources builder.old) }
     ensures sources { B.sources builder.new ≡ B.sources builder.old }
     ensures stands { (first : B) (arrivals : Arrivals) →
@@ -38,11 +38,11 @@ fn accept<W: Wait, B: Builds>(rt: &W, builder: &mut B, source: u32, item: Item, 
         }
         unreachable!()
     }
-    *wanting = builder.apply(source, item).is_err();
+    *wanting = builder.take_item(source, item).is_err();
 }
 
 // Looks once at a link that hasn't ended. Whether a parcel was there.
-fn look<W: Wait, B: Builds, G: Gate>(
+fn look<W: Wait, B: TakesItems, G: Gate>(
     rt: &W,
     number: u32,
     source: u32,
@@ -72,7 +72,7 @@ fn look<W: Wait, B: Builds, G: Gate>(
 }
 
 // Looks at a link that hasn't ended, and again while parcels are there. Whether one was there.
-fn visit<W: Wait, B: Builds, G: Gate>(
+fn visit<W: Wait, B: TakesItems, G: Gate>(
     rt: &W,
     number: u32,
     source: u32,
@@ -104,7 +104,7 @@ fn visit<W: Wait, B: Builds, G: Gate>(
 }
 
 // Visits each link that hasn't ended. Whether a parcel was in any of them.
-fn look_round<W: Wait, B: Builds, G: Gate>(
+fn look_round<W: Wait, B: TakesItems, G: Gate>(
     rt: &W,
     number: u32,
     builder: &mut B,
@@ -160,7 +160,7 @@ fn have_ended(ended: &[bool; MOST_SOURCES], count: usize) -> bool
 /// It goes round the links, takes up to 32 parcels from each, and after a round in which nothing was found it naps as
 /// briefly as the system lets it, or yields where the links have room for less than 64 parcels. The only error is want of memory: from the item on that finds none it goes on taking, and drops what comes. Where the
 /// builder is full it waits for good.
-pub fn gather<W: Wait, B: Builds, G: Gate>(
+pub fn gather<W: Wait, B: TakesItems, G: Gate>(
     rt: &W,
     number: u32,
     builder: &mut B,

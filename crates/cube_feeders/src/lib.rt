@@ -1,34 +1,34 @@
-//! The feeders of a run: a thread for each source, whose items are gathered over links by one to eight builders.
+//! The feeders of a build: a thread for each source, whose items one to eight builders take from links.
 //!
-//! [`set_up`] links a feeder of each reader to every builder, and [`run_together`] runs them all in one scope.
-//! [`feed_out`] sends the items of a feed to each builder, as [`Parcel`]s over a link of their own, and [`gather`]
-//! takes them in. What items are gathered into is told by [`Builds`] alone.
+//! [`feed_all`] runs the feeds of all sources into whatever [takes items](cube_feed::TakesItems), and holds the receipts
+//! of all links against what was taken. [`feed_out`] sends the items of one feed to each builder, as [`Parcel`]s over
+//! a link of their own, and [`gather`] takes them in.
 #![tactic(auto)]
 
-mod builders;
-mod builds;
 mod copies;
 mod ends;
-mod feeders;
+mod fault;
 mod feeding;
+mod feeding_all;
 mod gate;
 mod gathering;
 mod offering;
 mod parcel;
 mod patience;
 mod roster;
+mod settling;
 mod setup;
+mod starting_builders;
+mod starting_feeders;
 mod together;
 mod wiring;
 mod words;
 
-pub use builds::Builds;
 pub use ends::{first_stop, first_unsealed};
+pub use fault::FeedingFault;
 pub use feeding::feed_out;
+pub use feeding_all::feed_all;
 pub use gate::{Gate, OpenGate};
 pub use gathering::gather;
 pub use parcel::{FeederEnd, Parcel};
-pub use roster::{Feeder, Gatherer, NoThread, Roster};
-pub use setup::{Setup, set_up};
-pub use together::run_together;
-pub use words::Word;
+pub use roster::Gatherer;

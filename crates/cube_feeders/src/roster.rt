@@ -1,5 +1,5 @@
 //! Who takes part in a run, and what is kept of them.
-use crate::builds::Builds;
+use cube_feed::TakesItems;
 use crate::parcel::{FeederEnd, Parcel};
 use crate::words::Word;
 use cube_feed::Feed;
@@ -15,7 +15,7 @@ pub struct Feeder<'e, R: Read + Drop> {
 
 /// A builder with its links from the sources, and whether memory was wanting for it.
 #[derive(Drop)]
-pub struct Gatherer<B: Builds> {
+pub struct Gatherer<B: TakesItems> {
     pub builder: B,
     pub inlets: Vec<Inlet<Parcel>>,
     pub wanting: bool,
@@ -23,7 +23,7 @@ pub struct Gatherer<B: Builds> {
 
 /// The ends of the links for the threads' words, and what the joined threads gave back.
 #[derive(Drop)]
-pub struct Roster<B: Builds> {
+pub struct Roster<B: TakesItems> {
     pub words: Vec<Outlet<Word>>,
     pub posts: Vec<Inlet<Word>>,
     pub ends: Vec<FeederEnd>,

@@ -3,7 +3,7 @@ ghost use Rattle.std.specs.Prelude.{◌≡◌, ◌≤◌, map, vec_len, IfOk};
 ghost use Rattle.cube_feeders.specs.Starting.{MayStart};
 ghost use Rattle.cube_feeders.specs.Wiring.{coming_of, AreLinked};
 
-use crate::builds::Builds;
+use cube_feed::TakesItems;
 use crate::roster::{Feeder, Gatherer, Roster};
 use crate::wiring::{feeders_of, gatherers_of, words_for};
 use cube_core::Schema;
@@ -12,14 +12,14 @@ use std::io::Read;
 
 /// The builders and the feeders of a run, linked, and room for what their threads give back.
 #[derive(Drop)]
-pub struct Setup<'e, R: Read + Drop, B: Builds> {
+pub struct Setup<'e, R: Read + Drop, B: TakesItems> {
     pub gatherers: Vec<Gatherer<B>>,
     pub feeders: Vec<Feeder<'e, R>>,
     pub roster: Roster<B>,
 }
 
 /// Links a feeder of each reader to every builder. The only error is want of memory.
-pub fn set_up<'e, R: Read + Drop, B: Builds>(
+pub fn set_up<'e, R: Read + Drop, B: TakesItems>(
     alloc: Global,
     schema: &'e Schema,
     readers: Vec<R>,

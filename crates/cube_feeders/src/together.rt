@@ -4,8 +4,8 @@ ghost use Rattle.std.specs.List.{All, AllZip};
 ghost use Rattle.cube_feeders.specs.Feeding.{Feeds};
 ghost use Rattle.cube_feeders.specs.Starting.{MayStart, IsReady, HasGathered};
 
-use crate::builders::with_builders;
-use crate::builds::Builds;
+use crate::starting_builders::with_builders;
+use cube_feed::TakesItems;
 use crate::gate::Gate;
 use crate::roster::{Feeder, Gatherer, NoThread, Roster};
 use std::alloc::Global;
@@ -20,7 +20,7 @@ pub fn run_together<
     'e,
     T: Threads + Wait + Sync + 'e,
     R: Read + Drop + Send + 'e,
-    B: Builds + Send + 'e,
+    B: TakesItems + Send + 'e,
     G: Gate + Sync + 'e,
 >(
     rt: &'e T,
@@ -38,7 +38,7 @@ pub fn run_together<
         (λ feeder end. Feeds feeder.feed.to_come feeder.outlets.items end)
         feeders.entry.items result.0.ends.items) }
     ensures gatherers { OnOk result.1
-        (AllZip (HasGathered B.completes) builders.items result.0.gatherers.items) }
+        (AllZip (HasGathered B.stands) builders.items result.0.gatherers.items) }
 {
     thread::scope(
         thread::scope_env(),
@@ -53,7 +53,7 @@ pub fn run_together<
                 (λ feeder end. Feeds feeder.feed.to_come feeder.outlets.items end)
                 feeders.entry.items result.0.ends.items) }
             ensures gatherers { OnOk result.1
-                (AllZip (HasGathered B.completes) builders.items result.0.gatherers.items) }
+                (AllZip (HasGathered B.stands) builders.items result.0.gatherers.items) }
         {
             let mut roster = roster;
             let answer = with_builders(rt, alloc, scope, gate, builders, feeders, &mut roster);

@@ -3,7 +3,7 @@ ghost use Rattle.std.specs.Prelude.{◌≡◌, ◌≤◌, [], length, map, vec_l
 ghost use Rattle.std.specs.List.{All};
 ghost use Rattle.cube_feeders.specs.Wiring.{coming_of, Connects, AreLinked};
 
-use crate::builds::Builds;
+use cube_feed::TakesItems;
 use crate::parcel::Parcel;
 use crate::roster::{Feeder, Gatherer};
 use crate::words::Word;
@@ -14,7 +14,7 @@ use std::alloc::{AllocError, Global};
 use std::io::Read;
 
 // A link from one source to each builder.
-fn connect<B: Builds>(
+fn connect<B: TakesItems>(
     alloc: Global,
     capacity: usize,
     gatherers: &mut [Gatherer<B>],
@@ -32,7 +32,7 @@ fn connect<B: Builds>(
 }
 
 /// The feeders of all readers, each linked to every builder.
-pub(crate) fn feeders_of<'e, R: Read + Drop, B: Builds>(
+pub(crate) fn feeders_of<'e, R: Read + Drop, B: TakesItems>(
     alloc: Global,
     schema: &'e Schema,
     readers: Vec<R>,
@@ -58,7 +58,7 @@ pub(crate) fn feeders_of<'e, R: Read + Drop, B: Builds>(
 }
 
 /// The builders, each with room for a link from each source.
-pub(crate) fn gatherers_of<B: Builds>(
+pub(crate) fn gatherers_of<B: TakesItems>(
     alloc: Global,
     builders: Vec<B>,
     sources: usize,

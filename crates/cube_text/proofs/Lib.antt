@@ -1,4 +1,6 @@
 mod AppendLaws
 mod ColumnLaws
 pub mod LineLaws
+pub mod PartLaws
+pub mod PieceLaws
 pub mod RowShapeLaws

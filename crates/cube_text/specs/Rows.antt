@@ -1,5 +1,5 @@
 -- The text of cells in an order, each printed as its row (this project's choice).
-use Rattle.std.specs.Prelude.{◌≡◌, ◌+◌, ◌<◌, ℕ, List, length, map, get_or, take, All}
+use Rattle.std.specs.Prelude.{◌≡◌, ◌+◌, ◌++◌, ◌<◌, ℕ, List, length, map, get_or, take, All}
 use Rattle.std.specs.Global.{Vec}
 use Rattle.std.specs.List.{AllZip, flat_map}
 use Rattle.cube_core.specs.Answer.{IsAnswer}
@@ -22,21 +22,27 @@ pub record IsTextOfCells (s : Layout) (o : CellsInOrder) (text : List ℕ) : Typ
   pub are_rows : AreRowsInOrder o rows
   pub text_is : text ≡ text_of_rows s rows
 
--- the lines of the rows of cells were added, in their order
-pub record AddsRows (aggregates : List Agg) (cells : Cells) (old new : Lines) : Type 0 where
-  pub rows : List Row
-  pub are_rows : AllZip (IsRowOf aggregates) cells rows
-  pub added : AddsText (flat_map row_line rows) old new
-
 -- the line of the row of a cell was added
 pub record AddsRow (aggregates : List Agg) (cell : Key × Tally) (old new : Lines) : Type 0 where
   pub row : Row
   pub is_row : IsRowOf aggregates cell row
   pub added : AddsText (row_line row) old new
 
--- after the lines of the first cells up to one place, those up to another were added
-abbrev pub GoesOn : CellsInOrder → ℕ → ℕ → Lines → Lines → Type 0
-GoesOn o from to old new = (start : Lines) → AddsRows o.aggregates (take from o.cells) start old → AddsRows o.aggregates (take to o.cells) start new
+-- put behind the rows of the first cells up to a place, these rows are those of the first cells up to another
+abbrev pub RowsGoOn : CellsInOrder → ℕ → ℕ → List Row → Type 0
+RowsGoOn o from to rows = (before : List Row) → AllZip (IsRowOf o.aggregates) (take from o.cells) before → AllZip (IsRowOf o.aggregates) (take to o.cells) (before ++ rows)
+
+-- the lines of the rows of the cells from a place to another were added
+pub record GoesOn (o : CellsInOrder) (from to : ℕ) (old new : Lines) : Type 0 where
+  pub rows : List Row
+  pub go_on : RowsGoOn o from to rows
+  pub added : AddsText (flat_map row_line rows) old new
+
+-- this is the text of the lines of the rows of the cells from a place to another
+pub record IsTextOfPart (o : CellsInOrder) (from to : ℕ) (text : List ℕ) : Type 0 where
+  pub rows : List Row
+  pub go_on : RowsGoOn o from to rows
+  pub text_is : text ≡ flat_map row_line rows
 
 -- the answer of an aggregate over any facts that this is the tally of
 abbrev pub IsAnswerOf : Agg → Tally → Answer → Type 0

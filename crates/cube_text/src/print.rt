@@ -1,22 +1,24 @@
 //! The rows of a cube as text.
 
-ghost use Rattle.std.specs.Prelude.{◌≡◌, ◌<◌, ◌≤◌, ◌+◌, ◌++◌, length, get_or, map, codes, decimal, All, OnOk, IfOk};
+ghost use Rattle.std.specs.Prelude.{◌≡◌, ℕ, ◌<◌, ◌≤◌, ◌+◌, ◌*◌, ◌++◌, min, length, get_or, map, codes, decimal, All, OnOk, IfOk};
 ghost use Rattle.std.specs.List.{flat_map};
 ghost use Rattle.std.specs.Fmt.{signed_decimal};
 ghost use Rattle.cube_core.specs.Text.{line, header_fields, grouping_name, coord_text, grouping_text, answer_text, row_line, text_of_rows};
 ghost use Rattle.cube_text.specs.Lines.{AddsFields, AddsText};
 ghost use Rattle.cube_cells.specs.Keyed.{referred_coord};
-ghost use Rattle.cube_text.specs.Rows.{AddsRow, AddsRows, AreColumns, GoesOn, IsColumn, IsTextOfCells, answers_at};
+ghost use Rattle.cube_text.specs.Rows.{AddsRow, AreColumns, GoesOn, IsColumn, IsTextOfCells, IsTextOfPart, answers_at};
 ghost use Rattle.cube_core.specs.declared.key.Key.{Key};
 ghost use Rattle.cube_cells.specs.Rows.{AreAnswersOf};
 ghost use Rattle.cube_cells.specs.Tally.{Tally};
 ghost use Rattle.cube_text.specs.Shape.{HasShapeOf};
 
 use crate::lines::{Lines, end_line, into_text, no_lines, put_field};
+use crate::pieces::{Pieces, gather};
 use cube_cells::{CoordRef, KeyedCell, OrderedCells};
 use cube_core::{Agg, Answer, Coord, Row, Schema, Text};
 use itoa::Buffer;
 use std::alloc::{AllocError, Global};
+use std::thread::{Threads, map_indices};
 
 // For how many lines the answers are found at a time.
 const BLOCK: usize = 64;
@@ -46,8 +48,87 @@ pub fn print_cells(
 {
     let mut lines = no_lines(alloc);
     put_header(alloc, &mut lines, schema)?;
-    put_cells(alloc, &mut lines, cells)?;
+    put_cells(alloc, &mut lines, cells, 0, cells.len())?;
     into_text(lines)
+}
+
+/// The text that [`print_cells`] gives, in pieces: the cells are cut into as many parts as there are threads, and each
+/// thread makes the lines of one. With one thread, or none, no thread is started.
+///
+/// The only error is want of memory.
+pub fn print_cells_in_pieces<T: Threads + Sync>(
+    rt: &T,
+    alloc: Global,
+    schema: &Schema,
+    cells: &OrderedCells,
+    threads: usize,
+) -> Result<Pieces, AllocError>
+    ensures { IfOk result (IsTextOfCells schema.now cells.now) }
+{
+    let header = text_of_header(alloc, schema)?;
+    let parts = threads.max(1);
+    let size = cells.len().div_ceil(parts);
+    let texts = texts_of_parts(rt, alloc, cells, size, parts)?;
+    gather(alloc, header, texts)
+}
+
+// The lines of the cells of each part, each made on a thread of its own.
+fn texts_of_parts<T: Threads + Sync>(
+    rt: &T,
+    alloc: Global,
+    cells: &OrderedCells,
+    size: usize,
+    parts: usize,
+) -> Result<Vec<Result<Vec<u8>, AllocError>>, AllocError>
+    ensures long { IfOk result (λ texts. length texts.items ≡ parts) }
+    ensures each { IfOk result (λ texts. (i : ℕ) (unused : _) → i < parts →
+        IfOk (get_or texts.items i unused) (λ text.
+        IsTextOfPart cells.now (size * i) (size * (i + 1)) text.items)) }
+{
+    map_indices(
+        rt,
+        alloc,
+        parts,
+        &|which| { text_of_part(alloc, cells, size, which) },
+    )
+}
+
+// The header line of the schema.
+fn text_of_header(alloc: Global, schema: &Schema) -> Result<Vec<u8>, AllocError>
+    ensures { IfOk result (λ text. text.items ≡ line (header_fields schema.now)) }
+{
+    let mut lines = no_lines(alloc);
+    put_header(alloc, &mut lines, schema)?;
+    into_text(lines)
+}
+
+// The lines of the cells of a part, where each part but the last has as many cells as the size says.
+fn text_of_part(
+    alloc: Global,
+    cells: &OrderedCells,
+    size: usize,
+    which: usize,
+) -> Result<Vec<u8>, AllocError>
+    ensures { IfOk result (λ text.
+        IsTextOfPart cells.now (size * which) (size * (which + 1)) text.items) }
+{
+    let from = place_within(cells, size, which);
+    let mut lines = no_lines(alloc);
+    put_cells(
+        alloc,
+        &mut lines,
+        cells,
+        from,
+        from + (cells.len() - from).min(size),
+    )?;
+    into_text(lines)
+}
+
+// The place at which a part begins.
+fn place_within(cells: &OrderedCells, size: usize, which: usize) -> usize
+    ensures { result ≡ min (size * which) (length cells.now.cells) }
+{
+    size.saturating_mul(which).min(cells.len())
 }
 
 fn put_header(alloc: Global, lines: &mut Lines, schema: &Schema) -> Result<(), AllocError>
@@ -104,21 +185,29 @@ fn put_rows(alloc: Global, lines: &mut Lines, rows: &[Row]) -> Result<(), AllocE
     Ok(())
 }
 
-fn put_cells(alloc: Global, lines: &mut Lines, cells: &OrderedCells) -> Result<(), AllocError>
-    ensures { OnOk result
-        (AddsRows cells.now.aggregates cells.now.cells lines.old lines.new) }
+// Puts the lines of the cells from a place to another, a block at a time.
+fn put_cells(
+    alloc: Global,
+    lines: &mut Lines,
+    cells: &OrderedCells,
+    from: usize,
+    to: usize,
+) -> Result<(), AllocError>
+    requires order { from ≤ to }
+    requires within { to ≤ length cells.now.cells }
+    ensures { OnOk result (GoesOn cells.now from to lines.old lines.new) }
 {
     let mut fraction = Vec::new(alloc);
-    let mut done = 0;
-    while done < cells.len() {
-        let end = done + (cells.len() - done).min(BLOCK);
+    let mut done = from;
+    while done < to {
+        let end = done + (to - done).min(BLOCK);
         put_block(alloc, lines, &mut fraction, cells, done, end)?;
         done = end;
     }
     Ok(())
 }
 
-// Puts the lines of the cells from a place to another.
+// Puts the lines of the cells from a place to another, whose answers are found first.
 fn put_block(
     alloc: Global,
     lines: &mut Lines,

@@ -3,6 +3,7 @@
 ghost use Rattle.std.specs.Prelude.{◌≤◌, length, take, OnOk, IfErr};
 ghost use Rattle.std.specs.Io.KnownBytes.{Appends};
 
+use crate::pieces::Pieces;
 use std::io::Write;
 use thiserror::Error;
 
@@ -25,6 +26,38 @@ pub fn write_whole<W: Write>(w: &mut W, bytes: &[u8]) -> Result<(), WriteFault>
     ensures part { IfErr result (λ fault.
         Appends (W.contents w.old) (W.contents w.new) (take fault.sent bytes.now)) }
 {
+    send(w, bytes)?;
+    w.flush().map_err(|_| WriteFault { sent: bytes.len() })
+}
+
+/// Writes the pieces of a text, one after the other, as [`write_whole`] writes a text.
+pub fn write_pieces<W: Write>(w: &mut W, text: &Pieces) -> Result<(), WriteFault>
+    ensures whole { OnOk result (Appends (W.contents w.old) (W.contents w.new) text.now) }
+    ensures within { IfErr result (λ fault. fault.sent ≤ length text.now) }
+    ensures part { IfErr result (λ fault.
+        Appends (W.contents w.old) (W.contents w.new) (take fault.sent text.now)) }
+{
+    let mut sent = 0;
+    for piece in text.pieces() {
+        match send(w, piece) {
+            Ok(()) => sent += piece.len(),
+            Err(fault) => {
+                return Err(WriteFault {
+                    sent: sent + fault.sent,
+                });
+            }
+        }
+    }
+    w.flush().map_err(|_| WriteFault { sent })
+}
+
+// Writes the bytes, and flushes nothing.
+fn send<W: Write>(w: &mut W, bytes: &[u8]) -> Result<(), WriteFault>
+    ensures whole { OnOk result (Appends (W.contents w.old) (W.contents w.new) bytes.now) }
+    ensures within { IfErr result (λ fault. fault.sent ≤ length bytes.now) }
+    ensures part { IfErr result (λ fault.
+        Appends (W.contents w.old) (W.contents w.new) (take fault.sent bytes.now)) }
+{
     let mut sent = 0;
     while sent < bytes.len() {
         match w.write(&bytes[sent..]) {
@@ -32,5 +65,5 @@ pub fn write_whole<W: Write>(w: &mut W, bytes: &[u8]) -> Result<(), WriteFault>
             _ => return Err(WriteFault { sent }),
         }
     }
-    w.flush().map_err(|_| WriteFault { sent })
+    Ok(())
 }

@@ -1,6 +1,3 @@
-pub mod TakeLaws
-pub mod RunLaws
-pub mod SettleLaws
 pub mod DraftLaws
 pub mod PartLaws
 pub mod JoinLaws

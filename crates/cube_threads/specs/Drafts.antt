@@ -1,11 +1,13 @@
 -- Ledgers with cubes to be filled, and the builders that are made of them (this project's choice).
-use Rattle.std.specs.Prelude.{◌≡◌, ◌<◌, ℕ, List, [], length, slice_index_or, Option, Some}
+use Rattle.std.specs.Prelude.{◌≡◌, ◌<◌, ℕ, List, [], length, slice_index_or}
 use Rattle.cube_core.specs.Arrival.{Arrivals}
 use Rattle.cube_core.specs.GroupingSet.{sets_of_part}
 use Rattle.cube_core.specs.Layout.{Layout}
 use Rattle.cube_cells.specs.Cube.{Lattice, SameSets}
 use Rattle.cube_engine.specs.Builder.{BuilderView, HasFacts}
 use Rattle.cube_engine.specs.Ledger.{LedgerView, LedgerStandsAt, all_facts}
+use Rattle.cube_feeders.specs.declared.roster.Gatherer.{Gatherer}
+use Rattle.cube_threads.specs.declared.making.MadePart.{MadePart}
 
 -- what a contract sees of a draft: its ledger, and the cube that waits
 pub record DraftView : Type 0 where
@@ -32,10 +34,10 @@ pub record IsNewDraft (s : Layout) (sources parts part : ℕ) (draft : DraftView
   pub sets : draft.cube.sets ≡ sets_of_part part parts s.grouping_sets
   pub stands_at : LedgerStandsAt draft.ledger []
 
--- these are the drafts of the first so many parts, none of which was made a builder
-pub record AreNewDrafts (s : Layout) (sources parts count : ℕ) (drafts : List (Option DraftView)) : Type 0 where
+-- these are the drafts of the first so many parts
+pub record AreNewDrafts (s : Layout) (sources parts count : ℕ) (drafts : List DraftView) : Type 0 where
   pub counted : length drafts ≡ count
-  pub each : (part : ℕ) (d : Option DraftView) → part < count → (draft : DraftView) × (slice_index_or drafts part d ≡ Some draft) × IsNewDraft s sources parts part draft
+  pub each : (part : ℕ) (d : DraftView) → part < count → IsNewDraft s sources parts part (slice_index_or drafts part d)
 
 -- a builder is made of a draft: its cube, over the same sets, has the facts of the ledger's books
 pub record IsMadeOf (draft : DraftView) (builder : BuilderView) : Type 0 where
@@ -43,11 +45,7 @@ pub record IsMadeOf (draft : DraftView) (builder : BuilderView) : Type 0 where
   pub same : SameSets draft.cube builder.cube
   pub has : HasFacts (all_facts draft.ledger.accounts) builder.cube
 
--- the draft of a part, which wasn't made a builder, stands at an arrival list
-abbrev pub PartStandsFrom : Option DraftView → Option DraftView → Arrivals → Type 0
-PartStandsFrom first now arrivals = (old : DraftView) × (first ≡ Some old) × (draft : DraftView) × (now ≡ Some draft) × StandsFrom old draft arrivals
-
--- the builder of a part was made of its draft, which stood at an arrival list
-abbrev pub PartCompletes : Option DraftView → Option BuilderView → Arrivals → Type 0
-PartCompletes first made arrivals =
-    (old : DraftView) × (first ≡ Some old) × (draft : DraftView) × StandsFrom old draft arrivals × (builder : BuilderView) × (made ≡ Some builder) × IsMadeOf draft builder
+-- a part was made of what was fed to its draft: its builder is made of the draft, and has the links by which the feeds came
+pub record IsMadePart (gatherer : Gatherer DraftView) (part : MadePart) : Type 0 where
+  pub builder : IsMadeOf gatherer.builder part.builder
+  pub inlets : part.inlets.items ≡ gatherer.inlets.items

@@ -12,8 +12,10 @@ use Rattle.cube_cells.specs.Cube.{Lattice, IsCubeOf}
 use Rattle.cube_engine.specs.Builder.{BuilderView, StandsAt}
 use Rattle.cube_engine.specs.Ledger.{LedgerView, all_facts}
 use Rattle.cube_link.specs.Link.{Receiving}
-use Rattle.cube_threads.specs.Building.{HasReceived}
+use Rattle.cube_feeders.specs.FeedingAll.{HasReceived}
 use Rattle.cube_feeders.specs.declared.parcel.Parcel.{Parcel}
+use Rattle.cube_feeders.specs.declared.roster.Gatherer.{Gatherer}
+use Rattle.cube_threads.specs.Drafts.{DraftView, IsMadeOf}
 
 -- what a caller sees of the builders of a run: the builders by their parts, and the inlets of each
 pub record BuiltView : Type 0 where
@@ -79,3 +81,10 @@ pub record BuildsParts (s : Layout) (sources : Told) (parts : ℕ) (built : Buil
   pub arrivals : Arrivals
   pub taken : AreTaken s sources arrivals
   pub stands : StandsInParts s (length sources) parts built arrivals
+
+-- the builder of each part was made of the part's draft, and has the links by which the feeds came to it
+pub record AreAllMade (gatherers : List (Gatherer DraftView)) (built : BuiltView) : Type 0 where
+  pub builders : length built.builders ≡ length gatherers
+  pub inlets : length built.inlets ≡ length gatherers
+  pub made : (part : ℕ) (g : Gatherer DraftView) (d : BuilderView) → part < length gatherers → IsMadeOf (slice_index_or gatherers part g).builder (slice_index_or built.builders part d)
+  pub links : (part : ℕ) (g : Gatherer DraftView) → part < length gatherers → slice_index_or built.inlets part [] ≡ (slice_index_or gatherers part g).inlets.items

@@ -1,15 +1,15 @@
 //! The build: builders of the feeds of all sources, in threads.
-ghost use Rattle.std.specs.Prelude.{◌≡◌, ◌≤◌, [], map, vec_len, IfOk, IfErr};
-ghost use Rattle.cube_threads.specs.Building.{ExplainsRun};
+ghost use Rattle.std.specs.Prelude.{◌≡◌, ◌≤◌, [], map, option_map, vec_len, IfOk, IfErr, OnOk, Some};
+ghost use Rattle.cube_feeders.specs.FeedingAll.{ExplainsFeeding};
 ghost use Rattle.cube_threads.specs.Drafts.{AreNewDrafts};
-ghost use Rattle.cube_threads.specs.Parts.{BuildsParts, schema_of_run};
+ghost use Rattle.cube_threads.specs.Parts.{AreAllMade, BuildsParts, schema_of_run};
 
-use crate::built::{Built, Making};
-use crate::draft::{Part, new_parts};
-use crate::running::feed_builders;
+use crate::built::Built;
+use crate::draft::{Draft, new_drafts};
+use crate::making::{Making, make_all};
+use crate::settings::Settings;
 use cube_core::Schema;
-use cube_engine::RunFault;
-use cube_feeders::Gate;
+use cube_feeders::{FeedingFault, Gate, Gatherer, feed_all};
 use std::alloc::{AllocError, Global};
 use std::io::Read;
 use std::sync::Wait;
@@ -21,24 +21,39 @@ fn start(
     schema: &Schema,
     sources: u32,
     parts: u32,
-) -> Result<(Vec<Part>, Making), AllocError>
+) -> Result<(Vec<Draft>, Making), AllocError>
     requires sources { sources ≤ 64 }
     requires parts { parts ≤ 8 }
-    ensures drafts { IfOk result (λ made.
-        AreNewDrafts schema.now sources parts parts (map (λ part. part.draft) made.0.items)) }
+    ensures drafts { IfOk result (λ made. AreNewDrafts schema.now sources parts parts made.0.items) }
     ensures builders { IfOk result (λ made. made.1.builders.items ≡ []) }
     ensures links { IfOk result (λ made. made.1.links.items ≡ []) }
 {
-    let drafts = new_parts(alloc, schema, sources, parts)?;
+    let drafts = new_drafts(alloc, schema, sources, parts)?;
     let making = Making::with_room(alloc, parts as usize)?;
     Ok((drafts, making))
 }
 
-/// Builds the feeds of 1 to 64 sources, one reader each, in 1 to 8 builders, each over its part of the schema's
-/// grouping sets; `capacity` is the room of each link, 1 to 65536 parcels.
+// Makes the builder of each part, and keeps them all. The only error is want of memory.
+fn complete<T: Threads + Sync>(
+    rt: &T,
+    gatherers: Vec<Gatherer<Draft>>,
+    making: &mut Making,
+) -> Result<(), AllocError>
+    requires builders { making.old.builders.items ≡ [] }
+    requires links { making.old.links.items ≡ [] }
+    ensures { OnOk result (AreAllMade gatherers.items (record {
+        builders = making.new.builders.items;
+        inlets = map (λ links. links.inlets.items) making.new.links.items })) }
+{
+    let made = make_all(rt, gatherers)?;
+    making.keep_all(made)
+}
+
+/// Builds the feeds of 1 to 64 sources, one reader each, in as many builders as the settings have, each over its part
+/// of the schema's grouping sets.
 ///
 /// A feeder on a thread of its own reads each source, builder 0 gathers on the caller's thread, each other on its own,
-/// and each fills its cube where it gathered. The first of these faults that holds is the answer:
+/// and the cubes are filled side by side once the feeds have ended. The first of these faults that holds is the answer:
 /// `Memory` or `NoThread`, where no record was read; `Feed` of the lowest source whose feed is at fault; `Full` where a
 /// growth was refused in building; `Unsealed` of the lowest source of which a link gave no receipt.
 pub fn build<T: Threads + Wait + Sync, R: Read + Drop + Send, G: Gate + Sync>(
@@ -46,25 +61,31 @@ pub fn build<T: Threads + Wait + Sync, R: Read + Drop + Send, G: Gate + Sync>(
     alloc: Global,
     schema: &Schema,
     readers: Vec<R>,
-    capacity: usize,
-    builders: u32,
+    settings: &Settings,
     gate: &G,
-) -> Result<Built, RunFault>
+) -> Result<Built, FeedingFault>
     requires readers { (1 ≤ vec_len readers) × (vec_len readers ≤ 64) }
-    requires capacity { (1 ≤ capacity) × (capacity ≤ 65536) }
-    requires builders { (1 ≤ builders) × (builders ≤ 8) }
     ensures ok { IfOk result
-        (BuildsParts schema.now (map R.Read.remaining readers.items) builders) }
+        (BuildsParts schema.now (map R.Read.remaining readers.items) settings.now.builders) }
     ensures schema { IfOk result (λ built. schema_of_run built ≡ schema.now) }
-    ensures err { IfErr result (ExplainsRun schema.now (map R.Read.remaining readers.items)) }
+    ensures err { IfErr result (ExplainsFeeding schema.now (map R.Read.remaining readers.items)) }
 {
-    let Ok(made) = start(alloc, schema, readers.len() as u32, builders) else {
-        return Err(RunFault::Memory);
+    let sources = readers.len() as u32;
+    let Ok(started) = start(alloc, schema, sources, settings.builders()) else {
+        return Err(FeedingFault::Memory);
     };
-    let (drafts, mut making) = made;
-    let gatherers = feed_builders(rt, alloc, schema, readers, capacity, drafts, gate)?;
-    match making.keep_all(gatherers) {
+    let (drafts, mut making) = started;
+    let gatherers = feed_all(
+        rt,
+        alloc,
+        schema,
+        readers,
+        settings.capacity(),
+        drafts,
+        gate,
+    )?;
+    match complete(rt, gatherers, &mut making) {
         Ok(()) => Ok(Built::of(making)),
-        Err(_) => Err(RunFault::Full),
+        Err(_) => Err(FeedingFault::Full),
     }
 }

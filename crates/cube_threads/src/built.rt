@@ -1,83 +1,20 @@
 //! The builders of a run, with the links by which the feeds came, and queries of all their cubes.
-ghost use Rattle.std.specs.Prelude.{◌≡◌, ◌<◌, ◌++◌, ◌∷◌, [], List, length, map, slice_index_or, vec_len, IfOk, OnOk, Some};
+ghost use Rattle.std.specs.Prelude.{◌≡◌, ◌<◌, [], List, length, map, slice_index_or, IfOk};
 ghost use Rattle.cube_core.specs.Cube.{AreRows};
 ghost use Rattle.cube_core.specs.Query.{matches, drills_down, drill_fault};
 ghost use Rattle.cube_core.specs.declared.key.Row.{Row};
 ghost use Rattle.cube_cells.specs.Rows.{AreRowsInOrder, GivesUnless};
-ghost use Rattle.cube_engine.specs.Builder.{BuilderView};
 ghost use Rattle.cube_threads.specs.Parts.{AreParts, AreRowsOfRun, schema_of_run, facts_of_run};
 
-use crate::draft::Part;
 use crate::joining::in_key_order;
+use crate::making::{Links, Making};
 use cube_cells::OrderedCells;
 use cube_core::{Key, Pattern, QueryFault, Row};
 use cube_engine::Builder;
-use cube_feeders::{Gatherer, Parcel};
+use cube_feeders::Parcel;
 use cube_link::Inlet;
-use std::alloc::{AllocError, Global};
+use std::alloc::AllocError;
 use std::marker::Model;
-
-// The inlets of a builder, from the first source's.
-#[derive(Drop)]
-pub(crate) struct Links {
-    inlets: Vec<Inlet<Parcel>>,
-}
-
-/// The builders that were made so far, in the order of their parts, with their inlets.
-#[derive(Drop)]
-pub(crate) struct Making {
-    pub builders: Vec<Builder>,
-    pub links: Vec<Links>,
-}
-
-impl Making {
-    /// No builder, and room for so many. The only error is want of memory.
-    pub fn with_room(alloc: Global, builders: usize) -> Result<Making, AllocError>
-        ensures builders { IfOk result (λ making. making.builders.items ≡ []) }
-        ensures links { IfOk result (λ making. making.links.items ≡ []) }
-    {
-        Ok(Making {
-            builders: Vec::with_capacity(alloc, builders)?,
-            links: Vec::with_capacity(alloc, builders)?,
-        })
-    }
-
-    /// Keeps the builder of each part, in their order, with its links. The only error is want of memory.
-    pub fn keep_all(&mut self, gatherers: Vec<Gatherer<Part>>) -> Result<(), AllocError>
-        requires none { self.old.builders.items ≡ [] }
-        requires no_links { self.old.links.items ≡ [] }
-        ensures builders { OnOk result (map (λ gatherer. gatherer.builder.builder) gatherers.items
-            ≡ map Some self.new.builders.items) }
-        ensures links { OnOk result (map (λ links. links.inlets.items) self.new.links.items
-            ≡ map (λ gatherer. gatherer.inlets.items) gatherers.items) }
-    {
-        for gatherer in gatherers {
-            self.keep(gatherer)?;
-        }
-        Ok(())
-    }
-
-    fn keep(&mut self, gatherer: Gatherer<Part>) -> Result<(), AllocError>
-        ensures builders { OnOk result ((builder : BuilderView) ×
-            (gatherer.builder.builder ≡ Some builder) ×
-            (self.new.builders.items ≡ self.old.builders.items ++ builder ∷ [])) }
-        ensures links { OnOk result (map (λ links. links.inlets.items) self.new.links.items
-            ≡ map (λ links. links.inlets.items) self.old.links.items
-            ++ gatherer.inlets.items ∷ []) }
-    {
-        let Gatherer {
-            builder: part,
-            inlets,
-            wanting: _,
-        } = gatherer;
-        let Some(builder) = part.into_builder() else {
-            return Err(AllocError);
-        };
-        self.builders.push(builder)?;
-        self.links.push(Links { inlets })?;
-        Ok(())
-    }
-}
 
 /// The builders of a run, each over the grouping sets of its part, with their inlets, from which all was taken.
 ///

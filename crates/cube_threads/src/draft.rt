@@ -1,12 +1,12 @@
 //! What all sources are fed to before a builder is made of it.
-ghost use Rattle.std.specs.Prelude.{◌≡◌, ◌≤◌, ◌<◌, ◌++◌, ◌∷◌, [], length, map, vec_len, IfOk, OnOk, OnErr};
+ghost use Rattle.std.specs.Prelude.{◌≡◌, ◌≤◌, ◌<◌, ◌++◌, ◌∷◌, [], length, IfOk, OnOk, OnErr};
 ghost use Rattle.cube_core.specs.Arrival.{Arrivals};
 ghost use Rattle.cube_threads.specs.Drafts.{DraftView, StandsFrom, IsNewDraft, AreNewDrafts, IsMadeOf};
 
 use cube_cells::Cube;
 use cube_core::{Item, Schema};
 use cube_engine::{Builder, Ledger};
-use cube_feeders::Builds;
+use cube_feed::TakesItems;
 use std::alloc::{AllocError, Global};
 use std::marker::Model;
 
@@ -27,59 +27,26 @@ impl Model for Draft {
     ghost invariant = { λ d. IsDraft d.ledger d.cube };
 }
 
-/// The draft of a part, and then the builder that is made of it.
-#[derive(Drop)]
-pub(crate) struct Part {
-    draft: Option<Draft>,
-    builder: Option<Builder>,
-}
+impl TakesItems for Draft {
+    ghost use Rattle.std.specs.Prelude.{length, false};
+    ghost use Rattle.cube_threads.specs.Drafts.{StandsFrom};
 
-impl Builds for Part {
-    ghost use Rattle.std.specs.Prelude.{length, not, is_some};
-    ghost use Rattle.std.specs.Option.{option_map_or};
-    ghost use Rattle.cube_threads.specs.Drafts.{PartStandsFrom, PartCompletes};
+    ghost sources = { λ draft. length draft.ledger.accounts };
 
-    ghost sources = { λ part. option_map_or (λ draft. length draft.ledger.accounts) part.draft 0 };
+    ghost stands = { StandsFrom };
 
-    ghost stands = { λ first part arrivals. PartStandsFrom first.draft part.draft arrivals };
-
-    ghost full = { λ part. not (is_some part.draft) };
-
-    ghost completes = { λ first part arrivals. PartCompletes first.draft part.builder arrivals };
+    ghost full = { λ draft. false };
 
     fn sources(&self) -> u32 {
-        match &self.draft {
-            Some(draft) => draft.ledger.sources(),
-            None => 0,
-        }
+        self.ledger.sources()
     }
 
     fn is_full(&self) -> bool {
-        self.draft.is_none()
+        false
     }
 
-    fn apply(&mut self, source: u32, item: Item) -> Result<(), AllocError> {
-        let Some(draft) = &mut self.draft else {
-            return Err(AllocError);
-        };
-        draft.apply(source, item)
-    }
-
-    fn complete(&mut self) -> Result<(), AllocError> {
-        let Some(draft) = self.draft.take() else {
-            return Err(AllocError);
-        };
-        self.builder = Some(draft.finish()?);
-        Ok(())
-    }
-}
-
-impl Part {
-    /// The builder, once it was made.
-    pub fn into_builder(self) -> Option<Builder>
-        ensures { result ≡ self.builder }
-    {
-        self.builder
+    fn take_item(&mut self, source: u32, item: Item) -> Result<(), AllocError> {
+        self.apply(source, item)
     }
 }
 
@@ -115,8 +82,8 @@ impl Draft {
         self.ledger.apply(source, item)
     }
 
-    // The builder of the ledger, with the cube filled. The only error is want of memory.
-    fn finish(self) -> Result<Builder, AllocError>
+    /// The builder of the ledger, with the cube filled. The only error is want of memory.
+    pub fn finish(self) -> Result<Builder, AllocError>
         ensures { IfOk result (IsMadeOf self) }
     {
         Builder::of(self.ledger, self.cube)
@@ -124,24 +91,19 @@ impl Draft {
 }
 
 /// The drafts of so many parts, in their order. The only error is want of memory.
-pub(crate) fn new_parts(
+pub(crate) fn new_drafts(
     alloc: Global,
     schema: &Schema,
     sources: u32,
     parts: u32,
-) -> Result<Vec<Part>, AllocError>
+) -> Result<Vec<Draft>, AllocError>
     requires sources { sources ≤ 64 }
     requires parts { parts ≤ 8 }
-    ensures { IfOk result (λ made.
-        AreNewDrafts schema.now sources parts parts (map (λ part. part.draft) made.items)) }
+    ensures { IfOk result (λ drafts. AreNewDrafts schema.now sources parts parts drafts.items) }
 {
-    let mut made = Vec::with_capacity(alloc, parts as usize)?;
+    let mut drafts = Vec::with_capacity(alloc, parts as usize)?;
     for part in 0..parts {
-        let draft = Draft::new_part(alloc, schema, sources, part, parts)?;
-        made.push(Part {
-            draft: Some(draft),
-            builder: None,
-        })?;
+        drafts.push(Draft::new_part(alloc, schema, sources, part, parts)?)?;
     }
-    Ok(made)
+    Ok(drafts)
 }

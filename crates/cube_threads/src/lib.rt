@@ -7,12 +7,10 @@ mod building;
 mod built;
 mod draft;
 mod joining;
-mod running;
-mod settling;
+mod making;
+mod settings;
 
 pub use building::build;
 pub use built::Built;
-pub use cube_feeders::{
-    Builds, FeederEnd, Gate, Gatherer, OpenGate, Parcel, feed_out, first_stop, first_unsealed,
-    gather,
-};
+pub use cube_feeders::{FeedingFault, Gate, OpenGate, Parcel};
+pub use settings::Settings;

@@ -3,20 +3,33 @@
 #![tactic(auto)]
 
 ghost use Rattle.std.specs.Prelude.{◌≡◌, ◌≤◌, length, vec_len, IfOk};
+ghost use Rattle.cube_tool.specs.Answering.{Fits};
 ghost use Rattle.cube_words.specs.CommandLine.{HasRoom, IsInBounds};
 
 use cube_core::Schema;
-use cube_engine::RunFault;
+use cube_threads::Settings;
+use cube_tool::RunFault;
 use cube_tool::command::{
-    Failure, NOTES, Status, answer_words, check, drill, explain, print, read_cell, read_dimension,
-    read_pattern, read_schema, refusals, run_sample, slice,
+    Failure, NOTES, Question, Status, answer_words, ask, check, explain, read_cell, read_dimension,
+    read_pattern, read_schema, run_sample,
 };
 use cube_words::{Request, RunWords, read_words, unreadable_words};
 use std::fs::File;
 use std::process::ExitCode;
 use std::sync::Wait;
 use std::thread::Threads;
-use std::{env, io, mem};
+use std::{env, io, mem, thread};
+
+/// The most threads that a run works with once its feeds have ended.
+const MOST_THREADS: usize = 16;
+
+/// What a command with feeds asks, as its words say it.
+enum Asked<'w> {
+    Cube,
+    Slice { cell: &'w str },
+    Drill { cell: &'w str, dimension: &'w str },
+    Refusals,
+}
 
 fn main(rt: HostRuntime) -> ExitCode {
     let status = match run(&rt, &rt) {
@@ -63,115 +76,76 @@ fn obey<T: Threads + Wait + Sync>(
         Request::Sample => run_sample(alloc, rt.stdin(), &mut rt.stdout()),
         Request::Check { schema } => check(alloc, open_schema(rt, schema)?, &mut rt.stdout()),
         Request::Explain { code } => explain(alloc, &NOTES, code, &mut rt.stdout()),
-        Request::Print { run } => obey_print(rt, threads, run),
-        Request::Refusals { run } => obey_refusals(rt, threads, run),
-        Request::Slice { run, cell } => obey_slice(rt, threads, run, cell),
+        Request::Print { run } => answer(rt, threads, &run, Asked::Cube),
+        Request::Refusals { run } => answer(rt, threads, &run, Asked::Refusals),
+        Request::Slice { run, cell } => answer(rt, threads, &run, Asked::Slice { cell }),
         Request::Drill {
             run,
             cell,
             dimension,
-        } => obey_drill(rt, threads, run, cell, dimension),
+        } => answer(rt, threads, &run, Asked::Drill { cell, dimension }),
     }
 }
 
-// The process ends after this, so what was built isn't taken apart.
-fn obey_print<T: Threads + Wait + Sync>(
+/// Answers a command with feeds.
+fn answer<T: Threads + Wait + Sync>(
     rt: &HostRuntime,
     threads: &T,
-    words: RunWords,
+    words: &RunWords,
+    asked: Asked,
 ) -> Result<Status, Failure>
-    requires { HasRoom words }
+    requires { HasRoom words.now }
 {
     let alloc = rt.alloc();
-    let schema = schema_of(rt, &words)?;
-    let feeds = open_feeds(rt, &words.feeds)?;
+    let schema = schema_of(rt, words)?;
+    let question = question_of(rt, &schema, asked)?;
+    let feeds = open_feeds(rt, words.feeds)?;
+    let settings = settings_of(rt, words);
     let out = &mut rt.stdout();
-    let (status, built) = print(
-        threads,
-        alloc,
-        &schema,
-        feeds,
-        words.ring,
-        words.builders,
-        out,
-    )?;
+    let (status, built) = ask(threads, alloc, &schema, feeds, &settings, &question, out)?;
+    // The process ends after this, so what was built isn't taken apart.
     mem::forget(built);
     Ok(status)
 }
 
-fn obey_refusals<T: Threads + Wait + Sync>(
-    rt: &HostRuntime,
-    threads: &T,
-    words: RunWords,
-) -> Result<Status, Failure>
-    requires { HasRoom words }
+/// The question that words ask under a schema.
+fn question_of(rt: &HostRuntime, schema: &Schema, asked: Asked) -> Result<Question, Failure>
+    ensures { IfOk result (Fits schema.now) }
 {
     let alloc = rt.alloc();
-    let schema = schema_of(rt, &words)?;
-    let feeds = open_feeds(rt, &words.feeds)?;
-    let out = &mut rt.stdout();
-    refusals(
-        threads,
-        alloc,
-        &schema,
-        feeds,
-        words.ring,
-        words.builders,
-        out,
-    )
+    match asked {
+        Asked::Cube => Ok(Question::Cube),
+        Asked::Refusals => Ok(Question::Refusals),
+        Asked::Slice { cell } => {
+            let pattern = read_pattern(alloc, schema, cell)?;
+            Ok(Question::Slice { pattern })
+        }
+        Asked::Drill { cell, dimension } => {
+            let key = read_cell(alloc, schema, cell)?;
+            let dimension = read_dimension(schema, dimension)?;
+            Ok(Question::Drill { key, dimension })
+        }
+    }
 }
 
-fn obey_slice<T: Threads + Wait + Sync>(
-    rt: &HostRuntime,
-    threads: &T,
-    words: RunWords,
-    cell: &str,
-) -> Result<Status, Failure>
-    requires { HasRoom words }
+/// The settings of a run: those that the words give.
+fn settings_of(rt: &HostRuntime, words: &RunWords) -> Settings
+    requires { HasRoom words.now }
 {
-    let alloc = rt.alloc();
-    let schema = schema_of(rt, &words)?;
-    let pattern = read_pattern(alloc, &schema, cell)?;
-    let feeds = open_feeds(rt, &words.feeds)?;
-    let out = &mut rt.stdout();
-    slice(
-        threads,
-        alloc,
-        &schema,
-        &pattern,
-        feeds,
-        words.ring,
-        words.builders,
-        out,
-    )
+    let Some(settings) = Settings::new(words.ring, words.builders, processors(rt)) else {
+        unreachable!()
+    };
+    settings
 }
 
-fn obey_drill<T: Threads + Wait + Sync>(
-    rt: &HostRuntime,
-    threads: &T,
-    words: RunWords,
-    cell: &str,
-    dimension: &str,
-) -> Result<Status, Failure>
-    requires { HasRoom words }
+/// How many threads the machine runs at once, 1 to 16.
+fn processors(rt: &HostRuntime) -> usize
+    ensures { (1 ≤ result) × (result ≤ 16) }
 {
-    let alloc = rt.alloc();
-    let schema = schema_of(rt, &words)?;
-    let key = read_cell(alloc, &schema, cell)?;
-    let dim = read_dimension(&schema, dimension)?;
-    let feeds = open_feeds(rt, &words.feeds)?;
-    let out = &mut rt.stdout();
-    drill(
-        threads,
-        alloc,
-        &schema,
-        &key,
-        dim,
-        feeds,
-        words.ring,
-        words.builders,
-        out,
-    )
+    match thread::available_parallelism(rt) {
+        Ok(count) => count.get().clamp(1, MOST_THREADS),
+        Err(_) => 1,
+    }
 }
 
 /// The schema of a command with feeds, once it is seen that there are at most 64 feeds.

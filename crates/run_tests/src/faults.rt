@@ -3,11 +3,11 @@ ghost use Rattle.std.specs.Prelude.{◌≡◌, ◌≤◌, vec_len, IfOk};
 
 use crate::feeds::Failing;
 use crate::gates::Held;
+use crate::texts::settings_of;
 use cube_core::Schema;
-use cube_engine::RunFault;
 use cube_feed::FeedFault;
 use cube_threads::{Gate, OpenGate};
-use cube_tool::run;
+use cube_tool::{RunFault, run};
 use std::alloc::{AllocError, Global};
 use std::sync::Wait;
 use std::test::Fail;
@@ -60,7 +60,8 @@ fn answer_of<T: Threads + Wait + Sync, G: Gate + Sync>(
     let schema = Schema::from_toml(alloc, CAPPED)?;
     let readers = readers_of_three(alloc, feeds, reads)?;
     let mut out = Vec::new(alloc);
-    let answer = run(rt, alloc, &schema, readers, 1, builders, gate, &mut out);
+    let settings = settings_of(1, builders);
+    let answer = run(rt, alloc, &schema, readers, &settings, gate, &mut out);
     if answer.is_err() && !out.is_empty() {
         return Err(Fail::new("something was written"));
     }

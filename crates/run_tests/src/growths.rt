@@ -1,7 +1,7 @@
 //! Growths that are refused. To refuse each in turn, run `rt try --test --fail-alloc N` for each N from 1.
 use cube_core::SchemaFault;
-use cube_engine::RunFault;
 use cube_feed::FeedFault;
+use cube_tool::RunFault;
 use cube_tool::command::{Failure, Status, read_schema, run_sample};
 
 const FEED: &[u8] = b"op,id,region,kind,amount\nI,1,west,a,5\n";

@@ -3,8 +3,8 @@ use crate::gates::{Apart, Flow, Late, Meet};
 use crate::texts::fault_of_build;
 use crate::turn::Turn;
 use cube_core::Schema;
-use cube_engine::RunFault;
 use cube_feed::FeedFault;
+use cube_tool::RunFault;
 use std::test::Fail;
 
 const ONE: &str = "op,id,region,kind,amount\nI,1,w,a,1\n";

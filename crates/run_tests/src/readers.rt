@@ -2,10 +2,9 @@
 ghost use Rattle.std.specs.Prelude.{◌≤◌, vec_len};
 
 use cube_core::{Schema, SchemaFault};
-use cube_engine::RunFault;
 use cube_feed::FeedFault;
 use cube_tool::command::{Failure, read_schema};
-use cube_tool::run_plain;
+use cube_tool::{RunFault, run_plain};
 use std::alloc::Global;
 use std::io::{self, Read};
 use std::test::Fail;

@@ -2,9 +2,8 @@
 ghost use Rattle.std.specs.Prelude.{◌≡◌, ◌≤◌, length, vec_len, IfOk};
 
 use cube_core::Schema;
-use cube_engine::RunFault;
-use cube_threads::{Gate, build};
-use cube_tool::{run, run_plain};
+use cube_threads::{Gate, Settings, build};
+use cube_tool::{RunFault, run, run_plain};
 use std::alloc::{AllocError, Global};
 use std::io::Write;
 use std::sync::Wait;
@@ -19,6 +18,17 @@ fn readers_of<'a>(alloc: Global, feeds: &[&'a str]) -> Result<Vec<&'a [u8]>, All
         readers.push(feed.as_bytes())?;
     }
     Ok(readers)
+}
+
+/// Settings of this room and so many builders, and two threads.
+pub fn settings_of(capacity: usize, builders: u32) -> Settings
+    requires capacity { (1 ≤ capacity) × (capacity ≤ 65536) }
+    requires builders { (1 ≤ builders) × (builders ≤ 8) }
+{
+    let Some(settings) = Settings::new(capacity, builders, 2) else {
+        unreachable!()
+    };
+    settings
 }
 
 /// The fault of the build of the feeds that texts are, the first by source 1.
@@ -38,7 +48,9 @@ pub fn fault_of_build<'a, T: Threads + Wait + Sync, G: Gate + Sync>(
     let Ok(readers) = readers_of(alloc, feeds) else {
         return Some(RunFault::Memory);
     };
-    build(rt, alloc, schema, readers, capacity, builders, gate).err()
+    let settings = settings_of(capacity, builders);
+    let built = build(rt, alloc, schema, readers, &settings, gate);
+    built.err().map(RunFault::from)
 }
 
 /// Writes the printed cube of the feeds that texts are, the first by source 1.
@@ -59,7 +71,8 @@ pub fn run_texts<'a, T: Threads + Wait + Sync, G: Gate + Sync, W: Write>(
     let Ok(readers) = readers_of(alloc, feeds) else {
         return Err(RunFault::Memory);
     };
-    run(rt, alloc, schema, readers, capacity, builders, gate, out)?;
+    let settings = settings_of(capacity, builders);
+    run(rt, alloc, schema, readers, &settings, gate, out)?;
     Ok(())
 }
 

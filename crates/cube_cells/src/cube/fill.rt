@@ -1,26 +1,28 @@
 //! Filling a cube at once: facts go into the cells of the finest grouping set alone, and the cells of each other kept
 //! set are then made from those of a finer one (Gray et al. 1997).
-ghost use Rattle.std.specs.Prelude.{◌≡◌, ◌+◌, ◌-◌, ◌≤◌, ◌^◌, ◌↔◌, ◌∷◌, [], None, List, length, reverse, bit_and, All, Contains, IsTrue, IfOk, IfSome, OnOk, OnErr};
-ghost use Rattle.std.specs.List.Sorted.{IsStrictlySortedBy};
+ghost use Rattle.std.specs.Prelude.{◌≡◌, ◌+◌, ◌-◌, ◌≤◌, ◌^◌, ◌↔◌, ◌∷◌, [], None, ◌<◌, List, length, bit_and, All, Contains, IsTrue, IfOk, IfSome, OnOk, OnErr};
+ghost use Rattle.std.specs.List.Sorted.{IsPermutation, IsStrictlySortedBy};
 ghost use Rattle.std.specs.Ordering.{nat_cmp};
 ghost use Rattle.cube_core.specs.declared.fact.Fact.{Fact};
 ghost use Rattle.cube_cells.specs.Coded.{coded_at};
 ghost use Rattle.cube_cells.specs.Cube.{IsCubeOf, IsNewLattice, SameSets};
-ghost use Rattle.cube_cells.specs.Fill.{AreFilled, AreJoined, AreMadeFrom, FillsSet, HaveOneWidth, IsCubeOfAll, IsFiner, Joins, MakesLevels, MergesIn, finest_set};
+ghost use Rattle.cube_cells.specs.Fill.{AreFilled, AreJoined, AreMadeFrom, ArePushed, FillsSet, HaveOneWidth, IsCubeOfAll, IsFiner, IsMadeLevel, Joins, MakesLevelsOf, MergesIn, finest_set};
 ghost use Rattle.cube_cells.specs.Tally.{PlusTally};
 ghost use Rattle.cube_cells.specs.Walk.{AreApart};
 
 use super::codes::Codes;
+use super::workers::{Alone, Several, Workers};
 use super::{Cube, new_cells};
 use crate::cell::Cell;
 use std::alloc::{AllocError, Global};
 use std::collections::HashMap;
+use std::thread::Threads;
 
-// A grouping set with its cells.
+/// A grouping set with its cells.
 #[derive(Drop)]
-struct Level {
-    set: u8,
-    cells: HashMap<Codes, Cell>,
+pub struct Level {
+    pub set: u8,
+    pub cells: HashMap<Codes, Cell>,
 }
 
 impl Cube {
@@ -37,7 +39,8 @@ impl Cube {
         Cube::over(self.alloc, schema, sets)
     }
 
-    /// Fills the cube with the facts of a cube over the finest grouping set, in place of its own.
+    /// Fills the cube with the facts of a cube over the finest grouping set, in place of its own, and gives a code to
+    /// no text that has none there.
     ///
     /// Where memory is wanting, or numbers to count the facts with, it stays as it was.
     pub fn fill(&mut self, finest: Cube) -> Result<(), AllocError>
@@ -45,6 +48,45 @@ impl Cube {
         requires sets { finest.sets ≡ finest_set (length finest.schema.dimensions) ∷ [] }
         requires facts { (facts : List Fact) × IsCubeOfAll facts finest }
         ensures same { OnOk result (SameSets self.old self.new) }
+        ensures texts { OnOk result (self.new.dictionaries ≡ finest.dictionaries) }
+        ensures facts { OnOk result
+            ((facts : List Fact) → IsCubeOfAll facts finest → IsCubeOfAll facts self.new) }
+        ensures err { OnErr result (self.new ≡ self.old) }
+    {
+        self.fill_by(&Alone, finest)
+    }
+
+    /// Fills the cube as [`Cube::fill`] does, by as many threads as this says: sets of as many dimensions are made side
+    /// by side. With one thread, or none, no thread is started.
+    pub fn fill_with<T: Threads + Sync>(
+        &mut self,
+        rt: &T,
+        threads: usize,
+        finest: Cube,
+    ) -> Result<(), AllocError>
+        requires schema { finest.schema ≡ self.old.schema }
+        requires sets { finest.sets ≡ finest_set (length finest.schema.dimensions) ∷ [] }
+        requires facts { (facts : List Fact) × IsCubeOfAll facts finest }
+        ensures same { OnOk result (SameSets self.old self.new) }
+        ensures texts { OnOk result (self.new.dictionaries ≡ finest.dictionaries) }
+        ensures facts { OnOk result
+            ((facts : List Fact) → IsCubeOfAll facts finest → IsCubeOfAll facts self.new) }
+        ensures err { OnErr result (self.new ≡ self.old) }
+    {
+        if threads < 2 {
+            return self.fill(finest);
+        }
+        self.fill_by(&Several { rt, threads }, finest)
+    }
+
+    // Fills the cube by these workers.
+    fn fill_by<W: Workers>(&mut self, workers: &W, finest: Cube) -> Result<(), AllocError>
+        requires shared { W.is_shared workers.now }
+        requires schema { finest.schema ≡ self.old.schema }
+        requires sets { finest.sets ≡ finest_set (length finest.schema.dimensions) ∷ [] }
+        requires facts { (facts : List Fact) × IsCubeOfAll facts finest }
+        ensures same { OnOk result (SameSets self.old self.new) }
+        ensures texts { OnOk result (self.new.dictionaries ≡ finest.dictionaries) }
         ensures facts { OnOk result
             ((facts : List Fact) → IsCubeOfAll facts finest → IsCubeOfAll facts self.new) }
         ensures err { OnErr result (self.new ≡ self.old) }
@@ -58,7 +100,13 @@ impl Cube {
             ..
         } = finest;
         shrink_cells(&mut cells);
-        let cells = filled_cells(self.alloc, Level { set, cells }, &self.sets, measures)?;
+        let cells = filled_cells(
+            workers,
+            self.alloc,
+            Level { set, cells },
+            &self.sets,
+            measures,
+        )?;
         self.facts = facts;
         self.dictionaries = dictionaries;
         self.cells = cells;
@@ -75,12 +123,14 @@ fn finest_of(dimensions: usize) -> u8
 }
 
 // The cells of the sets, made from those of the finest one.
-fn filled_cells(
+fn filled_cells<W: Workers>(
+    workers: &W,
     alloc: Global,
     finest: Level,
     sets: &[u8],
     measures: usize,
 ) -> Result<HashMap<Codes, Cell>, AllocError>
+    requires shared { W.is_shared workers.now }
     requires width { All (λ cell. length cell.1.bags ≡ measures) finest.cells.entries }
     requires within { All (λ set. bit_and finest.set set ≡ set) sets.now }
     requires ascending { IsStrictlySortedBy nat_cmp sets.now }
@@ -88,36 +138,96 @@ fn filled_cells(
 {
     match sets.split_last() {
         Some((last, coarser)) if *last == finest.set => {
-            let levels = levels_from(alloc, &finest, coarser, measures)?;
+            let levels = levels_from(workers, alloc, &finest, coarser, measures)?;
             joined(finest.cells, levels)
         }
         _ => {
-            let levels = levels_from(alloc, &finest, sets, measures)?;
+            let levels = levels_from(workers, alloc, &finest, sets, measures)?;
             joined(HashMap::new(alloc), levels)
         }
     }
 }
 
-// The levels of grouping sets that the finest one is finer than, from the last to the first, so that each is made
-// after those that are finer.
-fn levels_from(
+// The levels of grouping sets that the finest one is finer than, layer after layer: those of a layer have the same
+// number of dimensions, and are made from those of the layers before.
+fn levels_from<W: Workers>(
+    workers: &W,
     alloc: Global,
     finest: &Level,
     sets: &[u8],
     measures: usize,
 ) -> Result<Vec<Level>, AllocError>
+    requires shared { W.is_shared workers.now }
     requires width { All (λ cell. length cell.1.bags ≡ measures) finest.now.cells.entries }
     requires finer { All (IsFiner finest.now.set) sets.now }
     ensures { IfOk result (λ levels.
-        MakesLevels measures finest.now (reverse sets.now) [] levels.items) }
+        MakesLevelsOf measures finest.now sets.now levels.items) }
 {
+    let order = in_layers(alloc, sets)?;
     let mut levels = Vec::with_capacity(alloc, sets.len())?;
-    for set in sets.iter().rev() {
-        let finer = smallest_finer(finest, &levels, *set);
-        let cells = cells_from(alloc, &finer.cells, *set, measures)?;
-        levels.push(Level { set: *set, cells })?;
+    let mut done = 0;
+    while done < order.len() {
+        let end = end_of_layer(&order, done);
+        let layer = &order[done..end];
+        let made = workers.levels_of_layer(alloc, finest, &levels, layer, measures)?;
+        push_levels(&mut levels, made)?;
+        done = end;
     }
     Ok(levels)
+}
+
+// The sets, those of more dimensions first.
+fn in_layers(alloc: Global, sets: &[u8]) -> Result<Vec<u8>, AllocError>
+    ensures { IfOk result (λ order. IsPermutation sets.now order.items) }
+{
+    let mut order = Vec::with_capacity(alloc, sets.len())?;
+    order.extend_from_slice(sets)?;
+    order.sort_by_key(|set| 8 - set.count_ones().min(8))?;
+    Ok(order)
+}
+
+// Where the sets end that have as many dimensions as the one at a place.
+fn end_of_layer(order: &[u8], from: usize) -> usize
+    requires { from < length order.now }
+    ensures after { from < result }
+    ensures within { result ≤ length order.now }
+{
+    let mut end = from + 1;
+    while end < order.len() && order[end].count_ones() == order[from].count_ones() {
+        end += 1;
+    }
+    end
+}
+
+/// The level of a set, made from one of those that are finer.
+pub fn level_from(
+    alloc: Global,
+    finest: &Level,
+    levels: &[Level],
+    set: u8,
+    measures: usize,
+) -> Result<Level, AllocError>
+    requires finer { IsFiner finest.now.set set }
+    requires first { All (λ cell. length cell.1.bags ≡ measures) finest.now.cells.entries }
+    requires widths { All (λ level. All (λ cell. length cell.1.bags ≡ measures) level.cells.entries) levels.now }
+    ensures { IfOk result (IsMadeLevel measures finest.now levels.now set) }
+{
+    let finer = smallest_finer(finest, levels, set);
+    let cells = cells_from(alloc, &finer.cells, set, measures)?;
+    Ok(Level { set, cells })
+}
+
+// Puts the levels at the end, if each of them was made.
+fn push_levels(
+    levels: &mut Vec<Level>,
+    made: Vec<Result<Level, AllocError>>,
+) -> Result<(), AllocError>
+    ensures { OnOk result (ArePushed made.items levels.old.items levels.new.items) }
+{
+    for level in made {
+        levels.push(level?)?;
+    }
+    Ok(())
 }
 
 // One of the levels that are finer than a set; which one is a matter of speed alone.

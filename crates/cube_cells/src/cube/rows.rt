@@ -19,10 +19,12 @@ use super::codes::Codes;
 use super::dictionary::{Dictionary, compare_keys};
 use super::ordered::{OrderedCells, Place};
 use super::ranks::{Ranks, ranks_of, ranks_of_all};
+use super::workers::{Alone, Several, Workers};
 use crate::cell::Cell;
 use cube_core::Row;
 use std::alloc::{AllocError, Global};
 use std::collections::HashMap;
+use std::thread::Threads;
 
 /// What is wanted of the code of a dimension.
 #[derive(Clone, Copy)]
@@ -55,7 +57,43 @@ impl Cube {
         ensures aggregates { IfOk result (λ ordered.
             ordered.aggregates ≡ self.now.schema.aggregates) }
     {
-        self.ordered_where(&[])
+        self.ordered_by(&Alone)
+    }
+
+    /// The same as [`Cube::ordered`], sorted by several threads. With one thread, or none, no thread is started.
+    pub fn ordered_with<T: Threads + Sync>(
+        &self,
+        rt: &T,
+        threads: usize,
+    ) -> Result<OrderedCells<'_>, AllocError>
+        ensures rows { IfOk result (λ ordered. (rows : List Row) → AreRowsInOrder ordered rows →
+            AreRowsOf (λ key. true) self.now.schema.aggregates self.now.cells rows) }
+        ensures cube { IfOk result (λ ordered. (rows : List Row) → AreRowsInOrder ordered rows →
+            (facts : List Fact) → IsCubeOf self.now facts →
+            AreRowsOver self.now.sets (length self.now.schema.dimensions)
+            self.now.schema.aggregates facts rows) }
+        ensures aggregates { IfOk result (λ ordered.
+            ordered.aggregates ≡ self.now.schema.aggregates) }
+    {
+        if threads < 2 {
+            return self.ordered();
+        }
+        self.ordered_by(&Several { rt, threads })
+    }
+
+    // The cells in the order of their keys, sorted by these workers.
+    fn ordered_by<W: Workers>(&self, workers: &W) -> Result<OrderedCells<'_>, AllocError>
+        requires { W.is_shared workers.now }
+        ensures rows { IfOk result (λ ordered. (rows : List Row) → AreRowsInOrder ordered rows →
+            AreRowsOf (λ key. true) self.now.schema.aggregates self.now.cells rows) }
+        ensures cube { IfOk result (λ ordered. (rows : List Row) → AreRowsInOrder ordered rows →
+            (facts : List Fact) → IsCubeOf self.now facts →
+            AreRowsOver self.now.sets (length self.now.schema.dimensions)
+            self.now.schema.aggregates facts rows) }
+        ensures aggregates { IfOk result (λ ordered.
+            ordered.aggregates ≡ self.now.schema.aggregates) }
+    {
+        self.ordered_where(workers, &[])
     }
 
     /// The rows of the cells whose codes are wanted, where these are few: no text is looked at but theirs.
@@ -75,11 +113,16 @@ impl Cube {
             AreWantsOf self.now.dictionaries test wants.now →
             AreRowsOf test self.now.schema.aggregates self.now.cells rows.items) }
     {
-        self.ordered_where(wants)?.rows()
+        self.ordered_where(&Alone, wants)?.rows()
     }
 
-    // The cells whose codes are wanted.
-    fn ordered_where(&self, wants: &[Want]) -> Result<OrderedCells<'_>, AllocError>
+    // The cells whose codes are wanted, sorted by these workers.
+    fn ordered_where<W: Workers>(
+        &self,
+        workers: &W,
+        wants: &[Want],
+    ) -> Result<OrderedCells<'_>, AllocError>
+        requires { W.is_shared workers.now }
         ensures rows { IfOk result (λ ordered. (test : Key → Bool) →
             AreWantsOf self.now.dictionaries test wants.now →
             (rows : List Row) → AreRowsInOrder ordered rows →
@@ -88,7 +131,7 @@ impl Cube {
             ordered.aggregates ≡ self.now.schema.aggregates) }
     {
         let ranks = ranks_of_all(self.alloc, &self.dictionaries)?;
-        let places = places_in_order(self.alloc, &ranks, &self.cells, wants)?;
+        let places = places_in_order(workers, self.alloc, &ranks, &self.cells, wants)?;
         OrderedCells::of(
             self.alloc,
             self.schema.aggregates(),
@@ -120,13 +163,15 @@ fn few_places_in_order<'c>(
 }
 
 // The cells whose codes are wanted, by the ranks of their keys.
-fn places_in_order<'c>(
+fn places_in_order<'c, W: Workers>(
+    workers: &W,
     alloc: Global,
     ranks: &[Ranks],
     cells: &'c HashMap<Codes, Cell>,
     wants: &[Want],
 ) -> Result<Vec<Place<'c>>, AllocError>
-    requires { length ranks.now ≤ 8 }
+    requires shared { W.is_shared workers.now }
+    requires ranks { length ranks.now ≤ 8 }
     ensures cells { IfOk result (λ places. IsPermutation
         (filter (λ cell. are_wanted_codes wants.now cell.0.codes) cells.now.entries)
         (map (λ place. (place.codes.now, place.cell.now)) places.items)) }
@@ -136,7 +181,7 @@ fn places_in_order<'c>(
         IsSortedBy (λ a b. is_lt (slice_cmp nat_cmp a.ranks b.ranks)) places.items) }
 {
     let mut places = places_of(alloc, ranks, cells, wants)?;
-    places.sort_unstable_by(|a, b| a.ranks.cmp(&b.ranks));
+    workers.sort_places(alloc, &mut places)?;
     Ok(places)
 }
 

@@ -1,6 +1,7 @@
 use Rattle.std.proofs.Common.{◌≡◌, false, sym, ◌∙◌}
 use Rattle.std.specs.Prelude.{is_err}
-use Rattle.cube_engine.proofs.FeedLaws.{HasTaken-none, HasTaken-more, OnOk-holds}
+use Rattle.cube_feed.proofs.FaultLaws.{OnOk-holds}
+use Rattle.cube_engine.proofs.FeedLaws.{HasTaken-none, HasTaken-more}
 use Rattle.cube_engine.proofs.build.take_feed.Goals as goal
 
 pub loop-item-init : goal.loop-item-init

@@ -14,7 +14,7 @@ loop-i-preserved g c =
             search rules,
             λ first start was.
                 rw (w.inlets-is, w.ended-is, w.builder-is, w.wanting-is)
-                (gathering-look g.B.Builds.stands first start loop.inlets loop.ended loop.builder w.visit-found.new.builder loop.wanting w.visit-found.new.wanting loop.i w.index-inlets-i.result
+                (gathering-look g.B.TakesItems.stands first start loop.inlets loop.ended loop.builder w.visit-found.new.builder loop.wanting w.visit-found.new.wanting loop.i w.index-inlets-i.result
                 w.visit-found.new.inlet w.visit-found.new.ended below within running w.visit-found.ensures.looks (loop.invariant.1 first start was)),
           )
       | else-not-ended-i w ↦ search rules

@@ -4,7 +4,7 @@ use Rattle.cube_feeders.proofs.gathering.visit.Goals as goal
 use Rattle.cube_feeders.proofs.gathering.visit.Goals.{then-ended-via-then-ended, then-ended-via-else-ended+then-not-look}
 
 pub loop-init : goal.loop-init
-loop-init g c = (refl, looks-nothing g.B.Builds.stands c.args.source c.args.inlet.now c.args.ended.now c.args.builder.now c.args.wanting.now c.requires.open)
+loop-init g c = (refl, looks-nothing g.B.TakesItems.stands c.args.source c.args.inlet.now c.args.ended.now c.args.builder.now c.args.wanting.now c.requires.open)
 
 pub returns-then-ended-clause-looks : goal.returns-then-ended-clause-looks
 returns-then-ended-clause-looks g c =
@@ -13,7 +13,7 @@ returns-then-ended-clause-looks g c =
       | then-ended-via-then-ended w ↦ rw (w.builder-is, w.inlet-is, w.ended-is, w.wanting-is) loop.invariant.1
       | then-ended-via-else-ended+then-not-look w ↦
           rw (w.builder-is, w.inlet-is, w.ended-is, w.wanting-is)
-          (looks-look g.B.Builds.stands c.args.source c.args.inlet.now loop.inlet w.look.new.inlet loop.ended w.look.new.ended c.args.builder.now loop.builder w.look.new.builder c.args.wanting.now loop.wanting w.look.new.wanting
+          (looks-look g.B.TakesItems.stands c.args.source c.args.inlet.now loop.inlet w.look.new.inlet loop.ended w.look.new.ended c.args.builder.now loop.builder w.look.new.builder c.args.wanting.now loop.wanting w.look.new.wanting
           w.if-ended.false loop.invariant.1 w.look.ensures.looks)
     ]
 
@@ -21,6 +21,6 @@ pub loop-preserved : goal.loop-preserved
 loop-preserved g c =
     let loop = c.loop in (
       c.look.ensures.sources ∙ loop.invariant.0,
-      looks-look g.B.Builds.stands c.args.source c.args.inlet.now loop.inlet c.look.new.inlet loop.ended c.look.new.ended c.args.builder.now loop.builder c.look.new.builder c.args.wanting.now loop.wanting c.look.new.wanting
+      looks-look g.B.TakesItems.stands c.args.source c.args.inlet.now loop.inlet c.look.new.inlet loop.ended c.look.new.ended c.args.builder.now loop.builder c.look.new.builder c.args.wanting.now loop.wanting c.look.new.wanting
           c.if-ended.false loop.invariant.1 c.look.ensures.looks,
     )

@@ -1,9 +1,9 @@
-use Rattle.std.proofs.Common.{◌≤◌, ◌-◌, length, take}
-use Rattle.cube_text.specs.Rows.{AddsRows}
+use Rattle.std.proofs.Common.{◌≤◌, ◌-◌}
+use Rattle.cube_text.specs.Rows.{GoesOn}
 use Rattle.cube_text.proofs.print.put_cells.Given as goal
 
 abbrev pub invariant-loop-done : goal.invariant-loop-done
-invariant-loop-done l = (l.done ≤ length l.cells.cells) × AddsRows l.cells.aggregates (take l.done l.cells.cells) l.initial.lines l.lines
+invariant-loop-done l = (l.done ≤ l.to) × GoesOn l.cells l.from l.done l.initial.lines l.lines
 
 abbrev pub decreases-loop-done : goal.decreases-loop-done
-decreases-loop-done l = length l.cells.cells - l.done
+decreases-loop-done l = l.to - l.done

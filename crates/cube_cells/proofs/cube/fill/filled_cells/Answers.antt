@@ -8,12 +8,12 @@ use Rattle.cube_cells.proofs.cube.fill.filled_cells.Goals as goal
 use Rattle.cube_cells.proofs.cube.fill.filled_cells.Goals.{in_default-via-in-Some+else-last-finest, in_default-via-in_default}
 
 pub levels_from-requires-clause-finer : goal.levels_from-requires-clause-finer
-levels_from-requires-clause-finer c =
+levels_from-requires-clause-finer g c =
     let is : c.args.sets.now ≡ c.in-Some.coarser.now ++ c.args.finest.set ∷ [] = c.in-Some.ensures.cases.0 ∙ ap (λ (s : ℕ). c.in-Some.coarser.now ++ s ∷ []) c.if-last-finest.true in
     IsFiner-before c.args.finest.set c.args.sets.now c.in-Some.coarser.now is c.requires.within c.requires.ascending
 
 pub levels_from-requires-in_default-clause-finer : goal.levels_from-requires-in_default-clause-finer
-levels_from-requires-in_default-clause-finer c = elim c.in_default.branch [
+levels_from-requires-in_default-clause-finer g c = elim c.in_default.branch [
   | in_default-via-in-Some+else-last-finest w ↦
       IsFiner-all c.args.finest.set w.in-Some.last.now c.args.sets.now w.in-Some.coarser.now w.in-Some.ensures.cases.0 w.if-last-finest.false c.requires.within c.requires.ascending
   | in_default-via-in_default w ↦
@@ -22,7 +22,7 @@ levels_from-requires-in_default-clause-finer c = elim c.in_default.branch [
 ]
 
 pub returns-in_ok-levels-in-Some : goal.returns-in_ok-levels-in-Some
-returns-in_ok-levels-in-Some c =
+returns-in_ok-levels-in-Some g c =
     let is : c.args.sets.now ≡ c.in-Some.coarser.now ++ c.args.finest.set ∷ [] = c.in-Some.ensures.cases.0 ∙ ap (λ (s : ℕ). c.in-Some.coarser.now ++ s ∷ []) c.if-last-finest.true in
     IfOk-weaker c.joined.result _ (λ cells. AreFilled c.args.finest c.args.sets.now c.args.measures cells.entries) (λ all joined. record {
       keeps_finest = true;
@@ -34,7 +34,7 @@ returns-in_ok-levels-in-Some c =
     }) c.joined.ensures
 
 pub returns-in_ok-levels-in_default : goal.returns-in_ok-levels-in_default
-returns-in_ok-levels-in_default c =
+returns-in_ok-levels-in_default g c =
     let none : c.new.result.entries ≡ [] = search rules in
     IfOk-weaker c.joined-in_default.result _ (λ cells. AreFilled c.args.finest c.args.sets.now c.args.measures cells.entries) (λ all joined. record {
       keeps_finest = false;

@@ -1,16 +1,33 @@
-use Rattle.std.proofs.Common.{rules, ap, ◌∙◌, ◌≡◌, ◌++◌, ◌∷◌, [], refl, reverse}
-use Rattle.std.proofs.lemmas.List.{reverse-append}
+use Rattle.std.proofs.lemmas.List.Folds.{drop_split}
+use Rattle.std.proofs.Common.{◌<◌, ◌≤◌, ◌≡◌, ◌∙◌, ◌++◌, ◌-◌, ℕ, List, length, take, drop, get_or, ap, sym, arith}
+use Rattle.std.specs.Prelude.{Ok, Result, IfOk}
+use Rattle.std.specs.declared.alloc.AllocError.{AllocError}
+use Rattle.std.proofs.lemmas.List.{length-map, get_or-map}
+use Rattle.cube_cells.specs.Fill.{IsMadeLevel}
 use Rattle.cube_cells.specs.declared.cube.fill.Level.{Level}
-use Rattle.cube_cells.proofs.FillLaws.{IsMakingLevels, IsMakingLevels-more}
+use Rattle.cube_cells.proofs.FillLaws.{IsMakingLevels, IsMakingLevels-next}
 use Rattle.cube_cells.proofs.cube.fill.levels_from.Goals as goal
 
-pub loop-set-preserved : goal.loop-set-preserved
-loop-set-preserved c =
-    let left = reverse c.next.new.self.iter.rest.now in
-    let now = c.loop-set.levels.items in
-    let level : Level = record { set = c.in-Some.set.now; cells = c.in_ok-cells.cells } in
-    let step : reverse c.loop-set.set-iterator.iter.rest.now ≡ c.in-Some.set.now ∷ left = ap reverse c.in-Some.ensures.steps ∙ reverse-append c.next.new.self.iter.rest.now (c.in-Some.set.now ∷ []) in
-    let making : IsMakingLevels c.args.measures c.args.finest.now c.args.sets.now (c.in-Some.set.now ∷ left) now = rw step at c.loop-set.invariant in
-    let pushed : c.push.new.self.items ≡ now ++ level ∷ [] = search rules in
-    rw pushed (IsMakingLevels-more c.args.measures c.args.finest.now c.args.sets.now left now c.in-Some.set.now c.smallest_finer-finer.result.now level making
-    (rw c.deref.ensures.value at c.smallest_finer-finer.ensures.made) c.smallest_finer-finer.ensures.finer refl c.in_ok-cells.ensures.made c.in_ok-cells.ensures.width)
+pub loop-done-preserved : goal.loop-done-preserved
+loop-done-preserved g c =
+    let order = c.in_ok-order.order.items in
+    let done = c.loop-done.done in
+    let end = c.end_of_layer-end.result in
+    let old = c.loop-done.levels.items in
+    let layer = take (end - done) (drop done order) in
+    let pushed = c.in_ok-push_levels.ensures in
+    let results = c.in_ok-made.made.items in
+    let there = c.deref-in-loop-done-2.ensures.value in
+    let sets = c.deref-in-loop-done.ensures.value in
+    let whole = c.deref.ensures.value in
+    let within : end ≤ length order = rw whole at c.end_of_layer-end.ensures.within in
+    let after : done < end = c.end_of_layer-end.ensures.after in
+    let split : drop done order ≡ layer ++ drop end order = drop_split order done end (omega (arith, after)) in
+    let each : (i : ℕ) (unused : Result Level AllocError) → i < length layer → IfOk (get_or results i unused) (IsMadeLevel c.args.measures c.args.finest.now old (get_or layer i 0)) = rw (there, sets) at c.in_ok-made.ensures.each in
+    let count : length results ≡ length layer = rw sets at c.in_ok-made.ensures.long in
+    let long : length pushed.levels ≡ length layer = sym (length-map pushed.levels Ok) ∙ ap (λ (l : List (Result Level AllocError)). length l) pushed.are ∙ count in
+    let making : IsMakingLevels c.args.measures c.args.finest.now order (layer ++ drop end order) old = rw split at c.loop-done.invariant.1 in
+    let next = IsMakingLevels-next c.args.measures c.args.finest.now order layer (drop end order) old pushed.levels making long (λ i unused inside.
+    let one : get_or results i (Ok unused) ≡ Ok (get_or pushed.levels i unused) = rw (← pushed.are) (get_or-map Ok pushed.levels i unused (Ok unused) (omega (arith, inside, long))) in
+    rw one at (each i (Ok unused) inside)) in
+    (within, rw pushed.pushed next)

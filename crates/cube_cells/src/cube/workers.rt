@@ -1,0 +1,161 @@
+//! Who does work that can be cut into parts: this thread alone, or several.
+ghost use Rattle.std.specs.Prelude.{◌≡◌, All, IfOk, OnOk, length};
+ghost use Rattle.std.specs.Cmp.Lexicographic.{slice_cmp};
+ghost use Rattle.std.specs.List.Sorted.{IsPermutation, IsSortedBy};
+ghost use Rattle.std.specs.Ordering.{nat_cmp, is_lt};
+ghost use Rattle.std.specs.Thread.{IsSync};
+ghost use Rattle.cube_cells.specs.Fill.{AreMadeLevels, IsFiner};
+
+use super::fill::{Level, level_from};
+use super::ordered::Place;
+use rayon::prelude::*;
+use std::alloc::{AllocError, Global};
+use std::thread::{Threads, for_each_mut};
+
+/// Who sorts places and makes levels.
+pub trait Workers {
+    // Threads may share what they need.
+    ghost is_shared: { Self → Type 0 };
+
+    /// Sorts places by their ranks.
+    fn sort_places(&self, alloc: Global, places: &mut Vec<Place<'_>>) -> Result<(), AllocError>
+        requires { is_shared self.now }
+        ensures same { IsPermutation places.old.items places.new.items }
+        ensures order { OnOk result (IsSortedBy
+            (λ a b. is_lt (slice_cmp nat_cmp a.ranks b.ranks)) places.new.items) };
+
+    /// Makes the levels of the sets of a layer, none of which is finer than another.
+    fn levels_of_layer(
+        &self,
+        alloc: Global,
+        finest: &Level,
+        levels: &[Level],
+        layer: &[u8],
+        measures: usize,
+    ) -> Result<Vec<Result<Level, AllocError>>, AllocError>
+        requires shared { is_shared self.now }
+        requires finer { All (IsFiner finest.now.set) layer.now }
+        requires first { All (λ cell. length cell.1.bags ≡ measures) finest.now.cells.entries }
+        requires widths { All (λ level. All (λ cell. length cell.1.bags ≡ measures) level.cells.entries) levels.now }
+        ensures { IfOk result (λ made.
+            AreMadeLevels measures finest.now levels.now layer.now made.items) };
+}
+
+/// This thread alone.
+#[derive(Drop)]
+pub struct Alone;
+
+/// As many threads as this says, or fewer.
+#[derive(Drop)]
+pub struct Several<'r, T> {
+    pub rt: &'r T,
+    pub threads: usize,
+}
+
+impl Workers for Alone {
+    ghost is_shared = { λ _. Unit {0} };
+
+    fn sort_places(&self, _alloc: Global, places: &mut Vec<Place<'_>>) -> Result<(), AllocError> {
+        places.sort_unstable_by(|a, b| a.ranks.cmp(&b.ranks));
+        Ok(())
+    }
+
+    fn levels_of_layer(
+        &self,
+        alloc: Global,
+        finest: &Level,
+        levels: &[Level],
+        layer: &[u8],
+        measures: usize,
+    ) -> Result<Vec<Result<Level, AllocError>>, AllocError> {
+        let mut made = Vec::with_capacity(alloc, layer.len())?;
+        for set in layer {
+            made.push(Ok(level_from(alloc, finest, levels, *set, measures)?))?;
+        }
+        Ok(made)
+    }
+}
+
+impl<'r, T: Threads + Sync> Workers for Several<'r, T> {
+    ghost is_shared = { λ _. IsSync T.row };
+
+    fn sort_places(&self, alloc: Global, places: &mut Vec<Place<'_>>) -> Result<(), AllocError> {
+        sort_by_several(self.rt, alloc, places)
+    }
+
+    fn levels_of_layer(
+        &self,
+        alloc: Global,
+        finest: &Level,
+        levels: &[Level],
+        layer: &[u8],
+        measures: usize,
+    ) -> Result<Vec<Result<Level, AllocError>>, AllocError> {
+        levels_by_several(
+            self.rt,
+            self.threads,
+            alloc,
+            finest,
+            levels,
+            layer,
+            measures,
+        )
+    }
+}
+
+// Sorts places by their ranks, on several threads.
+fn sort_by_several<T: Threads + Sync>(
+    rt: &T,
+    alloc: Global,
+    places: &mut Vec<Place<'_>>,
+) -> Result<(), AllocError>
+    ensures same { IsPermutation places.old.items places.new.items }
+    ensures order { OnOk result (IsSortedBy
+        (λ a b. is_lt (slice_cmp nat_cmp a.ranks b.ranks)) places.new.items) }
+{
+    par_sort_by(
+        rt,
+        alloc,
+        places.as_mut_slice(),
+        |a, b| a.ranks.cmp(&b.ranks),
+    )
+}
+
+// The levels of the sets of a layer, each made by one of several threads.
+fn levels_by_several<T: Threads + Sync>(
+    rt: &T,
+    threads: usize,
+    alloc: Global,
+    finest: &Level,
+    levels: &[Level],
+    layer: &[u8],
+    measures: usize,
+) -> Result<Vec<Result<Level, AllocError>>, AllocError>
+    requires finer { All (IsFiner finest.now.set) layer.now }
+    requires first { All (λ cell. length cell.1.bags ≡ measures) finest.now.cells.entries }
+    requires widths { All (λ level. All (λ cell. length cell.1.bags ≡ measures) level.cells.entries) levels.now }
+    ensures { IfOk result (λ made.
+        AreMadeLevels measures finest.now levels.now layer.now made.items) }
+{
+    let mut made = unmade(alloc, layer.len())?;
+    for_each_mut(
+        rt,
+        made.as_mut_slice(),
+        threads.max(1),
+        &|which, slot| {
+            *slot = level_from(alloc, finest, levels, layer[which], measures);
+        },
+    );
+    Ok(made)
+}
+
+// Places for so many levels.
+fn unmade(alloc: Global, number: usize) -> Result<Vec<Result<Level, AllocError>>, AllocError>
+    ensures { IfOk result (λ made. length made.items ≡ number) }
+{
+    let mut made = Vec::with_capacity(alloc, number)?;
+    for _ in 0..number {
+        made.push(Err(AllocError))?;
+    }
+    Ok(made)
+}

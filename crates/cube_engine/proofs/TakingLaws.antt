@@ -1,0 +1,63 @@
+-- Ledgers and builders stand further on after an item, and where they stood after none.
+use Rattle.std.proofs.Common.{◌≡◌, ℕ, List, [], ◌∷◌, ◌++◌, length, sym, ap, subst, ◌∙◌}
+use Rattle.cube_core.specs.Arrival.{Arrivals}
+use Rattle.cube_core.specs.declared.change.Item.{Item}
+use Rattle.cube_core.specs.declared.fact.Fact.{Fact}
+use Rattle.cube_cells.specs.Cube.{Lattice, SameCells, SameSets}
+use Rattle.cube_cells.proofs.CubeLaws.{IsCubeOf-SameCells}
+use Rattle.cube_engine.specs.Builder.{BuilderView, HasFacts, SameBuilder, StandsAt}
+use Rattle.cube_engine.specs.Ledger.{AtSource, Enters, LedgerView, LedgerStandsAt, all_facts}
+use Rattle.cube_engine.specs.Taking.{LedgerStandsFrom, BuilderStandsFrom}
+use Rattle.cube_engine.proofs.BuilderLaws.{SameSets-trans}
+use Rattle.cube_engine.proofs.RulingLaws.{AtSource-length}
+
+-- a ledger that took an item
+pub ledger-further : (old new : LedgerView) (source : ℕ) (item : Item) → AtSource (Enters old.schema item) source old new
+    → ((arrivals : Arrivals) → LedgerStandsAt old arrivals → LedgerStandsAt new (arrivals ++ (source, item) ∷ []))
+    → (first : LedgerView) (arrivals : Arrivals) → LedgerStandsFrom first old arrivals → LedgerStandsFrom first new (arrivals ++ (source, item) ∷ [])
+ledger-further old new source item at stands first arrivals from = record {
+  schema = at.schema ∙ from.schema;
+  all = AtSource-length _ source old new at ∙ from.all;
+  stands_at = stands arrivals from.stands_at;
+}
+
+-- a ledger that is as it was
+pub ledger-same : (old new : LedgerView) → new ≡ old → (first : LedgerView) (arrivals : Arrivals) → LedgerStandsFrom first old arrivals → LedgerStandsFrom first new arrivals
+ledger-same old new same first arrivals from = subst (λ (l : LedgerView). LedgerStandsFrom first l arrivals) (sym same) from
+
+-- a cube whose cells count the same has the same facts
+HasFacts-SameCells : (facts : List Fact) (old new : Lattice) → SameCells old new → HasFacts facts old → HasFacts facts new
+HasFacts-SameCells facts old new same has = record {
+  cells = IsCubeOf-SameCells old new facts same has.cells;
+  facts_are = same.facts ∙ has.facts_are;
+}
+
+-- a builder with as many accounts as before, over the same sets
+pub record TakesOne (old new : BuilderView) : Type 0 where
+  pub all : length new.ledger.accounts ≡ length old.ledger.accounts
+  pub same : SameSets old.cube new.cube
+
+-- a builder that took an item
+pub builder-further : (old new : BuilderView) (source : ℕ) (item : Item) → TakesOne old new
+    → ((arrivals : Arrivals) → StandsAt old arrivals → StandsAt new (arrivals ++ (source, item) ∷ []))
+    → (first : BuilderView) (arrivals : Arrivals) → BuilderStandsFrom first old arrivals → BuilderStandsFrom first new (arrivals ++ (source, item) ∷ [])
+builder-further old new source item takes stands first arrivals from = record {
+  same = SameSets-trans first.cube old.cube new.cube from.same takes.same;
+  all = takes.all ∙ from.all;
+  stands_at = stands arrivals from.stands_at;
+}
+
+-- a builder whose books and cells count the same
+pub builder-same : (old new : BuilderView) → SameBuilder old new → (first : BuilderView) (arrivals : Arrivals) → BuilderStandsFrom first old arrivals → BuilderStandsFrom first new arrivals
+builder-same old new is first arrivals from =
+    let ledger = is.ledger in
+    let stands = from.stands_at in
+    record {
+      same = SameSets-trans first.cube old.cube new.cube from.same is.cells.same;
+      all = ap (λ (l : LedgerView). length l.accounts) ledger ∙ from.all;
+      stands_at = record {
+        ledger = subst (λ (l : LedgerView). LedgerStandsAt l arrivals) (sym ledger) stands.ledger;
+        cube = subst (λ (l : LedgerView). HasFacts (all_facts l.accounts) new.cube) (sym ledger)
+            (HasFacts-SameCells (all_facts old.ledger.accounts) old.cube new.cube is.cells stands.cube);
+      };
+    }

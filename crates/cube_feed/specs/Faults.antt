@@ -1,0 +1,26 @@
+-- The fault of a feed, told by the bytes of its source, and the lowest source whose feed is at fault (this project's choice).
+use Rattle.std.specs.Prelude.{◌≡◌, ◌≤◌, ◌-◌, ⊤, ℕ, List, length, take, get_or, Option, None, IfSome}
+use Rattle.cube_core.specs.Items.{FeedEnd, WrongHeader, TooManyRecords, items_of}
+use Rattle.cube_core.specs.Layout.{Layout}
+use Rattle.cube_core.specs.Records.{records_of}
+use Rattle.cube_core.specs.Run.{Told, AreGood}
+use Rattle.cube_feed.specs.declared.fault.FeedFault.{FeedFault}
+use Rattle.cube_feed.specs.declared.fault.FeedFault.TheVariants.{Memory, Read, Header, TooMany}
+
+-- how the feed of a fault ends; want of memory and the reader's own fault may come at any time
+abbrev pub IsEndOf : FeedEnd → FeedFault → Type 0
+IsEndOf end Memory = ⊤
+IsEndOf end Read = ⊤
+IsEndOf end Header = end ≡ WrongHeader
+IsEndOf end TooMany = end ≡ TooManyRecords
+
+-- a fault of the feed of a source
+abbrev pub IsFaultOf : Layout → Option (List ℕ) → FeedFault → Type 0
+IsFaultOf s bytes fault = IfSome bytes (λ known. IsEndOf (items_of s (records_of known)).end fault)
+
+-- the feed of this source is at fault, and those of all lower sources are good
+pub record IsLowestFault (s : Layout) (sources : Told) (source : ℕ) (fault : FeedFault) : Type 0 where
+  pub first : 1 ≤ source
+  pub last : source ≤ length sources
+  pub lower : AreGood s (take (source - 1) sources)
+  pub ends : IsFaultOf s (get_or sources (source - 1) None) fault

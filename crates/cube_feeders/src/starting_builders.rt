@@ -1,0 +1,125 @@
+//! Starting and joining the builders.
+ghost use Rattle.std.specs.Prelude.{◌≡◌, ◌≤◌, ◌+◌, ◌++◌, ◌∷◌, [], vec_len, vec_capacity, OnOk, IfSome};
+ghost use Rattle.std.specs.List.{All, AllZip};
+ghost use Rattle.cube_feeders.specs.Feeding.{Feeds};
+ghost use Rattle.cube_feeders.specs.Starting.{MayStart, IsReady, HasGathered};
+
+use cube_feed::TakesItems;
+use crate::starting_feeders::{gather_all, with_feeders};
+use crate::gate::Gate;
+use crate::parcel::Parcel;
+use crate::roster::{Feeder, Gatherer, NoThread, Roster};
+use crate::words::{Word, tell_all, wait_for_word};
+use cube_link::Inlet;
+use std::alloc::Global;
+use std::io::Read;
+use std::snapshot::Snapshot;
+use std::sync::Wait;
+use std::thread::{Promise, Scope, Threads};
+
+// What a builder's thread promises of what it gives back.
+#[derive(Drop)]
+struct PromisesGather<B: TakesItems> {
+    old: Snapshot<Gatherer<B>>,
+}
+
+impl<B: TakesItems> Promise<Option<Gatherer<B>>> for PromisesGather<B> {
+    ghost kept_by = { λ p r. IfSome r (HasGathered B.stands p.old.value) };
+}
+
+fn gather_on_word<W: Wait, B: TakesItems, G: Gate>(
+    rt: &W,
+    number: u32,
+    post: Inlet<Word>,
+    gatherer: Gatherer<B>,
+    gate: &G,
+) -> Option<Gatherer<B>>
+    requires { IsReady B.sources B.stands gatherer }
+    ensures { IfSome result (HasGathered B.stands gatherer) }
+{
+    let mut gatherer = gatherer;
+    match wait_for_word(rt, post) {
+        Word::Go => {
+            gather_all(rt, number, &mut gatherer, gate);
+            Some(gatherer)
+        }
+        Word::Stop => None,
+    }
+}
+
+// Keeps what a builder gathered, for which there is room.
+fn keep<B: TakesItems>(gatherer: Gatherer<B>, roster: &mut Roster<B>)
+    requires { vec_len roster.old.gatherers + 1 ≤ vec_capacity roster.old.gatherers }
+    ensures gatherers { roster.new.gatherers.items ≡ roster.old.gatherers.items ++ gatherer ∷ [] }
+    ensures ends { roster.new.ends ≡ roster.old.ends }
+    ensures room { vec_capacity roster.old.gatherers ≤ vec_capacity roster.new.gatherers }
+{
+    let Ok(()) = roster.gatherers.push(gatherer) else {
+        unreachable!()
+    };
+}
+
+/// Starts all builders but the first, the last one first, then the feeders, and joins them all. The first builder
+/// gathers on the caller's thread.
+///
+/// Where a thread couldn't be started those that were are told to stop, and nothing is read.
+pub(crate) fn with_builders<
+    's,
+    'e: 's,
+    T: Threads + Wait + Sync + 'e,
+    R: Read + Drop + Send + 'e,
+    B: TakesItems + Send + 'e,
+    G: Gate + Sync + 'e,
+>(
+    rt: &'e T,
+    alloc: Global,
+    scope: &Scope<'s, &'e ()>,
+    gate: &'e G,
+    builders: Vec<Gatherer<B>>,
+    feeders: Vec<Feeder<'e, R>>,
+    roster: &mut Roster<B>,
+) -> Result<(), NoThread>
+    requires outlets { All
+        (λ feeder. (1 ≤ vec_len feeder.outlets) × (vec_len feeder.outlets ≤ 8)) feeders.items }
+    requires start { MayStart (vec_len builders) (vec_len feeders) roster.old }
+    requires ready { All (IsReady B.sources B.stands) builders.items }
+    ensures ends { OnOk result (AllZip
+        (λ feeder end. Feeds feeder.feed.to_come feeder.outlets.items end)
+        feeders.entry.items roster.new.ends.items) }
+    ensures gatherers { OnOk result
+        (AllZip (HasGathered B.stands) builders.items roster.new.gatherers.items) }
+    ensures room { OnOk result
+        (vec_capacity roster.old.gatherers ≤ vec_capacity roster.new.gatherers) }
+{
+    let mut builders = builders;
+    let mut gatherer = builders.pop().unwrap();
+    if builders.is_empty() {
+        with_feeders(rt, alloc, scope, gate, feeders, &mut gatherer, roster)?;
+        keep(gatherer, roster);
+        return Ok(());
+    }
+    let number = builders.len() as u32;
+    let post = roster.posts.pop().unwrap();
+    let promise = PromisesGather {
+        old: Snapshot::of(&gatherer),
+    };
+    let started = scope.spawn_with(
+        promise,
+        move || -> Option<Gatherer<B>>
+            requires { IsReady B.sources B.stands gatherer }
+            ensures { IfSome result (HasGathered B.stands gatherer) }
+        { gather_on_word(rt, number, post, gatherer, gate) },
+    );
+    let Ok(child) = started else {
+        tell_all(&mut roster.words, Word::Stop);
+        return Err(NoThread);
+    };
+    let answer = with_builders(rt, alloc, scope, gate, builders, feeders, roster);
+    match (answer, child.join(rt)) {
+        (Ok(()), Some(gatherer)) => {
+            keep(gatherer, roster);
+            Ok(())
+        }
+        _ => Err(NoThread),
+    }
+}

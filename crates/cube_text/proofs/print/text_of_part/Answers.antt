@@ -1,0 +1,19 @@
+use Rattle.std.proofs.Common.{◌≡◌, ◌+◌, ◌*◌, [], length}
+use Rattle.std.specs.Prelude.{min}
+use Rattle.std.proofs.lemmas.Result.{IfOk-weaker}
+use Rattle.std.specs.List.{flat_map}
+use Rattle.cube_core.specs.Text.{row_line}
+use Rattle.cube_text.proofs.PartLaws.{RowsGoOn-within, end_of_part}
+use Rattle.cube_text.proofs.print.text_of_part.Goals as goal
+
+pub returns : goal.returns
+returns c =
+    let o = c.args.cells.now in
+    let size = c.args.size in
+    let which = c.args.which in
+    let from = c.place_within-from.result in
+    let part = c.in_ok-put_cells.ensures in
+    let all = part.added [] c.no_lines-lines.ensures in
+    let end : from + c.min.result ≡ min (size * (which + 1)) (length o.cells) = rw (c.min.ensures, c.len.ensures) (end_of_part size which (length o.cells) from c.place_within-from.ensures) in
+    let on = RowsGoOn-within o (size * which) (size * (which + 1)) from _ part.rows c.place_within-from.ensures end part.go_on in
+    IfOk-weaker c.into_text.result _ _ (λ bytes holds. record { rows = part.rows; go_on = on; text_is = holds (flat_map row_line part.rows) all }) c.into_text.ensures

@@ -1,0 +1,227 @@
+#!/usr/bin/env python3
+"""Makes the tables of docs/PROMISES.md from the code: what each public call of the library promises.
+
+    scripts/promises.py                   prints the tables; scripts/documents.py writes them into the page
+
+A call has a row: the first sentence of its documentation, the names of the clauses of its contract, and its error with
+what the documentation says of it; one that may wait for another thread is marked. The types of errors have a table of
+their own, with what each variant means.
+"""
+import os
+import re
+import sys
+
+ROOT = os.path.dirname(os.path.dirname(os.path.realpath(__file__)))
+# the crates of the library, from the values up
+CRATES = ["cube_core", "cube_feed", "cube_counts", "cube_cells", "cube_engine", "cube_link", "cube_feeders",
+          "cube_threads", "cube_words", "cube_text", "cube_tool"]
+PLACE = re.compile(r"(<!-- promises -->\n).*?(<!-- end of promises -->)", re.DOTALL)
+
+OWNER = re.compile(r"(impl|pub trait|trait)(?:<.*?>)? (\w+)")
+FUNCTION = re.compile(r"( *)(pub )?(?:const |unsafe )*fn (\w+)")
+CLAUSE = re.compile(r" *(requires|ensures)(?: (\w+))? \{")
+TYPE = re.compile(r"pub (enum|struct) (\w+)")
+VARIANT = re.compile(r"    (\w+)\b.*,$")
+USE = re.compile(r"pub use ([\w:]+?)(?:::\{(.*?)\})?;", re.DOTALL)
+OF_ERRORS = re.compile(r"\b(errors?|faults?|failures?|memory|refused|wanting|gives? it back|given back)\b")
+
+
+class Call:
+    """A function: its names, documentation, the clauses of its contract, and the type of its error or ''."""
+
+    def __init__(self, owner, name, doc, head):
+        self.owner, self.name, self.doc = owner, name, doc
+        found = [CLAUSE.match(line) for line in head]
+        first = next((at for at, it in enumerate(found) if it), len(head))
+        self.asks = [it[2] for it in found if it and it[1] == "requires"]
+        self.promises = [it[2] for it in found if it and it[1] == "ensures"]
+        signature = " ".join(line.strip() for line in head[:first])
+        self.error, self.waits = error_of(signature), re.search(r"\bWait\b", signature) is not None
+
+
+class Module:
+    """What a file has: its calls, its types with their variants, what it gives on, and its public modules."""
+
+    def __init__(self, path):
+        with open(path, encoding="utf-8") as file:
+            self.text = file.read()
+        about = "\n".join(it[3:].strip() for it in self.text.splitlines() if it.startswith("//!"))
+        self.about = text_of(about.split("\n\n")[0].splitlines())
+        self.calls, self.types = [], {}
+        self.modules = re.findall(r"^pub mod (\w+);", self.text, re.M)
+        self.uses = [(front, re.findall(r"\w+", names)) if names else one_of(front) for front, names in USE.findall(self.text)]
+        self.read(self.text.splitlines())
+
+    def read(self, lines):
+        owner, doc, within = None, [], None
+        for at, line in enumerate(lines):
+            if line.strip().startswith("///"):
+                doc.append(line.strip()[3:].strip())
+                continue
+            if line.strip().startswith("#["):
+                continue
+            if line == "}":
+                owner = within = None
+            elif opened := OWNER.match(line):
+                owner = (opened[2], opened[1].endswith("trait")) if " for " not in line else ("", False)
+                if opened[1] == "pub trait":
+                    self.types[opened[2]] = (text_of(doc), {})
+            elif opened := TYPE.match(line):
+                within = opened[2] if opened[1] == "enum" else None
+                self.types[opened[2]] = (text_of(doc), {})
+            elif opened := FUNCTION.match(line):
+                self.add(owner, opened, doc, lines[at:])
+            elif within and (variant := VARIANT.match(line)) and doc:
+                self.types[within][1][variant[1]] = text_of(doc)
+            doc = []
+
+    def add(self, owner, opened, doc, lines):
+        name, is_trait = owner or (None, False)
+        if name == "" or not opened[2] and not is_trait:
+            return
+        ends = {opened[1] + "{", opened[1] + "{}"}
+        head = []
+        for line in lines:
+            if line in ends:
+                break
+            head.append(line)
+            if line.endswith(";") and is_trait or not CLAUSE.match(line) and line.endswith(" {"):
+                break
+        self.calls.append(Call(name, opened[3], text_of(doc), head))
+
+
+def one_of(path):
+    """What `pub use a::b` gives on, as a path and a name."""
+    front, _, name = path.rpartition("::")
+    return front, [name]
+
+
+def text_of(doc):
+    """Documentation as one text, its links as plain names."""
+    return re.sub(r"\[(`[^`]*`)\](\([^)]*\))?", r"\1", " ".join(it for it in doc if it))
+
+
+def sentences(text):
+    return re.split(r"(?<=[.]) (?=[A-Z`])", text) if text else []
+
+
+def error_of(signature):
+    """The type of a signature's error, or ''."""
+    found = re.search(r"-> Result<(.*)>", signature)
+    if not found:
+        return ""
+    depth = 0
+    for at, sign in reversed(list(enumerate(found[1]))):
+        depth += (sign in ">)]") - (sign in "<([")
+        if sign == "," and depth == 0:
+            return found[1][at + 1:].strip()
+    return ""
+
+
+class Crate:
+    """A crate: its modules by their paths, and what of them is public."""
+
+    def __init__(self, name):
+        self.name, self.source = name, f"{ROOT}/crates/{name}/src"
+        self.modules = {}
+        for folder, _, files in os.walk(self.source):
+            for file in files:
+                if file.endswith(".rt"):
+                    path = os.path.relpath(f"{folder}/{file}", self.source)[:-3].replace("/", "::")
+                    self.modules["" if path == "lib" else path] = Module(f"{folder}/{file}")
+        self.calls, self.types, self.given_on = [], {}, {}
+        self.show("", "")
+
+    def show(self, path, shown):
+        """Takes in what a public module has and gives on; `shown` is its path as callers say it."""
+        module = self.modules[path]
+        self.take(module, shown, [it.name for it in module.calls if not it.owner], list(module.types))
+        for front, names in module.uses:
+            inner = self.found(path, front)
+            if inner is None:
+                self.given_on.setdefault(front.split("::")[0], []).extend(names)
+            else:
+                self.follow(inner, shown, names)
+        for name in module.modules:
+            self.show(f"{path}::{name}".lstrip(":"), f"{shown}{name}::")
+
+    def follow(self, path, shown, names):
+        """Takes in the named things of a module, or of the modules that it has them from."""
+        module = self.modules[path]
+        self.take(module, shown, names, names)
+        for front, further in module.uses:
+            inner, both = self.found(path, front), [it for it in further if it in names]
+            if inner is not None and both:
+                self.follow(inner, shown, both)
+
+    def found(self, path, front):
+        """The path of a module that is named in another one, or None where it is another crate's."""
+        inner = f"{path}::{front}".lstrip(":")
+        return inner if inner in self.modules else None
+
+    def take(self, module, shown, names, types):
+        """Takes in the functions and the types of these names, the types with what they can be asked."""
+        self.calls += [(shown + it.name, it) for it in module.calls if not it.owner and it.name in names]
+        for name in filter(module.types.get, types):
+            self.types[name] = module.types[name]
+            for other in self.modules.values():
+                self.calls += [(f"{shown}{name}::{it.name}", it) for it in other.calls if it.owner == name]
+
+
+def cell(text):
+    return text.replace("|", "\\|")
+
+
+def clauses(names):
+    """The names of clauses; those without a name are counted."""
+    unnamed = names.count(None)
+    told = [f"`{it}`" for it in names if it]
+    return ", ".join(told + ([f"{unnamed} unnamed" if told else "one clause"] if unnamed else []))
+
+
+def error_told(call):
+    """A call's error, with the sentences of its documentation, but the first, that speak of it."""
+    if not call.error:
+        return ""
+    told = [it for it in sentences(call.doc)[1:] if OF_ERRORS.search(it) and "takes no memory" not in it]
+    return f"`{call.error}`" + (f": {' '.join(told)}" if told else "")
+
+
+def tables_of(crate):
+    """The tables of a crate."""
+    made = [f"## `{crate.name}`", "", sentences(crate.modules[""].about)[0], ""]
+    made += ["| Call | What it does | Asks | Promises | Error |", "|---|---|---|---|---|"]
+    for name, call in crate.calls:
+        if not call.doc:
+            sys.exit(f"{crate.name}: {name} has no documentation")
+        named = f"`{name}`" + " (waits)" * call.waits
+        cells = [named, sentences(call.doc)[0], clauses(call.asks), clauses(call.promises), error_told(call)]
+        made.append("| " + " | ".join(map(cell, cells)) + " |")
+    made.append("")
+    for other, names in crate.given_on.items():
+        made += [f"It gives on from `{other}`: " + ", ".join(f"`{it}`" for it in names) + ".", ""]
+    errors = {it for _, call in crate.calls for it in [call.error]}
+    faults = {name: it for name, it in crate.types.items() if name in errors or name.endswith("Fault")}
+    if faults:
+        made += ["| Error | What it means |", "|---|---|"]
+        for name, (doc, variants) in faults.items():
+            rows = [(f"{name}::{it}", text) for it, text in variants.items()] or [(name, sentences(doc)[0])]
+            made += [f"| `{it}` | {cell(text)} |" for it, text in rows]
+        made.append("")
+    return made
+
+
+def tables():
+    """All tables."""
+    return "\n".join(line for name in CRATES for line in tables_of(Crate(name)))
+
+
+def page_with(text):
+    """The text of docs/PROMISES.md with its tables made anew."""
+    if not PLACE.search(text):
+        sys.exit("docs/PROMISES.md has no place for the tables")
+    return PLACE.sub(lambda it: it[1] + "\n" + tables() + "\n" + it[2], text)
+
+
+if __name__ == "__main__":
+    print(tables())
