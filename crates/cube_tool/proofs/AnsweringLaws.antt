@@ -17,15 +17,18 @@ use Rattle.cube_cells.specs.Rows.{GivesUnless}
 use Rattle.cube_engine.specs.Build.{BuildsWhole, ExplainsBuild}
 use Rattle.cube_engine.specs.Builder.{BuilderView}
 use Rattle.cube_engine.specs.Ledger.{AllFit, all_facts}
-use Rattle.cube_engine.specs.declared.fault.RunFault.{RunFault}
-use Rattle.cube_engine.specs.declared.fault.RunFault.TheVariants as run_fault
-use Rattle.cube_threads.specs.Building.{ExplainsRun}
+use Rattle.cube_engine.specs.declared.fault.BuildFault.{BuildFault}
+use Rattle.cube_engine.specs.declared.fault.BuildFault.TheVariants as build_fault
+use Rattle.cube_feeders.specs.FeedingAll.{ExplainsFeeding}
+use Rattle.cube_feeders.specs.declared.fault.FeedingFault.{FeedingFault}
+use Rattle.cube_feeders.specs.declared.fault.FeedingFault.TheVariants as feeding_fault
+use Rattle.cube_tool.specs.declared.fault.RunFault.TheVariants as run_fault
 use Rattle.cube_threads.specs.Parts.{AreRowsOfRun, BuiltView, BuildsParts, facts_of_run, schema_of_run}
 use Rattle.cube_text.specs.Shape.{HasShapeOf}
 use Rattle.cube_text.proofs.RowShapeLaws.{HasShapeOf-AreRowsWhere}
 use Rattle.cube_tool.specs.Answering.{Answers, FailsToAnswer, IsToldOf, Writes, question_fault, refusals_of_run}
-use Rattle.cube_tool.specs.Faults.{run_fault_of}
-use Rattle.cube_tool.specs.Run.{IsTextWhere, Leaves, Tells, Wrote, WroteFirst}
+use Rattle.cube_tool.specs.Faults.{fault_of_build, fault_of_feeding, fault_of_text}
+use Rattle.cube_tool.specs.Run.{ExplainsPlainRun, ExplainsRun, IsTextWhere, Leaves, Tells, Wrote, WroteFirst}
 use Rattle.cube_tool.specs.declared.fault.TextFault.{TextFault}
 use Rattle.cube_tool.specs.declared.fault.TextFault.TheVariants as text_fault
 use Rattle.cube_tool.specs.declared.question.Question.{Question}
@@ -44,36 +47,32 @@ Writes-weaker (Err (text_fault.Write sent)) old new to wrote = WroteFirst-weaker
 
 -- ---- what a fault of the build leaves
 
-pub Leaves-ExplainsRun : (question : Question) (s : Layout) (sources : Told) (fault : RunFault) (old new : Option (List ℕ)) → new ≡ old → ExplainsRun s sources fault
-    → Leaves (ExplainsRun s sources) question s sources fault old new
-Leaves-ExplainsRun question s sources run_fault.Memory old new same explains = (same, explains)
-Leaves-ExplainsRun question s sources run_fault.NoThread old new same explains = (same, explains)
-Leaves-ExplainsRun question s sources (run_fault.Feed source fault) old new same explains = (same, explains)
-Leaves-ExplainsRun question s sources run_fault.Full old new same explains = (same, explains)
-Leaves-ExplainsRun question s sources (run_fault.Unsealed source) old new same explains = (same, explains)
-Leaves-ExplainsRun question s sources (run_fault.Write sent) old new same explains = absurd explains
+pub Leaves-feeding : (question : Question) (s : Layout) (sources : Told) (why : FeedingFault) (old new : Option (List ℕ)) → new ≡ old → ExplainsFeeding s sources why
+    → Leaves (ExplainsRun s sources) question s sources (fault_of_feeding why) old new
+Leaves-feeding question s sources feeding_fault.Memory old new same explains = (same, record { why = feeding_fault.Memory; is = refl; explains = explains })
+Leaves-feeding question s sources feeding_fault.NoThread old new same explains = (same, record { why = feeding_fault.NoThread; is = refl; explains = explains })
+Leaves-feeding question s sources (feeding_fault.Feed source fault) old new same explains = (same, record { why = feeding_fault.Feed source fault; is = refl; explains = explains })
+Leaves-feeding question s sources feeding_fault.Full old new same explains = (same, record { why = feeding_fault.Full; is = refl; explains = explains })
+Leaves-feeding question s sources (feeding_fault.Unsealed source) old new same explains = (same, record { why = feeding_fault.Unsealed source; is = refl; explains = explains })
 
-pub Leaves-ExplainsBuild : (question : Question) (s : Layout) (sources : Told) (fault : RunFault) (old new : Option (List ℕ)) → new ≡ old → ExplainsBuild s sources fault
-    → Leaves (ExplainsBuild s sources) question s sources fault old new
-Leaves-ExplainsBuild question s sources run_fault.Memory old new same explains = (same, explains)
-Leaves-ExplainsBuild question s sources run_fault.NoThread old new same explains = absurd explains
-Leaves-ExplainsBuild question s sources (run_fault.Feed source fault) old new same explains = (same, explains)
-Leaves-ExplainsBuild question s sources run_fault.Full old new same explains = (same, explains)
-Leaves-ExplainsBuild question s sources (run_fault.Unsealed source) old new same explains = absurd explains
-Leaves-ExplainsBuild question s sources (run_fault.Write sent) old new same explains = absurd explains
+pub Leaves-build : (question : Question) (s : Layout) (sources : Told) (why : BuildFault) (old new : Option (List ℕ)) → new ≡ old → ExplainsBuild s sources why
+    → Leaves (ExplainsPlainRun s sources) question s sources (fault_of_build why) old new
+Leaves-build question s sources build_fault.Memory old new same explains = (same, record { why = build_fault.Memory; is = refl; explains = explains })
+Leaves-build question s sources (build_fault.Feed source fault) old new same explains = (same, record { why = build_fault.Feed source fault; is = refl; explains = explains })
+Leaves-build question s sources build_fault.Full old new same explains = (same, record { why = build_fault.Full; is = refl; explains = explains })
 
 -- ---- what a fault of the text leaves
 
-pub Leaves-text : (question : Question) {s : Layout} {sources : Told} {parts : ℕ} {built : BuiltView} (why : TextFault) (old new : Option (List ℕ)) → 1 ≤ parts
+pub Leaves-text : (question : Question) {s : Layout} {sources : Told} {parts : ℕ} {built : BuiltView} (why : TextFault) (old new : Option (List ℕ)) → 1 ≤ length built.builders
     → BuildsParts s sources parts built → Writes {T = Unit {0}} (Tells question s (facts_of_run built) (refusals_of_run built)) (Err why) old new
-    → Leaves (ExplainsRun s sources) question s sources (run_fault_of why) old new
-Leaves-text question text_fault.Full old new some builds same = (same, builds.good)
+    → Leaves (ExplainsRun s sources) question s sources (fault_of_text why) old new
+Leaves-text question text_fault.Full old new some builds same = (same, record { why = feeding_fault.Full; is = refl; explains = builds.good })
 Leaves-text question (text_fault.Write sent) old new some builds wrote = OfFeeds-first some builds wrote
 
 pub Leaves-plain_text : (question : Question) {s : Layout} {sources : Told} {builder : BuilderView} (why : TextFault) (old new : Option (List ℕ))
     → BuildsWhole s sources builder → Writes {T = Unit {0}} (Tells question s (all_facts builder.ledger.accounts) (refused builder.ledger.accounts)) (Err why) old new
-    → Leaves (ExplainsBuild s sources) question s sources (run_fault_of why) old new
-Leaves-plain_text question text_fault.Full old new builds same = (same, tt)
+    → Leaves (ExplainsPlainRun s sources) question s sources (fault_of_text why) old new
+Leaves-plain_text question text_fault.Full old new builds same = (same, record { why = build_fault.Full; is = refl; explains = tt })
 Leaves-plain_text question (text_fault.Write sent) old new builds wrote = OfFeeds-whole_first builds wrote
 
 -- ---- rows of what was built
@@ -101,7 +100,7 @@ IsTextWhere-rows test s built rows text schema are is = record { rows = rows; ar
 
 -- a question that isn't refused, and whose text wasn't written whole
 pub Answers-text : (question : Question) (s : Layout) (facts : List Fact) (refusals : List (List Refusal)) (why : TextFault) (old new : Option (List ℕ)) → question_fault s question ≡ None
-    → Writes {T = Unit {0}} (Tells question s facts refusals) (Err why) old new → Answers {T = Unit {0}} question s facts refusals (Err (failure.Run (run_fault_of why))) old new
+    → Writes {T = Unit {0}} (Tells question s facts refusals) (Err why) old new → Answers {T = Unit {0}} question s facts refusals (Err (failure.Run (fault_of_text why))) old new
 Answers-text question s facts refusals text_fault.Full old new lawful same = (same, lawful)
 Answers-text question s facts refusals (text_fault.Write sent) old new lawful wrote = wrote
 
@@ -136,11 +135,11 @@ DrillsDown-given dimension key s built rows schema gives =
 
 -- ---- what a failure of a question over feeds leaves
 
-pub FailsToAnswer-Answers : {s : Layout} {sources : Told} {parts : ℕ} {built : BuiltView} (question : Question) (why : Failure) (old new : Option (List ℕ)) → 1 ≤ parts
+pub FailsToAnswer-Answers : {s : Layout} {sources : Told} {parts : ℕ} {built : BuiltView} (question : Question) (why : Failure) (old new : Option (List ℕ)) → 1 ≤ length built.builders
     → BuildsParts s sources parts built → Answers {T = Unit {0}} question s (facts_of_run built) (refusals_of_run built) (Err why) old new
     → FailsToAnswer question s sources why old new
 FailsToAnswer-Answers question (failure.Query fault) old new some builds answers = (answers.0, builds.good, answers.1)
-FailsToAnswer-Answers question (failure.Run run_fault.Full) old new some builds answers = (answers.0, builds.good)
+FailsToAnswer-Answers question (failure.Run run_fault.Full) old new some builds answers = (answers.0, record { why = feeding_fault.Full; is = refl; explains = builds.good })
 FailsToAnswer-Answers question (failure.Run (run_fault.Write sent)) old new some builds answers = OfFeeds-first some builds answers
 FailsToAnswer-Answers question (failure.Run run_fault.Memory) old new some builds answers = absurd answers
 FailsToAnswer-Answers question (failure.Run run_fault.NoThread) old new some builds answers = absurd answers

@@ -113,10 +113,11 @@ first-stands s sources parts arrivals (builder ∷ builders) inlets some stands 
     record { schema = (stands builder).schema; all = (stands builder).all; stands = (stands builder).stands.ledger }
 
 -- so it does after a build
-pub StandsUnder-BuildsParts : {s : Layout} {sources : Told} {parts : ℕ} {built : BuiltView} → 1 ≤ parts → (builds : BuildsParts s sources parts built)
+pub StandsUnder-BuildsParts : {s : Layout} {sources : Told} {parts : ℕ} {built : BuiltView} → 1 ≤ length built.builders → (builds : BuildsParts s sources parts built)
     → StandsUnder s (length sources) builds.arrivals (first_ledger built.builders)
 StandsUnder-BuildsParts {s = s} {sources = sources} {parts = parts} {built = built} some builds =
-    first-stands s (length sources) parts builds.arrivals built.builders built.inlets (rw builds.stands.builders some) (λ d. builds.stands.each 0 d some)
+    let count = builds.stands.builders in
+    first-stands s (length sources) parts builds.arrivals built.builders built.inlets some (λ d. builds.stands.each 0 d (omega arith))
 
 HasTaken-BuildsParts : {s : Layout} {sources : Told} {parts : ℕ} {built : BuiltView} → (builds : BuildsParts s sources parts built)
     → HasTaken s parts (of_sources (length sources) builds.arrivals) built
@@ -124,7 +125,7 @@ HasTaken-BuildsParts {s = s} {sources = sources} {parts = parts} {built = built}
     StandsOver-arrivals (λ n. StandsInParts s n parts built) (length sources) builds.arrivals builds.stands
 
 -- a text that tells what is asked of what was built was written: it is that of the feeds
-pub OfFeeds-BuildsParts : {s : Layout} {sources : Told} {parts : ℕ} {built : BuiltView} {question : Question} {old new : Option (List ℕ)} → 1 ≤ parts
+pub OfFeeds-BuildsParts : {s : Layout} {sources : Told} {parts : ℕ} {built : BuiltView} {question : Question} {old new : Option (List ℕ)} → 1 ≤ length built.builders
     → BuildsParts s sources parts built → Wrote (Tells question s (facts_of_run built) (refusals_of_run built)) old new
     → OfFeeds s sources (λ feeds. Wrote (IsTextOf question s feeds) old new × HasTaken s parts feeds built)
 OfFeeds-BuildsParts {sources = sources} {question = question} some builds wrote = record {
@@ -135,7 +136,7 @@ OfFeeds-BuildsParts {sources = sources} {question = question} some builds wrote 
 }
 
 -- the first bytes of it
-pub OfFeeds-first : {s : Layout} {sources : Told} {parts : ℕ} {built : BuiltView} {question : Question} {sent : ℕ} {old new : Option (List ℕ)} → 1 ≤ parts
+pub OfFeeds-first : {s : Layout} {sources : Told} {parts : ℕ} {built : BuiltView} {question : Question} {sent : ℕ} {old new : Option (List ℕ)} → 1 ≤ length built.builders
     → BuildsParts s sources parts built → WroteFirst (Tells question s (facts_of_run built) (refusals_of_run built)) sent old new
     → OfFeeds s sources (λ feeds. WroteFirst (IsTextOf question s feeds) sent old new)
 OfFeeds-first {sources = sources} {question = question} some builds wrote = record {
@@ -146,7 +147,7 @@ OfFeeds-first {sources = sources} {question = question} some builds wrote = reco
 }
 
 -- the same with the status by the refusals
-pub OfFeeds-status : {s : Layout} {sources : Told} {parts : ℕ} {built : BuiltView} {question : Question} {status : Status} {old new : Option (List ℕ)} → 1 ≤ parts
+pub OfFeeds-status : {s : Layout} {sources : Told} {parts : ℕ} {built : BuiltView} {question : Question} {status : Status} {old new : Option (List ℕ)} → 1 ≤ length built.builders
     → BuildsParts s sources parts built → status ≡ status_after (refusals_of_run built) → Wrote (Tells question s (facts_of_run built) (refusals_of_run built)) old new
     → OfFeeds s sources (λ feeds. Wrote (IsTextOf question s feeds) old new × (status ≡ status_over s feeds) × HasTaken s parts feeds built)
 OfFeeds-status {sources = sources} {question = question} some builds status_is wrote =

@@ -10,12 +10,10 @@ use Rattle.cube_core.specs.declared.fact.Fact.{Fact}
 use Rattle.cube_core.specs.declared.query.QueryFault.{QueryFault}
 use Rattle.cube_core.specs.declared.query.QueryFault.TheVariants as query_fault
 use Rattle.cube_core.specs.declared.schema_fault.SchemaFault.TheVariants as schema_fault
-use Rattle.cube_engine.specs.Build.{ExplainsBuild}
-use Rattle.cube_engine.specs.declared.fault.RunFault.TheVariants as run_fault
-use Rattle.cube_threads.specs.Building.{ExplainsRun}
+use Rattle.cube_tool.specs.declared.fault.RunFault.TheVariants as run_fault
 use Rattle.cube_threads.specs.Parts.{BuiltView, StandsInParts, first_ledger}
 use Rattle.cube_tool.specs.Command.{status_after}
-use Rattle.cube_tool.specs.Run.{Leaves, StandsOver, Tells, Wrote, WroteFirst}
+use Rattle.cube_tool.specs.Run.{ExplainsPlainRun, ExplainsRun, Leaves, StandsOver, Tells, Wrote, WroteFirst}
 use Rattle.cube_tool.specs.declared.question.Question.{Question}
 use Rattle.cube_tool.specs.declared.question.Question.TheVariants.{Cube, Slice, Drill, Refusals}
 use Rattle.cube_tool.specs.declared.fault.TextFault.{TextFault}
@@ -84,7 +82,7 @@ FailsToAnswer question s sources _ old new = ⊥
 -- what a failure of the program without words leaves; of its schema nothing but memory can fail
 abbrev pub SampleLeaves : Layout → Told → Failure → Option (List ℕ) → Option (List ℕ) → Type 0
 SampleLeaves s sources (Schema fault) old new = (fault ≡ schema_fault.Memory) × (new ≡ old)
-SampleLeaves s sources (Run fault) old new = Leaves (ExplainsBuild s sources) Cube s sources fault old new
+SampleLeaves s sources (Run fault) old new = Leaves (ExplainsPlainRun s sources) Cube s sources fault old new
 SampleLeaves s sources _ old new = ⊥
 
 -- what showing a text comes to, of which nothing is said: it was written whole, or its first bytes, as many as the failure says, or for want of memory nothing

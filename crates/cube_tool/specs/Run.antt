@@ -15,8 +15,13 @@ use Rattle.cube_core.specs.declared.change.Refusal.{Refusal}
 use Rattle.cube_core.specs.declared.fact.Fact.{Fact}
 use Rattle.cube_core.specs.declared.key.Key.{Key}
 use Rattle.cube_core.specs.declared.key.Row.{Row}
-use Rattle.cube_engine.specs.declared.fault.RunFault.{RunFault}
-use Rattle.cube_engine.specs.declared.fault.RunFault.TheVariants as run_fault
+use Rattle.cube_engine.specs.Build.{ExplainsBuild}
+use Rattle.cube_engine.specs.declared.fault.BuildFault.{BuildFault}
+use Rattle.cube_feeders.specs.FeedingAll.{ExplainsFeeding}
+use Rattle.cube_feeders.specs.declared.fault.FeedingFault.{FeedingFault}
+use Rattle.cube_tool.specs.Faults.{fault_of_build, fault_of_feeding}
+use Rattle.cube_tool.specs.declared.fault.RunFault.{RunFault}
+use Rattle.cube_tool.specs.declared.fault.RunFault.TheVariants as run_fault
 use Rattle.cube_tool.specs.declared.question.Question.{Question}
 use Rattle.cube_tool.specs.declared.question.Question.TheVariants.{Cube, Slice, Drill, Refusals}
 
@@ -69,3 +74,15 @@ pub record StandsOver (Stands : Arrivals → Type 0) (feeds : List (List Item)) 
 abbrev pub Leaves : (RunFault → Type 0) → Question → Layout → Told → RunFault → Option (List ℕ) → Option (List ℕ) → Type 0
 Leaves Explains question s sources (run_fault.Write sent) old new = OfFeeds s sources (λ feeds. WroteFirst (IsTextOf question s feeds) sent old new)
 Leaves Explains question s sources fault old new = (new ≡ old) × Explains fault
+
+-- why a run over feeds wrote nothing: that for which they weren't taken; want of memory only before a record was read, or where all feeds are good
+pub record ExplainsRun (s : Layout) (sources : Told) (fault : RunFault) : Type 0 where
+  pub why : FeedingFault
+  pub is : fault ≡ fault_of_feeding why
+  pub explains : ExplainsFeeding s sources why
+
+-- why a run on one thread wrote nothing: that for which nothing was built
+pub record ExplainsPlainRun (s : Layout) (sources : Told) (fault : RunFault) : Type 0 where
+  pub why : BuildFault
+  pub is : fault ≡ fault_of_build why
+  pub explains : ExplainsBuild s sources why

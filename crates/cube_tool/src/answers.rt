@@ -2,10 +2,9 @@
 //!
 //! Each is the text that its question asks for, made in memory and then written; where memory runs out nothing is
 //! written.
-ghost use Rattle.std.specs.Prelude.{◌≡◌, ◌<◌, length, map, All};
+ghost use Rattle.std.specs.Prelude.{◌≡◌, ◌≤◌, ◌<◌, length, map, All};
 ghost use Rattle.cube_core.specs.Text.{text_of_refusals, text_of_rows};
 ghost use Rattle.cube_engine.specs.Ledger.{AllFit, all_facts};
-ghost use Rattle.cube_text.specs.Rows.{IsTextOfCells};
 ghost use Rattle.cube_text.specs.Shape.{HasShapeOf};
 ghost use Rattle.cube_threads.specs.Parts.{facts_of_run, first_ledger, schema_of_run};
 ghost use Rattle.cube_tool.specs.Answering.{Answers, Fits, Writes, refusals_of_run};
@@ -15,19 +14,21 @@ use crate::command::Failure;
 use crate::fault::TextFault;
 use crate::question::Question;
 use crate::refusals::print_refusals;
-use cube_cells::OrderedCells;
 use cube_core::{Key, Pattern, Row, Schema};
 use cube_engine::Builder;
-use cube_text::{print_cells, print_rows, write_whole};
+use cube_text::{print_cells, print_cells_in_pieces, print_rows, write_pieces, write_whole};
 use cube_threads::Built;
 use std::alloc::Global;
 use std::io::Write;
+use std::thread::Threads;
 
 /// Writes the answer to a question over what was built of a schema.
-pub fn answer<W: Write>(
+pub fn answer<T: Threads + Sync, W: Write>(
+    rt: &T,
     alloc: Global,
     schema: &Schema,
     built: &Built,
+    threads: usize,
     question: &Question,
     out: &mut W,
 ) -> Result<(), Failure>
@@ -37,7 +38,7 @@ pub fn answer<W: Write>(
         result (W.contents out.old) (W.contents out.new) }
 {
     match question {
-        Question::Cube => Ok(write_cube(alloc, schema, built, out)?),
+        Question::Cube => Ok(write_cube(rt, alloc, schema, built, threads, out)?),
         Question::Slice { pattern } => Ok(write_slice(alloc, schema, built, pattern, out)?),
         Question::Drill { key, dimension } => {
             write_drill(alloc, schema, built, key, *dimension, out)
@@ -46,19 +47,23 @@ pub fn answer<W: Write>(
     }
 }
 
-/// Writes the printed cube of what was built of a schema.
-pub fn write_cube<W: Write>(
+/// Writes the printed cube of what was built of a schema, which so many threads sort and print.
+pub fn write_cube<T: Threads + Sync, W: Write>(
+    rt: &T,
     alloc: Global,
     schema: &Schema,
     built: &Built,
+    threads: usize,
     out: &mut W,
 ) -> Result<(), TextFault>
     requires { schema_of_run built.now ≡ schema.now }
     ensures { Writes (Tells Question.Cube schema.now (facts_of_run built.now) (refusals_of_run built.now))
         result (W.contents out.old) (W.contents out.new) }
 {
-    let cells = built.ordered()?;
-    write_cells(alloc, schema, &cells, out)
+    let cells = built.ordered_with(rt, threads)?;
+    let text = print_cells_in_pieces(rt, alloc, schema, &cells, threads)?;
+    write_pieces(out, &text)?;
+    Ok(())
 }
 
 /// Writes the printed cube of a builder over all grouping sets of a schema.
@@ -75,7 +80,8 @@ pub fn write_plain_cube<W: Write>(
         result (W.contents out.old) (W.contents out.new) }
 {
     let cells = builder.cube().ordered()?;
-    write_cells(alloc, schema, &cells, out)
+    let text = print_cells(alloc, schema, &cells)?;
+    write_text(&text, out)
 }
 
 /// Writes the rows whose keys a pattern matches, of the cube of what was built of a schema.
@@ -125,19 +131,6 @@ pub fn write_refusals<W: Write>(alloc: Global, built: &Built, out: &mut W) -> Re
     write_text(&text, out)
 }
 
-// Writes the text of cells in an order.
-fn write_cells<W: Write>(
-    alloc: Global,
-    schema: &Schema,
-    cells: &OrderedCells<'_>,
-    out: &mut W,
-) -> Result<(), TextFault>
-    ensures { Writes (IsTextOfCells schema.now cells.now) result (W.contents out.old) (W.contents out.new) }
-{
-    let text = print_cells(alloc, schema, cells)?;
-    write_text(&text, out)
-}
-
 // Writes the text of rows.
 fn write_rows<W: Write>(
     alloc: Global,
@@ -166,6 +159,13 @@ fn facts_fit(built: &Built)
     ensures { AllFit (schema_of_run built.now) (facts_of_run built.now) }
 {
     let _cube = first_builder(built).cube();
+}
+
+/// There is a builder in all that was built; nothing is done.
+pub(crate) fn has_builder(built: &Built)
+    ensures { 1 ≤ length built.now.builders }
+{
+    let _builders = built.builders();
 }
 
 /// The builder whose books and refusals are those of what was built.

@@ -10,7 +10,8 @@ mod runs;
 
 pub use answers::{answer, write_cube, write_drill, write_plain_cube, write_refusals, write_slice};
 pub use cube_text::{WriteFault, print_cells, print_rows, write_whole};
-pub use fault::TextFault;
+pub use cube_threads::Settings;
+pub use fault::{RunFault, TextFault};
 pub use question::Question;
 pub use refusals::print_refusals;
 pub use runs::{run, run_plain};

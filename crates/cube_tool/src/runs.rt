@@ -1,24 +1,22 @@
 //! Runs: from the bytes of feeds to the printed cube.
 ghost use Rattle.std.specs.Prelude.{◌≡◌, ◌≤◌, length, map, vec_len, IfOk, IfErr};
-ghost use Rattle.cube_engine.specs.Build.{ExplainsBuild};
 ghost use Rattle.cube_engine.specs.Builder.{StandsAt};
-ghost use Rattle.cube_threads.specs.Building.{ExplainsRun};
 ghost use Rattle.cube_tool.specs.Answering.{HasTaken};
-ghost use Rattle.cube_tool.specs.Run.{IsTextOf, Leaves, OfFeeds, StandsOver, Wrote};
+ghost use Rattle.cube_tool.specs.Run.{ExplainsPlainRun, ExplainsRun, IsTextOf, Leaves, OfFeeds, StandsOver, Wrote};
 
-use crate::answers::{write_cube, write_plain_cube};
+use crate::answers::{has_builder, write_cube, write_plain_cube};
+use crate::fault::RunFault;
 use crate::question::Question;
 use cube_core::Schema;
-use cube_engine::{Builder, RunFault, build_plain};
-use cube_threads::{Built, Gate, build};
+use cube_engine::{Builder, build_plain};
+use cube_threads::{Built, Gate, Settings, build};
 use std::alloc::Global;
 use std::io::{Read, Write};
 use std::sync::Wait;
 use std::thread::Threads;
 
 /// Takes every item of the feeds of 1 to 64 sources, each read on a thread of its own, computes the cube of the facts
-/// that are present in the end in 1 to 8 builders, and writes its text; `capacity` is the room of each link, 1 to 65536
-/// parcels.
+/// that are present in the end, and writes its text.
 ///
 /// On a fault nothing was written, but on `Write`, where the first `sent` bytes of the text went out. The faults are
 /// those of [`build`], and `Full` also where a growth was refused in sorting or printing.
@@ -27,23 +25,21 @@ pub fn run<T: Threads + Wait + Sync, R: Read + Drop + Send, G: Gate + Sync, W: W
     alloc: Global,
     schema: &Schema,
     readers: Vec<R>,
-    capacity: usize,
-    builders: u32,
+    settings: &Settings,
     gate: &G,
     out: &mut W,
 ) -> Result<Built, RunFault>
-    requires readers { (1 ≤ vec_len readers) × (vec_len readers ≤ 64) }
-    requires capacity { (1 ≤ capacity) × (capacity ≤ 65536) }
-    requires builders { (1 ≤ builders) × (builders ≤ 8) }
+    requires { (1 ≤ vec_len readers) × (vec_len readers ≤ 64) }
     ensures ok { IfOk result (λ built. OfFeeds schema.now (map R.Read.remaining readers.items) (λ feeds.
         Wrote (IsTextOf Question.Cube schema.now feeds) (W.contents out.old) (W.contents out.new)
-        × HasTaken schema.now builders feeds built)) }
+        × HasTaken schema.now settings.now.builders feeds built)) }
     ensures err { IfErr result (λ fault.
         Leaves (ExplainsRun schema.now (map R.Read.remaining readers.items)) Question.Cube schema.now
         (map R.Read.remaining readers.items) fault (W.contents out.old) (W.contents out.new)) }
 {
-    let built = build(rt, alloc, schema, readers, capacity, builders, gate)?;
-    write_cube(alloc, schema, &built, out)?;
+    let built = build(rt, alloc, schema, readers, settings, gate)?;
+    has_builder(&built);
+    write_cube(rt, alloc, schema, &built, settings.threads(), out)?;
     Ok(built)
 }
 
@@ -58,7 +54,7 @@ pub fn run_plain<R: Read + Drop, W: Write>(
     readers: Vec<R>,
     out: &mut W,
 ) -> Result<Builder, RunFault>
-    requires readers { vec_len readers ≤ 64 }
+    requires { vec_len readers ≤ 64 }
     ensures ok { IfOk result (λ builder. OfFeeds schema.now (map R.Read.remaining readers.items) (λ feeds.
         Wrote (IsTextOf Question.Cube schema.now feeds) (W.contents out.old) (W.contents out.new)
         × StandsOver (StandsAt builder) feeds)) }
@@ -66,7 +62,7 @@ pub fn run_plain<R: Read + Drop, W: Write>(
     ensures sources { IfOk result (λ builder. length builder.ledger.accounts ≡ vec_len readers) }
     ensures sets { IfOk result (λ builder. builder.cube.sets ≡ schema.now.grouping_sets) }
     ensures err { IfErr result (λ fault.
-        Leaves (ExplainsBuild schema.now (map R.Read.remaining readers.items)) Question.Cube schema.now
+        Leaves (ExplainsPlainRun schema.now (map R.Read.remaining readers.items)) Question.Cube schema.now
         (map R.Read.remaining readers.items) fault (W.contents out.old) (W.contents out.new)) }
 {
     let builder = build_plain(alloc, schema, readers)?;

@@ -6,7 +6,7 @@ ghost use Rattle.cube_tool.specs.Explain.{ExplainLeaves, example_text, explained
 use crate::command::failure::Failure;
 use crate::command::notes::Note;
 use crate::command::status::Status;
-use cube_engine::RunFault;
+use crate::fault::RunFault;
 use cube_text::write_whole;
 use std::alloc::{AllocError, Global};
 use std::io::Write;

@@ -3,10 +3,10 @@ ghost use Rattle.std.specs.Prelude.{◌≡◌};
 ghost use Rattle.cube_tool.specs.Command.{status_of};
 
 use crate::command::status::Status;
-use crate::fault::TextFault;
+use crate::fault::{RunFault, TextFault};
 use cube_core::{QueryFault, SchemaFault};
-use cube_engine::RunFault;
 use cube_text::WriteFault;
+use cube_threads::FeedingFault;
 use std::fmt;
 
 /// Why a command failed. Its text is the line for standard error, without the line end.
@@ -74,12 +74,24 @@ impl From<RunFault> for Failure {
     }
 }
 
-impl From<TextFault> for Failure {
+impl From<FeedingFault> for Failure {
     ghost use Rattle.std.specs.Prelude.{◌≡◌};
-    ghost use Rattle.cube_tool.specs.Faults.{run_fault_of};
+    ghost use Rattle.cube_tool.specs.Faults.{fault_of_feeding};
     ghost use Rattle.cube_tool.specs.declared.command.failure.Failure.TheVariants.{Run};
 
-    ghost from_gives = { λ fault failure. failure ≡ Run (run_fault_of fault) };
+    ghost from_gives = { λ fault failure. failure ≡ Run (fault_of_feeding fault) };
+
+    fn from(fault: FeedingFault) -> Failure {
+        Failure::Run(RunFault::from(fault))
+    }
+}
+
+impl From<TextFault> for Failure {
+    ghost use Rattle.std.specs.Prelude.{◌≡◌};
+    ghost use Rattle.cube_tool.specs.Faults.{fault_of_text};
+    ghost use Rattle.cube_tool.specs.declared.command.failure.Failure.TheVariants.{Run};
+
+    ghost from_gives = { λ fault failure. failure ≡ Run (fault_of_text fault) };
 
     fn from(fault: TextFault) -> Failure {
         Failure::Run(RunFault::from(fault))
@@ -88,7 +100,7 @@ impl From<TextFault> for Failure {
 
 impl From<WriteFault> for Failure {
     ghost use Rattle.std.specs.Prelude.{◌≡◌};
-    ghost use Rattle.cube_engine.specs.declared.fault.RunFault.TheVariants.{Write};
+    ghost use Rattle.cube_tool.specs.declared.fault.RunFault.TheVariants.{Write};
     ghost use Rattle.cube_tool.specs.declared.command.failure.Failure.TheVariants.{Run};
 
     ghost from_gives = { λ fault failure. failure ≡ Run (Write fault.sent) };

@@ -3,19 +3,18 @@ ghost use Rattle.std.specs.Prelude.{◌≡◌, ◌≤◌, map, vec_len, IfOk, If
 ghost use Rattle.cube_tool.specs.Answering.{FailsToAnswer, Fits, HasTaken, status_over};
 ghost use Rattle.cube_tool.specs.Run.{IsTextOf, OfFeeds, Wrote};
 
-use crate::answers::answer;
+use crate::answers::{answer, has_builder};
 use crate::command::failure::Failure;
 use crate::command::status::{Status, status_of_run};
 use crate::question::Question;
 use cube_core::Schema;
-use cube_threads::{Built, OpenGate, build};
+use cube_threads::{Built, OpenGate, Settings, build};
 use std::alloc::Global;
 use std::io::{Read, Write};
 use std::sync::Wait;
 use std::thread::Threads;
 
-/// Writes the answer to a question over 1 to 64 feeds, each read on a thread of its own, in 1 to 8 builders; `capacity`
-/// is the room of each link, 1 to 65536 parcels.
+/// Writes the answer to a question over 1 to 64 feeds, each read on a thread of its own.
 ///
 /// What was built comes back with the status, which tells whether a line of a feed was refused. Nothing was written on
 /// a failure, but where the writing failed: then the first bytes went out, as many as the failure says. A drill-down
@@ -26,22 +25,20 @@ pub fn ask<T: Threads + Wait + Sync, R: Read + Drop + Send, W: Write>(
     alloc: Global,
     schema: &Schema,
     readers: Vec<R>,
-    capacity: usize,
-    builders: u32,
+    settings: &Settings,
     question: &Question,
     out: &mut W,
 ) -> Result<(Status, Built), Failure>
     requires readers { (1 ≤ vec_len readers) × (vec_len readers ≤ 64) }
-    requires capacity { (1 ≤ capacity) × (capacity ≤ 65536) }
-    requires builders { (1 ≤ builders) × (builders ≤ 8) }
     requires question { Fits schema.now question.now }
     ensures ok { IfOk result (λ ended. OfFeeds schema.now (map R.Read.remaining readers.items) (λ feeds.
         Wrote (IsTextOf question.now schema.now feeds) (W.contents out.old) (W.contents out.new)
-        × (ended.0 ≡ status_over schema.now feeds) × HasTaken schema.now builders feeds ended.1)) }
+        × (ended.0 ≡ status_over schema.now feeds) × HasTaken schema.now settings.now.builders feeds ended.1)) }
     ensures err { IfErr result (λ failure. FailsToAnswer question.now schema.now
         (map R.Read.remaining readers.items) failure (W.contents out.old) (W.contents out.new)) }
 {
-    let built = build(rt, alloc, schema, readers, capacity, builders, &OpenGate)?;
-    answer(alloc, schema, &built, question, out)?;
+    let built = build(rt, alloc, schema, readers, settings, &OpenGate)?;
+    has_builder(&built);
+    answer(rt, alloc, schema, &built, settings.threads(), question, out)?;
     Ok((status_of_run(&built), built))
 }

@@ -6,10 +6,10 @@ ghost use Rattle.cube_tool.specs.Run.{IsTextOf, OfFeeds, Wrote};
 
 use crate::command::failure::Failure;
 use crate::command::status::{Status, status_after};
+use crate::fault::RunFault;
 use crate::question::Question;
 use crate::runs::run_plain;
 use cube_core::{Schema, SchemaFault};
-use cube_engine::RunFault;
 use std::alloc::{AllocError, Global};
 use std::io::{Read, Write};
 

@@ -6,8 +6,8 @@ ghost use Rattle.cube_tool.specs.Answering.{ShowsText};
 
 use crate::command::failure::Failure;
 use crate::command::status::Status;
+use crate::fault::RunFault;
 use clap::Error;
-use cube_engine::RunFault;
 use cube_text::write_whole;
 use std::alloc::Global;
 use std::io::Write;
