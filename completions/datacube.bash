@@ -51,16 +51,16 @@ _datacube() {
     COMPREPLY=()
     case $command in
     check) words='-h --help' ;;
-    print) words='--ring --builders -h --help' ;;
-    refusals) words='--ring --builders -h --help' ;;
-    slice) words='--ring --builders -h --help' ;;
-    drill) words='--ring --builders -h --help' ;;
+    print) words='--ring --builders --threads -h --help' ;;
+    refusals) words='--ring --builders --threads -h --help' ;;
+    slice) words='--ring --builders --threads -h --help' ;;
+    drill) words='--ring --builders --threads -h --help' ;;
     explain) words='-h --help' ;;
     *) words= ;;
     esac
     if [ "$COMP_CWORD" -eq 1 ]; then
         COMPREPLY=($(compgen -W 'check print refusals slice drill explain -h --help -V --version' -- "$word"))
-    elif [[ ${COMP_WORDS[COMP_CWORD - 1]} == @(--builders|--ring) ]]; then
+    elif [[ ${COMP_WORDS[COMP_CWORD - 1]} == @(--builders|--ring|--threads) ]]; then
         compopt +o default
     elif [[ $word == -* ]]; then
         COMPREPLY=($(compgen -W "$words" -- "$word"))

@@ -461,7 +461,8 @@ def compare(program, rng):
         head = schema.header() if is_right else schema.header()[::-1]
         mark = b"\xef\xbb\xbf" if is_right and rng.random() < 0.05 else b""
         files.append(program.write(f"case{at}.csv", mark + oracle.encode([head]) + oracle.encode(records, rng)))
-    options = ["--ring", str(rng.choice([1, 2, 64, 65536])), "--builders", str(rng.choice([1, 1, 2, 3, 8]))]
+    options = ["--ring", str(rng.choice([1, 2, 64, 65536])), "--builders", str(rng.choice([1, 1, 2, 3, 8])),
+               *rng.choice([[], ["--threads", str(rng.choice([1, 2, 3, 4, 16]))]])]
     fault = expected(schema, feeds, headers)
     run = oracle.Run(schema, feeds) if not fault else None
     pattern = [rng.choice(["any", "any", None, oracle.ALL, rng.choice(TEXTS[:4])]) for _ in schema.dimensions]

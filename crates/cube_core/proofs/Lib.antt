@@ -17,3 +17,4 @@ pub mod AncestorLaws
 pub mod CellKeyLaws
 pub mod SetLaws
 pub mod QueryLaws
+pub mod PartialFormLaws

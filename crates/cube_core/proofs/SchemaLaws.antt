@@ -152,7 +152,7 @@ layout_of-document document dimensions measures texts aggregates limit sets vers
       some_measure = ms.0;
       measures_at_most = ms.1;
       some_aggregate = rw all.as_many ts.0;
-      aggregates_at_most = rw all.as_many ts.1;
+      aggregates_at_most = omega (arith, all.as_many, ts.1);
       names_are_lawful = lawful;
       names_are_distinct = distinct;
       aggregates_are_of_measures = all.of_measures;

@@ -68,7 +68,7 @@ pub record IsSchema (s : Layout) : Type 0 where
   pub some_measure : 1 ≤ length s.measures
   pub measures_at_most : length s.measures ≤ 4
   pub some_aggregate : 1 ≤ length s.aggregates
-  pub aggregates_at_most : length s.aggregates ≤ 16
+  pub aggregates_at_most : length s.aggregates ≤ 24
   pub names_are_lawful : list_all is_lawful_name (names_of s) ≡ true
   pub names_are_distinct : are_distinct (names_of s) ≡ true
   pub aggregates_are_of_measures : list_all (is_aggregate_of (length s.measures)) s.aggregates ≡ true

@@ -1,6 +1,7 @@
 pub mod Stored
 pub mod Values
 pub mod Layout
+pub mod PartialForm
 pub mod SchemaDocument
 pub mod Records
 pub mod Amendment
@@ -16,6 +17,7 @@ pub mod Answer
 pub mod Order
 pub mod GroupingSet
 pub mod Cube
+pub mod Merged
 pub mod Query
 pub mod Text
 pub mod Printed

@@ -11,6 +11,7 @@ mod fact;
 mod fraction;
 mod key;
 mod partial;
+mod partial_form;
 mod pattern;
 mod query;
 mod schema;

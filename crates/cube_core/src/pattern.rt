@@ -6,6 +6,8 @@ ghost use Rattle.cube_core.specs.Records.{records_of};
 ghost use Rattle.cube_core.specs.Query.{Says, wanted_by, spelled_by, named_by, only_one, pattern_of, cell_of, is_wanted, all_wanted, matches};
 ghost use Rattle.cube_core.specs.declared.query.QueryFault.TheVariants as fault;
 
+mod fields;
+
 use crate::key::{Coord, Key, copy_coord};
 use crate::query::QueryFault;
 use crate::schema::Schema;

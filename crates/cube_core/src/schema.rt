@@ -15,7 +15,7 @@ use crate::text::{Text, copy_texts};
 use std::alloc::{AllocError, Global};
 use std::marker::Model;
 
-/// The schema of a cube: 1 to 8 dimensions, 1 to 4 measures, 1 to 16 aggregates of these measures, and the
+/// The schema of a cube: 1 to 8 dimensions, 1 to 4 measures, 1 to 24 aggregates of these measures, and the
 /// number of data records that a feed may have, 1 to 4294967295.
 ///
 /// All names differ, and none is empty, `op`, `id` or `*`.
@@ -109,7 +109,7 @@ impl Schema {
         self.measures.as_slice()
     }
 
-    /// The aggregates in order, each of a measure of this schema; 1 to 16.
+    /// The aggregates in order, each of a measure of this schema; 1 to 24.
     pub fn aggregates(&self) -> &[Agg]
         ensures value { result.now ≡ self.now.aggregates }
         ensures schema { IsSchema self.now }

@@ -10,10 +10,14 @@ mod feed;
 mod field;
 mod header;
 mod line;
+mod record_reader;
 mod records;
+mod rest;
 mod spelled_list;
 mod takes_items;
 
 pub use fault::FeedFault;
 pub use feed::Feed;
+pub use record_reader::RecordReader;
+pub use rest::{change_of_record, put_rest};
 pub use takes_items::TakesItems;

@@ -1,5 +1,6 @@
 //! The records of a text, one after the other, in one buffer.
 ghost use Rattle.std.specs.Prelude.{◌≡◌, IfOk, IfErr, option_map};
+ghost use Rattle.csv.specs.Records.{fields_of};
 ghost use Rattle.cube_core.specs.Records.{records_of};
 ghost use Rattle.cube_feed.specs.Reading.{Advances, IsReadingFault};
 
@@ -63,5 +64,12 @@ impl<R: Read> Records<R> {
         ensures { result ≡ self.now.fields }
     {
         Fields::of(&self.row)
+    }
+
+    /// The record that was taken last.
+    pub(crate) fn row(&self) -> &ByteRecord
+        ensures { fields_of result.now ≡ self.now.fields }
+    {
+        &self.row
     }
 }

@@ -34,8 +34,8 @@ is_some_up_to-length most texts least greatest = rw (le-leb 1 (length texts) lea
 find-document_faults : (holds : SchemaFault → Bool) → holds UnknownKey ≡ false → holds Dimensions ≡ false → holds Measures ≡ false → holds Name ≡ false → holds Aggregates ≡ false → holds MaxRecords ≡ false → holds Grouping ≡ false → holds Version ≡ false → find holds document_faults ≡ None
 find-document_faults holds a b c d e f g h = rw (a, b, c, d, e, f, g, h)
 
-pub Writes-schema_of : (document : Members) (s : Layout) → IsSchema s → Writes document s → schema_of document ≡ Ok s
-Writes-schema_of document s is writes =
+pub Writes-schema_of : (document : Members) (s : Layout) → IsSchema s → length s.aggregates ≤ 16 → Writes document s → schema_of document ≡ Ok s
+Writes-schema_of document s is few writes =
     let dimensions : dimensions_in document ≡ s.dimensions = ap (λ o. unwrap_or o []) writes.dimensions in
     let measures : measures_in document ≡ s.measures = ap (λ o. unwrap_or o []) writes.measures in
     let texts : spellings_in document ≡ s.aggregate_texts = ap (λ o. unwrap_or o []) writes.aggregates in
@@ -52,7 +52,7 @@ Writes-schema_of document s is writes =
     (not_from_true _ (rw dimensions (is_some_up_to-length 8 s.dimensions is.some_dimension is.dimensions_at_most)))
     (not_from_true _ (rw measures (is_some_up_to-length 4 s.measures is.some_measure is.measures_at_most)))
     (not_from_true _ (rw (dimensions, measures, is.names_are_lawful) is.names_are_distinct))
-    (not_from_true _ (rw all_spelled (rw texts (rw (is_some_up_to-length 16 s.aggregate_texts (rw as_many is.some_aggregate) (rw as_many is.aggregates_at_most))))))
+    (not_from_true _ (rw all_spelled (rw texts (rw (is_some_up_to-length 16 s.aggregate_texts (rw as_many is.some_aggregate) (rw as_many few))))))
     (not_from_true _ (rw writes.max_records))
     (not_from_true _ (rw writes.grouping_sets))
     (not_from_true _ (rw writes.version)) in

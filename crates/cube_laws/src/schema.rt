@@ -1,5 +1,5 @@
 //! What a schema file writes: each schema can be written, and each spelling is of one aggregate.
-ghost use Rattle.std.specs.Prelude.{◌≡◌, ◌+◌, ◌-◌, ◌^◌, Some, None, Ok, List, length, map, codes, true};
+ghost use Rattle.std.specs.Prelude.{◌≡◌, ◌≤◌, ◌+◌, ◌-◌, ◌^◌, Some, None, Ok, List, length, map, codes, true};
 ghost use Rattle.std.specs.List.{range_with_len};
 ghost use Rattle.toml.specs.Data.{Members, string, get_member};
 ghost use Rattle.cube_core.specs.Cube.{AreRows, AreRowsOver};
@@ -12,10 +12,10 @@ ghost use Rattle.cube_core.specs.declared.fact.Fact.{Fact};
 ghost use Rattle.cube_core.specs.declared.key.Row.{Row};
 
 /// A document that writes a schema is read as that schema and no other: no schema is refused, and none is taken for
-/// another.
+/// another. A document has at most 16 aggregates; the partial form of a schema may have more.
 pub fn written_schema_is_read()
     ensures { (document : Members) (s : Layout) →
-        IsSchema s → Writes document s → schema_of document ≡ Ok s }
+        IsSchema s → length s.aggregates ≤ 16 → Writes document s → schema_of document ≡ Ok s }
 {}
 
 /// Each schema is written by some document (of TOML's values; the text of a file isn't spoken of).

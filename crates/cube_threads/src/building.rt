@@ -33,9 +33,10 @@ fn start(
     Ok((drafts, making))
 }
 
-// Makes the builder of each part, and keeps them all. The only error is want of memory.
+// Makes the builder of each part, by so many threads, and keeps them all. The only error is want of memory.
 fn complete<T: Threads + Sync>(
     rt: &T,
+    threads: usize,
     gatherers: Vec<Gatherer<Draft>>,
     making: &mut Making,
 ) -> Result<(), AllocError>
@@ -45,7 +46,7 @@ fn complete<T: Threads + Sync>(
         builders = making.new.builders.items;
         inlets = map (λ links. links.inlets.items) making.new.links.items })) }
 {
-    let made = make_all(rt, gatherers)?;
+    let made = make_all(rt, threads, gatherers)?;
     making.keep_all(made)
 }
 
@@ -84,7 +85,7 @@ pub fn build<T: Threads + Wait + Sync, R: Read + Drop + Send, G: Gate + Sync>(
         drafts,
         gate,
     )?;
-    match complete(rt, gatherers, &mut making) {
+    match complete(rt, settings.threads(), gatherers, &mut making) {
         Ok(()) => Ok(Built::of(making)),
         Err(_) => Err(FeedingFault::Full),
     }

@@ -15,6 +15,7 @@ use cube_feeders::Parcel;
 use cube_link::Inlet;
 use std::alloc::AllocError;
 use std::marker::Model;
+use std::thread::Threads;
 
 /// The builders of a run, each over the grouping sets of its part, with their inlets, from which all was taken.
 ///
@@ -76,25 +77,22 @@ impl Built {
         self.links[builder].inlets.as_slice()
     }
 
-    /// The rows of all parts in key order. The only error is want of memory.
-    pub fn rows(&self) -> Result<Vec<Row>, AllocError>
-        ensures { IfOk result (λ rows.
-            AreRows (schema_of_run self.now) (facts_of_run self.now) rows.items) }
-    {
-        self.ordered()?.rows()
-    }
-
-    /// The cells of all parts in key order, for rows that are made one at a time. The only error is want of memory.
-    pub fn ordered(&self) -> Result<OrderedCells<'_>, AllocError>
+    /// The cells of all parts in key order, sorted by so many threads, for rows that are made one at a time. The only
+    /// error is want of memory.
+    pub fn ordered_with<T: Threads + Sync>(
+        &self,
+        rt: &T,
+        threads: usize,
+    ) -> Result<OrderedCells<'_>, AllocError>
         ensures { IfOk result (λ ordered. (rows : List Row) → AreRowsInOrder ordered rows →
             AreRows (schema_of_run self.now) (facts_of_run self.now) rows) }
     {
         if self.builders.len() == 1 {
-            return self.builders[0].cube().ordered();
+            return self.builders[0].cube().ordered_with(rt, threads);
         }
-        let mut cells = self.builders[0].cube().ordered()?;
+        let mut cells = self.builders[0].cube().ordered_with(rt, threads)?;
         for part in 1..self.builders.len() {
-            cells.append(self.builders[part].cube().ordered()?)?;
+            cells.append(self.builders[part].cube().ordered_with(rt, threads)?)?;
         }
         cells.sort()?;
         Ok(cells)

@@ -9,6 +9,7 @@ use cube_engine::{Builder, Ledger};
 use cube_feed::TakesItems;
 use std::alloc::{AllocError, Global};
 use std::marker::Model;
+use std::thread::Threads;
 
 /// A ledger, and the cube that is filled with the facts of its books when all feeds have ended.
 #[derive(Drop)]
@@ -82,11 +83,11 @@ impl Draft {
         self.ledger.apply(source, item)
     }
 
-    /// The builder of the ledger, with the cube filled. The only error is want of memory.
-    pub fn finish(self) -> Result<Builder, AllocError>
+    /// The builder of the ledger, with the cube filled by so many threads. The only error is want of memory.
+    pub fn finish<T: Threads + Sync>(self, rt: &T, threads: usize) -> Result<Builder, AllocError>
         ensures { IfOk result (IsMadeOf self) }
     {
-        Builder::of(self.ledger, self.cube)
+        Builder::of_with(rt, threads, self.ledger, self.cube)
     }
 }
 

@@ -17,8 +17,8 @@ pub(crate) struct MadePart {
     pub inlets: Vec<Inlet<Parcel>>,
 }
 
-// The builder of a part, unless memory is wanting.
-fn make(gatherer: Gatherer<Draft>) -> Option<MadePart>
+// The builder of a part, filled by so many threads, unless memory is wanting.
+fn make<T: Threads + Sync>(rt: &T, threads: usize, gatherer: Gatherer<Draft>) -> Option<MadePart>
     ensures { IfSome result (IsMadePart gatherer) }
 {
     let Gatherer {
@@ -26,14 +26,15 @@ fn make(gatherer: Gatherer<Draft>) -> Option<MadePart>
         inlets,
         wanting: _,
     } = gatherer;
-    let builder = draft.finish().ok()?;
+    let builder = draft.finish(rt, threads).ok()?;
     Some(MadePart { builder, inlets })
 }
 
-/// The builder of each part, where memory wasn't wanting for it, each made on a thread of its own where one can be
-/// started. The only error is want of memory.
+/// The builder of each part, where memory wasn't wanting for it. Each is made on a thread of its own, where one can be
+/// started, and fills its cube by its share of so many threads. The only error is want of memory.
 pub(crate) fn make_all<T: Threads + Sync>(
     rt: &T,
+    threads: usize,
     gatherers: Vec<Gatherer<Draft>>,
 ) -> Result<Vec<Option<MadePart>>, AllocError>
     ensures count { IfOk result (λ made. vec_len made ≡ vec_len gatherers) }
@@ -41,7 +42,8 @@ pub(crate) fn make_all<T: Threads + Sync>(
         part < vec_len gatherers → IfSome (slice_index_or made.items part d)
         (IsMadePart (slice_index_or gatherers.items part gatherer))) }
 {
-    thread::map_vec(rt, gatherers, &|gatherer| make(gatherer))
+    let share = threads / gatherers.len().max(1);
+    thread::map_vec(rt, gatherers, &|gatherer| make(rt, share, gatherer))
 }
 
 // The inlets of a builder, from the first source's.

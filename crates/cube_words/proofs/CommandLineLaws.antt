@@ -1,6 +1,6 @@
 -- What clap makes of the program's command line.
-use Rattle.std.proofs.Common.{◌≡◌, ◌≤◌, ◌∙◌, List, [], ◌∷◌, false, true, length, refl, sym, ap, subst, arith}
-use Rattle.std.specs.Prelude.{Option, Some, None, Result, Ok, IfSome, MatchResult, codes, slice_index}
+use Rattle.std.proofs.Common.{◌≡◌, ◌≤◌, ◌∙◌, Bor, List, [], ◌∷◌, false, true, length, refl, sym, ap, subst, arith}
+use Rattle.std.specs.Prelude.{Option, Some, None, Result, Ok, IfErr, IfSome, MatchResult, codes, slice_index}
 use Rattle.std.specs.Prelude.{option_map, unwrap_or}
 use Rattle.clap.specs.Words.{HasMatchesOf, Row, Text, first_of, is_simple, subcommand_of, subcommand_rows_of, takes}
 use Rattle.clap.specs.declared.Error.{Error}
@@ -99,6 +99,28 @@ IsInBounds-IsRequest (Some found) (Refusals run) is = is.2
 IsInBounds-IsRequest (Some found) (Slice run cell) is = is.0.2
 IsInBounds-IsRequest (Some found) (Drill run cell dimension) is = is.0.2
 
+-- a reference to a text
+abbrev reference : Text → Bor Text
+reference text = record { ref_ptr = (0, 0); now = text }
+
+option_map-reference : (text : Option Text) → option_map (λ (t : Bor Text). t.now) (option_map reference text) ≡ text
+option_map-reference None = refl
+option_map-reference (Some text) = refl
+
+-- what makes a request doesn't make none
+not-IsRequest : (found : Option (Text × List Row)) (request : Request) → IsRequest found (Some request) → ¬ IsRequest found None
+not-IsRequest None request makes none = let bad : None ≡ Some Sample = none in cc
+not-IsRequest (Some found) request makes none = none request makes
+
+-- so words that make a request are answered by one
+pub request-taken : (Q : Error → Type 0) (words : List Text) (m : ArgMatches) (made : Request) (request : Option Request) (result : Result Request Error)
+    → HasMatchesOf command_line words m → IsRequest (subcommand_of command_line words) (Some made)
+    → IsRequest (subcommand_rows_of m) request → IfSome request (λ asked. result ≡ Ok asked) → IfErr result Q
+request-taken Q words m made None result matches makes is done =
+    absurd (not-IsRequest (subcommand_of command_line words) made makes
+    (subst (λ found. IsRequest found None) (matches command_line-is_simple).1 is))
+request-taken Q words m made (Some request) result matches makes is done = rw done tt
+
 -- a name isn't that of two commands
 name-slice_index : {X : Type 0} (name a b : Text) → name ≡ a → name ≡ b → (slice_index a 0 ≡ slice_index b 0 → X) → X
 name-slice_index name a b is_a is_b differ = differ (ap (λ t. slice_index t 0) (sym is_a ∙ is_b))
@@ -118,7 +140,7 @@ AsksToCheck-with_word_of Q (Some found) path request result is_found is done = g
 
     go : (request : Option Request) → IsRequest (Some found) request
         → IfSome request (λ asked. result ≡ Ok asked) → MatchResult result (AsksToCheck path) Q
-    go None is done = let bad : Some path ≡ None = sym worded ∙ is.0 named in cc
+    go None is done = absurd (is (Check (reference path)) (named, worded))
     go (Some Sample) is done = absurd is
     go (Some (Check schema)) is done =
         subst (λ answer. MatchResult answer (AsksToCheck path) Q) (sym done)
@@ -144,7 +166,7 @@ AsksToExplain-with_word_of Q (Some found) code request result is_found is done =
 
     go : (request : Option Request) → IsRequest (Some found) request
         → IfSome request (λ asked. result ≡ Ok asked) → MatchResult result (AsksToExplain code) Q
-    go None is done = absurd (is.1 named)
+    go None is done = absurd (is (Explain (option_map reference code)) (named, worded ∙ sym (option_map-reference code)))
     go (Some Sample) is done = absurd is
     go (Some (Check schema)) is done = name-slice_index found.0 (codes "explain") (codes "check") named is.0 (λ same. absurd (omega arith))
     go (Some (Explain asked)) is done =

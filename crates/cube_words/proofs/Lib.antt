@@ -1,1 +1,2 @@
 mod CommandLineLaws
+mod RequestLaws

@@ -1,6 +1,6 @@
 -- The words that the program takes, as clap reads them, and the requests that they make (this project's choice).
 use Rattle.std.specs.Prelude.{◌≡◌, ◌≤◌, ◌==◌, ⊤, ℕ, Bool, false, true, List, [], ◌∷◌, Option, Some, None, IfSome, length, map, option_map, codes}
-use Rattle.std.specs.Str.Parse.{digits_value, without_leading_plus}
+use Rattle.std.specs.Str.Parse.{IsNumeral, digits_value, without_leading_plus}
 use Rattle.clap.specs.Lexer.{usize_max}
 use Rattle.clap.specs.Words.{App, Row, Rule, Text, all_of, first_of, new_app, new_rule, one_of, with_rule, with_subcommand}
 use Rattle.clap.specs.declared.builder.value_parser.ValueParser.TheVariants as value_parser
@@ -38,26 +38,30 @@ feed_words = record (needed_word (codes "FEED")) { range = Some (record { start_
 abbrev pub code_word : Rule
 code_word = new_rule (codes "CODE")
 
--- an option that has one number, from 1 to a bound, or its default where it is left out
-abbrev pub number_option : Text → ℕ → Text → Rule
+-- an option that has one number, from 1 to a bound, or its default, if it has one, where it is left out
+abbrev pub number_option : Text → ℕ → List Text → Rule
 number_option name most default = record (new_rule name) {
   long = Some name;
   value_names = 1;
   parser = Some (value_parser.Unsigned 1 most);
-  defaults = default ∷ [];
+  defaults = default;
 }
 
 -- `--ring`, the capacity of each link
 abbrev pub ring_option : Rule
-ring_option = number_option (codes "ring") 65536 (codes "64")
+ring_option = number_option (codes "ring") 65536 (codes "64" ∷ [])
 
 -- `--builders`, the number of builders
 abbrev pub builders_option : Rule
-builders_option = number_option (codes "builders") 8 (codes "1")
+builders_option = number_option (codes "builders") 8 (codes "1" ∷ [])
+
+-- `--threads`, the number of threads
+abbrev pub threads_option : Rule
+threads_option = number_option (codes "threads") 16 []
 
 -- a command with the feeds and the options of a run behind its words
 abbrev pub with_feeds : App → App
-with_feeds line = with_rule (with_rule (with_rule line feed_words) ring_option) builders_option
+with_feeds line = with_rule (with_rule (with_rule (with_rule line feed_words) ring_option) builders_option) threads_option
 
 -- each command and its words
 abbrev pub check_line : App
@@ -103,24 +107,32 @@ abbrev pub AsksToExplain : Option Text → Request → Type 0
 AsksToExplain code (Explain asked) = option_map (λ text. text.now) asked ≡ code
 AsksToExplain code _ = ⊥
 
--- the number that an option has, in decimal
-abbrev pub IsNumberOf : Text → List Row → ℕ → Type 0
-IsNumberOf name rows number = IfSome (one_of name rows) (λ text. number ≡ digits_value 10 (without_leading_plus text))
+-- an option's text writes this number in decimal; there is none where there is no text, as the option is left out without a default
+abbrev pub IsNumberOf : Option Text → Option ℕ → Type 0
+IsNumberOf None number = number ≡ None
+IsNumberOf (Some text) None = ⊥
+IsNumberOf (Some text) (Some number) = IsNumeral 10 (without_leading_plus text) × (number ≡ digits_value 10 (without_leading_plus text))
+
+-- a number is from 1 to this bound
+abbrev pub IsUpTo : ℕ → ℕ → Type 0
+IsUpTo most number = (1 ≤ number) × (number ≤ most)
 
 -- the files and the options of a run are those that clap found, each under its name, and the feeds in their order
 pub record AreRunWords (rows : List Row) (run : RunWords) : Type 0 where
   pub schema : first_of (codes "SCHEMA") rows ≡ Some run.schema.now
   pub feeds : all_of (codes "FEED") rows ≡ Some (map (λ path. path.now) run.feeds.items)
-  pub ring : IsNumberOf (codes "ring") rows run.ring
-  pub builders : IsNumberOf (codes "builders") rows run.builders
+  pub ring : IsNumberOf (one_of (codes "ring") rows) (Some run.ring)
+  pub builders : IsNumberOf (one_of (codes "builders") rows) (Some run.builders)
+  pub threads : IsNumberOf (one_of (codes "threads") rows) run.threads
 
--- a run has at least one feed, and its options are in their bounds
+-- a run has at least one feed, and its options, where they are given, are in their bounds
 pub record HasRoom (run : RunWords) : Type 0 where
   pub feeds : 1 ≤ length run.feeds.items
   pub least_ring : 1 ≤ run.ring
   pub most_ring : run.ring ≤ 65536
   pub least_builders : 1 ≤ run.builders
   pub most_builders : run.builders ≤ 8
+  pub threads : IfSome run.threads (IsUpTo 16)
 
 -- a request to run has at least one feed, and its options are in their bounds
 abbrev pub IsInBounds : Request → Type 0
@@ -134,17 +146,20 @@ IsInBounds _ = ⊤
 abbrev pub IsRun : Text → Text → List Row → RunWords → Type 0
 IsRun name command rows run = (name ≡ command) × AreRunWords rows run × HasRoom run
 
--- the request that a found command makes; none where a word is missing
-abbrev pub IsRequest : Option (Text × List Row) → Option Request → Type 0
-IsRequest None request = request ≡ Some Sample
-IsRequest (Some found) None = (found.0 ≡ codes "check" → first_of (codes "SCHEMA") found.1 ≡ None) × (found.0 ≡ codes "explain" → ⊥)
-IsRequest (Some found) (Some Sample) = ⊥
-IsRequest (Some found) (Some (Check schema)) = (found.0 ≡ codes "check") × (first_of (codes "SCHEMA") found.1 ≡ Some schema.now)
-IsRequest (Some found) (Some (Explain code)) = (found.0 ≡ codes "explain") × (first_of (codes "CODE") found.1 ≡ option_map (λ text. text.now) code)
-IsRequest (Some found) (Some (Print run)) = IsRun found.0 (codes "print") found.1 run
-IsRequest (Some found) (Some (Refusals run)) = IsRun found.0 (codes "refusals") found.1 run
-IsRequest (Some found) (Some (Slice run cell)) =
-    IsRun found.0 (codes "slice") found.1 run × (first_of (codes "CELL") found.1 ≡ Some cell.now)
-IsRequest (Some found) (Some (Drill run cell dimension)) =
+-- a found command makes this request
+abbrev pub Makes : Text × List Row → Request → Type 0
+Makes found Sample = ⊥
+Makes found (Check schema) = (found.0 ≡ codes "check") × (first_of (codes "SCHEMA") found.1 ≡ Some schema.now)
+Makes found (Explain code) = (found.0 ≡ codes "explain") × (first_of (codes "CODE") found.1 ≡ option_map (λ text. text.now) code)
+Makes found (Print run) = IsRun found.0 (codes "print") found.1 run
+Makes found (Refusals run) = IsRun found.0 (codes "refusals") found.1 run
+Makes found (Slice run cell) = IsRun found.0 (codes "slice") found.1 run × (first_of (codes "CELL") found.1 ≡ Some cell.now)
+Makes found (Drill run cell dimension) =
     IsRun found.0 (codes "drill") found.1 run
     × (first_of (codes "CELL") found.1 ≡ Some cell.now) × (first_of (codes "DIM") found.1 ≡ Some dimension.now)
+
+-- what clap found makes this request: the sample run where it found no command, and none only where the command makes none
+abbrev pub IsRequest : Option (Text × List Row) → Option Request → Type 0
+IsRequest None request = request ≡ Some Sample
+IsRequest (Some found) (Some request) = Makes found request
+IsRequest (Some found) None = (request : Request) → ¬ Makes found request

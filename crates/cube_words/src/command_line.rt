@@ -2,7 +2,7 @@
 ghost use Rattle.std.specs.Prelude.{◌≡◌, IfOk, false};
 ghost use Rattle.clap.specs.Words.{app_of, rule_of, shape_of, with_rule, with_subcommand};
 ghost use Rattle.clap.specs.declared.builder.command.Command.TheViews.{out-Command as fields_of};
-ghost use Rattle.cube_words.specs.CommandLine.{builders_option, cell_word, check_line, code_word, command_line, dimension_word, drill_line, explain_line, feed_words, named_line, print_line, refusals_line, ring_option, schema_word, slice_line, with_feeds};
+ghost use Rattle.cube_words.specs.CommandLine.{builders_option, cell_word, check_line, code_word, command_line, dimension_word, drill_line, explain_line, feed_words, named_line, print_line, refusals_line, ring_option, schema_word, slice_line, threads_option, with_feeds};
 
 use clap::builder::ValueParser;
 use clap::{Arg, Command};
@@ -217,7 +217,8 @@ fn with_all_feeds<'a>(alloc: Global, command: Command<'a>) -> Result<Command<'a>
 {
     let fed = with_word(command, feeds(alloc))?;
     let ringed = with_word(fed, ring(alloc))?;
-    with_word(ringed, builders(alloc))
+    let built = with_word(ringed, builders(alloc))?;
+    with_word(built, threads(alloc))
 }
 
 // The word that names the schema file.
@@ -283,4 +284,18 @@ fn builders<'a>(alloc: Global) -> Arg<'a>
         .value_parser(ValueParser::Unsigned(1, 8))
         .default_value("1")
         .help("How many threads build the cube, 1 to 8; what is printed is the same")
+}
+
+// The option for the number of threads.
+fn threads<'a>(alloc: Global) -> Arg<'a>
+    ensures rule { rule_of result ≡ threads_option }
+    ensures own { result.global ≡ false }
+{
+    Arg::new(alloc, "threads")
+        .long("threads")
+        .value_name("N")
+        .value_parser(ValueParser::Unsigned(1, 16))
+        .help(
+            "How many threads fill, sort and print the cube, 1 to 16; as many as the machine has, at most 16, where left out",
+        )
 }

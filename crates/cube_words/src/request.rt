@@ -1,7 +1,7 @@
 //! What a command line asks for.
-ghost use Rattle.std.specs.Prelude.{◌≡◌, ◌≤◌, Some, IfOk, IfSome, codes, map, option_map};
-ghost use Rattle.clap.specs.Words.{all_of, first_of, found_of, rows_of, subcommand_rows_of};
-ghost use Rattle.cube_words.specs.CommandLine.{AreRunWords, HasRoom, IsNumberOf, IsRequest};
+ghost use Rattle.std.specs.Prelude.{◌≡◌, ℕ, Option, Some, None, IsOk, IfOk, IfSome, codes, map, option_map};
+ghost use Rattle.clap.specs.Words.{all_of, first_of, found_of, one_of, rows_of, subcommand_rows_of};
+ghost use Rattle.cube_words.specs.CommandLine.{AreRunWords, HasRoom, IsNumberOf, IsRequest, IsUpTo};
 
 use clap::ArgMatches;
 use std::alloc::{AllocError, Global};
@@ -17,6 +17,8 @@ pub struct RunWords<'a> {
     pub ring: usize,
     /// The number of builders, 1 to 8.
     pub builders: u32,
+    /// The number of threads, 1 to 16; none where the words leave it out.
+    pub threads: Option<usize>,
 }
 
 /// What the words of a command line ask for.
@@ -66,6 +68,10 @@ pub(crate) fn request_of<'a>(
     }
 }
 
+// A number of an option that isn't from 1 to its bound.
+#[derive(Drop)]
+struct OutOfBounds;
+
 // The request that a command makes with its words.
 fn command_of<'a>(
     alloc: Global,
@@ -99,8 +105,9 @@ fn check_request<'a>(words: &ArgMatches<'a>) -> Option<Request<'a>>
 fn run_request<'a>(name: &str, run: RunWords<'a>, words: &ArgMatches<'a>) -> Option<Request<'a>>
     requires words { AreRunWords (rows_of (found_of words.now)) run }
     requires room { HasRoom run }
-    ensures { IfSome result
-        (λ asked. IsRequest (Some (name.now, rows_of (found_of words.now))) (Some asked)) }
+    requires check { ¬ (name.now ≡ codes "check") }
+    requires explain { ¬ (name.now ≡ codes "explain") }
+    ensures { IsRequest (Some (name.now, rows_of (found_of words.now))) result }
 {
     match name {
         "print" => Some(Request::Print { run }),
@@ -122,18 +129,21 @@ fn run_request<'a>(name: &str, run: RunWords<'a>, words: &ArgMatches<'a>) -> Opt
     }
 }
 
-// The files and the options of a command with feeds; none where one is missing or out of bounds.
+// The files and the options of a command with feeds; none only where a word is missing or a number out of bounds.
 fn run_words<'a>(alloc: Global, words: &ArgMatches<'a>) -> Result<Option<RunWords<'a>>, AllocError>
     ensures words { IfOk result
         (λ run. IfSome run (AreRunWords (rows_of (found_of words.now)))) }
     ensures room { IfOk result (λ run. IfSome run HasRoom) }
+    ensures none { (run : RunWords) → AreRunWords (rows_of (found_of words.now)) run → HasRoom run →
+        IfOk result (λ found. ¬ (found ≡ None)) }
 {
     let (Some(schema), Some(paths)) = (word_of(words, "SCHEMA"), paths_of(words)) else {
         return Ok(None);
     };
-    let (Some(ring), Some(builders)) = (
+    let (Ok(Some(ring)), Ok(Some(builders)), Ok(threads)) = (
         number_of(words, "ring", 65536),
         number_of(words, "builders", 8),
+        number_of(words, "threads", 16),
     ) else {
         return Ok(None);
     };
@@ -147,6 +157,7 @@ fn run_words<'a>(alloc: Global, words: &ArgMatches<'a>) -> Result<Option<RunWord
         feeds,
         ring,
         builders: builders as u32,
+        threads,
     }))
 }
 
@@ -166,15 +177,22 @@ fn paths_of<'w, 'a>(words: &'w ArgMatches<'a>) -> Option<&'w [&'a str]>
     words.get_strs("FEED")
 }
 
-// The number that an option has, where it is from 1 to this bound.
-fn number_of<'a>(words: &ArgMatches<'a>, option: &str, most: usize) -> Option<usize>
-    ensures number { IfSome result (IsNumberOf option.now (rows_of (found_of words.now))) }
-    ensures bounds { IfSome result (λ number. (1 ≤ number) × (number ≤ most)) }
+// The number that an option has, if it has one. The error is only for a text that isn't a number from 1 to this bound.
+fn number_of<'a>(
+    words: &ArgMatches<'a>,
+    option: &str,
+    most: usize,
+) -> Result<Option<usize>, OutOfBounds>
+    ensures number { IfOk result (IsNumberOf (one_of option.now (rows_of (found_of words.now)))) }
+    ensures bounds { IfOk result (λ number. IfSome number (IsUpTo most)) }
+    ensures err { (number : Option ℕ) → IsNumberOf (one_of option.now (rows_of (found_of words.now))) number →
+        IfSome number (IsUpTo most) → IsOk result }
 {
-    let number = words.get_one::<usize>(option)?;
-    if 1 <= number && number <= most {
-        Some(number)
-    } else {
-        None
+    let Ok(number) = words.try_get_one::<usize>(option) else {
+        return Err(OutOfBounds);
+    };
+    match number {
+        Some(number) if number < 1 || most < number => Err(OutOfBounds),
+        number => Ok(number),
     }
 }

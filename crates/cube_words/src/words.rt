@@ -14,11 +14,15 @@ use std::io;
 
 /// What the words ask for; the first of them is the program's name.
 ///
-/// The error is what `clap` has to say of them: a refusal, or the help that they ask for.
+/// The error is what `clap` has to say of them: a refusal, or the help that they ask for. Words that `clap`'s definition
+/// of the command line takes, and of which it makes a request, are refused only for want of memory.
 pub fn read_words<'a, S: AsStr>(alloc: Global, words: &'a [S]) -> Result<Request<'a>, Error>
     ensures asked { IfOk result (λ request.
         IsRequest (subcommand_of command_line (map S.text words.entry.now)) (Some request)) }
     ensures bounds { IfOk result IsInBounds }
+    ensures taken { (request : Request) → takes command_line (map S.text words.entry.now) ≡ true →
+        IsRequest (subcommand_of command_line (map S.text words.entry.now)) (Some request) →
+        IfErr result (λ error. kind_of error ≡ kind.OutOfMemory) }
     ensures no_words { length words.entry.now ≤ 1 →
         MatchResult result (λ request. request ≡ Request.Sample) (λ error. kind_of error ≡ kind.OutOfMemory) }
     ensures check { (name path : List ℕ) → begins_as_flag path ≡ false →

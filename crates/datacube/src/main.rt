@@ -128,11 +128,15 @@ fn question_of(rt: &HostRuntime, schema: &Schema, asked: Asked) -> Result<Questi
     }
 }
 
-/// The settings of a run: those that the words give.
+/// The settings of a run: those that the words give, and else as many threads as the machine has.
 fn settings_of(rt: &HostRuntime, words: &RunWords) -> Settings
     requires { HasRoom words.now }
 {
-    let Some(settings) = Settings::new(words.ring, words.builders, processors(rt)) else {
+    let threads = match words.threads {
+        Some(threads) => threads,
+        None => processors(rt),
+    };
+    let Some(settings) = Settings::new(words.ring, words.builders, threads) else {
         unreachable!()
     };
     settings

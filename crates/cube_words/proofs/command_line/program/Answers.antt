@@ -1,7 +1,7 @@
 use Rattle.std.proofs.Common.{◌≡◌, ◌∙◌, ap, ap₂}
 use Rattle.std.proofs.lemmas.Result.{IfOk-weaker}
 use Rattle.clap.specs.Words.{App, app_of, with_subcommand}
-use Rattle.cube_words.specs.CommandLine.{check_line, drill_line, explain_line, named_line, print_line, refusals_line, slice_line}
+use Rattle.cube_words.specs.CommandLine.{check_line, drill_line, explain_line, print_line, refusals_line, slice_line}
 use Rattle.cube_words.proofs.command_line.program.Goals as goal
 
 -- a command line with one more command, where both are known

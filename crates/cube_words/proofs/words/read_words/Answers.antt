@@ -5,7 +5,7 @@ use Rattle.clap.specs.Words.{subcommand_rows_of, takes}
 use Rattle.cube_words.specs.CommandLine.{IsRequest, command_line}
 use Rattle.cube_words.specs.declared.request.Request.{Request}
 use Rattle.std.proofs.lemmas.Result.{IfOk-weaker}
-use Rattle.cube_words.proofs.CommandLineLaws.{takes-no_words, takes-check, takes-explain, takes-explain_code, request-no_words, request-check, request-explain, request-explain_code, IsRequest-HasMatchesOf, IsInBounds-IsRequest}
+use Rattle.cube_words.proofs.CommandLineLaws.{takes-no_words, takes-check, takes-explain, takes-explain_code, request-no_words, request-check, request-explain, request-explain_code, IsRequest-HasMatchesOf, request-taken, IsInBounds-IsRequest}
 use Rattle.cube_words.proofs.words.read_words.Goals as goal
 
 pub returns-in_err-matches-clause-no_words : goal.returns-in_err-matches-clause-no_words
@@ -64,3 +64,8 @@ returns-clause-bounds g c =
     (λ request is. IsInBounds-IsRequest (subcommand_rows_of c.in_ok-matches.matches) request
     (subst (λ (asked : Option Request). IsRequest (subcommand_rows_of c.in_ok-matches.matches) asked) is c.in_ok-request_of.ensures))
     c.complete.ensures.ok
+
+pub returns-clause-taken : goal.returns-clause-taken
+returns-clause-taken g c request taken makes =
+    request-taken _ (map g.S.AsStr.text c.args.words.now) c.in_ok-matches.matches request c.in_ok-request_of.field-0 c.complete.result
+    c.in_ok-matches.ensures.ok makes c.in_ok-request_of.ensures c.complete.ensures.some

@@ -1,0 +1,85 @@
+-- The merged rows of cubes over parts of the facts: each key of any of them once, with what its answers make together (Gray et al. 1997: COUNT, SUM, MIN and MAX are distributive, AVG is algebraic, made of SUM and COUNT).
+use Rattle.std.specs.Prelude.{◌≡◌, ◌↔◌, ⊤, ℕ, zero, suc, ℤ, List, map, filter, get_or, sum_by, slice_get, Contains, Option, Some, None}
+use Rattle.std.specs.List.{AllByRecursion, AllZip, filter_map}
+use Rattle.std.specs.List.Sorted.{IsStrictlySortedBy}
+use Rattle.std.specs.Ordering.{is_eq}
+use Rattle.cube_core.specs.Answer.{IsSum, IsLeast, IsGreatest}
+use Rattle.cube_core.specs.Cube.{key_of}
+use Rattle.cube_core.specs.Fraction.{IsInLowestTerms}
+use Rattle.cube_core.specs.Group.{total_of}
+use Rattle.cube_core.specs.Order.{key_cmp}
+use Rattle.cube_core.specs.declared.aggregate.Agg.{Agg}
+use Rattle.cube_core.specs.declared.aggregate.Agg.TheVariants.{CountAll, Count, Sum, Min, Max, Avg}
+use Rattle.cube_core.specs.declared.aggregate.Answer.{Answer}
+use Rattle.cube_core.specs.declared.aggregate.Answer.TheVariants as answer
+use Rattle.cube_core.specs.declared.key.Key.{Key}
+use Rattle.cube_core.specs.declared.key.Row.{Row}
+
+-- the count that an answer is; 0 of any other
+abbrev pub count_in : Answer → ℕ
+count_in (answer.Count n) = n
+count_in answer.Null = 0
+count_in (answer.Whole z) = 0
+count_in (answer.Ratio p q) = 0
+
+-- the number that an answer is, if it is one
+abbrev pub number_in : Answer → Option ℤ
+number_in (answer.Whole z) = Some z
+number_in answer.Null = None
+number_in (answer.Count n) = None
+number_in (answer.Ratio p q) = None
+
+-- the sum of the counts among answers
+abbrev pub count_of : List Answer → ℕ
+count_of answers = sum_by count_in answers
+
+-- the numbers among answers, nulls left out
+abbrev pub numbers_of : List Answer → List ℤ
+numbers_of answers = filter_map number_in answers
+
+-- what an aggregate's answers to the parts make of the whole: counts and sums are added, the least of the least and the greatest of the greatest values is taken, null where all are null; of means alone nothing is made
+abbrev pub Makes : Agg → List Answer → Answer → Type 0
+Makes CountAll parts a = a ≡ answer.Count (count_of parts)
+Makes (Count m) parts a = a ≡ answer.Count (count_of parts)
+Makes (Sum m) parts a = IsSum (numbers_of parts) a
+Makes (Min m) parts a = IsLeast (numbers_of parts) a
+Makes (Max m) parts a = IsGreatest (numbers_of parts) a
+Makes (Avg m) parts a = ⊤
+
+-- the mean of so many values with this sum, as a fraction in lowest terms, null where there is none
+abbrev pub IsMeanOf : ℤ → ℕ → Answer → Type 0
+IsMeanOf total zero a = a ≡ answer.Null
+IsMeanOf total (suc n) a = (p : ℤ) × (q : ℕ) × (a ≡ answer.Ratio p q) × IsInLowestTerms total (suc n) p q
+
+-- the answers of rows at a place
+abbrev pub column : ℕ → List Row → List Answer
+column place rows = map (λ row. get_or row.answers place answer.Null) rows
+
+-- what the rows' answers to an aggregate make, at a place where it stands
+abbrev pub IsMadeAt : List Agg → List Row → Agg → Answer → Type 0
+IsMadeAt given rows agg a = (place : ℕ) × (slice_get given place ≡ Some agg) × Makes agg (column place rows) a
+
+-- the mean that the rows' sums and counts of a measure make
+abbrev pub IsMadeMean : List Agg → List Row → ℕ → Answer → Type 0
+IsMadeMean given rows m a =
+    (sums : ℕ) × (counts : ℕ) × (slice_get given sums ≡ Some (Sum m)) × (slice_get given counts ≡ Some (Count m))
+    × IsMeanOf (total_of (numbers_of (column sums rows))) (count_of (column counts rows)) a
+
+-- the answer to an aggregate that rows with one key make together, where they answer the given aggregates: a mean is made of sums and counts, and any other of its own answers
+abbrev pub IsMerged : List Agg → List Row → Agg → Answer → Type 0
+IsMerged given rows (Avg m) a = IsMadeMean given rows m a
+IsMerged given rows agg a = IsMadeAt given rows agg a
+
+-- the rows with a key
+abbrev pub rows_at : Key → List Row → List Row
+rows_at key rows = filter (λ row. is_eq (key_cmp key row.key)) rows
+
+-- a row answers the wanted aggregates by what the rows with its key make together
+abbrev pub HasMergedAnswers : List Agg → List Agg → List Row → Row → Type 0
+HasMergedAnswers given wanted parts row = AllZip (IsMerged given (rows_at row.key parts)) wanted row.answers
+
+-- these are the merged rows of the rows of cubes, in any order, which answer the given aggregates: each key once, in key order, with its merged answers to the wanted ones
+pub record AreMerged (given wanted : List Agg) (parts rows : List Row) : Type 0 where
+  pub cells : (key : Key) → Contains (map key_of rows) key ↔ Contains (map key_of parts) key
+  pub ordered : IsStrictlySortedBy key_cmp (map key_of rows)
+  pub answers : AllByRecursion (HasMergedAnswers given wanted parts) rows

@@ -1,0 +1,143 @@
+//! The partial form of a schema, under which cubes can be merged.
+ghost use Rattle.std.specs.Prelude.{◌≡◌, IfOk, OnOk, get_or, [], map};
+ghost use Rattle.cube_core.specs.Layout.{spelling_of, spelled_with};
+ghost use Rattle.cube_core.specs.PartialForm.{AnswersPartial, has_aggregate, is_aggregate, partial_aggregates, with_aggregate, with_parts};
+
+use crate::aggregate::Agg;
+use crate::schema::Schema;
+use crate::schema_fault::SchemaFault;
+use crate::text::{Text, copy_texts};
+use std::alloc::{AllocError, Global};
+
+// The most aggregates of a schema: 16 of its document, and 2 for each measure.
+const MOST_AGGREGATES: usize = 24;
+
+impl Schema {
+    /// The partial form: the same schema with more aggregates, after its own for each `avg(m)` in their order `sum(m)`
+    /// and `count(m)`, where they aren't there yet. A mean can be made again from the sums and counts of several
+    /// cubes. The partial form of a partial form is itself.
+    ///
+    /// The error is want of memory, or `Aggregates` where there would be more than 24, which never happens to the
+    /// schema of a document nor to its partial form.
+    pub fn partial(&self, alloc: Global) -> Result<Schema, SchemaFault>
+        ensures { AnswersPartial self.now result }
+    {
+        let aggregates = partial_aggregates(alloc, &self.aggregates)?;
+        if aggregates.len() > MOST_AGGREGATES {
+            return Err(SchemaFault::Aggregates);
+        }
+        Ok(Schema {
+            dimensions: copy_texts(alloc, &self.dimensions)?,
+            measures: copy_texts(alloc, &self.measures)?,
+            aggregate_texts: spellings_of(alloc, &self.measures, &aggregates)?,
+            aggregates,
+            max_records: self.max_records,
+            grouping_sets: Vec::from_slice(alloc, &self.grouping_sets)?,
+            version: self.version,
+        })
+    }
+}
+
+// The aggregates, and then what each mean among them is made of.
+fn partial_aggregates(alloc: Global, aggregates: &[Agg]) -> Result<Vec<Agg>, AllocError>
+    ensures { IfOk result (λ all. all.items ≡ partial_aggregates aggregates.now) }
+{
+    let mut all = Vec::from_slice(alloc, aggregates)?;
+    for aggregate in aggregates {
+        add_parts(&mut all, aggregate)?;
+    }
+    Ok(all)
+}
+
+fn add_parts(aggregates: &mut Vec<Agg>, aggregate: &Agg) -> Result<(), AllocError>
+    ensures { OnOk result (aggregates.new.items ≡ with_parts aggregates.old.items aggregate.now) }
+{
+    let Agg::Avg(measure) = aggregate else {
+        return Ok(());
+    };
+    add_missing(aggregates, Agg::Sum(*measure))?;
+    add_missing(aggregates, Agg::Count(*measure))
+}
+
+fn add_missing(aggregates: &mut Vec<Agg>, aggregate: Agg) -> Result<(), AllocError>
+    ensures { OnOk result (aggregates.new.items ≡ with_aggregate aggregates.old.items aggregate) }
+{
+    if !has_aggregate(&aggregate, aggregates.as_slice()) {
+        aggregates.push(aggregate)?;
+    }
+    Ok(())
+}
+
+fn has_aggregate(aggregate: &Agg, aggregates: &[Agg]) -> bool
+    ensures { result ≡ has_aggregate aggregate.now aggregates.now }
+{
+    aggregates
+        .iter()
+        .any(|other| is_aggregate(aggregate, other))
+}
+
+fn is_aggregate(aggregate: &Agg, other: &Agg) -> bool
+    ensures { result ≡ is_aggregate aggregate.now other.now }
+{
+    match aggregate {
+        Agg::CountAll => matches!(other, Agg::CountAll),
+        Agg::Count(m) => matches!(other, Agg::Count(n) if m == n),
+        Agg::Sum(m) => matches!(other, Agg::Sum(n) if m == n),
+        Agg::Min(m) => matches!(other, Agg::Min(n) if m == n),
+        Agg::Max(m) => matches!(other, Agg::Max(n) if m == n),
+        Agg::Avg(m) => matches!(other, Agg::Avg(n) if m == n),
+    }
+}
+
+// How a schema spells these aggregates.
+fn spellings_of(
+    alloc: Global,
+    measures: &[Text],
+    aggregates: &[Agg],
+) -> Result<Vec<Text>, AllocError>
+    ensures { IfOk result (λ texts. texts.items ≡ map (spelling_of measures.now) aggregates.now) }
+{
+    let mut texts = Vec::with_capacity(alloc, aggregates.len())?;
+    for aggregate in aggregates {
+        texts.push(spelling_of(alloc, measures, aggregate)?)?;
+    }
+    Ok(texts)
+}
+
+fn spelling_of(alloc: Global, measures: &[Text], aggregate: &Agg) -> Result<Text, AllocError>
+    ensures { IfOk result (λ text. text ≡ spelling_of measures.now aggregate.now) }
+{
+    match aggregate {
+        Agg::CountAll => Text::from_str(alloc, "count(*)"),
+        Agg::Count(measure) => spelled_with(alloc, "count", measures, *measure),
+        Agg::Sum(measure) => spelled_with(alloc, "sum", measures, *measure),
+        Agg::Min(measure) => spelled_with(alloc, "min", measures, *measure),
+        Agg::Max(measure) => spelled_with(alloc, "max", measures, *measure),
+        Agg::Avg(measure) => spelled_with(alloc, "avg", measures, *measure),
+    }
+}
+
+fn spelled_with(
+    alloc: Global,
+    function: &str,
+    measures: &[Text],
+    measure: usize,
+) -> Result<Text, AllocError>
+    ensures { IfOk result (λ text. text ≡ spelled_with function.now measures.now measure) }
+{
+    let mut text = String::from_str(alloc, function)?;
+    text.push_str("(")?;
+    text.push_str(name_at(measures, measure))?;
+    text.push_str(")")?;
+    Text::from_str(alloc, text.as_str())
+}
+
+// The name at a place; the empty text past the last one.
+fn name_at(names: &[Text], place: usize) -> &str
+    ensures { result.now ≡ get_or names.now place [] }
+{
+    match names.get(place) {
+        Some(name) => name.as_str(),
+        None => "",
+    }
+}

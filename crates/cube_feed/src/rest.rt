@@ -1,0 +1,35 @@
+//! The fields of a record from a place on, and the change that a record says.
+ghost use Rattle.std.specs.Prelude.{◌≡◌, drop, IfOk, OnOk};
+ghost use Rattle.csv.specs.Records.{fields_of};
+ghost use Rattle.cube_core.specs.Items.{change_of};
+
+use crate::field::Fields;
+use crate::line::change;
+use csv::ByteRecord;
+use cube_core::{Change, LineFault, Schema};
+use std::alloc::{AllocError, Global};
+
+/// Puts the fields of a record from a place on in place of those of another. The only error is want of memory.
+pub fn put_rest(fields: &ByteRecord, from: usize, rest: &mut ByteRecord) -> Result<(), AllocError>
+    ensures { OnOk result (fields_of rest.new ≡ drop from (fields_of fields.now)) }
+{
+    rest.clear();
+    for place in from..fields.len() {
+        let Some(field) = fields.get(place) else {
+            break;
+        };
+        rest.push_field(field)?;
+    }
+    Ok(())
+}
+
+/// The change that a data record of a feed spells, or its first fault. The only error is want of memory.
+pub fn change_of_record(
+    alloc: Global,
+    schema: &Schema,
+    fields: &ByteRecord,
+) -> Result<Result<Change, LineFault>, AllocError>
+    ensures { IfOk result (λ what. what ≡ change_of schema.now (fields_of fields.now)) }
+{
+    change(alloc, schema, &Fields::of(fields))
+}
