@@ -1,169 +1,152 @@
--- From builders that have taken good feeds to what a command over feeds promises.
-use Rattle.std.proofs.Common.{◌≡◌, ◌≤◌, ◌∙◌, ℕ, List, [], ◌∷◌, ◌++◌, length, map, get_or, refl, sym, ap, ap₂, subst}
-use Rattle.std.specs.Prelude.{Bool, Option, Some, None, Result, Ok, Err, IfOk}
-use Rattle.std.specs.Io.KnownBytes.{Appends}
-use Rattle.std.specs.List.{AllZip, flat_map}
-use Rattle.std.proofs.lemmas.Result.{IfOk-weaker}
-use Rattle.cube_core.specs.Arrival.{of_sources}
+-- What the faults of a question over feeds leave.
+use Rattle.std.proofs.Common.{◌≡◌, ◌≤◌, ℕ, List, length, refl, subst}
+use Rattle.std.specs.Prelude.{All, Bool, Option, Some, None, Result, Ok, Err}
+use Rattle.std.proofs.lemmas.List.Sums.{list_all-from_AllPass}
 use Rattle.cube_core.specs.Layout.{Layout}
-use Rattle.cube_core.specs.Query.{drills_down}
-use Rattle.cube_core.specs.Refusals.{refusals_of}
+use Rattle.std.specs.Global.{Vec}
+use Rattle.cube_core.specs.Query.{AreRowsWhere, drill_fault, drills_down}
 use Rattle.cube_core.specs.Run.{Told}
-use Rattle.cube_core.specs.Sources.{SurviveTogether}
-use Rattle.cube_core.specs.declared.change.Item.{Item}
+use Rattle.cube_core.specs.Takes.{fits}
+use Rattle.cube_core.specs.Text.{text_of_rows}
+use Rattle.cube_core.specs.declared.change.Refusal.{Refusal}
+use Rattle.cube_core.specs.declared.fact.Fact.{Fact}
 use Rattle.cube_core.specs.declared.key.Key.{Key}
+use Rattle.cube_core.specs.declared.key.Row.{Row}
 use Rattle.cube_core.specs.declared.query.QueryFault.{QueryFault}
 use Rattle.cube_cells.specs.Rows.{GivesUnless}
+use Rattle.cube_engine.specs.Build.{BuildsWhole, ExplainsBuild}
 use Rattle.cube_engine.specs.Builder.{BuilderView}
-use Rattle.cube_engine.specs.Ledger.{AccountView, AccountStandsAt}
-use Rattle.cube_engine.proofs.SurvivorLaws.{SurviveTogether-stands}
-use Rattle.cube_engine.specs.declared.fault.RunFault.{RunFault}
-use Rattle.cube_engine.specs.declared.fault.RunFault.TheVariants as run_fault
-use Rattle.cube_threads.specs.Building.{ExplainsRun}
-use Rattle.cube_threads.specs.Parts.{BuiltView, BuildsParts, StandsInParts, first_ledger, facts_of_run}
-use Rattle.cube_threads.proofs.PartLaws.{first-is}
-use Rattle.cube_tool.specs.Answering.{AreFeeds, DrillLeaves, EndsWith, IsTextWhere, Leaves, ShowsCube, ShowsRows, WritesPart}
-use Rattle.cube_tool.specs.Command.{all_refusals, status_after}
-use Rattle.cube_tool.specs.Run.{Runs, FaultLeaves}
-use Rattle.cube_tool.specs.declared.command.status.Status.{Status}
+use Rattle.cube_engine.specs.Ledger.{AllFit, all_facts}
+use Rattle.cube_engine.specs.declared.fault.BuildFault.{BuildFault}
+use Rattle.cube_engine.specs.declared.fault.BuildFault.TheVariants as build_fault
+use Rattle.cube_feeders.specs.FeedingAll.{ExplainsFeeding}
+use Rattle.cube_feeders.specs.declared.fault.FeedingFault.{FeedingFault}
+use Rattle.cube_feeders.specs.declared.fault.FeedingFault.TheVariants as feeding_fault
+use Rattle.cube_tool.specs.declared.fault.RunFault.TheVariants as run_fault
+use Rattle.cube_threads.specs.Parts.{AreRowsOfRun, BuiltView, BuildsParts, facts_of_run, schema_of_run}
+use Rattle.cube_text.specs.Shape.{HasShapeOf}
+use Rattle.cube_text.proofs.RowShapeLaws.{HasShapeOf-AreRowsWhere}
+use Rattle.cube_tool.specs.Answering.{Answers, FailsToAnswer, IsToldOf, Writes, question_fault, refusals_of_run}
+use Rattle.cube_tool.specs.Faults.{fault_of_build, fault_of_feeding, fault_of_text}
+use Rattle.cube_tool.specs.Run.{ExplainsPlainRun, ExplainsRun, IsTextWhere, Leaves, Tells, Wrote, WroteFirst}
+use Rattle.cube_tool.specs.declared.fault.TextFault.{TextFault}
+use Rattle.cube_tool.specs.declared.fault.TextFault.TheVariants as text_fault
+use Rattle.cube_tool.specs.declared.question.Question.{Question}
 use Rattle.cube_tool.specs.declared.command.failure.Failure.{Failure}
 use Rattle.cube_tool.specs.declared.command.failure.Failure.TheVariants as failure
-use Rattle.cube_tool.proofs.RunLaws.{ledger-BuildsParts}
+use Rattle.cube_tool.proofs.RunLaws.{OfFeeds-first, OfFeeds-whole_first, Wrote-weaker, WroteFirst-weaker, refused}
 
--- what is known of builders that have taken the feeds of these sources, by the items of the feeds
-pub record HasTaken (s : Layout) (sources : Told) (feeds : List (List Item)) (built : BuiltView) : Type 0 where
-  pub are_feeds : AreFeeds s sources feeds
-  pub survive : SurviveTogether s feeds (facts_of_run built)
-  pub each_refused : (builder : BuilderView) → builder ≡ get_or built.builders 0 builder
-      → map (λ (account : AccountView). account.refusals) builder.ledger.accounts ≡ map (refusals_of s) feeds
-  pub all_refused : (builder : BuilderView) → builder ≡ get_or built.builders 0 builder → all_refusals builder.ledger.accounts ≡ flat_map (refusals_of s) feeds
+-- ---- what writing a text comes to
 
--- accounts that stand at the items of feeds have their refusals
-each-refused : (s : Layout) (feeds : List (List Item)) (accounts : List AccountView) → AllZip (AccountStandsAt s) feeds accounts
-    → map (λ (account : AccountView). account.refusals) accounts ≡ map (refusals_of s) feeds
-each-refused s [] [] stand = refl
-each-refused s [] (account ∷ accounts) stand = absurd stand
-each-refused s (items ∷ feeds) [] stand = absurd stand
-each-refused s (items ∷ feeds) (account ∷ accounts) stand = ap₂ (λ r rs. r ∷ rs) stand.0.refused (each-refused s feeds accounts stand.1)
+-- a text of which less is said
+pub Writes-weaker : {T : Type 0} {P Q : List ℕ → Type 0} (result : Result T TextFault) (old new : Option (List ℕ)) → ((text : List ℕ) → P text → Q text)
+    → Writes P result old new → Writes Q result old new
+Writes-weaker (Ok value) old new to wrote = Wrote-weaker to wrote
+Writes-weaker (Err text_fault.Full) old new to same = same
+Writes-weaker (Err (text_fault.Write sent)) old new to wrote = WroteFirst-weaker to wrote
 
--- and one after another
-all-refused : (s : Layout) (feeds : List (List Item)) (accounts : List AccountView) → AllZip (AccountStandsAt s) feeds accounts
-    → all_refusals accounts ≡ flat_map (refusals_of s) feeds
-all-refused s [] [] stand = refl
-all-refused s [] (account ∷ accounts) stand = absurd stand
-all-refused s (items ∷ feeds) [] stand = absurd stand
-all-refused s (items ∷ feeds) (account ∷ accounts) stand = ap₂ (λ r rs. r ++ rs) stand.0.refused (all-refused s feeds accounts stand.1)
+-- ---- what a fault of the build leaves
 
--- builder 0 has the first ledger
-first-builder : (built : BuiltView) (builder : BuilderView) → 1 ≤ length built.builders → builder ≡ get_or built.builders 0 builder → first_ledger built.builders ≡ builder.ledger
-first-builder built builder some is = first-is built.builders builder some ∙ sym (ap (λ (b : BuilderView). b.ledger) is)
+pub Leaves-feeding : (question : Question) (s : Layout) (sources : Told) (why : FeedingFault) (old new : Option (List ℕ)) → new ≡ old → ExplainsFeeding s sources why
+    → Leaves (ExplainsRun s sources) question s sources (fault_of_feeding why) old new
+Leaves-feeding question s sources feeding_fault.Memory old new same explains = (same, record { why = feeding_fault.Memory; is = refl; explains = explains })
+Leaves-feeding question s sources feeding_fault.NoThread old new same explains = (same, record { why = feeding_fault.NoThread; is = refl; explains = explains })
+Leaves-feeding question s sources (feeding_fault.Feed source fault) old new same explains = (same, record { why = feeding_fault.Feed source fault; is = refl; explains = explains })
+Leaves-feeding question s sources feeding_fault.Full old new same explains = (same, record { why = feeding_fault.Full; is = refl; explains = explains })
+Leaves-feeding question s sources (feeding_fault.Unsealed source) old new same explains = (same, record { why = feeding_fault.Unsealed source; is = refl; explains = explains })
 
-HasTaken-BuildsParts : {s : Layout} {sources : Told} {parts : ℕ} {built : BuiltView} → 1 ≤ parts → (builds : BuildsParts s sources parts built)
-    → HasTaken s sources (of_sources (length sources) builds.arrivals) built
-HasTaken-BuildsParts {s = s} {sources = sources} {parts = parts} {built = built} some builds =
-    let first = ledger-BuildsParts s sources parts built some builds in
-    let counted : 1 ≤ length built.builders = rw builds.stands.builders some in
-    let ledger = first_ledger built.builders in
-    let feeds = of_sources (length sources) builds.arrivals in
-    let stands : AllZip (AccountStandsAt s) feeds ledger.accounts =
-    subst (λ (l : Layout). AllZip (AccountStandsAt l) feeds ledger.accounts) first.0
-    (subst (λ (n : ℕ). AllZip (AccountStandsAt ledger.schema) (of_sources n builds.arrivals) ledger.accounts) first.1 first.2) in
+pub Leaves-build : (question : Question) (s : Layout) (sources : Told) (why : BuildFault) (old new : Option (List ℕ)) → new ≡ old → ExplainsBuild s sources why
+    → Leaves (ExplainsPlainRun s sources) question s sources (fault_of_build why) old new
+Leaves-build question s sources build_fault.Memory old new same explains = (same, record { why = build_fault.Memory; is = refl; explains = explains })
+Leaves-build question s sources (build_fault.Feed source fault) old new same explains = (same, record { why = build_fault.Feed source fault; is = refl; explains = explains })
+Leaves-build question s sources build_fault.Full old new same explains = (same, record { why = build_fault.Full; is = refl; explains = explains })
+
+-- ---- what a fault of the text leaves
+
+pub Leaves-text : (question : Question) {s : Layout} {sources : Told} {parts : ℕ} {built : BuiltView} (why : TextFault) (old new : Option (List ℕ)) → 1 ≤ length built.builders
+    → BuildsParts s sources parts built → Writes {T = Unit {0}} (Tells question s (facts_of_run built) (refusals_of_run built)) (Err why) old new
+    → Leaves (ExplainsRun s sources) question s sources (fault_of_text why) old new
+Leaves-text question text_fault.Full old new some builds same = (same, record { why = feeding_fault.Full; is = refl; explains = builds.good })
+Leaves-text question (text_fault.Write sent) old new some builds wrote = OfFeeds-first some builds wrote
+
+pub Leaves-plain_text : (question : Question) {s : Layout} {sources : Told} {builder : BuilderView} (why : TextFault) (old new : Option (List ℕ))
+    → BuildsWhole s sources builder → Writes {T = Unit {0}} (Tells question s (all_facts builder.ledger.accounts) (refused builder.ledger.accounts)) (Err why) old new
+    → Leaves (ExplainsPlainRun s sources) question s sources (fault_of_text why) old new
+Leaves-plain_text question text_fault.Full old new builds same = (same, record { why = build_fault.Full; is = refl; explains = tt })
+Leaves-plain_text question (text_fault.Write sent) old new builds wrote = OfFeeds-whole_first builds wrote
+
+-- ---- rows of what was built
+
+-- rows of what was built are rows over the schema
+rows-where : (test : Key → Bool) (s : Layout) (built : BuiltView) (rows : List Row) → schema_of_run built ≡ s → AreRowsOfRun test built rows
+    → AreRowsWhere test s.grouping_sets (length s.dimensions) s.aggregates (facts_of_run built) rows
+rows-where test s built rows schema are =
+    subst (λ (l : Layout). AreRowsWhere test l.grouping_sets (length l.dimensions) l.aggregates (facts_of_run built) rows) schema are
+
+-- they have the schema's shape
+pub shapes : (test : Key → Bool) (s : Layout) (built : BuiltView) (rows : List Row) → schema_of_run built ≡ s → AllFit (schema_of_run built) (facts_of_run built)
+    → AreRowsOfRun test built rows → All (HasShapeOf s) rows
+shapes test s built rows schema fit are =
+    HasShapeOf-AreRowsWhere test s (facts_of_run built) rows
+    (list_all-from_AllPass (fits s) (facts_of_run built) (subst (λ (l : Layout). AllFit l (facts_of_run built)) schema fit))
+    (rows-where test s built rows schema are)
+
+-- their text is that of the rows that pass the test
+pub IsTextWhere-rows : (test : Key → Bool) (s : Layout) (built : BuiltView) (rows : List Row) (text : List ℕ) → schema_of_run built ≡ s → AreRowsOfRun test built rows
+    → text ≡ text_of_rows s rows → IsTextWhere test s (facts_of_run built) text
+IsTextWhere-rows test s built rows text schema are is = record { rows = rows; are_rows = rows-where test s built rows schema are; text_is = is }
+
+-- ---- answers
+
+-- a question that isn't refused, and whose text wasn't written whole
+pub Answers-text : (question : Question) (s : Layout) (facts : List Fact) (refusals : List (List Refusal)) (why : TextFault) (old new : Option (List ℕ)) → question_fault s question ≡ None
+    → Writes {T = Unit {0}} (Tells question s facts refusals) (Err why) old new → Answers {T = Unit {0}} question s facts refusals (Err (failure.Run (fault_of_text why))) old new
+Answers-text question s facts refusals text_fault.Full old new lawful same = (same, lawful)
+Answers-text question s facts refusals (text_fault.Write sent) old new lawful wrote = wrote
+
+-- rows that are given hold, and there is nothing for which they would be refused
+pub GivesUnless-Ok : {T : Type 0} (said : Option QueryFault) (Holds : T → Type 0) (value : T) → GivesUnless said Holds (Ok value) → (said ≡ None) × Holds value
+GivesUnless-Ok None Holds value holds = (refl, holds)
+GivesUnless-Ok (Some fault) Holds value told = let bad : Ok value ≡ Err fault = told in cc
+
+-- the fault for which none are
+pub GivesUnless-Err : {T : Type 0} (said : Option QueryFault) (Holds : T → Type 0) (fault : QueryFault) → GivesUnless said Holds (Err fault) → IsToldOf said fault
+GivesUnless-Err None Holds fault memory = memory
+GivesUnless-Err {T = T} (Some why) Holds fault told =
+    let first : Result T QueryFault = Err fault in
+    let second : Result T QueryFault = Err why in
+    let same : first ≡ second = told in
+    cc
+
+-- rows that drill down over a schema, where there is nothing for which they would be refused
+pub record DrillsDown (dimension : ℕ) (key : Key) (s : Layout) (built : BuiltView) (rows : List Row) : Type 0 where
+  pub lawful : drill_fault s.grouping_sets dimension key ≡ None
+  pub are_rows : AreRowsOfRun (drills_down dimension key) built rows
+
+pub DrillsDown-given : (dimension : ℕ) (key : Key) (s : Layout) (built : BuiltView) (rows : Vec Row) → schema_of_run built ≡ s
+    → GivesUnless (drill_fault (schema_of_run built).grouping_sets dimension key) (λ (rows : Vec Row). AreRowsOfRun (drills_down dimension key) built rows.items) (Ok rows)
+    → DrillsDown dimension key s built rows.items
+DrillsDown-given dimension key s built rows schema gives =
+    let given = GivesUnless-Ok (drill_fault (schema_of_run built).grouping_sets dimension key) (λ (rows : Vec Row). AreRowsOfRun (drills_down dimension key) built rows.items) rows gives in
     record {
-      are_feeds = record { good = builds.good; items = builds.taken };
-      survive =
-          subst (λ (l : Layout). SurviveTogether l feeds (facts_of_run built)) first.0
-          (subst (λ (n : ℕ). SurviveTogether ledger.schema (of_sources n builds.arrivals) (facts_of_run built)) first.1
-          (SurviveTogether-stands ledger builds.arrivals first.2));
-      each_refused = λ builder is. rw (← first-builder built builder counted is) (each-refused s feeds ledger.accounts stands);
-      all_refused = λ builder is. rw (← first-builder built builder counted is) (all-refused s feeds ledger.accounts stands);
+      lawful = subst (λ (l : Layout). drill_fault l.grouping_sets dimension key ≡ None) schema given.0;
+      are_rows = given.1;
     }
 
--- a text shows what it is to show of the feeds of these sources, and a status tells whether a line of them was refused
-pub record AnswersFeeds (Shows : Layout → List (List Item) → List ℕ → Type 0) (s : Layout) (sources : Told) (text : List ℕ) (status : Status) : Type 0 where
-  pub feeds : List (List Item)
-  pub are_feeds : AreFeeds s sources feeds
-  pub shows : Shows s feeds text
-  pub status_is : status ≡ status_after (flat_map (refusals_of s) feeds)
+-- ---- what a failure of a question over feeds leaves
 
--- a text that shows what builders have taken answers their feeds, with the status by the refusals of builder 0
-pub AnswersFeeds-BuildsParts : {Shows : Layout → List (List Item) → List ℕ → Type 0} {s : Layout} {sources : Told} {parts : ℕ} {built : BuiltView} {builder : BuilderView}
-    {text : List ℕ} {status : Status} → 1 ≤ parts → (builds : BuildsParts s sources parts built) → builder ≡ get_or built.builders 0 builder
-    → status ≡ status_after (all_refusals builder.ledger.accounts)
-    → (HasTaken s sources (of_sources (length sources) builds.arrivals) built → Shows s (of_sources (length sources) builds.arrivals) text) → AnswersFeeds Shows s sources text status
-AnswersFeeds-BuildsParts {sources = sources} {builder = builder} some builds first is shows =
-    let taken = HasTaken-BuildsParts some builds in
-    record { feeds = of_sources (length sources) builds.arrivals; are_feeds = taken.are_feeds; shows = shows taken; status_is = is ∙ ap status_after (taken.all_refused builder first) }
-
--- a text of rows of what was built shows the rows of the feeds that were taken
-pub ShowsRows-HasTaken : {test : Key → Bool} {s : Layout} {sources : Told} {feeds : List (List Item)} {built : BuiltView} {text : List ℕ}
-    → IsTextWhere test s (facts_of_run built) text → HasTaken s sources feeds built → ShowsRows test s feeds text
-ShowsRows-HasTaken {built = built} of taken = record { facts = facts_of_run built; survive = taken.survive; rows = of.rows; are_rows = of.are_rows; text_is = of.text_is }
-
--- a text that was written whole, with the status of its feeds
-pub ends-with : {Shows : Layout → List (List Item) → List ℕ → Type 0} {s : Layout} {sources : Told} {text : List ℕ} {status : Status} (result : Result Status Failure) (old new : Option (List ℕ))
-    → AnswersFeeds Shows s sources text status → IfOk result (λ ended. (ended ≡ status) × Appends old new text) → IfOk result (λ ended. EndsWith Shows s sources ended old new)
-ends-with {text = text} result old new answers written =
-    IfOk-weaker result _ _
-    (λ ended done. record { feeds = answers.feeds; are_feeds = answers.are_feeds; text = text; shows = answers.shows; written = done.1; status_is = done.0 ∙ answers.status_is })
-    written
-
--- a text of which a part was written
-pub leaves-part : {Shows : Layout → List (List Item) → List ℕ → Type 0} {s : Layout} {sources : Told} {text : List ℕ} {status : Status} (old new : Option (List ℕ))
-    → AnswersFeeds Shows s sources text status → (fault : Failure) → WritesPart text fault old new → Leaves Shows s sources fault old new
-leaves-part {text = text} old new answers (failure.Run (run_fault.Write sent)) part =
-    record { feeds = answers.feeds; are_feeds = answers.are_feeds; text = text; shows = answers.shows; within = part.0; written = part.1 }
-leaves-part old new answers (failure.Run run_fault.Memory) part = absurd part
-leaves-part old new answers (failure.Run run_fault.NoThread) part = absurd part
-leaves-part old new answers (failure.Run (run_fault.Feed source fault)) part = absurd part
-leaves-part old new answers (failure.Run run_fault.Full) part = absurd part
-leaves-part old new answers (failure.Run (run_fault.Unsealed source)) part = absurd part
-leaves-part old new answers failure.Unreadable part = absurd part
-leaves-part old new answers (failure.Schema fault) part = absurd part
-leaves-part old new answers failure.TooManyFeeds part = absurd part
-leaves-part old new answers (failure.FeedUnreadable source) part = absurd part
-leaves-part old new answers (failure.Query fault) part = absurd part
-leaves-part old new answers failure.UnknownCode part = absurd part
-
--- the same of a drill-down
-pub drill-part : {s : Layout} {sources : Told} {text : List ℕ} {status : Status} (dimension : ℕ) (key : Key) (old new : Option (List ℕ))
-    → AnswersFeeds (ShowsRows (drills_down dimension key)) s sources text status → (fault : Failure) → WritesPart text fault old new
-    → DrillLeaves dimension key s sources fault old new
-drill-part dimension key old new answers (failure.Run fault) part = leaves-part old new answers (failure.Run fault) part
-drill-part dimension key old new answers failure.Unreadable part = absurd part
-drill-part dimension key old new answers (failure.Schema fault) part = absurd part
-drill-part dimension key old new answers failure.TooManyFeeds part = absurd part
-drill-part dimension key old new answers (failure.FeedUnreadable source) part = absurd part
-drill-part dimension key old new answers (failure.Query fault) part = absurd part
-drill-part dimension key old new answers failure.UnknownCode part = absurd part
-
--- rows that are given hold
-pub GivesUnless-Ok : {T : Type 0} (said : Option QueryFault) (Holds : T → Type 0) (value : T) → GivesUnless said Holds (Ok value) → Holds value
-GivesUnless-Ok None Holds value holds = holds
-GivesUnless-Ok (Some fault) Holds value refused = let bad : Ok value ≡ Err fault = refused in cc
-
--- a run that went well ends with the status of its feeds
-pub ends-with_run : (s : Layout) (sources : Told) (parts : ℕ) (built : BuiltView) (builder : BuilderView) (status : Status) (old new : Option (List ℕ)) → 1 ≤ parts
-    → Runs s sources (StandsInParts s (length sources) parts built) old new → builder ≡ get_or built.builders 0 builder
-    → status ≡ status_after (all_refusals builder.ledger.accounts) → EndsWith ShowsCube s sources status old new
-ends-with_run s sources parts built builder status old new some runs first is =
-    let answers = AnswersFeeds-BuildsParts {Shows = ShowsCube} {text = runs.text} some
-    record { good = runs.good; arrivals = runs.arrivals; taken = runs.taken; stands = runs.stands } first is
-    (λ taken. record { facts = runs.printed.facts; survive = runs.printed.survive; printed = runs.printed.printed }) in
-    record { feeds = answers.feeds; are_feeds = answers.are_feeds; text = runs.text; shows = answers.shows; written = runs.written; status_is = answers.status_is }
-
--- what a fault of a run leaves
-pub leaves-run : (s : Layout) (sources : Told) (fault : RunFault) (old new : Option (List ℕ)) → FaultLeaves ExplainsRun s sources fault old new
-    → Leaves ShowsCube s sources (failure.Run fault) old new
-leaves-run s sources run_fault.Memory old new leaves = leaves
-leaves-run s sources run_fault.NoThread old new leaves = leaves
-leaves-run s sources (run_fault.Feed source fault) old new leaves = leaves
-leaves-run s sources run_fault.Full old new leaves = leaves
-leaves-run s sources (run_fault.Unsealed source) old new leaves = leaves
-leaves-run s sources (run_fault.Write sent) old new part = record {
-  feeds = of_sources (length sources) part.arrivals;
-  are_feeds = record { good = part.good; items = part.taken };
-  text = part.text;
-  shows = record { facts = part.printed.facts; survive = part.printed.survive; printed = part.printed.printed };
-  within = part.within;
-  written = part.written;
-}
+pub FailsToAnswer-Answers : {s : Layout} {sources : Told} {parts : ℕ} {built : BuiltView} (question : Question) (why : Failure) (old new : Option (List ℕ)) → 1 ≤ length built.builders
+    → BuildsParts s sources parts built → Answers {T = Unit {0}} question s (facts_of_run built) (refusals_of_run built) (Err why) old new
+    → FailsToAnswer question s sources why old new
+FailsToAnswer-Answers question (failure.Query fault) old new some builds answers = (answers.0, builds.good, answers.1)
+FailsToAnswer-Answers question (failure.Run run_fault.Full) old new some builds answers = (answers.0, record { why = feeding_fault.Full; is = refl; explains = builds.good })
+FailsToAnswer-Answers question (failure.Run (run_fault.Write sent)) old new some builds answers = OfFeeds-first some builds answers
+FailsToAnswer-Answers question (failure.Run run_fault.Memory) old new some builds answers = absurd answers
+FailsToAnswer-Answers question (failure.Run run_fault.NoThread) old new some builds answers = absurd answers
+FailsToAnswer-Answers question (failure.Run (run_fault.Feed source fault)) old new some builds answers = absurd answers
+FailsToAnswer-Answers question (failure.Run (run_fault.Unsealed source)) old new some builds answers = absurd answers
+FailsToAnswer-Answers question failure.Unreadable old new some builds answers = absurd answers
+FailsToAnswer-Answers question (failure.Schema fault) old new some builds answers = absurd answers
+FailsToAnswer-Answers question failure.TooManyFeeds old new some builds answers = absurd answers
+FailsToAnswer-Answers question (failure.FeedUnreadable source) old new some builds answers = absurd answers
+FailsToAnswer-Answers question failure.UnknownCode old new some builds answers = absurd answers

@@ -7,8 +7,8 @@ use Rattle.cube_core.proofs.SetLaws.{range_with_len-more}
 use Rattle.cube_core.specs.Text.{lines_of_source, refusal_line}
 use Rattle.cube_core.specs.declared.change.Refusal.{Refusal}
 use Rattle.cube_engine.specs.Ledger.{AccountView, new_account}
-use Rattle.cube_tool.specs.Command.{all_refusals, status_after}
-use Rattle.cube_tool.specs.declared.command.status.Status.TheVariants.{LinesRefused}
+use Rattle.cube_tool.specs.Command.{status_after}
+use Rattle.cube_tool.specs.declared.command.status.Status.TheVariants.{Done, LinesRefused}
 use Rattle.cube_text.specs.Lines.{Lines, AddsText, Holds}
 
 -- the refusals of each account
@@ -38,25 +38,34 @@ lines_up_to-more accounts place below =
 
 -- ---- whether there are any
 
--- the refusals of the sources up to a place and the next
-pub all_refusals-more : (accounts : List AccountView) (place : ℕ) → place < length accounts
-    → all_refusals (take (place + 1) accounts) ≡ all_refusals (take place accounts) ++ (get_or accounts place new_account).refusals
-all_refusals-more [] place below = absurd (omega arith)
-all_refusals-more (a ∷ accounts) zero below = append-nil a.refusals
-all_refusals-more (a ∷ accounts) (suc place) below =
+-- the sources up to a place and one more without refusals
+pub status_after-none : (accounts : List AccountView) (place : ℕ) → place < length accounts → length (get_or accounts place new_account).refusals ≡ 0
+    → status_after (refusals_of_accounts (take place accounts)) ≡ Done → status_after (refusals_of_accounts (take (place + 1) accounts)) ≡ Done
+status_after-none [] place below none so_far = absurd (omega arith)
+status_after-none (a ∷ accounts) zero below none so_far = first a.refusals none where
+  first : (refusals : List Refusal) → length refusals ≡ 0 → status_after (refusals ∷ []) ≡ Done
+  first [] none = refl
+  first (r ∷ refusals) none = absurd (omega (arith, none))
+status_after-none (a ∷ accounts) (suc place) below none so_far =
     let later : suc place + 1 ≡ suc (place + 1) = omega arith in
-    ap (λ (n : ℕ). all_refusals (take n (a ∷ accounts))) later
-    ∙ ap (λ l. a.refusals ++ l) (all_refusals-more accounts place (omega arith)) ∙ sym (append_assoc a.refusals (all_refusals (take place accounts)) (get_or accounts place new_account).refusals)
+    ap (λ (n : ℕ). status_after (refusals_of_accounts (take n (a ∷ accounts)))) later
+    ∙ over a.refusals so_far (status_after-none accounts place (omega arith) none)
+  where
+    over : (refusals : List Refusal) → status_after (refusals ∷ refusals_of_accounts (take place accounts)) ≡ Done
+        → (status_after (refusals_of_accounts (take place accounts)) ≡ Done → status_after (refusals_of_accounts (take (place + 1) accounts)) ≡ Done)
+        → status_after (refusals ∷ refusals_of_accounts (take (place + 1) accounts)) ≡ Done
+    over [] so_far goes_on = goes_on so_far
+    over (r ∷ refusals) so_far goes_on = so_far
 
 -- one with refusals makes the status
 pub status_after-some : (accounts : List AccountView) (place : ℕ) → place < length accounts → 0 < length (get_or accounts place new_account).refusals
-    → status_after (all_refusals accounts) ≡ LinesRefused
+    → status_after (refusals_of_accounts accounts) ≡ LinesRefused
 status_after-some [] place below some = absurd (omega arith)
 status_after-some (a ∷ accounts) zero below some = first a.refusals some where
-  first : (refusals : List Refusal) → 0 < length refusals → status_after (refusals ++ all_refusals accounts) ≡ LinesRefused
+  first : (refusals : List Refusal) → 0 < length refusals → status_after (refusals ∷ refusals_of_accounts accounts) ≡ LinesRefused
   first [] some = absurd (omega (arith, some))
   first (r ∷ refusals) some = refl
 status_after-some (a ∷ accounts) (suc place) below some = later a.refusals (status_after-some accounts place (omega arith) some) where
-  later : (refusals : List Refusal) → status_after (all_refusals accounts) ≡ LinesRefused → status_after (refusals ++ all_refusals accounts) ≡ LinesRefused
+  later : (refusals : List Refusal) → status_after (refusals_of_accounts accounts) ≡ LinesRefused → status_after (refusals ∷ refusals_of_accounts accounts) ≡ LinesRefused
   later [] is = is
   later (r ∷ refusals) is = refl

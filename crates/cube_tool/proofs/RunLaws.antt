@@ -1,25 +1,33 @@
--- From a builder that has taken good feeds to what a run promises.
-use Rattle.std.proofs.Common.{◌≡◌, ◌≤◌, true, ℕ, List, [], ◌∷◌, length, take, get_or, subst, arith}
+-- From ledgers that have taken good feeds to what a question over feeds promises.
+use Rattle.std.proofs.Common.{◌≡◌, ◌≤◌, ◌∙◌, ℕ, List, [], ◌∷◌, length, map, take, get_or, refl, sym, ap, ap₂, subst, arith}
 use Rattle.std.specs.Prelude.{Option}
 use Rattle.std.specs.Io.KnownBytes.{Appends}
-use Rattle.cube_core.specs.Arrival.{Arrivals, of_sources}
+use Rattle.std.specs.List.{AllZip}
+use Rattle.std.proofs.lemmas.List.FromFn.{length-map-range_with_len}
+use Rattle.cube_core.specs.Arrival.{Arrivals, of_source, of_sources}
+use Rattle.cube_core.proofs.ListLaws.{AllZip-length}
 use Rattle.cube_core.specs.Cube.{AreRows, AreRowsOver}
 use Rattle.cube_core.specs.Layout.{Layout}
-use Rattle.cube_core.specs.Printed.{IsPrinted}
-use Rattle.cube_core.specs.Run.{Told, IsPrintedAt}
+use Rattle.cube_core.specs.Refusals.{refusals_of}
+use Rattle.cube_core.specs.Run.{Told, AreItemsOf}
 use Rattle.cube_core.specs.Sources.{SurviveTogether}
+use Rattle.cube_core.specs.declared.change.Item.{Item}
+use Rattle.cube_core.specs.declared.change.Refusal.{Refusal}
 use Rattle.cube_core.specs.declared.fact.Fact.{Fact}
 use Rattle.cube_core.specs.declared.key.Row.{Row}
 use Rattle.cube_cells.specs.Cube.{Lattice}
 use Rattle.cube_engine.specs.Build.{BuildsWhole}
 use Rattle.cube_engine.specs.Builder.{BuilderView, StandsAt}
-use Rattle.cube_engine.specs.Ledger.{AllFit, LedgerView, LedgerStandsAt, all_facts}
+use Rattle.cube_engine.specs.Ledger.{AccountView, AccountStandsAt, LedgerView, LedgerStandsAt, all_facts}
 use Rattle.cube_engine.proofs.SurvivorLaws.{SurviveTogether-stands}
-use Rattle.cube_engine.proofs.SurvivorFitLaws.{AllFit-survivors}
 use Rattle.cube_link.specs.Link.{Receiving}
-use Rattle.cube_threads.specs.Parts.{BuiltView, BuildsParts, PartStandsAt, StandsInParts, first_ledger, schema_of_run, facts_of_run}
+use Rattle.cube_threads.specs.Parts.{BuiltView, BuildsParts, PartStandsAt, StandsInParts, first_ledger, facts_of_run}
 use Rattle.cube_feeders.specs.declared.parcel.Parcel.{Parcel}
-use Rattle.cube_tool.specs.Run.{Runs, RunsPart}
+use Rattle.cube_tool.specs.Answering.{HasTaken, refusals_of_run, status_over}
+use Rattle.cube_tool.specs.Command.{status_after}
+use Rattle.cube_tool.specs.Run.{IsTextOf, OfFeeds, StandsOver, Tells, Wrote, WroteFirst}
+use Rattle.cube_tool.specs.declared.command.status.Status.{Status}
+use Rattle.cube_tool.specs.declared.question.Question.{Question}
 
 -- the rows of a cube of a schema over its grouping sets are the rows of the schema
 pub AreRows-AreRowsOver : (s : Layout) (cube : Lattice) (facts : List Fact) (rows : List Row) → cube.schema ≡ s → cube.sets ≡ s.grouping_sets
@@ -28,103 +36,178 @@ AreRows-AreRowsOver s cube facts rows schema sets are =
     subst (λ (l : Layout). AreRowsOver s.grouping_sets (length l.dimensions) l.aggregates facts rows) schema
     (subst (λ (kept : List ℕ). AreRowsOver kept (length cube.schema.dimensions) cube.schema.aggregates facts rows) sets are)
 
--- the facts of a ledger that stands at an arrival list survive in what the list has of its sources
-SurviveTogether-LedgerStandsAt : (s : Layout) (sources : ℕ) (ledger : LedgerView) (arrivals : Arrivals) → ledger.schema ≡ s → length ledger.accounts ≡ sources
-    → LedgerStandsAt ledger arrivals → SurviveTogether s (of_sources sources arrivals) (all_facts ledger.accounts)
-SurviveTogether-LedgerStandsAt s sources ledger arrivals schema all stands =
-    subst (λ (l : Layout). SurviveTogether l (of_sources sources arrivals) (all_facts ledger.accounts)) schema
-    (subst (λ (n : ℕ). SurviveTogether ledger.schema (of_sources n arrivals) (all_facts ledger.accounts)) all
-    (SurviveTogether-stands ledger arrivals stands))
+-- ---- what a ledger says of the feeds at which it stands
 
--- their printed cube is printed at that list
-IsPrintedAt-LedgerStandsAt : (s : Layout) (sources : ℕ) (ledger : LedgerView) (arrivals : Arrivals) (text : List ℕ) → ledger.schema ≡ s → length ledger.accounts ≡ sources
-    → LedgerStandsAt ledger arrivals → IsPrinted s (all_facts ledger.accounts) text → IsPrintedAt s sources arrivals text
-IsPrintedAt-LedgerStandsAt s sources ledger arrivals text schema all stands printed = record {
+-- the refusals of each account
+abbrev pub refused : List AccountView → List (List Refusal)
+refused accounts = map (λ account. account.refusals) accounts
+
+-- accounts that stand at the items of feeds have their refusals
+refused-stands : (s : Layout) (feeds : List (List Item)) (accounts : List AccountView) → AllZip (AccountStandsAt s) feeds accounts
+    → refused accounts ≡ map (refusals_of s) feeds
+refused-stands s [] [] stand = refl
+refused-stands s [] (account ∷ accounts) stand = absurd stand
+refused-stands s (items ∷ feeds) [] stand = absurd stand
+refused-stands s (items ∷ feeds) (account ∷ accounts) stand = ap₂ (λ r rs. r ∷ rs) stand.0.refused (refused-stands s feeds accounts stand.1)
+
+-- a ledger of a schema and so many sources stands at what an arrival list has of each
+pub record StandsUnder (s : Layout) (sources : ℕ) (arrivals : Arrivals) (ledger : LedgerView) : Type 0 where
+  pub schema : ledger.schema ≡ s
+  pub all : length ledger.accounts ≡ sources
+  pub stands : LedgerStandsAt ledger arrivals
+
+-- its facts survive together
+survives : {s : Layout} {sources : ℕ} {arrivals : Arrivals} {ledger : LedgerView} → StandsUnder s sources arrivals ledger
+    → SurviveTogether s (of_sources sources arrivals) (all_facts ledger.accounts)
+survives {sources = sources} {arrivals = arrivals} {ledger = ledger} under =
+    subst (λ (l : Layout). SurviveTogether l (of_sources sources arrivals) (all_facts ledger.accounts)) under.schema
+    (subst (λ (n : ℕ). SurviveTogether ledger.schema (of_sources n arrivals) (all_facts ledger.accounts)) under.all
+    (SurviveTogether-stands ledger arrivals under.stands))
+
+-- its refusals are those of the feeds
+pub refused-under : {s : Layout} {sources : ℕ} {arrivals : Arrivals} {ledger : LedgerView} → StandsUnder s sources arrivals ledger
+    → refused ledger.accounts ≡ map (refusals_of s) (of_sources sources arrivals)
+refused-under {s = s} {sources = sources} {arrivals = arrivals} {ledger = ledger} under =
+    refused-stands s (of_sources sources arrivals) ledger.accounts
+    (subst (λ (l : Layout). AllZip (AccountStandsAt l) (of_sources sources arrivals) ledger.accounts) under.schema
+    (subst (λ (n : ℕ). AllZip (AccountStandsAt ledger.schema) (of_sources n arrivals) ledger.accounts) under.all under.stands))
+
+-- a text that tells what is asked of its facts and refusals is that of the question over the feeds
+pub IsTextOf-Tells : {s : Layout} {sources : ℕ} {arrivals : Arrivals} {ledger : LedgerView} (question : Question) (text : List ℕ) → StandsUnder s sources arrivals ledger
+    → Tells question s (all_facts ledger.accounts) (refused ledger.accounts) text → IsTextOf question s (of_sources sources arrivals) text
+IsTextOf-Tells {s = s} {ledger = ledger} question text under tells = record {
   facts = all_facts ledger.accounts;
-  survive = SurviveTogether-LedgerStandsAt s sources ledger arrivals schema all stands;
-  printed = printed;
+  survive = survives under;
+  tells = subst (λ (r : List (List Refusal)). Tells question s (all_facts ledger.accounts) r text) (refused-under under) tells;
 }
 
--- a run that wrote the text went well
-pub Runs-BuildsWhole : (s : Layout) (sources : Told) (builder : BuilderView) (text : List ℕ) (old new : Option (List ℕ)) → BuildsWhole s sources builder
-    → IsPrinted s (all_facts builder.ledger.accounts) text → Appends old new text → Runs s sources (StandsAt builder) old new
-Runs-BuildsWhole s sources builder text old new built printed written =
-    let taken = built.ledger in
-    record {
-      good = taken.good;
-      arrivals = taken.arrivals;
-      taken = taken.taken;
-      stands = record { ledger = taken.stands; cube = built.cube };
-      text = text;
-      printed = IsPrintedAt-LedgerStandsAt s (length sources) builder.ledger taken.arrivals text taken.schema taken.all taken.stands printed;
-      written = written;
-    }
+-- ---- what was written
 
--- one that wrote a part of it
-pub RunsPart-BuildsWhole : (s : Layout) (sources : Told) (builder : BuilderView) (text : List ℕ) (sent : ℕ) (old new : Option (List ℕ)) → BuildsWhole s sources builder
-    → IsPrinted s (all_facts builder.ledger.accounts) text → sent ≤ length text → Appends old new (take sent text) → RunsPart s sources sent old new
-RunsPart-BuildsWhole s sources builder text sent old new built printed within written =
-    let taken = built.ledger in
-    record {
-      good = taken.good;
-      arrivals = taken.arrivals;
-      taken = taken.taken;
-      text = text;
-      printed = IsPrintedAt-LedgerStandsAt s (length sources) builder.ledger taken.arrivals text taken.schema taken.all taken.stands printed;
-      within = within;
-      written = written;
-    }
+pub Wrote-weaker : {P Q : List ℕ → Type 0} {old new : Option (List ℕ)} → ((text : List ℕ) → P text → Q text) → Wrote P old new → Wrote Q old new
+Wrote-weaker to wrote = record { text = wrote.text; holds = to wrote.text wrote.holds; written = wrote.written }
+
+pub WroteFirst-weaker : {P Q : List ℕ → Type 0} {sent : ℕ} {old new : Option (List ℕ)} → ((text : List ℕ) → P text → Q text) → WroteFirst P sent old new → WroteFirst Q sent old new
+WroteFirst-weaker to wrote = record { text = wrote.text; holds = to wrote.text wrote.holds; within = wrote.within; written = wrote.written }
+
+-- ---- the build in parts
+
+-- as many lists as sources
+long : (sources : ℕ) (arrivals : Arrivals) → length (of_sources sources arrivals) ≡ sources
+long sources arrivals = length-map-range_with_len (of_source arrivals) 1 sources
+
+-- what stands at an arrival list stands over the feeds of its sources
+pub StandsOver-arrivals : (Stands : ℕ → Arrivals → Type 0) (sources : ℕ) (arrivals : Arrivals) → Stands sources arrivals
+    → StandsOver (Stands (length (of_sources sources arrivals))) (of_sources sources arrivals)
+StandsOver-arrivals Stands sources arrivals stands = record {
+  arrivals = arrivals;
+  same = ap (λ (n : ℕ). of_sources n arrivals) (long sources arrivals);
+  stands = subst (λ (n : ℕ). Stands n arrivals) (sym (long sources arrivals)) stands;
+}
 
 -- the ledger of builder 0 stands where its part does
 first-stands : (s : Layout) (sources parts : ℕ) (arrivals : Arrivals) (builders : List BuilderView) (inlets : List (List (Receiving Parcel))) → 1 ≤ length builders
     → ((d : BuilderView) → PartStandsAt s sources parts 0 arrivals (get_or builders 0 d) (get_or inlets 0 []))
-    → ((first_ledger builders).schema ≡ s) × (length (first_ledger builders).accounts ≡ sources) × LedgerStandsAt (first_ledger builders) arrivals
+    → StandsUnder s sources arrivals (first_ledger builders)
 first-stands s sources parts arrivals [] inlets some stands = absurd (omega arith)
 first-stands s sources parts arrivals (builder ∷ builders) inlets some stands =
-    ((stands builder).schema, (stands builder).all, (stands builder).stands.ledger)
+    record { schema = (stands builder).schema; all = (stands builder).all; stands = (stands builder).stands.ledger }
 
--- the ledger of builder 0 stands at the arrival list of all builders
-pub ledger-BuildsParts : (s : Layout) (sources : Told) (parts : ℕ) (built : BuiltView) → 1 ≤ parts → (builds : BuildsParts s sources parts built)
-    → (schema_of_run built ≡ s) × (length (first_ledger built.builders).accounts ≡ length sources) × LedgerStandsAt (first_ledger built.builders) builds.arrivals
-ledger-BuildsParts s sources parts built some builds =
-    first-stands s (length sources) parts builds.arrivals built.builders built.inlets (rw builds.stands.builders some) (λ d. builds.stands.each 0 d some)
+-- so it does after a build
+pub StandsUnder-BuildsParts : {s : Layout} {sources : Told} {parts : ℕ} {built : BuiltView} → 1 ≤ length built.builders → (builds : BuildsParts s sources parts built)
+    → StandsUnder s (length sources) builds.arrivals (first_ledger built.builders)
+StandsUnder-BuildsParts {s = s} {sources = sources} {parts = parts} {built = built} some builds =
+    let count = builds.stands.builders in
+    first-stands s (length sources) parts builds.arrivals built.builders built.inlets some (λ d. builds.stands.each 0 d (omega arith))
 
--- the facts of a run's builders fit
-pub AllFit-BuildsParts : (s : Layout) (sources : Told) (parts : ℕ) (built : BuiltView) → 1 ≤ parts → BuildsParts s sources parts built → AllFit s (facts_of_run built)
-AllFit-BuildsParts s sources parts built some builds =
-    let first = ledger-BuildsParts s sources parts built some builds in
-    AllFit-survivors s (of_sources (length sources) builds.arrivals) (facts_of_run built)
-    (SurviveTogether-LedgerStandsAt s (length sources) (first_ledger built.builders) builds.arrivals first.0 first.1 first.2)
+HasTaken-BuildsParts : {s : Layout} {sources : Told} {parts : ℕ} {built : BuiltView} → (builds : BuildsParts s sources parts built)
+    → HasTaken s parts (of_sources (length sources) builds.arrivals) built
+HasTaken-BuildsParts {s = s} {sources = sources} {parts = parts} {built = built} builds =
+    StandsOver-arrivals (λ n. StandsInParts s n parts built) (length sources) builds.arrivals builds.stands
 
--- the printed cube of the facts of a run's builders is printed at the arrival list at which they stand
-IsPrintedAt-BuildsParts : (s : Layout) (sources : Told) (parts : ℕ) (built : BuiltView) (text : List ℕ) → 1 ≤ parts → (builds : BuildsParts s sources parts built)
-    → IsPrinted s (facts_of_run built) text → IsPrintedAt s (length sources) builds.arrivals text
-IsPrintedAt-BuildsParts s sources parts built text some builds printed =
-    let first = ledger-BuildsParts s sources parts built some builds in
-    IsPrintedAt-LedgerStandsAt s (length sources) (first_ledger built.builders) builds.arrivals text first.0 first.1 first.2 printed
-
--- a run in threads that wrote the text went well
-pub Runs-BuildsParts : (s : Layout) (sources : Told) (parts : ℕ) (built : BuiltView) (text : List ℕ) (old new : Option (List ℕ)) → 1 ≤ parts → BuildsParts s sources parts built
-    → IsPrinted s (facts_of_run built) text → Appends old new text → Runs s sources (StandsInParts s (length sources) parts built) old new
-Runs-BuildsParts s sources parts built text old new some builds printed written = record {
+-- a text that tells what is asked of what was built was written: it is that of the feeds
+pub OfFeeds-BuildsParts : {s : Layout} {sources : Told} {parts : ℕ} {built : BuiltView} {question : Question} {old new : Option (List ℕ)} → 1 ≤ length built.builders
+    → BuildsParts s sources parts built → Wrote (Tells question s (facts_of_run built) (refusals_of_run built)) old new
+    → OfFeeds s sources (λ feeds. Wrote (IsTextOf question s feeds) old new × HasTaken s parts feeds built)
+OfFeeds-BuildsParts {sources = sources} {question = question} some builds wrote = record {
+  feeds = of_sources (length sources) builds.arrivals;
   good = builds.good;
-  arrivals = builds.arrivals;
-  taken = builds.taken;
-  stands = builds.stands;
-  text = text;
-  printed = IsPrintedAt-BuildsParts s sources parts built text some builds printed;
-  written = written;
+  items = builds.taken;
+  holds = (Wrote-weaker (λ text. IsTextOf-Tells question text (StandsUnder-BuildsParts some builds)) wrote, HasTaken-BuildsParts builds);
 }
 
--- one that wrote a part of it
-pub RunsPart-BuildsParts : (s : Layout) (sources : Told) (parts : ℕ) (built : BuiltView) (text : List ℕ) (sent : ℕ) (old new : Option (List ℕ)) → 1 ≤ parts
-    → BuildsParts s sources parts built → IsPrinted s (facts_of_run built) text → sent ≤ length text → Appends old new (take sent text) → RunsPart s sources sent old new
-RunsPart-BuildsParts s sources parts built text sent old new some builds printed within written = record {
+-- the first bytes of it
+pub OfFeeds-first : {s : Layout} {sources : Told} {parts : ℕ} {built : BuiltView} {question : Question} {sent : ℕ} {old new : Option (List ℕ)} → 1 ≤ length built.builders
+    → BuildsParts s sources parts built → WroteFirst (Tells question s (facts_of_run built) (refusals_of_run built)) sent old new
+    → OfFeeds s sources (λ feeds. WroteFirst (IsTextOf question s feeds) sent old new)
+OfFeeds-first {sources = sources} {question = question} some builds wrote = record {
+  feeds = of_sources (length sources) builds.arrivals;
   good = builds.good;
-  arrivals = builds.arrivals;
-  taken = builds.taken;
-  text = text;
-  printed = IsPrintedAt-BuildsParts s sources parts built text some builds printed;
-  within = within;
-  written = written;
+  items = builds.taken;
+  holds = WroteFirst-weaker (λ text. IsTextOf-Tells question text (StandsUnder-BuildsParts some builds)) wrote;
 }
+
+-- the same with the status by the refusals
+pub OfFeeds-status : {s : Layout} {sources : Told} {parts : ℕ} {built : BuiltView} {question : Question} {status : Status} {old new : Option (List ℕ)} → 1 ≤ length built.builders
+    → BuildsParts s sources parts built → status ≡ status_after (refusals_of_run built) → Wrote (Tells question s (facts_of_run built) (refusals_of_run built)) old new
+    → OfFeeds s sources (λ feeds. Wrote (IsTextOf question s feeds) old new × (status ≡ status_over s feeds) × HasTaken s parts feeds built)
+OfFeeds-status {sources = sources} {question = question} some builds status_is wrote =
+    let under = StandsUnder-BuildsParts some builds in
+    record {
+      feeds = of_sources (length sources) builds.arrivals;
+      good = builds.good;
+      items = builds.taken;
+      holds = (Wrote-weaker (λ text. IsTextOf-Tells question text under) wrote, status_is ∙ ap status_after (refused-under under), HasTaken-BuildsParts builds);
+    }
+
+-- ---- the build on one thread
+
+StandsUnder-BuildsWhole : {s : Layout} {sources : Told} {builder : BuilderView} → (builds : BuildsWhole s sources builder)
+    → StandsUnder s (length sources) builds.ledger.arrivals builder.ledger
+StandsUnder-BuildsWhole builds = record { schema = builds.ledger.schema; all = builds.ledger.all; stands = builds.ledger.stands }
+
+pub OfFeeds-BuildsWhole : {s : Layout} {sources : Told} {builder : BuilderView} {question : Question} {old new : Option (List ℕ)}
+    → BuildsWhole s sources builder → Wrote (Tells question s (all_facts builder.ledger.accounts) (refused builder.ledger.accounts)) old new
+    → OfFeeds s sources (λ feeds. Wrote (IsTextOf question s feeds) old new × StandsOver (StandsAt builder) feeds)
+OfFeeds-BuildsWhole {sources = sources} {builder = builder} {question = question} builds wrote = record {
+  feeds = of_sources (length sources) builds.ledger.arrivals;
+  good = builds.ledger.good;
+  items = builds.ledger.taken;
+  holds = (
+    Wrote-weaker (λ text. IsTextOf-Tells question text (StandsUnder-BuildsWhole builds)) wrote,
+    StandsOver-arrivals (λ n. StandsAt builder) (length sources) builds.ledger.arrivals (record { ledger = builds.ledger.stands; cube = builds.cube }),
+  );
+}
+
+pub OfFeeds-whole_first : {s : Layout} {sources : Told} {builder : BuilderView} {question : Question} {sent : ℕ} {old new : Option (List ℕ)}
+    → BuildsWhole s sources builder → WroteFirst (Tells question s (all_facts builder.ledger.accounts) (refused builder.ledger.accounts)) sent old new
+    → OfFeeds s sources (λ feeds. WroteFirst (IsTextOf question s feeds) sent old new)
+OfFeeds-whole_first {sources = sources} {question = question} builds wrote = record {
+  feeds = of_sources (length sources) builds.ledger.arrivals;
+  good = builds.ledger.good;
+  items = builds.ledger.taken;
+  holds = WroteFirst-weaker (λ text. IsTextOf-Tells question text (StandsUnder-BuildsWhole builds)) wrote;
+}
+
+-- ---- a builder that stands over feeds
+
+-- the refusals of a builder that stands over feeds are theirs
+pub refused-StandsOver : {s : Layout} {feeds : List (List Item)} {builder : BuilderView} → builder.ledger.schema ≡ s → length builder.ledger.accounts ≡ length feeds
+    → StandsOver (StandsAt builder) feeds → refused builder.ledger.accounts ≡ map (refusals_of s) feeds
+refused-StandsOver {s = s} {feeds = feeds} {builder = builder} schema all over =
+    let under : StandsUnder s (length feeds) over.arrivals builder.ledger = record { schema = schema; all = all; stands = over.stands.ledger } in
+    refused-under under ∙ ap (map (refusals_of s)) over.same
+
+-- so is the status by its refusals, of a run over the sources of the sample
+pub OfFeeds-sample : {s : Layout} {sources : Told} {builder : BuilderView} {status : Status} {old new : Option (List ℕ)} (question : Question) (under : Layout) (told : Told) → under ≡ s → told ≡ sources
+    → builder.ledger.schema ≡ under → length builder.ledger.accounts ≡ length told → status ≡ status_after (refused builder.ledger.accounts)
+    → OfFeeds under told (λ feeds. Wrote (IsTextOf question under feeds) old new × StandsOver (StandsAt builder) feeds)
+    → OfFeeds s sources (λ feeds. Wrote (IsTextOf question s feeds) old new × (status ≡ status_over s feeds))
+OfFeeds-sample {sources = sources} {builder = builder} {status = status} {old = old} {new = new} question under told schema_is told_is schema all status_is of =
+    let answers : OfFeeds under told (λ feeds. Wrote (IsTextOf question under feeds) old new × (status ≡ status_over under feeds)) = record {
+      feeds = of.feeds;
+      good = of.good;
+      items = of.items;
+      holds = (of.holds.0, status_is ∙ ap status_after (refused-StandsOver {builder = builder} schema (all ∙ AllZip-length (AreItemsOf under) told of.feeds of.items) of.holds.1));
+    } in
+    subst (λ (l : Layout). OfFeeds l sources (λ feeds. Wrote (IsTextOf question l feeds) old new × (status ≡ status_over l feeds))) schema_is
+    (subst (λ (t : Told). OfFeeds under t (λ feeds. Wrote (IsTextOf question under feeds) old new × (status ≡ status_over under feeds))) told_is answers)

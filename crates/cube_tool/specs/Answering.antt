@@ -1,98 +1,93 @@
--- What a command over feeds writes and ends with, by the definitions alone (this project's choice).
-use Rattle.std.specs.Prelude.{◌≡◌, ◌≤◌, ⊤, ℕ, Bool, List, length, map, take, Option, Some}
-use Rattle.std.specs.Io.KnownBytes.{Appends}
-use Rattle.std.specs.List.{AllZip, flat_map}
+-- What a question over what was built answers, and how a command over feeds ends (this project's choice).
+use Rattle.std.specs.Prelude.{◌≡◌, ◌<◌, ⊤, ℕ, List, [], ◌∷◌, length, map, Option, Some, None, Result, Ok, Err}
 use Rattle.cube_core.specs.Layout.{Layout}
-use Rattle.cube_core.specs.Printed.{IsPrinted}
-use Rattle.cube_core.specs.Query.{AreRowsWhere, drill_fault, drills_down}
+use Rattle.cube_core.specs.Query.{drill_fault}
 use Rattle.cube_core.specs.Refusals.{refusals_of}
-use Rattle.cube_core.specs.Run.{Told, AreGood, AreItemsOf}
-use Rattle.cube_core.specs.Sources.{SurviveTogether}
-use Rattle.cube_core.specs.Text.{text_of_refusals, text_of_rows}
+use Rattle.cube_core.specs.Run.{Told, AreGood}
 use Rattle.cube_core.specs.declared.change.Item.{Item}
+use Rattle.cube_core.specs.declared.change.Refusal.{Refusal}
 use Rattle.cube_core.specs.declared.fact.Fact.{Fact}
-use Rattle.cube_core.specs.declared.key.Key.{Key}
-use Rattle.cube_core.specs.declared.key.Row.{Row}
 use Rattle.cube_core.specs.declared.query.QueryFault.{QueryFault}
 use Rattle.cube_core.specs.declared.query.QueryFault.TheVariants as query_fault
-use Rattle.cube_engine.specs.declared.fault.RunFault.TheVariants as run_fault
-use Rattle.cube_threads.specs.Building.{ExplainsRun}
+use Rattle.cube_core.specs.declared.schema_fault.SchemaFault.TheVariants as schema_fault
+use Rattle.cube_tool.specs.declared.fault.RunFault.TheVariants as run_fault
+use Rattle.cube_threads.specs.Parts.{BuiltView, StandsInParts, first_ledger}
 use Rattle.cube_tool.specs.Command.{status_after}
+use Rattle.cube_tool.specs.Run.{ExplainsPlainRun, ExplainsRun, Leaves, StandsOver, Tells, Wrote, WroteFirst}
+use Rattle.cube_tool.specs.declared.question.Question.{Question}
+use Rattle.cube_tool.specs.declared.question.Question.TheVariants.{Cube, Slice, Drill, Refusals}
+use Rattle.cube_tool.specs.declared.fault.TextFault.{TextFault}
+use Rattle.cube_tool.specs.declared.fault.TextFault.TheVariants as text_fault
 use Rattle.cube_tool.specs.declared.command.status.Status.{Status}
+use Rattle.cube_tool.specs.declared.command.status.Status.TheVariants.{Done}
 use Rattle.cube_tool.specs.declared.command.failure.Failure.{Failure}
-use Rattle.cube_tool.specs.declared.command.failure.Failure.TheVariants.{Query, Run}
+use Rattle.cube_tool.specs.declared.command.failure.Failure.TheVariants.{Query, Run, Schema}
 
--- the items of the feeds of all sources, which are good, source after source
-pub record AreFeeds (s : Layout) (sources : Told) (feeds : List (List Item)) : Type 0 where
-  pub good : AreGood s sources
-  pub items : AllZip (AreItemsOf s) sources feeds
+-- the refusals of each source of a run
+abbrev pub refusals_of_run : BuiltView → List (List Refusal)
+refusals_of_run built = map (λ account. account.refusals) (first_ledger built.builders).accounts
 
--- a text shows the printed cube of the facts that survive in all feeds
-pub record ShowsCube (s : Layout) (feeds : List (List Item)) (text : List ℕ) : Type 0 where
-  pub facts : List Fact
-  pub survive : SurviveTogether s feeds facts
-  pub printed : IsPrinted s facts text
+-- a question can be asked under a schema: a drill-down is along one of its dimensions, from a key with a coordinate for each
+abbrev pub Fits : Layout → Question → Type 0
+Fits s Cube = ⊤
+Fits s (Slice pattern) = ⊤
+Fits s (Drill key dimension) = (dimension < length s.dimensions) × (length key.coords ≡ length s.dimensions)
+Fits s Refusals = ⊤
 
--- a text shows the rows, of the cube over the facts that survive in all feeds, whose keys pass a test
-pub record ShowsRows (test : Key → Bool) (s : Layout) (feeds : List (List Item)) (text : List ℕ) : Type 0 where
-  pub facts : List Fact
-  pub survive : SurviveTogether s feeds facts
-  pub rows : List Row
-  pub are_rows : AreRowsWhere test s.grouping_sets (length s.dimensions) s.aggregates facts rows
-  pub text_is : text ≡ text_of_rows s rows
+-- why a question is refused under a schema, whatever the facts
+abbrev pub question_fault : Layout → Question → Option QueryFault
+question_fault s Cube = None
+question_fault s (Slice pattern) = None
+question_fault s (Drill key dimension) = drill_fault s.grouping_sets dimension key
+question_fault s Refusals = None
 
--- a text shows the refusals of each feed
-abbrev pub ShowsRefusals : Layout → List (List Item) → List ℕ → Type 0
-ShowsRefusals s feeds text = text ≡ text_of_refusals (map (refusals_of s) feeds)
+-- the fault that is told of a question that may be refused for one that is said, and else for want of memory alone
+abbrev pub IsToldOf : Option QueryFault → QueryFault → Type 0
+IsToldOf (Some said) fault = fault ≡ said
+IsToldOf None fault = fault ≡ query_fault.Memory
 
--- a command over feeds of these bytes wrote a text that shows what it is to show, and its status tells whether a line was refused
-pub record EndsWith (Shows : Layout → List (List Item) → List ℕ → Type 0) (s : Layout) (sources : Told) (status : Status) (old new : Option (List ℕ)) : Type 0 where
-  pub feeds : List (List Item)
-  pub are_feeds : AreFeeds s sources feeds
-  pub text : List ℕ
-  pub shows : Shows s feeds text
-  pub written : Appends old new text
-  pub status_is : status ≡ status_after (flat_map (refusals_of s) feeds)
+-- the fault for which a question is refused: a drill-down alone is
+abbrev pub IsQueryFault : Layout → Question → QueryFault → Type 0
+IsQueryFault s (Drill key dimension) fault = IsToldOf (drill_fault s.grouping_sets dimension key) fault
+IsQueryFault s _ fault = ⊥
 
--- it wrote the first bytes of such a text, so many of them
-pub record EndsAmid (Shows : Layout → List (List Item) → List ℕ → Type 0) (s : Layout) (sources : Told) (sent : ℕ) (old new : Option (List ℕ)) : Type 0 where
-  pub feeds : List (List Item)
-  pub are_feeds : AreFeeds s sources feeds
-  pub text : List ℕ
-  pub shows : Shows s feeds text
-  pub within : sent ≤ length text
-  pub written : Appends old new (take sent text)
+-- what writing a text of which this holds comes to: it was written whole, or its first bytes, as many as the fault says, or for want of memory nothing
+abbrev pub Writes : {T : Type 0} → (List ℕ → Type 0) → Result T TextFault → Option (List ℕ) → Option (List ℕ) → Type 0
+Writes Holds (Ok _) old new = Wrote Holds old new
+Writes Holds (Err text_fault.Full) old new = new ≡ old
+Writes Holds (Err (text_fault.Write sent)) old new = WroteFirst Holds sent old new
 
--- what a failure of a command over feeds leaves: nothing was written, but by a failed write, which tells how much of the text went out
-abbrev pub Leaves : (Layout → List (List Item) → List ℕ → Type 0) → Layout → Told → Failure → Option (List ℕ) → Option (List ℕ) → Type 0
-Leaves Shows s sources (Run (run_fault.Write sent)) old new = EndsAmid Shows s sources sent old new
-Leaves Shows s sources (Run fault) old new = (new ≡ old) × ExplainsRun s sources fault
-Leaves Shows s sources _ old new = ⊥
+-- what answering a question over these facts and refusals comes to: its text was written whole, or its first bytes, as many as the failure says, or nothing, where the question is refused or memory ran out
+abbrev pub Answers : {T : Type 0} → Question → Layout → List Fact → List (List Refusal) → Result T Failure → Option (List ℕ) → Option (List ℕ) → Type 0
+Answers question s facts refusals (Ok _) old new = Wrote (Tells question s facts refusals) old new
+Answers question s facts refusals (Err (Query fault)) old new = (new ≡ old) × IsQueryFault s question fault
+Answers question s facts refusals (Err (Run run_fault.Full)) old new = (new ≡ old) × (question_fault s question ≡ None)
+Answers question s facts refusals (Err (Run (run_fault.Write sent))) old new = WroteFirst (Tells question s facts refusals) sent old new
+Answers question s facts refusals (Err _) old new = ⊥
 
--- why a drill-down gives no rows: for what is said of it, or for want of memory
-abbrev pub IsDrillFault : Option QueryFault → QueryFault → Type 0
-IsDrillFault said query_fault.Memory = ⊤
-IsDrillFault said fault = said ≡ Some fault
+-- the status of a question over feeds that was answered: it tells whether a line of a feed was refused
+abbrev pub status_over : Layout → List (List Item) → Status
+status_over s feeds = status_after (map (refusals_of s) feeds)
 
--- what a failure of a drill-down leaves: nothing was written where it is refused after all feeds were taken
-abbrev pub DrillLeaves : ℕ → Key → Layout → Told → Failure → Option (List ℕ) → Option (List ℕ) → Type 0
-DrillLeaves dimension key s sources (Query fault) old new =
-    (new ≡ old) × AreGood s sources × IsDrillFault (drill_fault s.grouping_sets dimension key) fault
-DrillLeaves dimension key s sources failure old new = Leaves (ShowsRows (drills_down dimension key)) s sources failure old new
+-- so many builders have taken these feeds
+abbrev pub HasTaken : Layout → ℕ → List (List Item) → BuiltView → Type 0
+HasTaken s parts feeds built = StandsOver (StandsInParts s (length feeds) parts built) feeds
 
--- a text is that of the rows of the cube over these facts whose keys pass a test
-pub record IsTextWhere (test : Key → Bool) (s : Layout) (facts : List Fact) (text : List ℕ) : Type 0 where
-  pub rows : List Row
-  pub are_rows : AreRowsWhere test s.grouping_sets (length s.dimensions) s.aggregates facts rows
-  pub text_is : text ≡ text_of_rows s rows
+-- what a failure of a question over feeds leaves: nothing was written where the question is refused, and that is told only after all feeds were taken
+abbrev pub FailsToAnswer : Question → Layout → Told → Failure → Option (List ℕ) → Option (List ℕ) → Type 0
+FailsToAnswer question s sources (Run fault) old new = Leaves (ExplainsRun s sources) question s sources fault old new
+FailsToAnswer question s sources (Query fault) old new = (new ≡ old) × AreGood s sources × IsQueryFault s question fault
+FailsToAnswer question s sources _ old new = ⊥
 
--- why the text of a drill-down can't be had
-abbrev pub FailsToDrill : Option QueryFault → Failure → Type 0
-FailsToDrill said (Query fault) = IsDrillFault said fault
-FailsToDrill said (Run run_fault.Full) = ⊤
-FailsToDrill said _ = ⊥
+-- what a failure of the program without words leaves; of its schema nothing but memory can fail
+abbrev pub SampleLeaves : Layout → Told → Failure → Option (List ℕ) → Option (List ℕ) → Type 0
+SampleLeaves s sources (Schema fault) old new = (fault ≡ schema_fault.Memory) × (new ≡ old)
+SampleLeaves s sources (Run fault) old new = Leaves (ExplainsPlainRun s sources) Cube s sources fault old new
+SampleLeaves s sources _ old new = ⊥
 
--- the first bytes of a text were written, as many as a failure says
-abbrev pub WritesPart : List ℕ → Failure → Option (List ℕ) → Option (List ℕ) → Type 0
-WritesPart text (Run (run_fault.Write sent)) old new = (sent ≤ length text) × Appends old new (take sent text)
-WritesPart text _ old new = ⊥
+-- what showing a text comes to, of which nothing is said: it was written whole, or its first bytes, as many as the failure says, or for want of memory nothing
+abbrev pub ShowsText : Result Status Failure → Option (List ℕ) → Option (List ℕ) → Type 0
+ShowsText (Ok status) old new = (status ≡ Done) × Wrote (λ text. ⊤) old new
+ShowsText (Err (Run run_fault.Full)) old new = new ≡ old
+ShowsText (Err (Run (run_fault.Write sent))) old new = WroteFirst (λ text. ⊤) sent old new
+ShowsText (Err _) old new = ⊥

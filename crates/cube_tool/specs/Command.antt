@@ -1,20 +1,14 @@
 -- How the program ends: its statuses, and what a command leaves written (this project's choice).
 use Rattle.std.specs.Prelude.{◌≡◌, ◌≤◌, ⊤, ℕ, List, [], ◌∷◌, ◌++◌, length, take, codes, Option, IfSome, Result, Ok, Err}
 use Rattle.std.specs.Io.KnownBytes.{Appends}
-use Rattle.std.specs.List.{flat_map}
 use Rattle.cube_core.specs.Layout.{Layout}
 use Rattle.cube_core.specs.Query.{Says, Wanted, cell_of, pattern_of}
-use Rattle.cube_core.specs.Run.{Told}
 use Rattle.cube_core.specs.SchemaDocument.{AnswersBytes}
 use Rattle.cube_core.specs.declared.change.Refusal.{Refusal}
 use Rattle.cube_core.specs.declared.key.Key.{Key}
 use Rattle.cube_core.specs.declared.query.QueryFault.{QueryFault}
 use Rattle.cube_core.specs.declared.schema_fault.SchemaFault.TheVariants as schema_fault
-use Rattle.cube_engine.specs.Build.{ExplainsBuild}
-use Rattle.cube_engine.specs.Builder.{BuilderView, StandsAt}
-use Rattle.cube_engine.specs.Ledger.{AccountView}
-use Rattle.cube_engine.specs.declared.fault.RunFault.TheVariants as run_fault
-use Rattle.cube_tool.specs.Run.{Runs, FaultLeaves}
+use Rattle.cube_tool.specs.declared.fault.RunFault.TheVariants as run_fault
 use Rattle.cube_tool.specs.declared.command.status.Status.{Status}
 use Rattle.cube_tool.specs.declared.command.status.Status.TheVariants.{Done, Failed, WrongWords, WrongSchema, LinesRefused}
 use Rattle.cube_tool.specs.declared.command.failure.Failure.{Failure}
@@ -38,25 +32,11 @@ status_of (Query fault) = WrongWords
 status_of UnknownCode = WrongWords
 status_of (Run fault) = Failed
 
--- the refusals of all sources, source after source
-abbrev pub all_refusals : List AccountView → List Refusal
-all_refusals accounts = flat_map (λ account. account.refusals) accounts
-
--- the status of a run that was written whole, by the lines that it refused
-abbrev pub status_after : List Refusal → Status
+-- the status of an answer that was written whole, by the refusals of each source: it tells whether there are any
+abbrev pub status_after : List (List Refusal) → Status
 status_after [] = Done
-status_after (refusal ∷ refusals) = LinesRefused
-
--- a run over feeds of these bytes was written whole, and its status tells whether a line was refused
-abbrev pub EndsRun : Layout → Told → Status → Option (List ℕ) → Option (List ℕ) → Type 0
-EndsRun s sources status old new = (builder : BuilderView)
-    × Runs s sources (StandsAt builder) old new × (builder.ledger.schema ≡ s) × (status ≡ status_after (all_refusals builder.ledger.accounts))
-
--- what a failure of a run over feeds of these bytes leaves written; of a schema that is had nothing but memory can fail
-abbrev pub FailureLeaves : Layout → Told → Failure → Option (List ℕ) → Option (List ℕ) → Type 0
-FailureLeaves s sources (Schema fault) old new = (fault ≡ schema_fault.Memory) × (new ≡ old)
-FailureLeaves s sources (Run fault) old new = FaultLeaves ExplainsBuild s sources fault old new
-FailureLeaves s sources _ old new = ⊥
+status_after ([] ∷ sources) = status_after sources
+status_after ((refusal ∷ refusals) ∷ sources) = LinesRefused
 
 -- the most bytes that a schema file may have
 abbrev pub schema_limit : ℕ
@@ -102,6 +82,11 @@ abbrev pub AnswersQuery : {T : Type 0} → Result T QueryFault → Result T Fail
 AnswersQuery said (Ok value) = Says said (Ok value)
 AnswersQuery said (Err (Query fault)) = Says said (Err fault)
 AnswersQuery said (Err _) = ⊥
+
+-- the answer to a query's word that takes no memory: what is said of it
+abbrev pub answer_of : {T : Type 0} → Result T QueryFault → Result T Failure
+answer_of (Ok value) = Ok value
+answer_of (Err fault) = Err (Query fault)
 
 -- the key of a pattern, where there is a pattern
 abbrev pub key_of_pattern : Result Wanted QueryFault → Result Key QueryFault

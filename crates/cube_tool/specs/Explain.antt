@@ -3,7 +3,7 @@ use Rattle.std.specs.Prelude.{◌≡◌, ◌≤◌, ℕ, Bool, true, List, [], �
 use Rattle.std.specs.Io.KnownBytes.{Appends}
 use Rattle.std.specs.List.{flat_map}
 use Rattle.std.specs.Str.{bytes_eq}
-use Rattle.cube_engine.specs.declared.fault.RunFault.TheVariants as run_fault
+use Rattle.cube_tool.specs.declared.fault.RunFault.TheVariants as run_fault
 use Rattle.cube_tool.specs.declared.command.failure.Failure.{Failure}
 use Rattle.cube_tool.specs.declared.command.failure.Failure.TheVariants.{UnknownCode, Run}
 use Rattle.cube_tool.specs.declared.command.notes.Note.{Note}

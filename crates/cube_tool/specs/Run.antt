@@ -1,37 +1,88 @@
--- What a run over the feeds of several sources promises, by the definitions alone (this project's choice).
-use Rattle.std.specs.Prelude.{◌≡◌, ◌≤◌, ℕ, List, length, take, Option}
+-- What a question over the feeds of several sources writes, and what a fault of it leaves, by the definitions alone (this project's choice).
+use Rattle.std.specs.Prelude.{◌≡◌, ◌≤◌, ⊤, ℕ, Bool, List, [], length, map, take, Option}
 use Rattle.std.specs.Io.KnownBytes.{Appends}
-use Rattle.cube_core.specs.Arrival.{Arrivals}
+use Rattle.std.specs.List.{AllZip}
+use Rattle.cube_core.specs.Arrival.{Arrivals, of_sources}
 use Rattle.cube_core.specs.Layout.{Layout}
-use Rattle.cube_core.specs.Run.{Told, AreGood, AreTaken, IsPrintedAt}
-use Rattle.cube_engine.specs.declared.fault.RunFault.{RunFault}
-use Rattle.cube_engine.specs.declared.fault.RunFault.TheVariants as run_fault
+use Rattle.cube_core.specs.Printed.{IsPrinted}
+use Rattle.cube_core.specs.Query.{AreRowsWhere, drills_down, matches}
+use Rattle.cube_core.specs.Refusals.{refusals_of}
+use Rattle.cube_core.specs.Run.{Told, AreGood, AreItemsOf}
+use Rattle.cube_core.specs.Sources.{SurviveTogether}
+use Rattle.cube_core.specs.Text.{text_of_refusals, text_of_rows}
+use Rattle.cube_core.specs.declared.change.Item.{Item}
+use Rattle.cube_core.specs.declared.change.Refusal.{Refusal}
+use Rattle.cube_core.specs.declared.fact.Fact.{Fact}
+use Rattle.cube_core.specs.declared.key.Key.{Key}
+use Rattle.cube_core.specs.declared.key.Row.{Row}
+use Rattle.cube_engine.specs.Build.{ExplainsBuild}
+use Rattle.cube_engine.specs.declared.fault.BuildFault.{BuildFault}
+use Rattle.cube_feeders.specs.FeedingAll.{ExplainsFeeding}
+use Rattle.cube_feeders.specs.declared.fault.FeedingFault.{FeedingFault}
+use Rattle.cube_tool.specs.Faults.{fault_of_build, fault_of_feeding}
+use Rattle.cube_tool.specs.declared.fault.RunFault.{RunFault}
+use Rattle.cube_tool.specs.declared.fault.RunFault.TheVariants as run_fault
+use Rattle.cube_tool.specs.declared.question.Question.{Question}
+use Rattle.cube_tool.specs.declared.question.Question.TheVariants.{Cube, Slice, Drill, Refusals}
 
--- a run went well: every feed is good, what stands stands at an arrival list that has of each source its feed's items, and the printed cube of the facts that survive in all feeds was written
-pub record Runs (s : Layout) (sources : Told) (Stands : Arrivals → Type 0) (old new : Option (List ℕ)) : Type 0 where
+-- this holds of the items of the feeds of these sources, source after source, and every feed is good
+pub record OfFeeds (s : Layout) (sources : Told) (Holds : List (List Item) → Type 0) : Type 0 where
+  pub feeds : List (List Item)
   pub good : AreGood s sources
-  pub arrivals : Arrivals
-  pub taken : AreTaken s sources arrivals
-  pub stands : Stands arrivals
+  pub items : AllZip (AreItemsOf s) sources feeds
+  pub holds : Holds feeds
+
+-- a text is that of the rows of the cube over these facts whose keys pass a test
+pub record IsTextWhere (test : Key → Bool) (s : Layout) (facts : List Fact) (text : List ℕ) : Type 0 where
+  pub rows : List Row
+  pub are_rows : AreRowsWhere test s.grouping_sets (length s.dimensions) s.aggregates facts rows
+  pub text_is : text ≡ text_of_rows s rows
+
+-- a text tells what is asked of these facts and of the refusals of each source: the printed cube, the rows that match, the rows that drill down, or the refusals
+abbrev pub Tells : Question → Layout → List Fact → List (List Refusal) → List ℕ → Type 0
+Tells Cube s facts refusals text = IsPrinted s facts text
+Tells (Slice pattern) s facts refusals text = IsTextWhere (matches pattern) s facts text
+Tells (Drill key dimension) s facts refusals text = IsTextWhere (drills_down dimension key) s facts text
+Tells Refusals s facts refusals text = text ≡ text_of_refusals refusals
+
+-- the text of a question over feeds: it tells what is asked of the facts that survive in all feeds and of the refusals of each
+pub record IsTextOf (question : Question) (s : Layout) (feeds : List (List Item)) (text : List ℕ) : Type 0 where
+  pub facts : List Fact
+  pub survive : SurviveTogether s feeds facts
+  pub tells : Tells question s facts (map (refusals_of s) feeds) text
+
+-- a text of which this holds was written, whole
+pub record Wrote (Holds : List ℕ → Type 0) (old new : Option (List ℕ)) : Type 0 where
   pub text : List ℕ
-  pub printed : IsPrintedAt s (length sources) arrivals text
+  pub holds : Holds text
   pub written : Appends old new text
 
--- a run over good feeds wrote the first bytes of the printed cube, so many of them
-pub record RunsPart (s : Layout) (sources : Told) (sent : ℕ) (old new : Option (List ℕ)) : Type 0 where
-  pub good : AreGood s sources
-  pub arrivals : Arrivals
-  pub taken : AreTaken s sources arrivals
+-- the first bytes of a text of which this holds were written, so many of them
+pub record WroteFirst (Holds : List ℕ → Type 0) (sent : ℕ) (old new : Option (List ℕ)) : Type 0 where
   pub text : List ℕ
-  pub printed : IsPrintedAt s (length sources) arrivals text
+  pub holds : Holds text
   pub within : sent ≤ length text
   pub written : Appends old new (take sent text)
 
--- what a fault of a run leaves, where this explains the faults of what was built: nothing was written, but by a failed write, which tells how much of the text went out
-abbrev pub FaultLeaves : (Layout → Told → RunFault → Type 0) → Layout → Told → RunFault → Option (List ℕ) → Option (List ℕ) → Type 0
-FaultLeaves Explains s sources run_fault.Memory old new = (new ≡ old) × Explains s sources run_fault.Memory
-FaultLeaves Explains s sources run_fault.NoThread old new = (new ≡ old) × Explains s sources run_fault.NoThread
-FaultLeaves Explains s sources (run_fault.Feed source fault) old new = (new ≡ old) × Explains s sources (run_fault.Feed source fault)
-FaultLeaves Explains s sources run_fault.Full old new = (new ≡ old) × Explains s sources run_fault.Full
-FaultLeaves Explains s sources (run_fault.Unsealed source) old new = (new ≡ old) × Explains s sources (run_fault.Unsealed source)
-FaultLeaves Explains s sources (run_fault.Write sent) old new = RunsPart s sources sent old new
+-- this stands at an arrival list that has of each source the items of its feed
+pub record StandsOver (Stands : Arrivals → Type 0) (feeds : List (List Item)) : Type 0 where
+  pub arrivals : Arrivals
+  pub same : of_sources (length feeds) arrivals ≡ feeds
+  pub stands : Stands arrivals
+
+-- what a fault of a question over feeds leaves, where this explains why it may come: of a failed write the first bytes of the text, so many of them, and of any other nothing
+abbrev pub Leaves : (RunFault → Type 0) → Question → Layout → Told → RunFault → Option (List ℕ) → Option (List ℕ) → Type 0
+Leaves Explains question s sources (run_fault.Write sent) old new = OfFeeds s sources (λ feeds. WroteFirst (IsTextOf question s feeds) sent old new)
+Leaves Explains question s sources fault old new = (new ≡ old) × Explains fault
+
+-- why a run over feeds wrote nothing: that for which they weren't taken; want of memory only before a record was read, or where all feeds are good
+pub record ExplainsRun (s : Layout) (sources : Told) (fault : RunFault) : Type 0 where
+  pub why : FeedingFault
+  pub is : fault ≡ fault_of_feeding why
+  pub explains : ExplainsFeeding s sources why
+
+-- why a run on one thread wrote nothing: that for which nothing was built
+pub record ExplainsPlainRun (s : Layout) (sources : Told) (fault : RunFault) : Type 0 where
+  pub why : BuildFault
+  pub is : fault ≡ fault_of_build why
+  pub explains : ExplainsBuild s sources why

@@ -13,9 +13,10 @@ mod schema_file;
 mod status;
 mod words;
 
+pub use crate::question::Question;
 pub use explanation::explain;
 pub use failure::Failure;
-pub use feeds::{drill, print, refusals, slice};
+pub use feeds::ask;
 pub use notes::{NOTES, Note};
 pub use query::{read_cell, read_dimension, read_pattern};
 pub use sample::run_sample;

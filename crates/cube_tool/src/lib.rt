@@ -1,10 +1,17 @@
 //! The calls of the data cube's users: from feeds to a printed cube.
 #![tactic(auto)]
 
+mod answers;
 pub mod command;
+mod fault;
+mod question;
 mod refusals;
 mod runs;
 
+pub use answers::{answer, write_cube, write_drill, write_plain_cube, write_refusals, write_slice};
 pub use cube_text::{WriteFault, print_cells, print_rows, write_whole};
+pub use cube_threads::Settings;
+pub use fault::{RunFault, TextFault};
+pub use question::Question;
 pub use refusals::print_refusals;
 pub use runs::{run, run_plain};

@@ -6,7 +6,7 @@ ghost use Rattle.cube_tool.specs.Explain.{ExplainLeaves, example_text, explained
 use crate::command::failure::Failure;
 use crate::command::notes::Note;
 use crate::command::status::Status;
-use cube_engine::RunFault;
+use crate::fault::RunFault;
 use cube_text::write_whole;
 use std::alloc::{AllocError, Global};
 use std::io::Write;
@@ -32,10 +32,8 @@ pub fn explain<W: Write>(
     if text.is_empty() {
         return Err(Failure::UnknownCode);
     }
-    match write_whole(out, &text) {
-        Ok(()) => Ok(Status::Done),
-        Err(fault) => Err(Failure::Run(RunFault::Write { sent: fault.sent })),
-    }
+    write_whole(out, &text)?;
+    Ok(Status::Done)
 }
 
 // The text of the notes that have a code, or of all.

@@ -3,8 +3,10 @@ ghost use Rattle.std.specs.Prelude.{◌≡◌};
 ghost use Rattle.cube_tool.specs.Command.{status_of};
 
 use crate::command::status::Status;
+use crate::fault::{RunFault, TextFault};
 use cube_core::{QueryFault, SchemaFault};
-use cube_engine::RunFault;
+use cube_text::WriteFault;
+use cube_threads::FeedingFault;
 use std::fmt;
 
 /// Why a command failed. Its text is the line for standard error, without the line end.
@@ -36,6 +38,75 @@ impl Failure {
             Failure::TooManyFeeds | Failure::Query(_) | Failure::UnknownCode => Status::WrongWords,
             Failure::FeedUnreadable { source: _ } | Failure::Run(_) => Status::Failed,
         }
+    }
+}
+
+impl From<SchemaFault> for Failure {
+    ghost use Rattle.std.specs.Prelude.{◌≡◌};
+    ghost use Rattle.cube_tool.specs.declared.command.failure.Failure.TheVariants.{Schema};
+
+    ghost from_gives = { λ fault failure. failure ≡ Schema fault };
+
+    fn from(fault: SchemaFault) -> Failure {
+        Failure::Schema(fault)
+    }
+}
+
+impl From<QueryFault> for Failure {
+    ghost use Rattle.std.specs.Prelude.{◌≡◌};
+    ghost use Rattle.cube_tool.specs.declared.command.failure.Failure.TheVariants.{Query};
+
+    ghost from_gives = { λ fault failure. failure ≡ Query fault };
+
+    fn from(fault: QueryFault) -> Failure {
+        Failure::Query(fault)
+    }
+}
+
+impl From<RunFault> for Failure {
+    ghost use Rattle.std.specs.Prelude.{◌≡◌};
+    ghost use Rattle.cube_tool.specs.declared.command.failure.Failure.TheVariants.{Run};
+
+    ghost from_gives = { λ fault failure. failure ≡ Run fault };
+
+    fn from(fault: RunFault) -> Failure {
+        Failure::Run(fault)
+    }
+}
+
+impl From<FeedingFault> for Failure {
+    ghost use Rattle.std.specs.Prelude.{◌≡◌};
+    ghost use Rattle.cube_tool.specs.Faults.{fault_of_feeding};
+    ghost use Rattle.cube_tool.specs.declared.command.failure.Failure.TheVariants.{Run};
+
+    ghost from_gives = { λ fault failure. failure ≡ Run (fault_of_feeding fault) };
+
+    fn from(fault: FeedingFault) -> Failure {
+        Failure::Run(RunFault::from(fault))
+    }
+}
+
+impl From<TextFault> for Failure {
+    ghost use Rattle.std.specs.Prelude.{◌≡◌};
+    ghost use Rattle.cube_tool.specs.Faults.{fault_of_text};
+    ghost use Rattle.cube_tool.specs.declared.command.failure.Failure.TheVariants.{Run};
+
+    ghost from_gives = { λ fault failure. failure ≡ Run (fault_of_text fault) };
+
+    fn from(fault: TextFault) -> Failure {
+        Failure::Run(RunFault::from(fault))
+    }
+}
+
+impl From<WriteFault> for Failure {
+    ghost use Rattle.std.specs.Prelude.{◌≡◌};
+    ghost use Rattle.cube_tool.specs.declared.fault.RunFault.TheVariants.{Write};
+    ghost use Rattle.cube_tool.specs.declared.command.failure.Failure.TheVariants.{Run};
+
+    ghost from_gives = { λ fault failure. failure ≡ Run (Write fault.sent) };
+
+    fn from(fault: WriteFault) -> Failure {
+        Failure::Run(RunFault::Write { sent: fault.sent })
     }
 }
 

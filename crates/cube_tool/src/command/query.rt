@@ -1,7 +1,7 @@
 //! The words of a query: a pattern, a cell, and the name of a dimension.
 ghost use Rattle.std.specs.Prelude.{◌≡◌, ◌<◌, length, IfOk};
 ghost use Rattle.cube_core.specs.Query.{pattern_of, place_of};
-ghost use Rattle.cube_tool.specs.Command.{AnswersQuery, key_of_word};
+ghost use Rattle.cube_tool.specs.Command.{AnswersQuery, answer_of, key_of_word};
 
 use crate::command::failure::Failure;
 use cube_core::{Key, Pattern, QueryFault, Schema};
@@ -32,7 +32,7 @@ pub fn read_cell(alloc: Global, schema: &Schema, word: &str) -> Result<Key, Fail
 
 /// The place of the dimension with this name, counted from 0; the failure is that there is none.
 pub fn read_dimension(schema: &Schema, name: &str) -> Result<usize, Failure>
-    ensures place { AnswersQuery (place_of schema.now name.now) result }
+    ensures place { result ≡ answer_of (place_of schema.now name.now) }
     ensures within { IfOk result (λ place. place < length schema.now.dimensions) }
 {
     match schema.dimension_of(name) {

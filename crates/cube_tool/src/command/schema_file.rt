@@ -1,15 +1,15 @@
 //! Schema files, and the command that says whether one is right.
-ghost use Rattle.std.specs.Prelude.{◌≡◌, ◌≤◌, ◌<◌, length, IfOk, IfErr, IfSome};
+ghost use Rattle.std.specs.Prelude.{◌≡◌, ◌≢◌, ◌≤◌, ◌<◌, length, Ok, Err, IfOk, IfErr, IfSome};
 ghost use Rattle.std.specs.Io.KnownBytes.{Appends};
+ghost use Rattle.std.specs.IoError.{error_kind};
 ghost use Rattle.cube_tool.specs.Command.{AnswersFile, CheckLeaves, IsReadFailure, IsRightFile, IsSchemaFailure, ok_line};
 
 use crate::command::failure::Failure;
 use crate::command::status::Status;
 use cube_core::{Schema, SchemaFault};
-use cube_engine::RunFault;
 use cube_text::write_whole;
 use std::alloc::Global;
-use std::io::{ErrorKind, Read, Write};
+use std::io::{Error, ErrorKind, Read, Write};
 
 /// The most bytes that a schema file may have.
 const SCHEMA_LIMIT: usize = 1048576;
@@ -29,10 +29,8 @@ pub fn check<R: Read + Drop, W: Write>(
         CheckLeaves (R.Read.remaining file) failure (W.contents out.old) (W.contents out.new)) }
 {
     let _schema = read_schema(alloc, file)?;
-    match write_whole(out, b"ok\n") {
-        Ok(()) => Ok(Status::Done),
-        Err(fault) => Err(Failure::Run(RunFault::Write { sent: fault.sent })),
-    }
+    write_whole(out, b"ok\n")?;
+    Ok(Status::Done)
 }
 
 /// The schema in a file of at most 1048576 bytes.
@@ -41,10 +39,7 @@ pub fn read_schema<R: Read + Drop>(alloc: Global, file: R) -> Result<Schema, Fai
     ensures err { IfErr result IsSchemaFailure }
 {
     let bytes = read_limited(alloc, file, SCHEMA_LIMIT)?;
-    match Schema::from_toml(alloc, &bytes) {
-        Ok(schema) => Ok(schema),
-        Err(fault) => Err(Failure::Schema(fault)),
-    }
+    Ok(Schema::from_toml(alloc, &bytes)?)
 }
 
 /// All bytes of a file that has at most so many.
@@ -57,10 +52,29 @@ fn read_limited<R: Read + Drop>(alloc: Global, file: R, limit: usize) -> Result<
     let mut bytes = Vec::new(alloc);
     let mut start = file.take(limit as u64 + 1);
     match start.read_to_end(&mut bytes) {
-        Ok(_) if bytes.len() <= limit => Ok(bytes),
-        Err(error) if error.kind() == ErrorKind::OutOfMemory => {
-            Err(Failure::Schema(SchemaFault::Memory))
-        }
-        _ => Err(Failure::Unreadable),
+        Ok(_) => unless_longer(bytes, limit),
+        Err(error) => Err(read_failure(&error)),
+    }
+}
+
+// The bytes that were read, where there aren't more of them than so many.
+fn unless_longer(bytes: Vec<u8>, limit: usize) -> Result<Vec<u8>, Failure>
+    ensures kept { length bytes.items ≤ limit → result ≡ Ok bytes }
+    ensures longer { limit < length bytes.items → result ≡ Err Failure.Unreadable }
+{
+    if bytes.len() > limit {
+        return Err(Failure::Unreadable);
+    }
+    Ok(bytes)
+}
+
+// What an error of a reader is told as.
+fn read_failure(error: &Error) -> Failure
+    ensures memory { error_kind error.now ≡ ErrorKind.OutOfMemory → result ≡ Failure.Schema SchemaFault.Memory }
+    ensures other { error_kind error.now ≢ ErrorKind.OutOfMemory → result ≡ Failure.Unreadable }
+{
+    match error.kind() {
+        ErrorKind::OutOfMemory => Failure::Schema(SchemaFault::Memory),
+        _ => Failure::Unreadable,
     }
 }

@@ -1,6 +1,11 @@
 //! The statuses that the program ends with.
-ghost use Rattle.std.specs.Prelude.{◌≡◌};
-ghost use Rattle.cube_tool.specs.Command.{status_code};
+ghost use Rattle.std.specs.Prelude.{◌≡◌, map};
+ghost use Rattle.cube_tool.specs.Answering.{refusals_of_run};
+ghost use Rattle.cube_tool.specs.Command.{status_after, status_code};
+
+use crate::answers::first_builder;
+use cube_engine::Builder;
+use cube_threads::Built;
 
 /// What the program ends with.
 #[derive(Clone, Copy, Debug, PartialEq, Eq)]
@@ -30,4 +35,23 @@ impl Status {
             Status::LinesRefused => 4,
         }
     }
+}
+
+/// The status of an answer that was written whole, by the refusals of what was built.
+pub(crate) fn status_of_run(built: &Built) -> Status
+    ensures { result ≡ status_after (refusals_of_run built.now) }
+{
+    status_after(first_builder(built))
+}
+
+/// The same by the refusals of a builder.
+pub(crate) fn status_after(builder: &Builder) -> Status
+    ensures { result ≡ status_after (map (λ account. account.refusals) builder.now.ledger.accounts) }
+{
+    for place in 0..builder.sources() {
+        if !builder.refusals(place + 1).is_empty() {
+            return Status::LinesRefused;
+        }
+    }
+    Status::Done
 }

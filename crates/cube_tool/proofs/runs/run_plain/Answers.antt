@@ -1,21 +1,19 @@
-use Rattle.std.proofs.Common.{List, ℕ, map, subst, sym}
-use Rattle.cube_core.specs.Printed.{IsPrinted}
-use Rattle.cube_engine.specs.Ledger.{all_facts}
-use Rattle.cube_tool.proofs.RunLaws.{Runs-BuildsWhole, RunsPart-BuildsWhole}
+use Rattle.std.proofs.Common.{map, refl}
+use Rattle.std.proofs.lemmas.Result.{err_from_is_err_and}
+use Rattle.cube_tool.specs.declared.question.Question.TheVariants.{Cube}
+use Rattle.cube_tool.proofs.AnsweringLaws.{Leaves-build, Leaves-plain_text}
+use Rattle.cube_tool.proofs.RunLaws.{OfFeeds-BuildsWhole}
 use Rattle.cube_tool.proofs.runs.run_plain.Goals as goal
 
-pub returns-in-Ok-write_whole-clause-ok : goal.returns-in-Ok-write_whole-clause-ok
-returns-in-Ok-write_whole-clause-ok g c =
-    let s = c.args.schema.now in
-    let builder = c.in_ok-builder.builder in
-    let printed : IsPrinted s (all_facts builder.ledger.accounts) c.deref.result.now =
-    subst (λ (text : List ℕ). IsPrinted s (all_facts builder.ledger.accounts) text) (sym c.deref.ensures.value) c.in-Ok.ensures in
-    Runs-BuildsWhole s (map g.R.Read.remaining c.args.readers.items) builder c.deref.result.now _ _ c.in_ok-builder.ensures.ok printed c.in-Ok-write_whole.ensures.whole
+pub returns-in_err-builder-clause-err : goal.returns-in_err-builder-clause-err
+returns-in_err-builder-clause-err g c =
+    let p = err_from_is_err_and c.from_residual.result c.from_residual.ensures.1 in
+    rw (p.1, p.2) (Leaves-build Cube _ _ c.in_err-builder.field-0.0 _ _ refl c.in_err-builder.ensures.err)
 
-pub returns-in-Err-clause-err : goal.returns-in-Err-clause-err
-returns-in-Err-clause-err g c =
-    let s = c.args.schema.now in
-    let builder = c.in_ok-builder.builder in
-    let printed : IsPrinted s (all_facts builder.ledger.accounts) c.deref.result.now =
-    subst (λ (text : List ℕ). IsPrinted s (all_facts builder.ledger.accounts) text) (sym c.deref.ensures.value) c.in-Ok.ensures in
-    RunsPart-BuildsWhole s (map g.R.Read.remaining c.args.readers.items) builder c.deref.result.now c.in-Err.fault.sent _ _ c.in_ok-builder.ensures.ok printed c.in-Err.ensures.within c.in-Err.ensures.part
+pub returns-in_err-write_plain_cube-clause-err : goal.returns-in_err-write_plain_cube-clause-err
+returns-in_err-write_plain_cube-clause-err g c =
+    let p = err_from_is_err_and c.from_residual-in_err-write_plain_cube.result c.from_residual-in_err-write_plain_cube.ensures.1 in
+    rw (p.1, p.2) (Leaves-plain_text Cube _ _ _ c.in_ok-builder.ensures.ok c.in_err-write_plain_cube.ensures)
+
+pub returns-clause-ok : goal.returns-clause-ok
+returns-clause-ok g c = OfFeeds-BuildsWhole c.in_ok-builder.ensures.ok c.in_ok-write_plain_cube.ensures

@@ -1,0 +1,176 @@
+//! The answers to questions over what was built, each into a writer.
+//!
+//! Each is the text that its question asks for, made in memory and then written; where memory runs out nothing is
+//! written.
+ghost use Rattle.std.specs.Prelude.{◌≡◌, ◌≤◌, ◌<◌, length, map, All};
+ghost use Rattle.cube_core.specs.Text.{text_of_refusals, text_of_rows};
+ghost use Rattle.cube_engine.specs.Ledger.{AllFit, all_facts};
+ghost use Rattle.cube_text.specs.Shape.{HasShapeOf};
+ghost use Rattle.cube_threads.specs.Parts.{facts_of_run, first_ledger, schema_of_run};
+ghost use Rattle.cube_tool.specs.Answering.{Answers, Fits, Writes, refusals_of_run};
+ghost use Rattle.cube_tool.specs.Run.{Tells};
+
+use crate::command::Failure;
+use crate::fault::TextFault;
+use crate::question::Question;
+use crate::refusals::print_refusals;
+use cube_core::{Key, Pattern, Row, Schema};
+use cube_engine::Builder;
+use cube_text::{print_cells, print_cells_in_pieces, print_rows, write_pieces, write_whole};
+use cube_threads::Built;
+use std::alloc::Global;
+use std::io::Write;
+use std::thread::Threads;
+
+/// Writes the answer to a question over what was built of a schema.
+pub fn answer<T: Threads + Sync, W: Write>(
+    rt: &T,
+    alloc: Global,
+    schema: &Schema,
+    built: &Built,
+    threads: usize,
+    question: &Question,
+    out: &mut W,
+) -> Result<(), Failure>
+    requires schema { schema_of_run built.now ≡ schema.now }
+    requires question { Fits schema.now question.now }
+    ensures { Answers question.now schema.now (facts_of_run built.now) (refusals_of_run built.now)
+        result (W.contents out.old) (W.contents out.new) }
+{
+    match question {
+        Question::Cube => Ok(write_cube(rt, alloc, schema, built, threads, out)?),
+        Question::Slice { pattern } => Ok(write_slice(alloc, schema, built, pattern, out)?),
+        Question::Drill { key, dimension } => {
+            write_drill(alloc, schema, built, key, *dimension, out)
+        }
+        Question::Refusals => Ok(write_refusals(alloc, built, out)?),
+    }
+}
+
+/// Writes the printed cube of what was built of a schema, which so many threads sort and print.
+pub fn write_cube<T: Threads + Sync, W: Write>(
+    rt: &T,
+    alloc: Global,
+    schema: &Schema,
+    built: &Built,
+    threads: usize,
+    out: &mut W,
+) -> Result<(), TextFault>
+    requires { schema_of_run built.now ≡ schema.now }
+    ensures { Writes (Tells Question.Cube schema.now (facts_of_run built.now) (refusals_of_run built.now))
+        result (W.contents out.old) (W.contents out.new) }
+{
+    let cells = built.ordered_with(rt, threads)?;
+    let text = print_cells_in_pieces(rt, alloc, schema, &cells, threads)?;
+    write_pieces(out, &text)?;
+    Ok(())
+}
+
+/// Writes the printed cube of a builder over all grouping sets of a schema.
+pub fn write_plain_cube<W: Write>(
+    alloc: Global,
+    schema: &Schema,
+    builder: &Builder,
+    out: &mut W,
+) -> Result<(), TextFault>
+    requires schema { builder.now.ledger.schema ≡ schema.now }
+    requires sets { builder.now.cube.sets ≡ schema.now.grouping_sets }
+    ensures { Writes (Tells Question.Cube schema.now (all_facts builder.now.ledger.accounts)
+        (map (λ account. account.refusals) builder.now.ledger.accounts))
+        result (W.contents out.old) (W.contents out.new) }
+{
+    let cells = builder.cube().ordered()?;
+    let text = print_cells(alloc, schema, &cells)?;
+    write_text(&text, out)
+}
+
+/// Writes the rows whose keys a pattern matches, of the cube of what was built of a schema.
+pub fn write_slice<W: Write>(
+    alloc: Global,
+    schema: &Schema,
+    built: &Built,
+    pattern: &Pattern,
+    out: &mut W,
+) -> Result<(), TextFault>
+    requires { schema_of_run built.now ≡ schema.now }
+    ensures { Writes (Tells (Question.Slice pattern.now) schema.now (facts_of_run built.now)
+        (refusals_of_run built.now)) result (W.contents out.old) (W.contents out.new) }
+{
+    facts_fit(built);
+    let rows = built.slice(pattern)?;
+    write_rows(alloc, schema, &rows, out)
+}
+
+/// Writes the rows that drill down from a key along a dimension, counted from 0, of the cube of what was built of a
+/// schema.
+pub fn write_drill<W: Write>(
+    alloc: Global,
+    schema: &Schema,
+    built: &Built,
+    key: &Key,
+    dimension: usize,
+    out: &mut W,
+) -> Result<(), Failure>
+    requires schema { schema_of_run built.now ≡ schema.now }
+    requires question { Fits schema.now (Question.Drill key.now dimension) }
+    ensures { Answers (Question.Drill key.now dimension) schema.now (facts_of_run built.now)
+        (refusals_of_run built.now) result (W.contents out.old) (W.contents out.new) }
+{
+    facts_fit(built);
+    let rows = built.drill_down(key, dimension)?;
+    write_rows(alloc, schema, &rows, out)?;
+    Ok(())
+}
+
+/// Writes the refusals of all sources of what was built.
+pub fn write_refusals<W: Write>(alloc: Global, built: &Built, out: &mut W) -> Result<(), TextFault>
+    ensures { Writes (λ text. text ≡ text_of_refusals (refusals_of_run built.now))
+        result (W.contents out.old) (W.contents out.new) }
+{
+    let text = print_refusals(alloc, first_builder(built))?;
+    write_text(&text, out)
+}
+
+// Writes the text of rows.
+fn write_rows<W: Write>(
+    alloc: Global,
+    schema: &Schema,
+    rows: &[Row],
+    out: &mut W,
+) -> Result<(), TextFault>
+    requires { All (HasShapeOf schema.now) rows.now }
+    ensures { Writes (λ text. text ≡ text_of_rows schema.now rows.now)
+        result (W.contents out.old) (W.contents out.new) }
+{
+    let text = print_rows(alloc, schema, rows)?;
+    write_text(&text, out)
+}
+
+// Writes a text.
+fn write_text<W: Write>(text: &[u8], out: &mut W) -> Result<(), TextFault>
+    ensures { Writes (λ written. written ≡ text.now) result (W.contents out.old) (W.contents out.new) }
+{
+    write_whole(out, text)?;
+    Ok(())
+}
+
+// The facts of what was built fit its schema, as each builder's do; nothing is done.
+fn facts_fit(built: &Built)
+    ensures { AllFit (schema_of_run built.now) (facts_of_run built.now) }
+{
+    let _cube = first_builder(built).cube();
+}
+
+/// There is a builder in all that was built; nothing is done.
+pub(crate) fn has_builder(built: &Built)
+    ensures { 1 ≤ length built.now.builders }
+{
+    let _builders = built.builders();
+}
+
+/// The builder whose books and refusals are those of what was built.
+pub(crate) fn first_builder(built: &Built) -> &Builder
+    ensures { result.now.ledger ≡ first_ledger built.now.builders }
+{
+    &built.builders()[0]
+}
