@@ -7,7 +7,7 @@ use std::marker::Model;
 /// How a build in threads is made: the room of each link, the number of builders, and the number of threads.
 ///
 /// Nothing that a build gives depends on them.
-#[derive(Debug)]
+#[derive(Debug, Drop)]
 pub struct Settings {
     capacity: usize,
     builders: u32,

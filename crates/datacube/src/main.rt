@@ -24,6 +24,7 @@ use std::{env, io, mem, thread};
 const MOST_THREADS: usize = 16;
 
 /// What a command with feeds asks, as its words say it.
+#[derive(Drop)]
 enum Asked<'w> {
     Cube,
     Slice { cell: &'w str },
@@ -99,8 +100,8 @@ fn answer<T: Threads + Wait + Sync>(
     let alloc = rt.alloc();
     let schema = schema_of(rt, words)?;
     let question = question_of(rt, &schema, asked)?;
-    let feeds = open_feeds(rt, words.feeds)?;
-    let settings = settings_of(rt, words);
+    let feeds = open_feeds(rt, &words.feeds)?;
+    let settings = settings_of(threads, words);
     let out = &mut rt.stdout();
     let (status, built) = ask(threads, alloc, &schema, feeds, &settings, &question, out)?;
     // The process ends after this, so what was built isn't taken apart.
@@ -129,7 +130,7 @@ fn question_of(rt: &HostRuntime, schema: &Schema, asked: Asked) -> Result<Questi
 }
 
 /// The settings of a run: those that the words give, and else as many threads as the machine has.
-fn settings_of(rt: &HostRuntime, words: &RunWords) -> Settings
+fn settings_of<T: Threads>(rt: &T, words: &RunWords) -> Settings
     requires { HasRoom words.now }
 {
     let threads = match words.threads {
@@ -143,7 +144,7 @@ fn settings_of(rt: &HostRuntime, words: &RunWords) -> Settings
 }
 
 /// How many threads the machine runs at once, 1 to 16.
-fn processors(rt: &HostRuntime) -> usize
+fn processors<T: Threads>(rt: &T) -> usize
     ensures { (1 ≤ result) × (result ≤ 16) }
 {
     match thread::available_parallelism(rt) {
