@@ -5,11 +5,11 @@ ghost use Rattle.cube_core.specs.Arrival.{Arrivals};
 ghost use Rattle.cube_feeders.specs.Gathering.{AreFresh, StandsAtFirst, Looks, Gathering, Gathers};
 ghost use Rattle.cube_feeders.specs.declared.parcel.Parcel.{Parcel as TheParcel};
 
-use cube_feed::TakesItems;
 use crate::gate::Gate;
 use crate::parcel::Parcel;
 use crate::patience::wait_for_parcels;
 use cube_core::Item;
+use cube_feed::TakesItems;
 use cube_link::Inlet;
 use std::alloc::AllocError;
 use std::sync::Wait;
@@ -22,7 +22,13 @@ const MOST_SOURCES: usize = 64;
 const MOST_AT_A_VISIT: u32 = 32;
 
 // Applies an item, or drops it where memory was wanting before; waits for good where the builder is full.
-fn accept<W: Wait, B: TakesItems>(rt: &W, builder: &mut B, source: u32, item: Item, wanting: &mut bool)
+fn accept<W: Wait, B: TakesItems>(
+    rt: &W,
+    builder: &mut B,
+    source: u32,
+    item: Item,
+    wanting: &mut bool,
+)
     requires { (1 ≤ source) × (source ≤ B.sources builder.old) }
     ensures sources { B.sources builder.new ≡ B.sources builder.old }
     ensures stands { (first : B) (arrivals : Arrivals) →

@@ -1,8 +1,7 @@
 //! Who takes part in a run, and what is kept of them.
-use cube_feed::TakesItems;
 use crate::parcel::{FeederEnd, Parcel};
 use crate::words::Word;
-use cube_feed::Feed;
+use cube_feed::{Feed, TakesItems};
 use cube_link::{Inlet, Outlet};
 use std::io::Read;
 

@@ -3,10 +3,10 @@ ghost use Rattle.std.specs.Prelude.{◌≡◌, ◌≤◌, map, vec_len, IfOk};
 ghost use Rattle.cube_feeders.specs.Starting.{MayStart};
 ghost use Rattle.cube_feeders.specs.Wiring.{coming_of, AreLinked};
 
-use cube_feed::TakesItems;
 use crate::roster::{Feeder, Gatherer, Roster};
 use crate::wiring::{feeders_of, gatherers_of, words_for};
 use cube_core::Schema;
+use cube_feed::TakesItems;
 use std::alloc::{AllocError, Global};
 use std::io::Read;
 

@@ -4,14 +4,13 @@ ghost use Rattle.std.specs.List.{All, AllZip};
 ghost use Rattle.cube_feeders.specs.Feeding.{Feeds};
 ghost use Rattle.cube_feeders.specs.Starting.{HasRoom, IsReady, HasGathered, StartsLast};
 
-use cube_feed::TakesItems;
 use crate::feeding::feed_out;
 use crate::gate::Gate;
 use crate::gathering::gather;
 use crate::parcel::{FeederEnd, Parcel};
 use crate::roster::{Feeder, Gatherer, NoThread, Roster};
 use crate::words::{Word, tell_all, wait_for_word};
-use cube_feed::Feed;
+use cube_feed::{Feed, TakesItems};
 use cube_link::{Inlet, Outlet};
 use std::alloc::Global;
 use std::io::Read;

@@ -4,10 +4,10 @@ ghost use Rattle.std.specs.List.{All, AllZip};
 ghost use Rattle.cube_feeders.specs.Feeding.{Feeds};
 ghost use Rattle.cube_feeders.specs.Starting.{MayStart, IsReady, HasGathered};
 
-use crate::starting_builders::with_builders;
-use cube_feed::TakesItems;
 use crate::gate::Gate;
 use crate::roster::{Feeder, Gatherer, NoThread, Roster};
+use crate::starting_builders::with_builders;
+use cube_feed::TakesItems;
 use std::alloc::Global;
 use std::io::Read;
 use std::sync::Wait;

@@ -3,12 +3,11 @@ ghost use Rattle.std.specs.Prelude.{◌≡◌, ◌≤◌, [], length, map, vec_l
 ghost use Rattle.std.specs.List.{All};
 ghost use Rattle.cube_feeders.specs.Wiring.{coming_of, Connects, AreLinked};
 
-use cube_feed::TakesItems;
 use crate::parcel::Parcel;
 use crate::roster::{Feeder, Gatherer};
 use crate::words::Word;
 use cube_core::Schema;
-use cube_feed::Feed;
+use cube_feed::{Feed, TakesItems};
 use cube_link::{Inlet, Outlet, link};
 use std::alloc::{AllocError, Global};
 use std::io::Read;

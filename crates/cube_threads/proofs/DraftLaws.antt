@@ -160,8 +160,8 @@ builds-seen s sources parts inside seen builders inlets builds = record {
   arrivals = builds.arrivals;
   taken = builds.taken;
   stands = record {
-      builders = ap length builders ∙ builds.stands.builders;
-      inlets = ap length inlets ∙ builds.stands.inlets;
-      each = λ part d below. rw (builders, inlets) (builds.stands.each part d below);
+    builders = ap length builders ∙ builds.stands.builders;
+    inlets = ap length inlets ∙ builds.stands.inlets;
+    each = λ part d below. rw (builders, inlets) (builds.stands.each part d below);
   };
 }

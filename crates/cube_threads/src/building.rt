@@ -43,8 +43,9 @@ fn complete<T: Threads + Sync>(
     requires builders { making.old.builders.items ≡ [] }
     requires links { making.old.links.items ≡ [] }
     ensures { OnOk result (AreAllMade gatherers.items (record {
-        builders = making.new.builders.items;
-        inlets = map (λ links. links.inlets.items) making.new.links.items })) }
+      builders = making.new.builders.items;
+      inlets = map (λ links. links.inlets.items) making.new.links.items;
+    })) }
 {
     let made = make_all(rt, threads, gatherers)?;
     making.keep_all(made)
