@@ -773,14 +773,20 @@ def read_schema(path):
     return schema_of(data)
 
 
-def read_feeds(schema, paths):
-    """The data records of feeds; a feed at fault ends the command."""
+def files_at(paths, told):
+    """The files, opened in their order; the first that can't be opened ends the command, as is told of its place."""
     files = []
     for at, path in enumerate(paths, 1):
         try:
             files.append(os.open(path, os.O_RDONLY))
         except OSError:
-            raise Failure(f"feed {at} unreadable", 1) from None
+            raise Failure(told(at), 1) from None
+    return files
+
+
+def read_feeds(schema, paths):
+    """The data records of feeds; a feed at fault ends the command."""
+    files = files_at(paths, lambda at: f"feed {at} unreadable")
     feeds, faults = [], []
     for at, file in enumerate(files, 1):
         try:
@@ -900,12 +906,7 @@ def merge_command(words):
 
 def read_cubes(paths):
     """The bytes of files, None for one that opens and can't be read."""
-    files = []
-    for at, path in enumerate(paths, 1):
-        try:
-            files.append(os.open(path, os.O_RDONLY))
-        except OSError:
-            raise Failure(f"M3 {at}", 1) from None
+    files = files_at(paths, lambda at: f"M3 {at}")
     datas = []
     for file in files:
         try:

@@ -2,6 +2,8 @@
 """A cube that stays, from Python: changes go in by a pipe, and rows come out as dictionaries. Needs Python alone.
 
     examples/live/client.py [PROGRAM]      # a day in the shop of examples/shop
+
+It is written for the command `live`, which `datacube` doesn't have yet.
 """
 import csv
 import io
