@@ -1,0 +1,13 @@
+use Rattle.std.proofs.Common.{◌<◌, take, get_or, length, arith}
+use Rattle.std.proofs.lemmas.List.{take_more}
+use Rattle.cube_core.specs.Answer.{IsAnswer}
+use Rattle.cube_core.specs.declared.aggregate.Agg.TheVariants.{CountAll}
+use Rattle.cube_core.proofs.ListLaws.{AllZip-push}
+use Rattle.cube_live.proofs.rows.row_of.Goals as goal
+
+pub loop-aggregate-preserved : goal.loop-aggregate-preserved
+loop-aggregate-preserved c =
+    let i = c.loop-aggregate.aggregate-index in
+    let aggregates = c.args.aggregates.now in
+    let inside : i < length aggregates = omega arith in
+    λ facts tally. rw (c.in_ok-push.ensures.items, take_more aggregates i CountAll inside) (AllZip-push (IsAnswer facts) (take i aggregates) c.loop-aggregate.answers.items (get_or aggregates i CountAll) c.answer.result (c.loop-aggregate.invariant facts tally) (c.answer.ensures facts tally))

@@ -1,0 +1,61 @@
+use Rattle.std.proofs.Common.{◌≡◌, ◌∙◌, refl, sym, subst}
+use Rattle.std.proofs.lemmas.Result.{IfErr-weaker}
+use Rattle.csv.specs.Records.{fields_of}
+use Rattle.cube_live.specs.Request.{request_of}
+use Rattle.cube_live.specs.declared.request.Request.{Request}
+use Rattle.cube_live.specs.declared.request.Request.TheVariants as request
+use Rattle.cube_live.proofs.RequestLaws.{IsSound, IsSound-request_of}
+use Rattle.cube_live.proofs.ServingLaws.{Replied-change, ReplyFails-breaks, ReplyFails-change}
+use Rattle.cube_live.proofs.session.take_record.Goals as goal
+
+pub change-requires-clause-first : goal.change-requires-clause-first
+change-requires-clause-first g c =
+    let s = c.args.live.now.schema in
+    let fields = fields_of c.args.fields.now in
+    let asks : request.Change c.in-Change.source ≡ request_of s fields = sym c.in-Change.is ∙ (rw c.schema.ensures at c.in_ok-source.ensures) in
+    (subst (λ (r : Request). IsSound s r) (sym asks) (IsSound-request_of s fields)).0
+
+pub change-requires-clause-last : goal.change-requires-clause-last
+change-requires-clause-last g c =
+    let s = c.args.live.now.schema in
+    let fields = fields_of c.args.fields.now in
+    let asks : request.Change c.in-Change.source ≡ request_of s fields = sym c.in-Change.is ∙ (rw c.schema.ensures at c.in_ok-source.ensures) in
+    (subst (λ (r : Request). IsSound s r) (sym asks) (IsSound-request_of s fields)).1
+
+pub answer-requires : goal.answer-requires
+answer-requires g c =
+    let s = c.args.live.now.schema in
+    let fields = fields_of c.args.fields.now in
+    let asks : request.Ask c.in-Ask.question ≡ request_of s fields = sym c.in-Ask.is ∙ (rw c.schema.ensures at c.in_ok-source.ensures) in
+    subst (λ (r : Request). IsSound s r) (sym asks) (IsSound-request_of s fields)
+
+pub returns-in-Ok-clause-ok : goal.returns-in-Ok-clause-ok
+returns-in-Ok-clause-ok g c =
+    let s = c.args.live.now.schema in
+    let fields = fields_of c.args.fields.now in
+    let asks : request.Change c.in-Change.source ≡ request_of s fields = sym c.in-Change.is ∙ (rw c.schema.ensures at c.in_ok-source.ensures) in
+    λ arrivals stands. Replied-change s arrivals fields c.in-Change.source c.change.new.live c.args.sent _ asks (c.in-Ok.ensures.takes arrivals stands)
+
+pub returns-in-Err-clause-err : goal.returns-in-Err-clause-err
+returns-in-Err-clause-err g c =
+    let s = c.args.live.now.schema in
+    let fields = fields_of c.args.fields.now in
+    let asks : request.Change c.in-Change.source ≡ request_of s fields = sym c.in-Change.is ∙ (rw c.schema.ensures at c.in_ok-source.ensures) in
+    let within = subst (λ (r : Request). IsSound s r) (sym asks) (IsSound-request_of s fields) in
+    λ arrivals stands. ReplyFails-change s c.args.live.now arrivals fields c.in-Change.source c.args.sent c.in-Err.fault _ refl asks within stands c.in-Err.ensures.fault
+
+pub returns-in-Ask-clause-err : goal.returns-in-Ask-clause-err
+returns-in-Ask-clause-err g c =
+    let s = c.args.live.now.schema in
+    let fields = fields_of c.args.fields.now in
+    let asks : request.Ask c.in-Ask.question ≡ request_of s fields = sym c.in-Ask.is ∙ (rw c.schema.ensures at c.in_ok-source.ensures) in
+    IfErr-weaker c.answer.result _ _
+    (λ fault breaks. λ arrivals stands. ReplyFails-breaks s arrivals fields (request.Ask c.in-Ask.question) c.args.sent fault _ _ asks (breaks arrivals stands)) c.answer.ensures.err
+
+pub returns-in-Wrong-clause-err : goal.returns-in-Wrong-clause-err
+returns-in-Wrong-clause-err g c =
+    let s = c.args.live.now.schema in
+    let fields = fields_of c.args.fields.now in
+    let asks : request.Wrong c.in-Wrong.fault ≡ request_of s fields = sym c.in-Wrong.is ∙ (rw c.schema.ensures at c.in_ok-source.ensures) in
+    IfErr-weaker c.refuse.result _ _
+    (λ fault breaks. λ arrivals stands. ReplyFails-breaks s arrivals fields (request.Wrong c.in-Wrong.fault) c.args.sent fault _ _ asks (breaks s arrivals)) c.refuse.ensures.err

@@ -1,0 +1,5 @@
+pub mod Request
+pub mod Shows
+pub mod Session
+pub mod Live
+pub mod Serving

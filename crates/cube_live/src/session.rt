@@ -1,0 +1,251 @@
+//! A session: records in, replies out.
+ghost use Rattle.std.specs.Prelude.{◌≡◌, ◌≤◌, ◌<◌, ◌+◌, ◌^◌, ◌++◌, drop, length, IfOk, IfErr, IfSome, OnOk};
+ghost use Rattle.std.specs.Io.KnownBytes.{Appends};
+ghost use Rattle.csv.specs.Records.{fields_of};
+ghost use Rattle.cube_core.specs.Arrival.{Arrivals};
+ghost use Rattle.cube_feed.specs.Reading.{Advances};
+ghost use Rattle.cube_core.specs.Items.{change_of};
+ghost use Rattle.cube_core.specs.Layout.{Layout};
+ghost use Rattle.cube_live.specs.Live.{CanAsk, LiveStandsAt, TakesNext};
+ghost use Rattle.cube_live.specs.Serving.{ExplainsChange, IsInputFault, IsJournalFault, Replied, ReplyFails, Serves, ServingFails, WritesNone, WritesPart, WritesReply, BreaksReply};
+ghost use Rattle.cube_live.specs.declared.request.Request.TheVariants as request;
+
+use crate::journal::{Journal, JournalFault};
+use crate::live::{Live, LiveFault};
+use crate::parse::request_of;
+use crate::reply::{code_line, ok_line};
+use crate::request::{Question, Request, RequestFault};
+use csv::ByteRecord;
+use cube_feed::{FeedFault, RecordReader, change_of_record, put_rest};
+use cube_text::write_whole;
+use std::alloc::{AllocError, Global};
+use std::io::{Read, Write};
+
+/// Why a session ended before its input did.
+#[derive(Clone, Copy, Debug, PartialEq, Eq)]
+pub enum SessionFault {
+    /// The input couldn't be read.
+    Read,
+    /// A change follows the last record that the schema takes of a source.
+    TooMany(u32),
+    /// A growth was refused.
+    Full,
+    /// The writer failed after so many bytes had gone out since the session began.
+    Write(u64),
+    /// The journal doesn't keep a change.
+    Journal(JournalFault),
+}
+
+impl From<AllocError> for SessionFault {
+    ghost use Rattle.cube_live.specs.declared.session.SessionFault.TheVariants.{Full};
+    ghost use Rattle.std.specs.Prelude.{◌≡◌};
+
+    ghost from_gives = { λ _ fault. fault ≡ Full };
+
+    fn from(_: AllocError) -> SessionFault {
+        SessionFault::Full
+    }
+}
+
+/// Takes the records of a session to their end, and writes the reply to each, which is flushed before the next is read.
+///
+/// The writer is given nothing but whole replies, but where it fails. A change has no reply: it is told to the journal, and
+/// then applied. A question is answered after the journal has made sure of all changes before it.
+pub fn serve<R: Read, W: Write, J: Journal>(
+    alloc: Global,
+    live: &mut Live<'_>,
+    records: &mut RecordReader<R>,
+    journal: &mut J,
+    out: &mut W,
+) -> Result<(), SessionFault>
+    ensures ok { OnOk result (IfSome records.old.left (λ taken. Serves live.old.schema taken
+        live.old live.new (W.contents out.old) (W.contents out.new))) }
+    ensures err { IfErr result (λ fault. IfSome records.old.left (λ taken. ServingFails live.old.schema taken fault
+        live.old (W.contents out.old) (W.contents out.new))) }
+    ensures schema { live.new.schema ≡ live.old.schema }
+{
+    let mut rest = ByteRecord::new(alloc);
+    let mut sent = 0;
+    for turn in 0..u64::MAX {
+        if !advance(records)? {
+            return settle(journal);
+        }
+        match take_record(alloc, live, records.fields(), &mut rest, journal, out, sent) {
+            Ok(total) => sent = total,
+            Err(fault) => return Err(fault),
+        }
+    }
+    Err(SessionFault::Full)
+}
+
+// Takes the next record, if there is one.
+fn advance<R: Read>(records: &mut RecordReader<R>) -> Result<bool, SessionFault>
+    ensures takes { IfOk result (λ found. Advances records.old.left found records.new) }
+    ensures fault { IfErr result IsInputFault }
+{
+    match records.advance() {
+        Ok(found) => Ok(found),
+        Err(FeedFault::Memory) => Err(SessionFault::Full),
+        Err(_) => Err(SessionFault::Read),
+    }
+}
+
+// Has the journal make sure of all changes that it took.
+fn settle<J: Journal>(journal: &mut J) -> Result<(), SessionFault>
+    ensures { IfErr result IsJournalFault }
+{
+    match journal.settle() {
+        Ok(()) => Ok(()),
+        Err(fault) => Err(SessionFault::Journal(fault)),
+    }
+}
+
+// Takes a record, and writes the reply to it. The answer is how many bytes went out since the session began.
+fn take_record<W: Write, J: Journal>(
+    alloc: Global,
+    live: &mut Live<'_>,
+    fields: &ByteRecord,
+    rest: &mut ByteRecord,
+    journal: &mut J,
+    out: &mut W,
+    sent: u64,
+) -> Result<u64, SessionFault>
+    ensures ok { IfOk result (λ total. (arrivals : Arrivals) → LiveStandsAt live.old arrivals →
+        Replied live.old.schema arrivals (fields_of fields.now) live.new sent total
+        (W.contents out.old) (W.contents out.new)) }
+    ensures err { IfErr result (λ fault. (arrivals : Arrivals) → LiveStandsAt live.old arrivals →
+        ReplyFails live.old.schema arrivals (fields_of fields.now) sent fault
+        (W.contents out.old) (W.contents out.new)) }
+    ensures schema { live.new.schema ≡ live.old.schema }
+{
+    match request_of(alloc, live.schema(), fields)? {
+        Request::Change(source) => {
+            match change(alloc, live, source, fields, rest, journal) {
+                Ok(()) => Ok(sent),
+                Err(fault) => Err(fault),
+            }
+        }
+        Request::Ask(question) => answer(alloc, live, &question, journal, out, sent),
+        Request::Wrong(fault) => refuse(alloc, &fault, journal, out, sent),
+    }
+}
+
+// Answers a question. The result is how many bytes went out since the session began.
+fn answer<W: Write, J: Journal>(
+    alloc: Global,
+    live: &Live<'_>,
+    question: &Question,
+    journal: &mut J,
+    out: &mut W,
+    sent: u64,
+) -> Result<u64, SessionFault>
+    requires { CanAsk live.now.schema question.now }
+    ensures ok { IfOk result (λ total. (arrivals : Arrivals) → LiveStandsAt live.now arrivals →
+        WritesReply live.now.schema arrivals (request.Ask question.now) sent total
+        (W.contents out.old) (W.contents out.new)) }
+    ensures err { IfErr result (λ fault. (arrivals : Arrivals) → LiveStandsAt live.now arrivals →
+        BreaksReply live.now.schema arrivals (request.Ask question.now) sent fault
+        (W.contents out.old) (W.contents out.new)) }
+{
+    settle(journal)?;
+    let text = live.text_of(question)?;
+    let line = ok_line(alloc, text.len())?;
+    write_reply(out, &line, &text, sent)
+}
+
+// Says what is wrong with a record. The result is how many bytes went out since the session began.
+fn refuse<W: Write, J: Journal>(
+    alloc: Global,
+    fault: &RequestFault,
+    journal: &mut J,
+    out: &mut W,
+    sent: u64,
+) -> Result<u64, SessionFault>
+    ensures ok { IfOk result (λ total. (s : Layout) (arrivals : Arrivals) →
+        WritesReply s arrivals (request.Wrong fault.now) sent total
+        (W.contents out.old) (W.contents out.new)) }
+    ensures err { IfErr result (λ why. (s : Layout) (arrivals : Arrivals) →
+        BreaksReply s arrivals (request.Wrong fault.now) sent why
+        (W.contents out.old) (W.contents out.new)) }
+{
+    settle(journal)?;
+    let line = code_line(alloc, fault)?;
+    write_reply(out, &line, &[], sent)
+}
+
+// Takes what the fields after the first say of a source, once the journal was told of it.
+fn change<J: Journal>(
+    alloc: Global,
+    live: &mut Live<'_>,
+    source: u32,
+    fields: &ByteRecord,
+    rest: &mut ByteRecord,
+    journal: &mut J,
+) -> Result<(), SessionFault>
+    requires first { 1 ≤ source }
+    requires last { source ≤ 64 }
+    ensures takes { OnOk result (TakesNext source
+        (change_of live.old.schema (drop 1 (fields_of fields.now))) live.old live.new) }
+    ensures fault { IfErr result (ExplainsChange source live.old) }
+    ensures schema { live.new.schema ≡ live.old.schema }
+{
+    if !live.has_room(source) {
+        return Err(SessionFault::TooMany(source));
+    }
+    put_rest(fields, 1, rest)?;
+    note(journal, source, rest)?;
+    let what = change_of_record(alloc, live.schema(), rest)?;
+    match live.apply(source, what) {
+        Ok(()) => Ok(()),
+        Err(LiveFault::TooMany) => Err(SessionFault::TooMany(source)),
+        Err(LiveFault::Memory) => Err(SessionFault::Full),
+    }
+}
+
+// Tells the journal of a change.
+fn note<J: Journal>(journal: &mut J, source: u32, fields: &ByteRecord) -> Result<(), SessionFault>
+    ensures { IfErr result IsJournalFault }
+{
+    match journal.note(source, fields) {
+        Ok(()) => Ok(()),
+        Err(fault) => Err(SessionFault::Journal(fault)),
+    }
+}
+
+// Writes a line and a text, and counts them with the bytes that were sent before.
+fn write_reply<W: Write>(
+    out: &mut W,
+    line: &[u8],
+    text: &[u8],
+    sent: u64,
+) -> Result<u64, SessionFault>
+    ensures ok { IfOk result (λ total. (total ≡ sent + length (line.now ++ text.now))
+        × Appends (W.contents out.old) (W.contents out.new) (line.now ++ text.now)) }
+    ensures err { IfErr result (λ fault. WritesNone (line.now ++ text.now) sent fault
+        (W.contents out.old) (W.contents out.new)) }
+{
+    let Some(before) = sent.checked_add(line.len() as u64) else {
+        return Err(SessionFault::Full);
+    };
+    let Some(total) = before.checked_add(text.len() as u64) else {
+        return Err(SessionFault::Full);
+    };
+    write_part(out, line, sent)?;
+    match write_part(out, text, before) {
+        Ok(()) => Ok(total),
+        Err(fault) => Err(fault),
+    }
+}
+
+// Writes bytes whole, after so many that were sent before.
+fn write_part<W: Write>(out: &mut W, bytes: &[u8], sent: u64) -> Result<(), SessionFault>
+    requires { sent + length bytes.now < 2 ^ 64 }
+    ensures ok { OnOk result (Appends (W.contents out.old) (W.contents out.new) bytes.now) }
+    ensures err { IfErr result (λ fault. WritesPart bytes.now sent fault
+        (W.contents out.old) (W.contents out.new)) }
+{
+    match write_whole(out, bytes) {
+        Ok(()) => Ok(()),
+        Err(fault) => Err(SessionFault::Write(sent + fault.sent as u64)),
+    }
+}

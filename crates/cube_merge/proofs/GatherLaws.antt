@@ -1,0 +1,237 @@
+-- What one more answer makes of what answers made.
+use Rattle.std.proofs.Common.{◌≡◌, ◌++◌, ◌+◌, ◌<◌, ◌≤◌, ◌∷◌, [], ℕ, ℤ, pos, zero, suc, ◌+ℤ◌, ◌≤ℤ◌, List, Option, Some, None, Contains, map, length, get_or, set, take, refl, sym, ap, ◌∙◌, subst, arith, inl, inr, slice_get}
+use Rattle.std.specs.List.{AllByRecursion, AllZip, cons_option}
+use Rattle.std.proofs.lemmas.Int.{ints}
+use Rattle.std.proofs.lemmas.Bool.{cases_eq}
+use Rattle.std.proofs.lemmas.List.{map-append, get_or-set_same, get_or-set_other, get_or_default, take_more}
+use Rattle.std.proofs.lemmas.Option.{get_or_from_slice_get}
+use Rattle.std.proofs.lemmas.List.Sums.{sum_by-append}
+use Rattle.std.proofs.lemmas.List.Elements.{Contains-append_left, Contains-append_right}
+use Rattle.cube_core.specs.Answer.{IsSum, IsBest}
+use Rattle.cube_core.specs.Fraction.{IsInLowestTerms}
+use Rattle.cube_core.specs.Group.{total_of}
+use Rattle.cube_core.specs.Merged.{Makes, IsMeanOf, IsMerged, column, count_in, count_of, number_in, numbers_of}
+use Rattle.cube_core.specs.declared.aggregate.Agg.{Agg}
+use Rattle.cube_core.specs.declared.aggregate.Agg.TheVariants.{CountAll, Count, Sum, Min, Max, Avg}
+use Rattle.cube_core.specs.declared.aggregate.Answer.{Answer}
+use Rattle.cube_core.specs.declared.aggregate.Answer.TheVariants as answer
+use Rattle.cube_core.specs.declared.key.Row.{Row}
+use Rattle.cube_core.proofs.ListLaws.{Contains-head, AllZip-push}
+use Rattle.cube_merge.specs.Made.{AreMade, Joins, JoinsAt, nothing_made}
+use Rattle.cube_merge.specs.Source.{IsSourceOf}
+use Rattle.cube_merge.specs.declared.source.Source.TheVariants as source
+
+pub count_of-push : (parts : List Answer) (a : Answer) → count_of (parts ++ a ∷ []) ≡ count_of parts + count_in a
+count_of-push parts a = sum_by-append count_in parts (a ∷ []) ∙ ap (λ n. count_of parts + n) (omega arith)
+
+cons-append : (o : Option ℤ) (xs ys : List ℤ) → cons_option o (xs ++ ys) ≡ cons_option o xs ++ ys
+cons-append None xs ys = refl
+cons-append (Some x) xs ys = refl
+
+numbers_of-push : (parts : List Answer) (a : Answer) → numbers_of (parts ++ a ∷ []) ≡ numbers_of parts ++ cons_option (number_in a) []
+numbers_of-push [] a = refl
+numbers_of-push (b ∷ parts) a = ap (cons_option (number_in b)) (numbers_of-push parts a) ∙ cons-append (number_in b) (numbers_of parts) (cons_option (number_in a) [])
+
+-- one more answer that is a number, or is none
+pub numbers_of-number : (parts : List Answer) (a : Answer) (number : ℤ) → number_in a ≡ Some number → numbers_of (parts ++ a ∷ []) ≡ numbers_of parts ++ number ∷ []
+numbers_of-number parts a number is = numbers_of-push parts a ∙ ap (λ o. numbers_of parts ++ cons_option o []) is
+
+append-none : (xs : List ℤ) → xs ++ [] ≡ xs
+append-none [] = refl
+append-none (x ∷ xs) = ap (λ t. x ∷ t) (append-none xs)
+
+pub numbers_of-none : (parts : List Answer) (a : Answer) → number_in a ≡ None → numbers_of (parts ++ a ∷ []) ≡ numbers_of parts
+numbers_of-none parts a is = numbers_of-push parts a ∙ ap (λ o. numbers_of parts ++ cons_option o []) is ∙ append-none (numbers_of parts)
+
+total_of-push : (xs : List ℤ) (x : ℤ) → total_of (xs ++ x ∷ []) ≡ total_of xs +ℤ x
+total_of-push [] x = omega (arith, ints)
+total_of-push (y ∷ xs) x = omega (arith, ints, total_of-push xs x)
+
+-- one more number that is added to a sum, or is the first
+pub IsSum-more : (values : List ℤ) (a : Answer) (sum number : ℤ) → IsSum values a → number_in a ≡ Some sum → IsSum (values ++ number ∷ []) (answer.Whole (sum +ℤ number))
+IsSum-more [] a sum number is some =
+    let clash : None ≡ Some sum = sym (ap number_in is) ∙ some in
+    absurd (cc)
+IsSum-more (v ∷ vs) a sum number is some =
+    let whole : Some (total_of (v ∷ vs)) ≡ Some sum = sym (ap number_in is) ∙ some in
+    let same : total_of (v ∷ vs) ≡ sum = cc in
+    ap answer.Whole (ap (λ t. t +ℤ number) (sym same) ∙ sym (total_of-push (v ∷ vs) number))
+
+pub IsSum-one : (values : List ℤ) (a : Answer) (number : ℤ) → IsSum values a → number_in a ≡ None → IsSum (values ++ number ∷ []) (answer.Whole number)
+IsSum-one [] a number is none = ap answer.Whole (omega (arith, ints))
+IsSum-one (v ∷ vs) a number is none =
+    let clash : Some (total_of (v ∷ vs)) ≡ None = sym (ap number_in is) ∙ none in
+    absurd (cc)
+
+-- the sum is the total, where there is one
+pub IsSum-total : (values : List ℤ) (a : Answer) (sum : ℤ) → IsSum values a → number_in a ≡ Some sum → total_of values ≡ sum
+IsSum-total [] a sum is some =
+    let clash : None ≡ Some sum = sym (ap number_in is) ∙ some in
+    absurd (cc)
+IsSum-total (v ∷ vs) a sum is some =
+    let whole : Some (total_of (v ∷ vs)) ≡ Some sum = sym (ap number_in is) ∙ some in
+    cc
+
+pub IsSum-total_none : (values : List ℤ) (a : Answer) → IsSum values a → number_in a ≡ None → total_of values ≡ pos 0
+IsSum-total_none [] a is none = refl
+IsSum-total_none (v ∷ vs) a is none =
+    let clash : Some (total_of (v ∷ vs)) ≡ None = sym (ap number_in is) ∙ none in
+    absurd (cc)
+
+module _ (R : ℤ → ℤ → Type 0) where
+  AllByRecursion-push : (m : ℤ) (xs : List ℤ) (x : ℤ) → AllByRecursion (R m) xs → R m x → AllByRecursion (R m) (xs ++ x ∷ [])
+  AllByRecursion-push m [] x all one = (one, tt)
+  AllByRecursion-push m (y ∷ xs) x all one = (all.0, AllByRecursion-push m xs x all.1 one)
+
+  AllByRecursion-better : (m n : ℤ) (xs : List ℤ) → ((x : ℤ) → R m x → R n x) → AllByRecursion (R m) xs → AllByRecursion (R n) xs
+  AllByRecursion-better m n [] better all = tt
+  AllByRecursion-better m n (y ∷ xs) better all = (better y all.0, AllByRecursion-better m n xs better all.1)
+
+  -- the first number is the best
+  pub IsBest-one : (values : List ℤ) (a : Answer) (number : ℤ) → IsBest R values a → number_in a ≡ None → R number number → IsBest R (values ++ number ∷ []) (answer.Whole number)
+  IsBest-one [] a number is none same = (number, refl, Contains-head number [], (same, tt))
+  IsBest-one (v ∷ vs) a number is none same =
+      let clash : Some is.0 ≡ None = sym (ap number_in is.1) ∙ none in
+      absurd (cc)
+
+  -- the best stays, or the new number is better
+  pub IsBest-stays : (values : List ℤ) (a : Answer) (best number : ℤ) → IsBest R values a → number_in a ≡ Some best → R best number → IsBest R (values ++ number ∷ []) (answer.Whole best)
+  IsBest-stays [] a best number is some good =
+      let clash : None ≡ Some best = sym (ap number_in is) ∙ some in
+      absurd (cc)
+  IsBest-stays (v ∷ vs) a best number is some good =
+      let whole : Some is.0 ≡ Some best = sym (ap number_in is.1) ∙ some in
+      let same : is.0 ≡ best = cc in (
+        best,
+        refl,
+        Contains-append_left (v ∷ vs) (number ∷ []) best (subst (Contains (v ∷ vs)) same is.2),
+        AllByRecursion-push best (v ∷ vs) number (subst (λ m. AllByRecursion (R m) (v ∷ vs)) same is.3) good,
+      )
+
+  pub IsBest-new : (values : List ℤ) (a : Answer) (best number : ℤ) → IsBest R values a → number_in a ≡ Some best → R number number → ((x : ℤ) → R best x → R number x) → IsBest R (values ++ number ∷ []) (answer.Whole number)
+  IsBest-new [] a best number is some good better =
+      let clash : None ≡ Some best = sym (ap number_in is) ∙ some in
+      absurd (cc)
+  IsBest-new (v ∷ vs) a best number is some good better =
+      let whole : Some is.0 ≡ Some best = sym (ap number_in is.1) ∙ some in
+      let same : is.0 ≡ best = cc in (
+        number,
+        refl,
+        Contains-append_right (v ∷ vs) (number ∷ []) number (Contains-head number []),
+        AllByRecursion-push number (v ∷ vs) number (AllByRecursion-better best number (v ∷ vs) better (subst (λ m. AllByRecursion (R m) (v ∷ vs)) same is.3)) good,
+      )
+
+-- one more answer that is a number, or is none
+pub Joins-Sum-none : (made a : Answer) → number_in a ≡ None → Joins (Sum 0) made a made
+Joins-Sum-none made a none parts is = rw (numbers_of-none parts a none) is
+
+pub Joins-Sum-one : (made a : Answer) (number : ℤ) → number_in made ≡ None → number_in a ≡ Some number → Joins (Sum 0) made a (answer.Whole number)
+Joins-Sum-one made a number first some parts is = rw (numbers_of-number parts a number some) (IsSum-one (numbers_of parts) made number is first)
+
+pub Joins-Sum-more : (made a : Answer) (sum number : ℤ) → number_in made ≡ Some sum → number_in a ≡ Some number → Joins (Sum 0) made a (answer.Whole (sum +ℤ number))
+Joins-Sum-more made a sum number there some parts is = rw (numbers_of-number parts a number some) (IsSum-more (numbers_of parts) made sum number is there)
+
+int_le-refl : (x : ℤ) → x ≤ℤ x
+int_le-refl x = omega (arith, ints)
+
+pub Joins-Min-none : (made a : Answer) → number_in a ≡ None → Joins (Min 0) made a made
+Joins-Min-none made a none parts is = rw (numbers_of-none parts a none) is
+
+pub Joins-Min-one : (made a : Answer) (number : ℤ) → number_in made ≡ None → number_in a ≡ Some number → Joins (Min 0) made a (answer.Whole number)
+Joins-Min-one made a number first some parts is = rw (numbers_of-number parts a number some) (IsBest-one (λ m x. m ≤ℤ x) (numbers_of parts) made number is first (int_le-refl number))
+
+pub Joins-Min-stays : (made a : Answer) (best number : ℤ) → number_in made ≡ Some best → number_in a ≡ Some number → best ≤ℤ number → Joins (Min 0) made a (answer.Whole best)
+Joins-Min-stays made a best number there some good parts is = rw (numbers_of-number parts a number some) (IsBest-stays (λ m x. m ≤ℤ x) (numbers_of parts) made best number is there good)
+
+pub Joins-Min-new : (made a : Answer) (best number : ℤ) → number_in made ≡ Some best → number_in a ≡ Some number → number ≤ℤ best → Joins (Min 0) made a (answer.Whole number)
+Joins-Min-new made a best number there some good parts is = rw (numbers_of-number parts a number some) (IsBest-new (λ m x. m ≤ℤ x) (numbers_of parts) made best number is there (int_le-refl number) (λ x b. omega (arith, ints, good, b)))
+
+pub Joins-Max-none : (made a : Answer) → number_in a ≡ None → Joins (Max 0) made a made
+Joins-Max-none made a none parts is = rw (numbers_of-none parts a none) is
+
+pub Joins-Max-one : (made a : Answer) (number : ℤ) → number_in made ≡ None → number_in a ≡ Some number → Joins (Max 0) made a (answer.Whole number)
+Joins-Max-one made a number first some parts is = rw (numbers_of-number parts a number some) (IsBest-one (λ m x. x ≤ℤ m) (numbers_of parts) made number is first (int_le-refl number))
+
+pub Joins-Max-stays : (made a : Answer) (best number : ℤ) → number_in made ≡ Some best → number_in a ≡ Some number → number ≤ℤ best → Joins (Max 0) made a (answer.Whole best)
+Joins-Max-stays made a best number there some good parts is = rw (numbers_of-number parts a number some) (IsBest-stays (λ m x. x ≤ℤ m) (numbers_of parts) made best number is there good)
+
+pub Joins-Max-new : (made a : Answer) (best number : ℤ) → number_in made ≡ Some best → number_in a ≡ Some number → best ≤ℤ number → Joins (Max 0) made a (answer.Whole number)
+Joins-Max-new made a best number there some good parts is = rw (numbers_of-number parts a number some) (IsBest-new (λ m x. x ≤ℤ m) (numbers_of parts) made best number is there (int_le-refl number) (λ x b. omega (arith, ints, good, b)))
+
+pub Joins-count : (made a : Answer) (n : ℕ) (more : Answer) → more ≡ answer.Count (count_in made + count_in a) → Joins (Count n) made a more
+Joins-count made a n more is parts made_is =
+    let before : count_in made ≡ count_of parts = ap count_in made_is in
+    is ∙ ap answer.Count (ap (λ k. k + count_in a) before ∙ sym (count_of-push parts a))
+
+-- the mean of a sum and of a count above 0
+pub IsMeanOf-fraction : (total : ℤ) (count : ℕ) (p : ℤ) (q : ℕ) → 0 < count → IsInLowestTerms total count p q → IsMeanOf total count (answer.Ratio p q)
+IsMeanOf-fraction total zero p q some lowest = absurd (omega arith)
+IsMeanOf-fraction total (suc n) p q some lowest = (p, q, refl, lowest)
+
+pub IsMeanOf-none : (total : ℤ) (count : ℕ) → count ≡ 0 → IsMeanOf total count answer.Null
+IsMeanOf-none total zero is = refl
+IsMeanOf-none total (suc n) is = absurd (omega arith)
+
+-- at the next place one more answer is joined
+pub JoinsAt-more : (given : List Agg) (start answers made : List Answer) (i : ℕ) (more a : Answer) (x : Agg) (d : Answer) → i < length made
+    → Joins (get_or given i x) (get_or made i d) a more → a ≡ get_or answers i answer.Null
+    → ((k : ℕ) → k < i → JoinsAt given start answers made k) → ((k : ℕ) → i ≤ k → get_or made k answer.Null ≡ get_or start k answer.Null)
+    → (k : ℕ) → k < i + 1 → JoinsAt given start answers (set made i more) k
+JoinsAt-more given start answers made i more a x d inside joins is done rest k below agg there = elim (cases_eq k i) [
+  | inl same ↦
+      let here : slice_get given i ≡ Some agg = ap (slice_get given) (sym same) ∙ there in
+      let agg_is : get_or given i x ≡ agg = get_or_from_slice_get given i agg x here in
+      let old_is : get_or made i d ≡ get_or start k answer.Null = get_or_default made i d answer.Null inside ∙ rest i (omega arith) ∙ ap (λ n. get_or start n answer.Null) (sym same) in
+      let a_is : a ≡ get_or answers k answer.Null = is ∙ ap (λ n. get_or answers n answer.Null) (sym same) in
+      let new_is : more ≡ get_or (set made i more) k answer.Null = sym (get_or-set_same made i more answer.Null inside) ∙ ap (λ n. get_or (set made i more) n answer.Null) (sym same) in
+      rw (sym agg_is, sym old_is, sym a_is, sym new_is) joins
+  | inr other ↦ rw (get_or-set_other made i k more answer.Null other) (done k (omega (arith, other)) agg there)
+]
+
+-- a merged answer, of what was made at a place or of sums and counts
+pub IsMerged-Made : (given : List Agg) (rows : List Row) (agg : Agg) (made : List Answer) (place : ℕ) → AreMade given rows made → IsSourceOf given agg (source.Made place) → IsMerged given rows agg (get_or made place answer.Null)
+IsMerged-Made given rows (Avg m) made place are is = absurd is
+IsMerged-Made given rows CountAll made place are is = (place, is, are place CountAll is)
+IsMerged-Made given rows (Count m) made place are is = (place, is, are place (Count m) is)
+IsMerged-Made given rows (Sum m) made place are is = (place, is, are place (Sum m) is)
+IsMerged-Made given rows (Min m) made place are is = (place, is, are place (Min m) is)
+IsMerged-Made given rows (Max m) made place are is = (place, is, are place (Max m) is)
+
+pub IsMerged-Mean : (given : List Agg) (rows : List Row) (agg : Agg) (made : List Answer) (sums counts : ℕ) (a : Answer) → AreMade given rows made → IsSourceOf given agg (source.Mean sums counts)
+    → ((ss cs : List Answer) → Makes (Sum 0) ss (get_or made sums answer.Null) → Makes (Count 0) cs (get_or made counts answer.Null) → IsMeanOf (total_of (numbers_of ss)) (count_of cs) a) → IsMerged given rows agg a
+IsMerged-Mean given rows (Avg m) made sums counts a are is mean = (sums, counts, is.0, is.1, mean (column sums rows) (column counts rows) (are sums (Sum m) is.0) (are counts (Count m) is.1))
+IsMerged-Mean given rows CountAll made sums counts a are is mean = absurd is
+IsMerged-Mean given rows (Count m) made sums counts a are is mean = absurd is
+IsMerged-Mean given rows (Sum m) made sums counts a are is mean = absurd is
+IsMerged-Mean given rows (Min m) made sums counts a are is mean = absurd is
+IsMerged-Mean given rows (Max m) made sums counts a are is mean = absurd is
+
+-- what no row makes
+pub AreMade-nothing : (given : List Agg) → AreMade given [] (map nothing_made given)
+AreMade-nothing [] place agg there = absurd (cc)
+AreMade-nothing (a ∷ given) zero agg there =
+    let same : a ≡ agg = cc in
+    subst (λ (x : Agg). Makes x [] (nothing_made a)) same (one a) where
+      one : (x : Agg) → Makes x [] (nothing_made x)
+      one CountAll = refl
+      one (Count m) = refl
+      one (Sum m) = refl
+      one (Min m) = refl
+      one (Max m) = refl
+      one (Avg m) = tt
+AreMade-nothing (a ∷ given) (suc place) agg there = AreMade-nothing given place agg there
+
+-- one more source
+pub AllZip-take : {X Y : Type 0} (R : X → Y → Type 0) (xs : List X) (ys : List Y) (i : ℕ) (d : X) (y : Y) → i < length xs → AllZip R (take i xs) ys → R (get_or xs i d) y → AllZip R (take (i + 1) xs) (ys ++ y ∷ [])
+AllZip-take R xs ys i d y inside all one = rw (take_more xs i d inside) (AllZip-push R (take i xs) ys (get_or xs i d) y all one)
+
+-- where each place had one more answer joined, the answers of one more row are made
+pub AreMade-push : (given : List Agg) (rows : List Row) (row : Row) (old new : List Answer) → ((k : ℕ) → k < length given → JoinsAt given old row.answers new k) → AreMade given rows old → AreMade given (rows ++ row ∷ []) new
+AreMade-push given rows row old new joins made place agg there =
+    let inside : place < length given = slice_get-length given place agg there in
+    subst (λ parts. Makes agg parts (get_or new place answer.Null)) (sym (map-append (λ (r : Row). get_or r.answers place answer.Null) rows (row ∷ [])))
+    (joins place inside agg there (column place rows) (made place agg there)) where
+      slice_get-length : (xs : List Agg) (k : ℕ) (x : Agg) → slice_get xs k ≡ Some x → k < length xs
+      slice_get-length [] k x is = absurd (cc)
+      slice_get-length (y ∷ xs) zero x is = omega arith
+      slice_get-length (y ∷ xs) (suc k) x is = omega (arith, slice_get-length xs k x is)

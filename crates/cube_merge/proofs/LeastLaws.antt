@@ -1,0 +1,218 @@
+-- Which input has the least key, and whose rows have it.
+use Rattle.std.proofs.Common.{◌≡◌, ◌++◌, ◌+◌, ◌<◌, ◌≤◌, ◌∷◌, [], ℕ, zero, suc, Bool, true, false, List, Option, Some, None, length, get_or, set, take, ◌⊎◌, refl, sym, ap, ◌∙◌, subst, arith, inl, inr, IfSome, is_eq, is_lt, Ordering, option_to_list}
+use Rattle.std.specs.declared.cmp.Ordering.TheVariants.{Less, Equal, Greater}
+use Rattle.std.specs.Ordering.{ordering_reverse}
+use Rattle.std.specs.List.{AllZip}
+use Rattle.std.proofs.lemmas.Bool.{cases_eq, cases_lt}
+use Rattle.std.proofs.lemmas.List.{append-nil, get_or-set_same, get_or-set_other, get_or_default, take_more}
+use Rattle.cube_core.specs.Order.{key_cmp}
+use Rattle.cube_core.specs.declared.aggregate.Agg.{Agg}
+use Rattle.cube_core.specs.declared.aggregate.Answer.{Answer}
+use Rattle.cube_core.specs.declared.key.Key.{Key}
+use Rattle.cube_core.specs.declared.key.Row.{Row}
+use Rattle.cube_core.proofs.KeyOrderLaws.{key_cmp-IsTotalOrder, key_cmp-exact}
+use Rattle.cube_merge.specs.Made.{AreMade}
+use Rattle.cube_merge.specs.Merging.{InputView, nothing_left, Moves, AllMove, IsUse, AreUses, used_row, used_rows, IsNotBelow, IsLeastSoFar}
+use Rattle.cube_merge.proofs.MergedLaws.{key_cmp-refl}
+use Rattle.cube_merge.proofs.StepLaws.{used_rows-push}
+
+-- an input that was read off a list
+pub at_place : (inputs : List InputView) (k : ℕ) (x : InputView) → k < length inputs → x ≡ get_or inputs k x → get_or inputs k nothing_left ≡ x
+at_place inputs k x inside is = get_or_default inputs k nothing_left x inside ∙ sym is
+
+below-next : (P : ℕ → Type 0) (place : ℕ) → ((k : ℕ) → k < place → P k) → P place → (k : ℕ) → k < place + 1 → P k
+below-next P place before here k below = elim (cases_eq k place) [
+  | inl same ↦ subst P (sym same) here
+  | inr other ↦ before k (omega (arith, other, below))
+]
+
+pub not_below-none : (key : Key) (input : InputView) → input.row ≡ None → IsNotBelow key input
+not_below-none key input none = subst (λ o. IfSome o (λ (r : Row). key_cmp r.key key ≡ Less → ⊥)) (sym none) tt
+
+not_below-row : (key : Key) (input : InputView) (row : Row) → input.row ≡ Some row → (key_cmp row.key key ≡ Less → ⊥) → IsNotBelow key input
+not_below-row key input row is h = subst (λ o. IfSome o (λ (r : Row). key_cmp r.key key ≡ Less → ⊥)) (sym is) h
+
+not_less-self : (key : Key) → key_cmp key key ≡ Less → ⊥
+not_less-self key less = let clash : Less ≡ Equal = sym less ∙ key_cmp-refl key in cc
+
+-- one more input has no row
+pub IsLeastSoFar-none : (inputs : List InputView) (least : Option ℕ) (place : ℕ) → IsLeastSoFar inputs least place → (get_or inputs place nothing_left).row ≡ None → IsLeastSoFar inputs least (place + 1)
+IsLeastSoFar-none inputs None place so_far none = below-next (λ k. (get_or inputs k nothing_left).row ≡ None) place so_far none
+IsLeastSoFar-none inputs (Some best) place so_far none =
+    (so_far.0, so_far.1, so_far.2, below-next (λ k. IsNotBelow so_far.1.key (get_or inputs k nothing_left)) place so_far.3 (not_below-none so_far.1.key (get_or inputs place nothing_left) none))
+
+-- one more input has the first row
+pub IsLeastSoFar-first : (inputs : List InputView) (place : ℕ) (row : Row) → place < length inputs → IsLeastSoFar inputs None place → (get_or inputs place nothing_left).row ≡ Some row → IsLeastSoFar inputs (Some place) (place + 1)
+IsLeastSoFar-first inputs place row inside so_far is = (
+  inside,
+  row,
+  is,
+  below-next (λ k. IsNotBelow row.key (get_or inputs k nothing_left)) place
+      (λ k below. not_below-none row.key (get_or inputs k nothing_left) (so_far k below))
+      (not_below-row row.key (get_or inputs place nothing_left) row is (not_less-self row.key)),
+)
+
+-- its key is below the least, or isn't
+pub IsLeastSoFar-new : (inputs : List InputView) (best place : ℕ) (row other : Row) → place < length inputs → IsLeastSoFar inputs (Some best) place → (get_or inputs place nothing_left).row ≡ Some row → (get_or inputs best nothing_left).row ≡ Some other → is_lt (key_cmp row.key other.key) ≡ true → IsLeastSoFar inputs (Some place) (place + 1)
+IsLeastSoFar-new inputs best place row other inside so_far is other_is less =
+    let same : so_far.1 ≡ other = same_row so_far.1 other (sym so_far.2 ∙ other_is) in
+    let under : key_cmp row.key so_far.1.key ≡ Less = ap (λ (r : Row). key_cmp row.key r.key) same ∙ is_lt-Less (key_cmp row.key other.key) less in (
+      inside,
+      row,
+      is,
+      below-next (λ k. IsNotBelow row.key (get_or inputs k nothing_left)) place
+          (λ k below. lower (get_or inputs k nothing_left).row (so_far.3 k below) under)
+          (not_below-row row.key (get_or inputs place nothing_left) row is (not_less-self row.key)),
+    ) where
+      same_row : (a b : Row) → Some a ≡ Some b → a ≡ b
+      same_row a b e = cc
+
+      is_lt-Less : (o : Ordering) → is_lt o ≡ true → o ≡ Less
+      is_lt-Less Less e = refl
+      is_lt-Less Equal e = cc
+      is_lt-Less Greater e = cc
+
+      lower : (o : Option Row) → IfSome o (λ (r : Row). key_cmp r.key so_far.1.key ≡ Less → ⊥) → key_cmp row.key so_far.1.key ≡ Less → IfSome o (λ (r : Row). key_cmp r.key row.key ≡ Less → ⊥)
+      lower None h u = tt
+      lower (Some r) h u = λ below. h (key_cmp-IsTotalOrder.trans r.key row.key so_far.1.key below u)
+
+pub IsLeastSoFar-stays : (inputs : List InputView) (best place : ℕ) (row other : Row) → IsLeastSoFar inputs (Some best) place → (get_or inputs place nothing_left).row ≡ Some row → (get_or inputs best nothing_left).row ≡ Some other → is_lt (key_cmp row.key other.key) ≡ false → IsLeastSoFar inputs (Some best) (place + 1)
+IsLeastSoFar-stays inputs best place row other so_far is other_is less =
+    let same : so_far.1 ≡ other = same_row so_far.1 other (sym so_far.2 ∙ other_is) in (
+      so_far.0,
+      so_far.1,
+      so_far.2,
+      below-next (λ k. IsNotBelow so_far.1.key (get_or inputs k nothing_left)) place so_far.3
+          (not_below-row so_far.1.key (get_or inputs place nothing_left) row is (λ below. is_lt-not (key_cmp row.key other.key) less (ap (λ (r : Row). key_cmp row.key r.key) (sym same) ∙ below))),
+    ) where
+      same_row : (a b : Row) → Some a ≡ Some b → a ≡ b
+      same_row a b e = cc
+
+      is_lt-not : (o : Ordering) → is_lt o ≡ false → o ≡ Less → ⊥
+      is_lt-not o e less_is = let clash : true ≡ false = sym (ap is_lt less_is) ∙ e in cc
+
+-- an input with the least key had a row
+pub IsLeastSoFar-row : (inputs : List InputView) (best place : ℕ) → IsLeastSoFar inputs (Some best) place → (get_or inputs best nothing_left).row ≡ None → ⊥
+IsLeastSoFar-row inputs best place so_far none = let clash : Some so_far.1 ≡ None = sym so_far.2 ∙ none in cc
+
+-- an input whose row has the key, and one whose row has it not
+pub IsUse-none : (key : Key) (input : InputView) → input.row ≡ None → IsUse key false input
+IsUse-none key input none = subst (λ o. IfSome o (λ (r : Row). key_cmp key r.key ≡ Less)) (sym none) tt
+
+pub IsUse-other : (key : Key) (input : InputView) (row : Row) → input.row ≡ Some row → IsNotBelow key input → is_eq (key_cmp row.key key) ≡ false → IsUse key false input
+IsUse-other key input row is above other =
+    subst (λ o. IfSome o (λ (r : Row). key_cmp key r.key ≡ Less)) (sym is)
+    (key_cmp-IsTotalOrder.antisymm key row.key ∙ reversed (key_cmp row.key key) (subst (λ o. IfSome o (λ (r : Row). key_cmp r.key key ≡ Less → ⊥)) is above) other) where
+      reversed : (o : Ordering) → (o ≡ Less → ⊥) → is_eq o ≡ false → ordering_reverse o ≡ Less
+      reversed Less h e = absurd (h refl)
+      reversed Equal h e = cc
+      reversed Greater h e = refl
+
+pub IsUse-same : (key : Key) (input : InputView) (row : Row) → input.row ≡ Some row → is_eq (key_cmp row.key key) ≡ true → IsUse key true input
+IsUse-same key input row is same = (row, is, key_cmp-exact row.key key (equal (key_cmp row.key key) same)) where
+  equal : (o : Ordering) → is_eq o ≡ true → o ≡ Equal
+  equal Less e = cc
+  equal Equal e = refl
+  equal Greater e = cc
+
+-- what is made where no row was joined, and where one was
+pub AreMade-unused : (given : List Agg) (input : InputView) (rows : List Row) (made : List Answer) → AreMade given rows made → AreMade given (rows ++ used_row false input) made
+AreMade-unused given input rows made are = subst (λ rs. AreMade given rs made) (sym (append-nil rows)) are
+
+pub AreMade-used : (given : List Agg) (input : InputView) (row : Row) (rows : List Row) (made : List Answer) → input.row ≡ Some row → AreMade given (rows ++ row ∷ []) made → AreMade given (rows ++ used_row true input) made
+AreMade-used given input row rows made is are = subst (λ o. AreMade given (rows ++ option_to_list o) made) (sym is) are
+
+-- one more input moved
+pub AllMove-more : (us : List Bool) (start olds : List InputView) (place : ℕ) (old new : InputView) (u : Bool) → place < length olds → old ≡ get_or olds place old → u ≡ get_or us place false → Moves u old new
+    → ((k : ℕ) → k < place → Moves (get_or us k false) (get_or start k nothing_left) (get_or olds k nothing_left)) → ((k : ℕ) → place ≤ k → get_or olds k nothing_left ≡ get_or start k nothing_left)
+    → (k : ℕ) → k < place + 1 → Moves (get_or us k false) (get_or start k nothing_left) (get_or (set olds place new) k nothing_left)
+AllMove-more us start olds place old new u inside is u_is moved done rest =
+    below-next (λ k. Moves (get_or us k false) (get_or start k nothing_left) (get_or (set olds place new) k nothing_left)) place
+    (λ k below. subst (Moves (get_or us k false) (get_or start k nothing_left)) (sym (get_or-set_other olds place k new nothing_left (λ e. omega (arith, below, e)))) (done k below))
+    (rw (get_or-set_same olds place new nothing_left inside, sym u_is, sym (rest place (omega arith)), at_place olds place old inside is) moved)
+
+pub AllMove-rest : (start olds : List InputView) (place : ℕ) (new : InputView) → ((k : ℕ) → place ≤ k → get_or olds k nothing_left ≡ get_or start k nothing_left)
+    → (k : ℕ) → place + 1 ≤ k → get_or (set olds place new) k nothing_left ≡ get_or start k nothing_left
+AllMove-rest start olds place new rest k above = get_or-set_other olds place k new nothing_left (λ e. omega (arith, above, e)) ∙ rest k (omega (arith, above))
+
+-- past the end of a list
+pub past : {X : Type 0} (xs : List X) (k : ℕ) (d : X) → length xs ≤ k → get_or xs k d ≡ d
+past [] k d above = refl
+past (x ∷ xs) zero d above = absurd (omega (arith, above))
+past (x ∷ xs) (suc k) d above = past xs k d (omega (arith, above))
+
+-- where all inputs of a list moved, so did each
+pub AllMove-all : (us : List Bool) (olds news : List InputView) (place : ℕ) → length us ≡ length olds → length news ≡ length olds → length olds ≤ place
+    → ((k : ℕ) → k < place → Moves (get_or us k false) (get_or olds k nothing_left) (get_or news k nothing_left)) → AllMove us olds news
+AllMove-all us olds news place same same_news end done k = elim (cases_below k place) [
+  | inl below ↦ done k below
+  | inr above ↦ rw (past us k false (omega (arith, same, end, above)), past olds k nothing_left (omega (arith, end, above)), past news k nothing_left (omega (arith, same_news, end, above))) refl
+] where
+  cases_below : (a b : ℕ) → (a < b) ⊎ (b ≤ a)
+  cases_below a b = cases_lt a b
+
+-- one more use
+pub AreUses-push : (key : Key) (us : List Bool) (inputs : List InputView) (u : Bool) (place : ℕ) (x : InputView) → length us ≡ place → place < length inputs → x ≡ get_or inputs place x → IsUse key u x
+    → ((k : ℕ) → k < place → IsUse key (get_or us k false) (get_or inputs k nothing_left)) → (k : ℕ) → k < place + 1 → IsUse key (get_or (us ++ u ∷ []) k false) (get_or inputs k nothing_left)
+AreUses-push key us inputs u place x long inside is use_is done =
+    below-next (λ k. IsUse key (get_or (us ++ u ∷ []) k false) (get_or inputs k nothing_left)) place
+    (λ k below. rw (before us u k (omega (arith, long, below))) (done k below))
+    (rw (at_place inputs place x inside is, last us u place long) use_is) where
+      before : (xs : List Bool) (y : Bool) (k : ℕ) → k < length xs → get_or (xs ++ y ∷ []) k false ≡ get_or xs k false
+      before [] y k h = absurd (omega (arith, h))
+      before (x ∷ xs) y zero h = refl
+      before (x ∷ xs) y (suc k) h = before xs y k (omega (arith, h))
+
+      last : (xs : List Bool) (y : Bool) (k : ℕ) → length xs ≡ k → get_or (xs ++ y ∷ []) k false ≡ y
+      last [] y zero h = refl
+      last [] y (suc k) h = absurd (omega (arith, h))
+      last (x ∷ xs) y zero h = absurd (omega (arith, h))
+      last (x ∷ xs) y (suc k) h = last xs y k (omega (arith, h))
+
+pub AreUses-all : (key : Key) (us : List Bool) (inputs : List InputView) (place : ℕ) → length us ≡ length inputs → length inputs ≤ place
+    → ((k : ℕ) → k < place → IsUse key (get_or us k false) (get_or inputs k nothing_left)) → AreUses key us inputs
+AreUses-all key us inputs place same end done k = elim (cases_lt k place) [
+  | inl below ↦ done k below
+  | inr above ↦ rw (past us k false (omega (arith, same, end, above)), past inputs k nothing_left (omega (arith, end, above))) tt
+]
+
+-- where an input's row has the key, some row is used
+pub used_rows-some : (key : Key) (us : List Bool) (inputs : List InputView) (k : ℕ) (row : Row) → length us ≡ length inputs → AreUses key us inputs → (get_or inputs k nothing_left).row ≡ Some row → row.key ≡ key → 0 < length (used_rows us inputs)
+used_rows-some key [] [] k row same uses is key_is = let clash : None ≡ Some row = is in cc
+used_rows-some key [] (i ∷ is') k row same uses is key_is = absurd (omega (arith, same))
+used_rows-some key (u ∷ us) [] k row same uses is key_is = absurd (omega (arith, same))
+used_rows-some key (true ∷ us) (i ∷ rest) k row same uses is key_is = some_used i.row (uses 0).1 where
+  some_used : (o : Option Row) → o ≡ Some (uses 0).0 → 0 < length (option_to_list o ++ used_rows us rest)
+  some_used None e = absurd (cc)
+  some_used (Some r) e = omega arith
+used_rows-some key (false ∷ us) (i ∷ rest) zero row same uses is key_is =
+    let above : key_cmp key row.key ≡ Less = subst (λ o. IfSome o (λ (r : Row). key_cmp key r.key ≡ Less)) is (uses 0) in
+    absurd (not_less-self key (ap (key_cmp key) (sym key_is) ∙ above))
+used_rows-some key (false ∷ us) (i ∷ rest) (suc k) row same uses is key_is = used_rows-some key us rest k row (omega (arith, same)) (λ n. uses (suc n)) is key_is
+
+-- a list of related elements, but for the last
+pub AllZip-last : {X Y : Type 0} (R : X → Y → Type 0) (xs : List X) (ys : List Y) (y : Y) → AllZip R xs (ys ++ y ∷ []) → (init : List X) × (x : X) × (xs ≡ init ++ x ∷ []) × AllZip R init ys × R x y
+AllZip-last R [] [] y all = absurd all
+AllZip-last R [] (b ∷ ys) y all = absurd all
+AllZip-last R (x ∷ []) [] y all = ([], x, refl, tt, all.0)
+AllZip-last R (x ∷ z ∷ xs) [] y all = absurd all.1
+AllZip-last R (x ∷ xs) (b ∷ ys) y all =
+    let rest = AllZip-last R xs ys y all.1 in
+    (x ∷ rest.0, rest.1, ap (λ t. x ∷ t) rest.2, (all.0, rest.3), rest.4)
+
+-- of nothing nothing more
+pub AllZip-nil : {X Y Z : Type 0} (R : X → Y → Type 0) (S : X → Z → Type 0) (xs : List X) → AllZip R xs [] → AllZip S xs []
+AllZip-nil R S [] all = tt
+AllZip-nil R S (x ∷ xs) all = absurd all
+
+-- what is made with the rows of one more input
+pub AreMade-next : (given : List Agg) (inputs : List InputView) (us : List Bool) (u : Bool) (place : ℕ) (x : InputView) (made : List Answer) → length us ≡ place → place < length inputs → x ≡ get_or inputs place x
+    → AreMade given (used_rows us (take place inputs) ++ used_row u x) made → AreMade given (used_rows (us ++ u ∷ []) (take (place + 1) inputs)) made
+AreMade-next given inputs us u place x made long inside is are =
+    subst (λ rs. AreMade given rs made)
+    (sym (used_rows-push us (take place inputs) u x (long ∙ sym (length-take-is place inputs (omega (arith, inside)))))
+    ∙ ap (λ t. used_rows (us ++ u ∷ []) t) (ap (λ y. take place inputs ++ y ∷ []) is ∙ sym (take_more inputs place x inside))) are where
+      length-take-is : (n : ℕ) (xs : List InputView) → n ≤ length xs → length (take n xs) ≡ n
+      length-take-is zero xs h = refl
+      length-take-is (suc n) [] h = absurd (omega (arith, h))
+      length-take-is (suc n) (x ∷ xs) h = ap suc (length-take-is n xs (omega (arith, h)))

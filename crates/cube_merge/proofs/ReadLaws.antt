@@ -1,0 +1,19 @@
+-- What is left of a text that was at its end, and how lines follow one another.
+use Rattle.std.proofs.Common.{◌≡◌, ◌∷◌, [], ℕ, List, Option, Some, None, length, refl, sym, ap, ◌∙◌, arith, length-append, IfSome}
+use Rattle.std.specs.Io.KnownBytes.{Consumes, IsAtEnd}
+
+none-of_length : (xs : List ℕ) → length xs ≡ 0 → xs ≡ []
+none-of_length [] e = refl
+none-of_length (x ∷ xs) e = absurd (omega (arith, e))
+
+-- nothing is left of what was at its end
+pub IsAtEnd-Consumes : (a b : Option (List ℕ)) (bs : List ℕ) → Consumes a b bs → IsAtEnd a → IfSome a (λ _. IsAtEnd b)
+IsAtEnd-Consumes None b bs c end = tt
+IsAtEnd-Consumes (Some x) None bs c end = absurd c
+IsAtEnd-Consumes (Some x) (Some y) bs c end = none-of_length y (omega (arith, length-append bs y, ap length (sym c ∙ end)))
+
+-- the same of a text that was known before
+pub IsAtEnd-first : (a b c : Option (List ℕ)) (bs cs : List ℕ) → Consumes a b bs → Consumes b c cs → IsAtEnd b → IfSome a (λ _. IsAtEnd c)
+IsAtEnd-first None b c bs cs p q end = tt
+IsAtEnd-first (Some x) None c bs cs p q end = absurd p
+IsAtEnd-first (Some x) (Some y) c bs cs p q end = IsAtEnd-Consumes (Some y) c cs q end

@@ -1,0 +1,29 @@
+use Rattle.std.proofs.Common.{◌≡◌, ◌∙◌, rules, ap, refl, Some, get_or}
+use Rattle.cube_core.specs.declared.key.Row.{Row}
+use Rattle.cube_merge.specs.Merging.{nothing_left}
+use Rattle.cube_merge.proofs.LeastLaws.{at_place, used_rows-some}
+use Rattle.cube_merge.proofs.CubesLaws.{IsLeastSoFar-all}
+use Rattle.cube_merge.proofs.cubes.put_row.Goals as goal
+
+pub join_rows-requires : goal.join_rows-requires
+join_rows-requires g c =
+    let is : c.index-inputs-place.result.row ≡ Some c.in-Some.row.now = search rules in
+    IsLeastSoFar-all c.args.inputs.now c.args.place c.in-Some.row.now c.requires
+    (ap (λ x. x.row) (at_place c.args.inputs.now c.args.place c.index-inputs-place.result c.requires.0 c.index-inputs-place.is) ∙ is)
+
+pub returns : goal.returns
+returns g c =
+    let is : c.index-inputs-place.result.row ≡ Some c.in-Some.row.now = search rules in
+    let there : (get_or c.args.inputs.now c.args.place nothing_left).row ≡ Some c.in-Some.row.now
+    = ap (λ x. x.row) (at_place c.args.inputs.now c.args.place c.index-inputs-place.result c.requires.0 c.index-inputs-place.is) ∙ is in
+    let row : Row = record { key = c.in-Some.row.now.key; answers = c.put_answers.new.answers.items } in
+    let joined = c.in_ok-join_rows.ensures {u = tt} in (
+      row,
+      rw (c.as_slice-2.ensures, c.as_slice-3.ensures.value) at (c.in_ok-push_line.ensures {u = tt}),
+      record {
+        wide = joined.long;
+        uses = joined.uses;
+        some = used_rows-some c.in-Some.row.now.key c.join_rows.new.used.items c.args.inputs.now c.args.place c.in-Some.row.now joined.long joined.uses there refl;
+        answers = λ wanted sources. (rw c.as_slice.ensures.value at (c.in_ok-put_answers.ensures {u = tt})) c.args.given.now.aggregates wanted _ (rw c.aggregates.ensures.value at joined.made) sources;
+      },
+    )

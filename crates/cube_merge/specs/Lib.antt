@@ -1,0 +1,5 @@
+pub mod Parts
+pub mod Made
+pub mod Source
+pub mod Lawful
+pub mod Merging

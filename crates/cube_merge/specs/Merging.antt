@@ -1,0 +1,164 @@
+-- How the rows of several inputs are merged, step by step (this project's choice).
+use Rattle.std.specs.Prelude.{◌≡◌, ◌<◌, ◌∷◌, [], ◌++◌, ⊤, ℕ, Bool, true, false, List, Option, Some, None, IfSome, MatchOption, option_to_list, map, get_or, length, IsPermutation, Contains}
+use Rattle.std.specs.List.{flat_map, AllZip}
+use Rattle.std.specs.List.Sorted.{IsStrictlySortedBy}
+use Rattle.std.specs.declared.cmp.Ordering.TheVariants.{Less}
+use Rattle.std.specs.Io.KnownBytes.{Appends, Consumes, IsAtEnd}
+use Rattle.cube_core.specs.Layout.{Layout}
+use Rattle.cube_core.specs.Cube.{key_of}
+use Rattle.cube_core.specs.Merged.{AreMerged, IsMerged}
+use Rattle.cube_core.specs.Order.{key_cmp}
+use Rattle.cube_core.specs.Text.{row_line, text_of_rows}
+use Rattle.cube_core.specs.declared.aggregate.Agg.{Agg}
+use Rattle.cube_core.specs.declared.key.Key.{Key}
+use Rattle.cube_core.specs.declared.key.Row.{Row}
+use Rattle.cube_merge.specs.Source.{IsSourceOf}
+use Rattle.cube_merge.specs.declared.source.Source.{Source}
+
+-- what a contract sees of an input: the bytes that are left, where its reader tells them, and the row of the line taken last
+pub record InputView : Type 0 where
+  pub left : Option (List ℕ)
+  pub row : Option Row
+
+-- an input of nothing
+abbrev pub nothing_left : InputView
+nothing_left = record { left = None; row = None }
+
+-- a row's key is above that of the row before it, where there is one
+abbrev pub IsAbove : Option Row → Row → Type 0
+IsAbove None row = ⊤
+IsAbove (Some before) row = key_cmp before.key row.key ≡ Less
+
+-- the next line was taken, whose row is above the one before, or none is left
+abbrev pub Advances : InputView → InputView → Type 0
+Advances old new = MatchOption new.row (Consumes old.left new.left [] × IfSome old.left (λ _. IsAtEnd new.left)) (λ row. Consumes old.left new.left (row_line row) × IsAbove old.row row)
+
+-- an input whose line was used took the next one, and any other stays
+abbrev pub Moves : Bool → InputView → InputView → Type 0
+Moves true old new = Advances old new
+Moves false old new = new ≡ old
+
+-- the same of each input
+abbrev pub AllMove : List Bool → List InputView → List InputView → Type 0
+AllMove used olds news = (k : ℕ) → Moves (get_or used k false) (get_or olds k nothing_left) (get_or news k nothing_left)
+
+-- the line of an input is used where its row has this key; the row of any other is above it
+abbrev pub IsUse : Key → Bool → InputView → Type 0
+IsUse key true input = (row : Row) × (input.row ≡ Some row) × (row.key ≡ key)
+IsUse key false input = IfSome input.row (λ row. key_cmp key row.key ≡ Less)
+
+-- the same of each input
+abbrev pub AreUses : Key → List Bool → List InputView → Type 0
+AreUses key used inputs = (k : ℕ) → IsUse key (get_or used k false) (get_or inputs k nothing_left)
+
+-- the row that is used of an input
+abbrev pub used_row : Bool → InputView → List Row
+used_row true input = option_to_list input.row
+used_row false input = []
+
+-- the rows that are used of each input
+abbrev pub used_of_each : List Bool → List InputView → List (List Row)
+used_of_each [] inputs = []
+used_of_each (used ∷ us) [] = []
+used_of_each (used ∷ us) (input ∷ inputs) = used_row used input ∷ used_of_each us inputs
+
+-- a row's key isn't below this one
+abbrev pub IsNotBelow : Key → InputView → Type 0
+IsNotBelow key input = IfSome input.row (λ row. key_cmp row.key key ≡ Less → ⊥)
+
+-- of the inputs before a place none has a row, or this one's key is the least
+abbrev pub IsLeastSoFar : List InputView → Option ℕ → ℕ → Type 0
+IsLeastSoFar inputs None end = (k : ℕ) → k < end → (get_or inputs k nothing_left).row ≡ None
+IsLeastSoFar inputs (Some place) end =
+    (place < length inputs) × (row : Row) × ((get_or inputs place nothing_left).row ≡ Some row) × ((k : ℕ) → k < end → IsNotBelow row.key (get_or inputs k nothing_left))
+
+-- all rows of cubes, one cube's after another's
+abbrev pub all_rows : List (List Row) → List Row
+all_rows cubes = flat_map (λ rows. rows) cubes
+
+-- the rows that are used of all inputs
+abbrev pub used_rows : List Bool → List InputView → List Row
+used_rows used inputs = all_rows (used_of_each used inputs)
+
+-- from what it had, an input gave these rows, and has taken the line of its row
+abbrev pub Gave : Option (List ℕ) → InputView → List Row → Type 0
+Gave start input rows = Consumes start input.left (flat_map row_line (rows ++ option_to_list input.row))
+
+-- the rows that an input gave, and its row, are in key order, each key once
+abbrev pub AreInOrder : InputView → List Row → Type 0
+AreInOrder input rows = IsStrictlySortedBy key_cmp (map key_of (rows ++ option_to_list input.row))
+
+-- of an input without a row no byte is left, where it told what it had
+abbrev pub IsEnded : Option (List ℕ) → InputView → Type 0
+IsEnded start input = input.row ≡ None → IfSome start (λ _. IsAtEnd input.left)
+
+-- a key is below that of the input's row
+abbrev pub IsBelow : Key → InputView → Type 0
+IsBelow key input = IfSome input.row (λ row. key_cmp key row.key ≡ Less)
+
+-- so far these rows were merged of inputs that began with these bytes
+pub record IsMerging (given wanted : List Agg) (starts : List (Option (List ℕ))) (inputs : List InputView) (rows : List Row) : Type 0 where
+  pub cubes : List (List Row)
+  pub parts : List Row
+  pub width : length cubes ≡ length inputs
+  pub gave : (k : ℕ) → Gave (get_or starts k None) (get_or inputs k nothing_left) (get_or cubes k [])
+  pub ordered : (k : ℕ) → AreInOrder (get_or inputs k nothing_left) (get_or cubes k [])
+  pub ended : (k : ℕ) → IsEnded (get_or starts k None) (get_or inputs k nothing_left)
+  pub drawn : IsPermutation (all_rows cubes) parts
+  pub merged : AreMerged given wanted parts rows
+  pub below : (key : Key) → Contains (map key_of rows) key → (k : ℕ) → IsBelow key (get_or inputs k nothing_left)
+
+-- the row of the next key: it is made of the rows that are used
+pub record IsNextRow (given : List Agg) (sources : List Source) (inputs : List InputView) (used : List Bool) (row : Row) : Type 0 where
+  pub wide : length used ≡ length inputs
+  pub uses : AreUses row.key used inputs
+  pub some : 0 < length (used_rows used inputs)
+  pub answers : (wanted : List Agg) → AllZip (IsSourceOf given) wanted sources → AllZip (IsMerged given (used_rows used inputs)) wanted row.answers
+
+-- the line of the row of the next key was put at the end of a text
+abbrev pub PutsRow : List Agg → List Source → List InputView → List Bool → List ℕ → List ℕ → Type 0
+PutsRow given sources inputs used old new = (row : Row) × (new ≡ old ++ row_line row) × IsNextRow given sources inputs used row
+
+-- a row that merges of any inputs so far go on by
+abbrev pub GoesOnBy : List Agg → List Agg → List InputView → List InputView → Row → Type 0
+GoesOnBy given wanted olds news row = (starts : List (Option (List ℕ))) (rows : List Row) → IsMerging given wanted starts olds rows → IsMerging given wanted starts news (rows ++ row ∷ [])
+
+-- the line of the next merged row was put at the end of a text; or no input had a row
+abbrev pub PutsNext : List Agg → List Source → List InputView → List InputView → List ℕ → List ℕ → Bool → Type 0
+PutsNext given sources olds news old new true =
+    (wanted : List Agg) → AllZip (IsSourceOf given) wanted sources → (row : Row) × (new ≡ old ++ row_line row) × GoesOnBy given wanted olds news row
+PutsNext given sources olds news old new false = (new ≡ old) × (news ≡ olds) × ((k : ℕ) → (get_or olds k nothing_left).row ≡ None)
+
+-- of what a reader had an input took the header, and has no row
+abbrev pub HasTaken : {R : Type 0} → (R → Option (List ℕ)) → List ℕ → R → InputView → Type 0
+HasTaken remaining header reader input = Consumes (remaining reader) input.left header × (input.row ≡ None)
+
+-- what was written is the cube of the rows that merges of these inputs go on by, to the end of each
+abbrev pub MergesRest : Layout → Layout → List InputView → Option (List ℕ) → Option (List ℕ) → Type 0
+MergesRest given wanted inputs old new =
+    (starts : List (Option (List ℕ))) → IsMerging given.aggregates wanted.aggregates starts inputs []
+    → (ends : List InputView) × (rows : List Row) × (length ends ≡ length inputs) × IsMerging given.aggregates wanted.aggregates starts ends rows
+    × ((k : ℕ) → (get_or ends k nothing_left).row ≡ None) × Appends old new (text_of_rows wanted rows)
+
+-- what was written is the cube of all rows of inputs that had none taken yet
+abbrev pub MergesInputs : Layout → Layout → List InputView → Option (List ℕ) → Option (List ℕ) → Type 0
+MergesInputs given wanted inputs old new =
+    (starts : List (Option (List ℕ))) → ((k : ℕ) → Consumes (get_or starts k None) (get_or inputs k nothing_left).left []) → ((k : ℕ) → (get_or inputs k nothing_left).row ≡ None)
+    → (ends : List InputView) × (rows : List Row) × (length ends ≡ length inputs) × IsMerging given.aggregates wanted.aggregates starts ends rows
+    × ((k : ℕ) → (get_or ends k nothing_left).row ≡ None) × Appends old new (text_of_rows wanted rows)
+
+-- a text is that of a cube's rows, where it is told
+abbrev pub IsTextOf : Layout → Option (List ℕ) → List Row → Type 0
+IsTextOf s text rows = IfSome text (λ known. known ≡ text_of_rows s rows)
+
+-- what was written is the text, under the wanted schema, of the merged rows of cubes whose texts under the given one were read, each in key order
+pub record IsMergeOf (given wanted : Layout) (texts : List (Option (List ℕ))) (old new : Option (List ℕ)) : Type 0 where
+  pub cubes : List (List Row)
+  pub parts : List Row
+  pub rows : List Row
+  pub as_many : length cubes ≡ length texts
+  pub read : (k : ℕ) → IsTextOf given (get_or texts k None) (get_or cubes k [])
+  pub ordered : (k : ℕ) → IsStrictlySortedBy key_cmp (map key_of (get_or cubes k []))
+  pub drawn : IsPermutation (all_rows cubes) parts
+  pub merged : AreMerged given.aggregates wanted.aggregates parts rows
+  pub written : Appends old new (text_of_rows wanted rows)

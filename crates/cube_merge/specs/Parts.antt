@@ -1,0 +1,16 @@
+-- The text of fields each ended by a comma, as a line stands in memory before its last comma becomes its end (this project's choice).
+use Rattle.std.specs.Prelude.{◌≡◌, ◌∷◌, [], ◌++◌, ℕ, List}
+use Rattle.std.specs.List.{flat_map}
+use Rattle.csv.specs.Writing.{default_writer, field_text}
+
+-- a field's text and a comma
+abbrev pub part : List ℕ → List ℕ
+part field = field_text default_writer field ++ 44 ∷ []
+
+-- the texts of fields, each with a comma
+abbrev pub parts : List (List ℕ) → List ℕ
+parts fields = flat_map part fields
+
+-- the texts of fields were put at the end of a text, each with a comma
+abbrev pub AddsParts : List (List ℕ) → List ℕ → List ℕ → Type 0
+AddsParts fields old new = new ≡ old ++ parts fields

@@ -1,0 +1,147 @@
+//! An input of a merge: a printed cube that is read line by line.
+ghost use Rattle.std.specs.Prelude.{◌≡◌, [], IfOk, IfSome, OnOk, true, None, Some, option_map};
+ghost use Rattle.std.specs.Io.KnownBytes.{Consumes};
+ghost use Rattle.cube_core.specs.Text.{line, header_fields};
+ghost use Rattle.cube_merge.specs.Merging.{Advances, IsAbove, Moves};
+
+use crate::fault::InputFault;
+use crate::lawful::is_total;
+use crate::parse::empty_row;
+use crate::read::{Scratch, read_line, read_row};
+use crate::text::push_header;
+use cube_core::{Row, Schema};
+use std::alloc::Global;
+use std::cmp::Ordering;
+use std::io::{BufReader, Read};
+use std::marker::Model;
+use std::mem;
+
+/// A printed cube that is read line by line, with the row of the line taken last.
+#[derive(Drop)]
+pub(crate) struct Input<R: Read> {
+    reader: BufReader<R>,
+    line: Vec<u8>,
+    row: Option<Row>,
+    spare: Row,
+    lines: u64,
+}
+
+impl<R: Read> Model for Input<R> {
+    ghost use Rattle.std.specs.Io.Buffered.{reader_remaining};
+    ghost use Rattle.cube_merge.specs.Merging.{InputView};
+
+    ghost Value = { InputView };
+
+    ghost view = { λ i. record { left = reader_remaining R.remaining i.reader; row = i.row } };
+}
+
+impl<R: Read + Drop> Input<R> {
+    /// An input of what a reader gives, of which nothing is read.
+    pub(crate) fn new(alloc: Global, reader: R) -> Result<Input<R>, InputFault>
+        ensures left { IfOk result (λ input. input.left ≡ R.remaining reader) }
+        ensures row { IfOk result (λ input. input.row ≡ None) }
+    {
+        let Ok(reader) = BufReader::with_capacity(alloc, 65536, reader) else {
+            return Err(InputFault::Memory);
+        };
+        Ok(Input {
+            reader,
+            line: Vec::new(alloc),
+            row: None,
+            spare: empty_row(alloc),
+            lines: 0,
+        })
+    }
+}
+
+impl<R: Read> Input<R> {
+    /// The row of the line taken last, if there is one.
+    pub(crate) fn row(&self) -> Option<&Row>
+        ensures { option_map (λ row. row.now) result ≡ self.now.row }
+    {
+        self.row.as_ref()
+    }
+
+    /// How many lines were taken, the header among them.
+    pub(crate) fn lines(&self) -> u64 {
+        self.lines
+    }
+
+    /// Takes the header line of a schema.
+    pub(crate) fn take_header(&mut self, header: &[u8]) -> Result<(), InputFault>
+        ensures line { OnOk result (Consumes self.old.left self.new.left header.now) }
+        ensures row { self.new.row ≡ self.old.row }
+    {
+        self.lines = 1;
+        read_line(&mut self.reader, &mut self.line)?;
+        if self.line.as_slice() == header {
+            Ok(())
+        } else {
+            Err(InputFault::Header)
+        }
+    }
+
+    /// Takes the next line where this one was used.
+    pub(crate) fn move_on(
+        &mut self,
+        alloc: Global,
+        schema: &Schema,
+        is_used: bool,
+        scratch: &mut Scratch,
+    ) -> Result<(), InputFault>
+        ensures { OnOk result (Moves is_used self.old self.new) }
+    {
+        if is_used {
+            return self.advance(alloc, schema, scratch);
+        }
+        Ok(())
+    }
+
+    fn advance(
+        &mut self,
+        alloc: Global,
+        schema: &Schema,
+        scratch: &mut Scratch,
+    ) -> Result<(), InputFault>
+        ensures { OnOk result (Advances self.old self.new) }
+    {
+        self.lines = self.lines.saturating_add(1);
+        read_line(&mut self.reader, &mut self.line)?;
+        if self.line.is_empty() {
+            if !is_complete(schema, &self.row) {
+                return Err(InputFault::Incomplete);
+            }
+            self.row = None;
+            return Ok(());
+        }
+        let spare = mem::replace(&mut self.spare, empty_row(alloc));
+        let Some(row) = read_row(alloc, schema, self.line.as_slice(), scratch, spare)? else {
+            return Err(InputFault::Line);
+        };
+        if !is_above(&self.row, &row) {
+            return Err(InputFault::Order);
+        }
+        if let Some(before) = self.row.replace(row) {
+            self.spare = before;
+        }
+        Ok(())
+    }
+}
+
+// Whether a row may be the last of a cube: it is the grand total, where that is kept.
+fn is_complete(schema: &Schema, row: &Option<Row>) -> bool {
+    let keeps_total = schema.grouping_sets().iter().any(|set| *set == 0);
+    match row {
+        Some(row) => !keeps_total || is_total(row),
+        None => !keeps_total,
+    }
+}
+
+fn is_above(before: &Option<Row>, row: &Row) -> bool
+    ensures { result ≡ true → IsAbove before.now row.now }
+{
+    match before {
+        Some(before) => matches!(before.key.compare(&row.key), Ordering::Less),
+        None => true,
+    }
+}

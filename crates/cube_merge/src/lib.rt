@@ -1,0 +1,16 @@
+//! The merging of printed cubes: the cube of all their facts, from the lines of each, one of each in memory at a time.
+#![tactic(auto)]
+
+mod cubes;
+mod fault;
+mod gather;
+mod input;
+mod lawful;
+mod parse;
+mod read;
+mod source;
+mod step;
+mod text;
+
+pub use cubes::merge;
+pub use fault::{InputFault, MergeFault};

@@ -1,0 +1,94 @@
+//! Where the answers to the wanted aggregates come from.
+ghost use Rattle.std.specs.Prelude.{◌≡◌, IfOk, IfSome, Some, slice_get, true, List};
+ghost use Rattle.std.specs.List.{AllZip};
+ghost use Rattle.cube_core.specs.Merged.{IsMerged};
+ghost use Rattle.cube_merge.specs.Made.{AreMade};
+ghost use Rattle.cube_merge.specs.Source.{IsSourceOf};
+ghost use Rattle.cube_core.specs.declared.aggregate.Agg.{Agg};
+ghost use Rattle.cube_core.specs.declared.key.Row.{Row};
+
+use crate::gather::{answer_at, mean_of};
+use cube_core::{Agg, Answer};
+use std::alloc::{AllocError, Global};
+
+/// Where the answer to an aggregate comes from.
+#[derive(Clone, Copy, Debug)]
+pub(crate) enum Source {
+    /// What the answers at a place make.
+    Made(usize),
+    /// The mean that sums at one place and counts at another make.
+    Mean { sums: usize, counts: usize },
+}
+
+/// The source of each wanted aggregate among the given ones; None where one has none.
+pub(crate) fn sources_of(
+    alloc: Global,
+    given: &[Agg],
+    wanted: &[Agg],
+) -> Result<Option<Vec<Source>>, AllocError>
+    ensures { IfOk result (λ found. IfSome found (λ sources.
+        AllZip (IsSourceOf given.now) wanted.now sources.items)) }
+{
+    let mut sources = Vec::with_capacity(alloc, wanted.len())?;
+    for aggregate in wanted {
+        let Some(source) = source_of(given, aggregate) else {
+            return Ok(None);
+        };
+        sources.push(source)?;
+    }
+    Ok(Some(sources))
+}
+
+fn source_of(given: &[Agg], wanted: &Agg) -> Option<Source>
+    ensures { IfSome result (IsSourceOf given.now wanted.now) }
+{
+    match wanted {
+        Agg::Avg(measure) => Some(Source::Mean {
+            sums: place_of(given, &Agg::Sum(*measure))?,
+            counts: place_of(given, &Agg::Count(*measure))?,
+        }),
+        Agg::CountAll | Agg::Count(_) | Agg::Sum(_) | Agg::Min(_) | Agg::Max(_) => {
+            Some(Source::Made(place_of(given, wanted)?))
+        }
+    }
+}
+
+// A place where an aggregate stands.
+fn place_of(given: &[Agg], wanted: &Agg) -> Option<usize>
+    ensures { IfSome result (λ place. slice_get given.now place ≡ Some wanted.now) }
+{
+    for (place, aggregate) in given.iter().enumerate() {
+        if is_same(aggregate, wanted) {
+            return Some(place);
+        }
+    }
+    None
+}
+
+pub(crate) fn is_same(one: &Agg, other: &Agg) -> bool
+    ensures { result ≡ true → one.now ≡ other.now }
+{
+    match one {
+        Agg::CountAll => matches!(other, Agg::CountAll),
+        Agg::Count(m) => matches!(other, Agg::Count(n) if m == n),
+        Agg::Sum(m) => matches!(other, Agg::Sum(n) if m == n),
+        Agg::Min(m) => matches!(other, Agg::Min(n) if m == n),
+        Agg::Max(m) => matches!(other, Agg::Max(n) if m == n),
+        Agg::Avg(m) => matches!(other, Agg::Avg(n) if m == n),
+    }
+}
+
+/// The answer from a source, of what the answers at each place made.
+pub(crate) fn answer_from(made: &[Answer], source: &Source) -> Answer
+    ensures { (given : List Agg) (rows : List Row) (aggregate : Agg) →
+        AreMade given rows made.now → IsSourceOf given aggregate source.now →
+        IsMerged given rows aggregate result }
+{
+    match source {
+        Source::Made(place) => answer_at(made, *place),
+        Source::Mean { sums, counts } => mean_of(
+            &answer_at(made, *sums),
+            &answer_at(made, *counts),
+        ),
+    }
+}
