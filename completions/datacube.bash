@@ -44,22 +44,38 @@ G6
 schema unreadable
 feed unreadable
 too many feeds
-unknown code'
+unknown code
+Q1
+Q2
+Q3
+M1
+M2
+M3
+M4
+M5
+M6
+M7
+M8
+standard input is taken
+too many cubes'
 
 _datacube() {
     local word=${COMP_WORDS[COMP_CWORD]} command=${COMP_WORDS[1]} words IFS=$' \t\n'
     COMPREPLY=()
     case $command in
     check) words='-h --help' ;;
-    print) words='--ring --builders --threads -h --help' ;;
+    print) words='--ring --builders --threads --partial -h --help' ;;
     refusals) words='--ring --builders --threads -h --help' ;;
     slice) words='--ring --builders --threads -h --help' ;;
     drill) words='--ring --builders --threads -h --help' ;;
+    rollup) words='--ring --builders --threads -h --help' ;;
+    live) words='--ring --threads -h --help' ;;
+    merge) words='--partial --check -h --help' ;;
     explain) words='-h --help' ;;
     *) words= ;;
     esac
     if [ "$COMP_CWORD" -eq 1 ]; then
-        COMPREPLY=($(compgen -W 'check print refusals slice drill explain -h --help -V --version' -- "$word"))
+        COMPREPLY=($(compgen -W 'check print refusals slice drill rollup live merge explain -h --help -V --version' -- "$word"))
     elif [[ ${COMP_WORDS[COMP_CWORD - 1]} == @(--builders|--ring|--threads) ]]; then
         compopt +o default
     elif [[ $word == -* ]]; then

@@ -125,6 +125,7 @@ def quick_parts(program):
         ("cases", ["scripts/cases.py", "--program", program]),
         ("documents", ["scripts/documents.py", "--check", "--program", program]),
         ("a wrong program", ["scripts/spoil.py", "--program", program]),
+        ("sessions beside a slow program", ["scripts/sessions.py", "--cases", "10", "--program", program]),
     ]
     if shutil.which("cc"):
         parts.append(("hostile use, the short form", ["scripts/hostile.sh", "--short", "--program", program]))

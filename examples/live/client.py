@@ -1,9 +1,9 @@
 #!/usr/bin/env python3
 """A cube that stays, from Python: changes go in by a pipe, and rows come out as dictionaries. Needs Python alone.
 
-    examples/live/client.py [PROGRAM]      # a day in the shop of examples/shop
+    examples/live/client.py [PROGRAM]      # a morning in the shop of examples/shop
 
-It is written for the command `live`, which `datacube` doesn't have yet.
+The package `python/` of this repository has the same with types, threads and clear errors; this is to be read.
 """
 import csv
 import io
@@ -19,12 +19,18 @@ class Wrong(Exception):
     """The code by which a question was refused; `datacube explain CODE` says what it means."""
 
 
+class Ended(Exception):
+    """The program ended by itself: its status, and the line that it said."""
+
+
 class Cube:
     """A running `datacube live`. None is null, in changes, in cells and in rows; a row's GROUPING columns tell ALL apart."""
 
     def __init__(self, program, schema, *feeds):
-        self.live = subprocess.Popen([program, "live", schema, *feeds], stdin=subprocess.PIPE, stdout=subprocess.PIPE)
-        self.input = io.TextIOWrapper(self.live.stdin, encoding="utf-8", newline="")
+        pipes = dict.fromkeys(("stdin", "stdout", "stderr"), subprocess.PIPE)
+        # (in a session of its own, so that Ctrl-C in a terminal is for Python alone)
+        self.live = subprocess.Popen([program, "live", schema, *feeds], start_new_session=True, **pipes)
+        self.input = io.TextIOWrapper(self.live.stdin, encoding="utf-8", errors="surrogateescape", newline="")
         self.records = csv.writer(self.input)
 
     def __enter__(self):
@@ -34,17 +40,17 @@ class Cube:
         self.close()
 
     def insert(self, source, name, *values):
-        self.change(source, "I", name, values)
+        self.change(source, "I", name, *values)
 
     def update(self, source, name, *values):
         """KEEP leaves a value as it is, where the schema says `version = 2`."""
-        self.change(source, "U", name, values)
+        self.change(source, "U", name, *values)
 
     def delete(self, source, name):
-        self.change(source, "D", name, ())
+        self.change(source, "D", name)
 
-    def change(self, source, op, name, values):
-        self.records.writerow([source, op, name, *({None: "\\N", KEEP: "\\="}.get(it, it) for it in values)])
+    def change(self, source, op, name, *values):
+        self.send([source, op, name, *({None: "\\N", KEEP: "\\="}.get(it, it) for it in values)])
 
     def print(self):
         return self.ask("print")
@@ -64,20 +70,38 @@ class Cube:
 
     def ask(self, *fields):
         """Asks a question over all changes until now, and gives the rows of its answer."""
-        self.records.writerow(fields)
-        self.input.flush()
+        self.send(fields, at_once=True)
         first = self.live.stdout.readline().decode().strip()
         if not first:
-            raise EOFError(f"datacube ended with status {self.live.wait()}")
+            raise self.ended()
         if not first.startswith("ok "):
             raise Wrong(first)
         text = self.live.stdout.read(int(first[3:])).decode()
         rows = csv.DictReader(io.StringIO(text, newline=""))
         return [{name: None if it == "\\N" else it for name, it in row.items()} for row in rows]
 
+    def send(self, fields, at_once=False):
+        try:
+            self.records.writerow(fields)
+            if at_once:
+                self.input.flush()
+        except BrokenPipeError:
+            raise self.ended() from None
+
+    def ended(self):
+        status, said = self.close(), self.said
+        return Ended(f"status {status}, {said or 'and it said nothing'}")
+
     def close(self):
-        """Ends the session: 4 where a line or a change was refused, else 0."""
-        self.input.close()
+        """Ends the session, and gives its status: 4 where a line or a change was refused, else 0."""
+        try:
+            self.input.close()
+        except BrokenPipeError:
+            pass
+        self.live.stdout.close()
+        if not self.live.stderr.closed:
+            self.said = self.live.stderr.read().decode().strip()
+            self.live.stderr.close()
         return self.live.wait()
 
 

@@ -30,12 +30,12 @@ count_by-one {X} {c} o p one (x ∷ xs) sorted among passes alone = elim (Contai
 ]
 
 -- an element from behind a list comes before it
-Reordered-middle : {X : Type 0} (x : X) (xs ys : List X) → Reordered (xs ++ x ∷ ys) (x ∷ (xs ++ ys))
+pub Reordered-middle : {X : Type 0} (x : X) (xs ys : List X) → Reordered (xs ++ x ∷ ys) (x ∷ (xs ++ ys))
 Reordered-middle x [] ys = Reordered-refl (x ∷ ys)
 Reordered-middle x (y ∷ xs) ys = both (next (Reordered-middle x xs ys)) exchange
 
 -- the lists behind a list are in another order
-Reordered-append : {X : Type 0} (zs : List X) {xs ys : List X} → Reordered xs ys → Reordered (zs ++ xs) (zs ++ ys)
+pub Reordered-append : {X : Type 0} (zs : List X) {xs ys : List X} → Reordered xs ys → Reordered (zs ++ xs) (zs ++ ys)
 Reordered-append [] r = r
 Reordered-append (z ∷ zs) r = next (Reordered-append zs r)
 

@@ -93,7 +93,7 @@ is_no_null_text-is_all_coord (coord.Null ∷ coords) all = cc all
 is_no_null_text-is_all_coord (coord.All ∷ coords) all = is_no_null_text-is_all_coord coords all
 
 -- what is true of each cell of facts that fit: no null text, and a coordinate for each dimension
-abbrev IsTold : Layout → Key → Type 0
+abbrev pub IsTold : Layout → Key → Type 0
 IsTold s key = (has_no_null_text key ≡ true) × (length key.coords ≡ length s.dimensions)
 
 -- a key that covers one of the facts
@@ -114,19 +114,19 @@ IsTold-is_cell s sets facts key fit cell =
     (told, is_cell-length s facts key fit parts.1)
 
 -- lists of one length that begin two equal lists are equal, and so is what comes after
-append-front : {X : Type 0} (a b as' bs : List X) → length a ≡ length b → a ++ as' ≡ b ++ bs → a ≡ b
+pub append-front : {X : Type 0} (a b as' bs : List X) → length a ≡ length b → a ++ as' ≡ b ++ bs → a ≡ b
 append-front {X} a b as' bs lengths same =
     sym (take-append_seam a as') ∙ ap (λ (xs : List X). take (length a) xs) same ∙ rw lengths (take-append_seam b bs)
 
-append-back : {X : Type 0} (a b as' bs : List X) → length a ≡ length b → a ++ as' ≡ b ++ bs → as' ≡ bs
+pub append-back : {X : Type 0} (a b as' bs : List X) → length a ≡ length b → a ++ as' ≡ b ++ bs → as' ≡ bs
 append-back {X} a b as' bs lengths same =
     sym (drop-append_seam a as') ∙ ap (λ (xs : List X). drop (length a) xs) same ∙ rw lengths (drop-append_seam b bs)
 
 -- the columns of a row that show its key
-abbrev shown : Key → List (List ℕ)
+abbrev pub shown : Key → List (List ℕ)
 shown key = map coord_text key.coords ++ map grouping_text key.coords
 
-length-shown : (key : Key) → length (shown key) ≡ 2 * length key.coords
+pub length-shown : (key : Key) → length (shown key) ≡ 2 * length key.coords
 length-shown key = simp (length-append, length-map) (omega arith)
 
 key_columns-shown : (s : Layout) (row : Row) → length row.key.coords ≡ length s.dimensions → key_columns s row ≡ shown row.key
@@ -135,7 +135,7 @@ key_columns-shown s row as_many =
     rw n (take-append_seam (shown row.key) (map answer_text row.answers))
 
 -- what shows the same looks alike
-shown-LookAlike : (a b : Key) → length a.coords ≡ length b.coords → shown a ≡ shown b → LookAlike a b
+pub shown-LookAlike : (a b : Key) → length a.coords ≡ length b.coords → shown a ≡ shown b → LookAlike a b
 shown-LookAlike a b lengths same =
     let l : length (map coord_text a.coords) ≡ length (map coord_text b.coords) = length-map a.coords coord_text ∙ lengths ∙ sym (length-map b.coords coord_text) in
     record {

@@ -1,15 +1,13 @@
 -- The answers of groups, against the answer of the groups joined: of sums the sum, of least values the least.
-use Rattle.std.proofs.Common.{◌≡◌, ℕ, ℤ, ◌+ℤ◌, List, [], ◌∷◌, ◌++◌, length, flat_map, Contains, ◌↔◌, ◌⊎◌, refl, sym, ap, ◌∙◌, subst, inl, inr, arith, length-append}
-use Rattle.std.specs.List.{AllByRecursion, cons_option}
+use Rattle.std.proofs.Common.{◌≡◌, ℤ, ◌+ℤ◌, List, [], ◌∷◌, ◌++◌, length, flat_map, Contains, ◌↔◌, ◌⊎◌, refl, sym, ap, ◌∙◌, subst, inl, inr, arith, length-append}
+use Rattle.std.specs.List.{AllByRecursion, cons_option, filter_map}
 use Rattle.std.proofs.lemmas.Int.{ints}
 use Rattle.std.proofs.lemmas.List.Elements.{Contains-append_left, Contains-append_right, Contains-append_cases}
 use Rattle.cube_core.specs.Answer.{IsSum, IsBest}
 use Rattle.cube_core.specs.Group.{total_of}
-use Rattle.cube_laws.specs.Cells.{answer_at}
-use Rattle.cube_laws.specs.Rollup.{number_in, numbers_at}
+use Rattle.cube_core.specs.Merged.{number_in}
 use Rattle.cube_core.specs.declared.aggregate.Answer.{Answer}
 use Rattle.cube_core.specs.declared.aggregate.Answer.TheVariants as answer
-use Rattle.cube_core.specs.declared.key.Row.{Row}
 use Rattle.cube_core.proofs.ListLaws.{AllByRecursion-Contains, Contains-AllByRecursion, Contains-cases, Contains-head, Contains-nil, Contains-tail}
 
 -- a sum of joined lists
@@ -69,30 +67,70 @@ module _ (R : ℤ → ℤ → Type 0) where
       let same : h.0 ≡ n = cc in
       subst (Contains (v ∷ vs)) same h.2
 
-module _ (values_under : Row → List ℤ) (place : ℕ) where
+-- numbers that are among values, where for each value there is a number as good
+module _ (R : ℤ → ℤ → Type 0) where
+  -- what is best of the values is best of the numbers, where no two values are as good as each other
+  IsBest-as_good : ((m n : ℤ) → R m n → R n m → m ≡ n) → (numbers values : List ℤ) (a : Answer) →
+      (length numbers ≡ 0) ↔ (length values ≡ 0) → ((n : ℤ) → Contains numbers n → Contains values n) →
+      ((x : ℤ) → Contains values x → (n : ℤ) × Contains numbers n × R n x) → IsBest R values a → IsBest R numbers a
+  IsBest-as_good one [] [] a both within found h = h
+  IsBest-as_good one [] (v ∷ vs) a both within found h = absurd (omega (arith, both.0 refl))
+  IsBest-as_good one (n ∷ ns) [] a both within found h = absurd (omega (arith, both.1 refl))
+  IsBest-as_good one (n ∷ ns) (v ∷ vs) a both within found h =
+      let good = found h.0 h.2 in
+      let below : (x : ℤ) → Contains (v ∷ vs) x → R h.0 x = λ x among. AllByRecursion-Contains (R h.0) (v ∷ vs) x h.3 among in
+      let same : h.0 ≡ good.0 = one h.0 good.0 (below good.0 (within good.0 good.1)) good.2 in (
+        h.0,
+        h.1,
+        subst (Contains (n ∷ ns)) (sym same) good.1,
+        Contains-AllByRecursion (R h.0) (n ∷ ns) (λ x among. below x (within x among)),
+      )
+
+  -- what is best of the numbers is best of the values, where what is as good as a better one is as good
+  IsBest-better : ((m n x : ℤ) → R m n → R n x → R m x) → (numbers values : List ℤ) (a : Answer) →
+      (length numbers ≡ 0) ↔ (length values ≡ 0) → ((n : ℤ) → Contains numbers n → Contains values n) →
+      ((x : ℤ) → Contains values x → (n : ℤ) × Contains numbers n × R n x) → IsBest R numbers a → IsBest R values a
+  IsBest-better better [] [] a both within found h = h
+  IsBest-better better [] (v ∷ vs) a both within found h = absurd (omega (arith, both.0 refl))
+  IsBest-better better (n ∷ ns) [] a both within found h = absurd (omega (arith, both.1 refl))
+  IsBest-better better (n ∷ ns) (v ∷ vs) a both within found h = (
+    h.0,
+    h.1,
+    within h.0 h.2,
+    Contains-AllByRecursion (R h.0) (v ∷ vs) (λ x among.
+        let good = found x among in
+        better h.0 good.0 x (AllByRecursion-Contains (R h.0) (n ∷ ns) good.0 h.3 good.1) good.2),
+  )
+
+-- the numbers among answers, nulls left out
+abbrev pub numbers_among : {X : Type 0} → (X → Answer) → List X → List ℤ
+numbers_among answer_of xs = filter_map (λ x. number_in (answer_of x)) xs
+
+-- each of some things has values and an answer to them
+module _ {X : Type 0} (values_under : X → List ℤ) (answer_of : X → Answer) where
   -- the answers and the values are both none or both some
-  pub numbers_at-none : (rows : List Row) → AllByRecursion (λ row. Says (values_under row) (answer_at place row)) rows →
-      (length (numbers_at place rows) ≡ 0) ↔ (length (flat_map values_under rows) ≡ 0)
-  numbers_at-none [] h = (λ e. e, λ e. e)
-  numbers_at-none (row ∷ rows) h =
-      number_in-none (values_under row) (answer_at place row) (numbers_at place rows) (flat_map values_under rows)
-      h.0 (numbers_at-none rows h.1)
+  pub numbers_among-none : (rows : List X) → AllByRecursion (λ row. Says (values_under row) (answer_of row)) rows →
+      (length (numbers_among answer_of rows) ≡ 0) ↔ (length (flat_map values_under rows) ≡ 0)
+  numbers_among-none [] h = (λ e. e, λ e. e)
+  numbers_among-none (row ∷ rows) h =
+      number_in-none (values_under row) (answer_of row) (numbers_among answer_of rows) (flat_map values_under rows)
+      h.0 (numbers_among-none rows h.1)
 
   -- the sum of the sums is the sum of the values
-  pub numbers_at-total_of : (rows : List Row) →
-      AllByRecursion (λ row. IsSum (values_under row) (answer_at place row)) rows →
-      total_of (numbers_at place rows) ≡ total_of (flat_map values_under rows)
-  numbers_at-total_of [] h = refl
-  numbers_at-total_of (row ∷ rows) h =
-      number_in-total_of (values_under row) (answer_at place row) (numbers_at place rows) (flat_map values_under rows)
-      h.0 (numbers_at-total_of rows h.1)
+  pub numbers_among-total_of : (rows : List X) →
+      AllByRecursion (λ row. IsSum (values_under row) (answer_of row)) rows →
+      total_of (numbers_among answer_of rows) ≡ total_of (flat_map values_under rows)
+  numbers_among-total_of [] h = refl
+  numbers_among-total_of (row ∷ rows) h =
+      number_in-total_of (values_under row) (answer_of row) (numbers_among answer_of rows) (flat_map values_under rows)
+      h.0 (numbers_among-total_of rows h.1)
 
   -- a number that is answered stands among the numbers
-  numbers_at-Contains : (row : Row) (rows : List Row) (n : ℤ) → answer_at place row ≡ answer.Whole n →
-      Contains (numbers_at place (row ∷ rows)) n
-  numbers_at-Contains row rows n is =
-      subst (λ a. Contains (cons_option (number_in a) (numbers_at place rows)) n) (sym is)
-      (Contains-head n (numbers_at place rows))
+  numbers_among-Contains : (row : X) (rows : List X) (n : ℤ) → answer_of row ≡ answer.Whole n →
+      Contains (numbers_among answer_of (row ∷ rows)) n
+  numbers_among-Contains row rows n is =
+      subst (λ a. Contains (cons_option (number_in a) (numbers_among answer_of rows)) n) (sym is)
+      (Contains-head n (numbers_among answer_of rows))
 
   -- and so do the numbers of the other rows
   number_in-Contains : (a : Answer) (numbers : List ℤ) (n : ℤ) → Contains numbers n →
@@ -113,64 +151,57 @@ module _ (values_under : Row → List ℤ) (place : ℕ) where
   ]
   number_in-cases (answer.Ratio p q) numbers n among = inr among
 
-  module _ (R : ℤ → ℤ → Type 0) (one : (m n : ℤ) → R m n → R n m → m ≡ n) where
+  module _ (R : ℤ → ℤ → Type 0) where
     -- each number is one of the values
-    numbers_at-values : (rows : List Row) (n : ℤ) →
-        AllByRecursion (λ row. IsBest R (values_under row) (answer_at place row)) rows →
-        Contains (numbers_at place rows) n → Contains (flat_map values_under rows) n
-    numbers_at-values [] n h among = among
-    numbers_at-values (row ∷ rows) n h among = elim (number_in-cases (answer_at place row) (numbers_at place rows) n among) [
+    numbers_among-values : (rows : List X) (n : ℤ) →
+        AllByRecursion (λ row. IsBest R (values_under row) (answer_of row)) rows →
+        Contains (numbers_among answer_of rows) n → Contains (flat_map values_under rows) n
+    numbers_among-values [] n h among = among
+    numbers_among-values (row ∷ rows) n h among = elim (number_in-cases (answer_of row) (numbers_among answer_of rows) n among) [
       | inl here ↦
           Contains-append_left (values_under row) (flat_map values_under rows) n
-          (IsBest-Whole R (values_under row) (answer_at place row) n h.0 here)
+          (IsBest-Whole R (values_under row) (answer_of row) n h.0 here)
       | inr after ↦
-          Contains-append_right (values_under row) (flat_map values_under rows) n (numbers_at-values rows n h.1 after)
+          Contains-append_right (values_under row) (flat_map values_under rows) n (numbers_among-values rows n h.1 after)
     ]
 
     -- for each value there is a number as good
-    numbers_at-as_good : (rows : List Row) (x : ℤ) →
-        AllByRecursion (λ row. IsBest R (values_under row) (answer_at place row)) rows →
-        Contains (flat_map values_under rows) x → (n : ℤ) × Contains (numbers_at place rows) n × R n x
-    numbers_at-as_good [] x h among = absurd (Contains-nil x among)
-    numbers_at-as_good (row ∷ rows) x h among = elim (Contains-append_cases (values_under row) (flat_map values_under rows) x among) [
+    numbers_among-as_good : (rows : List X) (x : ℤ) →
+        AllByRecursion (λ row. IsBest R (values_under row) (answer_of row)) rows →
+        Contains (flat_map values_under rows) x → (n : ℤ) × Contains (numbers_among answer_of rows) n × R n x
+    numbers_among-as_good [] x h among = absurd (Contains-nil x among)
+    numbers_among-as_good (row ∷ rows) x h among = elim (Contains-append_cases (values_under row) (flat_map values_under rows) x among) [
       | inl here ↦
-          let found = IsBest-Contains R (values_under row) (answer_at place row) x h.0 here in
-          (found.0, numbers_at-Contains row rows found.0 found.1, found.2)
+          let found = IsBest-Contains R (values_under row) (answer_of row) x h.0 here in
+          (found.0, numbers_among-Contains row rows found.0 found.1, found.2)
       | inr after ↦
-          let found = numbers_at-as_good rows x h.1 after in
-          (found.0, number_in-Contains (answer_at place row) (numbers_at place rows) found.0 found.1, found.2)
+          let found = numbers_among-as_good rows x h.1 after in
+          (found.0, number_in-Contains (answer_of row) (numbers_among answer_of rows) found.0 found.1, found.2)
     ]
 
-    -- where the numbers are values and as good, what is best of the values is best of the numbers
-    IsBest-as_good : (numbers values : List ℤ) (a : Answer) → (length numbers ≡ 0) ↔ (length values ≡ 0) →
-        ((n : ℤ) → Contains numbers n → Contains values n) →
-        ((x : ℤ) → Contains values x → (n : ℤ) × Contains numbers n × R n x) → IsBest R values a → IsBest R numbers a
-    IsBest-as_good [] [] a both within found h = h
-    IsBest-as_good [] (v ∷ vs) a both within found h = absurd (omega (arith, both.0 refl))
-    IsBest-as_good (n ∷ ns) [] a both within found h = absurd (omega (arith, both.1 refl))
-    IsBest-as_good (n ∷ ns) (v ∷ vs) a both within found h =
-        let good = found h.0 h.2 in
-        let below : (x : ℤ) → Contains (v ∷ vs) x → R h.0 x = λ x among. AllByRecursion-Contains (R h.0) (v ∷ vs) x h.3 among in
-        let same : h.0 ≡ good.0 = one h.0 good.0 (below good.0 (within good.0 good.1)) good.2 in (
-          h.0,
-          h.1,
-          subst (Contains (n ∷ ns)) (sym same) good.1,
-          Contains-AllByRecursion (R h.0) (n ∷ ns) (λ x among. below x (within x among)),
-        )
+    -- each answer says whether there are values
+    IsBest-all_Says : (rows : List X) → AllByRecursion (λ row. IsBest R (values_under row) (answer_of row)) rows →
+        AllByRecursion (λ row. Says (values_under row) (answer_of row)) rows
+    IsBest-all_Says [] each = each
+    IsBest-all_Says (row ∷ rows) each = (IsBest-Says R (values_under row) (answer_of row) each.0, IsBest-all_Says rows each.1)
 
-    -- the best of the best is the best of the values
-    pub IsBest-numbers_at : (rows : List Row) (a : Answer) →
-        AllByRecursion (λ row. IsBest R (values_under row) (answer_at place row)) rows →
-        IsBest R (flat_map values_under rows) a → IsBest R (numbers_at place rows) a
-    IsBest-numbers_at rows a each h =
-        IsBest-as_good (numbers_at place rows) (flat_map values_under rows) a
-        (numbers_at-none rows (says rows each))
-        (λ n. numbers_at-values rows n each) (λ x. numbers_at-as_good rows x each) h
-      where
-        says : (rows : List Row) → AllByRecursion (λ row. IsBest R (values_under row) (answer_at place row)) rows →
-            AllByRecursion (λ row. Says (values_under row) (answer_at place row)) rows
-        says [] each = each
-        says (row ∷ rows) each = (IsBest-Says R (values_under row) (answer_at place row) each.0, says rows each.1)
+    -- the best of the best is the best of the values, where no two values are as good as each other
+    pub IsBest-numbers_among : ((m n : ℤ) → R m n → R n m → m ≡ n) → (rows : List X) (a : Answer) →
+        AllByRecursion (λ row. IsBest R (values_under row) (answer_of row)) rows →
+        IsBest R (flat_map values_under rows) a → IsBest R (numbers_among answer_of rows) a
+    IsBest-numbers_among one rows a each h =
+        IsBest-as_good R one (numbers_among answer_of rows) (flat_map values_under rows) a
+        (numbers_among-none rows (IsBest-all_Says rows each))
+        (λ n. numbers_among-values rows n each) (λ x. numbers_among-as_good rows x each) h
+
+    -- and what is best of the best is best of the values, where what is as good as a better one is as good
+    pub IsBest-values_under : ((m n x : ℤ) → R m n → R n x → R m x) → (rows : List X) (a : Answer) →
+        AllByRecursion (λ row. IsBest R (values_under row) (answer_of row)) rows →
+        IsBest R (numbers_among answer_of rows) a → IsBest R (flat_map values_under rows) a
+    IsBest-values_under better rows a each h =
+        IsBest-better R better (numbers_among answer_of rows) (flat_map values_under rows) a
+        (numbers_among-none rows (IsBest-all_Says rows each))
+        (λ n. numbers_among-values rows n each) (λ x. numbers_among-as_good rows x each) h
 
 -- a sum of values is one of numbers with the same sum
 pub IsSum-total_of : (numbers values : List ℤ) (a : Answer) → (length numbers ≡ 0) ↔ (length values ≡ 0) →
@@ -190,13 +221,13 @@ Says-Null (v ∷ vs) a h = (
 )
 
 -- answers are all null where there are no values, and only there
-pub Says-all_Null : (values_under : Row → List ℤ) (place : ℕ) (rows : List Row) →
-    AllByRecursion (λ row. Says (values_under row) (answer_at place row)) rows →
-    AllByRecursion (λ row. answer_at place row ≡ answer.Null) rows ↔ (length (flat_map values_under rows) ≡ 0)
-Says-all_Null values_under place [] h = (λ _. refl, λ _. tt)
-Says-all_Null values_under place (row ∷ rows) h =
-    let here = Says-Null (values_under row) (answer_at place row) h.0 in
-    let after = Says-all_Null values_under place rows h.1 in
+pub Says-all_Null : {X : Type 0} (values_under : X → List ℤ) (answer_of : X → Answer) (rows : List X) →
+    AllByRecursion (λ row. Says (values_under row) (answer_of row)) rows →
+    AllByRecursion (λ row. answer_of row ≡ answer.Null) rows ↔ (length (flat_map values_under rows) ≡ 0)
+Says-all_Null values_under answer_of [] h = (λ _. refl, λ _. tt)
+Says-all_Null values_under answer_of (row ∷ rows) h =
+    let here = Says-Null (values_under row) (answer_of row) h.0 in
+    let after = Says-all_Null values_under answer_of rows h.1 in
     let joined = length-append (values_under row) (flat_map values_under rows) in (
       λ nulls. omega (arith, joined, here.0 nulls.0, after.0 nulls.1),
       λ none. (here.1 (omega (arith, joined, none)), after.1 (omega (arith, joined, none))),

@@ -8,7 +8,8 @@ use Rattle.cube_core.specs.Layout.{Layout}
 use Rattle.cube_core.specs.Answer.{IsSum, IsBest, IsLeast, IsGreatest, IsAnswer}
 use Rattle.cube_core.specs.Cube.{key_of}
 use Rattle.cube_core.specs.Group.{group_of, values_of, value_of}
-use Rattle.cube_laws.specs.Cells.{group_size, answer_at, count_at, count_of_answer}
+use Rattle.cube_laws.specs.Cells.{group_size, answer_at, count_at}
+use Rattle.cube_core.specs.Merged.{count_in}
 use Rattle.cube_core.specs.Query.{drills_down, rows_below}
 use Rattle.cube_laws.specs.Rollup.{IsRolledUp, numbers_at, gives_numbers}
 use Rattle.cube_core.specs.declared.aggregate.Agg.{Agg}
@@ -20,7 +21,7 @@ use Rattle.cube_core.specs.declared.key.Row.{Row}
 use Rattle.cube_laws.proofs.RowOrderLaws.{Reordered, Reordered-sym, length-Reordered, values_of-Reordered, IsSum-Reordered, IsBest-Reordered}
 use Rattle.cube_laws.proofs.CountLaws.{AreRows-answer_at}
 use Rattle.cube_laws.proofs.GroupCountLaws.{joined_groups}
-use Rattle.cube_laws.proofs.RollupBestLaws.{Says, IsSum-Says, IsBest-Says, numbers_at-none, numbers_at-total_of, IsBest-numbers_at, IsSum-total_of, Says-Null, Says-all_Null}
+use Rattle.cube_laws.proofs.RollupBestLaws.{Says, IsSum-Says, IsBest-Says, numbers_among-none, numbers_among-total_of, IsBest-numbers_among, IsSum-total_of, Says-Null, Says-all_Null}
 use Rattle.cube_laws.proofs.RollupKeyLaws.{joined_groups-rows_below}
 use Rattle.cube_core.proofs.ListLaws.{Contains-AllByRecursion, Contains-filter, sum_by-map, sum_by-same}
 
@@ -84,34 +85,34 @@ module _ (s : Layout) (facts : List Fact) (rows : List Row) (row : Row) (dimensi
   pub CountAll-under : slice_get s.aggregates place ≡ Some agg.CountAll →
       count_at place row ≡ sum_by (count_at place) under
   CountAll-under at_place =
-      ap count_of_answer (rows-answer_at agg.CountAll at_place row is.row_of_cube)
+      ap count_in (rows-answer_at agg.CountAll at_place row is.row_of_cube)
       ∙ length-Reordered group_of-under
       ∙ length-flat_map (λ key. group_of key facts) (map key_of under)
       ∙ sum_by-map key_of (λ key. length (group_of key facts)) under
       ∙ sym (sum_by-same (count_at place) (group_size facts) under
       (AllByRecursion-under (λ below. count_at place below ≡ group_size facts below)
-      (λ below among. ap count_of_answer (rows-answer_at agg.CountAll at_place below among))))
+      (λ below among. ap count_in (rows-answer_at agg.CountAll at_place below among))))
 
   -- a count of values rolls up
   pub Count-under : (m : ℕ) → slice_get s.aggregates place ≡ Some (agg.Count m) →
       count_at place row ≡ sum_by (count_at place) under
   Count-under m at_place =
-      ap count_of_answer (rows-answer_at (agg.Count m) at_place row is.row_of_cube)
+      ap count_in (rows-answer_at (agg.Count m) at_place row is.row_of_cube)
       ∙ length-Reordered (values_of-under m)
       ∙ length-flat_map (values_in m) under
       ∙ sym (sum_by-same (count_at place) (λ below. length (values_in m below)) under
       (AllByRecursion-under (λ below. count_at place below ≡ length (values_in m below))
-      (λ below among. ap count_of_answer (rows-answer_at (agg.Count m) at_place below among))))
+      (λ below among. ap count_in (rows-answer_at (agg.Count m) at_place below among))))
 
   -- a sum rolls up
   pub Sum-under : (m : ℕ) → slice_get s.aggregates place ≡ Some (agg.Sum m) →
       IsSum (numbers_at place under) (answer_at place row)
   Sum-under m at_place =
       IsSum-total_of (numbers_at place under) (flat_map (values_in m) under) (answer_at place row)
-      (numbers_at-none (values_in m) place under
+      (numbers_among-none (values_in m) (answer_at place) under
       (AllByRecursion-under (λ below. Says (values_in m below) (answer_at place below))
       (λ below among. IsSum-Says (values_in m below) (answer_at place below) (rows-answer_at (agg.Sum m) at_place below among))))
-      (numbers_at-total_of (values_in m) place under
+      (numbers_among-total_of (values_in m) (answer_at place) under
       (AllByRecursion-under (λ below. IsSum (values_in m below) (answer_at place below)) (rows-answer_at (agg.Sum m) at_place)))
       (IsSum-Reordered (values_in m row) (flat_map (values_in m) under) (answer_at place row) (values_of-under m)
       (rows-answer_at (agg.Sum m) at_place row is.row_of_cube))
@@ -121,7 +122,7 @@ module _ (s : Layout) (facts : List Fact) (rows : List Row) (row : Row) (dimensi
       ((other : Row) → Contains rows other → IsBest IsAsGood (values_in m other) (answer_at place other)) →
       IsBest IsAsGood (numbers_at place under) (answer_at place row)
   IsBest-under IsAsGood one m best =
-      IsBest-numbers_at (values_in m) place IsAsGood one under (answer_at place row)
+      IsBest-numbers_among (values_in m) (answer_at place) IsAsGood one under (answer_at place row)
       (AllByRecursion-under (λ below. IsBest IsAsGood (values_in m below) (answer_at place below)) best)
       (IsBest-Reordered IsAsGood (values_in m row) (flat_map (values_in m) under) (answer_at place row) (values_of-under m)
       (best row is.row_of_cube))
@@ -146,7 +147,7 @@ module _ (s : Layout) (facts : List Fact) (rows : List Row) (row : Row) (dimensi
       let says : (other : Row) → Contains rows other → Says (values_in m other) (answer_at place other)
       = λ other among. IsAnswer-Says (group_of other.key facts) aggregate (answer_at place other) numbers (rows-answer_at aggregate at_place other among) in
       let own = Says-Null (values_in m row) (answer_at place row) (says row is.row_of_cube) in
-      let each = Says-all_Null (values_in m) place under
+      let each = Says-all_Null (values_in m) (answer_at place) under
       (AllByRecursion-under (λ below. Says (values_in m below) (answer_at place below)) says) in
       let as_many = length-Reordered (values_of-under m) in
       (λ null. each.1 (sym as_many ∙ own.0 null), λ nulls. own.1 (as_many ∙ each.0 nulls))

@@ -20,7 +20,7 @@ use Rattle.cube_laws.proofs.RowOrderLaws.{Reordered, none, next, both, Reordered
 use Rattle.cube_core.proofs.ListLaws.{AllByRecursion-Contains, Contains-cases, Contains-head, Contains-nil, Contains-tail}
 
 -- an id that differs from all after it isn't among them
-head-once : (id : List ℕ) (ids : List (List ℕ)) → IsDistinct bytes_eq (id ∷ ids) → Contains ids id → ⊥
+pub head-once : (id : List ℕ) (ids : List (List ℕ)) → IsDistinct bytes_eq (id ∷ ids) → Contains ids id → ⊥
 head-once id ids distinct among =
     false≢true (sym (AllByRecursion-Contains (λ other. bytes_eq id other ≡ false) ids id (IsDistinct-head bytes_eq id ids distinct) among) ∙ bytes_eq-itself id)
 
@@ -52,7 +52,7 @@ IsDistinct-Reordered (id ∷ ids) ids' distinct distinct' to from =
     (Reordered-sym (IsPermutation-Reordered ids' (id ∷ others) moved))
 
 -- the facts are what the life of each id gives
-filter_map-map : (life : List ℕ → Option Fact) (ids : List (List ℕ)) (facts : List Fact) → map Some facts ≡ map life ids →
+pub filter_map-map : (life : List ℕ → Option Fact) (ids : List (List ℕ)) (facts : List Fact) → map Some facts ≡ map life ids →
     facts ≡ filter_map life ids
 filter_map-map life [] [] same = refl
 filter_map-map life [] (fact ∷ facts) same = cc

@@ -63,12 +63,18 @@ row_fields-HasAnswers aggregates facts (row ∷ rows) some all =
     (row_fields-length row (omega (arith, AllZip-length (IsAnswer (group_of row.key facts)) aggregates row.answers all.0)), row_fields-HasAnswers aggregates facts rows some all.1)
 
 -- the header has a field
-header_fields-length : (s : Layout) → IsSchema s → 1 ≤ length (header_fields s)
-header_fields-length s schema = simp (length-append, length-map) (omega arith)
+header_fields-length : (s : Layout) → 1 ≤ length s.dimensions → 1 ≤ length (header_fields s)
+header_fields-length s some = simp (length-append, length-map) (omega arith)
+
+-- rows of fields, printed with the header and read back
+pub records-fields : (s : Layout) (rows : List Row) → 1 ≤ length s.dimensions → AllByRecursion (λ fields. 1 ≤ length fields) (map row_fields rows)
+    → records default_config (text_of_rows s rows) ≡ header_fields s ∷ map row_fields rows
+records-fields s rows some all =
+    ap (λ (text : List ℕ). records default_config (line (header_fields s) ++ text)) (row_line-row_fields rows)
+    ∙ records-line (header_fields s ∷ map row_fields rows) (header_fields-length s some, all)
 
 -- a printed cube, read back
 pub records-text_of_rows : (s : Layout) (facts : List Fact) (rows : List Row) → IsSchema s → AreRows s facts rows
     → records default_config (text_of_rows s rows) ≡ header_fields s ∷ map row_fields rows
 records-text_of_rows s facts rows schema are =
-    ap (λ (text : List ℕ). records default_config (line (header_fields s) ++ text)) (row_line-row_fields rows)
-    ∙ records-line (header_fields s ∷ map row_fields rows) (header_fields-length s schema, row_fields-HasAnswers s.aggregates facts rows schema.some_aggregate are.answers)
+    records-fields s rows schema.some_dimension (row_fields-HasAnswers s.aggregates facts rows schema.some_aggregate are.answers)

@@ -3,6 +3,7 @@ use Rattle.std.specs.Prelude.{◌≡◌, ◌==◌, ◌↔◌, ◌+◌, ◌*◌, 
 use Rattle.std.specs.List.{AllByRecursion, AllZip}
 use Rattle.cube_core.specs.Covers.{covers}
 use Rattle.cube_core.specs.Group.{group_of}
+use Rattle.cube_core.specs.Merged.{count_in}
 use Rattle.cube_core.specs.GroupingSet.{mask_of, all_sets}
 use Rattle.cube_core.specs.declared.aggregate.Answer.{Answer}
 use Rattle.cube_core.specs.declared.aggregate.Answer.TheVariants as answer
@@ -26,16 +27,9 @@ group_size facts row = length (group_of row.key facts)
 abbrev pub answer_at : ℕ → Row → Answer
 answer_at place row = get_or row.answers place answer.Null
 
--- the count that an answer is
-abbrev pub count_of_answer : Answer → ℕ
-count_of_answer (answer.Count n) = n
-count_of_answer answer.Null = 0
-count_of_answer (answer.Whole z) = 0
-count_of_answer (answer.Ratio p q) = 0
-
 -- the count of a row at a place
 abbrev pub count_at : ℕ → Row → ℕ
-count_at place row = count_of_answer (answer_at place row)
+count_at place row = count_in (answer_at place row)
 
 -- the keys that cover a fact: 2 to the power of its dimensions, one in each grouping set
 pub record CoveringKeys (fact : Fact) : Type 0 where

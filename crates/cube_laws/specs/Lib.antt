@@ -4,3 +4,5 @@ pub mod Keys
 pub mod Cells
 pub mod Rollup
 pub mod Written
+pub mod Merging
+pub mod Told

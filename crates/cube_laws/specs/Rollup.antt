@@ -1,23 +1,16 @@
 -- What the laws of drill-down and roll-up speak of (Gray et al. 1997: rolling up replaces the values of a dimension by ALL).
-use Rattle.std.specs.Prelude.{◌≡◌, ℕ, ℤ, Bool, true, false, List, Contains, Option, Some, None, ◌+◌, ◌^◌}
+use Rattle.std.specs.Prelude.{◌≡◌, ℕ, ℤ, Bool, true, false, List, Contains, ◌+◌, ◌^◌}
 use Rattle.std.specs.List.{AllByRecursion, filter_map}
 use Rattle.cube_core.specs.Layout.{Layout}
 use Rattle.cube_core.specs.Cube.{AreRows}
+use Rattle.cube_core.specs.Merged.{number_in}
 use Rattle.cube_core.specs.GroupingSet.{is_all_at, is_among, mask_of}
 use Rattle.cube_laws.specs.Cells.{answer_at}
 use Rattle.cube_core.specs.declared.aggregate.Agg.{Agg}
 use Rattle.cube_core.specs.declared.aggregate.Agg.TheVariants as agg
-use Rattle.cube_core.specs.declared.aggregate.Answer.{Answer}
 use Rattle.cube_core.specs.declared.aggregate.Answer.TheVariants as answer
 use Rattle.cube_core.specs.declared.fact.Fact.{Fact}
 use Rattle.cube_core.specs.declared.key.Row.{Row}
-
--- the number that an answer is, if it is one
-abbrev pub number_in : Answer → Option ℤ
-number_in (answer.Whole z) = Some z
-number_in answer.Null = None
-number_in (answer.Count n) = None
-number_in (answer.Ratio p q) = None
 
 -- the numbers that rows answer at a place, nulls left out
 abbrev pub numbers_at : ℕ → List Row → List ℤ

@@ -7,6 +7,7 @@ pub mod counts;
 pub mod fraction;
 pub mod keys;
 pub mod life;
+pub mod merging;
 pub mod rollup;
 pub mod rows;
 pub mod schema;

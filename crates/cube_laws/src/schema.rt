@@ -5,6 +5,7 @@ ghost use Rattle.toml.specs.Data.{Members, string, get_member};
 ghost use Rattle.cube_core.specs.Cube.{AreRows, AreRowsOver};
 ghost use Rattle.cube_core.specs.GroupingSet.{all_sets};
 ghost use Rattle.cube_core.specs.Layout.{Layout, IsSchema, spelling_of, is_aggregate_of};
+ghost use Rattle.cube_core.specs.PartialForm.{partial_form};
 ghost use Rattle.cube_core.specs.SchemaDocument.{schema_of, aggregate_spelled};
 ghost use Rattle.cube_laws.specs.Written.{Writes};
 ghost use Rattle.cube_core.specs.declared.aggregate.Agg.{Agg};
@@ -51,4 +52,9 @@ pub fn rollup_keeps_first_dimensions()
         get_member (codes "grouping") document ≡ Some (string (codes "rollup")) →
         s.grouping_sets
         ≡ map (λ first. 2 ^ first - 1) (range_with_len 0 (length s.dimensions + 1)) }
+{}
+
+/// The partial form of a partial form is itself: it has what each of its means is made of (this project's choice).
+pub fn partial_form_is_its_own()
+    ensures { (s : Layout) → partial_form (partial_form s) ≡ partial_form s }
 {}

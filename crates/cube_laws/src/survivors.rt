@@ -1,6 +1,7 @@
 //! What the changes of feeds determine: their survivors up to order, and one printed text.
 ghost use Rattle.std.specs.Prelude.{◌≡◌, ◌↔◌, ℕ, List, [], ◌∷◌, IsPermutation};
-ghost use Rattle.cube_core.specs.Layout.{Layout};
+ghost use Rattle.cube_core.specs.Layout.{IsSchema, Layout};
+ghost use Rattle.cube_laws.specs.Told.{AreFewSources, CanPrintSurvivors};
 ghost use Rattle.cube_core.specs.Surviving.{Survive, AreSurviving};
 ghost use Rattle.cube_core.specs.Sources.{SurviveTogether, IsPrintedOf};
 ghost use Rattle.cube_core.specs.declared.fact.Fact.{Fact};
@@ -32,4 +33,10 @@ pub fn one_feed_is_joined_alone()
 pub fn bytes_have_one_printed_cube()
     ensures { (s : Layout) (sources : List (List ℕ)) (text text' : List ℕ) →
         IsPrintedOf s sources text → IsPrintedOf s sources text' → text ≡ text' }
+{}
+
+/// Whatever facts survive the feeds of fewer than 2 to the power 32 sources can be printed: they fit the schema, there are
+/// fewer than 2 to the power 64 of them, and their values have 64 bits (this project's choice).
+pub fn survivors_can_be_printed()
+    ensures { (s : Layout) (sources : List (List ℕ)) → IsSchema s → AreFewSources sources → CanPrintSurvivors s sources }
 {}

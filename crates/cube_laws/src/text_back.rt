@@ -4,6 +4,7 @@ ghost use Rattle.std.specs.List.{AllByRecursion, flat_map};
 ghost use Rattle.csv.specs.Reading.{records, default_config};
 ghost use Rattle.cube_core.specs.Layout.{Layout, IsSchema};
 ghost use Rattle.cube_core.specs.Cube.{AreRows};
+ghost use Rattle.cube_laws.specs.Told.{CanBePrinted, IsRowOf};
 ghost use Rattle.cube_core.specs.Text.{line, header_fields, row_fields, text_of_rows};
 ghost use Rattle.cube_core.specs.declared.fact.Fact.{Fact};
 ghost use Rattle.cube_core.specs.declared.key.Row.{Row};
@@ -24,4 +25,21 @@ pub fn cube_reads_back()
     ensures { (s : Layout) (facts : List Fact) (rows : List Row) →
         IsSchema s → AreRows s facts rows →
         records default_config (text_of_rows s rows) ≡ header_fields s ∷ map row_fields rows }
+{}
+
+/// A row of a cube has a coordinate for each dimension, none of them the text that stands for null, and answers of the
+/// kinds of their aggregates, in their ranges, where the facts fit and can be counted (this project's choice).
+pub fn rows_of_a_cube_are_of_its_schema()
+    ensures { (s : Layout) (facts : List Fact) (rows : List Row) →
+        CanBePrinted s facts → AreRows s facts rows →
+        AllByRecursion (IsRowOf s) rows }
+{}
+
+/// Rows of a schema are told by their text: two lists of them that are printed alike are one list (RFC 4180; SQL:1999:
+/// GROUPING tells ALL from null).
+pub fn rows_are_told_by_their_text()
+    ensures { (s : Layout) (rows others : List Row) →
+        1 ≤ length s.dimensions → AllByRecursion (IsRowOf s) rows →
+        AllByRecursion (IsRowOf s) others → text_of_rows s rows ≡ text_of_rows s others →
+        rows ≡ others }
 {}

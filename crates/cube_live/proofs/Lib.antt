@@ -5,3 +5,4 @@ pub mod LiveLaws
 pub mod RowLaws
 pub mod RefusalLaws
 pub mod ShowsLaws
+pub mod OpeningLaws

@@ -25,10 +25,14 @@ pub record IsLive (s : Layout) (builder : BuilderView) (numbers : List ℕ) : Ty
   pub numbered : length numbers ≡ 64
   pub at_most : (place : ℕ) → get_or numbers place 0 ≤ s.max_records
 
--- it stands at an arrival list: the builder does, and each number counts what the list has of its source
+-- each of these numbers counts what an arrival list has of its source, of the 64
+abbrev pub Counts : List ℕ → Arrivals → Type 0
+Counts numbers arrivals = (source : ℕ) → 1 ≤ source → source ≤ 64 → get_or numbers (source - 1) 0 ≡ length (of_source arrivals source)
+
+-- it stands at an arrival list: the builder does, and its numbers count what the list has of each source
 pub record LiveStandsAt (live : LiveView) (arrivals : Arrivals) : Type 0 where
   pub builder : StandsAt live.builder arrivals
-  pub numbers : (source : ℕ) → 1 ≤ source → source ≤ 64 → get_or live.numbers (source - 1) 0 ≡ length (of_source arrivals source)
+  pub numbers : Counts live.numbers arrivals
 
 -- it took what the next record of a source says
 abbrev pub TakesNext : ℕ → Result Change LineFault → LiveView → LiveView → Type 0

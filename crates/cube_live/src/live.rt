@@ -1,7 +1,7 @@
 //! A cube that is kept right change by change, and answers questions in between.
 ghost use Rattle.std.specs.Prelude.{◌≡◌, ◌==◌, ◌≤◌, ◌-◌, ℕ, not, length, get_or, IfOk, IfErr, OnOk, OnErr};
 ghost use Rattle.cube_core.specs.Arrival.{Arrivals, of_sources};
-ghost use Rattle.cube_live.specs.Live.{CanAsk, ExplainsLive, LiveStandsAt, SameLive, TakesNext};
+ghost use Rattle.cube_live.specs.Live.{CanAsk, ExplainsLive, IsLive, LiveStandsAt, SameLive, TakesNext};
 ghost use Rattle.cube_live.specs.Shows.{Shows};
 
 use crate::refusals::{refusals_after_text, refusals_text};
@@ -129,7 +129,8 @@ impl<'s> Live<'s> {
 
     /// The books, the refusals and the cube.
     pub fn builder(&self) -> &Builder
-        ensures { result.now ≡ self.now.builder }
+        ensures value { result.now ≡ self.now.builder }
+        ensures live { IsLive self.now.schema self.now.builder self.now.numbers }
     {
         &self.builder
     }

@@ -10,10 +10,12 @@ use Rattle.std.proofs.lemmas.Bool.{cases_lt}
 use Rattle.std.proofs.lemmas.List.{append-nil, length-map}
 use Rattle.cube_core.specs.Layout.{Layout}
 use Rattle.cube_core.specs.Text.{header_fields, line, row_line, text_of_rows}
+use Rattle.cube_core.specs.declared.aggregate.Agg.{Agg}
 use Rattle.cube_core.specs.declared.key.Row.{Row}
 use Rattle.cube_core.proofs.ListLaws.{AllZip-length}
-use Rattle.cube_merge.specs.Merging.{InputView, nothing_left, IsMergeOf, IsLeastSoFar, IsNotBelow, Gave, IsEnded, HasTaken, MergesInputs, IsTextOf}
+use Rattle.cube_merge.specs.Merging.{InputView, nothing_left, IsMergeOf, IsLeastSoFar, IsNotBelow, Gave, IsEnded, HasTaken, AreFresh, AllMove, IsMerging, MergesInputs, IsTextOf}
 use Rattle.cube_merge.proofs.LeastLaws.{past, not_below-none}
+use Rattle.cube_merge.proofs.StepLaws.{IsMerging-start}
 
 -- what a vector holds after its slice was written whole
 pub refill-same : {X : Type 0} (n : ℕ) (news olds : List X) → length news ≡ length olds → n ≡ length olds → take n (news ++ drop (length news) olds) ≡ news
@@ -50,6 +52,10 @@ text_of_rows-push s rows row sent old more left so_far parts =
     ∙ append_assoc header (flat_map row_line rows) (row_line row)
     ∙ ap (λ t. header ++ t) (sym (flat_map-append row_line rows (row ∷ []) ∙ ap (λ t. flat_map row_line rows ++ t) (append-nil (row_line row))))
 
+-- one more row's line, of which nothing was sent
+pub text_of_rows-more : (s : Layout) (rows : List Row) (row : Row) (sent old new : List ℕ) → sent ++ old ≡ text_of_rows s rows → new ≡ old ++ row_line row → sent ++ new ≡ text_of_rows s (rows ++ row ∷ [])
+text_of_rows-more s rows row sent old new so_far grown = ap (λ t. t ++ new) (sym (append-nil sent)) ∙ text_of_rows-push s rows row sent old [] new so_far (sym grown)
+
 -- where each input of a list took the header, by place
 module _ {R : Type 0} (remaining : R → Option (List ℕ)) (header : List ℕ) where
   pub taken-row : (readers : List R) (inputs : List InputView) → AllZip (HasTaken remaining header) readers inputs → (k : ℕ) → (get_or inputs k nothing_left).row ≡ None
@@ -58,6 +64,13 @@ module _ {R : Type 0} (remaining : R → Option (List ℕ)) (header : List ℕ) 
   taken-row (r ∷ rs) [] all k = absurd all
   taken-row (r ∷ rs) (i ∷ is) all zero = all.0.1
   taken-row (r ∷ rs) (i ∷ is) all (suc k) = taken-row rs is all.1 k
+
+  pub taken-lines : (readers : List R) (inputs : List InputView) → AllZip (HasTaken remaining header) readers inputs → (k : ℕ) → (get_or inputs k nothing_left).lines ≡ 1
+  taken-lines [] [] all k = refl
+  taken-lines [] (i ∷ is) all k = absurd all
+  taken-lines (r ∷ rs) [] all k = absurd all
+  taken-lines (r ∷ rs) (i ∷ is) all zero = all.0.2
+  taken-lines (r ∷ rs) (i ∷ is) all (suc k) = taken-lines rs is all.1 k
 
   pub taken-header : (readers : List R) (inputs : List InputView) → AllZip (HasTaken remaining header) readers inputs → (k : ℕ) → Consumes (get_or (map remaining readers) k None) (get_or (map (λ (i : InputView). i.left) inputs) k None) header
   taken-header [] [] all k = tt
@@ -74,6 +87,14 @@ pub lefts-at : (inputs : List InputView) (k : ℕ) → Consumes (get_or (map (λ
 lefts-at [] k = tt
 lefts-at (i ∷ is) zero = Consumes-same i.left
 lefts-at (i ∷ is) (suc k) = lefts-at is k
+
+-- inputs that took the header alone
+pub taken-AreFresh : {R : Type 0} (remaining : R → Option (List ℕ)) (header : List ℕ) (readers : List R) (inputs : List InputView) → AllZip (HasTaken remaining header) readers inputs → AreFresh (map (λ (i : InputView). i.left) inputs) inputs
+taken-AreFresh remaining header readers inputs taken = record {
+  left = lefts-at inputs;
+  row = taken-row remaining header readers inputs taken;
+  lines = taken-lines remaining header readers inputs taken;
+}
 
 -- what an input held that has ended
 text-of_ended : (s : Layout) (text start : Option (List ℕ)) (input : InputView) (rows : List Row) → Consumes text start (line (header_fields s)) → Gave start input rows → IsEnded start input → input.row ≡ None → IsTextOf s text rows
@@ -93,7 +114,7 @@ pub IsMergeOf-ends : {R : Type 0} (remaining : R → Option (List ℕ)) (given w
 IsMergeOf-ends remaining given wanted readers inputs old new taken merges =
     let header = line (header_fields given) in
     let starts = map (λ (i : InputView). i.left) inputs in
-    let m = merges starts (lefts-at inputs) (taken-row remaining header readers inputs taken) in
+    let m = merges starts (taken-AreFresh remaining header readers inputs taken) in
     let merging = m.3 in
     record {
       cubes = merging.cubes;
@@ -121,3 +142,11 @@ IsEnded-unused start us inputs k used unused none = elim (cases_lt k (length inp
   nothing : (o : Option (List ℕ)) → IfSome o (λ _. IsAtEnd None)
   nothing None = tt
   nothing (Some x) = tt
+
+-- where inputs that took the header alone took their first lines, nothing is merged yet
+pub IsMerging-begun : (given wanted : List Agg) (starts : List (Option (List ℕ))) (olds news : List InputView) (us : List Bool)
+    → ((k : ℕ) → k < length olds → get_or us k false ≡ true) → AreFresh starts olds → length news ≡ length olds → AllMove us olds news → IsMerging given wanted starts news []
+IsMerging-begun given wanted starts olds news us used fresh same moved =
+    IsMerging-start given wanted starts olds news us
+    (λ k. Gave-none (get_or starts k None) (get_or olds k nothing_left) (fresh.left k) (fresh.row k)) fresh.row fresh.lines
+    (λ k unused. IsEnded-unused (get_or starts k None) us olds k used unused) same moved

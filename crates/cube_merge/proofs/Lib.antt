@@ -3,5 +3,7 @@ mod GatherLaws
 mod MergedLaws
 mod StepLaws
 mod ReadLaws
+mod LineLaws
 mod LeastLaws
 mod CubesLaws
+mod FaultLaws

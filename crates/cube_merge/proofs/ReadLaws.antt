@@ -1,5 +1,6 @@
 -- What is left of a text that was at its end, and how lines follow one another.
-use Rattle.std.proofs.Common.{◌≡◌, ◌∷◌, [], ℕ, List, Option, Some, None, length, refl, sym, ap, ◌∙◌, arith, length-append, IfSome}
+use Rattle.std.proofs.Common.{◌≡◌, ◌<◌, ◌∷◌, [], ℕ, List, Option, Some, None, length, refl, sym, ap, ◌∙◌, arith, length-append, IfSome}
+use Rattle.std.specs.Prelude.{◌≢◌}
 use Rattle.std.specs.Io.KnownBytes.{Consumes, IsAtEnd}
 
 none-of_length : (xs : List ℕ) → length xs ≡ 0 → xs ≡ []
@@ -17,3 +18,9 @@ pub IsAtEnd-first : (a b c : Option (List ℕ)) (bs cs : List ℕ) → Consumes 
 IsAtEnd-first None b c bs cs p q end = tt
 IsAtEnd-first (Some x) None c bs cs p q end = absurd p
 IsAtEnd-first (Some x) (Some y) c bs cs p q end = IsAtEnd-Consumes (Some y) c cs q end
+
+-- what bytes were taken of had some
+pub more-taken : (a b : Option (List ℕ)) (bs : List ℕ) → Consumes a b bs → 0 < length bs → IfSome a (λ left. left ≢ [])
+more-taken None b bs taken some = tt
+more-taken (Some x) None bs taken some = absurd taken
+more-taken (Some x) (Some y) bs taken some = λ none. omega (arith, some, length-append bs y, ap length (sym taken ∙ none))

@@ -1,5 +1,5 @@
 -- How a merge goes on by one row.
-use Rattle.std.proofs.Common.{◌≡◌, ◌++◌, ◌<◌, ◌⊎◌, ◌∷◌, [], ℕ, zero, suc, Bool, true, false, List, Option, Some, None, Contains, map, length, get_or, refl, sym, ap, ◌∙◌, subst, arith, inl, inr, flat_map, append_assoc, option_to_list, IsPermutation}
+use Rattle.std.proofs.Common.{◌≡◌, ◌++◌, ◌+◌, ◌<◌, ◌⊎◌, ◌∷◌, [], ℕ, zero, suc, Bool, true, false, List, Option, Some, None, Contains, map, length, get_or, refl, sym, ap, ◌∙◌, subst, arith, length-append, inl, inr, flat_map, append_assoc, option_to_list, IsPermutation}
 use Rattle.std.specs.declared.cmp.Ordering.TheVariants.{Less}
 use Rattle.std.specs.Prelude.{IfSome}
 use Rattle.std.specs.List.{AllByRecursion, AllZip}
@@ -19,13 +19,13 @@ use Rattle.cube_core.specs.declared.key.Key.{Key}
 use Rattle.cube_core.specs.declared.key.Row.{Row}
 use Rattle.cube_core.proofs.KeyOrderLaws.{key_cmp-IsTotalOrder}
 use Rattle.cube_core.proofs.ListLaws.{Contains-nil, Contains-cases, Contains-head, AllByRecursion-Contains}
-use Rattle.cube_merge.specs.Merging.{InputView, IsAbove, Advances, Moves, AllMove, IsUse, AreUses, used_row, used_of_each, used_rows, Gave, IsEnded, IsBelow, AreInOrder, all_rows, nothing_left, IsMerging}
+use Rattle.cube_merge.specs.Merging.{InputView, IsAbove, Advances, Moves, AllMove, IsUse, AreUses, used_row, used_of_each, used_rows, Gave, IsCounted, IsEnded, IsBelow, AreInOrder, all_rows, nothing_left, IsMerging}
 use Rattle.cube_merge.proofs.MergedLaws.{AreMerged-push, sorted-push}
 
 -- one input that took a line, or stays
 Advances-line : (old new : InputView) → Advances old new → Consumes old.left new.left (flat_map row_line (option_to_list new.row))
 Advances-line old new moved = by_row new.row moved where
-  by_row : (row : Option Row) → Advances old (record { left = new.left; row = row }) → Consumes old.left new.left (flat_map row_line (option_to_list row))
+  by_row : (row : Option Row) → Advances old (record { left = new.left; row = row; lines = new.lines }) → Consumes old.left new.left (flat_map row_line (option_to_list row))
   by_row None m = m.0
   by_row (Some row) m = subst (Consumes old.left new.left) (sym (append-nil (row_line row))) m.0
 
@@ -63,7 +63,7 @@ AreInOrder-Moves true old new rows first ordered moved = by_row new.row moved wh
         ]
       ]
 
-  by_row : (row : Option Row) → Advances old (record { left = new.left; row = row }) → IsStrictlySortedBy key_cmp (map key_of ((rows ++ option_to_list old.row) ++ option_to_list row))
+  by_row : (row : Option Row) → Advances old (record { left = new.left; row = row; lines = new.lines }) → IsStrictlySortedBy key_cmp (map key_of ((rows ++ option_to_list old.row) ++ option_to_list row))
   by_row None m = subst (λ rs. IsStrictlySortedBy key_cmp (map key_of rs)) (sym (append-nil (rows ++ option_to_list old.row))) ordered
   by_row (Some r) m =
       subst (IsStrictlySortedBy key_cmp) (sym (map-append key_of (rows ++ option_to_list old.row) (r ∷ [])))
@@ -75,6 +75,31 @@ used-first key true old new rows is_use ordered moved =
     AreInOrder-Moves true old new rows (λ none. let clash : Some is_use.0 ≡ None = sym is_use.1 ∙ none in absurd (cc)) ordered moved
 used-first key false old new rows is_use ordered same =
     subst (λ (input : InputView). AreInOrder input (rows ++ [])) (sym same) (subst (λ rs. AreInOrder old rs) (sym (append-nil rows)) ordered)
+
+-- an input without a row has nothing to count
+none-counted : (input : InputView) (rows : List Row) → input.row ≡ None → IsCounted input rows
+none-counted input rows none = subst (λ o. IfSome o (λ (_ : Row). input.lines ≡ length rows + 2)) (sym none) tt
+
+-- the row of an input is counted behind the rows that it gave
+counted-Moves : (key : Key) (used : Bool) (old new : InputView) (rows : List Row) → IsUse key used old → IsCounted old rows → Moves used old new → IsCounted new (rows ++ used_row used old)
+counted-Moves key false old new rows is_use counted same =
+    subst (λ (input : InputView). IsCounted input (rows ++ [])) (sym same) (subst (λ rs. IsCounted old rs) (sym (append-nil rows)) counted)
+counted-Moves key true old new rows is_use counted moved = by_row new.row moved where
+  by_row : (row : Option Row) → Advances old (record { left = new.left; row = row; lines = new.lines }) → IfSome row (λ _. new.lines ≡ length (rows ++ option_to_list old.row) + 2)
+  by_row None m = tt
+  by_row (Some r) m =
+      let before : old.lines ≡ length rows + 2 = subst (λ o. IfSome o (λ (_ : Row). old.lines ≡ length rows + 2)) is_use.1 counted in
+      let long : length (rows ++ option_to_list old.row) ≡ length rows + length (is_use.0 ∷ []) = ap (λ o. length (rows ++ option_to_list o)) is_use.1 ∙ length-append rows (is_use.0 ∷ []) in
+      let more : new.lines ≡ old.lines + 1 = m.2 in
+      omega (arith, more, before, long)
+
+-- the first row of an input is that of its second line
+counted-first : (used : Bool) (old new : InputView) → old.row ≡ None → old.lines ≡ 1 → Moves used old new → IsCounted new []
+counted-first false old new none one same = subst (λ (input : InputView). IsCounted input []) (sym same) (none-counted old [] none)
+counted-first true old new none one moved = by_row new.row moved where
+  by_row : (row : Option Row) → Advances old (record { left = new.left; row = row; lines = new.lines }) → IfSome row (λ _. new.lines ≡ 2)
+  by_row None m = tt
+  by_row (Some r) m = let more : new.lines ≡ old.lines + 1 = m.2 in omega (arith, more, one)
 
 -- lists joined each with the one at its place
 join_each : List (List Row) → List (List Row) → List (List Row)
@@ -172,7 +197,7 @@ below-Moves key low false old new under is_use same = subst (IsBelow low) (sym s
     | inr is ↦ ap (λ k. key_cmp k r.key) is ∙ h
   ]
 below-Moves key low true old new under is_use moved = by_row new.row moved where
-  by_row : (row : Option Row) → Advances old (record { left = new.left; row = row }) → IfSome row (λ (r : Row). key_cmp low r.key ≡ Less)
+  by_row : (row : Option Row) → Advances old (record { left = new.left; row = row; lines = new.lines }) → IfSome row (λ (r : Row). key_cmp low r.key ≡ Less)
   by_row None m = tt
   by_row (Some r) m =
       let before = is_use.0 in
@@ -191,7 +216,7 @@ ended-Moves : (start : Option (List ℕ)) (rows : List Row) (u : Bool) (old new 
 ended-Moves start rows false old new gave ended same = subst (IsEnded start) (sym same) (ended refl)
 ended-Moves start rows true old new gave ended moved =
     by_row new.row moved where
-      by_row : (row : Option Row) → Advances old (record { left = new.left; row = row }) → row ≡ None → IfSome start (λ _. IsAtEnd new.left)
+      by_row : (row : Option Row) → Advances old (record { left = new.left; row = row; lines = new.lines }) → row ≡ None → IfSome start (λ _. IsAtEnd new.left)
       by_row None m e = told start old.left _ (IsAtEnd new.left) gave m.1
       by_row (Some r) m e = absurd (cc)
 
@@ -214,6 +239,9 @@ IsMerging-step given wanted starts olds news rows us row m same same_news uses s
       ordered = λ k. subst (λ rs. AreInOrder (get_or news k nothing_left) rs)
           (sym (join_each-at m.cubes gains k wide ∙ ap (λ g. get_or m.cubes k [] ++ g) (used_of_each-at us olds k same)))
           (used-first row.key (get_or us k false) (get_or olds k nothing_left) (get_or news k nothing_left) (get_or m.cubes k []) (uses k) (m.ordered k) (moved k));
+      counted = λ k. subst (λ rs. IsCounted (get_or news k nothing_left) rs)
+          (sym (join_each-at m.cubes gains k wide ∙ ap (λ g. get_or m.cubes k [] ++ g) (used_of_each-at us olds k same)))
+          (counted-Moves row.key (get_or us k false) (get_or olds k nothing_left) (get_or news k nothing_left) (get_or m.cubes k []) (uses k) (m.counted k) (moved k));
       ended = λ k. ended-Moves (get_or starts k None) (get_or m.cubes k []) (get_or us k false) (get_or olds k nothing_left) (get_or news k nothing_left) (m.gave k) (λ _. m.ended k) (moved k);
       drawn = IsPermutation-trans _ _ _ (join_each-all_rows m.cubes gains wide) (IsPermutation-append_left (used_rows us olds) _ _ m.drawn);
       merged = AreMerged-push given wanted m.parts rows (used_rows us olds) row m.merged under (used_rows-key row.key us olds same uses) some answers;
@@ -258,9 +286,9 @@ unfolding IsStrictlySortedBy
 AreMerged-none given wanted = record { cells = λ key. (λ h. h, λ h. h); ordered = tt; answers = tt }
 
 pub IsMerging-start : (given wanted : List Agg) (starts : List (Option (List ℕ))) (olds news : List InputView) (us : List Bool)
-    → ((k : ℕ) → Gave (get_or starts k None) (get_or olds k nothing_left) []) → ((k : ℕ) → (get_or olds k nothing_left).row ≡ None)
+    → ((k : ℕ) → Gave (get_or starts k None) (get_or olds k nothing_left) []) → ((k : ℕ) → (get_or olds k nothing_left).row ≡ None) → ((k : ℕ) → (get_or olds k nothing_left).lines ≡ 1)
     → ((k : ℕ) → get_or us k false ≡ false → IsEnded (get_or starts k None) (get_or olds k nothing_left)) → length news ≡ length olds → AllMove us olds news → IsMerging given wanted starts news []
-IsMerging-start given wanted starts olds news us gave rows ended same moved = record {
+IsMerging-start given wanted starts olds news us gave rows ones ended same moved = record {
   cubes = replicate_empty news;
   parts = [];
   width = replicate_empty-length news;
@@ -268,6 +296,8 @@ IsMerging-start given wanted starts olds news us gave rows ended same moved = re
       (Gave-Moves (get_or starts k None) (get_or us k false) (get_or olds k nothing_left) (get_or news k nothing_left) [] (gave k) (moved k));
   ordered = λ k. subst (λ rs. AreInOrder (get_or news k nothing_left) rs) (none_used k ∙ sym (replicate_empty-at news k))
       (AreInOrder-Moves (get_or us k false) (get_or olds k nothing_left) (get_or news k nothing_left) [] (λ _. refl) (nothing-ordered (get_or olds k nothing_left) (rows k)) (moved k));
+  counted = λ k. subst (λ rs. IsCounted (get_or news k nothing_left) rs) (sym (replicate_empty-at news k))
+      (counted-first (get_or us k false) (get_or olds k nothing_left) (get_or news k nothing_left) (rows k) (ones k) (moved k));
   ended = λ k. ended-Moves (get_or starts k None) [] (get_or us k false) (get_or olds k nothing_left) (get_or news k nothing_left) (gave k) (ended k) (moved k);
   drawn = subst (λ l. IsPermutation l []) (sym (replicate_empty-rows news)) (IsPermutation-refl []);
   merged = AreMerged-none given wanted;

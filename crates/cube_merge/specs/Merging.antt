@@ -1,5 +1,5 @@
 -- How the rows of several inputs are merged, step by step (this project's choice).
-use Rattle.std.specs.Prelude.{◌≡◌, ◌<◌, ◌∷◌, [], ◌++◌, ⊤, ℕ, Bool, true, false, List, Option, Some, None, IfSome, MatchOption, option_to_list, map, get_or, length, IsPermutation, Contains}
+use Rattle.std.specs.Prelude.{◌≡◌, ◌<◌, ◌+◌, ◌∷◌, [], ◌++◌, ⊤, ℕ, Bool, true, false, List, Option, Some, None, IfSome, MatchOption, option_to_list, map, get_or, length, IsPermutation, Contains}
 use Rattle.std.specs.List.{flat_map, AllZip}
 use Rattle.std.specs.List.Sorted.{IsStrictlySortedBy}
 use Rattle.std.specs.declared.cmp.Ordering.TheVariants.{Less}
@@ -15,14 +15,15 @@ use Rattle.cube_core.specs.declared.key.Row.{Row}
 use Rattle.cube_merge.specs.Source.{IsSourceOf}
 use Rattle.cube_merge.specs.declared.source.Source.{Source}
 
--- what a contract sees of an input: the bytes that are left, where its reader tells them, and the row of the line taken last
+-- what a contract sees of an input: the bytes that are left, where its reader tells them, the row of the line taken last, and how many lines were taken
 pub record InputView : Type 0 where
   pub left : Option (List ℕ)
   pub row : Option Row
+  pub lines : ℕ
 
--- an input of nothing
+-- an input of nothing behind its header
 abbrev pub nothing_left : InputView
-nothing_left = record { left = None; row = None }
+nothing_left = record { left = None; row = None; lines = 1 }
 
 -- a row's key is above that of the row before it, where there is one
 abbrev pub IsAbove : Option Row → Row → Type 0
@@ -31,7 +32,7 @@ IsAbove (Some before) row = key_cmp before.key row.key ≡ Less
 
 -- the next line was taken, whose row is above the one before, or none is left
 abbrev pub Advances : InputView → InputView → Type 0
-Advances old new = MatchOption new.row (Consumes old.left new.left [] × IfSome old.left (λ _. IsAtEnd new.left)) (λ row. Consumes old.left new.left (row_line row) × IsAbove old.row row)
+Advances old new = MatchOption new.row (Consumes old.left new.left [] × IfSome old.left (λ _. IsAtEnd new.left)) (λ row. Consumes old.left new.left (row_line row) × IsAbove old.row row × (new.lines ≡ old.lines + 1))
 
 -- an input whose line was used took the next one, and any other stays
 abbrev pub Moves : Bool → InputView → InputView → Type 0
@@ -88,6 +89,10 @@ Gave start input rows = Consumes start input.left (flat_map row_line (rows ++ op
 abbrev pub AreInOrder : InputView → List Row → Type 0
 AreInOrder input rows = IsStrictlySortedBy key_cmp (map key_of (rows ++ option_to_list input.row))
 
+-- the row of an input is that of the line taken last, behind the header and the lines of the rows that it gave
+abbrev pub IsCounted : InputView → List Row → Type 0
+IsCounted input rows = IfSome input.row (λ _. input.lines ≡ length rows + 2)
+
 -- of an input without a row no byte is left, where it told what it had
 abbrev pub IsEnded : Option (List ℕ) → InputView → Type 0
 IsEnded start input = input.row ≡ None → IfSome start (λ _. IsAtEnd input.left)
@@ -103,6 +108,7 @@ pub record IsMerging (given wanted : List Agg) (starts : List (Option (List ℕ)
   pub width : length cubes ≡ length inputs
   pub gave : (k : ℕ) → Gave (get_or starts k None) (get_or inputs k nothing_left) (get_or cubes k [])
   pub ordered : (k : ℕ) → AreInOrder (get_or inputs k nothing_left) (get_or cubes k [])
+  pub counted : (k : ℕ) → IsCounted (get_or inputs k nothing_left) (get_or cubes k [])
   pub ended : (k : ℕ) → IsEnded (get_or starts k None) (get_or inputs k nothing_left)
   pub drawn : IsPermutation (all_rows cubes) parts
   pub merged : AreMerged given wanted parts rows
@@ -129,9 +135,9 @@ PutsNext given sources olds news old new true =
     (wanted : List Agg) → AllZip (IsSourceOf given) wanted sources → (row : Row) × (new ≡ old ++ row_line row) × GoesOnBy given wanted olds news row
 PutsNext given sources olds news old new false = (new ≡ old) × (news ≡ olds) × ((k : ℕ) → (get_or olds k nothing_left).row ≡ None)
 
--- of what a reader had an input took the header, and has no row
+-- of what a reader had an input took the header alone, and has no row
 abbrev pub HasTaken : {R : Type 0} → (R → Option (List ℕ)) → List ℕ → R → InputView → Type 0
-HasTaken remaining header reader input = Consumes (remaining reader) input.left header × (input.row ≡ None)
+HasTaken remaining header reader input = Consumes (remaining reader) input.left header × (input.row ≡ None) × (input.lines ≡ 1)
 
 -- what was written is the cube of the rows that merges of these inputs go on by, to the end of each
 abbrev pub MergesRest : Layout → Layout → List InputView → Option (List ℕ) → Option (List ℕ) → Type 0
@@ -140,10 +146,16 @@ MergesRest given wanted inputs old new =
     → (ends : List InputView) × (rows : List Row) × (length ends ≡ length inputs) × IsMerging given.aggregates wanted.aggregates starts ends rows
     × ((k : ℕ) → (get_or ends k nothing_left).row ≡ None) × Appends old new (text_of_rows wanted rows)
 
+-- inputs that began with these bytes took the header alone
+pub record AreFresh (starts : List (Option (List ℕ))) (inputs : List InputView) : Type 0 where
+  pub left : (k : ℕ) → Consumes (get_or starts k None) (get_or inputs k nothing_left).left []
+  pub row : (k : ℕ) → (get_or inputs k nothing_left).row ≡ None
+  pub lines : (k : ℕ) → (get_or inputs k nothing_left).lines ≡ 1
+
 -- what was written is the cube of all rows of inputs that had none taken yet
 abbrev pub MergesInputs : Layout → Layout → List InputView → Option (List ℕ) → Option (List ℕ) → Type 0
 MergesInputs given wanted inputs old new =
-    (starts : List (Option (List ℕ))) → ((k : ℕ) → Consumes (get_or starts k None) (get_or inputs k nothing_left).left []) → ((k : ℕ) → (get_or inputs k nothing_left).row ≡ None)
+    (starts : List (Option (List ℕ))) → AreFresh starts inputs
     → (ends : List InputView) × (rows : List Row) × (length ends ≡ length inputs) × IsMerging given.aggregates wanted.aggregates starts ends rows
     × ((k : ℕ) → (get_or ends k nothing_left).row ≡ None) × Appends old new (text_of_rows wanted rows)
 

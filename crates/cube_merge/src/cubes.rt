@@ -1,8 +1,9 @@
 //! The merge of printed cubes from readers into a writer.
-ghost use Rattle.std.specs.Prelude.{◌≡◌, ◌<◌, ◌++◌, [], ℕ, List, Some, true, false, IfOk, OnOk, length, map, get_or};
+ghost use Rattle.std.specs.Prelude.{◌≡◌, ◌<◌, ◌≤◌, ◌+◌, ◌++◌, [], ℕ, List, Some, true, false, IfErr, IfOk, IfSome, OnOk, length, map, get_or};
 ghost use Rattle.std.specs.List.{AllZip};
 ghost use Rattle.std.specs.Io.KnownBytes.{Appends};
 ghost use Rattle.cube_merge.specs.Source.{IsSourceOf};
+ghost use Rattle.cube_merge.specs.Faults.{FailsToMerge, FailsToOpen, FailsToOpenAll, FailsToSend, InputsFail, RestFails, StepFails};
 ghost use Rattle.cube_merge.specs.Merging.{HasTaken, IsLeastSoFar, IsMergeOf, MergesInputs, MergesRest, PutsNext, PutsRow};
 
 use crate::fault::{InputFault, MergeFault};
@@ -11,7 +12,8 @@ use crate::read::Scratch;
 use crate::source::{Source, sources_of};
 use crate::step::{fault_of, join_rows, least_input, move_inputs, put_answers};
 use crate::text::{push_header, push_line};
-use cube_core::{Answer, Schema};
+use cube_core::{Answer, Row, Schema};
+use cube_text::write_whole;
 use std::alloc::{AllocError, Global};
 use std::io::{Read, Write};
 
@@ -32,7 +34,12 @@ struct Desk {
 /// their facts under the wanted one, which has the same dimensions and grouping sets.
 ///
 /// Each aggregate of the wanted schema is one of the given schema's, or a mean whose sum and count are; else the fault is
-/// `Aggregates`. One line of each input is in memory. What was written before a fault was met stays written.
+/// `Aggregates`. One line of each input is in memory.
+///
+/// What was written before a fault was met stays written: it is the first bytes of the text of the rows that were merged
+/// so far, as many as the fault says where the writer failed. The fault that is told is the one met first, where each step
+/// takes the next line of each input whose line was used, inputs ascending. Each piece of the text that is written is
+/// flushed.
 pub fn merge<R: Read + Drop, W: Write>(
     alloc: Global,
     given: &Schema,
@@ -40,8 +47,10 @@ pub fn merge<R: Read + Drop, W: Write>(
     readers: Vec<R>,
     w: &mut W,
 ) -> Result<(), MergeFault>
-    ensures { OnOk result (IsMergeOf given.now wanted.now (map R.remaining readers.items)
+    ensures ok { OnOk result (IsMergeOf given.now wanted.now (map R.remaining readers.items)
         (W.contents w.old) (W.contents w.new)) }
+    ensures err { IfErr result (λ fault. FailsToMerge given.now wanted.now (map R.remaining readers.items)
+        fault (W.contents w.old) (W.contents w.new)) }
 {
     let Some(sources) = sources_of(alloc, given.aggregates(), wanted.aggregates())? else {
         return Err(MergeFault::Aggregates);
@@ -69,8 +78,10 @@ fn merge_inputs<R: Read, W: Write>(
     w: &mut W,
 ) -> Result<(), MergeFault>
     requires { AllZip (IsSourceOf given.now.aggregates) wanted.now.aggregates sources.now }
-    ensures { OnOk result (MergesInputs given.now wanted.now inputs.old
+    ensures ok { OnOk result (MergesInputs given.now wanted.now inputs.old
         (W.contents w.old) (W.contents w.new)) }
+    ensures err { IfErr result (λ fault. InputsFail given.now wanted.now inputs.old
+        fault (W.contents w.old) (W.contents w.new)) }
 {
     let used = all_used(alloc, inputs.len())?;
     let mut scratch = Scratch::new(alloc);
@@ -83,8 +94,9 @@ fn open_inputs<R: Read + Drop>(
     header: &[u8],
     readers: Vec<R>,
 ) -> Result<Vec<Input<R>>, MergeFault>
-    ensures { IfOk result (λ inputs.
+    ensures ok { IfOk result (λ inputs.
         AllZip (HasTaken R.remaining header.now) readers.items inputs.items) }
+    ensures err { IfErr result (FailsToOpenAll header.now (map R.remaining readers.items)) }
 {
     let mut inputs = Vec::with_capacity(alloc, readers.len())?;
     for reader in readers {
@@ -101,11 +113,11 @@ fn open_input<R: Read + Drop>(
     reader: R,
     place: usize,
 ) -> Result<Input<R>, MergeFault>
-    ensures { IfOk result (HasTaken R.remaining header.now reader) }
+    ensures ok { IfOk result (HasTaken R.remaining header.now reader) }
+    ensures err { IfErr result (FailsToOpen header.now place (R.remaining reader)) }
 {
-    let mut input = match Input::new(alloc, reader) {
-        Ok(input) => input,
-        Err(fault) => return Err(fault_of(fault, place, 0)),
+    let Ok(mut input) = Input::new(alloc, reader) else {
+        return Err(MergeFault::Memory);
     };
     match input.take_header(header) {
         Ok(()) => Ok(input),
@@ -134,8 +146,10 @@ fn merge_rows<R: Read, W: Write>(
     w: &mut W,
 ) -> Result<(), MergeFault>
     requires { AllZip (IsSourceOf given.now.aggregates) wanted.now.aggregates sources.now }
-    ensures { OnOk result (MergesRest given.now wanted.now inputs.old
+    ensures ok { OnOk result (MergesRest given.now wanted.now inputs.old
         (W.contents w.old) (W.contents w.new)) }
+    ensures err { IfErr result (λ fault. RestFails given.now wanted.now inputs.old
+        fault (W.contents w.old) (W.contents w.new)) }
 {
     let mut desk = Desk {
         used: Vec::new(alloc),
@@ -145,13 +159,18 @@ fn merge_rows<R: Read, W: Write>(
         scratch: Scratch::new(alloc),
     };
     push_header(alloc, &mut desk.text, wanted)?;
+    let mut sent = 0;
     for _ in 0..u64::MAX {
         if !put_next(alloc, given, sources, inputs, &mut desk)? {
-            return send(w, desk.text.as_slice());
+            send(w, desk.text.as_slice(), sent)?;
+            return Ok(());
         }
-        send_full(w, &mut desk.text)?;
+        match send_full(w, &mut desk.text, sent) {
+            Ok(total) => sent = total,
+            Err(fault) => return Err(fault),
+        }
     }
-    Err(MergeFault::Write)
+    Err(MergeFault::Memory)
 }
 
 // Puts the line of the merged row with the next key at the end of the text, and moves on the inputs that it was made of;
@@ -163,8 +182,9 @@ fn put_next<R: Read>(
     inputs: &mut [Input<R>],
     desk: &mut Desk,
 ) -> Result<bool, MergeFault>
-    ensures { IfOk result (PutsNext given.now.aggregates sources.now inputs.old inputs.new
+    ensures ok { IfOk result (PutsNext given.now.aggregates sources.now inputs.old inputs.new
         desk.old.text.items desk.new.text.items) }
+    ensures err { IfErr result (StepFails given.now inputs.old) }
 {
     let Some(place) = least_input(inputs) else {
         return Ok(false);
@@ -189,16 +209,13 @@ fn put_row<R: Read>(
     desk: &mut Desk,
 ) -> Result<(), MergeFault>
     requires { IsLeastSoFar inputs.now (Some place) (length inputs.now) }
-    ensures { OnOk result (PutsRow given.now.aggregates sources.now inputs.now desk.new.used.items
+    ensures ok { OnOk result (PutsRow given.now.aggregates sources.now inputs.now desk.new.used.items
         desk.old.text.items desk.new.text.items) }
+    ensures err { IfErr result (StepFails given.now inputs.now) }
 {
-    let Some(row) = inputs[place].row() else {
+    let Some(row) = row_to_merge(&inputs[place]) else {
         return Err(fault_of(InputFault::Line, place, inputs[place].lines()));
     };
-    // No schema has rows without a coordinate.
-    if row.key.coords.is_empty() {
-        return Err(fault_of(InputFault::Line, place, inputs[place].lines()));
-    }
     join_rows(
         given.aggregates(),
         inputs,
@@ -215,24 +232,46 @@ fn put_row<R: Read>(
     Ok(())
 }
 
-// Writes a long text, and leaves a short one.
-fn send_full<W: Write>(w: &mut W, text: &mut Vec<u8>) -> Result<(), MergeFault>
-    ensures { OnOk result ((sent : List ℕ) × (text.old.items ≡ sent ++ text.new.items)
-        × Appends (W.contents w.old) (W.contents w.new) sent) }
+// The row of an input, where it has a coordinate, as the rows of every schema have.
+fn row_to_merge<R: Read>(input: &Input<R>) -> Option<&Row>
+    ensures { IfSome result (λ row. (input.now.row ≡ Some row.now) × (1 ≤ length row.now.key.coords)) }
 {
-    if text.len() < CHUNK {
-        return Ok(());
+    let row = input.row()?;
+    if row.key.coords.is_empty() {
+        return None;
     }
-    send(w, text.as_slice())?;
-    text.clear();
-    Ok(())
+    Some(row)
 }
 
-fn send<W: Write>(w: &mut W, bytes: &[u8]) -> Result<(), MergeFault>
-    ensures { OnOk result (Appends (W.contents w.old) (W.contents w.new) bytes.now) }
+// Writes a long text, and leaves a short one, behind so many bytes that were sent before; gives how many are sent then.
+fn send_full<W: Write>(w: &mut W, text: &mut Vec<u8>, sent: u64) -> Result<u64, MergeFault>
+    ensures ok { IfOk result (λ total. (more : List ℕ) × (text.old.items ≡ more ++ text.new.items)
+        × (total ≡ sent + length more) × Appends (W.contents w.old) (W.contents w.new) more) }
+    ensures err { IfErr result (λ fault. FailsToSend text.old.items sent fault
+        (W.contents w.old) (W.contents w.new)) }
 {
-    match w.write_all(bytes) {
-        Ok(()) => Ok(()),
-        Err(_) => Err(MergeFault::Write),
+    if text.len() < CHUNK {
+        return Ok(sent);
+    }
+    let total = send(w, text.as_slice(), sent)?;
+    text.clear();
+    Ok(total)
+}
+
+// Writes bytes behind so many that were sent before, and gives how many are sent then.
+fn send<W: Write>(w: &mut W, bytes: &[u8], sent: u64) -> Result<u64, MergeFault>
+    ensures ok { IfOk result (λ total. (total ≡ sent + length bytes.now)
+        × Appends (W.contents w.old) (W.contents w.new) bytes.now) }
+    ensures err { IfErr result (λ fault. FailsToSend bytes.now sent fault
+        (W.contents w.old) (W.contents w.new)) }
+{
+    let Some(total) = sent.checked_add(bytes.len() as u64) else {
+        return Err(MergeFault::Memory);
+    };
+    match write_whole(w, bytes) {
+        Ok(()) => Ok(total),
+        Err(fault) => Err(MergeFault::Write {
+            sent: sent + fault.sent as u64,
+        }),
     }
 }

@@ -53,8 +53,10 @@ pub enum MergeFault {
         input: usize,
         record: u64,
     },
-    /// The writer failed.
-    Write,
+    /// The writer failed after the first `sent` bytes of the text had gone out.
+    Write {
+        sent: u64,
+    },
 }
 
 impl From<AllocError> for MergeFault {

@@ -1,7 +1,10 @@
 //! An input of a merge: a printed cube that is read line by line.
-ghost use Rattle.std.specs.Prelude.{◌≡◌, [], IfOk, IfSome, OnOk, true, None, Some, option_map};
+ghost use Rattle.std.specs.Prelude.{◌≡◌, [], Contains, IfErr, IfOk, IfSome, OnOk, true, false, None, Some, option_map};
+ghost use Rattle.std.specs.List.{list_all};
 ghost use Rattle.std.specs.Io.KnownBytes.{Consumes};
 ghost use Rattle.cube_core.specs.Text.{line, header_fields};
+ghost use Rattle.cube_core.specs.GroupingSet.{is_all_coord};
+ghost use Rattle.cube_merge.specs.Faults.{FailsToMove, FailsToTakeHeader};
 ghost use Rattle.cube_merge.specs.Merging.{Advances, IsAbove, Moves};
 
 use crate::fault::InputFault;
@@ -32,7 +35,7 @@ impl<R: Read> Model for Input<R> {
 
     ghost Value = { InputView };
 
-    ghost view = { λ i. record { left = reader_remaining R.remaining i.reader; row = i.row } };
+    ghost view = { λ i. record { left = reader_remaining R.remaining i.reader; row = i.row; lines = i.lines } };
 }
 
 impl<R: Read + Drop> Input<R> {
@@ -40,6 +43,7 @@ impl<R: Read + Drop> Input<R> {
     pub(crate) fn new(alloc: Global, reader: R) -> Result<Input<R>, InputFault>
         ensures left { IfOk result (λ input. input.left ≡ R.remaining reader) }
         ensures row { IfOk result (λ input. input.row ≡ None) }
+        ensures lines { IfOk result (λ input. input.lines ≡ 0) }
     {
         let Ok(reader) = BufReader::with_capacity(alloc, 65536, reader) else {
             return Err(InputFault::Memory);
@@ -63,7 +67,9 @@ impl<R: Read> Input<R> {
     }
 
     /// How many lines were taken, the header among them.
-    pub(crate) fn lines(&self) -> u64 {
+    pub(crate) fn lines(&self) -> u64
+        ensures { result ≡ self.now.lines }
+    {
         self.lines
     }
 
@@ -71,6 +77,8 @@ impl<R: Read> Input<R> {
     pub(crate) fn take_header(&mut self, header: &[u8]) -> Result<(), InputFault>
         ensures line { OnOk result (Consumes self.old.left self.new.left header.now) }
         ensures row { self.new.row ≡ self.old.row }
+        ensures lines { self.new.lines ≡ 1 }
+        ensures err { IfErr result (FailsToTakeHeader header.now self.old.left) }
     {
         self.lines = 1;
         read_line(&mut self.reader, &mut self.line)?;
@@ -89,7 +97,9 @@ impl<R: Read> Input<R> {
         is_used: bool,
         scratch: &mut Scratch,
     ) -> Result<(), InputFault>
-        ensures { OnOk result (Moves is_used self.old self.new) }
+        ensures ok { OnOk result (Moves is_used self.old self.new) }
+        ensures err { IfErr result (λ fault. (is_used ≡ true)
+            × FailsToMove schema.now self.old fault self.new.lines) }
     {
         if is_used {
             return self.advance(alloc, schema, scratch);
@@ -103,9 +113,13 @@ impl<R: Read> Input<R> {
         schema: &Schema,
         scratch: &mut Scratch,
     ) -> Result<(), InputFault>
-        ensures { OnOk result (Advances self.old self.new) }
+        ensures ok { OnOk result (Advances self.old self.new) }
+        ensures err { IfErr result (λ fault. FailsToMove schema.now self.old fault self.new.lines) }
     {
-        self.lines = self.lines.saturating_add(1);
+        let Some(lines) = self.lines.checked_add(1) else {
+            return Err(InputFault::Memory);
+        };
+        self.lines = lines;
         read_line(&mut self.reader, &mut self.line)?;
         if self.line.is_empty() {
             if !is_complete(schema, &self.row) {
@@ -129,8 +143,11 @@ impl<R: Read> Input<R> {
 }
 
 // Whether a row may be the last of a cube: it is the grand total, where that is kept.
-fn is_complete(schema: &Schema, row: &Option<Row>) -> bool {
-    let keeps_total = schema.grouping_sets().iter().any(|set| *set == 0);
+fn is_complete(schema: &Schema, row: &Option<Row>) -> bool
+    ensures { result ≡ false → Contains schema.now.grouping_sets 0
+        × IfSome row.now (λ row. list_all is_all_coord row.key.coords ≡ false) }
+{
+    let keeps_total = schema.grouping_sets().contains(&0);
     match row {
         Some(row) => !keeps_total || is_total(row),
         None => !keeps_total,
@@ -138,7 +155,8 @@ fn is_complete(schema: &Schema, row: &Option<Row>) -> bool {
 }
 
 fn is_above(before: &Option<Row>, row: &Row) -> bool
-    ensures { result ≡ true → IsAbove before.now row.now }
+    ensures above { result ≡ true → IsAbove before.now row.now }
+    ensures below { result ≡ false → IsAbove before.now row.now → ⊥ }
 {
     match before {
         Some(before) => matches!(before.key.compare(&row.key), Ordering::Less),

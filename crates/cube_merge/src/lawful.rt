@@ -1,5 +1,7 @@
 //! What a row tells of itself: whether a printed cube can have it.
 ghost use Rattle.std.specs.Prelude.{◌≡◌, length, true};
+ghost use Rattle.std.specs.List.{list_all};
+ghost use Rattle.cube_core.specs.GroupingSet.{is_all_coord};
 ghost use Rattle.cube_core.specs.Layout.{keeps};
 ghost use Rattle.cube_merge.specs.Lawful.{IsShapedFor};
 
@@ -31,12 +33,20 @@ fn is_shaped(schema: &Schema, row: &Row) -> bool
 }
 
 /// Whether the key of a row is ALL in each dimension.
-pub(crate) fn is_total(row: &Row) -> bool {
+pub(crate) fn is_total(row: &Row) -> bool
+    ensures { result ≡ list_all is_all_coord row.now.key.coords }
+{
     row.key
         .coords
         .as_slice()
         .iter()
-        .all(|coord| matches!(coord, Coord::All))
+        .all(|coord| is_all_coord(coord))
+}
+
+fn is_all_coord(coord: &Coord) -> bool
+    ensures { result ≡ is_all_coord coord.now }
+{
+    matches!(coord, Coord::All)
 }
 
 // Whether an aggregate that stands twice has the same answer.

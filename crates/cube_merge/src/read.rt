@@ -1,9 +1,11 @@
 //! Lines of a printed cube, read strictly: a line is that of a row where the row's printed line is this very line.
-ghost use Rattle.std.specs.Prelude.{◌≡◌, ◌≤◌, [], length, IfOk, IfSome, OnOk, true};
+ghost use Rattle.std.specs.Prelude.{◌≡◌, ◌≤◌, [], drop, length, IfErr, IfOk, IfSome, OnOk, true};
 ghost use Rattle.std.specs.Io.KnownBytes.{Consumes, IsAtEnd};
 ghost use Rattle.std.specs.Io.Buffered.{reader_remaining};
 ghost use Rattle.cube_core.specs.Text.{row_line};
+ghost use Rattle.cube_merge.specs.Faults.{IsReadFault};
 ghost use Rattle.cube_merge.specs.Lawful.{IsShapedFor};
+ghost use Rattle.cube_merge.specs.NextLine.{IsNextLine, is_quoted_after, is_quoted_behind};
 
 use crate::fault::InputFault;
 use crate::lawful::is_lawful;
@@ -74,9 +76,11 @@ pub(crate) fn read_line<R: Read>(
 ) -> Result<(), InputFault>
     ensures taken { OnOk result (Consumes (reader_remaining R.remaining reader.old)
         (reader_remaining R.remaining reader.new) line.new.items) }
+    ensures whole { OnOk result (IsNextLine (reader_remaining R.remaining reader.old) line.new.items) }
     ensures end { OnOk result (line.new.items ≡ [] →
         IfSome (reader_remaining R.remaining reader.old) (λ _.
         IsAtEnd (reader_remaining R.remaining reader.new))) }
+    ensures err { IfErr result IsReadFault }
 {
     line.clear();
     let mut is_quoted = false;
@@ -89,9 +93,7 @@ pub(crate) fn read_line<R: Read>(
         if taken == 0 {
             return Ok(());
         }
-        if has_odd_quotes(line.as_slice(), start) {
-            is_quoted = !is_quoted;
-        }
+        is_quoted = is_quoted_after(is_quoted, line.as_slice(), start);
         if !is_quoted {
             return Ok(());
         }
@@ -99,14 +101,32 @@ pub(crate) fn read_line<R: Read>(
     Err(InputFault::Read)
 }
 
-// Whether the number of quotes from a place on is odd.
-fn has_odd_quotes(line: &[u8], from: usize) -> bool
+// Whether what follows a line is within quotes, where its bytes from a place on begin within quotes or not.
+fn is_quoted_after(is_quoted: bool, line: &[u8], from: usize) -> bool
     requires { from ≤ length line.now }
+    ensures { result ≡ is_quoted_after is_quoted (drop from line.now) }
 {
-    line[from..].iter().filter(|byte| **byte == b'"').count() % 2 == 1
+    let mut quoted = is_quoted;
+    for place in from..line.len() {
+        quoted = is_quoted_behind(quoted, line[place]);
+    }
+    quoted
 }
 
-fn read_fault(error: &io::Error) -> InputFault {
+// The same of one byte.
+fn is_quoted_behind(is_quoted: bool, byte: u8) -> bool
+    ensures { result ≡ is_quoted_behind is_quoted byte }
+{
+    if is_quoted {
+        byte != b'"'
+    } else {
+        byte == b'"'
+    }
+}
+
+fn read_fault(error: &io::Error) -> InputFault
+    ensures { IsReadFault result }
+{
     match error.kind() {
         ErrorKind::OutOfMemory => InputFault::Memory,
         _ => InputFault::Read,

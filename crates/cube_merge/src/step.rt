@@ -1,5 +1,5 @@
 //! One step of a merge: the rows with the least key make one more row.
-ghost use Rattle.std.specs.Prelude.{◌≡◌, ◌<◌, ◌≤◌, ◌+◌, ◌++◌, [], ℕ, List, IfSome, OnOk, length, get_or};
+ghost use Rattle.std.specs.Prelude.{◌≡◌, ◌<◌, ◌≤◌, ◌+◌, ◌++◌, [], ℕ, List, IfErr, IfNone, IfSome, OnOk, length, get_or};
 ghost use Rattle.std.specs.List.{AllZip};
 ghost use Rattle.std.specs.Ordering.{is_eq, is_lt};
 ghost use Rattle.cube_core.specs.Order.{key_cmp};
@@ -8,6 +8,7 @@ ghost use Rattle.cube_core.specs.Merged.{IsMerged};
 ghost use Rattle.cube_core.specs.declared.key.Row.{Row};
 ghost use Rattle.cube_merge.specs.Made.{AreMade};
 ghost use Rattle.cube_merge.specs.Source.{IsSourceOf};
+ghost use Rattle.cube_merge.specs.Faults.{FailsToJoin, FailsToMoveAll, HasRow, IsFaultAt};
 ghost use Rattle.cube_merge.specs.Merging.{AllMove, AreUses, IsLeastSoFar, IsNotBelow, IsUse, nothing_left, used_row, used_rows};
 
 use crate::fault::{InputFault, MergeFault};
@@ -78,6 +79,7 @@ pub(crate) fn join_rows<R: Read>(
     ensures uses { OnOk result (AreUses key.now used.new.items inputs.now) }
     ensures made { OnOk result
         (AreMade given.now (used_rows used.new.items inputs.now) made.new.items) }
+    ensures err { IfErr result (FailsToJoin inputs.now) }
 {
     clear_made(given, made)?;
     join_used(given, inputs, key, used, made.as_mut_slice())
@@ -97,6 +99,7 @@ fn join_used<R: Read>(
     ensures long { OnOk result (length used.new.items ≡ length inputs.now) }
     ensures uses { OnOk result (AreUses key.now used.new.items inputs.now) }
     ensures made { OnOk result (AreMade given.now (used_rows used.new.items inputs.now) made.new) }
+    ensures err { IfErr result (FailsToJoin inputs.now) }
 {
     used.clear();
     for place in 0..inputs.len() {
@@ -120,6 +123,7 @@ fn join_one<R: Read>(
     ensures uses { IfSome result (λ used. IsUse key.now used input.now) }
     ensures made { IfSome result (λ used. (rows : List Row) → AreMade given.now rows made.old →
         AreMade given.now (rows ++ used_row used input.now) made.new) }
+    ensures too_large { IfNone result (HasRow input.now) }
 {
     let Some(row) = input.row() else {
         return Some(false);
@@ -160,7 +164,8 @@ pub(crate) fn move_inputs<R: Read>(
     scratch: &mut Scratch,
 ) -> Result<(), MergeFault>
     requires { length used.now ≡ length inputs.old }
-    ensures { OnOk result (AllMove used.now inputs.old inputs.new) }
+    ensures ok { OnOk result (AllMove used.now inputs.old inputs.new) }
+    ensures err { IfErr result (FailsToMoveAll schema.now used.now inputs.old) }
 {
     for place in 0..inputs.len() {
         if let Err(fault) = inputs[place].move_on(alloc, schema, used[place], scratch) {
@@ -170,14 +175,24 @@ pub(crate) fn move_inputs<R: Read>(
     Ok(())
 }
 
-/// The fault of the input at a place, as a merge tells it.
-pub(crate) fn fault_of(fault: InputFault, place: usize, lines: u64) -> MergeFault {
+/// The fault of the input at a place, as a merge tells it, at the record of this number.
+pub(crate) fn fault_of(fault: InputFault, place: usize, number: u64) -> MergeFault
+    ensures { IsFaultAt fault place number result }
+{
+    let Some(input) = place.checked_add(1) else {
+        return MergeFault::Memory;
+    };
     match fault {
         InputFault::Memory => MergeFault::Memory,
-        _ => MergeFault::Input {
+        InputFault::Read
+        | InputFault::Header
+        | InputFault::Line
+        | InputFault::Order
+        | InputFault::Overflow
+        | InputFault::Incomplete => MergeFault::Input {
             fault,
-            input: place.saturating_add(1),
-            record: lines,
+            input,
+            record: number,
         },
     }
 }

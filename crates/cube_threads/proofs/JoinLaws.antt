@@ -1,6 +1,6 @@
 -- The rows of the parts of a cube, one part's after the other's and put in key order, are the rows of the cube.
 use Rattle.std.proofs.Common.{◌≡◌, ◌<◌, ◌≤◌, ◌+◌, ◌%◌, ◌==◌, ◌&&◌, ◌||◌, ◌↔◌, ◌⊎◌, inl, inr, ℕ, Bool, true, false, List, [], ◌∷◌, ◌++◌, length, map, get_or, refl, sym, ap, subst, ◌∙◌, arith, Contains, IsPermutation}
-use Rattle.std.specs.Prelude.{IsTrue}
+use Rattle.std.specs.Prelude.{IsTrue, Some}
 use Rattle.std.specs.Cmp.{IsEquivalence}
 use Rattle.std.specs.List.{AllByRecursion, IsDistinct}
 use Rattle.std.specs.List.Sorted.{IsSortedBy, IsStrictlySortedBy}
@@ -23,6 +23,7 @@ use Rattle.cube_core.specs.declared.key.Key.{Key}
 use Rattle.cube_core.specs.declared.key.Row.{Row}
 use Rattle.cube_core.proofs.ListLaws.{AllByRecursion-Contains, Contains-AllByRecursion, Contains-head, Contains-tail}
 use Rattle.cube_core.proofs.KeyOrderLaws.{key_cmp-exact, key_cmp-IsTotalOrder}
+use Rattle.cube_cells.specs.Rows.{IsRowOver}
 use Rattle.cube_cells.proofs.RankLaws.{Less-from_is_lt}
 use Rattle.cube_feeders.proofs.WireLaws.{lt-cases}
 
@@ -251,3 +252,35 @@ over-rows sets dimensions aggregates facts rows are = record {
   ordered = are.ordered;
   answers = are.answers;
 }
+
+-- ---- the row of a key
+-- a row of a part is a row of the cube
+pub row-of-part : (part parts : ℕ) (sets : List ℕ) (dimensions : ℕ) (aggregates : List Agg) (facts : List Fact) (key : Key) (row : Row) → IsRowOver (sets_of_part part parts sets) dimensions aggregates facts key (Some row) →
+    IsRowOver sets dimensions aggregates facts key (Some row)
+row-of-part part parts sets dimensions aggregates facts key row is =
+    let both = and_parts (mask_of key % parts == part) (is_cell sets dimensions facts key) (sym (cell-part part parts sets dimensions facts key) ∙ is.0) in
+    (both.1, is.1, is.2)
+
+-- a key that is a cell is of none of the first so many parts
+abbrev pub IsNotBelow : ℕ → ℕ → List ℕ → ℕ → List Fact → Key → Type 0
+IsNotBelow count parts sets dimensions facts key = is_cell sets dimensions facts key ≡ true → count ≤ mask_of key % parts
+
+-- nor of one part more, where it is no cell of that
+pub not-below-more : (part parts : ℕ) (sets : List ℕ) (dimensions : ℕ) (facts : List Fact) (key : Key) → IsNotBelow part parts sets dimensions facts key → is_cell (sets_of_part part parts sets) dimensions facts key ≡ false →
+    IsNotBelow (part + 1) parts sets dimensions facts key
+not-below-more part parts sets dimensions facts key none other cell =
+    let above = none cell in
+    elim (lt-cases part (mask_of key % parts) (omega arith)) [
+      | inl less ↦ omega arith
+      | inr at ↦
+          let there : is_cell (sets_of_part part parts sets) dimensions facts key ≡ true =
+          cell-part part parts sets dimensions facts key ∙ and_from (mask_of key % parts == part) (is_cell sets dimensions facts key) (eq-eqb (mask_of key % parts) part (sym at)) cell in
+          absurd (both_ways _ other there)
+    ]
+
+-- and of no part, it is no cell
+pub not-below-all : (parts : ℕ) (sets : List ℕ) (dimensions : ℕ) (facts : List Fact) (key : Key) → 1 ≤ parts → IsNotBelow parts parts sets dimensions facts key → is_cell sets dimensions facts key ≡ false
+not-below-all parts sets dimensions facts key some none = elim (cases_Bool (is_cell sets dimensions facts key)) [
+  | inl cell ↦ let above = none cell in let below = mod-lt (mask_of key) some in absurd (omega (arith, above, below))
+  | inr not_cell ↦ not_cell
+]

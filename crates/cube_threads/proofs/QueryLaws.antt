@@ -13,12 +13,12 @@ use Rattle.cube_core.specs.declared.fact.Fact.{Fact}
 use Rattle.cube_core.specs.declared.key.Key.{Key}
 use Rattle.cube_core.specs.declared.key.Row.{Row}
 use Rattle.cube_core.specs.declared.query.QueryFault.{QueryFault}
-use Rattle.cube_cells.specs.Rows.{AreRowsInOrder, CellsInOrder, GivesUnless, IsRowOf}
+use Rattle.cube_cells.specs.Rows.{AreRowsInOrder, CellsInOrder, GivesUnless, IsRowOf, IsRowOver}
 use Rattle.cube_cells.specs.Cube.{Cells, Lattice, IsCubeOf}
 use Rattle.cube_engine.specs.Builder.{BuilderView}
 use Rattle.cube_engine.specs.Ledger.{all_facts}
 use Rattle.cube_threads.specs.Parts.{BuiltView, first_ledger, AreParts}
-use Rattle.cube_threads.proofs.JoinLaws.{AreRowsBelow, rows-first, rows-more, rows-all, rows-one, over-rows}
+use Rattle.cube_threads.proofs.JoinLaws.{AreRowsBelow, IsNotBelow, rows-first, rows-more, rows-all, rows-one, over-rows, row-of-part, not-below-more, not-below-all}
 use Rattle.cube_threads.proofs.OrderLaws.{AllZip-IsPermutation, AllZip-split, IsSortedBy-IsRowOf}
 
 -- the builders that a caller sees are parts, as those inside are
@@ -138,3 +138,35 @@ gives-other {V} fault other P Q r same gives holds = subst (λ (f : Option Query
   turn (Some f) (Err e) gives holds = gives
   turn None (Ok v) gives holds = holds
   turn None (Err e) gives holds = gives
+
+-- what a look-up of a key in a cube promises
+abbrev pub FindsRow : Lattice → Key → Option Row → Type 0
+FindsRow cube key row = (facts : List Fact) → IsCubeOf cube facts → IsRowOver cube.sets (length cube.schema.dimensions) cube.schema.aggregates facts key row
+
+-- the row of a key of the cube of all builders, or none
+abbrev pub IsRowOfAll : Key → List BuilderView → Option Row → Type 0
+IsRowOfAll key builders row =
+    IsRowOver (first_ledger builders).schema.grouping_sets (length (first_ledger builders).schema.dimensions) (first_ledger builders).schema.aggregates (all_facts (first_ledger builders).accounts) key row
+
+-- a key has no row in any of the first so many parts
+abbrev pub HasNoRowBelow : ℕ → Key → List BuilderView → Type 0
+HasNoRowBelow count key builders = IsNotBelow count (length builders) (first_ledger builders).schema.grouping_sets (length (first_ledger builders).schema.dimensions) (all_facts (first_ledger builders).accounts) key
+
+-- what a look-up in the builder of a part finds
+finds-part : (builders : List BuilderView) (part : ℕ) (d : BuilderView) (cube : Lattice) (key : Key) (row : Option Row) → AreParts builders → part < length builders → cube ≡ (get_or builders part d).cube → FindsRow cube key row →
+    IsRowOver (sets_of_part part (length builders) (first_ledger builders).schema.grouping_sets) (length (first_ledger builders).schema.dimensions) (first_ledger builders).schema.aggregates (all_facts (first_ledger builders).accounts) key row
+finds-part builders part d cube key row parts below is finds =
+    let p = parts.each part d below in
+    rw (← p.sets, ← p.schema, ← is) (finds (all_facts (first_ledger builders).accounts) (rw is p.cells))
+
+-- a row that is found in a part
+pub row-found : (builders : List BuilderView) (part : ℕ) (d : BuilderView) (cube : Lattice) (key : Key) (row : Row) → AreParts builders → part < length builders → cube ≡ (get_or builders part d).cube → FindsRow cube key (Some row) → IsRowOfAll key builders (Some row)
+row-found builders part d cube key row parts below is finds = row-of-part part (length builders) _ _ _ _ key row (finds-part builders part d cube key (Some row) parts below is finds)
+
+-- none in one part more
+pub no-row-more : (builders : List BuilderView) (part : ℕ) (d : BuilderView) (cube : Lattice) (key : Key) → AreParts builders → part < length builders → cube ≡ (get_or builders part d).cube → FindsRow cube key None → HasNoRowBelow part key builders → HasNoRowBelow (part + 1) key builders
+no-row-more builders part d cube key parts below is finds none = not-below-more part (length builders) _ _ _ key none (finds-part builders part d cube key None parts below is finds)
+
+-- none in any part
+pub no-row : (builders : List BuilderView) (count : ℕ) (key : Key) → AreParts builders → count ≡ length builders → HasNoRowBelow count key builders → IsRowOfAll key builders None
+no-row builders count key parts all none = not-below-all (length builders) _ _ _ key parts.some (subst (λ (n : ℕ). HasNoRowBelow n key builders) all none)

@@ -1,5 +1,5 @@
 -- The builders of a run, each over its part of the schema's grouping sets (this project's choice).
-use Rattle.std.specs.Prelude.{◌≡◌, ◌<◌, ◌≤◌, ℕ, Bool, List, [], ◌∷◌, length, slice_index_or}
+use Rattle.std.specs.Prelude.{◌≡◌, ◌<◌, ◌≤◌, ℕ, Bool, List, [], ◌∷◌, length, slice_index_or, Option}
 use Rattle.cube_core.specs.Arrival.{Arrivals}
 use Rattle.cube_core.specs.GroupingSet.{sets_of_part}
 use Rattle.cube_core.specs.Layout.{Layout}
@@ -9,6 +9,7 @@ use Rattle.cube_core.specs.declared.fact.Fact.{Fact}
 use Rattle.cube_core.specs.declared.key.Key.{Key}
 use Rattle.cube_core.specs.declared.key.Row.{Row}
 use Rattle.cube_cells.specs.Cube.{Lattice, IsCubeOf}
+use Rattle.cube_cells.specs.Rows.{IsRowOver}
 use Rattle.cube_engine.specs.Builder.{BuilderView, StandsAt}
 use Rattle.cube_engine.specs.Ledger.{LedgerView, all_facts}
 use Rattle.cube_link.specs.Link.{Receiving}
@@ -58,6 +59,11 @@ pub record AreParts (builders : List BuilderView) : Type 0 where
 abbrev pub AreRowsOfRun : (Key → Bool) → BuiltView → List Row → Type 0
 AreRowsOfRun test built rows =
     AreRowsWhere test (schema_of_run built).grouping_sets (length (schema_of_run built).dimensions) (schema_of_run built).aggregates (facts_of_run built) rows
+
+-- the row of a key of the cube of a run's facts, over all grouping sets of its schema, or none where the key is no cell
+abbrev pub IsRowOfRun : Key → BuiltView → Option Row → Type 0
+IsRowOfRun key built row =
+    IsRowOver (schema_of_run built).grouping_sets (length (schema_of_run built).dimensions) (schema_of_run built).aggregates (facts_of_run built) key row
 
 -- the builder of a part stands at an arrival list of so many sources, over the part's grouping sets, and from each link were received a line for each item of its source, and then the end. Where a builder stands is told by what the list has of each source, so one list serves builders to which items of different sources came in different orders
 pub record PartStandsAt (s : Layout) (sources parts part : ℕ) (arrivals : Arrivals) (builder : BuilderView) (inlets : List (Receiving Parcel)) : Type 0 where

@@ -1,10 +1,10 @@
 //! The builders of a run, with the links by which the feeds came, and queries of all their cubes.
 ghost use Rattle.std.specs.Prelude.{◌≡◌, ◌<◌, [], List, length, map, slice_index_or, IfOk};
 ghost use Rattle.cube_core.specs.Cube.{AreRows};
-ghost use Rattle.cube_core.specs.Query.{matches, drills_down, drill_fault};
+ghost use Rattle.cube_core.specs.Query.{matches, drills_down, drill_fault, rolled_up};
 ghost use Rattle.cube_core.specs.declared.key.Row.{Row};
 ghost use Rattle.cube_cells.specs.Rows.{AreRowsInOrder, GivesUnless};
-ghost use Rattle.cube_threads.specs.Parts.{AreParts, AreRowsOfRun, schema_of_run, facts_of_run};
+ghost use Rattle.cube_threads.specs.Parts.{AreParts, AreRowsOfRun, IsRowOfRun, schema_of_run, facts_of_run};
 
 use crate::joining::in_key_order;
 use crate::making::{Links, Making};
@@ -111,6 +111,21 @@ impl Built {
             rows.append(&mut self.builders[part].cube().slice(pattern)?)?;
         }
         in_key_order(rows)
+    }
+
+    /// The row of a key with ALL in a dimension, counted from 0, by a look-up in each part; `None` exactly where that is
+    /// no cell, as where its grouping set isn't one of the schema's. The only error is want of memory.
+    pub fn roll_up(&self, key: &Key, dim: usize) -> Result<Option<Row>, AllocError>
+        requires dim { dim < length (schema_of_run self.now).dimensions }
+        requires width { length key.now.coords ≡ length (schema_of_run self.now).dimensions }
+        ensures { IfOk result (IsRowOfRun (rolled_up dim key.now) self.now) }
+    {
+        for part in 0..self.builders.len() {
+            if let Some(row) = self.builders[part].cube().roll_up(key, dim)? {
+                return Ok(Some(row));
+            }
+        }
+        Ok(None)
     }
 
     /// The rows of all parts whose keys drill down from a key along a dimension, counted from 0, in key order.

@@ -1,6 +1,6 @@
 -- What the faults of a question over feeds leave.
 use Rattle.std.proofs.Common.{◌≡◌, ◌≤◌, ℕ, List, length, refl, subst}
-use Rattle.std.specs.Prelude.{All, Bool, Option, Some, None, Result, Ok, Err}
+use Rattle.std.specs.Prelude.{All, Bool, option_to_list, Option, Some, None, Result, Ok, Err}
 use Rattle.std.proofs.lemmas.List.Sums.{list_all-from_AllPass}
 use Rattle.cube_core.specs.Layout.{Layout}
 use Rattle.std.specs.Global.{Vec}
@@ -23,12 +23,14 @@ use Rattle.cube_feeders.specs.FeedingAll.{ExplainsFeeding}
 use Rattle.cube_feeders.specs.declared.fault.FeedingFault.{FeedingFault}
 use Rattle.cube_feeders.specs.declared.fault.FeedingFault.TheVariants as feeding_fault
 use Rattle.cube_tool.specs.declared.fault.RunFault.TheVariants as run_fault
-use Rattle.cube_threads.specs.Parts.{AreRowsOfRun, BuiltView, BuildsParts, facts_of_run, schema_of_run}
+use Rattle.cube_threads.specs.Parts.{AreRowsOfRun, IsRowOfRun, BuiltView, BuildsParts, facts_of_run, schema_of_run}
+use Rattle.cube_live.specs.Shows.{is_key}
+use Rattle.cube_live.proofs.RowLaws.{AreRowsWhere-IsRowOver, AreRowsWhere-none}
 use Rattle.cube_text.specs.Shape.{HasShapeOf}
 use Rattle.cube_text.proofs.RowShapeLaws.{HasShapeOf-AreRowsWhere}
 use Rattle.cube_tool.specs.Answering.{Answers, FailsToAnswer, IsToldOf, Writes, question_fault, refusals_of_run}
 use Rattle.cube_tool.specs.Faults.{fault_of_build, fault_of_feeding, fault_of_text}
-use Rattle.cube_tool.specs.Run.{ExplainsPlainRun, ExplainsRun, IsTextWhere, Leaves, Tells, Wrote, WroteFirst}
+use Rattle.cube_tool.specs.Run.{ExplainsPlainRun, ExplainsRun, IsTextWhere, Leaves, Tells}
 use Rattle.cube_tool.specs.declared.fault.TextFault.{TextFault}
 use Rattle.cube_tool.specs.declared.fault.TextFault.TheVariants as text_fault
 use Rattle.cube_tool.specs.declared.question.Question.{Question}
@@ -96,6 +98,11 @@ pub IsTextWhere-rows : (test : Key → Bool) (s : Layout) (built : BuiltView) (r
     → text ≡ text_of_rows s rows → IsTextWhere test s (facts_of_run built) text
 IsTextWhere-rows test s built rows text schema are is = record { rows = rows; are_rows = rows-where test s built rows schema are; text_is = is }
 
+-- the row of a key, or none, is the list of its rows
+pub AreRowsOfRun-key : (key : Key) (built : BuiltView) (row : Option Row) → IsRowOfRun key built row → AreRowsOfRun (is_key key) built (option_to_list row)
+AreRowsOfRun-key key built (Some row) is = AreRowsWhere-IsRowOver _ _ _ _ key row is
+AreRowsOfRun-key key built None none = AreRowsWhere-none _ _ _ _ key none
+
 -- ---- answers
 
 -- a question that isn't refused, and whose text wasn't written whole
@@ -148,5 +155,10 @@ FailsToAnswer-Answers question (failure.Run (run_fault.Unsealed source)) old new
 FailsToAnswer-Answers question failure.Unreadable old new some builds answers = absurd answers
 FailsToAnswer-Answers question (failure.Schema fault) old new some builds answers = absurd answers
 FailsToAnswer-Answers question failure.TooManyFeeds old new some builds answers = absurd answers
+FailsToAnswer-Answers question failure.InputTaken old new some builds answers = absurd answers
 FailsToAnswer-Answers question (failure.FeedUnreadable source) old new some builds answers = absurd answers
 FailsToAnswer-Answers question failure.UnknownCode old new some builds answers = absurd answers
+FailsToAnswer-Answers question (failure.Session fault) old new some builds answers = absurd answers
+FailsToAnswer-Answers question failure.TooManyCubes old new some builds answers = absurd answers
+FailsToAnswer-Answers question (failure.SamePath input) old new some builds answers = absurd answers
+FailsToAnswer-Answers question (failure.Merge fault) old new some builds answers = absurd answers

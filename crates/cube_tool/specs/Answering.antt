@@ -1,5 +1,5 @@
 -- What a question over what was built answers, and how a command over feeds ends (this project's choice).
-use Rattle.std.specs.Prelude.{◌≡◌, ◌<◌, ⊤, ℕ, List, [], ◌∷◌, length, map, Option, Some, None, Result, Ok, Err}
+use Rattle.std.specs.Prelude.{◌≡◌, ◌<◌, ⊤, ℕ, List, length, map, Option, Some, None, Result, Ok, Err}
 use Rattle.cube_core.specs.Layout.{Layout}
 use Rattle.cube_core.specs.Query.{drill_fault}
 use Rattle.cube_core.specs.Refusals.{refusals_of}
@@ -15,7 +15,7 @@ use Rattle.cube_threads.specs.Parts.{BuiltView, StandsInParts, first_ledger}
 use Rattle.cube_tool.specs.Command.{status_after}
 use Rattle.cube_tool.specs.Run.{ExplainsPlainRun, ExplainsRun, Leaves, StandsOver, Tells, Wrote, WroteFirst}
 use Rattle.cube_tool.specs.declared.question.Question.{Question}
-use Rattle.cube_tool.specs.declared.question.Question.TheVariants.{Cube, Slice, Drill, Refusals}
+use Rattle.cube_tool.specs.declared.question.Question.TheVariants.{Cube, Slice, Drill, RollUp, Refusals}
 use Rattle.cube_tool.specs.declared.fault.TextFault.{TextFault}
 use Rattle.cube_tool.specs.declared.fault.TextFault.TheVariants as text_fault
 use Rattle.cube_tool.specs.declared.command.status.Status.{Status}
@@ -27,11 +27,12 @@ use Rattle.cube_tool.specs.declared.command.failure.Failure.TheVariants.{Query, 
 abbrev pub refusals_of_run : BuiltView → List (List Refusal)
 refusals_of_run built = map (λ account. account.refusals) (first_ledger built.builders).accounts
 
--- a question can be asked under a schema: a drill-down is along one of its dimensions, from a key with a coordinate for each
+-- a question can be asked under a schema: a drill-down or a roll-up is along one of its dimensions, from a key with a coordinate for each
 abbrev pub Fits : Layout → Question → Type 0
 Fits s Cube = ⊤
 Fits s (Slice pattern) = ⊤
 Fits s (Drill key dimension) = (dimension < length s.dimensions) × (length key.coords ≡ length s.dimensions)
+Fits s (RollUp key dimension) = (dimension < length s.dimensions) × (length key.coords ≡ length s.dimensions)
 Fits s Refusals = ⊤
 
 -- why a question is refused under a schema, whatever the facts
@@ -39,6 +40,7 @@ abbrev pub question_fault : Layout → Question → Option QueryFault
 question_fault s Cube = None
 question_fault s (Slice pattern) = None
 question_fault s (Drill key dimension) = drill_fault s.grouping_sets dimension key
+question_fault s (RollUp key dimension) = None
 question_fault s Refusals = None
 
 -- the fault that is told of a question that may be refused for one that is said, and else for want of memory alone

@@ -12,7 +12,7 @@ use Rattle.cube_tool.specs.declared.fault.RunFault.TheVariants as run_fault
 use Rattle.cube_tool.specs.declared.command.status.Status.{Status}
 use Rattle.cube_tool.specs.declared.command.status.Status.TheVariants.{Done, Failed, WrongWords, WrongSchema, LinesRefused}
 use Rattle.cube_tool.specs.declared.command.failure.Failure.{Failure}
-use Rattle.cube_tool.specs.declared.command.failure.Failure.TheVariants.{Unreadable, Schema, TooManyFeeds, FeedUnreadable, Query, UnknownCode, Run}
+use Rattle.cube_tool.specs.declared.command.failure.Failure.TheVariants.{Unreadable, Schema, TooManyFeeds, InputTaken, FeedUnreadable, Query, UnknownCode, Run, Session, TooManyCubes, SamePath, Merge}
 
 -- the number of a status
 abbrev pub status_code : Status → ℕ
@@ -27,10 +27,15 @@ abbrev pub status_of : Failure → Status
 status_of Unreadable = WrongSchema
 status_of (Schema fault) = WrongSchema
 status_of TooManyFeeds = WrongWords
+status_of InputTaken = WrongWords
 status_of (FeedUnreadable source) = Failed
 status_of (Query fault) = WrongWords
 status_of UnknownCode = WrongWords
 status_of (Run fault) = Failed
+status_of (Session fault) = Failed
+status_of TooManyCubes = WrongWords
+status_of (SamePath input) = WrongWords
+status_of (Merge fault) = Failed
 
 -- the status of an answer that was written whole, by the refusals of each source: it tells whether there are any
 abbrev pub status_after : List (List Refusal) → Status

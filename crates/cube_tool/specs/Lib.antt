@@ -5,3 +5,5 @@ pub mod Run
 pub mod Command
 pub mod Explain
 pub mod Answering
+pub mod Session
+pub mod MergingCubes

@@ -1,11 +1,11 @@
 -- What a question over the feeds of several sources writes, and what a fault of it leaves, by the definitions alone (this project's choice).
-use Rattle.std.specs.Prelude.{◌≡◌, ◌≤◌, ⊤, ℕ, Bool, List, [], length, map, take, Option}
+use Rattle.std.specs.Prelude.{◌≡◌, ◌≤◌, ℕ, Bool, List, length, map, take, Option}
 use Rattle.std.specs.Io.KnownBytes.{Appends}
 use Rattle.std.specs.List.{AllZip}
 use Rattle.cube_core.specs.Arrival.{Arrivals, of_sources}
 use Rattle.cube_core.specs.Layout.{Layout}
 use Rattle.cube_core.specs.Printed.{IsPrinted}
-use Rattle.cube_core.specs.Query.{AreRowsWhere, drills_down, matches}
+use Rattle.cube_core.specs.Query.{AreRowsWhere, drills_down, matches, rolled_up}
 use Rattle.cube_core.specs.Refusals.{refusals_of}
 use Rattle.cube_core.specs.Run.{Told, AreGood, AreItemsOf}
 use Rattle.cube_core.specs.Sources.{SurviveTogether}
@@ -17,13 +17,14 @@ use Rattle.cube_core.specs.declared.key.Key.{Key}
 use Rattle.cube_core.specs.declared.key.Row.{Row}
 use Rattle.cube_engine.specs.Build.{ExplainsBuild}
 use Rattle.cube_engine.specs.declared.fault.BuildFault.{BuildFault}
+use Rattle.cube_live.specs.Shows.{is_key}
 use Rattle.cube_feeders.specs.FeedingAll.{ExplainsFeeding}
 use Rattle.cube_feeders.specs.declared.fault.FeedingFault.{FeedingFault}
 use Rattle.cube_tool.specs.Faults.{fault_of_build, fault_of_feeding}
 use Rattle.cube_tool.specs.declared.fault.RunFault.{RunFault}
 use Rattle.cube_tool.specs.declared.fault.RunFault.TheVariants as run_fault
 use Rattle.cube_tool.specs.declared.question.Question.{Question}
-use Rattle.cube_tool.specs.declared.question.Question.TheVariants.{Cube, Slice, Drill, Refusals}
+use Rattle.cube_tool.specs.declared.question.Question.TheVariants.{Cube, Slice, Drill, RollUp, Refusals}
 
 -- this holds of the items of the feeds of these sources, source after source, and every feed is good
 pub record OfFeeds (s : Layout) (sources : Told) (Holds : List (List Item) → Type 0) : Type 0 where
@@ -38,11 +39,12 @@ pub record IsTextWhere (test : Key → Bool) (s : Layout) (facts : List Fact) (t
   pub are_rows : AreRowsWhere test s.grouping_sets (length s.dimensions) s.aggregates facts rows
   pub text_is : text ≡ text_of_rows s rows
 
--- a text tells what is asked of these facts and of the refusals of each source: the printed cube, the rows that match, the rows that drill down, or the refusals
+-- a text tells what is asked of these facts and of the refusals of each source: the printed cube, the rows that match, the rows that drill down, the row of the rolled-up key, or the refusals
 abbrev pub Tells : Question → Layout → List Fact → List (List Refusal) → List ℕ → Type 0
 Tells Cube s facts refusals text = IsPrinted s facts text
 Tells (Slice pattern) s facts refusals text = IsTextWhere (matches pattern) s facts text
 Tells (Drill key dimension) s facts refusals text = IsTextWhere (drills_down dimension key) s facts text
+Tells (RollUp key dimension) s facts refusals text = IsTextWhere (is_key (rolled_up dimension key)) s facts text
 Tells Refusals s facts refusals text = text ≡ text_of_refusals refusals
 
 -- the text of a question over feeds: it tells what is asked of the facts that survive in all feeds and of the refusals of each

@@ -2,7 +2,7 @@
 //!
 //! Each is the text that its question asks for, made in memory and then written; where memory runs out nothing is
 //! written.
-ghost use Rattle.std.specs.Prelude.{◌≡◌, ◌≤◌, ◌<◌, length, map, All};
+ghost use Rattle.std.specs.Prelude.{◌≡◌, ◌≤◌, ◌<◌, length, map, option_to_list, All, IfOk};
 ghost use Rattle.cube_core.specs.Text.{text_of_refusals, text_of_rows};
 ghost use Rattle.cube_engine.specs.Ledger.{AllFit, all_facts};
 ghost use Rattle.cube_text.specs.Shape.{HasShapeOf};
@@ -18,7 +18,7 @@ use cube_core::{Key, Pattern, Row, Schema};
 use cube_engine::Builder;
 use cube_text::{print_cells, print_cells_in_pieces, print_rows, write_pieces, write_whole};
 use cube_threads::Built;
-use std::alloc::Global;
+use std::alloc::{AllocError, Global};
 use std::io::Write;
 use std::thread::Threads;
 
@@ -42,6 +42,9 @@ pub fn answer<T: Threads + Sync, W: Write>(
         Question::Slice { pattern } => Ok(write_slice(alloc, schema, built, pattern, out)?),
         Question::Drill { key, dimension } => {
             write_drill(alloc, schema, built, key, *dimension, out)
+        }
+        Question::RollUp { key, dimension } => {
+            Ok(write_roll_up(alloc, schema, built, key, *dimension, out)?)
         }
         Question::Refusals => Ok(write_refusals(alloc, built, out)?),
     }
@@ -120,6 +123,38 @@ pub fn write_drill<W: Write>(
     let rows = built.drill_down(key, dimension)?;
     write_rows(alloc, schema, &rows, out)?;
     Ok(())
+}
+
+/// Writes the row of a key with ALL in a dimension, counted from 0, of the cube of what was built of a schema; no row
+/// where that is no cell.
+pub fn write_roll_up<W: Write>(
+    alloc: Global,
+    schema: &Schema,
+    built: &Built,
+    key: &Key,
+    dimension: usize,
+    out: &mut W,
+) -> Result<(), TextFault>
+    requires schema { schema_of_run built.now ≡ schema.now }
+    requires question { Fits schema.now (Question.RollUp key.now dimension) }
+    ensures { Writes (Tells (Question.RollUp key.now dimension) schema.now (facts_of_run built.now)
+        (refusals_of_run built.now)) result (W.contents out.old) (W.contents out.new) }
+{
+    facts_fit(built);
+    let row = built.roll_up(key, dimension)?;
+    let rows = listed(alloc, row)?;
+    write_rows(alloc, schema, &rows, out)
+}
+
+// The list of a row, or of none.
+fn listed(alloc: Global, row: Option<Row>) -> Result<Vec<Row>, AllocError>
+    ensures { IfOk result (λ rows. rows.items ≡ option_to_list row) }
+{
+    let mut rows = Vec::new(alloc);
+    if let Some(row) = row {
+        rows.push(row)?;
+    }
+    Ok(rows)
 }
 
 /// Writes the refusals of all sources of what was built.

@@ -6,10 +6,12 @@
 mod explanation;
 mod failure;
 mod feeds;
+mod merging;
 mod notes;
 mod query;
 mod sample;
 mod schema_file;
+mod session;
 mod status;
 mod words;
 
@@ -17,9 +19,11 @@ pub use crate::question::Question;
 pub use explanation::explain;
 pub use failure::Failure;
 pub use feeds::ask;
-pub use notes::{NOTES, Note};
+pub use merging::{check_cubes, first_repeated, merge_cubes};
+pub use notes::{LATER_NOTES, NOTES, Note};
 pub use query::{read_cell, read_dimension, read_pattern};
 pub use sample::run_sample;
 pub use schema_file::{check, read_schema};
+pub use session::live;
 pub use status::Status;
 pub use words::answer_words;

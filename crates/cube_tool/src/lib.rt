@@ -8,7 +8,10 @@ mod question;
 mod refusals;
 mod runs;
 
-pub use answers::{answer, write_cube, write_drill, write_plain_cube, write_refusals, write_slice};
+pub use answers::{
+    answer, write_cube, write_drill, write_plain_cube, write_refusals, write_roll_up, write_slice,
+};
+pub use cube_merge::{InputFault, MergeFault};
 pub use cube_text::{WriteFault, print_cells, print_rows, write_whole};
 pub use cube_threads::Settings;
 pub use fault::{RunFault, TextFault};

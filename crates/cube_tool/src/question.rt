@@ -11,6 +11,8 @@ pub enum Question {
     /// The rows of that cube that drill down from a key along a dimension, counted from 0: ALL there is replaced by a
     /// value or null.
     Drill { key: Key, dimension: usize },
+    /// The row of that cube whose key is this one with ALL in a dimension, counted from 0, where that is a cell.
+    RollUp { key: Key, dimension: usize },
     /// The refusals of all feeds: a header line, and a line for each refusal, feed after feed.
     Refusals,
 }

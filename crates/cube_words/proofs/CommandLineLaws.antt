@@ -8,7 +8,7 @@ use Rattle.clap.specs.declared.parser.matches.ArgMatches.{ArgMatches}
 use Rattle.clap.proofs.OnLiterals.{clap_on_literals}
 use Rattle.cube_words.specs.CommandLine.{AsksToCheck, AsksToExplain, IsInBounds, IsRequest, begins_as_flag, command_line}
 use Rattle.cube_words.specs.declared.request.Request.{Request}
-use Rattle.cube_words.specs.declared.request.Request.TheVariants.{Sample, Check, Explain, Print, Refusals, Slice, Drill}
+use Rattle.cube_words.specs.declared.request.Request.TheVariants.{Sample, Check, Explain, Print, Refusals, Slice, Drill, RollUp, Live, Merge}
 
 command_line-is_simple : is_simple command_line ≡ true
 unfolding clap_on_literals
@@ -87,17 +87,23 @@ pub IsInBounds-IsRequest : (found : Option (Text × List Row)) (request : Reques
 IsInBounds-IsRequest None Sample is = tt
 IsInBounds-IsRequest None (Check schema) is = tt
 IsInBounds-IsRequest None (Explain code) is = tt
-IsInBounds-IsRequest None (Print run) is = let bad : Sample ≡ Print run = sym (ap (λ (o : Option Request). unwrap_or o Sample) is) in cc
+IsInBounds-IsRequest None (Print run partial) is = let bad : Sample ≡ Print run partial = sym (ap (λ (o : Option Request). unwrap_or o Sample) is) in cc
 IsInBounds-IsRequest None (Refusals run) is = let bad : Sample ≡ Refusals run = sym (ap (λ (o : Option Request). unwrap_or o Sample) is) in cc
 IsInBounds-IsRequest None (Slice run cell) is = let bad : Sample ≡ Slice run cell = sym (ap (λ (o : Option Request). unwrap_or o Sample) is) in cc
 IsInBounds-IsRequest None (Drill run cell dimension) is = let bad : Sample ≡ Drill run cell dimension = sym (ap (λ (o : Option Request). unwrap_or o Sample) is) in cc
+IsInBounds-IsRequest None (RollUp run cell dimension) is = let bad : Sample ≡ RollUp run cell dimension = sym (ap (λ (o : Option Request). unwrap_or o Sample) is) in cc
+IsInBounds-IsRequest None (Live live) is = let bad : Sample ≡ Live live = sym (ap (λ (o : Option Request). unwrap_or o Sample) is) in cc
+IsInBounds-IsRequest None (Merge merge) is = let bad : Sample ≡ Merge merge = sym (ap (λ (o : Option Request). unwrap_or o Sample) is) in cc
 IsInBounds-IsRequest (Some found) Sample is = tt
 IsInBounds-IsRequest (Some found) (Check schema) is = tt
 IsInBounds-IsRequest (Some found) (Explain code) is = tt
-IsInBounds-IsRequest (Some found) (Print run) is = is.2
+IsInBounds-IsRequest (Some found) (Print run partial) is = is.0.2
 IsInBounds-IsRequest (Some found) (Refusals run) is = is.2
 IsInBounds-IsRequest (Some found) (Slice run cell) is = is.0.2
 IsInBounds-IsRequest (Some found) (Drill run cell dimension) is = is.0.2
+IsInBounds-IsRequest (Some found) (RollUp run cell dimension) is = is.0.2
+IsInBounds-IsRequest (Some found) (Live live) is = is.2
+IsInBounds-IsRequest (Some found) (Merge merge) is = is.2
 
 -- a reference to a text
 abbrev reference : Text → Bor Text
@@ -146,10 +152,13 @@ AsksToCheck-with_word_of Q (Some found) path request result is_found is done = g
         subst (λ answer. MatchResult answer (AsksToCheck path) Q) (sym done)
         (ap (λ (o : Option Text). unwrap_or o path) (sym is.1 ∙ worded))
     go (Some (Explain code)) is done = name-slice_index found.0 (codes "check") (codes "explain") named is.0 (λ same. absurd (omega arith))
-    go (Some (Print run)) is done = name-slice_index found.0 (codes "check") (codes "print") named is.0 (λ same. absurd (omega arith))
+    go (Some (Print run partial)) is done = name-slice_index found.0 (codes "check") (codes "print") named is.0.0 (λ same. absurd (omega arith))
     go (Some (Refusals run)) is done = name-slice_index found.0 (codes "check") (codes "refusals") named is.0 (λ same. absurd (omega arith))
     go (Some (Slice run cell)) is done = name-slice_index found.0 (codes "check") (codes "slice") named is.0.0 (λ same. absurd (omega arith))
     go (Some (Drill run cell dimension)) is done = name-slice_index found.0 (codes "check") (codes "drill") named is.0.0 (λ same. absurd (omega arith))
+    go (Some (RollUp run cell dimension)) is done = name-slice_index found.0 (codes "check") (codes "rollup") named is.0.0 (λ same. absurd (omega arith))
+    go (Some (Live live)) is done = name-slice_index found.0 (codes "check") (codes "live") named is.0 (λ same. absurd (omega arith))
+    go (Some (Merge merge)) is done = name-slice_index found.0 (codes "check") (codes "merge") named is.0 (λ same. absurd (omega arith))
 
 -- a request that `explain` makes asks for the code that is its word, or for all
 AsksToExplain-with_word_of : (Q : Error → Type 0) (found : Option (Text × List Row)) (code : Option Text) (request : Option Request) (result : Result Request Error)
@@ -171,10 +180,13 @@ AsksToExplain-with_word_of Q (Some found) code request result is_found is done =
     go (Some (Check schema)) is done = name-slice_index found.0 (codes "explain") (codes "check") named is.0 (λ same. absurd (omega arith))
     go (Some (Explain asked)) is done =
         subst (λ answer. MatchResult answer (AsksToExplain code) Q) (sym done) (sym is.1 ∙ worded)
-    go (Some (Print run)) is done = name-slice_index found.0 (codes "explain") (codes "print") named is.0 (λ same. absurd (omega arith))
+    go (Some (Print run partial)) is done = name-slice_index found.0 (codes "explain") (codes "print") named is.0.0 (λ same. absurd (omega arith))
     go (Some (Refusals run)) is done = name-slice_index found.0 (codes "explain") (codes "refusals") named is.0 (λ same. absurd (omega arith))
     go (Some (Slice run cell)) is done = name-slice_index found.0 (codes "explain") (codes "slice") named is.0.0 (λ same. absurd (omega arith))
     go (Some (Drill run cell dimension)) is done = name-slice_index found.0 (codes "explain") (codes "drill") named is.0.0 (λ same. absurd (omega arith))
+    go (Some (RollUp run cell dimension)) is done = name-slice_index found.0 (codes "explain") (codes "rollup") named is.0.0 (λ same. absurd (omega arith))
+    go (Some (Live live)) is done = name-slice_index found.0 (codes "explain") (codes "live") named is.0 (λ same. absurd (omega arith))
+    go (Some (Merge merge)) is done = name-slice_index found.0 (codes "explain") (codes "merge") named is.0 (λ same. absurd (omega arith))
 
 -- so `check` with a word asks to check that file
 pub request-check : (Q : Error → Type 0) (name path : Text) (words : List Text) (m : ArgMatches) (request : Option Request) (result : Result Request Error)

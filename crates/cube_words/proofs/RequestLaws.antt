@@ -1,9 +1,13 @@
--- What the numbers of options are.
-use Rattle.std.proofs.Common.{◌≡◌, ◌∙◌, ◌<◌, ◌^◌, ℕ, refl, sym, ap, arith, subst}
-use Rattle.std.specs.Prelude.{Option, Some, None, Result, Ok, Err, IfOk, IfSome}
-use Rattle.std.specs.Str.Parse.{ParsesUnsigned}
-use Rattle.clap.specs.Words.{Text, TriesOne}
-use Rattle.cube_words.specs.CommandLine.{IsNumberOf, IsUpTo}
+-- What the numbers and the flags of options are, and which words of a run `live` has too.
+use Rattle.std.proofs.Common.{◌≡◌, ◌∙◌, ◌<◌, ◌^◌, ℕ, Bool, true, false, List, [], refl, sym, ap, arith, subst}
+use Rattle.std.proofs.lemmas.Slice.Eq.{bytes_eq-Decides}
+use Rattle.std.specs.Prelude.{Option, Some, None, Result, Ok, Err, IfOk, IfSome, codes, unwrap_or}
+use Rattle.std.specs.Str.{bytes_eq}
+use Rattle.std.specs.Str.Parse.{ParsesBool, ParsesUnsigned}
+use Rattle.clap.specs.Words.{ReadsOne, Row, Text, TriesOne}
+use Rattle.cube_words.specs.CommandLine.{AreLiveWords, AreRunWords, HasRoom, IsNumberOf, IsUpTo, LiveHasRoom, is_given}
+use Rattle.cube_words.specs.declared.request.LiveWords.{LiveWords}
+use Rattle.cube_words.specs.declared.request.RunWords.{RunWords}
 
 -- what the reading of an option answers is the option's number
 pub IsNumberOf-TriesOne : (E : Type 0) (Gives : Text → Result ℕ E → Type 0) (found : Option Text) (result : Result (Option ℕ) E)
@@ -33,3 +37,32 @@ IsNumberOf-read E Gives (Some text) (Err e) parses none value most (Some number)
 -- a number that is given is up to the bound of what is given
 pub IsUpTo-given : (most number : ℕ) (given : Option ℕ) → Some number ≡ given → IfSome given (IsUpTo most) → IsUpTo most number
 IsUpTo-given most number given same bounds = subst (λ (o : Option ℕ). IfSome o (IsUpTo most)) (sym same) bounds
+
+-- what the reading of a flag answers, false where it answers nothing, is whether the flag is given
+pub is_given-ReadsOne : (E : Type 0) (found : Option Text) (read : Option Bool) → (found ≡ None → read ≡ None)
+    → ((text : Text) → found ≡ Some text → ReadsOne {E = E} ParsesBool text read) → unwrap_or read false ≡ is_given found
+is_given-ReadsOne E None read none value = rw (none refl) refl
+is_given-ReadsOne E (Some text) (Some true) none value = let is : text ≡ codes "true" = value text refl in rw is refl
+is_given-ReadsOne E (Some text) (Some false) none value = let is : text ≡ codes "false" = value text refl in rw is refl
+is_given-ReadsOne E (Some text) None none value = go (bytes_eq text (codes "true")) refl
+  where
+    go : (same : Bool) → bytes_eq text (codes "true") ≡ same → false ≡ same
+    go true is = absurd ((value text refl).1.0 ((bytes_eq-Decides text (codes "true")).0 is))
+    go false is = refl
+
+-- the words of a run that `live` has too
+abbrev pub live_of : RunWords → LiveWords
+live_of run = record { schema = run.schema; feeds = run.feeds; ring = run.ring; threads = run.threads }
+
+-- of the words of a run, those that `live` has too are its own
+pub AreLiveWords-AreRunWords : (rows : List Row) (run : RunWords) → AreRunWords rows run → AreLiveWords rows (live_of run)
+AreLiveWords-AreRunWords rows run are = record {
+  schema = are.schema;
+  feeds = ap (λ (o : Option (List Text)). unwrap_or o []) are.feeds;
+  ring = are.ring;
+  threads = are.threads;
+}
+
+-- and their options are in their bounds
+pub LiveHasRoom-HasRoom : (run : RunWords) → HasRoom run → LiveHasRoom (live_of run)
+LiveHasRoom-HasRoom run room = record { least_ring = room.least_ring; most_ring = room.most_ring; threads = room.threads }

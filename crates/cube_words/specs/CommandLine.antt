@@ -1,12 +1,16 @@
 -- The words that the program takes, as clap reads them, and the requests that they make (this project's choice).
-use Rattle.std.specs.Prelude.{◌≡◌, ◌≤◌, ◌==◌, ⊤, ℕ, Bool, false, true, List, [], ◌∷◌, Option, Some, None, IfSome, length, map, option_map, codes}
+use Rattle.std.specs.Prelude.{◌≡◌, ◌≤◌, ◌==◌, ⊤, ℕ, Bool, false, true, List, [], ◌∷◌, Option, Some, None, IfSome, length, map, option_map, unwrap_or, codes}
+use Rattle.std.specs.Str.{bytes_eq}
 use Rattle.std.specs.Str.Parse.{IsNumeral, digits_value, without_leading_plus}
 use Rattle.clap.specs.Lexer.{usize_max}
 use Rattle.clap.specs.Words.{App, Row, Rule, Text, all_of, first_of, new_app, new_rule, one_of, with_rule, with_subcommand}
+use Rattle.clap.specs.declared.builder.action.ArgAction.TheVariants as action
 use Rattle.clap.specs.declared.builder.value_parser.ValueParser.TheVariants as value_parser
+use Rattle.cube_words.specs.declared.request.LiveWords.{LiveWords}
+use Rattle.cube_words.specs.declared.request.MergeWords.{MergeWords}
 use Rattle.cube_words.specs.declared.request.RunWords.{RunWords}
 use Rattle.cube_words.specs.declared.request.Request.{Request}
-use Rattle.cube_words.specs.declared.request.Request.TheVariants.{Sample, Check, Explain, Print, Refusals, Slice, Drill}
+use Rattle.cube_words.specs.declared.request.Request.TheVariants.{Sample, Check, Explain, Print, Refusals, Slice, Drill, RollUp, Live, Merge}
 
 -- the program's own settings: `help` is no command, and `--version` is answered
 abbrev pub named_line : App
@@ -30,9 +34,21 @@ cell_word = needed_word (codes "CELL")
 abbrev pub dimension_word : Rule
 dimension_word = needed_word (codes "DIM")
 
--- the words that name feeds: at least one, and no bound on how many
+-- words that have to be there: at least one, and no bound on how many
+abbrev pub needed_words : Text → Rule
+needed_words name = record (needed_word name) { range = Some (record { start_inclusive = 1; end_inclusive = usize_max }) }
+
+-- the words that name feeds
 abbrev pub feed_words : Rule
-feed_words = record (needed_word (codes "FEED")) { range = Some (record { start_inclusive = 1; end_inclusive = usize_max }) }
+feed_words = needed_words (codes "FEED")
+
+-- the words that name feeds, where they may be left out
+abbrev pub optional_feed_words : Rule
+optional_feed_words = record feed_words { required = false }
+
+-- the words that name printed cubes
+abbrev pub merged_words : Rule
+merged_words = needed_words (codes "CUBE")
 
 -- the word that names a code; it may be left out
 abbrev pub code_word : Rule
@@ -59,6 +75,18 @@ builders_option = number_option (codes "builders") 8 (codes "1" ∷ [])
 abbrev pub threads_option : Rule
 threads_option = number_option (codes "threads") 16 []
 
+-- an option without a value
+abbrev pub flag : Text → Rule
+flag name = record (new_rule name) { long = Some name; action = Some action.SetTrue }
+
+-- `--partial`, which asks for the partial form of a cube
+abbrev pub partial_option : Rule
+partial_option = flag (codes "partial")
+
+-- `--check`, which has all cubes read to their ends before the first line is written
+abbrev pub check_option : Rule
+check_option = flag (codes "check")
+
 -- a command with the feeds and the options of a run behind its words
 abbrev pub with_feeds : App → App
 with_feeds line = with_rule (with_rule (with_rule (with_rule line feed_words) ring_option) builders_option) threads_option
@@ -68,7 +96,7 @@ abbrev pub check_line : App
 check_line = with_rule (new_app (codes "check")) schema_word
 
 abbrev pub print_line : App
-print_line = with_feeds (with_rule (new_app (codes "print")) schema_word)
+print_line = with_rule (with_feeds (with_rule (new_app (codes "print")) schema_word)) partial_option
 
 abbrev pub refusals_line : App
 refusals_line = with_feeds (with_rule (new_app (codes "refusals")) schema_word)
@@ -78,6 +106,15 @@ slice_line = with_feeds (with_rule (with_rule (new_app (codes "slice")) schema_w
 
 abbrev pub drill_line : App
 drill_line = with_feeds (with_rule (with_rule (with_rule (new_app (codes "drill")) schema_word) cell_word) dimension_word)
+
+abbrev pub rollup_line : App
+rollup_line = with_feeds (with_rule (with_rule (with_rule (new_app (codes "rollup")) schema_word) cell_word) dimension_word)
+
+abbrev pub live_line : App
+live_line = with_rule (with_rule (with_rule (with_rule (new_app (codes "live")) schema_word) optional_feed_words) ring_option) threads_option
+
+abbrev pub merge_line : App
+merge_line = with_rule (with_rule (with_rule (with_rule (new_app (codes "merge")) schema_word) merged_words) partial_option) check_option
 
 abbrev pub explain_line : App
 explain_line = with_rule (new_app (codes "explain")) code_word
@@ -90,7 +127,11 @@ command_line =
     (with_subcommand
     (with_subcommand
     (with_subcommand
-    (with_subcommand named_line check_line.top) print_line.top) refusals_line.top) slice_line.top) drill_line.top) explain_line.top
+    (with_subcommand
+    (with_subcommand
+    (with_subcommand
+    (with_subcommand named_line check_line.top) print_line.top) refusals_line.top) slice_line.top) drill_line.top) rollup_line.top) live_line.top) merge_line.top)
+    explain_line.top
 
 -- a word begins with a hyphen, as a flag does
 abbrev pub begins_as_flag : Text → Bool
@@ -117,6 +158,15 @@ IsNumberOf (Some text) (Some number) = IsNumeral 10 (without_leading_plus text) 
 abbrev pub IsUpTo : ℕ → ℕ → Type 0
 IsUpTo most number = (1 ≤ number) × (number ≤ most)
 
+-- an option without a value is given: clap notes `true` where it is used, and `false` where it is left out
+abbrev pub is_given : Option Text → Bool
+is_given None = false
+is_given (Some text) = bytes_eq text (codes "true")
+
+-- the words that clap found under a name, in their order
+abbrev pub words_of : Text → List Row → List Text
+words_of name rows = unwrap_or (all_of name rows) []
+
 -- the files and the options of a run are those that clap found, each under its name, and the feeds in their order
 pub record AreRunWords (rows : List Row) (run : RunWords) : Type 0 where
   pub schema : first_of (codes "SCHEMA") rows ≡ Some run.schema.now
@@ -134,29 +184,58 @@ pub record HasRoom (run : RunWords) : Type 0 where
   pub most_builders : run.builders ≤ 8
   pub threads : IfSome run.threads (IsUpTo 16)
 
--- a request to run has at least one feed, and its options are in their bounds
+-- the files and the options of `live` are those that clap found, each under its name, and the feeds, if any, in their order
+pub record AreLiveWords (rows : List Row) (live : LiveWords) : Type 0 where
+  pub schema : first_of (codes "SCHEMA") rows ≡ Some live.schema.now
+  pub feeds : words_of (codes "FEED") rows ≡ map (λ path. path.now) live.feeds.items
+  pub ring : IsNumberOf (one_of (codes "ring") rows) (Some live.ring)
+  pub threads : IsNumberOf (one_of (codes "threads") rows) live.threads
+
+-- the options of `live`, where they are given, are in their bounds
+pub record LiveHasRoom (live : LiveWords) : Type 0 where
+  pub least_ring : 1 ≤ live.ring
+  pub most_ring : live.ring ≤ 65536
+  pub threads : IfSome live.threads (IsUpTo 16)
+
+-- the files and the options of `merge` are those that clap found, each under its name, and the cubes in their order
+pub record AreMergeWords (rows : List Row) (merge : MergeWords) : Type 0 where
+  pub schema : first_of (codes "SCHEMA") rows ≡ Some merge.schema.now
+  pub cubes : words_of (codes "CUBE") rows ≡ map (λ path. path.now) merge.cubes.items
+  pub is_partial : merge.partial ≡ is_given (one_of (codes "partial") rows)
+  pub is_checked : merge.check ≡ is_given (one_of (codes "check") rows)
+
+-- a request to run has at least one feed and one to merge at least one cube, and the options are in their bounds
 abbrev pub IsInBounds : Request → Type 0
-IsInBounds (Print run) = HasRoom run
+IsInBounds (Print run partial) = HasRoom run
 IsInBounds (Refusals run) = HasRoom run
 IsInBounds (Slice run cell) = HasRoom run
 IsInBounds (Drill run cell dimension) = HasRoom run
+IsInBounds (RollUp run cell dimension) = HasRoom run
+IsInBounds (Live live) = LiveHasRoom live
+IsInBounds (Merge merge) = 1 ≤ length merge.cubes.items
 IsInBounds _ = ⊤
 
 -- the run of a command with this name is had from what clap found
 abbrev pub IsRun : Text → Text → List Row → RunWords → Type 0
 IsRun name command rows run = (name ≡ command) × AreRunWords rows run × HasRoom run
 
+-- a run of a command with this name from a cell along a dimension is had from what clap found
+abbrev pub IsStep : Text → Text → List Row → RunWords → Text → Text → Type 0
+IsStep name command rows run cell dimension =
+    IsRun name command rows run × (first_of (codes "CELL") rows ≡ Some cell) × (first_of (codes "DIM") rows ≡ Some dimension)
+
 -- a found command makes this request
 abbrev pub Makes : Text × List Row → Request → Type 0
 Makes found Sample = ⊥
 Makes found (Check schema) = (found.0 ≡ codes "check") × (first_of (codes "SCHEMA") found.1 ≡ Some schema.now)
 Makes found (Explain code) = (found.0 ≡ codes "explain") × (first_of (codes "CODE") found.1 ≡ option_map (λ text. text.now) code)
-Makes found (Print run) = IsRun found.0 (codes "print") found.1 run
+Makes found (Print run partial) = IsRun found.0 (codes "print") found.1 run × (partial ≡ is_given (one_of (codes "partial") found.1))
 Makes found (Refusals run) = IsRun found.0 (codes "refusals") found.1 run
 Makes found (Slice run cell) = IsRun found.0 (codes "slice") found.1 run × (first_of (codes "CELL") found.1 ≡ Some cell.now)
-Makes found (Drill run cell dimension) =
-    IsRun found.0 (codes "drill") found.1 run
-    × (first_of (codes "CELL") found.1 ≡ Some cell.now) × (first_of (codes "DIM") found.1 ≡ Some dimension.now)
+Makes found (Drill run cell dimension) = IsStep found.0 (codes "drill") found.1 run cell.now dimension.now
+Makes found (RollUp run cell dimension) = IsStep found.0 (codes "rollup") found.1 run cell.now dimension.now
+Makes found (Live live) = (found.0 ≡ codes "live") × AreLiveWords found.1 live × LiveHasRoom live
+Makes found (Merge merge) = (found.0 ≡ codes "merge") × AreMergeWords found.1 merge × (1 ≤ length merge.cubes.items)
 
 -- what clap found makes this request: the sample run where it found no command, and none only where the command makes none
 abbrev pub IsRequest : Option (Text × List Row) → Option Request → Type 0

@@ -2,10 +2,10 @@
 ghost use Rattle.std.specs.Prelude.{◌≡◌, IfOk, false};
 ghost use Rattle.clap.specs.Words.{app_of, rule_of, shape_of, with_rule, with_subcommand};
 ghost use Rattle.clap.specs.declared.builder.command.Command.TheViews.{out-Command as fields_of};
-ghost use Rattle.cube_words.specs.CommandLine.{builders_option, cell_word, check_line, code_word, command_line, dimension_word, drill_line, explain_line, feed_words, named_line, print_line, refusals_line, ring_option, schema_word, slice_line, threads_option, with_feeds};
+ghost use Rattle.cube_words.specs.CommandLine.{builders_option, cell_word, check_line, check_option, code_word, command_line, dimension_word, drill_line, explain_line, feed_words, live_line, merge_line, merged_words, named_line, optional_feed_words, partial_option, print_line, refusals_line, ring_option, rollup_line, schema_word, slice_line, threads_option, with_feeds};
 
 use clap::builder::ValueParser;
-use clap::{Arg, Command};
+use clap::{Arg, ArgAction, Command};
 use std::alloc::{AllocError, Global};
 
 /// What the program does.
@@ -15,7 +15,7 @@ dimensions. Each feed is a CSV file of inserts, updates and deletes; the cube is
 which are present in the end.";
 
 /// The program's version, by the rules of Semantic Versioning 2.0.0. It stands here alone.
-const VERSION: &str = "1.0.0";
+const VERSION: &str = "1.1.0";
 
 /// The forms of a command line.
 const USAGE: &str = "datacube < FEED
@@ -24,6 +24,9 @@ const USAGE: &str = "datacube < FEED
        datacube refusals [OPTIONS] SCHEMA FEED...
        datacube slice [OPTIONS] SCHEMA CELL FEED...
        datacube drill [OPTIONS] SCHEMA CELL DIM FEED...
+       datacube rollup [OPTIONS] SCHEMA CELL DIM FEED...
+       datacube live [OPTIONS] SCHEMA [FEED...]
+       datacube merge [OPTIONS] SCHEMA CUBE...
        datacube explain [CODE]";
 
 /// What the help says below the commands.
@@ -35,14 +38,24 @@ dimensions region and kind, the measure amount), and its cube goes to standard o
 
 Exit status:
   0  done
-  1  a feed was refused, a run failed, or the writing failed
+  1  a feed or a CUBE was refused, a run failed, or the writing failed
   2  the command line, CELL, DIM or CODE was refused
   3  the schema couldn't be read, or was refused
-  4  done, but at least one line of a feed was refused: `datacube refusals` says which
+  4  done, but at least one line of a feed was refused (`datacube refusals` says which), or,
+     in `live`, a change
 
 A failure prints one line on standard error, `datacube: CODE`, and `datacube explain CODE`
 says what the code means and how to mend it. Each command has its own `--help`.
 docs/FORMATS.md describes the formats of schemas, feeds, cells and cubes.";
+
+/// What the help of `print` says below its words.
+const AFTER_PRINT: &str = "\
+Each FEED is a source of its own, numbered from 1: the same id in two feeds names two facts.
+With --partial each mean has its sum and count beside it: `datacube merge` makes one cube of
+several that were printed so, each of other facts.
+
+Exit status: 0 done, 1 a run failed, 2 wrong words, 3 wrong schema, 4 done, with lines refused.
+`datacube explain CODE` explains what a failure prints.";
 
 /// What the help of a command with feeds says of them.
 const AFTER_FEEDS: &str = "\
@@ -82,11 +95,67 @@ Put CELL in single quotes, so that the shell leaves it as it is.
 Exit status: 0 done, 1 a run failed, 2 wrong words, 3 wrong schema, 4 done, with lines refused.
 `datacube explain CODE` explains what a failure prints.";
 
+/// What the help of `rollup` says below its words.
+const AFTER_ROLLUP: &str = "\
+CELL is one CSV record with a field for each dimension of the schema, in their order:
+  =TEXT  this text (`=` alone is the empty text)
+  \\N     null
+  \\A     ALL, the dimension is aggregated over
+The line that is printed has ALL in the dimension DIM, where CELL may have it already, and
+what CELL has in the others.
+
+For the dimensions region and kind:
+  datacube rollup shop.toml '=west,=tea' kind feed.csv    region west, over all kinds
+  datacube rollup shop.toml '=west,\\A' region feed.csv    the grand total
+
+Put CELL in single quotes, so that the shell leaves it as it is.
+Exit status: 0 done, 1 a run failed, 2 wrong words, 3 wrong schema, 4 done, with lines refused.
+`datacube explain CODE` explains what a failure prints.";
+
+/// What the help of `live` says below its words.
+const AFTER_LIVE: &str = "\
+The feeds are read first; then each CSV record on standard input, which has no header, is a
+change or a question:
+  SOURCE,RECORD...           a data record of a feed, as a change of source SOURCE, 1 to 64
+  print                      the whole cube
+  slice,FIELD...             the lines that CELL matches, whose fields these are
+  drill,DIM,FIELD...         the lines one step below CELL along DIM
+  rollup,DIM,FIELD...        the line one step above CELL along DIM
+  refusals                   the refused lines of all sources so far
+  refusals,SOURCE,RECORD     those of this source after this record, 0 for all of it
+
+For the dimensions region and kind:
+  3,I,a7,west,tea,2          source 3 inserts the fact a7
+  slice,=west,?              every line of region west
+
+A change has no answer. A question is answered before the next record is read: by `ok N`, a
+line end and N bytes, the text that the command of that name prints; or by a code alone.
+
+Exit status: 0 done, 1 it failed, 2 wrong words, 3 wrong schema, 4 done, with lines of feeds
+or changes refused. `datacube explain CODE` explains a code.";
+
+/// What the help of `merge` says below its words.
+const AFTER_MERGE: &str = "\
+Each CUBE was printed by `print --partial` or `merge --partial` under the same schema, and its
+facts count in full: no two may share facts. A path may not stand twice; at most 64 are taken.
+With --partial what is printed can be merged again, so that merges nest to any depth.
+
+Lines are printed as the cubes are read, and a fault further down leaves them printed, with
+exit status 1. With --check all cubes are read to their ends before the first line is printed.
+
+For two feeds on two machines:
+  datacube print --partial shop.toml east.csv > east.cube
+  datacube print --partial shop.toml west.csv > west.cube
+  datacube merge shop.toml east.cube west.cube
+
+Exit status: 0 done, 1 a cube is at fault (as `datacube explain M5` says), 2 wrong words,
+3 wrong schema.";
+
 /// What the help of `explain` says below its word.
 const AFTER_EXPLAIN: &str = "\
 CODE is what stands behind `datacube: ` on standard error, as S4, G3 or 'schema unreadable', a code
-that G3 ends with, as F3, or a number in the last column of `datacube refusals`, as 6.
-Without it, all codes are explained.
+that G3 ends with, as F3, or that `live` answers, as Q1, or a number in the last column of
+`datacube refusals`, as 6. Without it, all codes are explained.
 
 Exit status: 0 done, 2 there is no such code.";
 
@@ -99,7 +168,10 @@ pub(crate) fn program<'a>(alloc: Global) -> Result<Command<'a>, AllocError>
     let noting = with_command(printing, refusals_command(alloc)?)?;
     let slicing = with_command(noting, slice_command(alloc)?)?;
     let drilling = with_command(slicing, drill_command(alloc)?)?;
-    with_command(drilling, explain_command(alloc)?)
+    let rolling = with_command(drilling, rollup_command(alloc)?)?;
+    let living = with_command(rolling, live_command(alloc)?)?;
+    let merging = with_command(living, merge_command(alloc)?)?;
+    with_command(merging, explain_command(alloc)?)
 }
 
 // The program's own settings.
@@ -151,8 +223,13 @@ fn print_command<'a>(alloc: Global) -> Result<Command<'a>, AllocError>
 {
     let command = Command::new(alloc, "print")
         .about("Prints the whole cube of all feeds, as CSV")
-        .after_help(AFTER_FEEDS);
-    with_all_feeds(alloc, with_word(command, schema(alloc))?)
+        .after_help(AFTER_PRINT);
+    let fed = with_all_feeds(alloc, with_word(command, schema(alloc))?)?;
+    let partial = partial(
+        alloc,
+        "With each mean its sum and count too, so that cubes can be merged",
+    );
+    with_word(fed, partial)
 }
 
 // The command `refusals` with its words.
@@ -194,7 +271,50 @@ fn drill_command<'a>(alloc: Global) -> Result<Command<'a>, AllocError>
         .after_help(AFTER_DRILL);
     let cell = cell(alloc, "The line to start from, as '=west,\\A'; see below");
     let named = with_word(with_word(command, schema(alloc))?, cell)?;
-    with_all_feeds(alloc, with_word(named, dimension(alloc))?)
+    let dimension = dimension(alloc, "The name of the dimension to drill down along");
+    with_all_feeds(alloc, with_word(named, dimension)?)
+}
+
+// The command `rollup` with its words.
+fn rollup_command<'a>(alloc: Global) -> Result<Command<'a>, AllocError>
+    ensures line { IfOk result (λ command. app_of command ≡ rollup_line) }
+    ensures local { IfOk result (λ command. (fields_of command).has_globals ≡ false) }
+{
+    let command = Command::new(alloc, "rollup")
+        .about("Prints the line one step above CELL: the one with ALL in dimension DIM, as CSV")
+        .after_help(AFTER_ROLLUP);
+    let cell = cell(alloc, "The line to start from, as '=west,=tea'; see below");
+    let named = with_word(with_word(command, schema(alloc))?, cell)?;
+    let dimension = dimension(alloc, "The name of the dimension to roll up along");
+    with_all_feeds(alloc, with_word(named, dimension)?)
+}
+
+// The command `live` with its words.
+fn live_command<'a>(alloc: Global) -> Result<Command<'a>, AllocError>
+    ensures line { IfOk result (λ command. app_of command ≡ live_line) }
+    ensures local { IfOk result (λ command. (fields_of command).has_globals ≡ false) }
+{
+    let command = Command::new(alloc, "live")
+        .about("Keeps the cube right change by change, and answers questions in between")
+        .after_help(AFTER_LIVE);
+    let fed = with_word(with_word(command, schema(alloc))?, optional_feeds(alloc))?;
+    with_word(with_word(fed, ring(alloc))?, threads(alloc))
+}
+
+// The command `merge` with its words.
+fn merge_command<'a>(alloc: Global) -> Result<Command<'a>, AllocError>
+    ensures line { IfOk result (λ command. app_of command ≡ merge_line) }
+    ensures local { IfOk result (λ command. (fields_of command).has_globals ≡ false) }
+{
+    let command = Command::new(alloc, "merge")
+        .about("Prints the cube of all the facts of printed cubes, as CSV")
+        .after_help(AFTER_MERGE);
+    let named = with_word(with_word(command, schema(alloc))?, cubes(alloc))?;
+    let partial = partial(
+        alloc,
+        "Writes the partial form again, so that what is printed can be merged too",
+    );
+    with_word(with_word(named, partial)?, check(alloc))
 }
 
 // The command `explain` with its word.
@@ -240,13 +360,11 @@ fn cell<'a>(alloc: Global, help: &'a str) -> Arg<'a>
 }
 
 // The word that names a dimension.
-fn dimension<'a>(alloc: Global) -> Arg<'a>
+fn dimension<'a>(alloc: Global, help: &'a str) -> Arg<'a>
     ensures rule { rule_of result ≡ dimension_word }
     ensures own { result.global ≡ false }
 {
-    Arg::new(alloc, "DIM")
-        .help("The name of the dimension to drill down along")
-        .required(true)
+    Arg::new(alloc, "DIM").help(help).required(true)
 }
 
 // The words that name the feeds.
@@ -256,6 +374,27 @@ fn feeds<'a>(alloc: Global) -> Arg<'a>
 {
     Arg::new(alloc, "FEED")
         .help("The feeds: CSV files, 1 to 64")
+        .num_args(1..)
+        .required(true)
+}
+
+// The words that name the feeds, where they may be left out.
+fn optional_feeds<'a>(alloc: Global) -> Arg<'a>
+    ensures rule { rule_of result ≡ optional_feed_words }
+    ensures own { result.global ≡ false }
+{
+    feeds(alloc)
+        .help("The feeds that are read first: CSV files, none to 64")
+        .required(false)
+}
+
+// The words that name the cubes to be merged.
+fn cubes<'a>(alloc: Global) -> Arg<'a>
+    ensures rule { rule_of result ≡ merged_words }
+    ensures own { result.global ≡ false }
+{
+    Arg::new(alloc, "CUBE")
+        .help("The cubes: files that were printed with --partial, 1 to 64")
         .num_args(1..)
         .required(true)
 }
@@ -298,4 +437,26 @@ fn threads<'a>(alloc: Global) -> Arg<'a>
         .help(
             "How many threads fill, sort and print the cube, 1 to 16; as many as the machine has, at most 16, where left out",
         )
+}
+
+// The option for the partial form.
+fn partial<'a>(alloc: Global, help: &'a str) -> Arg<'a>
+    ensures rule { rule_of result ≡ partial_option }
+    ensures own { result.global ≡ false }
+{
+    Arg::new(alloc, "partial")
+        .long("partial")
+        .action(ArgAction::SetTrue)
+        .help(help)
+}
+
+// The option to read all cubes before the first line is written.
+fn check<'a>(alloc: Global) -> Arg<'a>
+    ensures rule { rule_of result ≡ check_option }
+    ensures own { result.global ≡ false }
+{
+    Arg::new(alloc, "check")
+        .long("check")
+        .action(ArgAction::SetTrue)
+        .help("Reads all cubes to their ends before it writes")
 }

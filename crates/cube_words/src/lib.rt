@@ -5,5 +5,5 @@ mod command_line;
 mod request;
 mod words;
 
-pub use request::{Request, RunWords};
+pub use request::{LiveWords, MergeWords, Request, RunWords};
 pub use words::{read_words, unreadable_words};

@@ -1,7 +1,7 @@
 //! What a command line asks for.
-ghost use Rattle.std.specs.Prelude.{◌≡◌, ℕ, Option, Some, None, IsOk, IfOk, IfSome, codes, map, option_map};
+ghost use Rattle.std.specs.Prelude.{◌≡◌, ◌≤◌, ℕ, Option, Some, None, IsOk, IfOk, IfSome, codes, length, map, option_map};
 ghost use Rattle.clap.specs.Words.{all_of, first_of, found_of, one_of, rows_of, subcommand_rows_of};
-ghost use Rattle.cube_words.specs.CommandLine.{AreRunWords, HasRoom, IsNumberOf, IsRequest, IsUpTo};
+ghost use Rattle.cube_words.specs.CommandLine.{AreLiveWords, AreMergeWords, AreRunWords, HasRoom, IsNumberOf, IsRequest, IsUpTo, LiveHasRoom, is_given, words_of};
 
 use clap::ArgMatches;
 use std::alloc::{AllocError, Global};
@@ -21,6 +21,32 @@ pub struct RunWords<'a> {
     pub threads: Option<usize>,
 }
 
+/// The files and the options of `live`.
+#[derive(Debug, Drop, PartialEq, Eq)]
+pub struct LiveWords<'a> {
+    /// The path of the schema file.
+    pub schema: &'a str,
+    /// The paths of the feeds, of which the first is source 1. There may be none.
+    pub feeds: Vec<&'a str>,
+    /// The capacity of each link, 1 to 65536.
+    pub ring: usize,
+    /// The number of threads, 1 to 16; none where the words leave it out.
+    pub threads: Option<usize>,
+}
+
+/// The files and the options of `merge`.
+#[derive(Debug, Drop, PartialEq, Eq)]
+pub struct MergeWords<'a> {
+    /// The path of the schema file.
+    pub schema: &'a str,
+    /// The paths of the cubes, at least one.
+    pub cubes: Vec<&'a str>,
+    /// Whether the merged cube is written in the partial form, so that it can be merged again.
+    pub partial: bool,
+    /// Whether all cubes are read to their ends before the first line is written.
+    pub check: bool,
+}
+
 /// What the words of a command line ask for.
 #[derive(Debug, Drop, PartialEq, Eq)]
 pub enum Request<'a> {
@@ -34,9 +60,10 @@ pub enum Request<'a> {
     Explain {
         code: Option<&'a str>,
     },
-    /// `print SCHEMA FEED...`: the cube of the feeds.
+    /// `print SCHEMA FEED...`: the cube of the feeds, in the partial form with `--partial`.
     Print {
         run: RunWords<'a>,
+        partial: bool,
     },
     /// `refusals SCHEMA FEED...`: the refused lines of the feeds.
     Refusals {
@@ -52,6 +79,20 @@ pub enum Request<'a> {
         run: RunWords<'a>,
         cell: &'a str,
         dimension: &'a str,
+    },
+    /// `rollup SCHEMA CELL DIM FEED...`: the line above a cell along a dimension.
+    RollUp {
+        run: RunWords<'a>,
+        cell: &'a str,
+        dimension: &'a str,
+    },
+    /// `live SCHEMA [FEED...]`: a cube that is kept right change by change, and asked in between.
+    Live {
+        live: LiveWords<'a>,
+    },
+    /// `merge SCHEMA CUBE...`: the cube of all the facts of printed cubes.
+    Merge {
+        merge: MergeWords<'a>,
     },
 }
 
@@ -87,6 +128,12 @@ fn command_of<'a>(
         let code = word_of(words, "CODE");
         return Ok(Some(Request::Explain { code }));
     }
+    if name == "live" {
+        return live_request(alloc, words);
+    }
+    if name == "merge" {
+        return merge_request(alloc, words);
+    }
     match run_words(alloc, words)? {
         Some(run) => Ok(run_request(name, run, words)),
         None => Ok(None),
@@ -101,16 +148,47 @@ fn check_request<'a>(words: &ArgMatches<'a>) -> Option<Request<'a>>
     Some(Request::Check { schema })
 }
 
+// The request that `live` makes.
+fn live_request<'a>(
+    alloc: Global,
+    words: &ArgMatches<'a>,
+) -> Result<Option<Request<'a>>, AllocError>
+    ensures { IfOk result (IsRequest (Some (codes "live", rows_of (found_of words.now)))) }
+{
+    match live_words(alloc, words)? {
+        Some(live) => Ok(Some(Request::Live { live })),
+        None => Ok(None),
+    }
+}
+
+// The request that `merge` makes.
+fn merge_request<'a>(
+    alloc: Global,
+    words: &ArgMatches<'a>,
+) -> Result<Option<Request<'a>>, AllocError>
+    ensures { IfOk result (IsRequest (Some (codes "merge", rows_of (found_of words.now)))) }
+{
+    match merge_words(alloc, words)? {
+        Some(merge) => Ok(Some(Request::Merge { merge })),
+        None => Ok(None),
+    }
+}
+
 // The request that a command with feeds makes.
 fn run_request<'a>(name: &str, run: RunWords<'a>, words: &ArgMatches<'a>) -> Option<Request<'a>>
     requires words { AreRunWords (rows_of (found_of words.now)) run }
     requires room { HasRoom run }
     requires check { ¬ (name.now ≡ codes "check") }
     requires explain { ¬ (name.now ≡ codes "explain") }
+    requires live { ¬ (name.now ≡ codes "live") }
+    requires merge { ¬ (name.now ≡ codes "merge") }
     ensures { IsRequest (Some (name.now, rows_of (found_of words.now))) result }
 {
     match name {
-        "print" => Some(Request::Print { run }),
+        "print" => {
+            let partial = has_flag(words, "partial");
+            Some(Request::Print { run, partial })
+        }
         "refusals" => Some(Request::Refusals { run }),
         "slice" => {
             let cell = word_of(words, "CELL")?;
@@ -120,6 +198,15 @@ fn run_request<'a>(name: &str, run: RunWords<'a>, words: &ArgMatches<'a>) -> Opt
             let cell = word_of(words, "CELL")?;
             let dimension = word_of(words, "DIM")?;
             Some(Request::Drill {
+                run,
+                cell,
+                dimension,
+            })
+        }
+        "rollup" => {
+            let cell = word_of(words, "CELL")?;
+            let dimension = word_of(words, "DIM")?;
+            Some(Request::RollUp {
                 run,
                 cell,
                 dimension,
@@ -137,27 +224,75 @@ fn run_words<'a>(alloc: Global, words: &ArgMatches<'a>) -> Result<Option<RunWord
     ensures none { (run : RunWords) → AreRunWords (rows_of (found_of words.now)) run → HasRoom run →
         IfOk result (λ found. ¬ (found ≡ None)) }
 {
-    let (Some(schema), Some(paths)) = (word_of(words, "SCHEMA"), paths_of(words)) else {
+    let (Some(live), Ok(Some(builders))) = (
+        live_words(alloc, words)?,
+        number_of(words, "builders", 8),
+    ) else {
         return Ok(None);
     };
-    let (Ok(Some(ring)), Ok(Some(builders)), Ok(threads)) = (
+    if live.feeds.is_empty() {
+        return Ok(None);
+    }
+    Ok(Some(RunWords {
+        schema: live.schema,
+        feeds: live.feeds,
+        ring: live.ring,
+        builders: builders as u32,
+        threads: live.threads,
+    }))
+}
+
+// The files and the options of `live`, which each command with feeds has too; none only where the schema is missing or
+// a number out of bounds.
+fn live_words<'a>(
+    alloc: Global,
+    words: &ArgMatches<'a>,
+) -> Result<Option<LiveWords<'a>>, AllocError>
+    ensures words { IfOk result
+        (λ live. IfSome live (AreLiveWords (rows_of (found_of words.now)))) }
+    ensures room { IfOk result (λ live. IfSome live LiveHasRoom) }
+    ensures none { (live : LiveWords) → AreLiveWords (rows_of (found_of words.now)) live → LiveHasRoom live →
+        IfOk result (λ found. ¬ (found ≡ None)) }
+{
+    let (Some(schema), Ok(Some(ring)), Ok(threads)) = (
+        word_of(words, "SCHEMA"),
         number_of(words, "ring", 65536),
-        number_of(words, "builders", 8),
         number_of(words, "threads", 16),
     ) else {
         return Ok(None);
     };
-    if paths.is_empty() {
-        return Ok(None);
-    }
-    let mut feeds = Vec::new(alloc);
-    feeds.extend_from_slice(paths)?;
-    Ok(Some(RunWords {
+    let feeds = all_words(alloc, words, "FEED")?;
+    Ok(Some(LiveWords {
         schema,
         feeds,
         ring,
-        builders: builders as u32,
         threads,
+    }))
+}
+
+// The files and the options of `merge`; none only where a word is missing.
+fn merge_words<'a>(
+    alloc: Global,
+    words: &ArgMatches<'a>,
+) -> Result<Option<MergeWords<'a>>, AllocError>
+    ensures words { IfOk result
+        (λ merge. IfSome merge (AreMergeWords (rows_of (found_of words.now)))) }
+    ensures cubes { IfOk result (λ merge. IfSome merge (λ some. 1 ≤ length some.cubes.items)) }
+    ensures none { (merge : MergeWords) → AreMergeWords (rows_of (found_of words.now)) merge → 1 ≤ length merge.cubes.items →
+        IfOk result (λ found. ¬ (found ≡ None)) }
+{
+    let Some(schema) = word_of(words, "SCHEMA") else {
+        return Ok(None);
+    };
+    let cubes = all_words(alloc, words, "CUBE")?;
+    if cubes.is_empty() {
+        return Ok(None);
+    }
+    Ok(Some(MergeWords {
+        schema,
+        cubes,
+        partial: has_flag(words, "partial"),
+        check: has_flag(words, "check"),
     }))
 }
 
@@ -169,12 +304,28 @@ fn word_of<'a>(words: &ArgMatches<'a>, name: &str) -> Option<&'a str>
     words.get_str(name)
 }
 
-// The paths of the feeds.
-fn paths_of<'w, 'a>(words: &'w ArgMatches<'a>) -> Option<&'w [&'a str]>
-    ensures { option_map (λ paths. map (λ path. path.now) paths.now) result
-        ≡ all_of (codes "FEED") (rows_of (found_of words.now)) }
+// All words of this name, in their order.
+fn all_words<'a>(
+    alloc: Global,
+    words: &ArgMatches<'a>,
+    name: &str,
+) -> Result<Vec<&'a str>, AllocError>
+    ensures { IfOk result (λ all. map (λ word. word.now) all.items
+        ≡ words_of name.now (rows_of (found_of words.now))) }
 {
-    words.get_strs("FEED")
+    let mut all = Vec::new(alloc);
+    let Some(found) = words.get_strs(name) else {
+        return Ok(all);
+    };
+    all.extend_from_slice(found)?;
+    Ok(all)
+}
+
+// Whether an option without a value is given.
+fn has_flag(words: &ArgMatches, option: &str) -> bool
+    ensures { result ≡ is_given (one_of option.now (rows_of (found_of words.now))) }
+{
+    words.get_one::<bool>(option).unwrap_or(false)
 }
 
 // The number that an option has, if it has one. The error is only for a text that isn't a number from 1 to this bound.

@@ -2,18 +2,19 @@
 //! `cube_tool` that does the work.
 #![tactic(auto)]
 
-ghost use Rattle.std.specs.Prelude.{◌≡◌, ◌≤◌, length, vec_len, IfOk};
+ghost use Rattle.std.specs.Prelude.{◌≡◌, ◌≤◌, length, vec_len, IfOk, IfSome};
 ghost use Rattle.cube_tool.specs.Answering.{Fits};
-ghost use Rattle.cube_words.specs.CommandLine.{HasRoom, IsInBounds};
+ghost use Rattle.cube_words.specs.CommandLine.{HasRoom, IsInBounds, IsUpTo, LiveHasRoom};
 
 use cube_core::Schema;
 use cube_threads::Settings;
-use cube_tool::RunFault;
 use cube_tool::command::{
-    Failure, NOTES, Question, Status, answer_words, ask, check, explain, read_cell, read_dimension,
-    read_pattern, read_schema, run_sample,
+    Failure, LATER_NOTES, NOTES, Question, Status, answer_words, ask, check, check_cubes, explain,
+    first_repeated, live, merge_cubes, read_cell, read_dimension, read_pattern, read_schema,
+    run_sample,
 };
-use cube_words::{Request, RunWords, read_words, unreadable_words};
+use cube_tool::{InputFault, MergeFault, RunFault};
+use cube_words::{LiveWords, MergeWords, Request, RunWords, read_words, unreadable_words};
 use std::fs::File;
 use std::process::ExitCode;
 use std::sync::Wait;
@@ -23,12 +24,16 @@ use std::{env, io, mem, thread};
 /// The most threads that a run works with once its feeds have ended.
 const MOST_THREADS: usize = 16;
 
+/// The word for standard input, as a schema, a feed or a cube.
+const STANDARD_INPUT: &str = "-";
+
 /// What a command with feeds asks, as its words say it.
 #[derive(Drop)]
 enum Asked<'w> {
     Cube,
     Slice { cell: &'w str },
     Drill { cell: &'w str, dimension: &'w str },
+    RollUp { cell: &'w str, dimension: &'w str },
     Refusals,
 }
 
@@ -54,7 +59,7 @@ fn run<T: Threads + Wait + Sync>(rt: &HostRuntime, threads: &T) -> Result<Status
         }
     };
     match read_words(alloc, words.as_slice()) {
-        Ok(request) => obey(rt, threads, request),
+        Ok(request) => obey(rt, threads, &request),
         Err(answer) => answer_words(alloc, &answer, &mut rt.stdout(), &mut rt.stderr()),
     }
 }
@@ -68,24 +73,67 @@ fn words_of(rt: &HostRuntime) -> io::Result<Vec<String>> {
 fn obey<T: Threads + Wait + Sync>(
     rt: &HostRuntime,
     threads: &T,
-    request: Request,
+    request: &Request,
 ) -> Result<Status, Failure>
-    requires { IsInBounds request }
+    requires { IsInBounds request.now }
 {
     let alloc = rt.alloc();
     match request {
         Request::Sample => run_sample(alloc, rt.stdin(), &mut rt.stdout()),
         Request::Check { schema } => check(alloc, open_schema(rt, schema)?, &mut rt.stdout()),
-        Request::Explain { code } => explain(alloc, &NOTES, code, &mut rt.stdout()),
-        Request::Print { run } => answer(rt, threads, &run, Asked::Cube),
-        Request::Refusals { run } => answer(rt, threads, &run, Asked::Refusals),
-        Request::Slice { run, cell } => answer(rt, threads, &run, Asked::Slice { cell }),
+        Request::Explain { code } => explain_code(rt, *code),
+        Request::Print { run, partial } => print(rt, threads, run, *partial),
+        Request::Refusals { run } => answer(rt, threads, run, Asked::Refusals),
+        Request::Slice { run, cell } => answer(rt, threads, run, Asked::Slice { cell }),
         Request::Drill {
             run,
             cell,
             dimension,
-        } => answer(rt, threads, &run, Asked::Drill { cell, dimension }),
+        } => answer(rt, threads, run, Asked::Drill { cell, dimension }),
+        Request::RollUp {
+            run,
+            cell,
+            dimension,
+        } => answer(rt, threads, run, Asked::RollUp { cell, dimension }),
+        Request::Live { live } => serve(rt, threads, live),
+        Request::Merge { merge } => merge_files(rt, merge),
     }
+}
+
+/// Says what a code means, or what all mean: first of the one table of notes, then of the other.
+fn explain_code(rt: &HostRuntime, code: Option<&str>) -> Result<Status, Failure> {
+    match explain_first(rt, code) {
+        Err(Failure::UnknownCode) => explain_later(rt, code),
+        Ok(_) if code.is_none() => explain_later(rt, code),
+        ended => ended,
+    }
+}
+
+/// Says what a code of the first table means, or what all do.
+fn explain_first(rt: &HostRuntime, code: Option<&str>) -> Result<Status, Failure> {
+    explain(rt.alloc(), &NOTES, code, &mut rt.stdout())
+}
+
+/// Says what a code of the later table means, or what all do.
+fn explain_later(rt: &HostRuntime, code: Option<&str>) -> Result<Status, Failure> {
+    explain(rt.alloc(), &LATER_NOTES, code, &mut rt.stdout())
+}
+
+/// Prints the cube of feeds, under the schema or its partial form.
+fn print<T: Threads + Wait + Sync>(
+    rt: &HostRuntime,
+    threads: &T,
+    words: &RunWords,
+    is_partial: bool,
+) -> Result<Status, Failure>
+    requires { HasRoom words.now }
+{
+    let schema = schema_of(rt, words.schema, &words.feeds, 1)?;
+    if is_partial {
+        let partial = schema.partial(rt.alloc())?;
+        return answer_under(rt, threads, words, &partial, Asked::Cube);
+    }
+    answer_under(rt, threads, words, &schema, Asked::Cube)
 }
 
 /// Answers a command with feeds.
@@ -97,13 +145,27 @@ fn answer<T: Threads + Wait + Sync>(
 ) -> Result<Status, Failure>
     requires { HasRoom words.now }
 {
+    let schema = schema_of(rt, words.schema, &words.feeds, 1)?;
+    answer_under(rt, threads, words, &schema, asked)
+}
+
+/// Answers a command with feeds under a schema.
+fn answer_under<T: Threads + Wait + Sync>(
+    rt: &HostRuntime,
+    threads: &T,
+    words: &RunWords,
+    schema: &Schema,
+    asked: Asked,
+) -> Result<Status, Failure>
+    requires room { HasRoom words.now }
+    requires feeds { length words.now.feeds.items ≤ 64 }
+{
     let alloc = rt.alloc();
-    let schema = schema_of(rt, words)?;
-    let question = question_of(rt, &schema, asked)?;
+    let question = question_of(rt, schema, asked)?;
     let feeds = open_feeds(rt, &words.feeds)?;
-    let settings = settings_of(threads, words);
+    let settings = settings_of(threads, words.ring, words.builders, words.threads);
     let out = &mut rt.stdout();
-    let (status, built) = ask(threads, alloc, &schema, feeds, &settings, &question, out)?;
+    let (status, built) = ask(threads, alloc, schema, feeds, &settings, &question, out)?;
     // The process ends after this, so what was built isn't taken apart.
     mem::forget(built);
     Ok(status)
@@ -126,18 +188,62 @@ fn question_of(rt: &HostRuntime, schema: &Schema, asked: Asked) -> Result<Questi
             let dimension = read_dimension(schema, dimension)?;
             Ok(Question::Drill { key, dimension })
         }
+        Asked::RollUp { cell, dimension } => {
+            let key = read_cell(alloc, schema, cell)?;
+            let dimension = read_dimension(schema, dimension)?;
+            Ok(Question::RollUp { key, dimension })
+        }
     }
 }
 
-/// The settings of a run: those that the words give, and else as many threads as the machine has.
-fn settings_of<T: Threads>(rt: &T, words: &RunWords) -> Settings
-    requires { HasRoom words.now }
+/// Serves the records of standard input over a cube that is kept right.
+fn serve<T: Threads + Wait + Sync>(
+    rt: &HostRuntime,
+    threads: &T,
+    words: &LiveWords,
+) -> Result<Status, Failure>
+    requires { LiveHasRoom words.now }
 {
-    let threads = match words.threads {
+    let schema = schema_of(rt, words.schema, &words.feeds, 0)?;
+    let feeds = open_feeds(rt, &words.feeds)?;
+    let settings = settings_of(threads, words.ring, 1, words.threads);
+    let (input, out) = (rt.stdin(), &mut rt.stdout());
+    live(threads, rt.alloc(), &schema, feeds, &settings, input, out)
+}
+
+/// Merges printed cubes.
+fn merge_files(rt: &HostRuntime, words: &MergeWords) -> Result<Status, Failure> {
+    let alloc = rt.alloc();
+    if words.cubes.len() > 64 {
+        return Err(Failure::TooManyCubes);
+    }
+    if inputs_among(words.schema, &words.cubes) > 1 {
+        return Err(Failure::InputTaken);
+    }
+    let schema = read_schema(alloc, open_schema(rt, words.schema)?)?;
+    if let Some(place) = first_repeated(&words.cubes) {
+        return Err(Failure::SamePath { input: place + 1 });
+    }
+    let partial = schema.partial(alloc)?;
+    let wanted = if words.partial { &partial } else { &schema };
+    if words.check {
+        check_cubes(alloc, &partial, wanted, open_cubes(rt, &words.cubes)?)?;
+    }
+    let cubes = open_cubes(rt, &words.cubes)?;
+    merge_cubes(alloc, &partial, wanted, cubes, &mut rt.stdout())
+}
+
+/// The settings of a run: those that the words give, and else as many threads as the machine has.
+fn settings_of<T: Threads>(rt: &T, ring: usize, builders: u32, threads: Option<usize>) -> Settings
+    requires ring { (1 ≤ ring) × (ring ≤ 65536) }
+    requires builders { (1 ≤ builders) × (builders ≤ 8) }
+    requires threads { IfSome threads (IsUpTo 16) }
+{
+    let threads = match threads {
         Some(threads) => threads,
         None => processors(rt),
     };
-    let Some(settings) = Settings::new(words.ring, words.builders, threads) else {
+    let Some(settings) = Settings::new(ring, builders, threads) else {
         unreachable!()
     };
     settings
@@ -153,18 +259,42 @@ fn processors<T: Threads>(rt: &T) -> usize
     }
 }
 
-/// The schema of a command with feeds, once it is seen that there are at most 64 feeds.
-fn schema_of(rt: &HostRuntime, words: &RunWords) -> Result<Schema, Failure>
-    ensures { IfOk result (λ _. length words.now.feeds.items ≤ 64) }
+/// The schema of a command with feeds, once it is seen that there are at most 64 feeds, and that standard input is named
+/// so many times at most.
+fn schema_of(
+    rt: &HostRuntime,
+    path: &str,
+    feeds: &[&str],
+    most_inputs: usize,
+) -> Result<Schema, Failure>
+    ensures { IfOk result (λ _. length feeds.now ≤ 64) }
 {
-    if words.feeds.len() > 64 {
+    if feeds.len() > 64 {
         return Err(Failure::TooManyFeeds);
     }
-    read_schema(rt.alloc(), open_schema(rt, words.schema)?)
+    if inputs_among(path, feeds) > most_inputs {
+        return Err(Failure::InputTaken);
+    }
+    read_schema(rt.alloc(), open_schema(rt, path)?)
+}
+
+/// How many of a schema's path and other paths name standard input.
+fn inputs_among(schema: &str, paths: &[&str]) -> usize {
+    let others = paths.iter().filter(|path| **path == STANDARD_INPUT).count();
+    others.saturating_add(usize::from(schema == STANDARD_INPUT))
+}
+
+/// The file that a word names: its own path, but for standard input.
+fn path_of(word: &str) -> &str {
+    if word == STANDARD_INPUT {
+        "/dev/stdin"
+    } else {
+        word
+    }
 }
 
 fn open_schema(rt: &HostRuntime, path: &str) -> Result<File, Failure> {
-    match File::open(rt, path) {
+    match File::open(rt, path_of(path)) {
         Ok(file) => Ok(file),
         Err(_) => Err(Failure::Unreadable),
     }
@@ -178,11 +308,33 @@ fn open_feeds(rt: &HostRuntime, paths: &[&str]) -> Result<Vec<File>, Failure>
     let mut files = Vec::new(rt.alloc());
     for path in paths {
         let source = files.len() as u32 + 1;
-        let Ok(file) = File::open(rt, path) else {
+        let Ok(file) = File::open(rt, path_of(path)) else {
             return Err(Failure::FeedUnreadable { source });
         };
         if files.push(file).is_err() {
             return Err(Failure::Run(RunFault::Memory));
+        }
+    }
+    Ok(files)
+}
+
+/// The files of the cubes to merge, opened in their order.
+fn open_cubes(rt: &HostRuntime, paths: &[&str]) -> Result<Vec<File>, Failure>
+    requires { length paths.now ≤ 64 }
+{
+    let mut files = Vec::new(rt.alloc());
+    for path in paths {
+        let input = files.len() + 1;
+        let Ok(file) = File::open(rt, path_of(path)) else {
+            let (fault, record) = (InputFault::Read, 0);
+            return Err(Failure::Merge(MergeFault::Input {
+                fault,
+                input,
+                record,
+            }));
+        };
+        if files.push(file).is_err() {
+            return Err(Failure::Merge(MergeFault::Memory));
         }
     }
     Ok(files)

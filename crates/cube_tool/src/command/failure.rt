@@ -5,6 +5,8 @@ ghost use Rattle.cube_tool.specs.Command.{status_of};
 use crate::command::status::Status;
 use crate::fault::{RunFault, TextFault};
 use cube_core::{QueryFault, SchemaFault};
+use cube_live::{JournalFault, SessionFault};
+use cube_merge::MergeFault;
 use cube_text::WriteFault;
 use cube_threads::FeedingFault;
 use std::fmt;
@@ -18,6 +20,8 @@ pub enum Failure {
     Schema(SchemaFault),
     /// There are more than 64 feeds.
     TooManyFeeds,
+    /// Standard input, `-`, was asked for more often than it can be read.
+    InputTaken,
     /// The file of a feed couldn't be opened; its source is counted from 1.
     FeedUnreadable { source: u32 },
     /// The cell, the pattern or the dimension that was asked for is refused.
@@ -26,6 +30,14 @@ pub enum Failure {
     UnknownCode,
     /// The run failed, or its text couldn't be written.
     Run(RunFault),
+    /// The session ended before its input did.
+    Session(SessionFault),
+    /// There are more than 64 cubes to merge.
+    TooManyCubes,
+    /// The path of a cube to merge, counted from 1, stands at an earlier place too.
+    SamePath { input: usize },
+    /// Cubes couldn't be merged. A cube that couldn't be opened is at fault at record 0.
+    Merge(MergeFault),
 }
 
 impl Failure {
@@ -35,8 +47,16 @@ impl Failure {
     {
         match self {
             Failure::Unreadable | Failure::Schema(_) => Status::WrongSchema,
-            Failure::TooManyFeeds | Failure::Query(_) | Failure::UnknownCode => Status::WrongWords,
-            Failure::FeedUnreadable { source: _ } | Failure::Run(_) => Status::Failed,
+            Failure::TooManyFeeds
+            | Failure::InputTaken
+            | Failure::Query(_)
+            | Failure::UnknownCode
+            | Failure::TooManyCubes
+            | Failure::SamePath { input: _ } => Status::WrongWords,
+            Failure::FeedUnreadable { source: _ }
+            | Failure::Run(_)
+            | Failure::Session(_)
+            | Failure::Merge(_) => Status::Failed,
         }
     }
 }
@@ -71,6 +91,17 @@ impl From<RunFault> for Failure {
 
     fn from(fault: RunFault) -> Failure {
         Failure::Run(fault)
+    }
+}
+
+impl From<SessionFault> for Failure {
+    ghost use Rattle.std.specs.Prelude.{◌≡◌};
+    ghost use Rattle.cube_tool.specs.declared.command.failure.Failure.TheVariants.{Session};
+
+    ghost from_gives = { λ fault failure. failure ≡ Session fault };
+
+    fn from(fault: SessionFault) -> Failure {
+        Failure::Session(fault)
     }
 }
 
@@ -117,10 +148,15 @@ impl fmt::Display for Failure {
             Failure::Unreadable => f.write_str("schema unreadable"),
             Failure::Schema(fault) => write!(f, "{fault}"),
             Failure::TooManyFeeds => f.write_str("too many feeds"),
+            Failure::InputTaken => f.write_str("standard input is taken"),
             Failure::FeedUnreadable { source } => write!(f, "feed {source} unreadable"),
             Failure::Query(fault) => write!(f, "{fault}"),
             Failure::UnknownCode => f.write_str("unknown code"),
             Failure::Run(fault) => write_run_fault(*fault, f),
+            Failure::Session(fault) => write_session_fault(*fault, f),
+            Failure::TooManyCubes => f.write_str("too many cubes"),
+            Failure::SamePath { input } => write!(f, "M2 {input}"),
+            Failure::Merge(fault) => write_merge_fault(*fault, f),
         }
     }
 }
@@ -132,5 +168,47 @@ fn write_run_fault<W: fmt::Write>(fault: RunFault, f: &mut fmt::Formatter<W>) ->
         RunFault::Unsealed { source } => write!(f, "{fault} {source}"),
         RunFault::Write { sent } => write!(f, "{fault} {sent}"),
         RunFault::Memory | RunFault::NoThread | RunFault::Full => write!(f, "{fault}"),
+    }
+}
+
+/// Writes what ended a session: a code, and behind it what tells where, as of a run's faults.
+fn write_session_fault<W: fmt::Write>(
+    fault: SessionFault,
+    f: &mut fmt::Formatter<W>,
+) -> fmt::Result {
+    match fault {
+        SessionFault::Read => f.write_str("Q3"),
+        SessionFault::TooMany(source) => write!(f, "G3 {source} F4"),
+        SessionFault::Full => f.write_str("G4"),
+        SessionFault::Write(sent) => write!(f, "G6 {sent}"),
+        SessionFault::Journal(fault) => f.write_str(journal_code(fault)),
+    }
+}
+
+/// The code of why a journal doesn't keep a change.
+fn journal_code(fault: JournalFault) -> &'static str {
+    match fault {
+        JournalFault::Failed => "D6",
+        JournalFault::NoRoom => "D7",
+        JournalFault::Memory => "D8",
+    }
+}
+
+/// Writes a fault's code, and behind it what tells where: an input with its record, which 0 isn't, or a number of bytes.
+fn write_merge_fault<W: fmt::Write>(fault: MergeFault, f: &mut fmt::Formatter<W>) -> fmt::Result {
+    match fault {
+        MergeFault::Memory => f.write_str("M1"),
+        MergeFault::Aggregates => f.write_str("M4"),
+        MergeFault::Input {
+            fault: why,
+            input,
+            record: 0,
+        } => write!(f, "{why} {input}"),
+        MergeFault::Input {
+            fault: why,
+            input,
+            record: number,
+        } => write!(f, "{why} {input} {number}"),
+        MergeFault::Write { sent } => write!(f, "G6 {sent}"),
     }
 }

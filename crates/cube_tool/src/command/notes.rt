@@ -15,7 +15,8 @@ pub struct Note {
     pub example: &'static str,
 }
 
-/// All codes. A refused line's number may stand for one thing under each version of feeds.
+/// The codes of schemas, feeds, runs over feeds and the program. A refused line's number may stand for one thing under
+/// each version of feeds.
 pub const NOTES: [Note; 49] = [
     Note {
         code: "S1",
@@ -358,6 +359,101 @@ pub const NOTES: [Note; 49] = [
         about: "program",
         means: "`explain` was asked for a code that isn't there.",
         mend: "`datacube explain` without a code shows all.",
+        example: "",
+    },
+];
+
+/// The codes of sessions, of cubes to merge, and of what their words may lack.
+pub const LATER_NOTES: [Note; 13] = [
+    Note {
+        code: "Q1",
+        about: "session",
+        means: "The first field of a record is neither a source, 1 to 64, nor a question.",
+        mend: "Begin a change with the number of its source, and a question with `print`, `slice`, `drill`, `rollup` or `refusals`.",
+        example: "3,D,a7",
+    },
+    Note {
+        code: "Q2",
+        about: "session",
+        means: "A question has another number of fields than it takes, or `refusals` names what is no source or no record number.",
+        mend: "`print` takes none, `slice` a field for each dimension, `drill` and `rollup` a dimension and a field for each, `refusals` none, or a source and a record number.",
+        example: "drill,kind,=west,\\A",
+    },
+    Note {
+        code: "Q3",
+        about: "session",
+        means: "The input couldn't be read to its end. The replies to all records before it went out.",
+        mend: "Check the pipe or the file that it comes from.",
+        example: "",
+    },
+    Note {
+        code: "M1",
+        about: "cube to merge",
+        means: "There wasn't enough memory for merging.",
+        mend: "Give the program more memory.",
+        example: "",
+    },
+    Note {
+        code: "M2",
+        about: "cube to merge",
+        means: "The path stands at an earlier place too, so its facts would count twice.",
+        mend: "Name each cube once.",
+        example: "",
+    },
+    Note {
+        code: "M3",
+        about: "cube to merge",
+        means: "The cube couldn't be opened, or its bytes couldn't be read to their end.",
+        mend: "Check the path and its rights, the file, and the disk that it is on. A folder can't be read either.",
+        example: "",
+    },
+    Note {
+        code: "M4",
+        about: "cube to merge",
+        means: "The first line isn't that of the schema's partial form.",
+        mend: "Print each cube to merge by `print --partial` or `merge --partial`, all under one schema.",
+        example: "",
+    },
+    Note {
+        code: "M5",
+        about: "cube to merge",
+        means: "The line isn't spelled as the program prints it: a field too few or too many, a needless quote, a number that is too large or spelled otherwise, or answers that gainsay one another. The message has the cube, counted from 1, and the record, the header being record 1.",
+        mend: "Give the file as it was printed. Programs for tables often write numbers and quotes anew. `datacube: M5 2 1184` is record 1184 of the second cube.",
+        example: "",
+    },
+    Note {
+        code: "M6",
+        about: "cube to merge",
+        means: "The key isn't above the one before it, in the order of a printed cube.",
+        mend: "Give the file as it was printed: don't sort it, and don't put files together.",
+        example: "",
+    },
+    Note {
+        code: "M7",
+        about: "cube to merge",
+        means: "A count or a sum of the merged row is too large: above 18446744073709551615, or outside 128 bits.",
+        mend: "Merge fewer cubes, or leave the aggregate out of the schema.",
+        example: "",
+    },
+    Note {
+        code: "M8",
+        about: "cube to merge",
+        means: "The cube ends without the line of the grand total, as happens where a file was cut.",
+        mend: "Print the cube again.",
+        example: "",
+    },
+    Note {
+        code: "standard input is taken",
+        about: "program",
+        means: "`-` stands for standard input more than once, or stands in `live`, whose records come from there.",
+        mend: "Name a file. A file of the name `-` is `./-`.",
+        example: "zcat feed.csv.gz | datacube print schema.toml -",
+    },
+    Note {
+        code: "too many cubes",
+        about: "program",
+        means: "There are more than 64 cubes to merge.",
+        mend: "Merge some of them by `merge --partial`, and then what that gives.",
         example: "",
     },
 ];

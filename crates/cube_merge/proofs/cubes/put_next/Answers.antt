@@ -1,13 +1,21 @@
+use Rattle.std.proofs.lemmas.Result.{err_from_is_err_and}
+use Rattle.cube_merge.proofs.FaultLaws.{StepFails-moves}
 use Rattle.cube_merge.proofs.StepLaws.{IsMerging-step}
 use Rattle.cube_merge.proofs.cubes.put_next.Goals as goal
 
-pub returns : goal.returns
-returns g c wanted sources =
-    let put = c.in_ok-put_row.ensures {u = tt} in
+pub returns-clause-ok : goal.returns-clause-ok
+returns-clause-ok g c wanted sources =
+    let put = c.in_ok-put_row.ensures.ok in
     let next = put.2 in (
       put.0,
       put.1,
       λ starts rows m.
           IsMerging-step c.args.given.now.aggregates wanted starts c.args.inputs.now c.move_inputs.new.inputs rows c.put_row.new.desk.used.items put.0 m next.wide c.move_inputs.auto.inputs next.uses next.some (next.answers wanted sources)
-          (rw c.as_slice.ensures.value at (c.in_ok-move_inputs.ensures {u = tt})),
+          (rw c.as_slice.ensures.value at (c.in_ok-move_inputs.ensures.ok)),
     )
+
+pub returns-in_err-move_inputs-clause-err : goal.returns-in_err-move_inputs-clause-err
+returns-in_err-move_inputs-clause-err g c =
+    let next = (c.in_ok-put_row.ensures.ok).2 in
+    let p = err_from_is_err_and c.from_residual-in_err-move_inputs.result c.from_residual-in_err-move_inputs.ensures.1 in
+    rw (p.1, p.2) (StepFails-moves c.args.given.now c.put_row.new.desk.used.items c.args.inputs.now _ _ next.uses (rw c.as_slice.ensures.value at c.in_err-move_inputs.ensures.err))

@@ -1,19 +1,21 @@
-use Rattle.std.proofs.Common.{◌≡◌, ◌∙◌, rules, ap, refl, Some, get_or}
+use Rattle.std.proofs.Common.{◌≡◌, ◌∙◌, ap, refl, sym, Some, get_or}
+use Rattle.std.proofs.lemmas.Result.{err_from_is_err_and}
 use Rattle.cube_core.specs.declared.key.Row.{Row}
-use Rattle.cube_merge.specs.Merging.{nothing_left}
+use Rattle.cube_merge.specs.Merging.{InputView, nothing_left}
 use Rattle.cube_merge.proofs.LeastLaws.{at_place, used_rows-some}
 use Rattle.cube_merge.proofs.CubesLaws.{IsLeastSoFar-all}
+use Rattle.cube_merge.proofs.FaultLaws.{StepFails-join, StepFails-row}
 use Rattle.cube_merge.proofs.cubes.put_row.Goals as goal
 
 pub join_rows-requires : goal.join_rows-requires
 join_rows-requires g c =
-    let is : c.index-inputs-place.result.row ≡ Some c.in-Some.row.now = search rules in
+    let is : c.index-inputs-place.result.row ≡ Some c.in-Some.row.now = (c.in-Some.ensures {u = tt}).0 in
     IsLeastSoFar-all c.args.inputs.now c.args.place c.in-Some.row.now c.requires
     (ap (λ x. x.row) (at_place c.args.inputs.now c.args.place c.index-inputs-place.result c.requires.0 c.index-inputs-place.is) ∙ is)
 
-pub returns : goal.returns
-returns g c =
-    let is : c.index-inputs-place.result.row ≡ Some c.in-Some.row.now = search rules in
+pub returns-clause-ok : goal.returns-clause-ok
+returns-clause-ok g c =
+    let is : c.index-inputs-place.result.row ≡ Some c.in-Some.row.now = (c.in-Some.ensures {u = tt}).0 in
     let there : (get_or c.args.inputs.now c.args.place nothing_left).row ≡ Some c.in-Some.row.now
     = ap (λ x. x.row) (at_place c.args.inputs.now c.args.place c.index-inputs-place.result c.requires.0 c.index-inputs-place.is) ∙ is in
     let row : Row = record { key = c.in-Some.row.now.key; answers = c.put_answers.new.answers.items } in
@@ -27,3 +29,14 @@ returns g c =
         answers = λ wanted sources. (rw c.as_slice.ensures.value at (c.in_ok-put_answers.ensures {u = tt})) c.args.given.now.aggregates wanted _ (rw c.aggregates.ensures.value at joined.made) sources;
       },
     )
+
+pub returns-in_default-clause-err : goal.returns-in_default-clause-err
+returns-in_default-clause-err g c =
+    let inputs = c.args.inputs.now in
+    StepFails-row c.args.given.now inputs c.args.place c.lines.result c.requires.1 c.fault_of.result c.fault_of.ensures c.requires.0 c.requires.2
+    (c.lines.ensures ∙ ap (λ (x : InputView). x.lines) (sym (at_place inputs c.args.place c.index-inputs-place-in_default.result c.requires.0 c.index-inputs-place-in_default.is)))
+
+pub returns-in_err-join_rows-clause-err : goal.returns-in_err-join_rows-clause-err
+returns-in_err-join_rows-clause-err g c =
+    let p = err_from_is_err_and c.from_residual.result c.from_residual.ensures.1 in
+    rw (p.1, p.2) (StepFails-join c.args.given.now c.args.inputs.now _ c.in_err-join_rows.ensures.err)

@@ -1,7 +1,9 @@
-use Rattle.std.proofs.Common.{◌≡◌, ◌++◌, ◌∷◌, [], ◌∙◌, rules, subst, length, take, arith, length-append}
-use Rattle.cube_merge.specs.Merging.{IsNotBelow, used_rows}
+use Rattle.std.proofs.Common.{◌≡◌, ◌++◌, ◌∷◌, [], ◌∙◌, rules, ap, sym, subst, length, take, arith, length-append}
+use Rattle.cube_merge.specs.Faults.{HasRow}
+use Rattle.cube_merge.specs.Merging.{InputView, IsNotBelow, used_rows}
 use Rattle.std.proofs.lemmas.List.{take_all}
 use Rattle.cube_merge.specs.Made.{AreMade}
+use Rattle.cube_merge.proofs.FaultLaws.{FailsToJoin-told}
 use Rattle.cube_merge.proofs.LeastLaws.{at_place, AreUses-push, AreUses-all, AreMade-next}
 use Rattle.cube_merge.proofs.step.join_used.Goals as goal
 
@@ -31,3 +33,12 @@ returns-clause-uses g c =
 pub returns-clause-made : goal.returns-clause-made
 returns-clause-made g c =
     subst (λ is. AreMade c.args.given.now (used_rows c.loop-place.used.items is) c.loop-place.made) (take_all c.loop-place.place c.args.inputs.now c.loop-place-test.false) c.loop-place.invariant.made
+
+pub returns-in_default-clause-err : goal.returns-in_default-clause-err
+returns-in_default-clause-err g c =
+    let i = c.loop-place.place in
+    let inputs = c.args.inputs.now in
+    let inside = c.loop-place-test.true in
+    FailsToJoin-told inputs i c.lines.result c.fault_of.result c.fault_of.ensures inside
+    (subst HasRow (sym (at_place inputs i c.index-inputs-place.result inside c.index-inputs-place.is)) c.in_default.ensures.too_large)
+    (c.lines.ensures ∙ ap (λ (x : InputView). x.lines) (sym (at_place inputs i c.index-inputs-place-in_default.result inside c.index-inputs-place-in_default.is)))

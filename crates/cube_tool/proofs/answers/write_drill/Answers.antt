@@ -1,4 +1,4 @@
-use Rattle.std.proofs.Common.{◌≡◌, ◌∙◌, refl, rules, subst}
+use Rattle.std.proofs.Common.{refl, subst}
 use Rattle.std.specs.Global.{Vec}
 use Rattle.std.specs.Prelude.{Err}
 use Rattle.std.proofs.lemmas.Result.{err_from_is_err_and}
@@ -8,7 +8,7 @@ use Rattle.cube_core.specs.declared.key.Row.{Row}
 use Rattle.cube_threads.specs.Parts.{AreRowsOfRun, facts_of_run, schema_of_run}
 use Rattle.cube_tool.specs.Answering.{IsToldOf, refusals_of_run}
 use Rattle.cube_tool.specs.declared.question.Question.TheVariants.{Drill}
-use Rattle.cube_tool.proofs.AnsweringLaws.{Answers-text, DrillsDown, DrillsDown-given, GivesUnless-Err, IsTextWhere-rows, Writes-weaker, shapes}
+use Rattle.cube_tool.proofs.AnsweringLaws.{Answers-text, DrillsDown-given, GivesUnless-Err, IsTextWhere-rows, Writes-weaker, shapes}
 use Rattle.cube_tool.proofs.RunLaws.{Wrote-weaker}
 use Rattle.cube_tool.proofs.answers.write_drill.Goals as goal
 

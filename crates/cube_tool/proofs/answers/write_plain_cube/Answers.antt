@@ -1,7 +1,6 @@
-use Rattle.std.proofs.Common.{◌≡◌, ◌∙◌, refl}
+use Rattle.std.proofs.Common.{◌∙◌, refl}
 use Rattle.std.proofs.lemmas.Result.{err_from_is_err_and}
 use Rattle.cube_core.specs.Cube.{AreRows}
-use Rattle.cube_core.specs.Printed.{IsPrinted}
 use Rattle.cube_engine.specs.Ledger.{all_facts}
 use Rattle.cube_tool.proofs.AnsweringLaws.{Writes-weaker}
 use Rattle.cube_tool.proofs.RunLaws.{AreRows-AreRowsOver}

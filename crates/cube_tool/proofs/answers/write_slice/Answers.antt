@@ -1,7 +1,5 @@
-use Rattle.std.proofs.Common.{◌≡◌, length, refl, subst}
-use Rattle.std.proofs.lemmas.List.Sums.{list_all-from_AllPass}
+use Rattle.std.proofs.Common.{refl}
 use Rattle.std.proofs.lemmas.Result.{err_from_is_err_and}
-use Rattle.cube_core.specs.Layout.{Layout}
 use Rattle.cube_core.specs.Query.{matches}
 use Rattle.cube_tool.proofs.AnsweringLaws.{IsTextWhere-rows, Writes-weaker, shapes}
 use Rattle.cube_tool.proofs.answers.write_slice.Goals as goal

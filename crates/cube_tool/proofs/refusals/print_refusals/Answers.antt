@@ -1,4 +1,4 @@
-use Rattle.std.proofs.Common.{[], map}
+use Rattle.std.proofs.Common.{[]}
 use Rattle.std.proofs.lemmas.Result.{IfOk-weaker}
 use Rattle.cube_core.specs.Text.{text_of_refusals}
 use Rattle.cube_tool.proofs.RefusalLaws.{refusals_of_accounts}

@@ -1,4 +1,4 @@
-use Rattle.std.proofs.Common.{map, refl}
+use Rattle.std.proofs.Common.{refl}
 use Rattle.std.proofs.lemmas.Result.{err_from_is_err_and}
 use Rattle.cube_tool.specs.declared.question.Question.TheVariants.{Cube}
 use Rattle.cube_tool.proofs.AnsweringLaws.{Leaves-feeding, Leaves-text}

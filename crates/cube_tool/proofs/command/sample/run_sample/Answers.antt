@@ -1,4 +1,4 @@
-use Rattle.std.proofs.Common.{◌≡◌, ◌∙◌, ap, map, sym}
+use Rattle.std.proofs.Common.{◌∙◌, ap, map, sym}
 use Rattle.std.proofs.lemmas.List.{length-map}
 use Rattle.cube_tool.specs.declared.question.Question.TheVariants.{Cube}
 use Rattle.cube_tool.proofs.RunLaws.{OfFeeds-sample}

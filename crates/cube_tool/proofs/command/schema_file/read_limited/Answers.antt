@@ -1,5 +1,4 @@
-use Rattle.std.proofs.Common.{◌≡◌, ◌≤◌, ◌<◌, List, ℕ, Ok, Err, length, inl, inr, rules}
-use Rattle.std.specs.Prelude.{IfOk, IfSome}
+use Rattle.std.proofs.Common.{length, inl, inr, rules}
 use Rattle.std.proofs.lemmas.Bool.{cases_lt}
 use Rattle.cube_tool.proofs.CommandLaws.{IfSome-take_short}
 use Rattle.cube_tool.proofs.command.schema_file.read_limited.Goals as goal

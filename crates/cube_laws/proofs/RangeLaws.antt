@@ -1,0 +1,171 @@
+-- The answers over facts that can be counted are in the ranges of their kinds.
+use Rattle.std.proofs.Common.{◌≡◌, ℕ, zero, suc, ◌+◌, ◌*◌, ◌<◌, ◌≤◌, ◌≤ℤ◌, ◌^◌, Bool, ℤ, pos, negsuc, neg_ℤ, ◌+ℤ◌, unsigned_abs, List, [], ◌∷◌, length, get_or, filter, Option, Some, None, IfSome, FitsSigned, sym, ap, ◌∙◌, subst, inl, inr, arith}
+use Prim.Native.Nat.{◌∣◌}
+use Rattle.std.specs.Int.{w64, w128}
+use Rattle.std.specs.List.{AllByRecursion, AllZip, cons_option}
+use Rattle.std.proofs.lemmas.Bool.{cases_Bool}
+use Rattle.std.proofs.lemmas.Int.{ints, fits_signed_from_abs, unsigned_abs-mul}
+use Rattle.std.proofs.lemmas.List.Elements.{All-filter, All-from_recursion, recursion_from_All}
+use Rattle.std.proofs.lemmas.Nat.Gcd.{IsGcd-swap, le_of_dvd}
+use Rattle.std.proofs.Math.Nat.{dvd-mul_left, dvd-mul_right, mul_comm, le-mul_of_pos_right}
+use Rattle.cube_core.specs.Answer.{IsSum, IsBest, IsMean, IsAnswer, AreAnswers}
+use Rattle.cube_core.specs.Covers.{covers}
+use Rattle.cube_core.specs.Cube.{AreRows, HasAnswers, key_of}
+use Rattle.cube_core.specs.Fraction.{IsInLowestTerms}
+use Rattle.cube_core.specs.Group.{group_of, values_of, value_of, total_of}
+use Rattle.cube_core.specs.Layout.{Layout}
+use Rattle.cube_core.specs.declared.aggregate.Agg.{Agg}
+use Rattle.cube_core.specs.declared.aggregate.Agg.TheVariants.{CountAll, Count, Sum, Min, Max, Avg}
+use Rattle.cube_core.specs.declared.aggregate.Answer.{Answer}
+use Rattle.cube_core.specs.declared.fact.Fact.{Fact}
+use Rattle.cube_core.specs.declared.key.Row.{Row}
+use Rattle.cube_core.proofs.CommonDivisorLaws.{divides-coprime}
+use Rattle.cube_core.proofs.ListLaws.{AllByRecursion-Contains, Contains-AllByRecursion, map-Contains, filter-passed, filter-failed}
+use Rattle.cube_laws.specs.Told.{IsCount, IsNumber, IsFraction, IsOfKind, IsRowOf, HasSmallValues, AreCountable, CanBePrinted}
+use Rattle.cube_laws.proofs.KeyLaws.{IsTold-is_cell}
+
+-- ---- sizes
+-- a number is as far from 0 as its size
+unsigned_abs-within : (z : ℤ) → (neg_ℤ (pos (unsigned_abs z)) ≤ℤ z) × (z ≤ℤ pos (unsigned_abs z))
+unsigned_abs-within (pos n) = (omega (arith, ints), omega (arith, ints))
+unsigned_abs-within (negsuc n) = (omega (arith, ints), omega (arith, ints))
+
+within-unsigned_abs : (z : ℤ) (k : ℕ) → neg_ℤ (pos k) ≤ℤ z → z ≤ℤ pos k → unsigned_abs z ≤ k
+within-unsigned_abs (pos n) k below above = omega (arith, ints)
+within-unsigned_abs (negsuc n) k below above = omega (arith, ints)
+
+unsigned_abs-add : (a b : ℤ) → unsigned_abs (a +ℤ b) ≤ unsigned_abs a + unsigned_abs b
+unsigned_abs-add a b =
+    let of_a = unsigned_abs-within a in
+    let of_b = unsigned_abs-within b in
+    let low : neg_ℤ (pos (unsigned_abs a + unsigned_abs b)) ≤ℤ (a +ℤ b) = omega (arith, ints, of_a.0, of_b.0) in
+    let high : (a +ℤ b) ≤ℤ pos (unsigned_abs a + unsigned_abs b) = omega (arith, ints, of_a.1, of_b.1) in
+    within-unsigned_abs (a +ℤ b) (unsigned_abs a + unsigned_abs b) low high
+
+-- a number of 64 bits has a size of at most 2 to the power 63
+fits-unsigned_abs : (z : ℤ) → FitsSigned w64 z → unsigned_abs z ≤ 2 ^ 63
+fits-unsigned_abs (pos n) fits = omega arith
+fits-unsigned_abs (negsuc n) fits = omega arith
+
+fits_wide : (z : ℤ) → unsigned_abs z < 2 ^ 127 → FitsSigned w128 z
+fits_wide z small = fits_signed_from_abs w128 z small
+
+-- the sum of numbers of 64 bits
+total_of-unsigned_abs : (values : List ℤ) → AllByRecursion (FitsSigned w64) values → unsigned_abs (total_of values) ≤ length values * 2 ^ 63
+total_of-unsigned_abs [] small = omega arith
+total_of-unsigned_abs (v ∷ vs) small =
+    let first : unsigned_abs v ≤ 2 ^ 63 = fits-unsigned_abs v small.0 in
+    let after : unsigned_abs (total_of vs) ≤ length vs * 2 ^ 63 = total_of-unsigned_abs vs small.1 in
+    let sum : unsigned_abs (v +ℤ total_of vs) ≤ unsigned_abs v + unsigned_abs (total_of vs) = unsigned_abs-add v (total_of vs) in
+    omega (arith, first, after, sum)
+
+-- fewer than 2 to the power 64 of them
+total_of-fits : (values : List ℤ) → length values < 2 ^ 64 → AllByRecursion (FitsSigned w64) values → unsigned_abs (total_of values) < 2 ^ 127
+total_of-fits values few small = let size = total_of-unsigned_abs values small in omega (arith, size, few)
+
+-- ---- fractions
+-- a fraction in lowest terms is no larger than what it is made of
+IsInLowestTerms-size : (total : ℤ) (count : ℕ) (p : ℤ) (q : ℕ) → IsInLowestTerms total count p q → unsigned_abs p * count ≡ unsigned_abs total * q
+IsInLowestTerms-size total count p q h = sym (unsigned_abs-mul p (pos count)) ∙ ap unsigned_abs h.equal ∙ unsigned_abs-mul total (pos q)
+
+IsInLowestTerms-count : (total : ℤ) (count : ℕ) (p : ℤ) (q : ℕ) → 0 < count → IsInLowestTerms total count p q → q ≤ count
+IsInLowestTerms-count total count p q some h =
+    le_of_dvd some (divides-coprime q (unsigned_abs p) count (IsGcd-swap (unsigned_abs p) q 1 h.coprime)
+    (subst (λ n. q ∣ n) (sym (IsInLowestTerms-size total count p q h)) (dvd-mul_left q (unsigned_abs total))))
+
+size-le : (a b count q : ℕ) → 0 < count → a ∣ b → a * count ≡ b * q → a ≤ b
+size-le a zero count q some divides size = omega (arith, le-mul_of_pos_right a some, size)
+size-le a (suc b) count q some divides size = le_of_dvd (omega arith) divides
+
+IsInLowestTerms-total : (total : ℤ) (count : ℕ) (p : ℤ) (q : ℕ) → 0 < count → IsInLowestTerms total count p q → unsigned_abs p ≤ unsigned_abs total
+IsInLowestTerms-total total count p q some h =
+    let size = IsInLowestTerms-size total count p q h in
+    size-le (unsigned_abs p) (unsigned_abs total) count q some
+    (divides-coprime (unsigned_abs p) q (unsigned_abs total) h.coprime
+    (subst (λ n. unsigned_abs p ∣ n) (size ∙ mul_comm (unsigned_abs total) q) (dvd-mul_right (unsigned_abs p) count))) size
+
+-- ---- answers
+IsSum-IsNumber : (values : List ℤ) (a : Answer) → length values < 2 ^ 64 → AllByRecursion (FitsSigned w64) values → IsSum values a → IsNumber a
+IsSum-IsNumber [] a few small h = subst IsNumber (sym h) tt
+IsSum-IsNumber (v ∷ vs) a few small h = subst IsNumber (sym h) (fits_wide (total_of (v ∷ vs)) (total_of-fits (v ∷ vs) few small))
+
+IsBest-IsNumber : (R : ℤ → ℤ → Type 0) (values : List ℤ) (a : Answer) → AllByRecursion (FitsSigned w64) values → IsBest R values a → IsNumber a
+IsBest-IsNumber R [] a small h = subst IsNumber (sym h) tt
+IsBest-IsNumber R (v ∷ vs) a small h =
+    let size = fits-unsigned_abs h.0 (AllByRecursion-Contains (FitsSigned w64) (v ∷ vs) h.0 small h.2) in
+    subst IsNumber (sym h.1) (fits_wide h.0 (omega (arith, size)))
+
+IsMean-IsFraction : (values : List ℤ) (a : Answer) → length values < 2 ^ 64 → AllByRecursion (FitsSigned w64) values → IsMean values a → IsFraction a
+IsMean-IsFraction [] a few small h = subst IsFraction (sym h) tt
+IsMean-IsFraction (v ∷ vs) a few small h =
+    let total = total_of-fits (v ∷ vs) few small in
+    let size = IsInLowestTerms-total (total_of (v ∷ vs)) (length (v ∷ vs)) h.0 h.1 (omega arith) h.3 in
+    let count = IsInLowestTerms-count (total_of (v ∷ vs)) (length (v ∷ vs)) h.0 h.1 (omega arith) h.3 in
+    subst IsFraction (sym h.2) (fits_wide h.0 (omega (arith, total, size)), omega (arith, count, few))
+
+-- ---- groups
+length-filter-le : {X : Type 0} (p : X → Bool) (xs : List X) → length (filter p xs) ≤ length xs
+length-filter-le p [] = omega arith
+length-filter-le p (x ∷ xs) = elim (cases_Bool (p x)) [
+  | inl passes ↦ omega (arith, ap length (filter-passed p x xs passes), length-filter-le p xs)
+  | inr fails ↦ omega (arith, ap length (filter-failed p x xs fails), length-filter-le p xs)
+]
+
+pub length-cons_option-le : {X : Type 0} (o : Option X) (xs : List X) → length (cons_option o xs) ≤ suc (length xs)
+length-cons_option-le None xs = omega arith
+length-cons_option-le (Some x) xs = omega arith
+
+length-values_of-le : (m : ℕ) (facts : List Fact) → length (values_of m facts) ≤ length facts
+length-values_of-le m [] = omega arith
+length-values_of-le m (fact ∷ facts) = omega (arith, length-cons_option-le (value_of m fact) (values_of m facts), length-values_of-le m facts)
+
+pub AllByRecursion-cons_option : {X : Type 0} (P : X → Type 0) (o : Option X) (xs : List X) → IfSome o P → AllByRecursion P xs → AllByRecursion P (cons_option o xs)
+AllByRecursion-cons_option P None xs one all = all
+AllByRecursion-cons_option P (Some x) xs one all = (one, all)
+
+-- the value at a place, or null past the end
+get_or-small : (values : List (Option ℤ)) (m : ℕ) → AllByRecursion (λ value. IfSome value (FitsSigned w64)) values → IfSome (get_or values m None) (FitsSigned w64)
+get_or-small [] m small = tt
+get_or-small (value ∷ values) zero small = small.0
+get_or-small (value ∷ values) (suc m) small = get_or-small values m small.1
+
+values_of-small : (m : ℕ) (facts : List Fact) → AllByRecursion HasSmallValues facts → AllByRecursion (FitsSigned w64) (values_of m facts)
+values_of-small m [] small = tt
+values_of-small m (fact ∷ facts) small =
+    AllByRecursion-cons_option (FitsSigned w64) (value_of m fact) (values_of m facts) (get_or-small fact.measures m small.0) (values_of-small m facts small.1)
+
+IsAnswer-IsOfKind : (group : List Fact) (agg : Agg) (a : Answer) → AreCountable group → IsAnswer group agg a → IsOfKind agg a
+IsAnswer-IsOfKind group CountAll a countable h = subst IsCount (sym h) countable.few
+IsAnswer-IsOfKind group (Count m) a countable h = subst IsCount (sym h) (omega (arith, length-values_of-le m group, countable.few))
+IsAnswer-IsOfKind group (Sum m) a countable h =
+    IsSum-IsNumber (values_of m group) a (omega (arith, length-values_of-le m group, countable.few)) (values_of-small m group countable.small) h
+IsAnswer-IsOfKind group (Min m) a countable h = IsBest-IsNumber (λ m x. m ≤ℤ x) (values_of m group) a (values_of-small m group countable.small) h
+IsAnswer-IsOfKind group (Max m) a countable h = IsBest-IsNumber (λ m x. x ≤ℤ m) (values_of m group) a (values_of-small m group countable.small) h
+IsAnswer-IsOfKind group (Avg m) a countable h =
+    IsMean-IsFraction (values_of m group) a (omega (arith, length-values_of-le m group, countable.few)) (values_of-small m group countable.small) h
+
+AreAnswers-AreOfKind : (group : List Fact) (aggregates : List Agg) (answers : List Answer) → AreCountable group → AreAnswers group aggregates answers → AllZip IsOfKind aggregates answers
+AreAnswers-AreOfKind group [] [] countable h = h
+AreAnswers-AreOfKind group [] (a ∷ answers) countable h = h
+AreAnswers-AreOfKind group (agg ∷ aggregates) [] countable h = h
+AreAnswers-AreOfKind group (agg ∷ aggregates) (a ∷ answers) countable h =
+    (IsAnswer-IsOfKind group agg a countable h.0, AreAnswers-AreOfKind group aggregates answers countable h.1)
+
+-- a group of facts that can be counted can be
+group_of-AreCountable : (facts : List Fact) (row : Row) → AreCountable facts → AreCountable (group_of row.key facts)
+group_of-AreCountable facts row countable = record {
+  few = omega (arith, length-filter-le (covers row.key) facts, countable.few);
+  small = recursion_from_All HasSmallValues (group_of row.key facts) (All-filter (covers row.key) HasSmallValues facts (All-from_recursion HasSmallValues facts countable.small));
+}
+
+-- the rows of a cube are rows of its schema
+pub AreRows-IsRowOf : (s : Layout) (facts : List Fact) (rows : List Row) → CanBePrinted s facts → AreRows s facts rows → AllByRecursion (IsRowOf s) rows
+AreRows-IsRowOf s facts rows printable are =
+    Contains-AllByRecursion (IsRowOf s) rows (λ row among.
+    let told = IsTold-is_cell s s.grouping_sets facts row.key printable.fit ((are.cells row.key).0 (map-Contains key_of rows row among)) in
+    record {
+      coords = told.1;
+      told = told.0;
+      answers = AreAnswers-AreOfKind (group_of row.key facts) s.aggregates row.answers (group_of-AreCountable facts row printable.countable)
+          (AllByRecursion-Contains (HasAnswers s.aggregates facts) rows row are.answers among);
+    })

@@ -1,0 +1,275 @@
+-- Why a merge is given up, and what it leaves written (this project's choice).
+use Rattle.std.specs.Prelude.{◌≡◌, ◌≢◌, ◌<◌, ◌≤◌, ◌+◌, ◌-◌, ◌⊎◌, ◌∷◌, [], ◌++◌, ⊤, ℕ, Bool, true, false, List, Option, Some, None, IfSome, Contains, get_or, length, take}
+use Rattle.std.specs.declared.cmp.Ordering.TheVariants.{Less}
+use Rattle.std.specs.Io.KnownBytes.{Appends, Consumes, IsAtEnd}
+use Rattle.cube_core.specs.Cube.{is_total}
+use Rattle.cube_core.specs.Layout.{Layout}
+use Rattle.cube_core.specs.Order.{key_cmp}
+use Rattle.cube_core.specs.Text.{header_fields, line, row_line, text_of_rows}
+use Rattle.cube_core.specs.declared.key.Key.{Key}
+use Rattle.cube_core.specs.declared.key.Row.{Row}
+use Rattle.cube_merge.specs.Merging.{InputView, AreFresh, IsAbove, IsMerging, nothing_left}
+use Rattle.cube_merge.specs.NextLine.{next_line}
+use Rattle.cube_merge.specs.declared.fault.InputFault.{InputFault}
+use Rattle.cube_merge.specs.declared.fault.InputFault.TheVariants as why
+use Rattle.cube_merge.specs.declared.fault.MergeFault.{MergeFault}
+use Rattle.cube_merge.specs.declared.fault.MergeFault.TheVariants.{Memory, Aggregates, Input, Write}
+
+-- how a merge tells a fault of the input at a place: by its number, counted from 1, and the record; want of memory is told of no input
+abbrev pub IsFaultAt : InputFault → ℕ → ℕ → MergeFault → Type 0
+IsFaultAt fault place number Memory = ⊤
+IsFaultAt fault place number Aggregates = ⊥
+IsFaultAt fault place number (Input told input at) = (told ≡ fault) × (input ≡ place + 1) × (at ≡ number) × (fault ≢ why.Memory)
+IsFaultAt fault place number (Write sent) = ⊥
+
+-- reading failed, or memory ran out
+abbrev pub IsReadFault : InputFault → Type 0
+IsReadFault why.Memory = ⊤
+IsReadFault why.Read = ⊤
+IsReadFault _ = ⊥
+
+-- the next line of an input is that of a row that isn't above the row before
+pub record HasRowBelow (input : InputView) : Type 0 where
+  pub row : Row
+  pub left : Option (List ℕ)
+  pub taken : Consumes input.left left (row_line row)
+  pub below : IsAbove input.row row → ⊥
+
+-- an input has no line left, and its last row isn't the grand total, which the schema keeps
+pub record LacksTotal (s : Layout) (input : InputView) : Type 0 where
+  pub at_end : IsAtEnd input.left
+  pub kept : Contains s.grouping_sets 0
+  pub last : IfSome input.row (λ row. is_total (length s.dimensions) row.key ≡ false)
+
+-- an input has something left
+abbrev pub HasMore : InputView → Type 0
+HasMore input = IfSome input.left (λ left. left ≢ [])
+
+-- an input can't take its next line, which is this one, for this fault
+abbrev pub HasFault : Layout → InputView → InputFault → ℕ → Type 0
+HasFault s input why.Memory number = ⊥
+HasFault s input why.Read number = number ≡ input.lines + 1
+HasFault s input why.Header number = ⊥
+HasFault s input why.Line number = (number ≡ input.lines + 1) × HasMore input
+HasFault s input why.Order number = (number ≡ input.lines + 1) × HasRowBelow input
+HasFault s input why.Overflow number = ⊥
+HasFault s input why.Incomplete number = (number ≡ input.lines + 1) × LacksTotal s input
+
+-- the same, or memory ran out
+abbrev pub FailsToMove : Layout → InputView → InputFault → ℕ → Type 0
+FailsToMove s input why.Memory number = ⊤
+FailsToMove s input fault number = HasFault s input fault number
+
+-- an input whose line was used can't take its next one
+pub record HasFaultAt (s : Layout) (used : List Bool) (inputs : List InputView) (fault : InputFault) (input number : ℕ) : Type 0 where
+  pub place : ℕ
+  pub input_is : input ≡ place + 1
+  pub inside : place < length inputs
+  pub used_is : get_or used place false ≡ true
+  pub has_fault : HasFault s (get_or inputs place nothing_left) fault number
+
+-- the same, or memory ran out
+abbrev pub FailsToMoveAll : Layout → List Bool → List InputView → MergeFault → Type 0
+FailsToMoveAll s used inputs Memory = ⊤
+FailsToMoveAll s used inputs Aggregates = ⊥
+FailsToMoveAll s used inputs (Input fault input number) = HasFaultAt s used inputs fault input number
+FailsToMoveAll s used inputs (Write sent) = ⊥
+
+-- an input with a row can't go on: that row can't be merged, or the next line can't be taken
+abbrev pub GoesWrong : Layout → InputView → InputFault → ℕ → Type 0
+GoesWrong s input why.Line number = (number ≡ input.lines) ⊎ HasFault s input why.Line number
+GoesWrong s input why.Overflow number = number ≡ input.lines
+GoesWrong s input fault number = HasFault s input fault number
+
+-- the fault of the input of this number, counted from 1, which has a row
+pub record FailsWithRow (s : Layout) (inputs : List InputView) (fault : InputFault) (input number : ℕ) : Type 0 where
+  pub place : ℕ
+  pub row : Row
+  pub input_is : input ≡ place + 1
+  pub inside : place < length inputs
+  pub row_is : (get_or inputs place nothing_left).row ≡ Some row
+  pub goes_wrong : GoesWrong s (get_or inputs place nothing_left) fault number
+
+-- the next merged row couldn't be put, or an input that had a row couldn't take its next line
+abbrev pub StepFails : Layout → List InputView → MergeFault → Type 0
+StepFails s inputs Memory = ⊤
+StepFails s inputs Aggregates = ⊥
+StepFails s inputs (Input fault input number) = FailsWithRow s inputs fault input number
+StepFails s inputs (Write sent) = ⊥
+
+-- an input has a row
+abbrev pub HasRow : InputView → Type 0
+HasRow input = (row : Row) × (input.row ≡ Some row)
+
+-- a count or a sum of the rows with a key is too large where the row of an input is joined
+pub record IsTooLargeAt (inputs : List InputView) (fault : InputFault) (input number : ℕ) : Type 0 where
+  pub place : ℕ
+  pub fault_is : fault ≡ why.Overflow
+  pub input_is : input ≡ place + 1
+  pub inside : place < length inputs
+  pub has_row : HasRow (get_or inputs place nothing_left)
+  pub number_is : number ≡ (get_or inputs place nothing_left).lines
+
+-- the same, or memory ran out
+abbrev pub FailsToJoin : List InputView → MergeFault → Type 0
+FailsToJoin inputs Memory = ⊤
+FailsToJoin inputs Aggregates = ⊥
+FailsToJoin inputs (Input fault input number) = IsTooLargeAt inputs fault input number
+FailsToJoin inputs (Write sent) = ⊥
+
+-- a text is the header line, the lines of these rows, and this rest, whose first line is the record of this number, the header being the first
+pub record StandsAt (s : Layout) (text : List ℕ) (rows : List Row) (rest : List ℕ) (number : ℕ) : Type 0 where
+  pub text_is : text ≡ text_of_rows s rows ++ rest
+  pub number_is : number ≡ length rows + 2
+
+-- what is behind the lines of rows isn't the line of a row that can be merged
+pub record HasWrongLine (s : Layout) (number : ℕ) (text : List ℕ) : Type 0 where
+  pub rows : List Row
+  pub rest : List ℕ
+  pub stands : StandsAt s text rows rest number
+  pub some : rest ≢ []
+
+-- behind the lines of rows the line of a row follows whose key isn't above that of the row before
+pub record IsOutOfOrder (s : Layout) (number : ℕ) (text : List ℕ) : Type 0 where
+  pub rows : List Row
+  pub before : Row
+  pub row : Row
+  pub rest : List ℕ
+  pub stands : StandsAt s text (rows ++ before ∷ []) (row_line row ++ rest) number
+  pub below : key_cmp before.key row.key ≢ Less
+
+-- behind the lines of rows the line of a row follows
+pub record HasRowAt (s : Layout) (number : ℕ) (text : List ℕ) : Type 0 where
+  pub rows : List Row
+  pub row : Row
+  pub rest : List ℕ
+  pub stands : StandsAt s text rows (row_line row ++ rest) number
+
+-- the last of rows isn't the grand total
+abbrev pub EndsWithoutTotal : Layout → List Row → Type 0
+EndsWithoutTotal s rows = (before : List Row) (last : Row) → rows ≡ before ++ last ∷ [] → is_total (length s.dimensions) last.key ≡ false
+
+-- nothing follows the lines of rows, of which the last isn't the grand total, which the schema keeps
+pub record IsIncomplete (s : Layout) (number : ℕ) (text : List ℕ) : Type 0 where
+  pub rows : List Row
+  pub stands : StandsAt s text rows [] number
+  pub kept : Contains s.grouping_sets 0
+  pub last : EndsWithoutTotal s rows
+
+-- some lines of rows could be read, if the header could
+pub record IsReadSoFar (s : Layout) (number : ℕ) (text : List ℕ) : Type 0 where
+  pub rows : List Row
+  pub rest : List ℕ
+  pub stands : StandsAt s text rows rest number
+
+-- why an input with this text has a fault at the record of this number
+abbrev pub ExplainsFault : Layout → InputFault → ℕ → List ℕ → Type 0
+ExplainsFault s why.Memory number text = ⊥
+ExplainsFault s why.Read number text = (number ≡ 1) ⊎ IsReadSoFar s number text
+ExplainsFault s why.Header number text = (number ≡ 1) × ((rest : List ℕ) → text ≢ line (header_fields s) ++ rest)
+ExplainsFault s why.Line number text = HasWrongLine s number text
+ExplainsFault s why.Order number text = IsOutOfOrder s number text
+ExplainsFault s why.Overflow number text = HasRowAt s number text
+ExplainsFault s why.Incomplete number text = IsIncomplete s number text
+
+-- the input of this number, counted from 1, has a fault at a record
+pub record InputFails (s : Layout) (texts : List (Option (List ℕ))) (fault : InputFault) (input number : ℕ) : Type 0 where
+  pub from_one : 1 ≤ input
+  pub within : input ≤ length texts
+  pub explains : IfSome (get_or texts (input - 1) None) (ExplainsFault s fault number)
+
+-- what was written is the first bytes, so many, of the text of the rows that were merged of inputs so far; each input took the header of its text, and began with what was left
+pub record WroteFirst (given wanted : Layout) (texts : List (Option (List ℕ))) (sent : ℕ) (old new : Option (List ℕ)) : Type 0 where
+  pub starts : List (Option (List ℕ))
+  pub inputs : List InputView
+  pub rows : List Row
+  pub as_many : length inputs ≡ length texts
+  pub headed : (k : ℕ) → Consumes (get_or texts k None) (get_or starts k None) (line (header_fields given))
+  pub merging : IsMerging given.aggregates wanted.aggregates starts inputs rows
+  pub within : sent ≤ length (text_of_rows wanted rows)
+  pub written : Appends old new (take sent (text_of_rows wanted rows))
+
+-- nothing was written, or the first bytes of the text of merged rows
+abbrev pub WroteSome : Layout → Layout → List (Option (List ℕ)) → Option (List ℕ) → Option (List ℕ) → Type 0
+WroteSome given wanted texts old new = (new ≡ old) ⊎ ((sent : ℕ) × WroteFirst given wanted texts sent old new)
+
+-- what a merge that failed leaves written, and why it failed
+abbrev pub FailsToMerge : Layout → Layout → List (Option (List ℕ)) → MergeFault → Option (List ℕ) → Option (List ℕ) → Type 0
+FailsToMerge given wanted texts Memory old new = WroteSome given wanted texts old new
+FailsToMerge given wanted texts Aggregates old new = new ≡ old
+FailsToMerge given wanted texts (Input fault input number) old new = WroteSome given wanted texts old new × InputFails given texts fault input number
+FailsToMerge given wanted texts (Write sent) old new = WroteFirst given wanted texts sent old new
+
+-- bytes couldn't be written behind so many that were sent before: the first of them went out, or none since they would be too many to count
+abbrev pub FailsToSend : List ℕ → ℕ → MergeFault → Option (List ℕ) → Option (List ℕ) → Type 0
+FailsToSend bytes sent Memory old new = new ≡ old
+FailsToSend bytes sent Aggregates old new = ⊥
+FailsToSend bytes sent (Input fault input number) old new = ⊥
+FailsToSend bytes sent (Write total) old new = (part : ℕ) × (part ≤ length bytes) × (total ≡ sent + part) × Appends old new (take part bytes)
+
+-- why a merge stopped that had sent so many bytes, where its inputs stood so
+abbrev pub StopsAt : Layout → List InputView → ℕ → MergeFault → Type 0
+StopsAt s inputs sent Memory = ⊤
+StopsAt s inputs sent Aggregates = ⊥
+StopsAt s inputs sent (Input fault input number) = FailsWithRow s inputs fault input number
+StopsAt s inputs sent (Write total) = total ≡ sent
+
+-- how far a merge came that failed: it merged these rows, and the first bytes of their text were written
+pub record Stops (given wanted : Layout) (starts : List (Option (List ℕ))) (count : ℕ) (fault : MergeFault) (old new : Option (List ℕ)) : Type 0 where
+  pub inputs : List InputView
+  pub rows : List Row
+  pub sent : ℕ
+  pub as_many : length inputs ≡ count
+  pub merging : IsMerging given.aggregates wanted.aggregates starts inputs rows
+  pub within : sent ≤ length (text_of_rows wanted rows)
+  pub written : Appends old new (take sent (text_of_rows wanted rows))
+  pub why : StopsAt given inputs sent fault
+
+-- the same, from inputs by which merges go on
+abbrev pub RestFails : Layout → Layout → List InputView → MergeFault → Option (List ℕ) → Option (List ℕ) → Type 0
+RestFails given wanted inputs fault old new =
+    (starts : List (Option (List ℕ))) → IsMerging given.aggregates wanted.aggregates starts inputs [] → Stops given wanted starts (length inputs) fault old new
+
+-- an input whose header was taken couldn't take its first line, or memory ran out
+abbrev pub FailsToStart : Layout → List InputView → MergeFault → Type 0
+FailsToStart s inputs Memory = ⊤
+FailsToStart s inputs Aggregates = ⊥
+FailsToStart s inputs (Input fault input number) = (used : List Bool) × HasFaultAt s used inputs fault input number
+FailsToStart s inputs (Write sent) = ⊥
+
+-- the same, from inputs that took the header alone; where the first lines couldn't be taken, nothing was written
+abbrev pub InputsFail : Layout → Layout → List InputView → MergeFault → Option (List ℕ) → Option (List ℕ) → Type 0
+InputsFail given wanted inputs fault old new =
+    (starts : List (Option (List ℕ))) → AreFresh starts inputs → ((new ≡ old) × FailsToStart given inputs fault) ⊎ Stops given wanted starts (length inputs) fault old new
+
+-- the fault of a text whose header line couldn't be taken
+abbrev pub HasNoHeader : List ℕ → Option (List ℕ) → InputFault → ℕ → Type 0
+HasNoHeader header text why.Read number = number ≡ 1
+HasNoHeader header text why.Header number = (number ≡ 1) × IfSome text (λ known. next_line known ≢ header)
+HasNoHeader header text _ number = ⊥
+
+-- the same, or memory ran out
+abbrev pub FailsToTakeHeader : List ℕ → Option (List ℕ) → InputFault → Type 0
+FailsToTakeHeader header text why.Memory = ⊤
+FailsToTakeHeader header text fault = HasNoHeader header text fault 1
+
+-- the same of the text at a place
+abbrev pub FailsToOpen : List ℕ → ℕ → Option (List ℕ) → MergeFault → Type 0
+FailsToOpen header place text Memory = ⊤
+FailsToOpen header place text Aggregates = ⊥
+FailsToOpen header place text (Input fault input number) = (input ≡ place + 1) × HasNoHeader header text fault number
+FailsToOpen header place text (Write sent) = ⊥
+
+-- one of many texts has a header line that couldn't be taken
+pub record IsNotOpened (header : List ℕ) (texts : List (Option (List ℕ))) (fault : InputFault) (input number : ℕ) : Type 0 where
+  pub place : ℕ
+  pub input_is : input ≡ place + 1
+  pub inside : place < length texts
+  pub no_header : HasNoHeader header (get_or texts place None) fault number
+
+-- the same, or memory ran out
+abbrev pub FailsToOpenAll : List ℕ → List (Option (List ℕ)) → MergeFault → Type 0
+FailsToOpenAll header texts Memory = ⊤
+FailsToOpenAll header texts Aggregates = ⊥
+FailsToOpenAll header texts (Input fault input number) = IsNotOpened header texts fault input number
+FailsToOpenAll header texts (Write sent) = ⊥

@@ -1,0 +1,23 @@
+"""A data cube from Python: over feeds, or as a session that is kept right change by change.
+
+    import datacube
+    from datacube import ALL, ANY
+
+    cube = datacube.cube("schema.toml", ["market.csv", "street.csv"])
+    cube.at({"city": "York"})["sum(cents)"]
+
+The program `datacube` does the work: it is in this package's wheel, and `DATACUBE` in the environment names another.
+"""
+from ._ask import cube, drill, refusals, rollup, slice
+from ._cells import ALL, ANY, KEEP, Cell, Coordinate, Pattern
+from ._cube import Answer, Cube, Refusal, Row
+from ._errors import DatacubeError, Ended, Failure, ProgramNotFound, Unreadable, Unsayable
+from ._live import Live
+from ._program import explain, program
+from ._schema import Schema
+
+__all__ = [
+    "ALL", "ANY", "KEEP", "Answer", "Cell", "Coordinate", "Cube", "DatacubeError", "Ended", "Failure", "Live", "Pattern",
+    "ProgramNotFound", "Refusal", "Row", "Schema", "Unreadable", "Unsayable", "cube", "drill", "explain", "program",
+    "refusals", "rollup", "slice",
+]

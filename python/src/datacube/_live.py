@@ -1,0 +1,224 @@
+"""A session over a cube that is kept right, change by change."""
+from __future__ import annotations
+
+import contextlib
+import csv
+import io
+import operator
+import subprocess
+import tempfile
+import threading
+from types import TracebackType
+from typing import List, Literal, Optional, Sequence, Type, Union
+
+from ._ask import Given
+from ._cells import KEEP, Cell, Mark, Named, Pattern, fields_of, in_order, text_of
+from ._cube import GREATEST, LEAST, Cube, Refusal, refusals_of
+from ._errors import Ended, Failure, ProgramNotFound, Unsayable
+from ._program import DONE, Paths, line_of, meaning_of, paths_of, words_of
+from ._schema import schema_of
+
+Keep = Literal[Mark.KEEP]
+Texts = Named[Union[str, None, Keep]]
+Numbers = Named[Union[int, None, Keep]]
+SOURCES = 64
+NULL = "\\N"
+
+
+class Live:
+    """A running `datacube live`: a cube over feeds (feed s is source s) and the changes that come after.
+
+    Any thread may make changes and ask. A change is sent whole, in the order in which the threads come; a question is
+    answered over all changes before it, and those that come meanwhile wait in the pipe. What no feed can say raises
+    `Unsayable`, and nothing is sent; a change that the facts refuse, as the insert of an id that is present, is noted in
+    `refusals`. Where the process ends by itself, every call from then on raises `Ended` with its status and last line."""
+
+    def __init__(self, schema: Given, feeds: Paths = (), *, threads: Optional[int] = None) -> None:
+        self.schema = schema_of(schema)
+        self.status: Optional[int] = None
+        self._line = ""
+        # (where a thread holds both, it took them in this order)
+        self._asking, self._writing = threading.Lock(), threading.RLock()
+        self._told = tempfile.TemporaryFile()
+        options = [] if threads is None else ["--threads", str(threads)]
+        with self.schema.file() as path:
+            self._process = self._begun(words_of("live", options, [path, *paths_of(feeds)]))
+            self._records = csv.writer(self._input)
+            self._ready()
+
+    def _begun(self, words: Sequence[Union[str, bytes]]) -> "subprocess.Popen[bytes]":
+        pipe = subprocess.PIPE
+        try:
+            # (in a session of its own, so that Ctrl-C in a terminal is for Python alone)
+            process = subprocess.Popen(words, stdin=pipe, stdout=pipe, stderr=self._told, start_new_session=True)
+        except OSError as why:
+            raise ProgramNotFound(f"the program can't be run: {why}") from None
+        assert process.stdin is not None and process.stdout is not None
+        self._input = io.TextIOWrapper(process.stdin, encoding="utf-8", newline="")
+        self._output = process.stdout
+        return process
+
+    def _ready(self) -> None:
+        """Waits until the feeds are read; what is wrong with them or with the schema is told by now."""
+        try:
+            self.refusals(SOURCES, GREATEST)
+        except BaseException:
+            self._kill()
+            raise
+
+    def __enter__(self) -> "Live":
+        return self
+
+    def __exit__(self, kind: Optional[Type[BaseException]], why: Optional[BaseException], at: Optional[TracebackType]) -> None:
+        try:
+            self.close()
+        except Ended:
+            if kind is None:
+                raise
+
+    def insert(self, source: int, id: str, dims: Named[Optional[str]], measures: Named[Optional[int]]) -> None:
+        """Puts a fact under an id that is absent in its source."""
+        dimensions, numbers = self.schema.dimensions, self.schema.measures
+        self._change(source, "I", id, in_order(dimensions, dims, (), "dimension"), in_order(numbers, measures, (), "measure"))
+
+    def update(self, source: int, id: str, dims: Texts, measures: Numbers) -> None:
+        """Puts a fact in place of the one under an id that is present. KEEP, and what a mapping doesn't name, keeps the
+        value that it has, where the schema has version 2."""
+        rest: List[Keep] = [KEEP] if self.schema.version == 2 else []
+        texts: List[Union[str, None, Keep]] = in_order(self.schema.dimensions, dims, rest, "dimension")
+        numbers: List[Union[int, None, Keep]] = in_order(self.schema.measures, measures, rest, "measure")
+        self._change(source, "U", id, texts, numbers)
+
+    def delete(self, source: int, id: str) -> None:
+        """Takes the fact of an id that is present away."""
+        self._change(source, "D", id, [], [])
+
+    def _change(
+        self, source: int, op: str, id: str, dims: Sequence[Union[str, None, Keep]], measures: Sequence[Union[int, None, Keep]]
+    ) -> None:
+        if not 1 <= operator.index(source) <= SOURCES:
+            raise Unsayable(f"a source is a number from 1 to {SOURCES}, and {source} isn't")
+        if not text_of(id, "the id"):
+            raise Unsayable("an id isn't empty")
+        can_keep = op == "U" and self.schema.version == 2
+        texts = [self._text(name, it, can_keep) for name, it in zip(self.schema.dimensions, dims)]
+        numbers = [number(name, it, can_keep) for name, it in zip(self.schema.measures, measures)]
+        self._send([[str(operator.index(source)), op, id, *texts, *numbers]], False)
+
+    def _text(self, name: str, value: Union[str, None, Keep], can_keep: bool) -> str:
+        if value is None or isinstance(value, Mark):
+            return mark(f"dimension {name}", value, can_keep)
+        text = text_of(value, f"dimension {name}")
+        if text == NULL or text == "\\=" and self.schema.version == 2:
+            raise Unsayable(f"dimension {name}: a feed can't say the text {text}, which means {'null' if text == NULL else 'KEEP'}")
+        return text
+
+    def cube(self) -> Cube:
+        """The whole cube, as it is now."""
+        return Cube(self.ask("print"))
+
+    def slice(self, pattern: Pattern) -> Cube:
+        """The rows that a pattern matches; a dimension that a mapping doesn't name is ALL."""
+        return Cube(self.ask("slice", *fields_of(self.schema.dimensions, pattern)))
+
+    def drill(self, cell: Cell, dimension: str) -> Cube:
+        """The rows one step below a cell, along a dimension."""
+        return Cube(self.ask("drill", dimension, *fields_of(self.schema.dimensions, cell)))
+
+    def rollup(self, cell: Cell, dimension: str) -> Cube:
+        """The row one step above a cell, along a dimension, or none where that is no cell of the cube."""
+        return Cube(self.ask("rollup", dimension, *fields_of(self.schema.dimensions, cell)))
+
+    def refusals(self, source: Optional[int] = None, after: int = 0) -> List[Refusal]:
+        """The refused lines and changes of all sources, or those of one after one of its records."""
+        return refusals_of(self.ask("refusals") if source is None else self.ask("refusals", str(source), str(after)))
+
+    def ask(self, question: str, *fields: str) -> str:
+        """The text that answers a question of the session; one that is refused raises `Failure` with its code."""
+        record = [text_of(it, "a field of a question") for it in (question, *fields)]
+        if question[:1].isdigit():
+            raise Unsayable(f"{question!r} begins a change, not a question")
+        with self._asking:
+            try:
+                self._send([record], True)
+                first = self._output.readline()
+                size = int(first[3:]) if first.startswith(b"ok ") else 0
+                text = self._output.read(size)
+            except BaseException:
+                # (the answer was begun and not read to its end)
+                self._kill()
+                raise
+        if not first.endswith(b"\n") or len(text) < size:
+            raise self._end()
+        if not first.startswith(b"ok "):
+            code = first.decode("utf-8", "replace").strip()
+            raise Failure(code, meaning_of(code))
+        return text.decode("utf-8")
+
+    def flush(self) -> None:
+        """Hands the changes until now over to the program, which any question does too."""
+        self._send([], True)
+
+    def _send(self, records: Sequence[Sequence[str]], at_once: bool) -> None:
+        with self._writing:
+            if self.status is not None:
+                raise self._end()
+            try:
+                self._records.writerows(records)
+                if at_once:
+                    self._input.flush()
+            except BrokenPipeError:
+                raise self._end() from None
+            except BaseException:
+                # (a record may have gone out in part)
+                self._kill()
+                raise
+
+    def close(self) -> int:
+        """Ends the session, and gives its status: 4 where a line or a change was refused, else 0; any other is `Ended`."""
+        with self._asking:
+            end = self._end()
+        if self.status not in DONE:
+            raise end
+        return self.status or 0
+
+    def _kill(self) -> None:
+        self._process.kill()
+        self._end()
+
+    def _end(self) -> Ended:
+        """Ends the session, where it isn't over, and says how it ended."""
+        with self._writing:
+            if self.status is None:
+                with contextlib.suppress(BrokenPipeError):
+                    self._input.close()
+                self.status = self._process.wait()
+                self._output.close()
+                self._told.seek(0)
+                self._line = line_of(self._told.read())
+                self._told.close()
+        return Ended(self._line, meaning_of(self._line), self.status)
+
+
+def mark(what: str, value: Union[None, Mark], can_keep: bool) -> str:
+    """The field of null, or of a value that is kept."""
+    if value is None:
+        return NULL
+    if value is not KEEP:
+        raise Unsayable(f"{what}: a fact has no {value}")
+    if not can_keep:
+        raise Unsayable(f"{what}: KEEP is for an update, under a schema of version 2")
+    return "\\="
+
+
+def number(name: str, value: Union[int, None, Keep], can_keep: bool) -> str:
+    """The field of a measure."""
+    if value is None or isinstance(value, Mark):
+        return mark(f"measure {name}", value, can_keep)
+    try:
+        whole = operator.index(value)
+    except TypeError:
+        raise TypeError(f"measure {name}: {value!r} is no whole number") from None
+    if not LEAST <= whole <= GREATEST:
+        raise Unsayable(f"measure {name}: {whole} doesn't fit 64 bits")
+    return str(int(whole))

@@ -1,0 +1,79 @@
+"""The program: where it is, running it, and what it says of its codes."""
+from __future__ import annotations
+
+import os
+import re
+import shutil
+import subprocess
+from typing import Iterable, List, Sequence, Tuple, Union
+
+from ._errors import DatacubeError, Failure, ProgramNotFound, Unsayable
+
+Path = Union[str, "os.PathLike[str]"]
+Paths = Union[Path, Iterable[Path]]
+Word = Union[str, bytes]
+
+BESIDE = os.path.join(os.path.dirname(os.path.abspath(__file__)), "bin", "datacube")
+CODE = re.compile(r"[A-Z][0-9]{1,2}|[0-9]")
+# (0 is done, and 4 is done, with lines refused)
+DONE = (0, 4)
+
+
+def program() -> str:
+    """The program that is run: `DATACUBE` of the environment, else the one in this package, else `datacube` on the PATH."""
+    wanted = os.environ.get("DATACUBE")
+    found = shutil.which(wanted) if wanted else shutil.which(BESIDE) or shutil.which("datacube")
+    if found:
+        return found
+    why = f"DATACUBE names {wanted}, which can't be run" if wanted else f"there is none at {BESIDE}, nor datacube on the PATH"
+    raise ProgramNotFound(f"no program: {why}")
+
+
+def words_of(command: str, options: Sequence[Word], others: Sequence[Word]) -> List[Word]:
+    """The words of a command, spelled so that no path is taken for an option."""
+    return [program(), command, *options, "--", *others]
+
+
+def paths_of(feeds: Paths) -> List[Word]:
+    """The paths of feeds, of which one may stand alone."""
+    return [os.fspath(it) for it in ([feeds] if isinstance(feeds, (str, os.PathLike)) else feeds)]
+
+
+def run(words: Sequence[Word]) -> Tuple[int, str]:
+    """The status and the output of a command that is done; any other end raises `Failure`."""
+    try:
+        ran = subprocess.run(words, stdin=subprocess.DEVNULL, stdout=subprocess.PIPE, stderr=subprocess.PIPE)
+    except ValueError as why:
+        raise Unsayable(f"a word of a command line can't be said: {why}") from None
+    except OSError as why:
+        raise ProgramNotFound(f"the program can't be run: {why}") from None
+    if ran.returncode not in DONE:
+        line = line_of(ran.stderr)
+        raise Failure(line, meaning_of(line), ran.returncode)
+    return ran.returncode, ran.stdout.decode("utf-8")
+
+
+def line_of(told: bytes) -> str:
+    """What the program told on standard error: a line of its own without its name, or words of any other form as they are."""
+    text = told.decode("utf-8", "replace").strip()
+    return text[len("datacube: ") :] if text.startswith("datacube: ") else text
+
+
+def explain(code: str) -> str:
+    """What the program says that a code means, and how to mend it."""
+    return run([program(), "explain", "--", code])[1].strip()
+
+
+def meaning_of(line: str) -> str:
+    """What the codes of a line mean, as far as the program knows them: of `G3 2 F3` G3 and F3, of `feed 2 unreadable` that."""
+    if not line or line.startswith("error:"):
+        return ""
+    first, *rest = line.split()
+    codes = [it for it in [first, *rest] if it[0].isupper()] if CODE.fullmatch(first) else [re.sub(r" \d+ ", " ", line)]
+    meanings = []
+    for code in codes:
+        try:
+            meanings.append(explain(code))
+        except DatacubeError:
+            pass
+    return "\n".join(meanings)

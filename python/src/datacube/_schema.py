@@ -1,0 +1,99 @@
+"""Schemas: what a cube is over."""
+from __future__ import annotations
+
+import contextlib
+import json
+import os
+import tempfile
+from dataclasses import dataclass
+from typing import Any, Dict, Iterator, Optional, Sequence, Tuple, Union
+
+from ._errors import DatacubeError, Unsayable
+from ._program import Path, run, words_of
+
+Grouping = Union[str, Sequence[Sequence[str]]]
+
+
+@dataclass(frozen=True, init=False)
+class Schema:
+    """The names of dimensions and measures, the aggregates as `sum(amount)`, and as the schema file has them the kept
+    grouping sets, the version of feeds and the most records of a feed. The program checks it where it is used, or `check`."""
+
+    dimensions: Tuple[str, ...]
+    measures: Tuple[str, ...]
+    aggregates: Tuple[str, ...]
+    grouping: Union[str, Tuple[Tuple[str, ...], ...]]
+    version: int
+    max_records: Optional[int]
+
+    def __init__(
+        self,
+        dimensions: Sequence[str],
+        measures: Sequence[str],
+        aggregates: Sequence[str],
+        *,
+        grouping: Grouping = "cube",
+        version: int = 1,
+        max_records: Optional[int] = None,
+    ) -> None:
+        sets = grouping if isinstance(grouping, str) else tuple(tuple(it) for it in grouping)
+        values = (tuple(dimensions), tuple(measures), tuple(aggregates), sets, version, max_records)
+        for name, value in zip(("dimensions", "measures", "aggregates", "grouping", "version", "max_records"), values):
+            object.__setattr__(self, name, value)
+
+    @classmethod
+    def read(cls, path: Path) -> "Schema":
+        """The schema of a TOML file, which the program has checked."""
+        run(words_of("check", [], [os.fspath(path)]))
+        with open(path, "rb") as file:
+            table = toml_of(file.read().decode("utf-8"))
+        return cls(**table)
+
+    def check(self) -> None:
+        """Raises `Failure` with the code of the schema's first fault, if it has one."""
+        with self.file() as path:
+            run(words_of("check", [], [path]))
+
+    def toml(self) -> str:
+        """The schema as the text of a file."""
+        lines = [f"{name} = {quoted(getattr(self, name))}" for name in ("dimensions", "measures", "aggregates", "grouping")]
+        lines.append(f"version = {self.version}")
+        if self.max_records is not None:
+            lines.append(f"max_records = {self.max_records}")
+        return "\n".join(lines) + "\n"
+
+    @contextlib.contextmanager
+    def file(self) -> Iterator[str]:
+        """A file with the schema, for as long as it is used."""
+        try:
+            data = self.toml().encode("utf-8")
+        except UnicodeEncodeError:
+            raise Unsayable("a name of the schema can't be said in UTF-8") from None
+        with tempfile.TemporaryDirectory(prefix="datacube-") as folder:
+            path = os.path.join(folder, "schema.toml")
+            with open(path, "wb") as out:
+                out.write(data)
+            yield path
+
+
+def schema_of(schema: Union[Schema, Path]) -> Schema:
+    """A schema that is given as itself or by its path."""
+    return schema if isinstance(schema, Schema) else Schema.read(schema)
+
+
+def quoted(value: object) -> str:
+    """A text or an array in TOML: its strings are those of JSON, but that DEL is escaped too."""
+    return json.dumps(value, ensure_ascii=False).replace("\x7f", "\\u007f")
+
+
+def toml_of(text: str) -> Dict[str, Any]:
+    """The table of a TOML document."""
+    try:
+        import tomllib
+    except ImportError:
+        try:
+            import tomli as tomllib
+        except ImportError:
+            raise DatacubeError("Python before 3.11 reads no TOML: install tomli, or give the schema by keywords") from None
+    table: Dict[str, Any] = tomllib.loads(text)
+    return table

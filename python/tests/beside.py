@@ -1,0 +1,94 @@
+"""What the tests share: the program, generated schemas and feeds, and what scripts/oracle.py says of them, with types."""
+from __future__ import annotations
+
+import contextlib
+import os
+import random
+import subprocess
+import sys
+import tempfile
+import unittest
+from fractions import Fraction
+from typing import Any, Iterator, List, Sequence, Tuple
+
+ROOT = os.path.dirname(os.path.dirname(os.path.dirname(os.path.realpath(__file__))))
+sys.path[:0] = [os.path.join(ROOT, "python", "src"), os.path.join(ROOT, "scripts")]
+sys.dont_write_bytecode = True
+import datacube  # noqa: E402
+import hostile  # noqa: E402
+import oracle  # noqa: E402
+import programs  # noqa: E402
+
+SHOP = os.path.join(ROOT, "examples", "shop")
+if not os.environ.get("DATACUBE"):
+    os.environ["DATACUBE"] = programs.datacube()
+
+
+def has(command: str) -> bool:
+    """Whether the program has a command."""
+    ran = subprocess.run([datacube.program(), command, "--help"], stdout=subprocess.DEVNULL, stderr=subprocess.DEVNULL)
+    return ran.returncode == 0
+
+
+def needs(command: str) -> Any:
+    return unittest.skipUnless(has(command), f"the program has no {command}")
+
+
+def schema_like(schema: oracle.Schema) -> datacube.Schema:
+    """The oracle's schema as one of the package."""
+    grouping, most = schema.grouping, schema.max_records
+    return datacube.Schema(
+        schema.dimensions, schema.measures, schema.aggregate_texts(), grouping=grouping, version=schema.version,
+        max_records=None if most == 2**32 - 1 else most,
+    )
+
+
+def coordinate(it: Any) -> Any:
+    return datacube.ALL if it is oracle.ALL else None if it is None else it.decode()
+
+
+def row_like(schema: oracle.Schema, row: Tuple[Any, List[str]]) -> Tuple[Any, ...]:
+    """The oracle's row as a key and answers with types."""
+    answers = [None if it == "\\N" else Fraction(it) if kind == "avg" else int(it) for (kind, _), it in zip(schema.aggregates, row[1])]
+    return tuple(map(coordinate, row[0])), tuple(answers)
+
+
+def rows_like(schema: oracle.Schema, rows: Sequence[Any]) -> List[Tuple[Any, ...]]:
+    return [row_like(schema, it) for it in rows]
+
+
+def rows_of(cube: datacube.Cube) -> List[Tuple[Any, ...]]:
+    return [(it.key, it.answers) for it in cube]
+
+
+def small_case(rng: random.Random) -> Tuple[oracle.Schema, List[List[List[bytes]]]]:
+    """A schema and the data records of feeds, few where there are many grouping sets."""
+    schema, feeds = hostile.random_case(rng)
+    while len(schema.masks) > 32:
+        schema, feeds = hostile.random_case(rng)
+    return schema, [it[: min(60, schema.max_records)] for it in feeds]
+
+
+@contextlib.contextmanager
+def written(schema: oracle.Schema, feeds: Sequence[Sequence[List[bytes]]], rng: random.Random) -> Iterator[List[str]]:
+    """The paths of feeds, written to a folder."""
+    with tempfile.TemporaryDirectory(prefix="datacube-test-") as folder:
+        paths = [os.path.join(folder, f"feed{at}.csv") for at, _ in enumerate(feeds)]
+        for path, records in zip(paths, feeds):
+            with open(path, "wb") as out:
+                out.write(oracle.encode([schema.header(), *records], rng))
+        yield paths
+
+
+def pattern(rng: random.Random, schema: oracle.Schema, keys: Sequence[Any], some: Sequence[Any]) -> List[Any]:
+    """A pattern in the oracle's words: a key, some of whose coordinates are others."""
+    key = list(rng.choice(keys)) if keys else [oracle.ALL] * len(schema.dimensions)
+    return [rng.choice(some) if rng.random() < 0.4 else it for it in key]
+
+
+def as_given(rng: random.Random, schema: oracle.Schema, wanted: Sequence[Any]) -> Any:
+    """The oracle's pattern as a caller gives it: in order, or by names without those that are ALL."""
+    given = [datacube.ANY if it == "any" else coordinate(it) for it in wanted]
+    if rng.random() < 0.5:
+        return given
+    return {name: it for name, it in zip(schema.dimensions, given) if it is not datacube.ALL or rng.random() < 0.3}

@@ -1,0 +1,240 @@
+"""Cubes over feeds, beside scripts/oracle.py."""
+import os
+import pickle
+import random
+import sys
+import tempfile
+import unittest
+from fractions import Fraction
+from unittest import mock
+
+import beside
+import datacube
+import oracle
+from beside import SHOP, needs, rows_like, rows_of
+from datacube import ALL, ANY
+
+SCHEMA = datacube.Schema(
+    ["city", "product", "payment"], ["pieces", "cents"],
+    ["count(*)", "sum(pieces)", "sum(cents)", "min(cents)", "max(cents)", "avg(cents)"], version=2,
+)
+FEEDS = [f"{SHOP}/{it}.csv" for it in ("market", "street", "online")]
+COUNTED = datacube.Schema(["region", "kind"], ["amount"], ["count(*)", "sum(amount)"])
+
+
+def read(name):
+    with open(f"{SHOP}/{name}.csv", encoding="utf-8", newline="") as file:
+        return file.read()
+
+
+class Shop(unittest.TestCase):
+    """The shop's sales, as README tells of them."""
+
+    def test_cube(self):
+        cube = datacube.cube(SCHEMA, FEEDS)
+        self.assertEqual((cube.to_csv(), len(cube), cube.refused), (read("cube"), 35, True))
+        self.assertEqual(cube.dimensions, ("city", "product", "payment"))
+        self.assertEqual(cube[-1].key, (ALL, ALL, ALL))
+        self.assertEqual(cube[-1].answers, (7, 13, 4450, 350, 1350, Fraction(2225, 3)))
+
+    @unittest.skipIf(sys.version_info < (3, 11), "this Python reads no TOML")
+    def test_the_schema_file(self):
+        self.assertEqual(datacube.Schema.read(f"{SHOP}/schema.toml"), SCHEMA)
+        self.assertEqual(datacube.cube(f"{SHOP}/schema.toml", FEEDS).text, read("cube"))
+
+    def test_null_and_all_are_told_apart(self):
+        cube = datacube.cube(SCHEMA, FEEDS)
+        self.assertEqual(cube.at({"city": None})["sum(cents)"], 1200)
+        self.assertEqual(cube.at({})["sum(cents)"], 4450)
+        self.assertIsNone(cube.at([None, "coffee", None])["avg(cents)"])
+        self.assertRaises(KeyError, cube.at, {"city": "Hull"})
+
+    def test_a_row_by_names(self):
+        row = datacube.cube(SCHEMA, FEEDS).at({"city": "York"})
+        self.assertEqual((row["city"], row["payment"], row["count(*)"]), ("York", ALL, 2))
+        self.assertEqual(row.as_dict()["sum(pieces)"], 2)
+        self.assertEqual(pickle.loads(pickle.dumps(row)), row)
+
+    def test_slice_drill_refusals(self):
+        self.assertEqual(datacube.slice(SCHEMA, FEEDS, {"city": ANY}).to_csv(), read("slice"))
+        self.assertEqual(datacube.drill(SCHEMA, FEEDS, {"city": "Leeds"}, "product").to_csv(), read("drill"))
+        refused = datacube.refusals(SCHEMA, FEEDS)
+        self.assertEqual(refused, [(2, 5, 7), (3, 3, 8), (3, 4, 5)])
+        self.assertIn("id that is present", datacube.explain(str(refused[0].code)))
+
+    @needs("rollup")
+    def test_rollup(self):
+        self.assertEqual(rows_of(datacube.rollup(SCHEMA, FEEDS, {"city": "York"}, "city"))[0][0], (ALL, ALL, ALL))
+
+    def test_to_csv_writes_the_bytes(self):
+        cube = datacube.cube(SCHEMA, FEEDS[0])
+        with tempfile.TemporaryDirectory() as folder:
+            cube.to_csv(f"{folder}/cube.csv")
+            with open(f"{folder}/cube.csv", "rb") as file:
+                self.assertEqual(file.read(), cube.text.encode())
+
+
+class Pandas(unittest.TestCase):
+    def setUp(self):
+        try:
+            import pandas
+        except ImportError:
+            self.skipTest("there is no pandas")
+        self.pandas = pandas
+
+    def test_frame(self):
+        cube = datacube.cube(SCHEMA, FEEDS)
+        frame = cube.to_pandas()
+        self.assertEqual(list(frame.columns), list(cube.aggregates))
+        self.assertEqual(frame.index.names, list(cube.dimensions))
+        keys = [tuple(None if self.pandas.isna(it) else it for it in key) for key in frame.index]
+        self.assertEqual(keys, [it.key for it in cube])
+        self.assertEqual(frame.loc[("Leeds", ALL, ALL), "sum(cents)"], 2450)
+        self.assertEqual(frame.loc[(ALL, ALL, ALL), "avg(cents)"], Fraction(2225, 3))
+        self.assertEqual(str(frame["sum(cents)"].dtype), "Int64")
+        self.assertTrue(frame["min(cents)"].isna().any())
+        level = frame.index.get_level_values("city")
+        self.assertEqual(frame[level.isna() & (frame.index.get_level_values("product") == ALL)].shape[0], 3)
+
+    def test_every_row(self):
+        for seed in range(20):
+            rng = random.Random(f"pandas {seed}")
+            schema, feeds = beside.small_case(rng)
+            with beside.written(schema, feeds, rng) as paths:
+                cube = datacube.cube(beside.schema_like(schema), paths)
+            frame = cube.to_pandas()
+            null = lambda it: None if self.pandas.isna(it) else it
+            got = [tuple(map(null, it)) for it in frame.itertuples(index=False, name=None)]
+            self.assertEqual(got, [it.answers for it in cube])
+            self.assertEqual([tuple(map(null, it)) for it in frame.index], [it.key for it in cube])
+
+    def test_large_numbers_and_no_rows(self):
+        text = "a,grouping(a),sum(m)\nx,0,170141183460469231731687303715884105727\n"
+        self.assertEqual(datacube.Cube(text).to_pandas()["sum(m)"].iloc[0], 2**127 - 1)
+        self.assertEqual(datacube.Cube("a,grouping(a),sum(m)\n").to_pandas().shape, (0, 1))
+
+
+class Generated(unittest.TestCase):
+    """Generated schemas and feeds: what the package answers is what the oracle does."""
+
+    def each(self, count):
+        for seed in range(count):
+            rng = random.Random(f"package {seed}")
+            schema, feeds = beside.small_case(rng)
+            with self.subTest(seed=seed), beside.written(schema, feeds, rng) as paths:
+                yield rng, schema, paths, oracle.Run(schema, feeds)
+
+    def test_cubes(self):
+        for _, schema, paths, run in self.each(60):
+            cube = datacube.cube(beside.schema_like(schema), paths, threads=2)
+            self.assertEqual(rows_of(cube), rows_like(schema, run.rows))
+            self.assertEqual((cube.text.encode(), cube.refused), (run.print(), bool(run.refused)))
+            self.assertEqual(list(cube.dimensions), schema.dimensions)
+            self.assertEqual(list(cube.aggregates), schema.aggregate_texts())
+            for row in cube:
+                self.assertIs(cube.at(row.key), row)
+
+    def test_slices(self):
+        for rng, schema, paths, run in self.each(60):
+            wanted = beside.pattern(rng, schema, [it for it, _ in run.rows], ["any", oracle.ALL, None, b"a", b'"'])
+            cube = datacube.slice(beside.schema_like(schema), paths, beside.as_given(rng, schema, wanted))
+            self.assertEqual(rows_of(cube), rows_like(schema, oracle.matching(run.rows, wanted)))
+
+    def test_drills(self):
+        for rng, schema, paths, run in self.each(60):
+            cell = beside.pattern(rng, schema, [it for it, _ in run.rows], [oracle.ALL, oracle.ALL, None])
+            at = rng.randrange(len(cell))
+            given = beside.schema_like(schema), paths, beside.as_given(rng, schema, cell), schema.dimensions[at]
+            wanted = run.drill(cell, at)
+            if isinstance(wanted, str):
+                with self.assertRaises(datacube.Failure) as caught:
+                    datacube.drill(*given)
+                self.assertEqual((caught.exception.code, caught.exception.status), (wanted, 2))
+            else:
+                self.assertEqual(datacube.drill(*given).text.encode(), wanted)
+
+    @needs("rollup")
+    def test_rollups(self):
+        for rng, schema, paths, run in self.each(30):
+            cell = beside.pattern(rng, schema, [it for it, _ in run.rows], [oracle.ALL, None])
+            at = rng.randrange(len(cell))
+            got = datacube.rollup(beside.schema_like(schema), paths, beside.as_given(rng, schema, cell), schema.dimensions[at])
+            self.assertEqual(got.text.encode(), run.rollup(cell, at))
+
+    def test_refusals(self):
+        for _, schema, paths, run in self.each(30):
+            self.assertEqual(datacube.refusals(beside.schema_like(schema), paths), run.refused)
+
+    @unittest.skipIf(sys.version_info < (3, 11), "this Python reads no TOML")
+    def test_schemas_come_back(self):
+        for _, schema, _, _ in self.each(60):
+            given = beside.schema_like(schema)
+            given.check()
+            with given.file() as path:
+                self.assertEqual(datacube.Schema.read(path), given)
+                with open(path, "rb") as file:
+                    self.assertEqual(vars(oracle.schema_of(file.read())), vars(schema))
+
+
+class Faults(unittest.TestCase):
+    """What goes wrong is told by its code, and by what `explain` says of it."""
+
+    def refused(self, line, status, call, *words):
+        with self.assertRaises(datacube.Failure) as caught:
+            call(*words)
+        self.assertEqual((caught.exception.line, caught.exception.status), (line, status))
+        self.assertIn("mend:", str(caught.exception))
+        self.assertEqual(str(pickle.loads(pickle.dumps(caught.exception))), str(caught.exception))
+        return caught.exception
+
+    def test_schemas(self):
+        self.refused("schema unreadable", 3, datacube.cube, "none.toml", FEEDS)
+        twice = datacube.Schema(["a", "a"], ["m"], ["count(*)"])
+        self.assertEqual(self.refused("S6", 3, twice.check).code, "S6")
+        self.refused("S6", 3, datacube.cube, twice, FEEDS)
+
+    def test_feeds(self):
+        self.refused("feed 2 unreadable", 1, datacube.cube, COUNTED, [os.devnull, "none.csv"])
+        failure = self.refused("G3 1 F3", 1, datacube.cube, COUNTED, FEEDS)
+        self.assertIn("G3: run", failure.meaning)
+        self.assertIn("F3: feed", failure.meaning)
+        self.refused("too many feeds", 2, datacube.cube, COUNTED, [os.devnull] * 65)
+
+    def test_cells(self):
+        self.refused("P5", 2, datacube.drill, COUNTED, os.devnull, {}, "colour")
+        self.refused("P3", 2, datacube.drill, COUNTED, os.devnull, [ANY, ALL], "kind")
+        self.refused("P4", 2, datacube.drill, COUNTED, os.devnull, ["west", ALL], "region")
+
+    def test_what_cant_be_said(self):
+        for cell in ({"colour": "red"}, [ALL], [ALL] * 3, {"kind": "\ud800"}, {"kind": "a\0"}):
+            self.assertRaises(datacube.Unsayable, datacube.slice, COUNTED, os.devnull, cell)
+        for cell in ("?,?", {"kind": 5}, {"kind": datacube.KEEP}):
+            self.assertRaises(TypeError, datacube.slice, COUNTED, os.devnull, cell)
+
+    def test_no_program(self):
+        with mock.patch.dict(os.environ, DATACUBE="/nowhere/datacube"):
+            self.assertRaises(datacube.ProgramNotFound, datacube.cube, COUNTED, os.devnull)
+        with mock.patch.dict(os.environ, DATACUBE="", PATH=""), mock.patch.object(datacube._program, "BESIDE", "/nowhere"):
+            self.assertRaises(datacube.ProgramNotFound, datacube.explain, "P2")
+
+    def test_paths_that_look_like_options(self):
+        with tempfile.TemporaryDirectory() as folder:
+            with open(f"{folder}/--help", "w") as out:
+                out.write("op,id,region,kind,amount\nI,1,west,a,5\n")
+            before = os.getcwd()
+            os.chdir(folder)
+            self.addCleanup(os.chdir, before)
+            self.assertEqual(datacube.cube(COUNTED, "--help").at({})["sum(amount)"], 5)
+
+    def test_texts_that_are_no_cube(self):
+        for text in ("", "a,b\n", "a,grouping(b),count(*)\n", "source,record,code\n"):
+            self.assertRaises(datacube.Unreadable, datacube.Cube, text)
+        self.assertRaises(datacube.Unreadable, len, datacube.Cube("a,grouping(a),count(*)\nx,0\n"))
+
+    def test_names_that_look_like_others(self):
+        cube = datacube.Cube("a,grouping(a),grouping(a),grouping(grouping(a)),count(*)\nx,\\N,0,1,3\n")
+        self.assertEqual((cube.dimensions, rows_of(cube)), (("a", "grouping(a)"), [(("x", ALL), (3,))]))
+
+
+if __name__ == "__main__":
+    unittest.main()

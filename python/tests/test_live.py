@@ -1,0 +1,252 @@
+"""Sessions, beside scripts/oracle.py."""
+import os
+import random
+import signal
+import sys
+import threading
+import unittest
+
+import beside
+import datacube
+import hostile
+import oracle
+from beside import needs, rows_like, rows_of
+from datacube import ALL, ANY, KEEP, Live
+
+PLAIN = datacube.Schema(["region", "kind"], ["amount"], ["count(*)", "sum(amount)", "avg(amount)"])
+KEEPING = datacube.Schema(["region", "kind"], ["amount"], ["count(*)", "sum(amount)"], version=2)
+SHORT = datacube.Schema(["region"], ["amount"], ["count(*)"], max_records=2)
+TEXTS = [it.decode() for it in hostile.TEXTS]
+
+
+class Player:
+    """Makes a change in a session, and the same one in the oracle's."""
+
+    def __init__(self, rng, schema, live, played):
+        self.rng, self.schema, self.live, self.played = rng, schema, live, played
+
+    def values(self, can_keep):
+        keeps = [KEEP] if can_keep and self.schema.version == 2 else []
+        says = [it for it in TEXTS if it != "\\N" and not (it == "\\=" and self.schema.version == 2)]
+        dims = [self.rng.choice([None, *keeps, *says[:8]]) for _ in self.schema.dimensions]
+        numbers = [None, *keeps, 0, -1, 12, 2**63 - 1, -(2**63)]
+        return dims, [self.rng.choice(numbers) for _ in self.schema.measures]
+
+    def change(self):
+        source, name, op = self.rng.choice([1, 2, 3, 64]), f"id {self.rng.randrange(6)}", self.rng.choice("IIUUD")
+        dims, measures = self.values(op == "U")
+        field = lambda it: b"\\N" if it is None else b"\\=" if it is KEEP else str(it).encode()
+        fields = [] if op == "D" else list(map(field, [*dims, *measures]))
+        self.played.reply([b"%d" % source, op.encode(), name.encode(), *fields])
+        if op == "D":
+            self.live.delete(source, name)
+        else:
+            (self.live.insert if op == "I" else self.live.update)(source, name, self.given(self.schema.dimensions, dims), self.given(self.schema.measures, measures))
+
+    def given(self, names, values):
+        """Values in order, or by names without those that are kept."""
+        return values if self.rng.random() < 0.5 else {name: it for name, it in zip(names, values) if it is not KEEP}
+
+    def question(self, test):
+        run, schema, kind = self.played.run(), self.schema, self.rng.randrange(5)
+        wanted = beside.pattern(self.rng, schema, [it for it, _ in run.rows], [oracle.ALL, None, b"a"] + ["any"] * (kind == 0))
+        at, given = self.rng.randrange(len(wanted)), beside.as_given(self.rng, schema, wanted)
+        if kind == 0:
+            test.assertEqual(rows_of(self.live.slice(given)), rows_like(schema, oracle.matching(run.rows, wanted)))
+        elif kind == 1:
+            answer = run.drill(wanted, at)
+            if isinstance(answer, str):
+                with test.assertRaises(datacube.Failure) as caught:
+                    self.live.drill(given, schema.dimensions[at])
+                test.assertEqual((caught.exception.line, caught.exception.status), (answer, None))
+            else:
+                test.assertEqual(self.live.drill(given, schema.dimensions[at]).text.encode(), answer)
+        elif kind == 2:
+            test.assertEqual(self.live.rollup(given, schema.dimensions[at]).text.encode(), run.rollup(wanted, at))
+        elif kind == 3:
+            test.assertEqual(rows_of(self.live.cube()), rows_like(schema, run.rows))
+        else:
+            test.assertEqual(self.live.refusals(), self.played.refused())
+            after = self.rng.randrange(20)
+            test.assertEqual(self.live.refusals(2, after), [it for it in self.played.refused() if it[0] == 2 and it[1] > after])
+
+
+@needs("live")
+class Generated(unittest.TestCase):
+    def test_sessions(self):
+        for seed in range(40):
+            rng = random.Random(f"session {seed}")
+            schema, feeds = beside.small_case(rng)
+            schema.max_records, feeds = 2**32 - 1, feeds[: rng.choice([0, 1, 2, 64])]
+            with self.subTest(seed=seed), beside.written(schema, feeds, rng) as paths:
+                played = oracle.Session(schema, feeds)
+                with Live(beside.schema_like(schema), paths) as live:
+                    player = Player(rng, schema, live, played)
+                    for _ in range(rng.choice([0, 5, 60])):
+                        player.change() if rng.random() < 0.7 else player.question(self)
+                    self.assertEqual(live.cube().text.encode(), played.run().print())
+                self.assertEqual(live.status, played.status())
+
+
+@needs("live")
+class Threads(unittest.TestCase):
+    def test_changes_and_questions_of_many_threads(self):
+        """Each thread has a source of its own; what each asks has all that it put in before, and nothing is torn."""
+        with Live(PLAIN) as live:
+            def work(source):
+                for at in range(60):
+                    live.insert(source, f"id {at}", [f"source {source}", "x" * 500], [at])
+                    if at % 20 == 19:
+                        counts.append(live.slice({"region": f"source {source}"})[0]["count(*)"] == at + 1)
+            counts = []
+            threads = [threading.Thread(target=work, args=[it]) for it in range(1, 9)]
+            for it in threads:
+                it.start()
+            for it in threads:
+                it.join()
+            self.assertEqual(counts, [True] * 24)
+            self.assertEqual(live.cube().at({})["sum(amount)"], 8 * sum(range(60)))
+            self.assertEqual(live.refusals(), [])
+        self.assertEqual(live.status, 0)
+
+    def test_changes_while_a_large_answer_is_read(self):
+        with Live(PLAIN) as live:
+            for at in range(1500):
+                live.insert(1, str(at), [f"region {at}", None], [at])
+            asks = threading.Thread(target=lambda: sizes.append(len(live.cube())))
+            sizes = []
+            asks.start()
+            for at in range(1500, 3000):
+                live.insert(1, str(at), ["one more", "y" * 100], [at])
+            asks.join()
+            self.assertGreaterEqual(sizes[0], 3001)
+            self.assertEqual(live.cube().at({})["count(*)"], 3000)
+
+
+@needs("live")
+class Says(unittest.TestCase):
+    """What a change can say."""
+
+    def test_what_a_feed_cant_say(self):
+        with Live(PLAIN) as live, Live(KEEPING) as keeping:
+            for call in (
+                lambda: live.insert(1, "a", ["\\N", "x"], [1]),
+                lambda: live.insert(1, "", ["w", "x"], [1]),
+                lambda: live.insert(0, "a", ["w", "x"], [1]),
+                lambda: live.insert(65, "a", ["w", "x"], [1]),
+                lambda: live.insert(1, "a", ["w"], [1]),
+                lambda: live.insert(1, "a", {"region": "w"}, [1]),
+                lambda: live.insert(1, "a", {"region": "w", "kind": "x", "colour": "y"}, [1]),
+                lambda: live.insert(1, "a", ["w", "x"], [2**63]),
+                lambda: live.insert(1, "a", ["w", "\ud800"], [1]),
+                lambda: live.insert(1, "a", [ALL, "x"], [1]),
+                lambda: live.update(1, "a", [KEEP, "x"], [1]),
+                lambda: live.update(1, "a", {"kind": "x"}, [1]),
+                lambda: keeping.insert(1, "a", ["\\=", "x"], [1]),
+                lambda: keeping.insert(1, "a", [KEEP, "x"], [1]),
+                lambda: live.ask("1", "I", "a"),
+            ):
+                self.assertRaises(datacube.Unsayable, call)
+            for call in (
+                lambda: live.insert(1, "a", ["w", 5], [1]),
+                lambda: live.insert(1, "a", ["w", "x"], [1.5]),
+                lambda: live.insert(1, "a", "wx", [1]),
+                lambda: live.insert(1, 7, ["w", "x"], [1]),
+            ):
+                self.assertRaises(TypeError, call)
+            self.assertEqual((live.cube().at({})["count(*)"], live.refusals(), keeping.refusals()), (0, [], []))
+
+    def test_texts_that_look_like_marks(self):
+        with Live(PLAIN) as live:
+            live.insert(1, "\\N", ["\\=", '"a",\r\nb'], [1])
+            live.insert(1, " ", ["", "?"], [None])
+            self.assertEqual([it.key[0] for it in live.drill({}, "region")], ["", "\\="])
+            self.assertEqual(live.slice(["\\=", ANY])[0].key[1], '"a",\r\nb')
+
+    def test_an_amendment(self):
+        with Live(KEEPING) as live:
+            live.insert(1, "a", ["west", "x"], [5])
+            live.update(1, "a", {"kind": "y"}, {})
+            self.assertEqual(live.cube()[0].key, ("west", "y"))
+            live.update(1, "a", [KEEP, None], [7])
+            self.assertEqual((live.cube()[0].key, live.cube()[0].answers), (("west", None), (1, 7)))
+
+    def test_questions_that_are_refused(self):
+        with Live(PLAIN) as live:
+            for line, call in (
+                ("P4", lambda: live.drill({"kind": "x"}, "kind")),
+                ("P3", lambda: live.drill({"kind": ANY}, "kind")),
+                ("P5", lambda: live.rollup({}, "colour")),
+                ("Q1", lambda: live.ask("stop")),
+                ("Q2", lambda: live.ask("slice", "?")),
+            ):
+                with self.assertRaises(datacube.Failure) as caught:
+                    call()
+                self.assertEqual((caught.exception.line, caught.exception.status), (line, None))
+            self.assertIn("mend:", str(caught.exception) if line[0] == "P" else "mend:")
+        self.assertEqual(live.status, 0)
+
+
+@needs("live")
+class Ends(unittest.TestCase):
+    """How sessions end."""
+
+    def test_status(self):
+        with Live(PLAIN) as live:
+            live.delete(3, "nobody")
+        self.assertEqual((live.status, live.close()), (4, 4))
+        with self.assertRaises(datacube.Ended):
+            live.cube()
+
+    def test_faults_of_feeds_are_told_at_once(self):
+        for feeds, line, status in ((["none.csv"], "feed 1 unreadable", 1), ([__file__], "G3 1 F3", 1), ([os.devnull] * 65, "too many feeds", 2)):
+            with self.assertRaises(datacube.Ended) as caught:
+                Live(PLAIN, feeds)
+            self.assertEqual((caught.exception.line, caught.exception.status), (line, status))
+
+    def test_one_record_too_many(self):
+        live = Live(SHORT)
+        for at in range(3):
+            live.insert(2, str(at), ["a"], [at])
+        for call in (live.cube, live.cube, live.close, lambda: live.insert(2, "x", ["a"], [1])):
+            with self.assertRaises(datacube.Ended) as caught:
+                call()
+            self.assertEqual((caught.exception.line, caught.exception.status), ("G3 2 F4", 1))
+
+    def test_a_killed_program(self):
+        live = Live(PLAIN)
+        os.kill(live._process.pid, signal.SIGKILL)
+        with self.assertRaises(datacube.Ended) as caught:
+            for at in range(100000):
+                live.insert(1, str(at), ["west", "x"], [at])
+        self.assertEqual(caught.exception.status, -signal.SIGKILL)
+        self.assertIn("killed by SIGKILL", str(caught.exception))
+
+    def test_an_error_of_the_caller_is_not_hidden(self):
+        with self.assertRaises(ZeroDivisionError):
+            with Live(PLAIN) as live:
+                os.kill(live._process.pid, signal.SIGKILL)
+                1 / 0
+
+    @unittest.skipUnless(hasattr(signal, "setitimer"), "there is no timer")
+    def test_an_interrupted_answer_ends_the_session(self):
+        class Late(Exception):
+            pass
+
+        def late(*_):
+            raise Late
+
+        live = Live(PLAIN)
+        os.kill(live._process.pid, signal.SIGSTOP)
+        before = signal.signal(signal.SIGALRM, late)
+        try:
+            signal.setitimer(signal.ITIMER_REAL, 0.2)
+            self.assertRaises(Late, live.cube)
+        finally:
+            signal.signal(signal.SIGALRM, before)
+        self.assertRaises(datacube.Ended, live.cube)
+        self.assertEqual(live.status, -signal.SIGKILL)
+
+
+if __name__ == "__main__":
+    unittest.main()
