@@ -64,13 +64,13 @@ _datacube() {
     COMPREPLY=()
     case $command in
     check) words='-h --help' ;;
-    print) words='--ring --builders --threads --partial -h --help' ;;
-    refusals) words='--ring --builders --threads -h --help' ;;
-    slice) words='--ring --builders --threads -h --help' ;;
-    drill) words='--ring --builders --threads -h --help' ;;
-    rollup) words='--ring --builders --threads -h --help' ;;
-    live) words='--ring --threads -h --help' ;;
-    merge) words='--partial --check -h --help' ;;
+    print) words='--ring --builders --threads --quiet --partial -h --help' ;;
+    refusals) words='--ring --builders --threads --quiet -h --help' ;;
+    slice) words='--ring --builders --threads --quiet -h --help' ;;
+    drill) words='--ring --builders --threads --quiet -h --help' ;;
+    rollup) words='--ring --builders --threads --quiet -h --help' ;;
+    live) words='--ring --threads --quiet -h --help' ;;
+    merge) words='--partial --check --quiet -h --help' ;;
     explain) words='-h --help' ;;
     *) words= ;;
     esac

@@ -16,35 +16,42 @@ complete -c datacube -n '__fish_seen_subcommand_from check' -F
 complete -c datacube -n '__fish_seen_subcommand_from print' -l ring -x -d 'How many records may wait between a feed and a builder, 1 to 65536 [default: 64]'
 complete -c datacube -n '__fish_seen_subcommand_from print' -l builders -x -d 'How many threads build the cube, 1 to 8; what is printed is the same [default: 1]'
 complete -c datacube -n '__fish_seen_subcommand_from print' -l threads -x -d 'How many threads fill, sort and print the cube, 1 to 16; as many as the machine has, at most 16, where left out'
+complete -c datacube -n '__fish_seen_subcommand_from print' -l quiet -d 'Shows no progress on standard error, where that is a terminal'
 complete -c datacube -n '__fish_seen_subcommand_from print' -l partial -d 'With each mean its sum and count too, so that cubes can be merged'
 complete -c datacube -n '__fish_seen_subcommand_from print' -s h -l help -d 'Print help'
 complete -c datacube -n '__fish_seen_subcommand_from print' -F
 complete -c datacube -n '__fish_seen_subcommand_from refusals' -l ring -x -d 'How many records may wait between a feed and a builder, 1 to 65536 [default: 64]'
 complete -c datacube -n '__fish_seen_subcommand_from refusals' -l builders -x -d 'How many threads build the cube, 1 to 8; what is printed is the same [default: 1]'
 complete -c datacube -n '__fish_seen_subcommand_from refusals' -l threads -x -d 'How many threads fill, sort and print the cube, 1 to 16; as many as the machine has, at most 16, where left out'
+complete -c datacube -n '__fish_seen_subcommand_from refusals' -l quiet -d 'Shows no progress on standard error, where that is a terminal'
 complete -c datacube -n '__fish_seen_subcommand_from refusals' -s h -l help -d 'Print help'
 complete -c datacube -n '__fish_seen_subcommand_from refusals' -F
 complete -c datacube -n '__fish_seen_subcommand_from slice' -l ring -x -d 'How many records may wait between a feed and a builder, 1 to 65536 [default: 64]'
 complete -c datacube -n '__fish_seen_subcommand_from slice' -l builders -x -d 'How many threads build the cube, 1 to 8; what is printed is the same [default: 1]'
 complete -c datacube -n '__fish_seen_subcommand_from slice' -l threads -x -d 'How many threads fill, sort and print the cube, 1 to 16; as many as the machine has, at most 16, where left out'
+complete -c datacube -n '__fish_seen_subcommand_from slice' -l quiet -d 'Shows no progress on standard error, where that is a terminal'
 complete -c datacube -n '__fish_seen_subcommand_from slice' -s h -l help -d 'Print help'
 complete -c datacube -n '__fish_seen_subcommand_from slice' -F
 complete -c datacube -n '__fish_seen_subcommand_from drill' -l ring -x -d 'How many records may wait between a feed and a builder, 1 to 65536 [default: 64]'
 complete -c datacube -n '__fish_seen_subcommand_from drill' -l builders -x -d 'How many threads build the cube, 1 to 8; what is printed is the same [default: 1]'
 complete -c datacube -n '__fish_seen_subcommand_from drill' -l threads -x -d 'How many threads fill, sort and print the cube, 1 to 16; as many as the machine has, at most 16, where left out'
+complete -c datacube -n '__fish_seen_subcommand_from drill' -l quiet -d 'Shows no progress on standard error, where that is a terminal'
 complete -c datacube -n '__fish_seen_subcommand_from drill' -s h -l help -d 'Print help'
 complete -c datacube -n '__fish_seen_subcommand_from drill' -F
 complete -c datacube -n '__fish_seen_subcommand_from rollup' -l ring -x -d 'How many records may wait between a feed and a builder, 1 to 65536 [default: 64]'
 complete -c datacube -n '__fish_seen_subcommand_from rollup' -l builders -x -d 'How many threads build the cube, 1 to 8; what is printed is the same [default: 1]'
 complete -c datacube -n '__fish_seen_subcommand_from rollup' -l threads -x -d 'How many threads fill, sort and print the cube, 1 to 16; as many as the machine has, at most 16, where left out'
+complete -c datacube -n '__fish_seen_subcommand_from rollup' -l quiet -d 'Shows no progress on standard error, where that is a terminal'
 complete -c datacube -n '__fish_seen_subcommand_from rollup' -s h -l help -d 'Print help'
 complete -c datacube -n '__fish_seen_subcommand_from rollup' -F
 complete -c datacube -n '__fish_seen_subcommand_from live' -l ring -x -d 'How many records may wait between a feed and a builder, 1 to 65536 [default: 64]'
 complete -c datacube -n '__fish_seen_subcommand_from live' -l threads -x -d 'How many threads fill, sort and print the cube, 1 to 16; as many as the machine has, at most 16, where left out'
+complete -c datacube -n '__fish_seen_subcommand_from live' -l quiet -d 'Shows no progress on standard error, where that is a terminal'
 complete -c datacube -n '__fish_seen_subcommand_from live' -s h -l help -d 'Print help'
 complete -c datacube -n '__fish_seen_subcommand_from live' -F
 complete -c datacube -n '__fish_seen_subcommand_from merge' -l partial -d 'Writes the partial form again, so that what is printed can be merged too'
 complete -c datacube -n '__fish_seen_subcommand_from merge' -l check -d 'Reads all cubes to their ends before it writes'
+complete -c datacube -n '__fish_seen_subcommand_from merge' -l quiet -d 'Shows no progress on standard error, where that is a terminal'
 complete -c datacube -n '__fish_seen_subcommand_from merge' -s h -l help -d 'Print help'
 complete -c datacube -n '__fish_seen_subcommand_from merge' -F
 complete -c datacube -n '__fish_seen_subcommand_from explain' -s h -l help -d 'Print help'

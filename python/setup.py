@@ -1,4 +1,4 @@
-"""Puts the released program into the package, where there is one for this kind of machine, and tags the wheel for it."""
+"""Puts the released program, and the explorer's page, into the package, where there is one for this kind of machine, and tags the wheel for it."""
 import os
 import platform
 import shutil
@@ -13,6 +13,7 @@ except ImportError:
 
 RELEASE = os.path.join(os.path.dirname(os.path.abspath(__file__)), "..", "release")
 PROGRAM = os.path.join(RELEASE, f"{platform.machine()}-{platform.system().lower()}", "datacube")
+PAGE = os.path.join(RELEASE, "..", "explorer", "index.html")
 HAS_PROGRAM = os.path.isfile(PROGRAM)
 
 
@@ -26,6 +27,8 @@ class BuildWithProgram(build_py):
             os.makedirs(folder, exist_ok=True)
             shutil.copy(os.path.join(RELEASE, "NOTICES"), folder)
             os.chmod(shutil.copy(PROGRAM, folder), 0o755)
+        if os.path.isfile(PAGE) and not getattr(self, "editable_mode", False):
+            shutil.copy(PAGE, os.path.join(self.build_lib, "datacube", "postgres", "explorer.html"))
 
 
 class WheelOfPlatform(bdist_wheel):

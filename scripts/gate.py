@@ -125,7 +125,10 @@ def quick_parts(program):
         ("cases", ["scripts/cases.py", "--program", program]),
         ("documents", ["scripts/documents.py", "--check", "--program", program]),
         ("a wrong program", ["scripts/spoil.py", "--program", program]),
+        ("merges beside a slow program", ["scripts/merges.py", "--cases", "40", "--if-there", "--program", program]),
         ("sessions beside a slow program", ["scripts/sessions.py", "--cases", "10", "--program", program]),
+        ("the progress line in a terminal", ["scripts/progress.py", "--program", program]),
+        ("the Python package", ["scripts/python_tests.py", "--program", program]),
     ]
     if shutil.which("cc"):
         parts.append(("hostile use, the short form", ["scripts/hostile.sh", "--short", "--program", program]))
@@ -205,6 +208,7 @@ def main():
         bench = ["--folder", "cases/bench", "--program", "crates/bench/out/bench"]
         tally.run("cases of the benchmarks", ["scripts/cases.py", *bench])
         tally.run("the same question in SQL", ["scripts/sql.py", "--program", program or f"{BUILT}/datacube"])
+        tally.run("the page in a browser", ["scripts/explorer.sh"])
     print("== seconds of the clock, and of processors")
     for name, clock, spent in tally.rows:
         print(f"{clock:8.0f} {spent:8.0f}  {name}")

@@ -38,10 +38,26 @@ MIXED = [
     [b"I", b"3", b"a name of more than four and twenty bytes", b"b", b"\\N"],
     [b"D", b"2"],
 ]
-STATUS = {"S": 3, "P": 2, "G": 1}
-MEMORY = [r"S1", r"G1", r"G2", r"G3 \d+ F1", r"G4", r"P6"]
+# (a session: changes of sources with and without a feed, refused and not, and each question)
+SESSION = [
+    [b"1", *ONE],
+    [b"slice", b"\\A", b"\\A"],
+    [b"2", b"U", b"1", b"east", b"b", b"8"],
+    [b"slice", b"?", b"\\A"],
+    [b"64", b"I", b"7", b"a region of more than four and twenty bytes", b"a", b"-3"],
+    [b"print"],
+    [b"2", b"D", b"3"],
+    [b"drill", b"region", b"\\A", b"\\A"],
+    [b"rollup", b"kind", b"=west", b"=a"],
+    [b"slice", b"=north", b"?", b"?"],
+    [b"refusals"],
+    [b"refusals", b"1", b"2"],
+]
+STATUS = {"S": 3, "P": 2, "G": 1, "Q": 1, "M": 1}
+MEMORY = [r"S1", r"G1", r"G2", r"G3 \d+ F1", r"G4", r"P6", r"M1"]
+READS = [r"G3 \d+ F2", r"schema unreadable", r"Q3", r"M3 \d+( \d+)?"]
 # (what the short form refuses memory, reads and writes; threads are refused everywhere)
-SHORT = ("no words", "check", "print, 3 feeds, 2 builders", "slice")
+SHORT = ("no words", "check", "print, 3 feeds, 2 builders", "slice", "live", "merge")
 # (what is said where there is no memory for the words themselves)
 NO_WORDS = b"error: out of memory\n"
 
@@ -85,8 +101,28 @@ class Program:
         return Answer(ran.returncode, text or b"", err, was_refused)
 
 
-def why_wrong(answer, whole, codes):
-    """Why an answer isn't one that is allowed: the whole answer, or one of these codes with nothing written."""
+def no_ends(text):
+    """Where a text may end that is written at once, or not at all."""
+    return {0}
+
+
+def ends_of_lines(text):
+    """Where a text may end that is written line by line."""
+    return {0, *(it.end() for it in re.finditer(rb"\n", text))}
+
+
+def ends_of_answers(text):
+    """Where a text may end that is the answers of a session."""
+    ends = {0}
+    while max(ends) < len(text):
+        line = text[max(ends):].partition(b"\n")[0]
+        ends.add(max(ends) + len(line) + 1 + (int(line[3:]) if line.startswith(b"ok ") else 0))
+    return ends
+
+
+def why_wrong(answer, whole, codes, ends_of=no_ends):
+    """Why an answer isn't one that is allowed: the whole answer, or one of these codes with a first part written that
+    ends where it may."""
     if answer.status == whole.status and answer.status in (0, 4):
         if answer.out == whole.out and answer.err == whole.err:
             return None
@@ -101,8 +137,9 @@ def why_wrong(answer, whole, codes):
     sent = re.fullmatch(r"G6 (\d+)", code)
     if answer.status != (3 if code == "schema unreadable" else STATUS.get(code[0], 1)):
         return f"{code} with status {answer.status}"
-    if answer.out != (whole.out[: int(sent[1])] if sent else b""):
-        return f"{code} with {len(answer.out)} bytes written"
+    count = len(answer.out)
+    if answer.out != whole.out[:count] or (count != int(sent[1]) if sent else count not in ends_of(whole.out)):
+        return f"{code} with {count} bytes written"
     return None
 
 
@@ -126,14 +163,14 @@ class Trials:
             self.failed += 1
             print(f"FAILED  {name}: {why}", flush=True)
 
-    def in_turn(self, kind, words, codes, given=b"", whole=None, limit=20000):
+    def in_turn(self, kind, words, codes, given=b"", ends_of=no_ends, limit=20000):
         """Refuses each call of a kind in turn until a run meets no refusal; how many there were, or why it fails."""
-        whole = whole or self.program.run(words, given)
+        whole = self.program.run(words, given)
         if whole.status not in (0, 4):
             return f"without a refusal: status {whole.status}, {whole.err[:200]!r}"
         for turn in range(1, limit):
             answer = self.program.run(words, given, refuse=f"{kind} {turn}")
-            why = why_wrong(answer, whole, codes)
+            why = why_wrong(answer, whole, codes, ends_of)
             if why:
                 return f"{kind} {turn}: {why}"
             if not answer.was_refused:
@@ -157,17 +194,33 @@ def commands(program):
                 ["print", "--builders", str(builders), "schema.toml", *files[:count]], b"")
     made["slice"] = (["slice", "schema.toml", "?,=a", *files[:2]], b"")
     made["drill"] = (["drill", "schema.toml", "\\A,\\A", "kind", *files[:2]], b"")
+    made["rollup"] = (["rollup", "schema.toml", "=west,=a", "kind", *files[:2]], b"")
     made["refusals"] = (["refusals", "schema.toml", *files[:2]], b"")
+    made["print --partial"] = (["print", "--partial", "schema.toml", *files[:2]], b"")
+    made["live"] = (["live", "schema.toml", *files[:2]], oracle.encode(SESSION))
+    made["merge"] = (["merge", "schema.toml", *cubes(program, files)], b"")
+    made["merge --check"] = (["merge", "--check", *made["merge"][0][1:]], b"")
     return made, files
+
+
+def cubes(program, files):
+    """The partial cubes of the first feeds, each in a file of its own."""
+    parts = [program.run(["print", "--partial", "schema.toml", it]).out for it in files[:3]]
+    return [program.write(f"cube{at}.csv", part) for at, part in enumerate(parts, start=1)]
+
+
+def ends_of_command(name):
+    """Where what a command writes may end."""
+    return ends_of_answers if name == "live" else ends_of_lines if name.startswith("merge") else no_ends
 
 
 def refusals_in_turn(trials):
     program = trials.program
     made, files = commands(program)
-    reads = [r"G3 \d+ F2", r"schema unreadable"]
     for name, (words, given) in made.items():
-        trials.trial(f"memory refused in turn: {name}", lambda: trials.in_turn("alloc", words, MEMORY, given))
-        trials.trial(f"reads failing in turn: {name}", lambda: trials.in_turn("read", words, reads, given))
+        ends_of = ends_of_command(name)
+        trials.trial(f"memory refused in turn: {name}", lambda: trials.in_turn("alloc", words, MEMORY, given, ends_of))
+        trials.trial(f"reads failing in turn: {name}", lambda: trials.in_turn("read", words, READS, given, ends_of))
         trials.trial(f"writes failing in turn: {name}", lambda: trials.in_turn("write", words, [r"G6 \d+"], given))
         trials.trial(f"writes that take nothing: {name}", lambda: trials.in_turn("none", words, [r"G6 \d+"], given))
         trials.trial(f"threads refused in turn: {name}", lambda: trials.in_turn("thread", words, [r"G2"], given))

@@ -1,12 +1,15 @@
 #!/usr/bin/env python3
 """Runs `live` beside scripts/oracle.py over generated sessions: the bytes of all answers, the status, standard error.
 
-    scripts/sessions.py [--program PATH] [--cases N] [--seed N] [--if-there]
+    scripts/sessions.py [--program PATH] [--cases N] [--seed N] [--records N] [--if-there]
 
 Each session is asked twice: its whole input at once, and by a pipe, where each question is answered before the next
-record is written; now and then a record goes in two pieces. The program is the one at PATH, else the one that
-`./datacube` would run. The last line is `N passed, M failed`.
+record is written; now and then a record goes in two pieces. With `--records` each is a long session of so many records,
+of five sources with a thousand ids each, of which one in a hundred is a question. The program is the one at PATH, else
+the one that `./datacube` would run. The last line is `N passed, M failed`.
 """
+import argparse
+import functools
 import subprocess
 import sys
 import threading
@@ -56,6 +59,16 @@ def session(rng):
     for _ in range(rng.choice([0, 3, 20, 20, 200, 200, 3000])):
         record = question(rng, schema) if rng.random() < share else [b"%d" % rng.choice(sources), *change()]
         records.append(record[:1] if rng.random() < 0.005 else record)
+    return schema, feeds, records
+
+
+def long_session(count, rng):
+    """A schema, the data records of feeds, and so many records of a session over thousands of facts."""
+    schema = oracle.Schema(["region", "kind", "shop"], ["amount", "pieces"],
+                           [("count", None), ("sum", 0), ("min", 0), ("max", 0), ("avg", 0), ("min", 1), ("max", 1), ("count", 1)])
+    change = lambda: hostile.random_record(rng, schema, hostile.TEXTS[1:8], 1000)
+    feeds = [[change() for _ in range(2000)] for _ in range(2)]
+    records = [question(rng, schema) if rng.random() < 0.01 else [b"%d" % rng.randint(1, 5), *change()] for _ in range(count)]
     return schema, feeds, records
 
 
@@ -113,8 +126,8 @@ def is_as_run(schema, feeds, records, live):
     return (run.print(), run.refusals(), run.status) == (live.run().print(), live.refusals(), live.status())
 
 
-def compare(room, rng):
-    schema, feeds, records = session(rng)
+def compare(room, rng, made_by=session):
+    schema, feeds, records = made_by(rng)
     room.write("schema.toml", schema.toml())
     names = [room.write(f"feed{at}.csv", oracle.encode([schema.header(), *it], rng)) for at, it in enumerate(feeds)]
     options = rng.choice([[], ["--ring", "1"], ["--threads", "2"]])
@@ -133,5 +146,15 @@ def compare(room, rng):
     return differs("at once", room.run(words, text), wanted) or differs("by a pipe", by_pipe(room, words, pieces), wanted)
 
 
+def main():
+    asks = argparse.ArgumentParser(add_help=False)
+    asks.add_argument("--records", type=int)
+    given, sys.argv[1:] = asks.parse_known_args()
+    if given.records:
+        made_by = functools.partial(long_session, given.records)
+        return programs.beside_oracle(__doc__, "live", functools.partial(compare, made_by=made_by), 1)
+    return programs.beside_oracle(__doc__, "live", compare, 200)
+
+
 if __name__ == "__main__":
-    sys.exit(programs.beside_oracle(__doc__, "live", compare, 200))
+    sys.exit(main())

@@ -215,27 +215,36 @@ class Server:
         self.binaries, self.room, self.settings, self.process = binaries, room, settings, None
         self.env = {"PATH": "/usr/bin:/bin", "LC_ALL": "C", "PGCLIENTENCODING": "UTF8"}
 
+        self.front = ["setpriv", "--pdeathsig", "INT"]
+        if os.geteuid() == 0:
+            self.front += cases.NOBODY[1:]
+
     def __enter__(self):
-        front = ["setpriv", "--pdeathsig", "INT"]
         if os.geteuid() == 0:
             os.chown(self.room, 65534, 65534)
-            front += cases.NOBODY[1:]
-        data = f"{self.room}/data"
         make = ["--no-sync", "--encoding=UTF8", "--locale=C", "--auth=trust", "--username=datacube"]
-        made = self.call([*front, f"{self.binaries}/initdb", "-D", data, *make])
+        made = self.call([*self.front, f"{self.binaries}/initdb", "-D", f"{self.room}/data", *make])
         if made.returncode:
             sys.exit(f"initdb failed: {made.stderr.decode(errors='replace').strip()}")
-        settings = [word for it in self.settings for word in ("-c", it)]
-        serve = [f"{self.binaries}/postgres", "-D", data, "-k", self.room, *settings]
-        with open(f"{self.room}/log", "wb") as log:
-            how = {"stdin": subprocess.DEVNULL, "stdout": log, "stderr": log, "env": self.env, "cwd": "/"}
-            self.process = subprocess.Popen([*front, *serve], **how)
-        self.wait()
+        self.begin()
         self.ask((IS_NUMBER + FRACTION).encode())
         return self
 
     def __exit__(self, *_):
-        self.process.send_signal(signal.SIGINT)
+        self.end()
+
+    def begin(self):
+        """Begins to serve, with a log that grows."""
+        settings = [word for it in self.settings for word in ("-c", it)]
+        serve = [f"{self.binaries}/postgres", "-D", f"{self.room}/data", "-k", self.room, *settings]
+        with open(f"{self.room}/log", "ab") as log:
+            how = {"stdin": subprocess.DEVNULL, "stdout": log, "stderr": log, "env": self.env, "cwd": "/"}
+            self.process = subprocess.Popen([*self.front, *serve], **how)
+        self.wait()
+
+    def end(self, how=signal.SIGINT):
+        """Ends the server, by the signal of a fast shutdown or of another one."""
+        self.process.send_signal(how)
         self.process.wait()
 
     def call(self, command, given=b""):

@@ -1,6 +1,6 @@
 -- The text of an answer tells the answer, among those of its kind.
 use Rattle.std.proofs.Common.{◌≡◌, ◌≢◌, ◌==◌, ℕ, suc, ◌<◌, ◌^◌, ℤ, pos, negsuc, List, [], ◌∷◌, ◌++◌, map, get_or, FitsSigned, refl, sym, ap, ap₂, ◌∙◌, subst, arith, append_assoc, codes}
-use Rattle.std.specs.Int.{w128}
+use Rattle.std.specs.Int.{w64, w128}
 use Rattle.std.specs.Fmt.{decimal, signed_decimal}
 use Rattle.std.specs.List.{AllByRecursion, AllZip}
 use Rattle.std.specs.Char.{digit_value}
@@ -14,7 +14,7 @@ use Rattle.cube_core.specs.declared.aggregate.Agg.{Agg}
 use Rattle.cube_core.specs.declared.aggregate.Agg.TheVariants.{CountAll, Count, Sum, Min, Max, Avg}
 use Rattle.cube_core.specs.declared.aggregate.Answer.{Answer}
 use Rattle.cube_core.specs.declared.aggregate.Answer.TheVariants as answer
-use Rattle.cube_laws.specs.Told.{IsCount, IsNumber, IsFraction, IsOfKind}
+use Rattle.cube_merge.specs.Lawful.{IsCount, IsNumber, IsValue, IsFraction, IsOfKind}
 
 -- a byte of a number: neither that of a slash nor one of those that stand for null
 abbrev IsPlain : ℕ → Type 0
@@ -106,6 +106,17 @@ IsNumber-told (answer.Whole y) (answer.Ratio p q) h k same = absurd k
 IsNumber-told (answer.Count m) b h k same = absurd h
 IsNumber-told (answer.Ratio p q) b h k same = absurd h
 
+-- a number of 64 bits is one of 128
+fits_wider : (z : ℤ) → FitsSigned w64 z → FitsSigned w128 z
+fits_wider (pos n) fits = omega arith
+fits_wider (negsuc n) fits = omega arith
+
+IsValue-IsNumber : (a : Answer) → IsValue a → IsNumber a
+IsValue-IsNumber answer.Null h = tt
+IsValue-IsNumber (answer.Whole z) h = fits_wider z h
+IsValue-IsNumber (answer.Count n) h = absurd h
+IsValue-IsNumber (answer.Ratio p q) h = absurd h
+
 IsFraction-told : (a b : Answer) → IsFraction a → IsFraction b → answer_text a ≡ answer_text b → a ≡ b
 IsFraction-told answer.Null answer.Null h k same = refl
 IsFraction-told answer.Null (answer.Ratio p q) h k same = absurd (null_text-Ratio p q k.0 same)
@@ -125,8 +136,8 @@ IsOfKind-told : (agg : Agg) (a b : Answer) → IsOfKind agg a → IsOfKind agg b
 IsOfKind-told CountAll a b h k same = IsCount-told a b h k same
 IsOfKind-told (Count m) a b h k same = IsCount-told a b h k same
 IsOfKind-told (Sum m) a b h k same = IsNumber-told a b h k same
-IsOfKind-told (Min m) a b h k same = IsNumber-told a b h k same
-IsOfKind-told (Max m) a b h k same = IsNumber-told a b h k same
+IsOfKind-told (Min m) a b h k same = IsNumber-told a b (IsValue-IsNumber a h) (IsValue-IsNumber b k) same
+IsOfKind-told (Max m) a b h k same = IsNumber-told a b (IsValue-IsNumber a h) (IsValue-IsNumber b k) same
 IsOfKind-told (Avg m) a b h k same = IsFraction-told a b h k same
 
 -- answers to the same aggregates that show the same are the same

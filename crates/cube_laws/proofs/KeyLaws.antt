@@ -13,7 +13,8 @@ use Rattle.cube_core.specs.Covers.{stands_for, all_stand_for, covers}
 use Rattle.cube_core.specs.GroupingSet.{is_all_coord}
 use Rattle.cube_core.specs.Cube.{is_total, is_cell, HasAnswers, key_of, AreRows}
 use Rattle.cube_core.specs.Text.{coord_text, grouping_text, answer_text}
-use Rattle.cube_laws.specs.Keys.{is_no_null_text, has_no_null_text, LookAlike, key_columns}
+use Rattle.cube_laws.specs.Keys.{LookAlike, key_columns}
+use Rattle.cube_merge.specs.Lawful.{is_no_null_text, has_no_null_text}
 use Rattle.cube_core.specs.declared.fact.Fact.{Fact}
 use Rattle.cube_core.specs.declared.key.Coord.{Coord}
 use Rattle.cube_core.specs.declared.key.Coord.TheVariants as coord

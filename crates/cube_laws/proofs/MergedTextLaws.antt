@@ -1,5 +1,6 @@
 -- The text of merged rows is the printed cube.
-use Rattle.std.proofs.Common.{◌≡◌, ℕ, zero, suc, ◌<◌, ◌≤◌, List, [], ◌∷◌, length, get_or, IsPermutation, sym, ◌∙◌, subst, arith}
+use Rattle.std.proofs.Common.{◌≡◌, ℕ, zero, suc, ◌<◌, ◌≤◌, List, [], ◌∷◌, ◌++◌, length, map, get_or, IsPermutation, Some, None, IfSome, refl, sym, ◌∙◌, subst, arith}
+use Rattle.std.proofs.lemmas.List.{length-map}
 use Rattle.std.specs.List.{AllByRecursion, AllZip}
 use Rattle.cube_core.specs.Cube.{AreRows}
 use Rattle.cube_core.specs.Layout.{Layout, IsSchema}
@@ -7,7 +8,9 @@ use Rattle.cube_core.specs.PartialForm.{partial_aggregates, partial_form}
 use Rattle.cube_core.specs.Printed.{IsPrinted}
 use Rattle.cube_core.specs.declared.fact.Fact.{Fact}
 use Rattle.cube_core.specs.declared.key.Row.{Row}
-use Rattle.cube_laws.specs.Merging.{joined, IsTextOf, IsMergedText}
+use Rattle.cube_core.specs.Text.{text_of_rows}
+use Rattle.cube_merge.specs.Merging.{IsMergeOf}
+use Rattle.cube_laws.specs.Merging.{joined, IsTextOf, IsMergedText, PutsPrinted}
 use Rattle.cube_laws.specs.Told.{CanBePrinted}
 use Rattle.cube_laws.proofs.MergedLaws.{AreRowsOver-AreMergedOf}
 use Rattle.cube_laws.proofs.RangeLaws.{AreRows-IsRowOf}
@@ -77,3 +80,39 @@ IsMergedText-unique s parts others texts other_texts text other_text schema some
     IsPrinted-unique s (joined others) text other_text
     (IsPrinted-IsPermutation s (joined parts) (joined others) text order (IsMergedText-IsPrinted s parts texts text schema some printable printed merged))
     (IsMergedText-IsPrinted s others other_texts other_text schema some_others printable_others printed_others merged_others)
+
+-- what a merge of texts wrote is the text of their merged rows
+pub IsMergeOf-IsMergedText : (given wanted : Layout) (texts : List (List ℕ)) (old new : List ℕ) → IsMergeOf given wanted (map Some texts) (Some old) (Some new)
+    → (text : List ℕ) × (new ≡ old ++ text) × IsMergedText given wanted texts text
+IsMergeOf-IsMergedText given wanted texts old new merge = (
+  text_of_rows wanted merge.rows,
+  merge.written,
+  record {
+    cubes = merge.cubes;
+    rows = merge.rows;
+    as_many = merge.as_many ∙ length-map texts Some;
+    read = λ k below. record {
+      text_is = subst (λ o. IfSome o (λ known. known ≡ text_of_rows given (get_or merge.cubes k []))) (map-Some texts k below) (merge.read k);
+      of_schema = merge.of_schema k;
+    };
+    merged = record { parts = merge.parts; drawn = merge.drawn; merged = merge.merged };
+    text_is = refl;
+  },
+) where
+  map-Some : (ts : List (List ℕ)) (k : ℕ) → k < length ts → get_or (map Some ts) k None ≡ Some (get_or ts k [])
+  map-Some [] k below = absurd (omega (arith, below))
+  map-Some (t ∷ ts) zero below = refl
+  map-Some (t ∷ ts) (suc k) below = map-Some ts k (omega (arith, below))
+
+-- so a merge of printed partial cubes writes the printed cube
+pub IsMergeOf-PutsPrinted : (s : Layout) (parts : List (List Fact)) (texts : List (List ℕ)) (old new : List ℕ) → IsSchema s → 1 ≤ length parts → AllByRecursion (CanBePrinted s) parts
+    → AllZip (IsPrinted (partial_form s)) parts texts → IsMergeOf (partial_form s) s (map Some texts) (Some old) (Some new) → PutsPrinted s (joined parts) old new
+IsMergeOf-PutsPrinted s parts texts old new schema some printable printed merge =
+    let wrote = IsMergeOf-IsMergedText (partial_form s) s texts old new merge in
+    (wrote.0, wrote.1, IsMergedText-IsPrinted s parts texts wrote.0 schema some printable printed wrote.2)
+
+pub IsMergeOf-PutsPrinted_partial : (s : Layout) (parts : List (List Fact)) (texts : List (List ℕ)) (old new : List ℕ) → IsSchema s → 1 ≤ length parts → AllByRecursion (CanBePrinted s) parts
+    → AllZip (IsPrinted (partial_form s)) parts texts → IsMergeOf (partial_form s) (partial_form s) (map Some texts) (Some old) (Some new) → PutsPrinted (partial_form s) (joined parts) old new
+IsMergeOf-PutsPrinted_partial s parts texts old new schema some printable printed merge =
+    let wrote = IsMergeOf-IsMergedText (partial_form s) (partial_form s) texts old new merge in
+    (wrote.0, wrote.1, IsMergedText-partial s parts texts wrote.0 schema some printable printed wrote.2)

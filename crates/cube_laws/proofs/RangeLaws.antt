@@ -21,7 +21,8 @@ use Rattle.cube_core.specs.declared.fact.Fact.{Fact}
 use Rattle.cube_core.specs.declared.key.Row.{Row}
 use Rattle.cube_core.proofs.CommonDivisorLaws.{divides-coprime}
 use Rattle.cube_core.proofs.ListLaws.{AllByRecursion-Contains, Contains-AllByRecursion, map-Contains, filter-passed, filter-failed}
-use Rattle.cube_laws.specs.Told.{IsCount, IsNumber, IsFraction, IsOfKind, IsRowOf, HasSmallValues, AreCountable, CanBePrinted}
+use Rattle.cube_merge.specs.Lawful.{IsCount, IsNumber, IsValue, IsFraction, IsOfKind, IsRowOf}
+use Rattle.cube_laws.specs.Told.{HasSmallValues, AreCountable, CanBePrinted}
 use Rattle.cube_laws.proofs.KeyLaws.{IsTold-is_cell}
 
 -- ---- sizes
@@ -89,11 +90,9 @@ IsSum-IsNumber : (values : List ℤ) (a : Answer) → length values < 2 ^ 64 →
 IsSum-IsNumber [] a few small h = subst IsNumber (sym h) tt
 IsSum-IsNumber (v ∷ vs) a few small h = subst IsNumber (sym h) (fits_wide (total_of (v ∷ vs)) (total_of-fits (v ∷ vs) few small))
 
-IsBest-IsNumber : (R : ℤ → ℤ → Type 0) (values : List ℤ) (a : Answer) → AllByRecursion (FitsSigned w64) values → IsBest R values a → IsNumber a
-IsBest-IsNumber R [] a small h = subst IsNumber (sym h) tt
-IsBest-IsNumber R (v ∷ vs) a small h =
-    let size = fits-unsigned_abs h.0 (AllByRecursion-Contains (FitsSigned w64) (v ∷ vs) h.0 small h.2) in
-    subst IsNumber (sym h.1) (fits_wide h.0 (omega (arith, size)))
+IsBest-IsValue : (R : ℤ → ℤ → Type 0) (values : List ℤ) (a : Answer) → AllByRecursion (FitsSigned w64) values → IsBest R values a → IsValue a
+IsBest-IsValue R [] a small h = subst IsValue (sym h) tt
+IsBest-IsValue R (v ∷ vs) a small h = subst IsValue (sym h.1) (AllByRecursion-Contains (FitsSigned w64) (v ∷ vs) h.0 small h.2)
 
 IsMean-IsFraction : (values : List ℤ) (a : Answer) → length values < 2 ^ 64 → AllByRecursion (FitsSigned w64) values → IsMean values a → IsFraction a
 IsMean-IsFraction [] a few small h = subst IsFraction (sym h) tt
@@ -139,8 +138,8 @@ IsAnswer-IsOfKind group CountAll a countable h = subst IsCount (sym h) countable
 IsAnswer-IsOfKind group (Count m) a countable h = subst IsCount (sym h) (omega (arith, length-values_of-le m group, countable.few))
 IsAnswer-IsOfKind group (Sum m) a countable h =
     IsSum-IsNumber (values_of m group) a (omega (arith, length-values_of-le m group, countable.few)) (values_of-small m group countable.small) h
-IsAnswer-IsOfKind group (Min m) a countable h = IsBest-IsNumber (λ m x. m ≤ℤ x) (values_of m group) a (values_of-small m group countable.small) h
-IsAnswer-IsOfKind group (Max m) a countable h = IsBest-IsNumber (λ m x. x ≤ℤ m) (values_of m group) a (values_of-small m group countable.small) h
+IsAnswer-IsOfKind group (Min m) a countable h = IsBest-IsValue (λ m x. m ≤ℤ x) (values_of m group) a (values_of-small m group countable.small) h
+IsAnswer-IsOfKind group (Max m) a countable h = IsBest-IsValue (λ m x. x ≤ℤ m) (values_of m group) a (values_of-small m group countable.small) h
 IsAnswer-IsOfKind group (Avg m) a countable h =
     IsMean-IsFraction (values_of m group) a (omega (arith, length-values_of-le m group, countable.few)) (values_of-small m group countable.small) h
 

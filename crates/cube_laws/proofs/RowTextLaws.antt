@@ -7,7 +7,7 @@ use Rattle.cube_core.specs.Text.{answer_text, header_fields, row_fields, text_of
 use Rattle.cube_core.specs.declared.aggregate.Answer.{Answer}
 use Rattle.cube_core.specs.declared.key.Key.{Key}
 use Rattle.cube_core.specs.declared.key.Row.{Row}
-use Rattle.cube_laws.specs.Told.{IsRowOf}
+use Rattle.cube_merge.specs.Lawful.{IsRowOf}
 use Rattle.cube_laws.proofs.AnswerTextLaws.{AreOfKind-told}
 use Rattle.cube_laws.proofs.KeyLaws.{LookAlike-unique, append-front, append-back, length-shown, shown, shown-LookAlike}
 use Rattle.cube_laws.proofs.TextLaws.{records-fields}

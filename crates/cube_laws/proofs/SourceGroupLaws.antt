@@ -1,5 +1,5 @@
 -- The printed partial cubes of groups of sources, merged, are the printed cube of all sources.
-use Rattle.std.proofs.Common.{◌≡◌, ℕ, ◌≤◌, ◌+◌, nat_lt, List, [], ◌∷◌, ◌++◌, length, if◌then◌else◌, suc, Some, None, Result, Ok, Err, refl, sym, ap, ap₂, ◌∙◌, subst}
+use Rattle.std.proofs.Common.{◌≡◌, ℕ, ◌≤◌, ◌+◌, nat_lt, List, [], ◌∷◌, ◌++◌, length, map, if◌then◌else◌, suc, Some, None, Result, Ok, Err, refl, sym, ap, ap₂, ◌∙◌, subst}
 use Rattle.std.specs.List.{AllByRecursion, AllZip, cons_option}
 use Rattle.std.proofs.lemmas.List.{map-append}
 use Rattle.std.proofs.lemmas.Grind.{flat_map-append}
@@ -17,9 +17,10 @@ use Rattle.cube_core.specs.declared.change.Change.TheVariants.{Insert, Update, A
 use Rattle.cube_core.specs.declared.change.Item.{Item}
 use Rattle.cube_core.specs.declared.change.LineFault.{LineFault}
 use Rattle.cube_core.specs.declared.fact.Fact.{Fact}
-use Rattle.cube_laws.specs.Merging.{joined, IsMergedText}
+use Rattle.cube_laws.specs.Merging.{joined, IsMergedText, PutsPrintedOf}
+use Rattle.cube_merge.specs.Merging.{IsMergeOf}
 use Rattle.cube_laws.specs.Told.{AreFewSources, CanBePrinted}
-use Rattle.cube_laws.proofs.MergedTextLaws.{IsMergedText-IsPrinted, IsMergedText-partial}
+use Rattle.cube_laws.proofs.MergedTextLaws.{IsMergeOf-IsMergedText, IsMergedText-IsPrinted, IsMergedText-partial}
 use Rattle.cube_laws.proofs.SurvivorRangeLaws.{SurviveTogether-CanBePrinted}
 
 -- ---- the partial form of a schema reads what the schema reads
@@ -144,3 +145,18 @@ IsMergedText-IsPrintedOf_partial s groups texts text schema some few all merged 
       survive = found.survive_partial;
       printed = IsMergedText-partial s found.parts texts text schema (subst (λ n. 1 ≤ n) (sym found.as_many) some) found.printable found.printed merged;
     }
+
+-- so a merge of the printed partial cubes of groups of sources writes the printed cube of all sources
+pub IsMergeOf-PutsPrintedOf : (s : Layout) (groups : List (List (List ℕ))) (texts : List (List ℕ)) (old new : List ℕ) → IsSchema s → 1 ≤ length groups
+    → AllByRecursion AreFewSources groups → AllZip (IsPrintedOf (partial_form s)) groups texts → IsMergeOf (partial_form s) s (map Some texts) (Some old) (Some new)
+    → PutsPrintedOf s (joined groups) old new
+IsMergeOf-PutsPrintedOf s groups texts old new schema some few all merge =
+    let wrote = IsMergeOf-IsMergedText (partial_form s) s texts old new merge in
+    (wrote.0, wrote.1, IsMergedText-IsPrintedOf s groups texts wrote.0 schema some few all wrote.2)
+
+pub IsMergeOf-PutsPrintedOf_partial : (s : Layout) (groups : List (List (List ℕ))) (texts : List (List ℕ)) (old new : List ℕ) → IsSchema s → 1 ≤ length groups
+    → AllByRecursion AreFewSources groups → AllZip (IsPrintedOf (partial_form s)) groups texts → IsMergeOf (partial_form s) (partial_form s) (map Some texts) (Some old) (Some new)
+    → PutsPrintedOf (partial_form s) (joined groups) old new
+IsMergeOf-PutsPrintedOf_partial s groups texts old new schema some few all merge =
+    let wrote = IsMergeOf-IsMergedText (partial_form s) (partial_form s) texts old new merge in
+    (wrote.0, wrote.1, IsMergedText-IsPrintedOf_partial s groups texts wrote.0 schema some few all wrote.2)

@@ -1,24 +1,9 @@
 -- The words of the laws on what a row shows of its key (SQL:1999: GROUPING tells ALL from null).
-use Rattle.std.specs.Prelude.{◌≡◌, ◌*◌, ℕ, Bool, true, not, List, length, map, take}
-use Rattle.std.specs.Str.{bytes_eq}
-use Rattle.std.specs.List.{list_all}
+use Rattle.std.specs.Prelude.{◌≡◌, ◌*◌, ℕ, List, length, map, take}
 use Rattle.cube_core.specs.Layout.{Layout}
-use Rattle.cube_core.specs.Takes.{null_text}
 use Rattle.cube_core.specs.Text.{coord_text, grouping_text, row_fields}
-use Rattle.cube_core.specs.declared.key.Coord.{Coord}
-use Rattle.cube_core.specs.declared.key.Coord.TheVariants as coord
 use Rattle.cube_core.specs.declared.key.Key.{Key}
 use Rattle.cube_core.specs.declared.key.Row.{Row}
-
--- whether a coordinate isn't the text that stands for null and for ALL
-abbrev pub is_no_null_text : Coord → Bool
-is_no_null_text (coord.Text name) = not (bytes_eq name null_text)
-is_no_null_text coord.Null = true
-is_no_null_text coord.All = true
-
--- whether no coordinate of a key is that text
-abbrev pub has_no_null_text : Key → Bool
-has_no_null_text key = list_all is_no_null_text key.coords
 
 -- two keys look alike: their rows show the same dimension columns and the same GROUPING columns
 pub record LookAlike (a b : Key) : Type 0 where

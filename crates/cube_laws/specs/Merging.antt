@@ -1,11 +1,13 @@
 -- What the laws of merging speak of: facts in parts, and the merged rows of their cubes (Gray et al. 1997: COUNT, SUM, MIN and MAX are distributive, AVG is algebraic, made of SUM and COUNT; the merging of rows is this project's choice).
-use Rattle.std.specs.Prelude.{◌≡◌, ◌<◌, ◌≤◌, ℕ, List, [], ◌∷◌, length, get_or, slice_get, Some, IsPermutation}
+use Rattle.std.specs.Prelude.{◌≡◌, ◌<◌, ◌≤◌, ℕ, List, [], ◌∷◌, ◌++◌, length, get_or, slice_get, Some, IsPermutation}
 use Rattle.std.specs.List.{AllByRecursion, flat_map}
 use Rattle.cube_core.specs.Layout.{Layout}
 use Rattle.cube_core.specs.Cube.{AreRows}
 use Rattle.cube_core.specs.Merged.{AreMerged}
+use Rattle.cube_core.specs.Printed.{IsPrinted}
+use Rattle.cube_core.specs.Sources.{IsPrintedOf}
 use Rattle.cube_core.specs.Text.{text_of_rows}
-use Rattle.cube_laws.specs.Told.{IsRowOf}
+use Rattle.cube_merge.specs.Lawful.{IsRowOf}
 use Rattle.cube_core.specs.declared.aggregate.Agg.{Agg}
 use Rattle.cube_core.specs.declared.aggregate.Agg.TheVariants.{Count, Sum, Avg}
 use Rattle.cube_core.specs.declared.fact.Fact.{Fact}
@@ -56,3 +58,11 @@ pub record IsMergedText (given wanted : Layout) (texts : List (List ℕ)) (text 
   pub read : (k : ℕ) → k < length texts → IsTextOf given (get_or texts k []) (get_or cubes k [])
   pub merged : AreMergedOf given.aggregates wanted.aggregates cubes rows
   pub text_is : text ≡ text_of_rows wanted rows
+
+-- the printed cube of facts was put at the end of a text
+abbrev pub PutsPrinted : Layout → List Fact → List ℕ → List ℕ → Type 0
+PutsPrinted s facts old new = (text : List ℕ) × (new ≡ old ++ text) × IsPrinted s facts text
+
+-- the printed cube of sources was put at the end of a text
+abbrev pub PutsPrintedOf : Layout → List (List ℕ) → List ℕ → List ℕ → Type 0
+PutsPrintedOf s sources old new = (text : List ℕ) × (new ≡ old ++ text) × IsPrintedOf s sources text

@@ -1,5 +1,5 @@
 //! How the cubes of parts of the facts make the cube of them all.
-ghost use Rattle.std.specs.Prelude.{◌≡◌, ◌≤◌, ℕ, List, IsPermutation, length};
+ghost use Rattle.std.specs.Prelude.{◌≡◌, ◌≤◌, ℕ, List, IsPermutation, Some, length, map};
 ghost use Rattle.std.specs.List.{AllByRecursion, AllZip};
 ghost use Rattle.cube_core.specs.Cube.{AreRows, AreRowsOver};
 ghost use Rattle.cube_core.specs.Layout.{IsSchema, Layout};
@@ -7,7 +7,8 @@ ghost use Rattle.cube_core.specs.PartialForm.{partial_aggregates, partial_form};
 ghost use Rattle.cube_core.specs.Printed.{IsPrinted};
 ghost use Rattle.cube_core.specs.Sources.{IsPrintedOf};
 ghost use Rattle.cube_laws.specs.Told.{AreFewSources, CanBePrinted};
-ghost use Rattle.cube_laws.specs.Merging.{AreMergedOf, AreMergeTrees, IsMergedText, IsMergeTree, joined};
+ghost use Rattle.cube_laws.specs.Merging.{AreMergedOf, AreMergeTrees, IsMergedText, IsMergeTree, PutsPrinted, PutsPrintedOf, joined};
+ghost use Rattle.cube_merge.specs.Merging.{IsMergeOf};
 ghost use Rattle.cube_core.specs.declared.aggregate.Agg.{Agg};
 ghost use Rattle.cube_core.specs.declared.fact.Fact.{Fact};
 ghost use Rattle.cube_core.specs.declared.key.Row.{Row};
@@ -95,6 +96,36 @@ pub fn merged_text_is_the_printed_cube()
         AllZip (IsPrinted (partial_form s)) parts texts →
         IsMergedText (partial_form s) (partial_form s) texts text →
         IsPrinted (partial_form s) (joined parts) text }
+{}
+
+/// What the call `merge` writes, by its promise, of the printed partial cubes of parts of the facts is the printed cube of
+/// all their facts, and so under the partial form itself; the facts of each part can be printed (this project's choice).
+pub fn merge_writes_the_printed_cube()
+    ensures whole { (s : Layout) (parts : List (List Fact)) (texts : List (List ℕ)) (old new : List ℕ) →
+        IsSchema s → 1 ≤ length parts → AllByRecursion (CanBePrinted s) parts →
+        AllZip (IsPrinted (partial_form s)) parts texts →
+        IsMergeOf (partial_form s) s (map Some texts) (Some old) (Some new) →
+        PutsPrinted s (joined parts) old new }
+    ensures partial { (s : Layout) (parts : List (List Fact)) (texts : List (List ℕ)) (old new : List ℕ) →
+        IsSchema s → 1 ≤ length parts → AllByRecursion (CanBePrinted s) parts →
+        AllZip (IsPrinted (partial_form s)) parts texts →
+        IsMergeOf (partial_form s) (partial_form s) (map Some texts) (Some old) (Some new) →
+        PutsPrinted (partial_form s) (joined parts) old new }
+{}
+
+/// And of the printed partial cubes of groups of sources it writes the printed cube of all sources (this project's choice:
+/// an id belongs to its source).
+pub fn merge_writes_the_cube_of_all_sources()
+    ensures whole { (s : Layout) (groups : List (List (List ℕ))) (texts : List (List ℕ)) (old new : List ℕ) →
+        IsSchema s → 1 ≤ length groups → AllByRecursion AreFewSources groups →
+        AllZip (IsPrintedOf (partial_form s)) groups texts →
+        IsMergeOf (partial_form s) s (map Some texts) (Some old) (Some new) →
+        PutsPrintedOf s (joined groups) old new }
+    ensures partial { (s : Layout) (groups : List (List (List ℕ))) (texts : List (List ℕ)) (old new : List ℕ) →
+        IsSchema s → 1 ≤ length groups → AllByRecursion AreFewSources groups →
+        AllZip (IsPrintedOf (partial_form s)) groups texts →
+        IsMergeOf (partial_form s) (partial_form s) (map Some texts) (Some old) (Some new) →
+        PutsPrintedOf (partial_form s) (joined groups) old new }
 {}
 
 /// The text of merged rows is the same in whatever order the cubes are merged, and however their facts are parted (this

@@ -1,6 +1,6 @@
 -- How the text of a merged cube grows, and what its inputs held.
 use Rattle.std.proofs.Common.{◌≡◌, ◌++◌, ◌<◌, ◌≤◌, ◌∷◌, [], ℕ, zero, suc, Bool, true, false, List, Option, Some, None, length, get_or, map, take, drop, refl, sym, ap, ◌∙◌, subst, arith, append_assoc, flat_map, IfSome, inl, inr, option_to_list}
-use Rattle.std.specs.List.{AllZip}
+use Rattle.std.specs.List.{AllByRecursion, AllZip}
 use Rattle.std.specs.List.Sorted.{IsStrictlySortedBy}
 use Rattle.cube_core.specs.Cube.{key_of}
 use Rattle.cube_core.specs.Order.{key_cmp}
@@ -13,9 +13,10 @@ use Rattle.cube_core.specs.Text.{header_fields, line, row_line, text_of_rows}
 use Rattle.cube_core.specs.declared.aggregate.Agg.{Agg}
 use Rattle.cube_core.specs.declared.key.Row.{Row}
 use Rattle.cube_core.proofs.ListLaws.{AllZip-length}
-use Rattle.cube_merge.specs.Merging.{InputView, nothing_left, IsMergeOf, IsLeastSoFar, IsNotBelow, Gave, IsEnded, HasTaken, AreFresh, AllMove, IsMerging, MergesInputs, IsTextOf}
+use Rattle.cube_merge.specs.Lawful.{IsRowOf}
+use Rattle.cube_merge.specs.Merging.{InputView, AreInOrder, AreOfSchema, nothing_left, IsMergeOf, IsLeastSoFar, IsNotBelow, Gave, IsEnded, HasTaken, AreFresh, AllMove, IsMerging, MergesInputs, IsTextOf}
 use Rattle.cube_merge.proofs.LeastLaws.{past, not_below-none}
-use Rattle.cube_merge.proofs.StepLaws.{IsMerging-start}
+use Rattle.cube_merge.proofs.StepLaws.{IsMerging-start, nothing-ordered}
 
 -- what a vector holds after its slice was written whole
 pub refill-same : {X : Type 0} (n : ℕ) (news olds : List X) → length news ≡ length olds → n ≡ length olds → take n (news ++ drop (length news) olds) ≡ news
@@ -123,15 +124,23 @@ IsMergeOf-ends remaining given wanted readers inputs old new taken merges =
       as_many = merging.width ∙ m.2 ∙ sym (AllZip-length (HasTaken remaining header) readers inputs taken) ∙ sym (length-map readers remaining);
       read = λ k. text-of_ended given (get_or (map remaining readers) k None) (get_or starts k None) (get_or m.0 k nothing_left) (get_or merging.cubes k [])
           (taken-header remaining header readers inputs taken k) (merging.gave k) (merging.ended k) (m.4 k);
+      of_schema = λ k. subst (λ rs. AllByRecursion (IsRowOf given) rs) (ap (λ o. get_or merging.cubes k [] ++ option_to_list o) (m.4 k) ∙ append-nil (get_or merging.cubes k [])) (merging.of_schema k);
       ordered = λ k. subst (λ rs. IsStrictlySortedBy key_cmp (map key_of rs)) (ap (λ o. get_or merging.cubes k [] ++ option_to_list o) (m.4 k) ∙ append-nil (get_or merging.cubes k [])) (merging.ordered k);
       drawn = merging.drawn;
       merged = merging.merged;
+      fit = merging.fit;
       written = m.5;
     }
 
 -- an input without a row gave none yet
 pub Gave-none : (start : Option (List ℕ)) (input : InputView) → Consumes start input.left [] → input.row ≡ None → Gave start input []
 Gave-none start input c none = subst (λ o. Consumes start input.left (flat_map row_line ([] ++ option_to_list o))) (sym none) c
+
+pub AreOfSchema-none : (s : Layout) (input : InputView) → input.row ≡ None → AreOfSchema s input []
+AreOfSchema-none s input none = subst (λ o. AllByRecursion (IsRowOf s) (option_to_list o)) (sym none) tt
+
+pub AreInOrder-none : (input : InputView) → input.row ≡ None → AreInOrder input []
+AreInOrder-none input none = nothing-ordered input none
 
 -- past the inputs, of which each is used, nothing is left
 pub IsEnded-unused : (start : Option (List ℕ)) (us : List Bool) (inputs : List InputView) (k : ℕ) → ((n : ℕ) → n < length inputs → get_or us n false ≡ true) → get_or us k false ≡ false → IsEnded start (get_or inputs k nothing_left)
@@ -144,8 +153,8 @@ IsEnded-unused start us inputs k used unused none = elim (cases_lt k (length inp
   nothing (Some x) = tt
 
 -- where inputs that took the header alone took their first lines, nothing is merged yet
-pub IsMerging-begun : (given wanted : List Agg) (starts : List (Option (List ℕ))) (olds news : List InputView) (us : List Bool)
-    → ((k : ℕ) → k < length olds → get_or us k false ≡ true) → AreFresh starts olds → length news ≡ length olds → AllMove us olds news → IsMerging given wanted starts news []
+pub IsMerging-begun : (given : Layout) (wanted : List Agg) (starts : List (Option (List ℕ))) (olds news : List InputView) (us : List Bool)
+    → ((k : ℕ) → k < length olds → get_or us k false ≡ true) → AreFresh starts olds → length news ≡ length olds → AllMove given us olds news → IsMerging given wanted starts news []
 IsMerging-begun given wanted starts olds news us used fresh same moved =
     IsMerging-start given wanted starts olds news us
     (λ k. Gave-none (get_or starts k None) (get_or olds k nothing_left) (fresh.left k) (fresh.row k)) fresh.row fresh.lines

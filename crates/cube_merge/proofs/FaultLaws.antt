@@ -1,46 +1,52 @@
 -- Why a merge can't go on, by the texts of its inputs, and what it leaves written.
-use Rattle.std.proofs.Common.{◌≡◌, ◌++◌, ◌<◌, ◌≤◌, ◌+◌, ◌∷◌, ◌⊎◌, [], ℕ, zero, suc, Bool, true, false, List, Option, Some, None, IfSome, length, map, get_or, take, drop, refl, sym, ap, ◌∙◌, subst, arith, length-append, append_assoc, flat_map, option_to_list, inl, inr}
+use Rattle.std.proofs.Common.{◌≡◌, ◌++◌, ◌<◌, ◌+◌, ◌∷◌, [], ℕ, zero, suc, Bool, true, false, List, Option, Some, None, IfSome, Contains, length, map, get_or, take, drop, refl, sym, ap, ap₂, ◌∙◌, subst, arith, lit<, length-append, append_assoc, flat_map, option_to_list, inl, inr, is_eq}
 use Rattle.std.specs.Prelude.{◌≢◌, ◌-◌}
-use Rattle.std.specs.List.{AllZip}
+use Rattle.std.specs.declared.cmp.Ordering.TheVariants.{Less}
+use Rattle.std.specs.List.{AllByRecursion, AllZip}
+use Rattle.std.specs.List.Sorted.{IsStrictlySortedBy}
 use Rattle.std.specs.Io.KnownBytes.{Appends, Consumes, IsAtEnd}
-use Rattle.std.proofs.KnownBytes.{Appends-nil, Appends-trans}
+use Rattle.std.proofs.KnownBytes.{Appends-trans}
 use Rattle.std.proofs.Math.Seq.{take-append-add, take-append_seam}
 use Rattle.std.proofs.lemmas.Grind.{flat_map-append}
-use Rattle.std.proofs.lemmas.List.{append-nil, length-map}
+use Rattle.std.proofs.lemmas.List.{append-nil, length-map, map-append}
+use Rattle.std.proofs.lemmas.List.Elements.{Contains-append_left, Contains-append_right, filter-append}
+use Rattle.std.proofs.lemmas.List.Sorted.{Contains-permutation}
 use Rattle.std.proofs.lemmas.Option.{IfSome_then}
-use Rattle.csv.specs.Writing.{default_writer, is_blank, row_body}
-use Rattle.cube_core.specs.Cube.{is_total}
+use Rattle.cube_core.specs.Cube.{is_total, key_of}
 use Rattle.cube_core.specs.Layout.{Layout}
-use Rattle.cube_core.specs.Text.{header_fields, line, row_fields, row_line, text_of_rows}
+use Rattle.cube_core.specs.Merged.{rows_at}
+use Rattle.cube_core.specs.Order.{key_cmp}
+use Rattle.cube_core.specs.Text.{header_fields, line, row_line, text_of_rows}
+use Rattle.cube_core.specs.declared.aggregate.Agg.{Agg}
+use Rattle.cube_core.specs.declared.aggregate.Agg.TheVariants.{CountAll, Count, Sum, Min, Max, Avg}
 use Rattle.cube_core.specs.declared.key.Key.{Key}
 use Rattle.cube_core.specs.declared.key.Row.{Row}
-use Rattle.cube_core.proofs.ListLaws.{AllZip-length}
-use Rattle.cube_merge.specs.Faults.{ExplainsFault, FailsToJoin, FailsToMerge, FailsToMove, FailsToMoveAll, FailsToOpen, FailsToOpenAll, FailsToSend, FailsToStart, FailsToTakeHeader, FailsWithRow, GoesWrong, HasFault, HasMore, HasNoHeader, HasRow, HasRowAt, HasRowBelow, InputFails, InputsFail, IsFaultAt, IsOutOfOrder, StandsAt, StepFails, Stops, WroteFirst}
-use Rattle.cube_merge.specs.Merging.{InputView, AreUses, Gave, HasTaken, IsAbove, IsCounted, IsMerging, IsUse, nothing_left}
+use Rattle.cube_core.proofs.ListLaws.{AllZip-length, Contains-AllByRecursion, map-Contains}
+use Rattle.cube_merge.specs.Faults.{BeginsWith, ExplainsFault, FailsToJoin, FailsToMake, FailsToMerge, FailsToMove, FailsToMoveAll, FailsToOpen, FailsToOpenAll, FailsToSend, FailsToStart, FailsToTakeHeader, GoesWrong, HasFault, HasNoHeader, HasRowAt, HasRowBelow, InputsFail, IsFaultAt, IsOutOfOrder, IsTooLarge, JoinTooLarge, StandsAt, StepFails, Stops, TellsOverflow, WroteFirst}
+use Rattle.cube_merge.specs.Joint.{HasRow, rows_of}
+use Rattle.cube_merge.specs.Lawful.{IsRowOf}
+use Rattle.cube_merge.specs.Merging.{InputView, AreInOrder, AreOfSchema, AreUses, Gave, HasTaken, IsAbove, IsCounted, IsMerging, IsUse, all_rows, nothing_left, used_row, used_rows}
 use Rattle.cube_merge.specs.NextLine.{next_line}
+use Rattle.cube_merge.specs.Range.{AreTooLarge, IsInRange}
 use Rattle.cube_merge.specs.declared.fault.InputFault.{InputFault}
 use Rattle.cube_merge.specs.declared.fault.InputFault.TheVariants as why
 use Rattle.cube_merge.specs.declared.fault.MergeFault.{MergeFault}
 use Rattle.cube_merge.specs.declared.fault.MergeFault.TheVariants.{Memory, Aggregates, Input, Write}
-use Rattle.cube_merge.proofs.CubesLaws.{Gave-none, lefts-at, taken-AreFresh, taken-header, taken-lines, taken-row}
+use Rattle.cube_merge.proofs.CubesLaws.{AreInOrder-none, AreOfSchema-none, Gave-none, lefts-at, taken-AreFresh, taken-header, taken-lines, taken-row}
 use Rattle.cube_merge.proofs.LineLaws.{next_line-line}
-
--- the line of a row isn't empty
-row_line-some : (row : Row) (rest : List ℕ) → row_line row ++ rest ≢ []
-row_line-some row rest none = ended (row_body default_writer (row_fields row)) _ _ rest none where
-  ended : (body mark : List ℕ) (feed : ℕ) (rest : List ℕ) → (body ++ (mark ++ feed ∷ [])) ++ rest ≡ [] → ⊥
-  ended body mark feed rest none = omega (arith, ap length none, length-append (body ++ (mark ++ feed ∷ [])) rest, length-append body (mark ++ feed ∷ []), length-append mark (feed ∷ []))
+use Rattle.cube_merge.proofs.MergedLaws.{is_eq-above, rows_at-all, rows_at-none}
+use Rattle.cube_merge.proofs.StepLaws.{below-used}
 
 -- a text behind the lines of rows
-stands-at : (s : Layout) (text start left : Option (List ℕ)) (rows : List Row) (number : ℕ) → Consumes text start (line (header_fields s)) → Consumes start left (flat_map row_line rows) → number ≡ length rows + 2
+stands-at : (s : Layout) (text start left : Option (List ℕ)) (rows : List Row) (number : ℕ) → Consumes text start (line (header_fields s)) → Consumes start left (flat_map row_line rows) → AllByRecursion (IsRowOf s) rows → IsStrictlySortedBy key_cmp (map key_of rows) → number ≡ length rows + 2
     → IfSome text (λ t. (rest : List ℕ) × (left ≡ Some rest) × StandsAt s t rows rest number)
-stands-at s None start left rows number head gave is = tt
-stands-at s (Some t) None left rows number head gave is = absurd head
-stands-at s (Some t) (Some x) None rows number head gave is = absurd gave
-stands-at s (Some t) (Some x) (Some y) rows number head gave is = (
+stands-at s None start left rows number head gave are sorted is = tt
+stands-at s (Some t) None left rows number head gave are sorted is = absurd head
+stands-at s (Some t) (Some x) None rows number head gave are sorted is = absurd gave
+stands-at s (Some t) (Some x) (Some y) rows number head gave are sorted is = (
   y,
   refl,
-  record { text_is = head ∙ ap (λ l. line (header_fields s) ++ l) gave ∙ sym (append_assoc (line (header_fields s)) (flat_map row_line rows) y); number_is = is },
+  record { text_is = head ∙ ap (λ l. line (header_fields s) ++ l) gave ∙ sym (append_assoc (line (header_fields s)) (flat_map row_line rows) y); of_schema = are; ordered = sorted; number_is = is },
 )
 
 rest-of : (rest : List ℕ) (after : Option (List ℕ)) (bs : List ℕ) → Consumes (Some rest) after bs → (more : List ℕ) × (rest ≡ bs ++ more)
@@ -57,9 +63,18 @@ last-same (a ∷ xs) (b ∷ ys) x y e = last-same xs ys x y (ap (drop 1) e)
 not-none : {X : Type 0} (x : X) → Some x ≡ None → ⊥
 not-none x e = cc
 
+AllByRecursion-first : {X : Type 0} (P : X → Type 0) (xs ys : List X) → AllByRecursion P (xs ++ ys) → AllByRecursion P xs
+AllByRecursion-first P [] ys all = tt
+AllByRecursion-first P (x ∷ xs) ys all = (all.0, AllByRecursion-first P xs ys all.1)
+
+sorted-first : (xs ys : List Key) → IsStrictlySortedBy key_cmp (xs ++ ys) → IsStrictlySortedBy key_cmp xs
+unfolding IsStrictlySortedBy
+sorted-first [] ys sorted = tt
+sorted-first (x ∷ xs) ys sorted = (AllByRecursion-first (λ y. key_cmp x y ≡ Less) xs ys sorted.0, sorted-first xs ys sorted.1)
+
 module _ (s : Layout) (input : InputView) (rows : List Row) where
   -- the row that comes next isn't above the one before
-  order-of : (t rest : List ℕ) (number : ℕ) → HasRowBelow input → input.left ≡ Some rest → StandsAt s t (rows ++ option_to_list input.row) rest number → IsOutOfOrder s number t
+  order-of : (t rest : List ℕ) (number : ℕ) → HasRowBelow s input → input.left ≡ Some rest → StandsAt s t (rows ++ option_to_list input.row) rest number → IsOutOfOrder s number t
   order-of t rest number low is stands = by_row input.row refl where
     by_row : (o : Option Row) → input.row ≡ o → IsOutOfOrder s number t
     by_row None e = absurd (subst (λ (o : Option Row). IsAbove o low.row → ⊥) e low.below tt)
@@ -71,6 +86,7 @@ module _ (s : Layout) (input : InputView) (rows : List Row) where
           row = low.row;
           rest = after.0;
           stands = subst (λ r. StandsAt s t (rows ++ before ∷ []) r number) after.1 (subst (λ o. StandsAt s t (rows ++ option_to_list o) rest number) e stands);
+          of_schema = low.of_schema;
           below = subst (λ (o : Option Row). IsAbove o low.row → ⊥) e low.below;
         }
 
@@ -84,7 +100,7 @@ module _ (s : Layout) (input : InputView) (rows : List Row) where
         absurd (omega (arith, ap length none, length-append before (last ∷ []), ap length (append-nil rows ∙ first e)))
     by_row (Some row) e other is = ap (λ (r : Row). is_total (length s.dimensions) r.key) (sym (last-same rows before row last is)) ∙ other
 
-  module _ (text start : Option (List ℕ)) (head : Consumes text start (line (header_fields s))) (gave : Gave start input rows) where
+  module _ (text start : Option (List ℕ)) (head : Consumes text start (line (header_fields s))) (gave : Gave start input rows) (are : AreOfSchema s input rows) (sorted : AreInOrder input rows) where
     -- an input that can't take its next line, by its text
     pub explains-move : (fault : InputFault) (number : ℕ) → input.lines ≡ length (rows ++ option_to_list input.row) + 1 → (input.row ≡ None → rows ≡ []) → HasFault s input fault number
         → IfSome text (ExplainsFault s fault number)
@@ -92,16 +108,16 @@ module _ (s : Layout) (input : InputView) (rows : List Row) where
     explains-move why.Header number lines first fails = absurd fails
     explains-move why.Overflow number lines first fails = absurd fails
     explains-move why.Read number lines first fails =
-        IfSome_then text (stands-at s text start input.left (rows ++ option_to_list input.row) number head gave (omega (arith, lines, fails)))
+        IfSome_then text (stands-at s text start input.left (rows ++ option_to_list input.row) number head gave are sorted (omega (arith, lines, fails)))
         (λ t at. inr (record { rows = rows ++ option_to_list input.row; rest = at.0; stands = at.2 }))
     explains-move why.Line number lines first fails =
-        IfSome_then text (stands-at s text start input.left (rows ++ option_to_list input.row) number head gave (omega (arith, lines, fails.0)))
+        IfSome_then text (stands-at s text start input.left (rows ++ option_to_list input.row) number head gave are sorted (omega (arith, lines, fails.0)))
         (λ t at. record { rows = rows ++ option_to_list input.row; rest = at.0; stands = at.2; some = subst (λ o. IfSome o (λ (l : List ℕ). l ≢ [])) at.1 fails.1 })
     explains-move why.Order number lines first fails =
-        IfSome_then text (stands-at s text start input.left (rows ++ option_to_list input.row) number head gave (omega (arith, lines, fails.0)))
+        IfSome_then text (stands-at s text start input.left (rows ++ option_to_list input.row) number head gave are sorted (omega (arith, lines, fails.0)))
         (λ t at. order-of t at.0 number fails.1 at.1 at.2)
     explains-move why.Incomplete number lines first fails =
-        IfSome_then text (stands-at s text start input.left (rows ++ option_to_list input.row) number head gave (omega (arith, lines, fails.0)))
+        IfSome_then text (stands-at s text start input.left (rows ++ option_to_list input.row) number head gave are sorted (omega (arith, lines, fails.0)))
         (λ t at. record {
           rows = rows ++ option_to_list input.row;
           stands = subst (λ r. StandsAt s t (rows ++ option_to_list input.row) r number) (subst IsAtEnd at.1 fails.1.at_end) at.2;
@@ -116,13 +132,15 @@ module _ (s : Layout) (input : InputView) (rows : List Row) where
         let lines = flat_map row_line rows in
         let all : flat_map row_line (rows ++ option_to_list input.row) ≡ lines ++ row_line row
         = ap (λ o. flat_map row_line (rows ++ option_to_list o)) is ∙ flat_map-append row_line rows (row ∷ []) ∙ ap (λ t. lines ++ t) (append-nil (row_line row)) in
-        IfSome_then text (stands-at s text start input.left (rows ++ option_to_list input.row) (length (rows ++ option_to_list input.row) + 2) head gave refl)
+        IfSome_then text (stands-at s text start input.left (rows ++ option_to_list input.row) (length (rows ++ option_to_list input.row) + 2) head gave are sorted refl)
         (λ t at. record {
           rows = rows;
           row = row;
           rest = at.0;
           stands = record {
             text_is = at.2.text_is ∙ ap (λ l. (header ++ l) ++ at.0) all ∙ ap (λ l. l ++ at.0) (sym (append_assoc header lines (row_line row))) ∙ append_assoc (header ++ lines) (row_line row) at.0;
+            of_schema = AllByRecursion-first (IsRowOf s) rows (option_to_list input.row) are;
+            ordered = sorted-first (map key_of rows) (map key_of (option_to_list input.row)) (subst (IsStrictlySortedBy key_cmp) (map-append key_of rows (option_to_list input.row)) sorted);
             number_is = counted;
           };
         })
@@ -145,10 +163,7 @@ module _ (s : Layout) (input : InputView) (rows : List Row) where
       by_fault why.Memory w = absurd w
       by_fault why.Read w = explains-move why.Read number all_lines first w
       by_fault why.Header w = absurd w
-      by_fault why.Line w = elim w [
-        | inl here ↦ IfSome_then text (row-at row number is (here ∙ lines_is)) (λ t at. record { rows = at.rows; rest = row_line at.row ++ at.rest; stands = at.stands; some = row_line-some at.row at.rest })
-        | inr next ↦ explains-move why.Line number all_lines first next
-      ]
+      by_fault why.Line w = explains-move why.Line number all_lines first w
       by_fault why.Order w = explains-move why.Order number all_lines first w
       by_fault why.Overflow w = row-at row number is (w ∙ lines_is)
       by_fault why.Incomplete w = explains-move why.Incomplete number all_lines first w
@@ -189,52 +204,54 @@ StepFails-moves s used inputs key Aggregates uses fails = absurd fails
 StepFails-moves s used inputs key (Write sent) uses fails = absurd fails
 StepFails-moves s used inputs key (Input fault input number) uses fails =
     let is_use = subst (λ u. IsUse key u (get_or inputs fails.place nothing_left)) fails.used_is (uses fails.place) in
-    record { place = fails.place; row = is_use.0; input_is = fails.input_is; inside = fails.inside; row_is = is_use.1; goes_wrong = wrong fault fails.has_fault } where
+    record { place = fails.place; row = is_use.0; input_is = fails.input_is; inside = fails.inside; row_is = is_use.1; goes_wrong = wrong fault fails.has_fault; too_large = λ is. absurd (subst (λ f. HasFault s (get_or inputs fails.place nothing_left) f number) is fails.has_fault) } where
       wrong : (f : InputFault) → HasFault s (get_or inputs fails.place nothing_left) f number → GoesWrong s (get_or inputs fails.place nothing_left) f number
       wrong why.Memory h = absurd h
       wrong why.Read h = h
       wrong why.Header h = absurd h
-      wrong why.Line h = inr h
+      wrong why.Line h = h
       wrong why.Order h = h
       wrong why.Overflow h = absurd h
       wrong why.Incomplete h = h
 
--- a row that is too large to be joined, as a merge tells it
-pub FailsToJoin-told : (inputs : List InputView) (place number : ℕ) (told : MergeFault) → IsFaultAt why.Overflow place number told → place < length inputs → HasRow (get_or inputs place nothing_left)
-    → number ≡ (get_or inputs place nothing_left).lines → FailsToJoin inputs told
-FailsToJoin-told inputs place number Memory is inside has lines = tt
-FailsToJoin-told inputs place number Aggregates is inside has lines = absurd is
-FailsToJoin-told inputs place number (Write sent) is inside has lines = absurd is
-FailsToJoin-told inputs place number (Input told input at) is inside has lines =
+-- a count or a sum that is too large, as a merge tells it
+pub TellsOverflow-told : (inputs : List InputView) (place number : ℕ) (told : MergeFault) → IsFaultAt why.Overflow place number told → place < length inputs → HasRow (get_or inputs place nothing_left)
+    → number ≡ (get_or inputs place nothing_left).lines → TellsOverflow inputs told
+TellsOverflow-told inputs place number Memory is inside has lines = tt
+TellsOverflow-told inputs place number Aggregates is inside has lines = absurd is
+TellsOverflow-told inputs place number (Write sent) is inside has lines = absurd is
+TellsOverflow-told inputs place number (Input told input at) is inside has lines =
     record { place = place; fault_is = is.0; input_is = is.1; inside = inside; has_row = has; number_is = is.2 ∙ lines }
 
-pub StepFails-join : (s : Layout) (inputs : List InputView) (fault : MergeFault) → FailsToJoin inputs fault → StepFails s inputs fault
+pub FailsToMake-told : (given : List Agg) (inputs : List InputView) (places : List ℕ) (told : MergeFault) → TellsOverflow inputs told → AreTooLarge given (rows_of inputs places) → FailsToMake given inputs places told
+FailsToMake-told given inputs places Memory tells large = tt
+FailsToMake-told given inputs places Aggregates tells large = absurd tells
+FailsToMake-told given inputs places (Write sent) tells large = absurd tells
+FailsToMake-told given inputs places (Input fault input number) tells large = (tells, large)
+
+pub FailsToJoin-made : (given : List Agg) (inputs : List InputView) (key : Key) (used : List Bool) (places : List ℕ) (told : MergeFault) → length used ≡ length inputs → AreUses key used inputs
+    → rows_of inputs places ≡ used_rows used inputs → FailsToMake given inputs places told → FailsToJoin given inputs told
+FailsToJoin-made given inputs key used places Memory wide uses rows fails = tt
+FailsToJoin-made given inputs key used places Aggregates wide uses rows fails = absurd fails
+FailsToJoin-made given inputs key used places (Write sent) wide uses rows fails = absurd fails
+FailsToJoin-made given inputs key used places (Input fault input number) wide uses rows fails =
+    (fails.0, record { key = key; used = used; wide = wide; uses = uses; too_large = subst (AreTooLarge given) rows fails.1 })
+
+pub StepFails-join : (s : Layout) (inputs : List InputView) (fault : MergeFault) → FailsToJoin s.aggregates inputs fault → StepFails s inputs fault
 StepFails-join s inputs Memory fails = tt
 StepFails-join s inputs Aggregates fails = absurd fails
 StepFails-join s inputs (Write sent) fails = absurd fails
-StepFails-join s inputs (Input fault input number) fails = record {
-  place = fails.place;
-  row = fails.has_row.0;
-  input_is = fails.input_is;
-  inside = fails.inside;
-  row_is = fails.has_row.1;
-  goes_wrong = subst (λ f. GoesWrong s (get_or inputs fails.place nothing_left) f number) (sym fails.fault_is) fails.number_is;
-}
-
--- a row whose line can't be merged, as a merge tells it
-pub StepFails-row : (s : Layout) (inputs : List InputView) (place number : ℕ) (row : Row) (told : MergeFault) → IsFaultAt why.Line place number told → place < length inputs → (get_or inputs place nothing_left).row ≡ Some row
-    → number ≡ (get_or inputs place nothing_left).lines → StepFails s inputs told
-StepFails-row s inputs place number row Memory is inside has lines = tt
-StepFails-row s inputs place number row Aggregates is inside has lines = absurd is
-StepFails-row s inputs place number row (Write sent) is inside has lines = absurd is
-StepFails-row s inputs place number row (Input told input at) is inside has lines = record {
-  place = place;
-  row = row;
-  input_is = is.1;
-  inside = inside;
-  row_is = has;
-  goes_wrong = subst (λ f. GoesWrong s (get_or inputs place nothing_left) f at) (sym is.0) (inl (is.2 ∙ lines));
-}
+StepFails-join s inputs (Input fault input number) fails =
+    let at = fails.0 in
+    record {
+      place = at.place;
+      row = at.has_row.0;
+      input_is = at.input_is;
+      inside = at.inside;
+      row_is = at.has_row.1;
+      goes_wrong = subst (λ f. GoesWrong s (get_or inputs at.place nothing_left) f number) (sym at.fault_is) at.number_is;
+      too_large = λ _. fails.1;
+    }
 
 -- a header that couldn't be taken, as a merge tells it
 pub FailsToOpen-told : (header : List ℕ) (place : ℕ) (text : Option (List ℕ)) (fault : InputFault) (told : MergeFault) → IsFaultAt fault place 1 told → FailsToTakeHeader header text fault → FailsToOpen header place text told
@@ -274,7 +291,7 @@ FailsToOpenAll-at remaining header readers place reader (Input fault input numbe
 
 -- a merge that sent the first bytes of the text of its rows, and has the others yet
 module _ (given wanted : Layout) (starts : List (Option (List ℕ))) (count : ℕ) (inputs : List InputView) (rows : List Row) (sent waits : List ℕ)
-    (as_many : length inputs ≡ count) (merging : IsMerging given.aggregates wanted.aggregates starts inputs rows) (all : sent ++ waits ≡ text_of_rows wanted rows) where
+    (as_many : length inputs ≡ count) (merging : IsMerging given wanted.aggregates starts inputs rows) (all : sent ++ waits ≡ text_of_rows wanted rows) where
   -- it can't go on
   pub Stops-waiting : (fault : MergeFault) (old new : Option (List ℕ)) → Appends old new sent → StepFails given inputs fault → Stops given wanted starts count fault old new
   Stops-waiting Aggregates old new written fails = absurd fails
@@ -316,6 +333,85 @@ module _ (given wanted : Layout) (starts : List (Option (List ℕ))) (count : �
     why = fails.2;
   }
 
+-- the rows of cubes, and after each cube's the row of its input
+abbrev with_rows : List (List Row) → List InputView → List (List Row)
+with_rows [] inputs = []
+with_rows (c ∷ cs) [] = []
+with_rows (c ∷ cs) (i ∷ is) = (c ++ option_to_list i.row) ∷ with_rows cs is
+
+with_rows-at : (cubes : List (List Row)) (inputs : List InputView) (k : ℕ) → length cubes ≡ length inputs → get_or (with_rows cubes inputs) k [] ≡ get_or cubes k [] ++ option_to_list (get_or inputs k nothing_left).row
+with_rows-at [] [] k same = refl
+with_rows-at [] (i ∷ is) k same = absurd (omega (arith, same))
+with_rows-at (c ∷ cs) [] k same = absurd (omega (arith, same))
+with_rows-at (c ∷ cs) (i ∷ is) zero same = refl
+with_rows-at (c ∷ cs) (i ∷ is) (suc k) same = with_rows-at cs is k (omega (arith, same))
+
+with_rows-length : (cubes : List (List Row)) (inputs : List InputView) → length cubes ≡ length inputs → length (with_rows cubes inputs) ≡ length inputs
+with_rows-length [] [] same = refl
+with_rows-length [] (i ∷ is) same = absurd (omega (arith, same))
+with_rows-length (c ∷ cs) [] same = absurd (omega (arith, same))
+with_rows-length (c ∷ cs) (i ∷ is) same = ap suc (with_rows-length cs is (omega (arith, same)))
+
+-- the row of an input has the key where its line is used
+rows_at-used : (key : Key) (u : Bool) (input : InputView) → IsUse key u input → rows_at key (option_to_list input.row) ≡ used_row u input
+rows_at-used key true input is_use =
+    let one : rows_at key (is_use.0 ∷ []) ≡ is_use.0 ∷ [] = rows_at-all key (is_use.0 ∷ []) (is_use.2, tt) in
+    subst (λ o. rows_at key (option_to_list o) ≡ option_to_list o) (sym is_use.1) one
+rows_at-used key false input is_use = by_row input.row is_use where
+  by_row : (o : Option Row) → IfSome o (λ (r : Row). key_cmp key r.key ≡ Less) → rows_at key (option_to_list o) ≡ []
+  by_row None above = refl
+  by_row (Some r) above = rows_at-none key (r ∷ []) (ap is_eq above, tt)
+
+-- the rows with the key that is used are those that are used, where none of the others has it
+rows_at-with_rows : (key : Key) (us : List Bool) (inputs : List InputView) (cubes : List (List Row)) → length us ≡ length inputs → length cubes ≡ length inputs → AreUses key us inputs
+    → ((r : Row) → Contains (all_rows cubes) r → is_eq (key_cmp key r.key) ≡ false) → rows_at key (all_rows (with_rows cubes inputs)) ≡ used_rows us inputs
+rows_at-with_rows key [] [] [] same wide uses others = refl
+rows_at-with_rows key [] [] (c ∷ cs) same wide uses others = absurd (omega (arith, wide))
+rows_at-with_rows key [] (i ∷ is) cubes same wide uses others = absurd (omega (arith, same))
+rows_at-with_rows key (u ∷ us) [] cubes same wide uses others = absurd (omega (arith, same))
+rows_at-with_rows key (u ∷ us) (i ∷ is) [] same wide uses others = absurd (omega (arith, wide))
+rows_at-with_rows key (u ∷ us) (i ∷ is) (c ∷ cs) same wide uses others =
+    let has : Row → Bool = λ (r : Row). is_eq (key_cmp key r.key) in
+    let none : rows_at key c ≡ [] = rows_at-none key c (Contains-AllByRecursion (λ (r : Row). is_eq (key_cmp key r.key) ≡ false) c (λ r among. others r (Contains-append_left c (all_rows cs) r among))) in
+    let first : rows_at key (c ++ option_to_list i.row) ≡ used_row u i
+    = filter-append has c (option_to_list i.row) ∙ ap (λ t. t ++ rows_at key (option_to_list i.row)) none ∙ rows_at-used key u i (uses 0) in
+    let rest : rows_at key (all_rows (with_rows cs is)) ≡ used_rows us is
+    = rows_at-with_rows key us is cs (omega (arith, same)) (omega (arith, wide)) (λ k. uses (suc k)) (λ r among. others r (Contains-append_right c (all_rows cs) r among)) in
+    filter-append has (c ++ option_to_list i.row) (all_rows (with_rows cs is)) ∙ ap₂ (λ a b. a ++ b) first rest
+
+-- of no row nothing is too large
+AreTooLarge-some : (given : List Agg) (rows : List Row) → AreTooLarge given rows → 0 < length rows
+AreTooLarge-some given [] large = absurd (large.too_large (none large.agg)) where
+  none : (agg : Agg) → IsInRange agg []
+  none CountAll = lit< tt
+  none (Count m) = lit< tt
+  none (Sum m) = record { sfits = lit< tt }
+  none (Min m) = tt
+  none (Max m) = tt
+  none (Avg m) = tt
+AreTooLarge-some given (row ∷ rows) large = omega arith
+
+-- where the rows that are used are too large together, so are those of the texts that have their key
+IsTooLarge-read : (given : Layout) (wanted : List Agg) (texts starts : List (Option (List ℕ))) (inputs : List InputView) (rows : List Row) → length inputs ≡ length texts
+    → ((k : ℕ) → Consumes (get_or texts k None) (get_or starts k None) (line (header_fields given))) → IsMerging given wanted starts inputs rows → JoinTooLarge given.aggregates inputs → IsTooLarge given texts
+IsTooLarge-read given wanted texts starts inputs rows as_many headed m join =
+    let some = AreTooLarge-some given.aggregates (used_rows join.used inputs) join.too_large in
+    let others : (r : Row) → Contains (all_rows m.cubes) r → is_eq (key_cmp join.key r.key) ≡ false
+    = λ r among. is_eq-above join.key r.key
+    (below-used join.key r.key join.used inputs join.wide join.uses some
+    (m.below r.key ((m.merged.cells r.key).1 (map-Contains key_of m.parts r (Contains-permutation (all_rows m.cubes) m.parts r m.drawn among))))) in
+    record {
+      cubes = with_rows m.cubes inputs;
+      as_many = with_rows-length m.cubes inputs m.width ∙ as_many;
+      read = λ k. subst (λ (rs : List Row). BeginsWith given (get_or texts k None) rs) (sym (with_rows-at m.cubes inputs k m.width))
+          (IfSome_then (get_or texts k None)
+          (stands-at given (get_or texts k None) (get_or starts k None) (get_or inputs k nothing_left).left (get_or m.cubes k [] ++ option_to_list (get_or inputs k nothing_left).row)
+          (length (get_or m.cubes k [] ++ option_to_list (get_or inputs k nothing_left).row) + 2) (headed k) (m.gave k) (m.of_schema k) (m.ordered k) refl)
+          (λ t at. (at.0, at.2)));
+      key = join.key;
+      too_large = subst (AreTooLarge given.aggregates) (sym (rows_at-with_rows join.key join.used inputs m.cubes join.wide m.width join.uses others)) join.too_large;
+    }
+
 -- what a merge of readers that failed leaves
 module _ {R : Type 0} (remaining : R → Option (List ℕ)) (given wanted : Layout) (readers : List R) where
   as-many : (inputs : List InputView) → AllZip (HasTaken remaining (line (header_fields given))) readers inputs → length inputs ≡ length (map remaining readers)
@@ -348,7 +444,9 @@ module _ {R : Type 0} (remaining : R → Option (List ℕ)) (given wanted : Layo
             within = omega (arith, at.input_is, at.inside, stops.as_many, as-many inputs taken);
             explains = subst (λ k. IfSome (get_or (map remaining readers) k None) (ExplainsFault given fault number)) (sym place_is)
                 (explains-row given (get_or stops.inputs at.place nothing_left) (get_or stops.merging.cubes at.place []) (get_or (map remaining readers) at.place None) (get_or (map (λ (i : InputView). i.left) inputs) at.place None)
-                (taken-header remaining (line (header_fields given)) readers inputs taken at.place) (stops.merging.gave at.place) at.row fault number at.row_is (stops.merging.counted at.place) at.goes_wrong);
+                (taken-header remaining (line (header_fields given)) readers inputs taken at.place) (stops.merging.gave at.place) (stops.merging.of_schema at.place) (stops.merging.ordered at.place) at.row fault number at.row_is (stops.merging.counted at.place) at.goes_wrong);
+            too_large = λ is. IsTooLarge-read given wanted.aggregates (map remaining readers) (map (λ (i : InputView). i.left) inputs) stops.inputs stops.rows (stops.as_many ∙ as-many inputs taken)
+                (taken-header remaining (line (header_fields given)) readers inputs taken) stops.merging (at.too_large is);
           },
         )
 
@@ -371,7 +469,8 @@ module _ {R : Type 0} (remaining : R → Option (List ℕ)) (given wanted : Layo
             within = omega (arith, at.input_is, at.inside, as-many inputs taken);
             explains = subst (λ k. IfSome (get_or (map remaining readers) k None) (ExplainsFault given fault number)) (sym place_is)
                 (explains-move given there [] (get_or (map remaining readers) at.place None) start (taken-header remaining header readers inputs taken at.place)
-                (Gave-none start there (lefts-at inputs at.place) none) fault number lines_is (λ _. refl) at.has_fault);
+                (Gave-none start there (lefts-at inputs at.place) none) (AreOfSchema-none given there none) (AreInOrder-none there none) fault number lines_is (λ _. refl) at.has_fault);
+            too_large = λ is. absurd (subst (λ f. HasFault given there f number) is at.has_fault);
           },
         )
 
@@ -404,5 +503,6 @@ module _ {R : Type 0} (remaining : R → Option (List ℕ)) (given wanted : Layo
           from_one = omega (arith, fails.input_is);
           within = omega (arith, fails.input_is, fails.inside);
           explains = subst (λ k. IfSome (get_or (map remaining readers) k None) (ExplainsFault given fault number)) (sym place_is) (no-header (get_or (map remaining readers) fails.place None) fault number fails.no_header);
+          too_large = λ is. absurd (subst (λ f. HasNoHeader (line (header_fields given)) (get_or (map remaining readers) fails.place None) f number) is fails.no_header);
         },
       )

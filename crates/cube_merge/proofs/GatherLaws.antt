@@ -1,10 +1,8 @@
 -- What one more answer makes of what answers made.
-use Rattle.std.proofs.Common.{◌≡◌, ◌++◌, ◌+◌, ◌<◌, ◌≤◌, ◌∷◌, [], ℕ, ℤ, pos, zero, suc, ◌+ℤ◌, ◌≤ℤ◌, List, Option, Some, None, Contains, map, length, get_or, set, take, refl, sym, ap, ◌∙◌, subst, arith, inl, inr, slice_get}
+use Rattle.std.proofs.Common.{◌≡◌, ◌++◌, ◌+◌, ◌<◌, ◌∷◌, [], ℕ, ℤ, pos, zero, suc, ◌+ℤ◌, ◌≤ℤ◌, List, Option, Some, None, Contains, length, length-append, get_or, take, refl, sym, ap, ◌∙◌, subst, arith}
 use Rattle.std.specs.List.{AllByRecursion, AllZip, cons_option}
 use Rattle.std.proofs.lemmas.Int.{ints}
-use Rattle.std.proofs.lemmas.Bool.{cases_eq}
-use Rattle.std.proofs.lemmas.List.{map-append, get_or-set_same, get_or-set_other, get_or_default, take_more}
-use Rattle.std.proofs.lemmas.Option.{get_or_from_slice_get}
+use Rattle.std.proofs.lemmas.List.{take_more}
 use Rattle.std.proofs.lemmas.List.Sums.{sum_by-append}
 use Rattle.std.proofs.lemmas.List.Elements.{Contains-append_left, Contains-append_right}
 use Rattle.cube_core.specs.Answer.{IsSum, IsBest}
@@ -17,7 +15,7 @@ use Rattle.cube_core.specs.declared.aggregate.Answer.{Answer}
 use Rattle.cube_core.specs.declared.aggregate.Answer.TheVariants as answer
 use Rattle.cube_core.specs.declared.key.Row.{Row}
 use Rattle.cube_core.proofs.ListLaws.{Contains-head, AllZip-push}
-use Rattle.cube_merge.specs.Made.{AreMade, Joins, JoinsAt, nothing_made}
+use Rattle.cube_merge.specs.Made.{AreMade, Joins}
 use Rattle.cube_merge.specs.Source.{IsSourceOf}
 use Rattle.cube_merge.specs.declared.source.Source.TheVariants as source
 
@@ -43,25 +41,9 @@ append-none (x ∷ xs) = ap (λ t. x ∷ t) (append-none xs)
 pub numbers_of-none : (parts : List Answer) (a : Answer) → number_in a ≡ None → numbers_of (parts ++ a ∷ []) ≡ numbers_of parts
 numbers_of-none parts a is = numbers_of-push parts a ∙ ap (λ o. numbers_of parts ++ cons_option o []) is ∙ append-none (numbers_of parts)
 
-total_of-push : (xs : List ℤ) (x : ℤ) → total_of (xs ++ x ∷ []) ≡ total_of xs +ℤ x
+pub total_of-push : (xs : List ℤ) (x : ℤ) → total_of (xs ++ x ∷ []) ≡ total_of xs +ℤ x
 total_of-push [] x = omega (arith, ints)
 total_of-push (y ∷ xs) x = omega (arith, ints, total_of-push xs x)
-
--- one more number that is added to a sum, or is the first
-pub IsSum-more : (values : List ℤ) (a : Answer) (sum number : ℤ) → IsSum values a → number_in a ≡ Some sum → IsSum (values ++ number ∷ []) (answer.Whole (sum +ℤ number))
-IsSum-more [] a sum number is some =
-    let clash : None ≡ Some sum = sym (ap number_in is) ∙ some in
-    absurd (cc)
-IsSum-more (v ∷ vs) a sum number is some =
-    let whole : Some (total_of (v ∷ vs)) ≡ Some sum = sym (ap number_in is) ∙ some in
-    let same : total_of (v ∷ vs) ≡ sum = cc in
-    ap answer.Whole (ap (λ t. t +ℤ number) (sym same) ∙ sym (total_of-push (v ∷ vs) number))
-
-pub IsSum-one : (values : List ℤ) (a : Answer) (number : ℤ) → IsSum values a → number_in a ≡ None → IsSum (values ++ number ∷ []) (answer.Whole number)
-IsSum-one [] a number is none = ap answer.Whole (omega (arith, ints))
-IsSum-one (v ∷ vs) a number is none =
-    let clash : Some (total_of (v ∷ vs)) ≡ None = sym (ap number_in is) ∙ none in
-    absurd (cc)
 
 -- the sum is the total, where there is one
 pub IsSum-total : (values : List ℤ) (a : Answer) (sum : ℤ) → IsSum values a → number_in a ≡ Some sum → total_of values ≡ sum
@@ -121,16 +103,6 @@ module _ (R : ℤ → ℤ → Type 0) where
         AllByRecursion-push number (v ∷ vs) number (AllByRecursion-better best number (v ∷ vs) better (subst (λ m. AllByRecursion (R m) (v ∷ vs)) same is.3)) good,
       )
 
--- one more answer that is a number, or is none
-pub Joins-Sum-none : (made a : Answer) → number_in a ≡ None → Joins (Sum 0) made a made
-Joins-Sum-none made a none parts is = rw (numbers_of-none parts a none) is
-
-pub Joins-Sum-one : (made a : Answer) (number : ℤ) → number_in made ≡ None → number_in a ≡ Some number → Joins (Sum 0) made a (answer.Whole number)
-Joins-Sum-one made a number first some parts is = rw (numbers_of-number parts a number some) (IsSum-one (numbers_of parts) made number is first)
-
-pub Joins-Sum-more : (made a : Answer) (sum number : ℤ) → number_in made ≡ Some sum → number_in a ≡ Some number → Joins (Sum 0) made a (answer.Whole (sum +ℤ number))
-Joins-Sum-more made a sum number there some parts is = rw (numbers_of-number parts a number some) (IsSum-more (numbers_of parts) made sum number is there)
-
 int_le-refl : (x : ℤ) → x ≤ℤ x
 int_le-refl x = omega (arith, ints)
 
@@ -158,11 +130,6 @@ Joins-Max-stays made a best number there some good parts is = rw (numbers_of-num
 pub Joins-Max-new : (made a : Answer) (best number : ℤ) → number_in made ≡ Some best → number_in a ≡ Some number → best ≤ℤ number → Joins (Max 0) made a (answer.Whole number)
 Joins-Max-new made a best number there some good parts is = rw (numbers_of-number parts a number some) (IsBest-new (λ m x. x ≤ℤ m) (numbers_of parts) made best number is there (int_le-refl number) (λ x b. omega (arith, ints, good, b)))
 
-pub Joins-count : (made a : Answer) (n : ℕ) (more : Answer) → more ≡ answer.Count (count_in made + count_in a) → Joins (Count n) made a more
-Joins-count made a n more is parts made_is =
-    let before : count_in made ≡ count_of parts = ap count_in made_is in
-    is ∙ ap answer.Count (ap (λ k. k + count_in a) before ∙ sym (count_of-push parts a))
-
 -- the mean of a sum and of a count above 0
 pub IsMeanOf-fraction : (total : ℤ) (count : ℕ) (p : ℤ) (q : ℕ) → 0 < count → IsInLowestTerms total count p q → IsMeanOf total count (answer.Ratio p q)
 IsMeanOf-fraction total zero p q some lowest = absurd (omega arith)
@@ -171,22 +138,6 @@ IsMeanOf-fraction total (suc n) p q some lowest = (p, q, refl, lowest)
 pub IsMeanOf-none : (total : ℤ) (count : ℕ) → count ≡ 0 → IsMeanOf total count answer.Null
 IsMeanOf-none total zero is = refl
 IsMeanOf-none total (suc n) is = absurd (omega arith)
-
--- at the next place one more answer is joined
-pub JoinsAt-more : (given : List Agg) (start answers made : List Answer) (i : ℕ) (more a : Answer) (x : Agg) (d : Answer) → i < length made
-    → Joins (get_or given i x) (get_or made i d) a more → a ≡ get_or answers i answer.Null
-    → ((k : ℕ) → k < i → JoinsAt given start answers made k) → ((k : ℕ) → i ≤ k → get_or made k answer.Null ≡ get_or start k answer.Null)
-    → (k : ℕ) → k < i + 1 → JoinsAt given start answers (set made i more) k
-JoinsAt-more given start answers made i more a x d inside joins is done rest k below agg there = elim (cases_eq k i) [
-  | inl same ↦
-      let here : slice_get given i ≡ Some agg = ap (slice_get given) (sym same) ∙ there in
-      let agg_is : get_or given i x ≡ agg = get_or_from_slice_get given i agg x here in
-      let old_is : get_or made i d ≡ get_or start k answer.Null = get_or_default made i d answer.Null inside ∙ rest i (omega arith) ∙ ap (λ n. get_or start n answer.Null) (sym same) in
-      let a_is : a ≡ get_or answers k answer.Null = is ∙ ap (λ n. get_or answers n answer.Null) (sym same) in
-      let new_is : more ≡ get_or (set made i more) k answer.Null = sym (get_or-set_same made i more answer.Null inside) ∙ ap (λ n. get_or (set made i more) n answer.Null) (sym same) in
-      rw (sym agg_is, sym old_is, sym a_is, sym new_is) joins
-  | inr other ↦ rw (get_or-set_other made i k more answer.Null other) (done k (omega (arith, other)) agg there)
-]
 
 -- a merged answer, of what was made at a place or of sums and counts
 pub IsMerged-Made : (given : List Agg) (rows : List Row) (agg : Agg) (made : List Answer) (place : ℕ) → AreMade given rows made → IsSourceOf given agg (source.Made place) → IsMerged given rows agg (get_or made place answer.Null)
@@ -206,32 +157,16 @@ IsMerged-Mean given rows (Sum m) made sums counts a are is mean = absurd is
 IsMerged-Mean given rows (Min m) made sums counts a are is mean = absurd is
 IsMerged-Mean given rows (Max m) made sums counts a are is mean = absurd is
 
--- what no row makes
-pub AreMade-nothing : (given : List Agg) → AreMade given [] (map nothing_made given)
-AreMade-nothing [] place agg there = absurd (cc)
-AreMade-nothing (a ∷ given) zero agg there =
-    let same : a ≡ agg = cc in
-    subst (λ (x : Agg). Makes x [] (nothing_made a)) same (one a) where
-      one : (x : Agg) → Makes x [] (nothing_made x)
-      one CountAll = refl
-      one (Count m) = refl
-      one (Sum m) = refl
-      one (Min m) = refl
-      one (Max m) = refl
-      one (Avg m) = tt
-AreMade-nothing (a ∷ given) (suc place) agg there = AreMade-nothing given place agg there
-
 -- one more source
 pub AllZip-take : {X Y : Type 0} (R : X → Y → Type 0) (xs : List X) (ys : List Y) (i : ℕ) (d : X) (y : Y) → i < length xs → AllZip R (take i xs) ys → R (get_or xs i d) y → AllZip R (take (i + 1) xs) (ys ++ y ∷ [])
 AllZip-take R xs ys i d y inside all one = rw (take_more xs i d inside) (AllZip-push R (take i xs) ys (get_or xs i d) y all one)
 
--- where each place had one more answer joined, the answers of one more row are made
-pub AreMade-push : (given : List Agg) (rows : List Row) (row : Row) (old new : List Answer) → ((k : ℕ) → k < length given → JoinsAt given old row.answers new k) → AreMade given rows old → AreMade given (rows ++ row ∷ []) new
-AreMade-push given rows row old new joins made place agg there =
-    let inside : place < length given = slice_get-length given place agg there in
-    subst (λ parts. Makes agg parts (get_or new place answer.Null)) (sym (map-append (λ (r : Row). get_or r.answers place answer.Null) rows (row ∷ [])))
-    (joins place inside agg there (column place rows) (made place agg there)) where
-      slice_get-length : (xs : List Agg) (k : ℕ) (x : Agg) → slice_get xs k ≡ Some x → k < length xs
-      slice_get-length [] k x is = absurd (cc)
-      slice_get-length (y ∷ xs) zero x is = omega arith
-      slice_get-length (y ∷ xs) (suc k) x is = omega (arith, slice_get-length xs k x is)
+-- ---- answers one after another
+pub numbers_of-next : (answers : List Answer) (i : ℕ) (d : Answer) (number : ℤ) → i < length answers → number_in (get_or answers i d) ≡ Some number → numbers_of (take (i + 1) answers) ≡ numbers_of (take i answers) ++ number ∷ []
+numbers_of-next answers i d number inside some = ap numbers_of (take_more answers i d inside) ∙ numbers_of-number (take i answers) (get_or answers i d) number some
+
+pub numbers_of-next_none : (answers : List Answer) (i : ℕ) (d : Answer) → i < length answers → number_in (get_or answers i d) ≡ None → numbers_of (take (i + 1) answers) ≡ numbers_of (take i answers)
+numbers_of-next_none answers i d inside none = ap numbers_of (take_more answers i d inside) ∙ numbers_of-none (take i answers) (get_or answers i d) none
+
+pub length-push : (values : List ℤ) (z : ℤ) → 0 < length (values ++ z ∷ [])
+length-push values z = omega (arith, length-append values (z ∷ []))

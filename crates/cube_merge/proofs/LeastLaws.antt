@@ -1,20 +1,17 @@
 -- Which input has the least key, and whose rows have it.
-use Rattle.std.proofs.Common.{◌≡◌, ◌++◌, ◌+◌, ◌<◌, ◌≤◌, ◌∷◌, [], ℕ, zero, suc, Bool, true, false, List, Option, Some, None, length, get_or, set, take, ◌⊎◌, refl, sym, ap, ◌∙◌, subst, arith, inl, inr, IfSome, is_eq, is_lt, Ordering, option_to_list}
+use Rattle.std.proofs.Common.{◌≡◌, ◌++◌, ◌+◌, ◌<◌, ◌≤◌, ◌∷◌, [], ℕ, zero, suc, Bool, true, false, List, Option, Some, None, length, get_or, set, ◌⊎◌, refl, sym, ap, ◌∙◌, subst, arith, inl, inr, IfSome, is_eq, is_lt, Ordering, option_to_list}
 use Rattle.std.specs.declared.cmp.Ordering.TheVariants.{Less, Equal, Greater}
 use Rattle.std.specs.Ordering.{ordering_reverse}
 use Rattle.std.specs.List.{AllZip}
 use Rattle.std.proofs.lemmas.Bool.{cases_eq, cases_lt}
-use Rattle.std.proofs.lemmas.List.{append-nil, get_or-set_same, get_or-set_other, get_or_default, take_more}
+use Rattle.std.proofs.lemmas.List.{get_or-set_same, get_or-set_other, get_or_default}
+use Rattle.cube_core.specs.Layout.{Layout}
 use Rattle.cube_core.specs.Order.{key_cmp}
-use Rattle.cube_core.specs.declared.aggregate.Agg.{Agg}
-use Rattle.cube_core.specs.declared.aggregate.Answer.{Answer}
 use Rattle.cube_core.specs.declared.key.Key.{Key}
 use Rattle.cube_core.specs.declared.key.Row.{Row}
 use Rattle.cube_core.proofs.KeyOrderLaws.{key_cmp-IsTotalOrder, key_cmp-exact}
-use Rattle.cube_merge.specs.Made.{AreMade}
-use Rattle.cube_merge.specs.Merging.{InputView, nothing_left, Moves, AllMove, IsUse, AreUses, used_row, used_rows, IsNotBelow, IsLeastSoFar}
+use Rattle.cube_merge.specs.Merging.{InputView, nothing_left, Moves, AllMove, IsUse, AreUses, used_rows, IsNotBelow, IsLeastSoFar}
 use Rattle.cube_merge.proofs.MergedLaws.{key_cmp-refl}
-use Rattle.cube_merge.proofs.StepLaws.{used_rows-push}
 
 -- an input that was read off a list
 pub at_place : (inputs : List InputView) (k : ℕ) (x : InputView) → k < length inputs → x ≡ get_or inputs k x → get_or inputs k nothing_left ≡ x
@@ -115,20 +112,13 @@ IsUse-same key input row is same = (row, is, key_cmp-exact row.key key (equal (k
   equal Equal e = refl
   equal Greater e = cc
 
--- what is made where no row was joined, and where one was
-pub AreMade-unused : (given : List Agg) (input : InputView) (rows : List Row) (made : List Answer) → AreMade given rows made → AreMade given (rows ++ used_row false input) made
-AreMade-unused given input rows made are = subst (λ rs. AreMade given rs made) (sym (append-nil rows)) are
-
-pub AreMade-used : (given : List Agg) (input : InputView) (row : Row) (rows : List Row) (made : List Answer) → input.row ≡ Some row → AreMade given (rows ++ row ∷ []) made → AreMade given (rows ++ used_row true input) made
-AreMade-used given input row rows made is are = subst (λ o. AreMade given (rows ++ option_to_list o) made) (sym is) are
-
 -- one more input moved
-pub AllMove-more : (us : List Bool) (start olds : List InputView) (place : ℕ) (old new : InputView) (u : Bool) → place < length olds → old ≡ get_or olds place old → u ≡ get_or us place false → Moves u old new
-    → ((k : ℕ) → k < place → Moves (get_or us k false) (get_or start k nothing_left) (get_or olds k nothing_left)) → ((k : ℕ) → place ≤ k → get_or olds k nothing_left ≡ get_or start k nothing_left)
-    → (k : ℕ) → k < place + 1 → Moves (get_or us k false) (get_or start k nothing_left) (get_or (set olds place new) k nothing_left)
-AllMove-more us start olds place old new u inside is u_is moved done rest =
-    below-next (λ k. Moves (get_or us k false) (get_or start k nothing_left) (get_or (set olds place new) k nothing_left)) place
-    (λ k below. subst (Moves (get_or us k false) (get_or start k nothing_left)) (sym (get_or-set_other olds place k new nothing_left (λ e. omega (arith, below, e)))) (done k below))
+pub AllMove-more : (s : Layout) (us : List Bool) (start olds : List InputView) (place : ℕ) (old new : InputView) (u : Bool) → place < length olds → old ≡ get_or olds place old → u ≡ get_or us place false → Moves s u old new
+    → ((k : ℕ) → k < place → Moves s (get_or us k false) (get_or start k nothing_left) (get_or olds k nothing_left)) → ((k : ℕ) → place ≤ k → get_or olds k nothing_left ≡ get_or start k nothing_left)
+    → (k : ℕ) → k < place + 1 → Moves s (get_or us k false) (get_or start k nothing_left) (get_or (set olds place new) k nothing_left)
+AllMove-more s us start olds place old new u inside is u_is moved done rest =
+    below-next (λ k. Moves s (get_or us k false) (get_or start k nothing_left) (get_or (set olds place new) k nothing_left)) place
+    (λ k below. subst (Moves s (get_or us k false) (get_or start k nothing_left)) (sym (get_or-set_other olds place k new nothing_left (λ e. omega (arith, below, e)))) (done k below))
     (rw (get_or-set_same olds place new nothing_left inside, sym u_is, sym (rest place (omega arith)), at_place olds place old inside is) moved)
 
 pub AllMove-rest : (start olds : List InputView) (place : ℕ) (new : InputView) → ((k : ℕ) → place ≤ k → get_or olds k nothing_left ≡ get_or start k nothing_left)
@@ -142,9 +132,9 @@ past (x ∷ xs) zero d above = absurd (omega (arith, above))
 past (x ∷ xs) (suc k) d above = past xs k d (omega (arith, above))
 
 -- where all inputs of a list moved, so did each
-pub AllMove-all : (us : List Bool) (olds news : List InputView) (place : ℕ) → length us ≡ length olds → length news ≡ length olds → length olds ≤ place
-    → ((k : ℕ) → k < place → Moves (get_or us k false) (get_or olds k nothing_left) (get_or news k nothing_left)) → AllMove us olds news
-AllMove-all us olds news place same same_news end done k = elim (cases_below k place) [
+pub AllMove-all : (s : Layout) (us : List Bool) (olds news : List InputView) (place : ℕ) → length us ≡ length olds → length news ≡ length olds → length olds ≤ place
+    → ((k : ℕ) → k < place → Moves s (get_or us k false) (get_or olds k nothing_left) (get_or news k nothing_left)) → AllMove s us olds news
+AllMove-all s us olds news place same same_news end done k = elim (cases_below k place) [
   | inl below ↦ done k below
   | inr above ↦ rw (past us k false (omega (arith, same, end, above)), past olds k nothing_left (omega (arith, end, above)), past news k nothing_left (omega (arith, same_news, end, above))) refl
 ] where
@@ -204,15 +194,3 @@ AllZip-last R (x ∷ xs) (b ∷ ys) y all =
 pub AllZip-nil : {X Y Z : Type 0} (R : X → Y → Type 0) (S : X → Z → Type 0) (xs : List X) → AllZip R xs [] → AllZip S xs []
 AllZip-nil R S [] all = tt
 AllZip-nil R S (x ∷ xs) all = absurd all
-
--- what is made with the rows of one more input
-pub AreMade-next : (given : List Agg) (inputs : List InputView) (us : List Bool) (u : Bool) (place : ℕ) (x : InputView) (made : List Answer) → length us ≡ place → place < length inputs → x ≡ get_or inputs place x
-    → AreMade given (used_rows us (take place inputs) ++ used_row u x) made → AreMade given (used_rows (us ++ u ∷ []) (take (place + 1) inputs)) made
-AreMade-next given inputs us u place x made long inside is are =
-    subst (λ rs. AreMade given rs made)
-    (sym (used_rows-push us (take place inputs) u x (long ∙ sym (length-take-is place inputs (omega (arith, inside)))))
-    ∙ ap (λ t. used_rows (us ++ u ∷ []) t) (ap (λ y. take place inputs ++ y ∷ []) is ∙ sym (take_more inputs place x inside))) are where
-      length-take-is : (n : ℕ) (xs : List InputView) → n ≤ length xs → length (take n xs) ≡ n
-      length-take-is zero xs h = refl
-      length-take-is (suc n) [] h = absurd (omega (arith, h))
-      length-take-is (suc n) (x ∷ xs) h = ap suc (length-take-is n xs (omega (arith, h)))

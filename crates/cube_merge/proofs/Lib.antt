@@ -1,9 +1,12 @@
 mod TextLaws
+mod TotalLaws
 mod GatherLaws
+mod JointLaws
 mod MergedLaws
 mod StepLaws
 mod ReadLaws
 mod LineLaws
 mod LeastLaws
+mod LawfulLaws
 mod CubesLaws
 mod FaultLaws

@@ -11,6 +11,8 @@ use Rattle.cube_core.specs.Order.{key_cmp}
 use Rattle.cube_core.specs.declared.aggregate.Agg.{Agg}
 use Rattle.cube_core.specs.declared.key.Key.{Key}
 use Rattle.cube_core.specs.declared.key.Row.{Row}
+use Rattle.cube_merge.specs.Range.{AreInRange}
+use Rattle.cube_merge.specs.Merging.{IsMadeInRange}
 use Rattle.cube_core.proofs.KeyOrderLaws.{key_cmp-IsTotalOrder}
 use Rattle.cube_core.proofs.ListLaws.{Contains-head, Contains-nil, Contains-cases, map-Contains, filter-passed, filter-failed, Contains-AllByRecursion}
 
@@ -25,15 +27,15 @@ key_cmp-refl key = self (key_cmp key key) (key_cmp-IsTotalOrder.antisymm key key
 is_eq-Less : (o : Ordering) → o ≡ Less → is_eq o ≡ false
 is_eq-Less o e = ap is_eq e
 
-is_eq-above : (a b : Key) → key_cmp b a ≡ Less → is_eq (key_cmp a b) ≡ false
+pub is_eq-above : (a b : Key) → key_cmp b a ≡ Less → is_eq (key_cmp a b) ≡ false
 is_eq-above a b below = ap is_eq (key_cmp-IsTotalOrder.antisymm a b ∙ ap ordering_reverse below)
 
 -- rows of which none has the key, and rows of which each has it
-rows_at-none : (key : Key) (rows : List Row) → AllByRecursion (λ row. is_eq (key_cmp key row.key) ≡ false) rows → rows_at key rows ≡ []
+pub rows_at-none : (key : Key) (rows : List Row) → AllByRecursion (λ row. is_eq (key_cmp key row.key) ≡ false) rows → rows_at key rows ≡ []
 rows_at-none key [] others = refl
 rows_at-none key (row ∷ rows) others = filter-failed (λ (r : Row). is_eq (key_cmp key r.key)) row rows others.0 ∙ rows_at-none key rows others.1
 
-rows_at-all : (key : Key) (rows : List Row) → AllByRecursion (λ row. row.key ≡ key) rows → rows_at key rows ≡ rows
+pub rows_at-all : (key : Key) (rows : List Row) → AllByRecursion (λ row. row.key ≡ key) rows → rows_at key rows ≡ rows
 rows_at-all key [] same = refl
 rows_at-all key (row ∷ rows) same =
     filter-passed (λ (r : Row). is_eq (key_cmp key r.key)) row rows (ap (λ k. is_eq (key_cmp key k)) same.0 ∙ ap is_eq (key_cmp-refl key))
@@ -118,3 +120,10 @@ module _ (given wanted : List Agg) (parts rows used : List Row) (row : Row) (are
         (λ old has among. subst (λ group. AllZip (IsMerged given group) wanted old.answers) (sym (rows_at-old old among)) has)
         (subst (λ group. AllZip (IsMerged given group) wanted row.answers) (sym rows_at-new) answers);
   }
+
+  -- its counts and its sums are in range
+  pub AreInRange-push : AllByRecursion (IsMadeInRange given parts) rows → AreInRange given used → AllByRecursion (IsMadeInRange given (parts ++ used)) (rows ++ row ∷ [])
+  AreInRange-push fit new =
+      AllByRecursion-append (IsMadeInRange given parts) (IsMadeInRange given (parts ++ used)) rows row fit
+      (λ old has among. subst (λ group. AreInRange given group) (sym (rows_at-old old among)) has)
+      (subst (λ group. AreInRange given group) (sym rows_at-new) new)

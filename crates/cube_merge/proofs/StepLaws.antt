@@ -11,6 +11,7 @@ use Rattle.std.proofs.lemmas.List.{append-nil, map-append}
 use Rattle.std.proofs.lemmas.List.Elements.{Contains-append_cases, Contains-append_right}
 use Rattle.std.proofs.lemmas.List.Sorted.{IsPermutation-refl, IsPermutation-trans, IsPermutation-append_left, IsPermutation-append_right, IsPermutation-append_comm}
 use Rattle.cube_core.specs.Cube.{key_of}
+use Rattle.cube_core.specs.Layout.{Layout}
 use Rattle.cube_core.specs.Merged.{AreMerged, IsMerged}
 use Rattle.cube_core.specs.Order.{key_cmp}
 use Rattle.cube_core.specs.Text.{row_line}
@@ -19,21 +20,23 @@ use Rattle.cube_core.specs.declared.key.Key.{Key}
 use Rattle.cube_core.specs.declared.key.Row.{Row}
 use Rattle.cube_core.proofs.KeyOrderLaws.{key_cmp-IsTotalOrder}
 use Rattle.cube_core.proofs.ListLaws.{Contains-nil, Contains-cases, Contains-head, AllByRecursion-Contains}
-use Rattle.cube_merge.specs.Merging.{InputView, IsAbove, Advances, Moves, AllMove, IsUse, AreUses, used_row, used_of_each, used_rows, Gave, IsCounted, IsEnded, IsBelow, AreInOrder, all_rows, nothing_left, IsMerging}
-use Rattle.cube_merge.proofs.MergedLaws.{AreMerged-push, sorted-push}
+use Rattle.cube_merge.specs.Lawful.{IsRowOf}
+use Rattle.cube_merge.specs.Range.{AreInRange}
+use Rattle.cube_merge.specs.Merging.{AreOfSchema, InputView, IsAbove, Advances, Moves, AllMove, IsUse, AreUses, used_row, used_of_each, used_rows, Gave, IsCounted, IsEnded, IsBelow, AreInOrder, all_rows, nothing_left, IsMerging}
+use Rattle.cube_merge.proofs.MergedLaws.{AreInRange-push, AreMerged-push, sorted-push}
 
 -- one input that took a line, or stays
-Advances-line : (old new : InputView) → Advances old new → Consumes old.left new.left (flat_map row_line (option_to_list new.row))
-Advances-line old new moved = by_row new.row moved where
-  by_row : (row : Option Row) → Advances old (record { left = new.left; row = row; lines = new.lines }) → Consumes old.left new.left (flat_map row_line (option_to_list row))
+Advances-line : (s : Layout) (old new : InputView) → Advances s old new → Consumes old.left new.left (flat_map row_line (option_to_list new.row))
+Advances-line s old new moved = by_row new.row moved where
+  by_row : (row : Option Row) → Advances s old (record { left = new.left; row = row; lines = new.lines }) → Consumes old.left new.left (flat_map row_line (option_to_list row))
   by_row None m = m.0
   by_row (Some row) m = subst (Consumes old.left new.left) (sym (append-nil (row_line row))) m.0
 
-Gave-Moves : (start : Option (List ℕ)) (used : Bool) (old new : InputView) (rows : List Row) → Gave start old rows → Moves used old new → Gave start new (rows ++ used_row used old)
-Gave-Moves start true old new rows gave moved =
+Gave-Moves : (s : Layout) (start : Option (List ℕ)) (used : Bool) (old new : InputView) (rows : List Row) → Gave start old rows → Moves s used old new → Gave start new (rows ++ used_row used old)
+Gave-Moves s start true old new rows gave moved =
     subst (Consumes start new.left) (sym (flat_map-append row_line (rows ++ option_to_list old.row) (option_to_list new.row)))
-    (Consumes-trans start old.left new.left _ _ gave (Advances-line old new moved))
-Gave-Moves start false old new rows gave same =
+    (Consumes-trans start old.left new.left _ _ gave (Advances-line s old new moved))
+Gave-Moves s start false old new rows gave same =
     subst (λ (input : InputView). Gave start input (rows ++ [])) (sym same) (subst (λ rs. Gave start old rs) (sym (append-nil rows)) gave)
 
 -- the last key is above those before it
@@ -46,10 +49,10 @@ last-above (k ∷ keys) last key sorted among = elim (Contains-cases k keys key 
 ]
 
 -- one more row of an input, above the one before
-AreInOrder-Moves : (used : Bool) (old new : InputView) (rows : List Row) → (old.row ≡ None → rows ≡ []) → AreInOrder old rows → Moves used old new → AreInOrder new (rows ++ used_row used old)
-AreInOrder-Moves false old new rows first ordered same =
+AreInOrder-Moves : (s : Layout) (used : Bool) (old new : InputView) (rows : List Row) → (old.row ≡ None → rows ≡ []) → AreInOrder old rows → Moves s used old new → AreInOrder new (rows ++ used_row used old)
+AreInOrder-Moves s false old new rows first ordered same =
     subst (λ (input : InputView). AreInOrder input (rows ++ [])) (sym same) (subst (λ rs. AreInOrder old rs) (sym (append-nil rows)) ordered)
-AreInOrder-Moves true old new rows first ordered moved = by_row new.row moved where
+AreInOrder-Moves s true old new rows first ordered moved = by_row new.row moved where
   under : (o : Option Row) (r : Row) → (o ≡ None → rows ≡ []) → IsStrictlySortedBy key_cmp (map key_of (rows ++ option_to_list o)) → IsAbove o r → (key : Key) → Contains (map key_of (rows ++ option_to_list o)) key → key_cmp key r.key ≡ Less
   under None r f sorted above key among =
       absurd (Contains-nil key (subst (λ rs. Contains (map key_of rs) key) (append-nil rows ∙ f refl) among))
@@ -63,17 +66,31 @@ AreInOrder-Moves true old new rows first ordered moved = by_row new.row moved wh
         ]
       ]
 
-  by_row : (row : Option Row) → Advances old (record { left = new.left; row = row; lines = new.lines }) → IsStrictlySortedBy key_cmp (map key_of ((rows ++ option_to_list old.row) ++ option_to_list row))
+  by_row : (row : Option Row) → Advances s old (record { left = new.left; row = row; lines = new.lines }) → IsStrictlySortedBy key_cmp (map key_of ((rows ++ option_to_list old.row) ++ option_to_list row))
   by_row None m = subst (λ rs. IsStrictlySortedBy key_cmp (map key_of rs)) (sym (append-nil (rows ++ option_to_list old.row))) ordered
   by_row (Some r) m =
       subst (IsStrictlySortedBy key_cmp) (sym (map-append key_of (rows ++ option_to_list old.row) (r ∷ [])))
       (sorted-push (map key_of (rows ++ option_to_list old.row)) r.key ordered (under old.row r first ordered m.1))
 
+AllByRecursion-both : {X : Type 0} (P : X → Type 0) (xs ys : List X) → AllByRecursion P xs → AllByRecursion P ys → AllByRecursion P (xs ++ ys)
+AllByRecursion-both P [] ys a b = b
+AllByRecursion-both P (x ∷ xs) ys a b = (a.0, AllByRecursion-both P xs ys a.1 b)
+
+-- one more row of an input is one of the schema
+AreOfSchema-Moves : (s : Layout) (used : Bool) (old new : InputView) (rows : List Row) → AreOfSchema s old rows → Moves s used old new → AreOfSchema s new (rows ++ used_row used old)
+AreOfSchema-Moves s false old new rows are same =
+    subst (λ (input : InputView). AreOfSchema s input (rows ++ [])) (sym same) (subst (λ rs. AreOfSchema s old rs) (sym (append-nil rows)) are)
+AreOfSchema-Moves s true old new rows are moved =
+    AllByRecursion-both (IsRowOf s) (rows ++ option_to_list old.row) (option_to_list new.row) are (by_row new.row moved) where
+      by_row : (row : Option Row) → Advances s old (record { left = new.left; row = row; lines = new.lines }) → AllByRecursion (IsRowOf s) (option_to_list row)
+      by_row None m = tt
+      by_row (Some r) m = (m.3, tt)
+
 -- an input whose line is used has a row
-used-first : (key : Key) (used : Bool) (old new : InputView) (rows : List Row) → IsUse key used old → AreInOrder old rows → Moves used old new → AreInOrder new (rows ++ used_row used old)
-used-first key true old new rows is_use ordered moved =
-    AreInOrder-Moves true old new rows (λ none. let clash : Some is_use.0 ≡ None = sym is_use.1 ∙ none in absurd (cc)) ordered moved
-used-first key false old new rows is_use ordered same =
+used-first : (s : Layout) (key : Key) (used : Bool) (old new : InputView) (rows : List Row) → IsUse key used old → AreInOrder old rows → Moves s used old new → AreInOrder new (rows ++ used_row used old)
+used-first s key true old new rows is_use ordered moved =
+    AreInOrder-Moves s true old new rows (λ none. let clash : Some is_use.0 ≡ None = sym is_use.1 ∙ none in absurd (cc)) ordered moved
+used-first s key false old new rows is_use ordered same =
     subst (λ (input : InputView). AreInOrder input (rows ++ [])) (sym same) (subst (λ rs. AreInOrder old rs) (sym (append-nil rows)) ordered)
 
 -- an input without a row has nothing to count
@@ -81,11 +98,11 @@ none-counted : (input : InputView) (rows : List Row) → input.row ≡ None → 
 none-counted input rows none = subst (λ o. IfSome o (λ (_ : Row). input.lines ≡ length rows + 2)) (sym none) tt
 
 -- the row of an input is counted behind the rows that it gave
-counted-Moves : (key : Key) (used : Bool) (old new : InputView) (rows : List Row) → IsUse key used old → IsCounted old rows → Moves used old new → IsCounted new (rows ++ used_row used old)
-counted-Moves key false old new rows is_use counted same =
+counted-Moves : (s : Layout) (key : Key) (used : Bool) (old new : InputView) (rows : List Row) → IsUse key used old → IsCounted old rows → Moves s used old new → IsCounted new (rows ++ used_row used old)
+counted-Moves s key false old new rows is_use counted same =
     subst (λ (input : InputView). IsCounted input (rows ++ [])) (sym same) (subst (λ rs. IsCounted old rs) (sym (append-nil rows)) counted)
-counted-Moves key true old new rows is_use counted moved = by_row new.row moved where
-  by_row : (row : Option Row) → Advances old (record { left = new.left; row = row; lines = new.lines }) → IfSome row (λ _. new.lines ≡ length (rows ++ option_to_list old.row) + 2)
+counted-Moves s key true old new rows is_use counted moved = by_row new.row moved where
+  by_row : (row : Option Row) → Advances s old (record { left = new.left; row = row; lines = new.lines }) → IfSome row (λ _. new.lines ≡ length (rows ++ option_to_list old.row) + 2)
   by_row None m = tt
   by_row (Some r) m =
       let before : old.lines ≡ length rows + 2 = subst (λ o. IfSome o (λ (_ : Row). old.lines ≡ length rows + 2)) is_use.1 counted in
@@ -94,10 +111,10 @@ counted-Moves key true old new rows is_use counted moved = by_row new.row moved 
       omega (arith, more, before, long)
 
 -- the first row of an input is that of its second line
-counted-first : (used : Bool) (old new : InputView) → old.row ≡ None → old.lines ≡ 1 → Moves used old new → IsCounted new []
-counted-first false old new none one same = subst (λ (input : InputView). IsCounted input []) (sym same) (none-counted old [] none)
-counted-first true old new none one moved = by_row new.row moved where
-  by_row : (row : Option Row) → Advances old (record { left = new.left; row = row; lines = new.lines }) → IfSome row (λ _. new.lines ≡ 2)
+counted-first : (s : Layout) (used : Bool) (old new : InputView) → old.row ≡ None → old.lines ≡ 1 → Moves s used old new → IsCounted new []
+counted-first s false old new none one same = subst (λ (input : InputView). IsCounted input []) (sym same) (none-counted old [] none)
+counted-first s true old new none one moved = by_row new.row moved where
+  by_row : (row : Option Row) → Advances s old (record { left = new.left; row = row; lines = new.lines }) → IfSome row (λ _. new.lines ≡ 2)
   by_row None m = tt
   by_row (Some r) m = let more : new.lines ≡ old.lines + 1 = m.2 in omega (arith, more, one)
 
@@ -166,10 +183,6 @@ used_row-key : (key : Key) (u : Bool) (input : InputView) → IsUse key u input 
 used_row-key key true input is_use = subst (λ o. AllByRecursion (λ (r : Row). r.key ≡ key) (option_to_list o)) (sym is_use.1) (is_use.2, tt)
 used_row-key key false input is_use = tt
 
-AllByRecursion-both : {X : Type 0} (P : X → Type 0) (xs ys : List X) → AllByRecursion P xs → AllByRecursion P ys → AllByRecursion P (xs ++ ys)
-AllByRecursion-both P [] ys a b = b
-AllByRecursion-both P (x ∷ xs) ys a b = (a.0, AllByRecursion-both P xs ys a.1 b)
-
 used_rows-key : (key : Key) (us : List Bool) (inputs : List InputView) → length us ≡ length inputs → AreUses key us inputs → AllByRecursion (λ (r : Row). r.key ≡ key) (used_rows us inputs)
 used_rows-key key [] inputs same uses = tt
 used_rows-key key (u ∷ us) [] same uses = absurd (omega (arith, same))
@@ -177,7 +190,7 @@ used_rows-key key (u ∷ us) (i ∷ is) same uses =
     AllByRecursion-both (λ (r : Row). r.key ≡ key) (used_row u i) (used_rows us is) (used_row-key key u i (uses 0)) (used_rows-key key us is (omega (arith, same)) (λ k. uses (suc k)))
 
 -- a key below every input's row is below the key that is used
-below-used : (key low : Key) (us : List Bool) (inputs : List InputView) → length us ≡ length inputs → AreUses key us inputs → 0 < length (used_rows us inputs) → ((k : ℕ) → IsBelow low (get_or inputs k nothing_left)) → key_cmp low key ≡ Less
+pub below-used : (key low : Key) (us : List Bool) (inputs : List InputView) → length us ≡ length inputs → AreUses key us inputs → 0 < length (used_rows us inputs) → ((k : ℕ) → IsBelow low (get_or inputs k nothing_left)) → key_cmp low key ≡ Less
 below-used key low [] inputs same uses some below = absurd (omega (arith, some))
 below-used key low (u ∷ us) [] same uses some below = absurd (omega (arith, same))
 below-used key low (true ∷ us) (i ∷ is) same uses some below =
@@ -188,16 +201,16 @@ below-used key low (false ∷ us) (i ∷ is) same uses some below =
     below-used key low us is (omega (arith, same)) (λ k. uses (suc k)) some (λ k. below (suc k))
 
 -- what is below the key that is used, and that key, is below the rows that come
-below-Moves : (key low : Key) (u : Bool) (old new : InputView) → (key_cmp low key ≡ Less) ⊎ (low ≡ key) → IsUse key u old → Moves u old new → IsBelow low new
-below-Moves key low false old new under is_use same = subst (IsBelow low) (sym same) (by_row old.row is_use) where
+below-Moves : (s : Layout) (key low : Key) (u : Bool) (old new : InputView) → (key_cmp low key ≡ Less) ⊎ (low ≡ key) → IsUse key u old → Moves s u old new → IsBelow low new
+below-Moves s key low false old new under is_use same = subst (IsBelow low) (sym same) (by_row old.row is_use) where
   by_row : (row : Option Row) → IfSome row (λ (r : Row). key_cmp key r.key ≡ Less) → IfSome row (λ (r : Row). key_cmp low r.key ≡ Less)
   by_row None h = tt
   by_row (Some r) h = elim under [
     | inl less ↦ key_cmp-IsTotalOrder.trans low key r.key less h
     | inr is ↦ ap (λ k. key_cmp k r.key) is ∙ h
   ]
-below-Moves key low true old new under is_use moved = by_row new.row moved where
-  by_row : (row : Option Row) → Advances old (record { left = new.left; row = row; lines = new.lines }) → IfSome row (λ (r : Row). key_cmp low r.key ≡ Less)
+below-Moves s key low true old new under is_use moved = by_row new.row moved where
+  by_row : (row : Option Row) → Advances s old (record { left = new.left; row = row; lines = new.lines }) → IfSome row (λ (r : Row). key_cmp low r.key ≡ Less)
   by_row None m = tt
   by_row (Some r) m =
       let before = is_use.0 in
@@ -212,19 +225,19 @@ told None old bs P c p = tt
 told (Some x) None bs P c p = absurd c
 told (Some x) (Some y) bs P c p = p
 
-ended-Moves : (start : Option (List ℕ)) (rows : List Row) (u : Bool) (old new : InputView) → Gave start old rows → (u ≡ false → IsEnded start old) → Moves u old new → IsEnded start new
-ended-Moves start rows false old new gave ended same = subst (IsEnded start) (sym same) (ended refl)
-ended-Moves start rows true old new gave ended moved =
+ended-Moves : (s : Layout) (start : Option (List ℕ)) (rows : List Row) (u : Bool) (old new : InputView) → Gave start old rows → (u ≡ false → IsEnded start old) → Moves s u old new → IsEnded start new
+ended-Moves s start rows false old new gave ended same = subst (IsEnded start) (sym same) (ended refl)
+ended-Moves s start rows true old new gave ended moved =
     by_row new.row moved where
-      by_row : (row : Option Row) → Advances old (record { left = new.left; row = row; lines = new.lines }) → row ≡ None → IfSome start (λ _. IsAtEnd new.left)
+      by_row : (row : Option Row) → Advances s old (record { left = new.left; row = row; lines = new.lines }) → row ≡ None → IfSome start (λ _. IsAtEnd new.left)
       by_row None m e = told start old.left _ (IsAtEnd new.left) gave m.1
       by_row (Some r) m e = absurd (cc)
 
 -- a step: the rows with the least key make one more row, and each input whose line was used takes the next one
-pub IsMerging-step : (given wanted : List Agg) (starts : List (Option (List ℕ))) (olds news : List InputView) (rows : List Row) (us : List Bool) (row : Row)
+pub IsMerging-step : (given : Layout) (wanted : List Agg) (starts : List (Option (List ℕ))) (olds news : List InputView) (rows : List Row) (us : List Bool) (row : Row)
     → IsMerging given wanted starts olds rows → length us ≡ length olds → length news ≡ length olds → AreUses row.key us olds → 0 < length (used_rows us olds)
-    → AllZip (IsMerged given (used_rows us olds)) wanted row.answers → AllMove us olds news → IsMerging given wanted starts news (rows ++ row ∷ [])
-IsMerging-step given wanted starts olds news rows us row m same same_news uses some answers moved =
+    → AllZip (IsMerged given.aggregates (used_rows us olds)) wanted row.answers → AreInRange given.aggregates (used_rows us olds) → AllMove given us olds news → IsMerging given wanted starts news (rows ++ row ∷ [])
+IsMerging-step given wanted starts olds news rows us row m same same_news uses some answers fit moved =
     let gains = used_of_each us olds in
     let wide : length m.cubes ≡ length gains = m.width ∙ sym (used_of_each-length us olds same) in
     let under : (low : Key) → Contains (map key_of rows) low → key_cmp low row.key ≡ Less
@@ -235,17 +248,21 @@ IsMerging-step given wanted starts olds news rows us row m same same_news uses s
       width = join_each-length m.cubes gains wide ∙ m.width ∙ sym same_news;
       gave = λ k. subst (λ rs. Gave (get_or starts k None) (get_or news k nothing_left) rs)
           (sym (join_each-at m.cubes gains k wide ∙ ap (λ g. get_or m.cubes k [] ++ g) (used_of_each-at us olds k same)))
-          (Gave-Moves (get_or starts k None) (get_or us k false) (get_or olds k nothing_left) (get_or news k nothing_left) (get_or m.cubes k []) (m.gave k) (moved k));
+          (Gave-Moves given (get_or starts k None) (get_or us k false) (get_or olds k nothing_left) (get_or news k nothing_left) (get_or m.cubes k []) (m.gave k) (moved k));
       ordered = λ k. subst (λ rs. AreInOrder (get_or news k nothing_left) rs)
           (sym (join_each-at m.cubes gains k wide ∙ ap (λ g. get_or m.cubes k [] ++ g) (used_of_each-at us olds k same)))
-          (used-first row.key (get_or us k false) (get_or olds k nothing_left) (get_or news k nothing_left) (get_or m.cubes k []) (uses k) (m.ordered k) (moved k));
+          (used-first given row.key (get_or us k false) (get_or olds k nothing_left) (get_or news k nothing_left) (get_or m.cubes k []) (uses k) (m.ordered k) (moved k));
+      of_schema = λ k. subst (λ rs. AreOfSchema given (get_or news k nothing_left) rs)
+          (sym (join_each-at m.cubes gains k wide ∙ ap (λ g. get_or m.cubes k [] ++ g) (used_of_each-at us olds k same)))
+          (AreOfSchema-Moves given (get_or us k false) (get_or olds k nothing_left) (get_or news k nothing_left) (get_or m.cubes k []) (m.of_schema k) (moved k));
       counted = λ k. subst (λ rs. IsCounted (get_or news k nothing_left) rs)
           (sym (join_each-at m.cubes gains k wide ∙ ap (λ g. get_or m.cubes k [] ++ g) (used_of_each-at us olds k same)))
-          (counted-Moves row.key (get_or us k false) (get_or olds k nothing_left) (get_or news k nothing_left) (get_or m.cubes k []) (uses k) (m.counted k) (moved k));
-      ended = λ k. ended-Moves (get_or starts k None) (get_or m.cubes k []) (get_or us k false) (get_or olds k nothing_left) (get_or news k nothing_left) (m.gave k) (λ _. m.ended k) (moved k);
+          (counted-Moves given row.key (get_or us k false) (get_or olds k nothing_left) (get_or news k nothing_left) (get_or m.cubes k []) (uses k) (m.counted k) (moved k));
+      ended = λ k. ended-Moves given (get_or starts k None) (get_or m.cubes k []) (get_or us k false) (get_or olds k nothing_left) (get_or news k nothing_left) (m.gave k) (λ _. m.ended k) (moved k);
       drawn = IsPermutation-trans _ _ _ (join_each-all_rows m.cubes gains wide) (IsPermutation-append_left (used_rows us olds) _ _ m.drawn);
-      merged = AreMerged-push given wanted m.parts rows (used_rows us olds) row m.merged under (used_rows-key row.key us olds same uses) some answers;
-      below = λ low among k. below-Moves row.key low (get_or us k false) (get_or olds k nothing_left) (get_or news k nothing_left)
+      merged = AreMerged-push given.aggregates wanted m.parts rows (used_rows us olds) row m.merged under (used_rows-key row.key us olds same uses) some answers;
+      fit = AreInRange-push given.aggregates wanted m.parts rows (used_rows us olds) row m.merged under (used_rows-key row.key us olds same uses) some m.fit fit;
+      below = λ low among k. below-Moves given row.key low (get_or us k false) (get_or olds k nothing_left) (get_or news k nothing_left)
           (elim (Contains-append_cases (map key_of rows) (row.key ∷ []) low (subst (λ keys. Contains keys low) (map-append key_of rows (row ∷ [])) among)) [
             | inl old ↦ inl (under low old)
             | inr new ↦ elim (Contains-cases row.key [] low new) [
@@ -256,9 +273,12 @@ IsMerging-step given wanted starts olds news rows us row m same same_news uses s
     }
 
 -- no row is in order
-nothing-ordered : (input : InputView) → input.row ≡ None → AreInOrder input []
+pub nothing-ordered : (input : InputView) → input.row ≡ None → AreInOrder input []
 unfolding IsStrictlySortedBy
 nothing-ordered input none = subst (λ o. IsStrictlySortedBy key_cmp (map key_of (option_to_list o))) (sym none) tt
+
+nothing-of_schema : (s : Layout) (input : InputView) → input.row ≡ None → AreOfSchema s input []
+nothing-of_schema s input none = subst (λ o. AllByRecursion (IsRowOf s) (option_to_list o)) (sym none) tt
 
 -- nothing is merged yet, and each input took its first line
 replicate_empty : List InputView → List (List Row)
@@ -285,22 +305,25 @@ AreMerged-none : (given wanted : List Agg) → AreMerged given wanted [] []
 unfolding IsStrictlySortedBy
 AreMerged-none given wanted = record { cells = λ key. (λ h. h, λ h. h); ordered = tt; answers = tt }
 
-pub IsMerging-start : (given wanted : List Agg) (starts : List (Option (List ℕ))) (olds news : List InputView) (us : List Bool)
+pub IsMerging-start : (given : Layout) (wanted : List Agg) (starts : List (Option (List ℕ))) (olds news : List InputView) (us : List Bool)
     → ((k : ℕ) → Gave (get_or starts k None) (get_or olds k nothing_left) []) → ((k : ℕ) → (get_or olds k nothing_left).row ≡ None) → ((k : ℕ) → (get_or olds k nothing_left).lines ≡ 1)
-    → ((k : ℕ) → get_or us k false ≡ false → IsEnded (get_or starts k None) (get_or olds k nothing_left)) → length news ≡ length olds → AllMove us olds news → IsMerging given wanted starts news []
+    → ((k : ℕ) → get_or us k false ≡ false → IsEnded (get_or starts k None) (get_or olds k nothing_left)) → length news ≡ length olds → AllMove given us olds news → IsMerging given wanted starts news []
 IsMerging-start given wanted starts olds news us gave rows ones ended same moved = record {
   cubes = replicate_empty news;
   parts = [];
   width = replicate_empty-length news;
   gave = λ k. subst (λ rs. Gave (get_or starts k None) (get_or news k nothing_left) rs) (none_used k ∙ sym (replicate_empty-at news k))
-      (Gave-Moves (get_or starts k None) (get_or us k false) (get_or olds k nothing_left) (get_or news k nothing_left) [] (gave k) (moved k));
+      (Gave-Moves given (get_or starts k None) (get_or us k false) (get_or olds k nothing_left) (get_or news k nothing_left) [] (gave k) (moved k));
   ordered = λ k. subst (λ rs. AreInOrder (get_or news k nothing_left) rs) (none_used k ∙ sym (replicate_empty-at news k))
-      (AreInOrder-Moves (get_or us k false) (get_or olds k nothing_left) (get_or news k nothing_left) [] (λ _. refl) (nothing-ordered (get_or olds k nothing_left) (rows k)) (moved k));
+      (AreInOrder-Moves given (get_or us k false) (get_or olds k nothing_left) (get_or news k nothing_left) [] (λ _. refl) (nothing-ordered (get_or olds k nothing_left) (rows k)) (moved k));
+  of_schema = λ k. subst (λ rs. AreOfSchema given (get_or news k nothing_left) rs) (none_used k ∙ sym (replicate_empty-at news k))
+      (AreOfSchema-Moves given (get_or us k false) (get_or olds k nothing_left) (get_or news k nothing_left) [] (nothing-of_schema given (get_or olds k nothing_left) (rows k)) (moved k));
   counted = λ k. subst (λ rs. IsCounted (get_or news k nothing_left) rs) (sym (replicate_empty-at news k))
-      (counted-first (get_or us k false) (get_or olds k nothing_left) (get_or news k nothing_left) (rows k) (ones k) (moved k));
-  ended = λ k. ended-Moves (get_or starts k None) [] (get_or us k false) (get_or olds k nothing_left) (get_or news k nothing_left) (gave k) (ended k) (moved k);
+      (counted-first given (get_or us k false) (get_or olds k nothing_left) (get_or news k nothing_left) (rows k) (ones k) (moved k));
+  ended = λ k. ended-Moves given (get_or starts k None) [] (get_or us k false) (get_or olds k nothing_left) (get_or news k nothing_left) (gave k) (ended k) (moved k);
   drawn = subst (λ l. IsPermutation l []) (sym (replicate_empty-rows news)) (IsPermutation-refl []);
-  merged = AreMerged-none given wanted;
+  merged = AreMerged-none given.aggregates wanted;
+  fit = tt;
   below = λ key among k. absurd (Contains-nil key among);
 } where
   none_used : (k : ℕ) → [] ++ used_row (get_or us k false) (get_or olds k nothing_left) ≡ []

@@ -1,14 +1,21 @@
 -- Why a merge is given up, and what it leaves written (this project's choice).
-use Rattle.std.specs.Prelude.{◌≡◌, ◌≢◌, ◌<◌, ◌≤◌, ◌+◌, ◌-◌, ◌⊎◌, ◌∷◌, [], ◌++◌, ⊤, ℕ, Bool, true, false, List, Option, Some, None, IfSome, Contains, get_or, length, take}
+use Rattle.std.specs.Prelude.{◌≡◌, ◌≢◌, ◌<◌, ◌≤◌, ◌+◌, ◌-◌, ◌⊎◌, ◌∷◌, [], ◌++◌, ⊤, ℕ, Bool, true, false, List, Option, Some, None, IfSome, Contains, get_or, length, map, take}
 use Rattle.std.specs.declared.cmp.Ordering.TheVariants.{Less}
+use Rattle.std.specs.List.{AllByRecursion}
+use Rattle.std.specs.List.Sorted.{IsStrictlySortedBy}
 use Rattle.std.specs.Io.KnownBytes.{Appends, Consumes, IsAtEnd}
-use Rattle.cube_core.specs.Cube.{is_total}
+use Rattle.cube_core.specs.Cube.{is_total, key_of}
 use Rattle.cube_core.specs.Layout.{Layout}
+use Rattle.cube_core.specs.Merged.{rows_at}
 use Rattle.cube_core.specs.Order.{key_cmp}
 use Rattle.cube_core.specs.Text.{header_fields, line, row_line, text_of_rows}
+use Rattle.cube_core.specs.declared.aggregate.Agg.{Agg}
 use Rattle.cube_core.specs.declared.key.Key.{Key}
 use Rattle.cube_core.specs.declared.key.Row.{Row}
-use Rattle.cube_merge.specs.Merging.{InputView, AreFresh, IsAbove, IsMerging, nothing_left}
+use Rattle.cube_merge.specs.Lawful.{IsRowOf}
+use Rattle.cube_merge.specs.Joint.{HasRow, rows_of}
+use Rattle.cube_merge.specs.Merging.{InputView, AreFresh, AreUses, IsAbove, IsMerging, all_rows, nothing_left, used_rows}
+use Rattle.cube_merge.specs.Range.{AreTooLarge}
 use Rattle.cube_merge.specs.NextLine.{next_line}
 use Rattle.cube_merge.specs.declared.fault.InputFault.{InputFault}
 use Rattle.cube_merge.specs.declared.fault.InputFault.TheVariants as why
@@ -28,11 +35,12 @@ IsReadFault why.Memory = ⊤
 IsReadFault why.Read = ⊤
 IsReadFault _ = ⊥
 
--- the next line of an input is that of a row that isn't above the row before
-pub record HasRowBelow (input : InputView) : Type 0 where
+-- the next line of an input is that of a row of the schema that isn't above the row before
+pub record HasRowBelow (s : Layout) (input : InputView) : Type 0 where
   pub row : Row
   pub left : Option (List ℕ)
   pub taken : Consumes input.left left (row_line row)
+  pub of_schema : IsRowOf s row
   pub below : IsAbove input.row row → ⊥
 
 -- an input has no line left, and its last row isn't the grand total, which the schema keeps
@@ -51,7 +59,7 @@ HasFault s input why.Memory number = ⊥
 HasFault s input why.Read number = number ≡ input.lines + 1
 HasFault s input why.Header number = ⊥
 HasFault s input why.Line number = (number ≡ input.lines + 1) × HasMore input
-HasFault s input why.Order number = (number ≡ input.lines + 1) × HasRowBelow input
+HasFault s input why.Order number = (number ≡ input.lines + 1) × HasRowBelow s input
 HasFault s input why.Overflow number = ⊥
 HasFault s input why.Incomplete number = (number ≡ input.lines + 1) × LacksTotal s input
 
@@ -75,9 +83,46 @@ FailsToMoveAll s used inputs Aggregates = ⊥
 FailsToMoveAll s used inputs (Input fault input number) = HasFaultAt s used inputs fault input number
 FailsToMoveAll s used inputs (Write sent) = ⊥
 
--- an input with a row can't go on: that row can't be merged, or the next line can't be taken
+-- the input of this number, counted from 1, has a row with which a count or a sum is too large
+pub record IsTooLargeAt (inputs : List InputView) (fault : InputFault) (input number : ℕ) : Type 0 where
+  pub place : ℕ
+  pub fault_is : fault ≡ why.Overflow
+  pub input_is : input ≡ place + 1
+  pub inside : place < length inputs
+  pub has_row : HasRow (get_or inputs place nothing_left)
+  pub number_is : number ≡ (get_or inputs place nothing_left).lines
+
+-- the same, or memory ran out
+abbrev pub TellsOverflow : List InputView → MergeFault → Type 0
+TellsOverflow inputs Memory = ⊤
+TellsOverflow inputs Aggregates = ⊥
+TellsOverflow inputs (Input fault input number) = IsTooLargeAt inputs fault input number
+TellsOverflow inputs (Write sent) = ⊥
+
+-- a count or a sum of the rows of the inputs at these places is too large, or memory ran out
+abbrev pub FailsToMake : List Agg → List InputView → List ℕ → MergeFault → Type 0
+FailsToMake given inputs places Memory = ⊤
+FailsToMake given inputs places Aggregates = ⊥
+FailsToMake given inputs places (Input fault input number) = IsTooLargeAt inputs fault input number × AreTooLarge given (rows_of inputs places)
+FailsToMake given inputs places (Write sent) = ⊥
+
+-- of the rows of inputs those with some key are too large together
+pub record JoinTooLarge (given : List Agg) (inputs : List InputView) : Type 0 where
+  pub key : Key
+  pub used : List Bool
+  pub wide : length used ≡ length inputs
+  pub uses : AreUses key used inputs
+  pub too_large : AreTooLarge given (used_rows used inputs)
+
+-- the same, or memory ran out
+abbrev pub FailsToJoin : List Agg → List InputView → MergeFault → Type 0
+FailsToJoin given inputs Memory = ⊤
+FailsToJoin given inputs Aggregates = ⊥
+FailsToJoin given inputs (Input fault input number) = IsTooLargeAt inputs fault input number × JoinTooLarge given inputs
+FailsToJoin given inputs (Write sent) = ⊥
+
+-- an input with a row can't go on: a count or a sum of that row's key is too large, or the next line can't be taken
 abbrev pub GoesWrong : Layout → InputView → InputFault → ℕ → Type 0
-GoesWrong s input why.Line number = (number ≡ input.lines) ⊎ HasFault s input why.Line number
 GoesWrong s input why.Overflow number = number ≡ input.lines
 GoesWrong s input fault number = HasFault s input fault number
 
@@ -89,6 +134,7 @@ pub record FailsWithRow (s : Layout) (inputs : List InputView) (fault : InputFau
   pub inside : place < length inputs
   pub row_is : (get_or inputs place nothing_left).row ≡ Some row
   pub goes_wrong : GoesWrong s (get_or inputs place nothing_left) fault number
+  pub too_large : fault ≡ why.Overflow → JoinTooLarge s.aggregates inputs
 
 -- the next merged row couldn't be put, or an input that had a row couldn't take its next line
 abbrev pub StepFails : Layout → List InputView → MergeFault → Type 0
@@ -97,32 +143,14 @@ StepFails s inputs Aggregates = ⊥
 StepFails s inputs (Input fault input number) = FailsWithRow s inputs fault input number
 StepFails s inputs (Write sent) = ⊥
 
--- an input has a row
-abbrev pub HasRow : InputView → Type 0
-HasRow input = (row : Row) × (input.row ≡ Some row)
-
--- a count or a sum of the rows with a key is too large where the row of an input is joined
-pub record IsTooLargeAt (inputs : List InputView) (fault : InputFault) (input number : ℕ) : Type 0 where
-  pub place : ℕ
-  pub fault_is : fault ≡ why.Overflow
-  pub input_is : input ≡ place + 1
-  pub inside : place < length inputs
-  pub has_row : HasRow (get_or inputs place nothing_left)
-  pub number_is : number ≡ (get_or inputs place nothing_left).lines
-
--- the same, or memory ran out
-abbrev pub FailsToJoin : List InputView → MergeFault → Type 0
-FailsToJoin inputs Memory = ⊤
-FailsToJoin inputs Aggregates = ⊥
-FailsToJoin inputs (Input fault input number) = IsTooLargeAt inputs fault input number
-FailsToJoin inputs (Write sent) = ⊥
-
--- a text is the header line, the lines of these rows, and this rest, whose first line is the record of this number, the header being the first
+-- a text is the header line, the lines of these rows of the schema in key order, and this rest, whose first line is the record of this number, the header being the first
 pub record StandsAt (s : Layout) (text : List ℕ) (rows : List Row) (rest : List ℕ) (number : ℕ) : Type 0 where
   pub text_is : text ≡ text_of_rows s rows ++ rest
+  pub of_schema : AllByRecursion (IsRowOf s) rows
+  pub ordered : IsStrictlySortedBy key_cmp (map key_of rows)
   pub number_is : number ≡ length rows + 2
 
--- what is behind the lines of rows isn't the line of a row that can be merged
+-- something stands behind the lines of rows
 pub record HasWrongLine (s : Layout) (number : ℕ) (text : List ℕ) : Type 0 where
   pub rows : List Row
   pub rest : List ℕ
@@ -136,6 +164,7 @@ pub record IsOutOfOrder (s : Layout) (number : ℕ) (text : List ℕ) : Type 0 w
   pub row : Row
   pub rest : List ℕ
   pub stands : StandsAt s text (rows ++ before ∷ []) (row_line row ++ rest) number
+  pub of_schema : IsRowOf s row
   pub below : key_cmp before.key row.key ≢ Less
 
 -- behind the lines of rows the line of a row follows
@@ -172,11 +201,24 @@ ExplainsFault s why.Order number text = IsOutOfOrder s number text
 ExplainsFault s why.Overflow number text = HasRowAt s number text
 ExplainsFault s why.Incomplete number text = IsIncomplete s number text
 
+-- this text begins with the header line and the lines of these rows of the schema, where it is told
+abbrev pub BeginsWith : Layout → Option (List ℕ) → List Row → Type 0
+BeginsWith s text rows = IfSome text (λ known. (rest : List ℕ) × StandsAt s known rows rest (length rows + 2))
+
+-- of the rows that were read of texts a count or a sum of those with some key is too large
+pub record IsTooLarge (s : Layout) (texts : List (Option (List ℕ))) : Type 0 where
+  pub cubes : List (List Row)
+  pub as_many : length cubes ≡ length texts
+  pub read : (k : ℕ) → BeginsWith s (get_or texts k None) (get_or cubes k [])
+  pub key : Key
+  pub too_large : AreTooLarge s.aggregates (rows_at key (all_rows cubes))
+
 -- the input of this number, counted from 1, has a fault at a record
 pub record InputFails (s : Layout) (texts : List (Option (List ℕ))) (fault : InputFault) (input number : ℕ) : Type 0 where
   pub from_one : 1 ≤ input
   pub within : input ≤ length texts
   pub explains : IfSome (get_or texts (input - 1) None) (ExplainsFault s fault number)
+  pub too_large : fault ≡ why.Overflow → IsTooLarge s texts
 
 -- what was written is the first bytes, so many, of the text of the rows that were merged of inputs so far; each input took the header of its text, and began with what was left
 pub record WroteFirst (given wanted : Layout) (texts : List (Option (List ℕ))) (sent : ℕ) (old new : Option (List ℕ)) : Type 0 where
@@ -185,7 +227,7 @@ pub record WroteFirst (given wanted : Layout) (texts : List (Option (List ℕ)))
   pub rows : List Row
   pub as_many : length inputs ≡ length texts
   pub headed : (k : ℕ) → Consumes (get_or texts k None) (get_or starts k None) (line (header_fields given))
-  pub merging : IsMerging given.aggregates wanted.aggregates starts inputs rows
+  pub merging : IsMerging given wanted.aggregates starts inputs rows
   pub within : sent ≤ length (text_of_rows wanted rows)
   pub written : Appends old new (take sent (text_of_rows wanted rows))
 
@@ -220,7 +262,7 @@ pub record Stops (given wanted : Layout) (starts : List (Option (List ℕ))) (co
   pub rows : List Row
   pub sent : ℕ
   pub as_many : length inputs ≡ count
-  pub merging : IsMerging given.aggregates wanted.aggregates starts inputs rows
+  pub merging : IsMerging given wanted.aggregates starts inputs rows
   pub within : sent ≤ length (text_of_rows wanted rows)
   pub written : Appends old new (take sent (text_of_rows wanted rows))
   pub why : StopsAt given inputs sent fault
@@ -228,7 +270,7 @@ pub record Stops (given wanted : Layout) (starts : List (Option (List ℕ))) (co
 -- the same, from inputs by which merges go on
 abbrev pub RestFails : Layout → Layout → List InputView → MergeFault → Option (List ℕ) → Option (List ℕ) → Type 0
 RestFails given wanted inputs fault old new =
-    (starts : List (Option (List ℕ))) → IsMerging given.aggregates wanted.aggregates starts inputs [] → Stops given wanted starts (length inputs) fault old new
+    (starts : List (Option (List ℕ))) → IsMerging given wanted.aggregates starts inputs [] → Stops given wanted starts (length inputs) fault old new
 
 -- an input whose header was taken couldn't take its first line, or memory ran out
 abbrev pub FailsToStart : Layout → List InputView → MergeFault → Type 0

@@ -1,9 +1,68 @@
--- The shape of the rows of a schema (this project's choice).
-use Rattle.std.specs.Prelude.{◌≡◌, length}
+-- The rows that the cube of a schema may have (this project's choice: counts of 64 bits, sums of 128, measures of 64).
+use Rattle.std.specs.Prelude.{◌≡◌, ◌<◌, ◌^◌, ⊤, Bool, true, not, IsTrue, length, FitsSigned}
+use Rattle.std.specs.Int.{w64, w128}
+use Rattle.std.specs.List.{AllZip, list_all}
+use Rattle.std.specs.Str.{bytes_eq}
 use Rattle.cube_core.specs.Layout.{Layout}
+use Rattle.cube_core.specs.Takes.{null_text}
+use Rattle.cube_core.specs.declared.aggregate.Agg.{Agg}
+use Rattle.cube_core.specs.declared.aggregate.Agg.TheVariants.{CountAll, Count, Sum, Min, Max, Avg}
+use Rattle.cube_core.specs.declared.aggregate.Answer.{Answer}
+use Rattle.cube_core.specs.declared.aggregate.Answer.TheVariants as answer
+use Rattle.cube_core.specs.declared.key.Coord.{Coord}
+use Rattle.cube_core.specs.declared.key.Coord.TheVariants as coord
+use Rattle.cube_core.specs.declared.key.Key.{Key}
 use Rattle.cube_core.specs.declared.key.Row.{Row}
 
--- a row has a coordinate for each dimension of a schema and an answer for each of its aggregates
-pub record IsShapedFor (s : Layout) (row : Row) : Type 0 where
+-- whether a coordinate isn't the text that stands for null and for ALL
+abbrev pub is_no_null_text : Coord → Bool
+is_no_null_text (coord.Text name) = not (bytes_eq name null_text)
+is_no_null_text coord.Null = true
+is_no_null_text coord.All = true
+
+-- whether no coordinate of a key is that text
+abbrev pub has_no_null_text : Key → Bool
+has_no_null_text key = list_all is_no_null_text key.coords
+
+-- an answer is a count of 64 bits
+abbrev pub IsCount : Answer → Type 0
+IsCount (answer.Count n) = n < 2 ^ 64
+IsCount answer.Null = ⊥
+IsCount (answer.Whole z) = ⊥
+IsCount (answer.Ratio p q) = ⊥
+
+-- an answer is a sum, a number of 128 bits, or null
+abbrev pub IsNumber : Answer → Type 0
+IsNumber answer.Null = ⊤
+IsNumber (answer.Whole z) = FitsSigned w128 z
+IsNumber (answer.Count n) = ⊥
+IsNumber (answer.Ratio p q) = ⊥
+
+-- an answer is a value of a measure, a number of 64 bits, or null
+abbrev pub IsValue : Answer → Type 0
+IsValue answer.Null = ⊤
+IsValue (answer.Whole z) = FitsSigned w64 z
+IsValue (answer.Count n) = ⊥
+IsValue (answer.Ratio p q) = ⊥
+
+-- an answer is a fraction of a number of 128 bits by a count of 64, or null
+abbrev pub IsFraction : Answer → Type 0
+IsFraction answer.Null = ⊤
+IsFraction (answer.Ratio p q) = FitsSigned w128 p × (q < 2 ^ 64)
+IsFraction (answer.Count n) = ⊥
+IsFraction (answer.Whole z) = ⊥
+
+-- an answer is of the kind of this aggregate's
+abbrev pub IsOfKind : Agg → Answer → Type 0
+IsOfKind CountAll a = IsCount a
+IsOfKind (Count m) a = IsCount a
+IsOfKind (Sum m) a = IsNumber a
+IsOfKind (Min m) a = IsValue a
+IsOfKind (Max m) a = IsValue a
+IsOfKind (Avg m) a = IsFraction a
+
+-- a cube of a schema may have this row: it has a coordinate for each dimension, none of them the text that stands for null, and an answer of its kind to each aggregate
+pub record IsRowOf (s : Layout) (row : Row) : Type 0 where
   pub coords : length row.key.coords ≡ length s.dimensions
-  pub answers : length row.answers ≡ length s.aggregates
+  pub told : IsTrue (has_no_null_text row.key)
+  pub answers : AllZip IsOfKind s.aggregates row.answers

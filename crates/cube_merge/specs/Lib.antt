@@ -1,7 +1,10 @@
 pub mod NextLine
 pub mod Parts
 pub mod Made
+pub mod Range
+pub mod Total
 pub mod Source
 pub mod Lawful
 pub mod Merging
+pub mod Joint
 pub mod Faults

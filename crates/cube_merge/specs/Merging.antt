@@ -1,17 +1,19 @@
 -- How the rows of several inputs are merged, step by step (this project's choice).
 use Rattle.std.specs.Prelude.{◌≡◌, ◌<◌, ◌+◌, ◌∷◌, [], ◌++◌, ⊤, ℕ, Bool, true, false, List, Option, Some, None, IfSome, MatchOption, option_to_list, map, get_or, length, IsPermutation, Contains}
-use Rattle.std.specs.List.{flat_map, AllZip}
+use Rattle.std.specs.List.{flat_map, AllByRecursion, AllZip}
 use Rattle.std.specs.List.Sorted.{IsStrictlySortedBy}
 use Rattle.std.specs.declared.cmp.Ordering.TheVariants.{Less}
 use Rattle.std.specs.Io.KnownBytes.{Appends, Consumes, IsAtEnd}
 use Rattle.cube_core.specs.Layout.{Layout}
 use Rattle.cube_core.specs.Cube.{key_of}
-use Rattle.cube_core.specs.Merged.{AreMerged, IsMerged}
+use Rattle.cube_core.specs.Merged.{AreMerged, IsMerged, rows_at}
 use Rattle.cube_core.specs.Order.{key_cmp}
 use Rattle.cube_core.specs.Text.{row_line, text_of_rows}
 use Rattle.cube_core.specs.declared.aggregate.Agg.{Agg}
 use Rattle.cube_core.specs.declared.key.Key.{Key}
 use Rattle.cube_core.specs.declared.key.Row.{Row}
+use Rattle.cube_merge.specs.Lawful.{IsRowOf}
+use Rattle.cube_merge.specs.Range.{AreInRange}
 use Rattle.cube_merge.specs.Source.{IsSourceOf}
 use Rattle.cube_merge.specs.declared.source.Source.{Source}
 
@@ -30,18 +32,18 @@ abbrev pub IsAbove : Option Row → Row → Type 0
 IsAbove None row = ⊤
 IsAbove (Some before) row = key_cmp before.key row.key ≡ Less
 
--- the next line was taken, whose row is above the one before, or none is left
-abbrev pub Advances : InputView → InputView → Type 0
-Advances old new = MatchOption new.row (Consumes old.left new.left [] × IfSome old.left (λ _. IsAtEnd new.left)) (λ row. Consumes old.left new.left (row_line row) × IsAbove old.row row × (new.lines ≡ old.lines + 1))
+-- the next line was taken, that of a row of the schema above the one before, or none is left
+abbrev pub Advances : Layout → InputView → InputView → Type 0
+Advances s old new = MatchOption new.row (Consumes old.left new.left [] × IfSome old.left (λ _. IsAtEnd new.left)) (λ row. Consumes old.left new.left (row_line row) × IsAbove old.row row × (new.lines ≡ old.lines + 1) × IsRowOf s row)
 
 -- an input whose line was used took the next one, and any other stays
-abbrev pub Moves : Bool → InputView → InputView → Type 0
-Moves true old new = Advances old new
-Moves false old new = new ≡ old
+abbrev pub Moves : Layout → Bool → InputView → InputView → Type 0
+Moves s true old new = Advances s old new
+Moves s false old new = new ≡ old
 
 -- the same of each input
-abbrev pub AllMove : List Bool → List InputView → List InputView → Type 0
-AllMove used olds news = (k : ℕ) → Moves (get_or used k false) (get_or olds k nothing_left) (get_or news k nothing_left)
+abbrev pub AllMove : Layout → List Bool → List InputView → List InputView → Type 0
+AllMove s used olds news = (k : ℕ) → Moves s (get_or used k false) (get_or olds k nothing_left) (get_or news k nothing_left)
 
 -- the line of an input is used where its row has this key; the row of any other is above it
 abbrev pub IsUse : Key → Bool → InputView → Type 0
@@ -89,6 +91,10 @@ Gave start input rows = Consumes start input.left (flat_map row_line (rows ++ op
 abbrev pub AreInOrder : InputView → List Row → Type 0
 AreInOrder input rows = IsStrictlySortedBy key_cmp (map key_of (rows ++ option_to_list input.row))
 
+-- the rows that an input gave, and its row, are rows of the schema
+abbrev pub AreOfSchema : Layout → InputView → List Row → Type 0
+AreOfSchema s input rows = AllByRecursion (IsRowOf s) (rows ++ option_to_list input.row)
+
 -- the row of an input is that of the line taken last, behind the header and the lines of the rows that it gave
 abbrev pub IsCounted : InputView → List Row → Type 0
 IsCounted input rows = IfSome input.row (λ _. input.lines ≡ length rows + 2)
@@ -101,17 +107,23 @@ IsEnded start input = input.row ≡ None → IfSome start (λ _. IsAtEnd input.l
 abbrev pub IsBelow : Key → InputView → Type 0
 IsBelow key input = IfSome input.row (λ row. key_cmp key row.key ≡ Less)
 
+-- the counts and the sums of a merged row, by the rows with its key, are in range
+abbrev pub IsMadeInRange : List Agg → List Row → Row → Type 0
+IsMadeInRange given parts row = AreInRange given (rows_at row.key parts)
+
 -- so far these rows were merged of inputs that began with these bytes
-pub record IsMerging (given wanted : List Agg) (starts : List (Option (List ℕ))) (inputs : List InputView) (rows : List Row) : Type 0 where
+pub record IsMerging (given : Layout) (wanted : List Agg) (starts : List (Option (List ℕ))) (inputs : List InputView) (rows : List Row) : Type 0 where
   pub cubes : List (List Row)
   pub parts : List Row
   pub width : length cubes ≡ length inputs
   pub gave : (k : ℕ) → Gave (get_or starts k None) (get_or inputs k nothing_left) (get_or cubes k [])
   pub ordered : (k : ℕ) → AreInOrder (get_or inputs k nothing_left) (get_or cubes k [])
+  pub of_schema : (k : ℕ) → AreOfSchema given (get_or inputs k nothing_left) (get_or cubes k [])
   pub counted : (k : ℕ) → IsCounted (get_or inputs k nothing_left) (get_or cubes k [])
   pub ended : (k : ℕ) → IsEnded (get_or starts k None) (get_or inputs k nothing_left)
   pub drawn : IsPermutation (all_rows cubes) parts
-  pub merged : AreMerged given wanted parts rows
+  pub merged : AreMerged given.aggregates wanted parts rows
+  pub fit : AllByRecursion (IsMadeInRange given.aggregates parts) rows
   pub below : (key : Key) → Contains (map key_of rows) key → (k : ℕ) → IsBelow key (get_or inputs k nothing_left)
 
 -- the row of the next key: it is made of the rows that are used
@@ -119,6 +131,7 @@ pub record IsNextRow (given : List Agg) (sources : List Source) (inputs : List I
   pub wide : length used ≡ length inputs
   pub uses : AreUses row.key used inputs
   pub some : 0 < length (used_rows used inputs)
+  pub fit : AreInRange given (used_rows used inputs)
   pub answers : (wanted : List Agg) → AllZip (IsSourceOf given) wanted sources → AllZip (IsMerged given (used_rows used inputs)) wanted row.answers
 
 -- the line of the row of the next key was put at the end of a text
@@ -126,13 +139,13 @@ abbrev pub PutsRow : List Agg → List Source → List InputView → List Bool �
 PutsRow given sources inputs used old new = (row : Row) × (new ≡ old ++ row_line row) × IsNextRow given sources inputs used row
 
 -- a row that merges of any inputs so far go on by
-abbrev pub GoesOnBy : List Agg → List Agg → List InputView → List InputView → Row → Type 0
+abbrev pub GoesOnBy : Layout → List Agg → List InputView → List InputView → Row → Type 0
 GoesOnBy given wanted olds news row = (starts : List (Option (List ℕ))) (rows : List Row) → IsMerging given wanted starts olds rows → IsMerging given wanted starts news (rows ++ row ∷ [])
 
 -- the line of the next merged row was put at the end of a text; or no input had a row
-abbrev pub PutsNext : List Agg → List Source → List InputView → List InputView → List ℕ → List ℕ → Bool → Type 0
+abbrev pub PutsNext : Layout → List Source → List InputView → List InputView → List ℕ → List ℕ → Bool → Type 0
 PutsNext given sources olds news old new true =
-    (wanted : List Agg) → AllZip (IsSourceOf given) wanted sources → (row : Row) × (new ≡ old ++ row_line row) × GoesOnBy given wanted olds news row
+    (wanted : List Agg) → AllZip (IsSourceOf given.aggregates) wanted sources → (row : Row) × (new ≡ old ++ row_line row) × GoesOnBy given wanted olds news row
 PutsNext given sources olds news old new false = (new ≡ old) × (news ≡ olds) × ((k : ℕ) → (get_or olds k nothing_left).row ≡ None)
 
 -- of what a reader had an input took the header alone, and has no row
@@ -142,8 +155,8 @@ HasTaken remaining header reader input = Consumes (remaining reader) input.left 
 -- what was written is the cube of the rows that merges of these inputs go on by, to the end of each
 abbrev pub MergesRest : Layout → Layout → List InputView → Option (List ℕ) → Option (List ℕ) → Type 0
 MergesRest given wanted inputs old new =
-    (starts : List (Option (List ℕ))) → IsMerging given.aggregates wanted.aggregates starts inputs []
-    → (ends : List InputView) × (rows : List Row) × (length ends ≡ length inputs) × IsMerging given.aggregates wanted.aggregates starts ends rows
+    (starts : List (Option (List ℕ))) → IsMerging given wanted.aggregates starts inputs []
+    → (ends : List InputView) × (rows : List Row) × (length ends ≡ length inputs) × IsMerging given wanted.aggregates starts ends rows
     × ((k : ℕ) → (get_or ends k nothing_left).row ≡ None) × Appends old new (text_of_rows wanted rows)
 
 -- inputs that began with these bytes took the header alone
@@ -156,21 +169,23 @@ pub record AreFresh (starts : List (Option (List ℕ))) (inputs : List InputView
 abbrev pub MergesInputs : Layout → Layout → List InputView → Option (List ℕ) → Option (List ℕ) → Type 0
 MergesInputs given wanted inputs old new =
     (starts : List (Option (List ℕ))) → AreFresh starts inputs
-    → (ends : List InputView) × (rows : List Row) × (length ends ≡ length inputs) × IsMerging given.aggregates wanted.aggregates starts ends rows
+    → (ends : List InputView) × (rows : List Row) × (length ends ≡ length inputs) × IsMerging given wanted.aggregates starts ends rows
     × ((k : ℕ) → (get_or ends k nothing_left).row ≡ None) × Appends old new (text_of_rows wanted rows)
 
 -- a text is that of a cube's rows, where it is told
 abbrev pub IsTextOf : Layout → Option (List ℕ) → List Row → Type 0
 IsTextOf s text rows = IfSome text (λ known. known ≡ text_of_rows s rows)
 
--- what was written is the text, under the wanted schema, of the merged rows of cubes whose texts under the given one were read, each in key order
+-- what was written is the text, under the wanted schema, of the merged rows of cubes whose texts under the given one were read, each of rows of that schema in key order; each count and each sum that the rows with one key make is in range
 pub record IsMergeOf (given wanted : Layout) (texts : List (Option (List ℕ))) (old new : Option (List ℕ)) : Type 0 where
   pub cubes : List (List Row)
   pub parts : List Row
   pub rows : List Row
   pub as_many : length cubes ≡ length texts
   pub read : (k : ℕ) → IsTextOf given (get_or texts k None) (get_or cubes k [])
+  pub of_schema : (k : ℕ) → AllByRecursion (IsRowOf given) (get_or cubes k [])
   pub ordered : (k : ℕ) → IsStrictlySortedBy key_cmp (map key_of (get_or cubes k []))
   pub drawn : IsPermutation (all_rows cubes) parts
   pub merged : AreMerged given.aggregates wanted.aggregates parts rows
+  pub fit : AllByRecursion (IsMadeInRange given.aggregates parts) rows
   pub written : Appends old new (text_of_rows wanted rows)

@@ -6,11 +6,11 @@ ghost use Rattle.cube_merge.specs.Source.{IsSourceOf};
 ghost use Rattle.cube_merge.specs.Faults.{FailsToMerge, FailsToOpen, FailsToOpenAll, FailsToSend, InputsFail, RestFails, StepFails};
 ghost use Rattle.cube_merge.specs.Merging.{HasTaken, IsLeastSoFar, IsMergeOf, MergesInputs, MergesRest, PutsNext, PutsRow};
 
-use crate::fault::{InputFault, MergeFault};
+use crate::fault::MergeFault;
 use crate::input::Input;
 use crate::read::Scratch;
 use crate::source::{Source, sources_of};
-use crate::step::{fault_of, join_rows, least_input, move_inputs, put_answers};
+use crate::step::{Joint, fault_of, join_rows, least_input, move_inputs, put_answers};
 use crate::text::{push_header, push_line};
 use cube_core::{Answer, Row, Schema};
 use cube_text::write_whole;
@@ -23,8 +23,7 @@ const CHUNK: usize = 65536;
 /// Memory that each step takes again, and the text that waits for the writer.
 #[derive(Drop)]
 struct Desk {
-    used: Vec<bool>,
-    made: Vec<Answer>,
+    joint: Joint,
     answers: Vec<Answer>,
     text: Vec<u8>,
     scratch: Scratch,
@@ -152,8 +151,7 @@ fn merge_rows<R: Read, W: Write>(
         fault (W.contents w.old) (W.contents w.new)) }
 {
     let mut desk = Desk {
-        used: Vec::new(alloc),
-        made: Vec::new(alloc),
+        joint: Joint::new(alloc),
         answers: Vec::new(alloc),
         text: Vec::new(alloc),
         scratch: Scratch::new(alloc),
@@ -182,7 +180,7 @@ fn put_next<R: Read>(
     inputs: &mut [Input<R>],
     desk: &mut Desk,
 ) -> Result<bool, MergeFault>
-    ensures ok { IfOk result (PutsNext given.now.aggregates sources.now inputs.old inputs.new
+    ensures ok { IfOk result (PutsNext given.now sources.now inputs.old inputs.new
         desk.old.text.items desk.new.text.items) }
     ensures err { IfErr result (StepFails given.now inputs.old) }
 {
@@ -194,7 +192,7 @@ fn put_next<R: Read>(
         alloc,
         given,
         inputs,
-        desk.used.as_slice(),
+        desk.joint.used.as_slice(),
         &mut desk.scratch,
     )?;
     Ok(true)
@@ -209,21 +207,15 @@ fn put_row<R: Read>(
     desk: &mut Desk,
 ) -> Result<(), MergeFault>
     requires { IsLeastSoFar inputs.now (Some place) (length inputs.now) }
-    ensures ok { OnOk result (PutsRow given.now.aggregates sources.now inputs.now desk.new.used.items
+    ensures ok { OnOk result (PutsRow given.now.aggregates sources.now inputs.now desk.new.joint.used.items
         desk.old.text.items desk.new.text.items) }
     ensures err { IfErr result (StepFails given.now inputs.now) }
 {
     let Some(row) = row_to_merge(&inputs[place]) else {
-        return Err(fault_of(InputFault::Line, place, inputs[place].lines()));
+        return Err(MergeFault::Memory);
     };
-    join_rows(
-        given.aggregates(),
-        inputs,
-        &row.key,
-        &mut desk.used,
-        &mut desk.made,
-    )?;
-    put_answers(sources, desk.made.as_slice(), &mut desk.answers)?;
+    join_rows(given.aggregates(), inputs, &row.key, &mut desk.joint)?;
+    put_answers(sources, desk.joint.made.as_slice(), &mut desk.answers)?;
     push_line(
         &mut desk.text,
         row.key.coords.as_slice(),

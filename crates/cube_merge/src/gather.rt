@@ -1,56 +1,100 @@
 //! What the answers of parts make of the whole.
-ghost use Rattle.std.specs.Prelude.{◌≡◌, ◌∷◌, [], ◌++◌, List, IfSome, OnOk, length, map, get_or, true, FitsSigned};
+ghost use Rattle.std.specs.Prelude.{◌≡◌, List, IfErr, IfOk, IfSome, get_or, FitsSigned};
 ghost use Rattle.std.specs.Int.{w128};
 ghost use Rattle.cube_core.specs.Group.{total_of};
 ghost use Rattle.cube_core.specs.Merged.{Makes, IsMeanOf, count_in, count_of, number_in, numbers_of};
 ghost use Rattle.cube_core.specs.declared.aggregate.Answer.{Answer};
-ghost use Rattle.cube_core.specs.declared.key.Row.{Row};
-ghost use Rattle.cube_merge.specs.Made.{AreMade, Joins, nothing_made};
+ghost use Rattle.cube_merge.specs.Made.{Joins};
+ghost use Rattle.cube_merge.specs.Range.{IsInRange};
 
+use crate::total::Total;
 use cube_core::{Agg, Answer, reduced};
-use std::alloc::AllocError;
 
-/// What no answer makes.
-pub(crate) fn nothing(aggregate: &Agg) -> Answer
-    ensures { result ≡ nothing_made aggregate.now }
+/// What the answers to an aggregate make; where a count or a sum is too large for its type, the place of the answer with
+/// which it first is.
+pub(crate) fn made_of(aggregate: &Agg, answers: &[Answer]) -> Result<Answer, usize>
+    ensures made { IfOk result (Makes aggregate.now answers.now) }
+    ensures fits { IfOk result (λ _. IsInRange aggregate.now answers.now) }
+    ensures too_large { IfErr result (λ _. IsInRange aggregate.now answers.now → ⊥) }
 {
     match aggregate {
-        Agg::CountAll | Agg::Count(_) => Answer::Count(0),
-        Agg::Sum(_) | Agg::Min(_) | Agg::Max(_) | Agg::Avg(_) => Answer::Null,
+        Agg::CountAll | Agg::Count(_) => count_of(answers),
+        Agg::Sum(_) => sum_of(answers),
+        Agg::Min(_) => Ok(least_of(answers)),
+        Agg::Max(_) => Ok(greatest_of(answers)),
+        Agg::Avg(_) => Ok(Answer::Null),
     }
 }
 
-/// What answers made, and one more; None where a count or a sum is too large for its type.
-pub(crate) fn joined(aggregate: &Agg, made: &Answer, answer: &Answer) -> Option<Answer>
-    ensures { IfSome result (Joins aggregate.now made.now answer.now) }
+fn count_of(answers: &[Answer]) -> Result<Answer, usize>
+    ensures made { IfOk result (Makes (Agg.Count 0) answers.now) }
+    ensures fits { IfOk result (λ _. IsInRange (Agg.Count 0) answers.now) }
+    ensures too_large { IfErr result (λ _. IsInRange (Agg.Count 0) answers.now → ⊥) }
 {
-    match aggregate {
-        Agg::CountAll | Agg::Count(_) => added_count(made, answer),
-        Agg::Sum(_) => added_number(made, answer),
-        Agg::Min(_) => Some(least(made, answer)),
-        Agg::Max(_) => Some(greatest(made, answer)),
-        Agg::Avg(_) => Some(Answer::Null),
+    let mut count: u64 = 0;
+    for place in 0..answers.len() {
+        let Some(more) = count.checked_add(count_in(&answers[place])) else {
+            return Err(place);
+        };
+        count = more;
+    }
+    Ok(Answer::Count(count))
+}
+
+fn sum_of(answers: &[Answer]) -> Result<Answer, usize>
+    ensures made { IfOk result (Makes (Agg.Sum 0) answers.now) }
+    ensures fits { IfOk result (λ _. IsInRange (Agg.Sum 0) answers.now) }
+    ensures too_large { IfErr result (λ _. IsInRange (Agg.Sum 0) answers.now → ⊥) }
+{
+    let mut total = Total::ZERO;
+    let mut is_null = true;
+    for place in 0..answers.len() {
+        if let Some(number) = number_in(&answers[place]) {
+            total.add(number);
+            is_null = false;
+        }
+    }
+    if is_null {
+        return Ok(Answer::Null);
+    }
+    match total.get() {
+        Some(sum) => Ok(Answer::Whole(sum)),
+        None => Err(first_too_large(answers)),
     }
 }
 
-fn added_count(made: &Answer, answer: &Answer) -> Option<Answer>
-    ensures { IfSome result (Joins (Agg.Count 0) made.now answer.now) }
-{
-    let count = count_in(made).checked_add(count_in(answer))?;
-    Some(Answer::Count(count))
+// The place of the number with which a sum first is too large for its type.
+fn first_too_large(answers: &[Answer]) -> usize {
+    let mut sum: i128 = 0;
+    for place in 0..answers.len() {
+        if let Some(number) = number_in(&answers[place]) {
+            let Some(more) = sum.checked_add(number) else {
+                return place;
+            };
+            sum = more;
+        }
+    }
+    answers.len()
 }
 
-fn added_number(made: &Answer, answer: &Answer) -> Option<Answer>
-    ensures { IfSome result (Joins (Agg.Sum 0) made.now answer.now) }
+fn least_of(answers: &[Answer]) -> Answer
+    ensures { Makes (Agg.Min 0) answers.now result }
 {
-    let Some(number) = number_in(answer) else {
-        return Some(*made);
-    };
-    let Some(sum) = number_in(made) else {
-        return Some(Answer::Whole(number));
-    };
-    let more = sum.checked_add(number)?;
-    Some(Answer::Whole(more))
+    let mut made = Answer::Null;
+    for place in 0..answers.len() {
+        made = least(&made, &answers[place]);
+    }
+    made
+}
+
+fn greatest_of(answers: &[Answer]) -> Answer
+    ensures { Makes (Agg.Max 0) answers.now result }
+{
+    let mut made = Answer::Null;
+    for place in 0..answers.len() {
+        made = greatest(&made, &answers[place]);
+    }
+    made
 }
 
 fn least(made: &Answer, answer: &Answer) -> Answer
@@ -127,33 +171,6 @@ fn number_in(answer: &Answer) -> Option<i128>
         Answer::Whole(number) => Some(*number),
         _ => None,
     }
-}
-
-/// What no row makes of each aggregate, in place of what the list holds.
-pub(crate) fn clear_made(given: &[Agg], made: &mut Vec<Answer>) -> Result<(), AllocError>
-    ensures made { OnOk result (AreMade given.now [] made.new.items) }
-    ensures long { OnOk result (length made.new.items ≡ length given.now) }
-{
-    made.clear();
-    for aggregate in given {
-        made.push(nothing(aggregate))?;
-    }
-    Ok(())
-}
-
-/// Joins the answers of one more row to what was made; false where a count or a sum is too large for its type.
-pub(crate) fn join_answers(given: &[Agg], made: &mut [Answer], answers: &[Answer]) -> bool
-    requires { length made.old ≡ length given.now }
-    ensures { result ≡ true → (rows : List Row) (row : Row) → row.answers ≡ answers.now →
-        AreMade given.now rows made.old → AreMade given.now (rows ++ row ∷ []) made.new }
-{
-    for place in 0..given.len() {
-        let Some(more) = joined(&given[place], &made[place], &answer_at(answers, place)) else {
-            return false;
-        };
-        made[place] = more;
-    }
-    true
 }
 
 /// The answer at a place; null past the last one.

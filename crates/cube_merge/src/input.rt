@@ -97,7 +97,7 @@ impl<R: Read> Input<R> {
         is_used: bool,
         scratch: &mut Scratch,
     ) -> Result<(), InputFault>
-        ensures ok { OnOk result (Moves is_used self.old self.new) }
+        ensures ok { OnOk result (Moves schema.now is_used self.old self.new) }
         ensures err { IfErr result (λ fault. (is_used ≡ true)
             × FailsToMove schema.now self.old fault self.new.lines) }
     {
@@ -113,7 +113,7 @@ impl<R: Read> Input<R> {
         schema: &Schema,
         scratch: &mut Scratch,
     ) -> Result<(), InputFault>
-        ensures ok { OnOk result (Advances self.old self.new) }
+        ensures ok { OnOk result (Advances schema.now self.old self.new) }
         ensures err { IfErr result (λ fault. FailsToMove schema.now self.old fault self.new.lines) }
     {
         let Some(lines) = self.lines.checked_add(1) else {

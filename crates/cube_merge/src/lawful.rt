@@ -1,20 +1,19 @@
 //! What a row tells of itself: whether a printed cube can have it.
-ghost use Rattle.std.specs.Prelude.{◌≡◌, length, true};
-ghost use Rattle.std.specs.List.{list_all};
+ghost use Rattle.std.specs.Prelude.{◌≡◌, true};
+ghost use Rattle.std.specs.List.{AllZip, list_all};
 ghost use Rattle.cube_core.specs.GroupingSet.{is_all_coord};
-ghost use Rattle.cube_core.specs.Layout.{keeps};
-ghost use Rattle.cube_merge.specs.Lawful.{IsShapedFor};
+ghost use Rattle.cube_merge.specs.Lawful.{IsFraction, IsNumber, IsOfKind, IsRowOf, IsValue, has_no_null_text, is_no_null_text};
 
 use crate::gather::mean_of;
 use crate::source::is_same;
-use cube_core::{Agg, Answer, Coord, Row, Schema};
+use cube_core::{Agg, Answer, Coord, Key, Row, Schema};
 
-/// Whether a printed cube of the schema can have this row, as far as the row alone tells: its shape, its grouping set,
-/// and that its answers don't gainsay one another.
+/// Whether a printed cube of the schema can have this row, as far as the row alone tells: that it is a row of the schema,
+/// its grouping set, and that its answers don't gainsay one another.
 pub(crate) fn is_lawful(schema: &Schema, row: &Row) -> bool
-    ensures { result ≡ true → IsShapedFor schema.now row.now }
+    ensures { result ≡ true → IsRowOf schema.now row.now }
 {
-    if !is_shaped(schema, row) {
+    if !is_row_of(schema, row) {
         return false;
     }
     let aggregates = schema.aggregates();
@@ -25,11 +24,81 @@ pub(crate) fn is_lawful(schema: &Schema, row: &Row) -> bool
         && (is_total(row) || !has_no_fact(aggregates, answers))
 }
 
-fn is_shaped(schema: &Schema, row: &Row) -> bool
-    ensures { result ≡ true → IsShapedFor schema.now row.now }
+fn is_row_of(schema: &Schema, row: &Row) -> bool
+    ensures { result ≡ true → IsRowOf schema.now row.now }
 {
     row.key.coords.len() == schema.dimensions().len()
-        && row.answers.len() == schema.aggregates().len()
+        && has_no_null_text(&row.key)
+        && are_of_kind(schema.aggregates(), row.answers.as_slice())
+}
+
+fn has_no_null_text(key: &Key) -> bool
+    ensures { result ≡ has_no_null_text key.now }
+{
+    key.coords
+        .as_slice()
+        .iter()
+        .all(|coord| is_no_null_text(coord))
+}
+
+fn is_no_null_text(coord: &Coord) -> bool
+    ensures { result ≡ is_no_null_text coord.now }
+{
+    match coord {
+        Coord::Text(text) => text.as_str() != "\\N",
+        Coord::Null | Coord::All => true,
+    }
+}
+
+// Whether these are answers to the aggregates, each of its kind.
+fn are_of_kind(aggregates: &[Agg], answers: &[Answer]) -> bool
+    ensures { result ≡ true → AllZip IsOfKind aggregates.now answers.now }
+{
+    if aggregates.len() != answers.len() {
+        return false;
+    }
+    for place in 0..aggregates.len() {
+        if !is_of_kind(&aggregates[place], answers[place]) {
+            return false;
+        }
+    }
+    true
+}
+
+fn is_of_kind(aggregate: &Agg, answer: Answer) -> bool
+    ensures { result ≡ true → IsOfKind aggregate.now answer }
+{
+    match aggregate {
+        Agg::CountAll | Agg::Count(_) => matches!(answer, Answer::Count(_)),
+        Agg::Sum(_) => is_number(answer),
+        Agg::Min(_) | Agg::Max(_) => is_value(answer),
+        Agg::Avg(_) => is_fraction(answer),
+    }
+}
+
+fn is_number(answer: Answer) -> bool
+    ensures { result ≡ true → IsNumber answer }
+{
+    matches!(answer, Answer::Null | Answer::Whole(_))
+}
+
+// Whether an answer can be a value of a measure, or is null.
+fn is_value(answer: Answer) -> bool
+    ensures { result ≡ true → IsValue answer }
+{
+    match answer {
+        Answer::Null => true,
+        Answer::Whole(number) => {
+            number >= i128::from(i64::MIN) && number <= i128::from(i64::MAX)
+        }
+        Answer::Count(_) | Answer::Ratio { .. } => false,
+    }
+}
+
+fn is_fraction(answer: Answer) -> bool
+    ensures { result ≡ true → IsFraction answer }
+{
+    matches!(answer, Answer::Null | Answer::Ratio { .. })
 }
 
 /// Whether the key of a row is ALL in each dimension.

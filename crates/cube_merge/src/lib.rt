@@ -11,6 +11,7 @@ mod read;
 mod source;
 mod step;
 mod text;
+mod total;
 
 pub use cubes::merge;
 pub use fault::{InputFault, MergeFault};

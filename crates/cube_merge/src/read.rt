@@ -4,7 +4,7 @@ ghost use Rattle.std.specs.Io.KnownBytes.{Consumes, IsAtEnd};
 ghost use Rattle.std.specs.Io.Buffered.{reader_remaining};
 ghost use Rattle.cube_core.specs.Text.{row_line};
 ghost use Rattle.cube_merge.specs.Faults.{IsReadFault};
-ghost use Rattle.cube_merge.specs.Lawful.{IsShapedFor};
+ghost use Rattle.cube_merge.specs.Lawful.{IsRowOf};
 ghost use Rattle.cube_merge.specs.NextLine.{IsNextLine, is_quoted_after, is_quoted_behind};
 
 use crate::fault::InputFault;
@@ -41,7 +41,7 @@ pub(crate) fn read_row(
     spare: Row,
 ) -> Result<Option<Row>, AllocError>
     ensures line { IfOk result (λ found. IfSome found (λ row. row_line row ≡ line.now)) }
-    ensures shape { IfOk result (λ found. IfSome found (IsShapedFor schema.now)) }
+    ensures of_schema { IfOk result (λ found. IfSome found (IsRowOf schema.now)) }
 {
     let Some(row) = parse_row(alloc, schema, line, &mut scratch.field, spare)? else {
         return Ok(None);
@@ -59,7 +59,7 @@ fn is_line_of(
     line: &[u8],
     text: &mut Vec<u8>,
 ) -> Result<bool, AllocError>
-    requires { IsShapedFor schema.now row.now }
+    requires { IsRowOf schema.now row.now }
     ensures { IfOk result (λ same. same ≡ true → row_line row.now ≡ line.now) }
 {
     let _ = schema.dimensions();

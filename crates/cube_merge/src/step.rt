@@ -1,22 +1,24 @@
 //! One step of a merge: the rows with the least key make one more row.
-ghost use Rattle.std.specs.Prelude.{◌≡◌, ◌<◌, ◌≤◌, ◌+◌, ◌++◌, [], ℕ, List, IfErr, IfNone, IfSome, OnOk, length, get_or};
+ghost use Rattle.std.specs.Prelude.{◌≡◌, ◌<◌, ◌≤◌, ◌+◌, ◌++◌, ℕ, List, IfErr, OnOk, length, get_or, option_map, option_to_list};
 ghost use Rattle.std.specs.List.{AllZip};
 ghost use Rattle.std.specs.Ordering.{is_eq, is_lt};
 ghost use Rattle.cube_core.specs.Order.{key_cmp};
 ghost use Rattle.cube_core.specs.declared.aggregate.Agg.{Agg};
-ghost use Rattle.cube_core.specs.Merged.{IsMerged};
+ghost use Rattle.cube_core.specs.Merged.{IsMerged, column};
 ghost use Rattle.cube_core.specs.declared.key.Row.{Row};
 ghost use Rattle.cube_merge.specs.Made.{AreMade};
+ghost use Rattle.cube_merge.specs.Range.{AreInRange};
 ghost use Rattle.cube_merge.specs.Source.{IsSourceOf};
-ghost use Rattle.cube_merge.specs.Faults.{FailsToJoin, FailsToMoveAll, HasRow, IsFaultAt};
-ghost use Rattle.cube_merge.specs.Merging.{AllMove, AreUses, IsLeastSoFar, IsNotBelow, IsUse, nothing_left, used_row, used_rows};
+ghost use Rattle.cube_merge.specs.Joint.{HaveRows, place_where, rows_of};
+ghost use Rattle.cube_merge.specs.Faults.{FailsToJoin, FailsToMake, FailsToMoveAll, IsFaultAt, TellsOverflow};
+ghost use Rattle.cube_merge.specs.Merging.{AllMove, AreUses, IsLeastSoFar, IsNotBelow, IsUse, nothing_left, used_rows};
 
 use crate::fault::{InputFault, MergeFault};
-use crate::gather::{clear_made, join_answers};
+use crate::gather::{answer_at, made_of};
 use crate::input::Input;
 use crate::read::Scratch;
 use crate::source::{Source, answer_from};
-use cube_core::{Agg, Answer, Key, Schema};
+use cube_core::{Agg, Answer, Key, Row, Schema};
 use std::alloc::{AllocError, Global};
 use std::cmp::Ordering;
 use std::io::Read;
@@ -66,75 +68,165 @@ fn is_same_key(key: &Key, other: &Key) -> bool
     matches!(key.compare(other), Ordering::Equal)
 }
 
+/// Memory in which rows with one key are joined: which inputs they are of, by flag and by place, and what their answers
+/// make.
+#[derive(Drop)]
+pub(crate) struct Joint {
+    pub(crate) used: Vec<bool>,
+    pub(crate) places: Vec<usize>,
+    pub(crate) column: Vec<Answer>,
+    pub(crate) made: Vec<Answer>,
+}
+
+impl Joint {
+    pub(crate) fn new(alloc: Global) -> Joint {
+        Joint {
+            used: Vec::new(alloc),
+            places: Vec::new(alloc),
+            column: Vec::new(alloc),
+            made: Vec::new(alloc),
+        }
+    }
+}
+
 /// Joins the answers of each row that has the key, and tells whose rows they are.
 pub(crate) fn join_rows<R: Read>(
     given: &[Agg],
     inputs: &[Input<R>],
     key: &Key,
-    used: &mut Vec<bool>,
-    made: &mut Vec<Answer>,
+    joint: &mut Joint,
 ) -> Result<(), MergeFault>
     requires { (k : ℕ) → IsNotBelow key.now (get_or inputs.now k nothing_left) }
-    ensures long { OnOk result (length used.new.items ≡ length inputs.now) }
-    ensures uses { OnOk result (AreUses key.now used.new.items inputs.now) }
+    ensures long { OnOk result (length joint.new.used.items ≡ length inputs.now) }
+    ensures uses { OnOk result (AreUses key.now joint.new.used.items inputs.now) }
     ensures made { OnOk result
-        (AreMade given.now (used_rows used.new.items inputs.now) made.new.items) }
-    ensures err { IfErr result (FailsToJoin inputs.now) }
+        (AreMade given.now (used_rows joint.new.used.items inputs.now) joint.new.made.items) }
+    ensures fit { OnOk result
+        (AreInRange given.now (used_rows joint.new.used.items inputs.now)) }
+    ensures err { IfErr result (FailsToJoin given.now inputs.now) }
 {
-    clear_made(given, made)?;
-    join_used(given, inputs, key, used, made.as_mut_slice())
+    find_used(inputs, key, &mut joint.used, &mut joint.places)?;
+    make_answers(
+        given,
+        inputs,
+        joint.places.as_slice(),
+        &mut joint.column,
+        &mut joint.made,
+    )
 }
 
-// Joins the answers of each row that has the key to what is made of no row.
-fn join_used<R: Read>(
-    given: &[Agg],
+// Tells whose rows have the key, by flag and by place.
+fn find_used<R: Read>(
     inputs: &[Input<R>],
     key: &Key,
     used: &mut Vec<bool>,
-    made: &mut [Answer],
-) -> Result<(), MergeFault>
-    requires long { length made.old ≡ length given.now }
-    requires nothing { AreMade given.now [] made.old }
-    requires least { (k : ℕ) → IsNotBelow key.now (get_or inputs.now k nothing_left) }
+    places: &mut Vec<usize>,
+) -> Result<(), AllocError>
+    requires { (k : ℕ) → IsNotBelow key.now (get_or inputs.now k nothing_left) }
     ensures long { OnOk result (length used.new.items ≡ length inputs.now) }
     ensures uses { OnOk result (AreUses key.now used.new.items inputs.now) }
-    ensures made { OnOk result (AreMade given.now (used_rows used.new.items inputs.now) made.new) }
-    ensures err { IfErr result (FailsToJoin inputs.now) }
+    ensures rows { OnOk result
+        (rows_of inputs.now places.new.items ≡ used_rows used.new.items inputs.now) }
+    ensures have_rows { OnOk result (HaveRows inputs.now places.new.items) }
 {
     used.clear();
+    places.clear();
     for place in 0..inputs.len() {
-        let Some(is_used) = join_one(given, &inputs[place], key, made) else {
-            return Err(fault_of(InputFault::Overflow, place, inputs[place].lines()));
-        };
+        let is_used = has_key(&inputs[place], key);
         used.push(is_used)?;
+        put_where(places, place, is_used)?;
     }
     Ok(())
 }
 
-// Joins the answers of the row of an input where it has the key, and tells whether it has; None where one is too large.
-fn join_one<R: Read>(
-    given: &[Agg],
-    input: &Input<R>,
-    key: &Key,
-    made: &mut [Answer],
-) -> Option<bool>
-    requires long { length made.old ≡ length given.now }
-    requires least { IsNotBelow key.now input.now }
-    ensures uses { IfSome result (λ used. IsUse key.now used input.now) }
-    ensures made { IfSome result (λ used. (rows : List Row) → AreMade given.now rows made.old →
-        AreMade given.now (rows ++ used_row used input.now) made.new) }
-    ensures too_large { IfNone result (HasRow input.now) }
+fn put_where(places: &mut Vec<usize>, place: usize, is_used: bool) -> Result<(), AllocError>
+    ensures { OnOk result (places.new.items ≡ places.old.items ++ place_where place is_used) }
 {
-    let Some(row) = input.row() else {
-        return Some(false);
-    };
-    if !is_same_key(&row.key, key) {
-        return Some(false);
+    if is_used {
+        places.push(place)?;
     }
-    if join_answers(given, made, row.answers.as_slice()) {
-        Some(true)
-    } else {
-        None
+    Ok(())
+}
+
+// Whether the row of an input has the key, where it isn't below it.
+fn has_key<R: Read>(input: &Input<R>, key: &Key) -> bool
+    requires { IsNotBelow key.now input.now }
+    ensures { IsUse key.now result input.now }
+{
+    match input.row() {
+        Some(row) => is_same_key(&row.key, key),
+        None => false,
+    }
+}
+
+// Puts what the rows of the inputs at these places make of each aggregate in place of what the list holds.
+fn make_answers<R: Read>(
+    given: &[Agg],
+    inputs: &[Input<R>],
+    places: &[usize],
+    column: &mut Vec<Answer>,
+    made: &mut Vec<Answer>,
+) -> Result<(), MergeFault>
+    requires { HaveRows inputs.now places.now }
+    ensures made { OnOk result (AreMade given.now (rows_of inputs.now places.now) made.new.items) }
+    ensures fit { OnOk result (AreInRange given.now (rows_of inputs.now places.now)) }
+    ensures err { IfErr result (FailsToMake given.now inputs.now places.now) }
+{
+    made.clear();
+    for place in 0..given.len() {
+        put_column(inputs, places, place, column)?;
+        match made_of(&given[place], column.as_slice()) {
+            Ok(answer) => made.push(answer)?,
+            Err(which) => return Err(overflow_of(inputs, places, which)),
+        }
+    }
+    Ok(())
+}
+
+// Puts the answers at a place of the rows of the inputs at these places in place of what the list holds.
+fn put_column<R: Read>(
+    inputs: &[Input<R>],
+    places: &[usize],
+    at: usize,
+    answers: &mut Vec<Answer>,
+) -> Result<(), AllocError>
+    ensures { OnOk result (answers.new.items ≡ column at (rows_of inputs.now places.now)) }
+{
+    answers.clear();
+    for place in places {
+        push_answer(answers, row_at(inputs, *place), at)?;
+    }
+    Ok(())
+}
+
+// Adds the answer of a row at a place, where there is a row.
+fn push_answer(answers: &mut Vec<Answer>, row: Option<&Row>, at: usize) -> Result<(), AllocError>
+    ensures { OnOk result (answers.new.items ≡ answers.old.items
+        ++ column at (option_to_list (option_map (λ row. row.now) row.entry))) }
+{
+    if let Some(row) = row {
+        answers.push(answer_at(row.answers.as_slice(), at))?;
+    }
+    Ok(())
+}
+
+fn row_at<R: Read>(inputs: &[Input<R>], place: usize) -> Option<&Row>
+    ensures { option_map (λ row. row.now) result ≡ (get_or inputs.now place nothing_left).row }
+{
+    match inputs.get(place) {
+        Some(input) => input.row(),
+        None => None,
+    }
+}
+
+// That a count or a sum of the rows of the inputs at these places is too large, as a merge tells it, by one of them.
+fn overflow_of<R: Read>(inputs: &[Input<R>], places: &[usize], which: usize) -> MergeFault
+    requires { HaveRows inputs.now places.now }
+    ensures { TellsOverflow inputs.now result }
+{
+    match places.get(which) {
+        Some(place) => fault_of(InputFault::Overflow, *place, inputs[*place].lines()),
+        None => MergeFault::Memory,
     }
 }
 
@@ -164,7 +256,7 @@ pub(crate) fn move_inputs<R: Read>(
     scratch: &mut Scratch,
 ) -> Result<(), MergeFault>
     requires { length used.now ≡ length inputs.old }
-    ensures ok { OnOk result (AllMove used.now inputs.old inputs.new) }
+    ensures ok { OnOk result (AllMove schema.now used.now inputs.old inputs.new) }
     ensures err { IfErr result (FailsToMoveAll schema.now used.now inputs.old) }
 {
     for place in 0..inputs.len() {

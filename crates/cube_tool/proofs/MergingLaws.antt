@@ -19,9 +19,11 @@ CanBeMerged-merged given wanted texts old new merged = (
     rows = merged.rows;
     as_many = merged.as_many;
     read = merged.read;
+    of_schema = merged.of_schema;
     ordered = merged.ordered;
     drawn = merged.drawn;
     merged = merged.merged;
+    fit = merged.fit;
     written = refl;
   },
 )

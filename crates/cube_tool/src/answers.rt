@@ -14,6 +14,7 @@ use crate::command::Failure;
 use crate::fault::TextFault;
 use crate::question::Question;
 use crate::refusals::print_refusals;
+use crate::reporter::Reporter;
 use cube_core::{Key, Pattern, Row, Schema};
 use cube_engine::Builder;
 use cube_text::{print_cells, print_cells_in_pieces, print_rows, write_pieces, write_whole};
@@ -22,14 +23,15 @@ use std::alloc::{AllocError, Global};
 use std::io::Write;
 use std::thread::Threads;
 
-/// Writes the answer to a question over what was built of a schema.
-pub fn answer<T: Threads + Sync, W: Write>(
+/// Writes the answer to a question over what was built of a schema, and tells a reporter what begins.
+pub fn answer<T: Threads + Sync, P: Reporter, W: Write>(
     rt: &T,
     alloc: Global,
     schema: &Schema,
     built: &Built,
     threads: usize,
     question: &Question,
+    reporter: &P,
     out: &mut W,
 ) -> Result<(), Failure>
     requires schema { schema_of_run built.now ≡ schema.now }
@@ -38,7 +40,7 @@ pub fn answer<T: Threads + Sync, W: Write>(
         result (W.contents out.old) (W.contents out.new) }
 {
     match question {
-        Question::Cube => Ok(write_cube(rt, alloc, schema, built, threads, out)?),
+        Question::Cube => Ok(write_cube(rt, alloc, schema, built, threads, reporter, out)?),
         Question::Slice { pattern } => Ok(write_slice(alloc, schema, built, pattern, out)?),
         Question::Drill { key, dimension } => {
             write_drill(alloc, schema, built, key, *dimension, out)
@@ -50,13 +52,15 @@ pub fn answer<T: Threads + Sync, W: Write>(
     }
 }
 
-/// Writes the printed cube of what was built of a schema, which so many threads sort and print.
-pub fn write_cube<T: Threads + Sync, W: Write>(
+/// Writes the printed cube of what was built of a schema, which so many threads sort and print, and tells a reporter
+/// what begins.
+pub fn write_cube<T: Threads + Sync, P: Reporter, W: Write>(
     rt: &T,
     alloc: Global,
     schema: &Schema,
     built: &Built,
     threads: usize,
+    reporter: &P,
     out: &mut W,
 ) -> Result<(), TextFault>
     requires { schema_of_run built.now ≡ schema.now }
@@ -64,6 +68,7 @@ pub fn write_cube<T: Threads + Sync, W: Write>(
         result (W.contents out.old) (W.contents out.new) }
 {
     let cells = built.ordered_with(rt, threads)?;
+    reporter.begins_writing(Some(cells.len()));
     let text = print_cells_in_pieces(rt, alloc, schema, &cells, threads)?;
     write_pieces(out, &text)?;
     Ok(())

@@ -6,6 +6,7 @@ pub mod command;
 mod fault;
 mod question;
 mod refusals;
+mod reporter;
 mod runs;
 
 pub use answers::{
@@ -13,8 +14,9 @@ pub use answers::{
 };
 pub use cube_merge::{InputFault, MergeFault};
 pub use cube_text::{WriteFault, print_cells, print_rows, write_whole};
-pub use cube_threads::Settings;
+pub use cube_threads::{Gate, OpenGate, Settings};
 pub use fault::{RunFault, TextFault};
 pub use question::Question;
 pub use refusals::print_refusals;
+pub use reporter::Reporter;
 pub use runs::{run, run_plain};

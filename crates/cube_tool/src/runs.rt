@@ -9,7 +9,7 @@ use crate::fault::RunFault;
 use crate::question::Question;
 use cube_core::Schema;
 use cube_engine::{Builder, build_plain};
-use cube_threads::{Built, Gate, Settings, build};
+use cube_threads::{Built, Gate, OpenGate, Settings, build};
 use std::alloc::Global;
 use std::io::{Read, Write};
 use std::sync::Wait;
@@ -39,7 +39,8 @@ pub fn run<T: Threads + Wait + Sync, R: Read + Drop + Send, G: Gate + Sync, W: W
 {
     let built = build(rt, alloc, schema, readers, settings, gate)?;
     has_builder(&built);
-    write_cube(rt, alloc, schema, &built, settings.threads(), out)?;
+    let threads = settings.threads();
+    write_cube(rt, alloc, schema, &built, threads, &OpenGate, out)?;
     Ok(built)
 }
 

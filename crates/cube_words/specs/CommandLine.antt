@@ -87,9 +87,13 @@ partial_option = flag (codes "partial")
 abbrev pub check_option : Rule
 check_option = flag (codes "check")
 
+-- `--quiet`, which shows no progress
+abbrev pub quiet_option : Rule
+quiet_option = flag (codes "quiet")
+
 -- a command with the feeds and the options of a run behind its words
 abbrev pub with_feeds : App → App
-with_feeds line = with_rule (with_rule (with_rule (with_rule line feed_words) ring_option) builders_option) threads_option
+with_feeds line = with_rule (with_rule (with_rule (with_rule (with_rule line feed_words) ring_option) builders_option) threads_option) quiet_option
 
 -- each command and its words
 abbrev pub check_line : App
@@ -111,10 +115,10 @@ abbrev pub rollup_line : App
 rollup_line = with_feeds (with_rule (with_rule (with_rule (new_app (codes "rollup")) schema_word) cell_word) dimension_word)
 
 abbrev pub live_line : App
-live_line = with_rule (with_rule (with_rule (with_rule (new_app (codes "live")) schema_word) optional_feed_words) ring_option) threads_option
+live_line = with_rule (with_rule (with_rule (with_rule (with_rule (new_app (codes "live")) schema_word) optional_feed_words) ring_option) threads_option) quiet_option
 
 abbrev pub merge_line : App
-merge_line = with_rule (with_rule (with_rule (with_rule (new_app (codes "merge")) schema_word) merged_words) partial_option) check_option
+merge_line = with_rule (with_rule (with_rule (with_rule (with_rule (new_app (codes "merge")) schema_word) merged_words) partial_option) check_option) quiet_option
 
 abbrev pub explain_line : App
 explain_line = with_rule (new_app (codes "explain")) code_word
@@ -174,6 +178,7 @@ pub record AreRunWords (rows : List Row) (run : RunWords) : Type 0 where
   pub ring : IsNumberOf (one_of (codes "ring") rows) (Some run.ring)
   pub builders : IsNumberOf (one_of (codes "builders") rows) (Some run.builders)
   pub threads : IsNumberOf (one_of (codes "threads") rows) run.threads
+  pub is_quiet : run.quiet ≡ is_given (one_of (codes "quiet") rows)
 
 -- a run has at least one feed, and its options, where they are given, are in their bounds
 pub record HasRoom (run : RunWords) : Type 0 where
@@ -190,6 +195,7 @@ pub record AreLiveWords (rows : List Row) (live : LiveWords) : Type 0 where
   pub feeds : words_of (codes "FEED") rows ≡ map (λ path. path.now) live.feeds.items
   pub ring : IsNumberOf (one_of (codes "ring") rows) (Some live.ring)
   pub threads : IsNumberOf (one_of (codes "threads") rows) live.threads
+  pub is_quiet : live.quiet ≡ is_given (one_of (codes "quiet") rows)
 
 -- the options of `live`, where they are given, are in their bounds
 pub record LiveHasRoom (live : LiveWords) : Type 0 where
@@ -203,6 +209,7 @@ pub record AreMergeWords (rows : List Row) (merge : MergeWords) : Type 0 where
   pub cubes : words_of (codes "CUBE") rows ≡ map (λ path. path.now) merge.cubes.items
   pub is_partial : merge.partial ≡ is_given (one_of (codes "partial") rows)
   pub is_checked : merge.check ≡ is_given (one_of (codes "check") rows)
+  pub is_quiet : merge.quiet ≡ is_given (one_of (codes "quiet") rows)
 
 -- a request to run has at least one feed and one to merge at least one cube, and the options are in their bounds
 abbrev pub IsInBounds : Request → Type 0

@@ -2,7 +2,7 @@
 ghost use Rattle.std.specs.Prelude.{◌≡◌, IfOk, false};
 ghost use Rattle.clap.specs.Words.{app_of, rule_of, shape_of, with_rule, with_subcommand};
 ghost use Rattle.clap.specs.declared.builder.command.Command.TheViews.{out-Command as fields_of};
-ghost use Rattle.cube_words.specs.CommandLine.{builders_option, cell_word, check_line, check_option, code_word, command_line, dimension_word, drill_line, explain_line, feed_words, live_line, merge_line, merged_words, named_line, optional_feed_words, partial_option, print_line, refusals_line, ring_option, rollup_line, schema_word, slice_line, threads_option, with_feeds};
+ghost use Rattle.cube_words.specs.CommandLine.{builders_option, cell_word, check_line, check_option, code_word, command_line, dimension_word, drill_line, explain_line, feed_words, live_line, merge_line, merged_words, named_line, optional_feed_words, partial_option, print_line, quiet_option, refusals_line, ring_option, rollup_line, schema_word, slice_line, threads_option, with_feeds};
 
 use clap::builder::ValueParser;
 use clap::{Arg, ArgAction, Command};
@@ -15,7 +15,7 @@ dimensions. Each feed is a CSV file of inserts, updates and deletes; the cube is
 which are present in the end.";
 
 /// The program's version, by the rules of Semantic Versioning 2.0.0. It stands here alone.
-const VERSION: &str = "1.1.0";
+const VERSION: &str = "1.2.0";
 
 /// The forms of a command line.
 const USAGE: &str = "datacube < FEED
@@ -298,7 +298,7 @@ fn live_command<'a>(alloc: Global) -> Result<Command<'a>, AllocError>
         .about("Keeps the cube right change by change, and answers questions in between")
         .after_help(AFTER_LIVE);
     let fed = with_word(with_word(command, schema(alloc))?, optional_feeds(alloc))?;
-    with_word(with_word(fed, ring(alloc))?, threads(alloc))
+    with_threads(alloc, with_word(fed, ring(alloc))?)
 }
 
 // The command `merge` with its words.
@@ -314,7 +314,7 @@ fn merge_command<'a>(alloc: Global) -> Result<Command<'a>, AllocError>
         alloc,
         "Writes the partial form again, so that what is printed can be merged too",
     );
-    with_word(with_word(named, partial)?, check(alloc))
+    with_check(alloc, with_word(named, partial)?)
 }
 
 // The command `explain` with its word.
@@ -337,8 +337,27 @@ fn with_all_feeds<'a>(alloc: Global, command: Command<'a>) -> Result<Command<'a>
 {
     let fed = with_word(command, feeds(alloc))?;
     let ringed = with_word(fed, ring(alloc))?;
-    let built = with_word(ringed, builders(alloc))?;
-    with_word(built, threads(alloc))
+    with_threads(alloc, with_word(ringed, builders(alloc))?)
+}
+
+// A command with the options for the number of threads and for no progress behind its words.
+fn with_threads<'a>(alloc: Global, command: Command<'a>) -> Result<Command<'a>, AllocError>
+    requires { (fields_of command).has_globals ≡ false }
+    ensures line { IfOk result (λ all.
+        app_of all ≡ with_rule (with_rule (app_of command.entry) threads_option) quiet_option) }
+    ensures local { IfOk result (λ all. (fields_of all).has_globals ≡ false) }
+{
+    with_word(with_word(command, threads(alloc))?, quiet(alloc))
+}
+
+// A command with the options to read all cubes first and for no progress behind its words.
+fn with_check<'a>(alloc: Global, command: Command<'a>) -> Result<Command<'a>, AllocError>
+    requires { (fields_of command).has_globals ≡ false }
+    ensures line { IfOk result (λ all.
+        app_of all ≡ with_rule (with_rule (app_of command.entry) check_option) quiet_option) }
+    ensures local { IfOk result (λ all. (fields_of all).has_globals ≡ false) }
+{
+    with_word(with_word(command, check(alloc))?, quiet(alloc))
 }
 
 // The word that names the schema file.
@@ -459,4 +478,15 @@ fn check<'a>(alloc: Global) -> Arg<'a>
         .long("check")
         .action(ArgAction::SetTrue)
         .help("Reads all cubes to their ends before it writes")
+}
+
+// The option for no progress.
+fn quiet<'a>(alloc: Global) -> Arg<'a>
+    ensures rule { rule_of result ≡ quiet_option }
+    ensures own { result.global ≡ false }
+{
+    Arg::new(alloc, "quiet")
+        .long("quiet")
+        .action(ArgAction::SetTrue)
+        .help("Shows no progress on standard error, where that is a terminal")
 }

@@ -19,6 +19,8 @@ pub struct RunWords<'a> {
     pub builders: u32,
     /// The number of threads, 1 to 16; none where the words leave it out.
     pub threads: Option<usize>,
+    /// Whether no progress is shown.
+    pub quiet: bool,
 }
 
 /// The files and the options of `live`.
@@ -32,6 +34,8 @@ pub struct LiveWords<'a> {
     pub ring: usize,
     /// The number of threads, 1 to 16; none where the words leave it out.
     pub threads: Option<usize>,
+    /// Whether no progress is shown.
+    pub quiet: bool,
 }
 
 /// The files and the options of `merge`.
@@ -45,6 +49,8 @@ pub struct MergeWords<'a> {
     pub partial: bool,
     /// Whether all cubes are read to their ends before the first line is written.
     pub check: bool,
+    /// Whether no progress is shown.
+    pub quiet: bool,
 }
 
 /// What the words of a command line ask for.
@@ -239,6 +245,7 @@ fn run_words<'a>(alloc: Global, words: &ArgMatches<'a>) -> Result<Option<RunWord
         ring: live.ring,
         builders: builders as u32,
         threads: live.threads,
+        quiet: live.quiet,
     }))
 }
 
@@ -267,6 +274,7 @@ fn live_words<'a>(
         feeds,
         ring,
         threads,
+        quiet: has_flag(words, "quiet"),
     }))
 }
 
@@ -293,6 +301,7 @@ fn merge_words<'a>(
         cubes,
         partial: has_flag(words, "partial"),
         check: has_flag(words, "check"),
+        quiet: has_flag(words, "quiet"),
     }))
 }
 

@@ -6,7 +6,11 @@ ghost use Rattle.std.specs.Prelude.{◌≡◌, ◌≤◌, length, vec_len, IfOk,
 ghost use Rattle.cube_tool.specs.Answering.{Fits};
 ghost use Rattle.cube_words.specs.CommandLine.{HasRoom, IsInBounds, IsUpTo, LiveHasRoom};
 
+mod watch;
+
+use crate::watch::Watch;
 use cube_core::Schema;
+use cube_progress::{Counts, CubeReader, FeedReader, Output, Phase, Progress};
 use cube_threads::Settings;
 use cube_tool::command::{
     Failure, LATER_NOTES, NOTES, Question, Status, answer_words, ask, check, check_cubes, explain,
@@ -16,9 +20,11 @@ use cube_tool::command::{
 use cube_tool::{InputFault, MergeFault, RunFault};
 use cube_words::{LiveWords, MergeWords, Request, RunWords, read_words, unreadable_words};
 use std::fs::File;
+use std::io::{IsTerminal, Stderr};
 use std::process::ExitCode;
 use std::sync::Wait;
 use std::thread::Threads;
+use std::time::Clock;
 use std::{env, io, mem, thread};
 
 /// The most threads that a run works with once its feeds have ended.
@@ -49,7 +55,7 @@ fn main(rt: HostRuntime) -> ExitCode {
 }
 
 // `threads` is the runtime too, as what starts threads.
-fn run<T: Threads + Wait + Sync>(rt: &HostRuntime, threads: &T) -> Result<Status, Failure> {
+fn run<T: Threads + Wait + Clock + Sync>(rt: &HostRuntime, threads: &T) -> Result<Status, Failure> {
     let alloc = rt.alloc();
     let words = match words_of(rt) {
         Ok(words) => words,
@@ -59,7 +65,7 @@ fn run<T: Threads + Wait + Sync>(rt: &HostRuntime, threads: &T) -> Result<Status
         }
     };
     match read_words(alloc, words.as_slice()) {
-        Ok(request) => obey(rt, threads, &request),
+        Ok(request) => watched(rt, threads, &request),
         Err(answer) => answer_words(alloc, &answer, &mut rt.stdout(), &mut rt.stderr()),
     }
 }
@@ -69,11 +75,65 @@ fn words_of(rt: &HostRuntime) -> io::Result<Vec<String>> {
     Ok(env::args(rt)?.collect(rt.alloc())?)
 }
 
-/// Does what is asked for.
-fn obey<T: Threads + Wait + Sync>(
+/// Does what is asked for, and shows how far it is, where that is wanted.
+fn watched<T: Threads + Wait + Clock + Sync>(
     rt: &HostRuntime,
     threads: &T,
     request: &Request,
+) -> Result<Status, Failure>
+    requires { IsInBounds request.now }
+{
+    let is_shown = shows_progress(rt, request);
+    let is_shared = rt.stdout().is_terminal();
+    let progress = Progress::new(threads, rt.alloc(), rt.stderr(), is_shown, is_shared);
+    if !is_shown {
+        return obey(rt, threads, request, &progress);
+    }
+    let seen = &progress;
+    thread::scope(
+        thread::scope_env(),
+        threads,
+        |scope| -> Result<Status, Failure>
+            requires { IsInBounds request.now }
+        {
+            let _ = scope.spawn(move || seen.show_until_over());
+            let ended = obey(rt, threads, request, seen);
+            seen.end();
+            ended
+        },
+    )
+}
+
+/// Whether it is shown how far a request is: it reads feeds or cubes, its words don't leave that out, and standard error
+/// is a terminal whose lines can be written over.
+fn shows_progress(rt: &HostRuntime, request: &Request) -> bool {
+    let is_quiet = match request {
+        Request::Print { run, .. }
+        | Request::Refusals { run }
+        | Request::Slice { run, .. }
+        | Request::Drill { run, .. }
+        | Request::RollUp { run, .. } => run.quiet,
+        Request::Live { live } => live.quiet,
+        Request::Merge { merge } => merge.quiet,
+        _ => true,
+    };
+    !is_quiet && rt.stderr().is_terminal() && can_write_over(rt)
+}
+
+/// Whether the lines of the terminal can be written over, as the variable TERM tells.
+fn can_write_over(rt: &HostRuntime) -> bool {
+    match env::var(rt, "TERM") {
+        Ok(term) => !term.is_empty() && term.as_str() != "dumb",
+        Err(_) => false,
+    }
+}
+
+/// Does what is asked for.
+fn obey<T: Threads + Wait + Clock + Sync>(
+    rt: &HostRuntime,
+    threads: &T,
+    request: &Request,
+    progress: &Progress<'_, T, Stderr>,
 ) -> Result<Status, Failure>
     requires { IsInBounds request.now }
 {
@@ -82,21 +142,27 @@ fn obey<T: Threads + Wait + Sync>(
         Request::Sample => run_sample(alloc, rt.stdin(), &mut rt.stdout()),
         Request::Check { schema } => check(alloc, open_schema(rt, schema)?, &mut rt.stdout()),
         Request::Explain { code } => explain_code(rt, *code),
-        Request::Print { run, partial } => print(rt, threads, run, *partial),
-        Request::Refusals { run } => answer(rt, threads, run, Asked::Refusals),
-        Request::Slice { run, cell } => answer(rt, threads, run, Asked::Slice { cell }),
+        Request::Print { run, partial } => print(rt, threads, run, *partial, progress),
+        Request::Refusals { run } => answer(rt, threads, run, Asked::Refusals, progress),
+        Request::Slice { run, cell } => answer(rt, threads, run, Asked::Slice { cell }, progress),
         Request::Drill {
             run,
             cell,
             dimension,
-        } => answer(rt, threads, run, Asked::Drill { cell, dimension }),
+        } => answer(rt, threads, run, Asked::Drill { cell, dimension }, progress),
         Request::RollUp {
             run,
             cell,
             dimension,
-        } => answer(rt, threads, run, Asked::RollUp { cell, dimension }),
-        Request::Live { live } => serve(rt, threads, live),
-        Request::Merge { merge } => merge_files(rt, merge),
+        } => answer(
+            rt,
+            threads,
+            run,
+            Asked::RollUp { cell, dimension },
+            progress,
+        ),
+        Request::Live { live } => serve(rt, threads, live, progress),
+        Request::Merge { merge } => merge_files(rt, merge, progress),
     }
 }
 
@@ -120,52 +186,59 @@ fn explain_later(rt: &HostRuntime, code: Option<&str>) -> Result<Status, Failure
 }
 
 /// Prints the cube of feeds, under the schema or its partial form.
-fn print<T: Threads + Wait + Sync>(
+fn print<T: Threads + Wait + Clock + Sync>(
     rt: &HostRuntime,
     threads: &T,
     words: &RunWords,
     is_partial: bool,
+    progress: &Progress<'_, T, Stderr>,
 ) -> Result<Status, Failure>
     requires { HasRoom words.now }
 {
     let schema = schema_of(rt, words.schema, &words.feeds, 1)?;
     if is_partial {
         let partial = schema.partial(rt.alloc())?;
-        return answer_under(rt, threads, words, &partial, Asked::Cube);
+        return answer_under(rt, threads, words, &partial, Asked::Cube, progress);
     }
-    answer_under(rt, threads, words, &schema, Asked::Cube)
+    answer_under(rt, threads, words, &schema, Asked::Cube, progress)
 }
 
 /// Answers a command with feeds.
-fn answer<T: Threads + Wait + Sync>(
+fn answer<T: Threads + Wait + Clock + Sync>(
     rt: &HostRuntime,
     threads: &T,
     words: &RunWords,
     asked: Asked,
+    progress: &Progress<'_, T, Stderr>,
 ) -> Result<Status, Failure>
     requires { HasRoom words.now }
 {
     let schema = schema_of(rt, words.schema, &words.feeds, 1)?;
-    answer_under(rt, threads, words, &schema, asked)
+    answer_under(rt, threads, words, &schema, asked, progress)
 }
 
 /// Answers a command with feeds under a schema.
-fn answer_under<T: Threads + Wait + Sync>(
+fn answer_under<T: Threads + Wait + Clock + Sync>(
     rt: &HostRuntime,
     threads: &T,
     words: &RunWords,
     schema: &Schema,
     asked: Asked,
+    progress: &Progress<'_, T, Stderr>,
 ) -> Result<Status, Failure>
     requires room { HasRoom words.now }
     requires feeds { length words.now.feeds.items ≤ 64 }
 {
     let alloc = rt.alloc();
     let question = question_of(rt, schema, asked)?;
-    let feeds = open_feeds(rt, &words.feeds)?;
+    let feeds = open_feeds(rt, &words.feeds, progress.counts())?;
     let settings = settings_of(threads, words.ring, words.builders, words.threads);
-    let out = &mut rt.stdout();
-    let (status, built) = ask(threads, alloc, schema, feeds, &settings, &question, out)?;
+    progress.begin(Phase::Reading { feeds: feeds.len() });
+    let watch = Watch { progress };
+    let out = &mut Output::new(rt.stdout(), progress);
+    let (status, built) = ask(
+        threads, alloc, schema, feeds, &settings, &question, &watch, out,
+    )?;
     // The process ends after this, so what was built isn't taken apart.
     mem::forget(built);
     Ok(status)
@@ -197,22 +270,31 @@ fn question_of(rt: &HostRuntime, schema: &Schema, asked: Asked) -> Result<Questi
 }
 
 /// Serves the records of standard input over a cube that is kept right.
-fn serve<T: Threads + Wait + Sync>(
+fn serve<T: Threads + Wait + Clock + Sync>(
     rt: &HostRuntime,
     threads: &T,
     words: &LiveWords,
+    progress: &Progress<'_, T, Stderr>,
 ) -> Result<Status, Failure>
     requires { LiveHasRoom words.now }
 {
     let schema = schema_of(rt, words.schema, &words.feeds, 0)?;
-    let feeds = open_feeds(rt, &words.feeds)?;
+    let feeds = open_feeds(rt, &words.feeds, progress.counts())?;
     let settings = settings_of(threads, words.ring, 1, words.threads);
-    let (input, out) = (rt.stdin(), &mut rt.stdout());
-    live(threads, rt.alloc(), &schema, feeds, &settings, input, out)
+    progress.begin(Phase::Reading { feeds: feeds.len() });
+    let watch = Watch { progress };
+    let (alloc, input, out) = (rt.alloc(), rt.stdin(), &mut rt.stdout());
+    live(
+        threads, alloc, &schema, feeds, &settings, &watch, input, out,
+    )
 }
 
 /// Merges printed cubes.
-fn merge_files(rt: &HostRuntime, words: &MergeWords) -> Result<Status, Failure> {
+fn merge_files<T: Wait + Clock>(
+    rt: &HostRuntime,
+    words: &MergeWords,
+    progress: &Progress<'_, T, Stderr>,
+) -> Result<Status, Failure> {
     let alloc = rt.alloc();
     if words.cubes.len() > 64 {
         return Err(Failure::TooManyCubes);
@@ -227,10 +309,14 @@ fn merge_files(rt: &HostRuntime, words: &MergeWords) -> Result<Status, Failure> 
     let partial = schema.partial(alloc)?;
     let wanted = if words.partial { &partial } else { &schema };
     if words.check {
-        check_cubes(alloc, &partial, wanted, open_cubes(rt, &words.cubes)?)?;
+        let cubes = open_cubes(rt, &words.cubes, progress.counts())?;
+        progress.begin(Phase::Checking { cubes: cubes.len() });
+        check_cubes(alloc, &partial, wanted, cubes)?;
     }
-    let cubes = open_cubes(rt, &words.cubes)?;
-    merge_cubes(alloc, &partial, wanted, cubes, &mut rt.stdout())
+    let cubes = open_cubes(rt, &words.cubes, progress.counts())?;
+    progress.begin(Phase::Merging { cubes: cubes.len() });
+    let out = &mut Output::new(rt.stdout(), progress);
+    merge_cubes(alloc, &partial, wanted, cubes, out)
 }
 
 /// The settings of a run: those that the words give, and else as many threads as the machine has.
@@ -301,7 +387,11 @@ fn open_schema(rt: &HostRuntime, path: &str) -> Result<File, Failure> {
 }
 
 /// The files of the feeds, opened in their order.
-fn open_feeds(rt: &HostRuntime, paths: &[&str]) -> Result<Vec<File>, Failure>
+fn open_feeds<'c>(
+    rt: &HostRuntime,
+    paths: &[&str],
+    counts: Option<&'c Counts>,
+) -> Result<Vec<FeedReader<'c, File>>, Failure>
     requires { length paths.now ≤ 64 }
     ensures { IfOk result (λ files. vec_len files ≡ length paths.now) }
 {
@@ -311,7 +401,7 @@ fn open_feeds(rt: &HostRuntime, paths: &[&str]) -> Result<Vec<File>, Failure>
         let Ok(file) = File::open(rt, path_of(path)) else {
             return Err(Failure::FeedUnreadable { source });
         };
-        if files.push(file).is_err() {
+        if files.push(FeedReader::new(file, counts)).is_err() {
             return Err(Failure::Run(RunFault::Memory));
         }
     }
@@ -319,7 +409,11 @@ fn open_feeds(rt: &HostRuntime, paths: &[&str]) -> Result<Vec<File>, Failure>
 }
 
 /// The files of the cubes to merge, opened in their order.
-fn open_cubes(rt: &HostRuntime, paths: &[&str]) -> Result<Vec<File>, Failure>
+fn open_cubes<'c>(
+    rt: &HostRuntime,
+    paths: &[&str],
+    counts: Option<&'c Counts>,
+) -> Result<Vec<CubeReader<'c, File>>, Failure>
     requires { length paths.now ≤ 64 }
 {
     let mut files = Vec::new(rt.alloc());
@@ -333,7 +427,7 @@ fn open_cubes(rt: &HostRuntime, paths: &[&str]) -> Result<Vec<File>, Failure>
                 record,
             }));
         };
-        if files.push(file).is_err() {
+        if files.push(CubeReader::new(file, counts)).is_err() {
             return Err(Failure::Merge(MergeFault::Memory));
         }
     }

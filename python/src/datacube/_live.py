@@ -5,11 +5,12 @@ import contextlib
 import csv
 import io
 import operator
+import shutil
 import subprocess
 import tempfile
 import threading
 from types import TracebackType
-from typing import List, Literal, Optional, Sequence, Type, Union
+from typing import IO, Callable, List, Literal, Optional, Sequence, Type, Union
 
 from ._ask import Given
 from ._cells import KEEP, Cell, Mark, Named, Pattern, fields_of, in_order, text_of
@@ -155,16 +156,24 @@ class Live:
             raise Failure(code, meaning_of(code))
         return text.decode("utf-8")
 
+    def send(self, changes: IO[str]) -> None:
+        """Sends changes that are written as the records of a session, from a file's place to its end, and hands them over. They go
+        out as they are: the caller answers for what they say, and that they hold no question."""
+        self._write(lambda: shutil.copyfileobj(changes, self._input), True)
+
     def flush(self) -> None:
         """Hands the changes until now over to the program, which any question does too."""
         self._send([], True)
 
     def _send(self, records: Sequence[Sequence[str]], at_once: bool) -> None:
+        self._write(lambda: self._records.writerows(records), at_once)
+
+    def _write(self, write: Callable[[], None], at_once: bool) -> None:
         with self._writing:
             if self.status is not None:
                 raise self._end()
             try:
-                self._records.writerows(records)
+                write()
                 if at_once:
                     self._input.flush()
             except BrokenPipeError:

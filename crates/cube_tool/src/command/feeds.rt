@@ -3,30 +3,33 @@ ghost use Rattle.std.specs.Prelude.{◌≡◌, ◌≤◌, map, vec_len, IfOk, If
 ghost use Rattle.cube_tool.specs.Answering.{FailsToAnswer, Fits, HasTaken, status_over};
 ghost use Rattle.cube_tool.specs.Run.{IsTextOf, OfFeeds, Wrote};
 
-use crate::answers::{answer, has_builder};
+use crate::answers::{answer, first_builder, has_builder};
 use crate::command::failure::Failure;
 use crate::command::status::{Status, status_of_run};
 use crate::question::Question;
+use crate::reporter::Reporter;
 use cube_core::Schema;
-use cube_threads::{Built, OpenGate, Settings, build};
+use cube_threads::{Built, Gate, Settings, build};
 use std::alloc::Global;
 use std::io::{Read, Write};
 use std::sync::Wait;
 use std::thread::Threads;
 
-/// Writes the answer to a question over 1 to 64 feeds, each read on a thread of its own.
+/// Writes the answer to a question over 1 to 64 feeds, each read on a thread of its own. The watcher is the gate of the
+/// reading, and is told what begins once the feeds have ended.
 ///
 /// What was built comes back with the status, which tells whether a line of a feed was refused. Nothing was written on
 /// a failure, but where the writing failed: then the first bytes went out, as many as the failure says. A drill-down
 /// may be refused, once all feeds were taken: its key isn't ALL in the dimension, its grouping set with the dimension
 /// isn't kept, or memory ran out.
-pub fn ask<T: Threads + Wait + Sync, R: Read + Drop + Send, W: Write>(
+pub fn ask<T: Threads + Wait + Sync, R: Read + Drop + Send, G: Gate + Reporter + Sync, W: Write>(
     rt: &T,
     alloc: Global,
     schema: &Schema,
     readers: Vec<R>,
     settings: &Settings,
     question: &Question,
+    watcher: &G,
     out: &mut W,
 ) -> Result<(Status, Built), Failure>
     requires readers { (1 ≤ vec_len readers) × (vec_len readers ≤ 64) }
@@ -37,8 +40,18 @@ pub fn ask<T: Threads + Wait + Sync, R: Read + Drop + Send, W: Write>(
     ensures err { IfErr result (λ failure. FailsToAnswer question.now schema.now
         (map R.Read.remaining readers.items) failure (W.contents out.old) (W.contents out.new)) }
 {
-    let built = build(rt, alloc, schema, readers, settings, &OpenGate)?;
+    let built = build(rt, alloc, schema, readers, settings, watcher)?;
     has_builder(&built);
-    answer(rt, alloc, schema, &built, settings.threads(), question, out)?;
+    tell_of(watcher, question, &built);
+    let threads = settings.threads();
+    answer(rt, alloc, schema, &built, threads, question, watcher, out)?;
     Ok((status_of_run(&built), built))
+}
+
+// Tells a reporter what begins with a question over what was built: cells are put in order, or refusals are written.
+fn tell_of<P: Reporter>(reporter: &P, question: &Question, built: &Built) {
+    match question {
+        Question::Refusals => reporter.begins_writing(None),
+        _ => reporter.begins_sorting(first_builder(built).facts()),
+    }
 }

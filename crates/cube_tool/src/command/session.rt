@@ -6,27 +6,36 @@ ghost use Rattle.cube_tool.specs.Session.{FailsToServe, ServesOver};
 
 use crate::command::failure::Failure;
 use crate::command::status::{Status, status_after};
+use crate::reporter::Reporter;
 use cube_core::Schema;
 use cube_feed::RecordReader;
 use cube_live::{NoJournal, open, serve};
-use cube_threads::{OpenGate, Settings};
+use cube_threads::{Gate, Settings};
 use std::alloc::Global;
 use std::io::{Read, Write};
 use std::sync::Wait;
 use std::thread::Threads;
 
 /// Takes at most 64 feeds, each read on a thread of its own, and then the records of the input, which has no header:
-/// each is a change of a source, 1 to 64, or a question, whose reply is written and flushed before the next is read.
+/// each is a change of a source, 1 to 64, or a question, whose reply is written and flushed before the next is read. The
+/// watcher is the gate of the reading, and is told when the session begins.
 ///
 /// The status tells whether a line of a feed or a change was refused. Where a feed is at fault nothing was written; where
 /// the session failed the replies to the records before it went out, but where the writing failed: then the first bytes
 /// of them, as many as the failure says.
-pub fn live<T: Threads + Wait + Sync, R: Read + Drop + Send, I: Read + Drop, W: Write>(
+pub fn live<
+    T: Threads + Wait + Sync,
+    R: Read + Drop + Send,
+    G: Gate + Reporter + Sync,
+    I: Read + Drop,
+    W: Write,
+>(
     rt: &T,
     alloc: Global,
     schema: &Schema,
     readers: Vec<R>,
     settings: &Settings,
+    watcher: &G,
     input: I,
     out: &mut W,
 ) -> Result<Status, Failure>
@@ -37,7 +46,8 @@ pub fn live<T: Threads + Wait + Sync, R: Read + Drop + Send, I: Read + Drop, W: 
     ensures err { IfErr result (λ failure. FailsToServe schema.now (map R.Read.remaining readers.items)
         (option_map records_of (I.remaining input)) failure (W.contents out.old) (W.contents out.new)) }
 {
-    let mut live = open(rt, alloc, schema, readers, settings, &OpenGate)?;
+    let mut live = open(rt, alloc, schema, readers, settings, watcher)?;
+    watcher.begins_serving();
     let mut records = RecordReader::new(alloc, input);
     serve(alloc, &mut live, &mut records, &mut NoJournal, out)?;
     Ok(status_after(live.builder()))

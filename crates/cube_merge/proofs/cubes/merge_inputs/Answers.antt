@@ -12,10 +12,10 @@ returns-clause-ok g c =
     let olds = c.args.inputs.now in
     let news = c.move_inputs.new.inputs in
     let same : length news ≡ length olds = c.move_inputs.auto.inputs in
-    let moved : AllMove us olds news = rw c.as_slice.ensures.value at (c.in_ok-move_inputs.ensures.ok) in
+    let moved : AllMove c.args.given.now us olds news = rw c.as_slice.ensures.value at (c.in_ok-move_inputs.ensures.ok) in
     let used = c.in_ok-used.ensures {u = tt} in
     on_ok_weaker c.merge_rows.result (λ rest starts fresh.
-    let r = rest starts (IsMerging-begun c.args.given.now.aggregates c.args.wanted.now.aggregates starts olds news us used.used fresh same moved) in
+    let r = rest starts (IsMerging-begun c.args.given.now c.args.wanted.now.aggregates starts olds news us used.used fresh same moved) in
     (r.0, r.1, r.2 ∙ same, r.3, r.4, r.5)) c.merge_rows.ensures.ok
 
 pub returns-clause-err : goal.returns-clause-err
@@ -24,10 +24,10 @@ returns-clause-err g c =
     let olds = c.args.inputs.now in
     let news = c.move_inputs.new.inputs in
     let same : length news ≡ length olds = c.move_inputs.auto.inputs in
-    let moved : AllMove us olds news = rw c.as_slice.ensures.value at (c.in_ok-move_inputs.ensures.ok) in
+    let moved : AllMove c.args.given.now us olds news = rw c.as_slice.ensures.value at (c.in_ok-move_inputs.ensures.ok) in
     let used = c.in_ok-used.ensures {u = tt} in
     IfErr-weaker c.merge_rows.result _ _ (λ fault rest. λ starts fresh. inr (subst (λ n. Stops c.args.given.now c.args.wanted.now starts n fault (g.W.Write.contents c.args.w.now) (g.W.Write.contents c.merge_rows.new.w)) same
-    (rest starts (IsMerging-begun c.args.given.now.aggregates c.args.wanted.now.aggregates starts olds news us used.used fresh same moved)))) c.merge_rows.ensures.err
+    (rest starts (IsMerging-begun c.args.given.now c.args.wanted.now.aggregates starts olds news us used.used fresh same moved)))) c.merge_rows.ensures.err
 
 pub returns-in_err-move_inputs-clause-err : goal.returns-in_err-move_inputs-clause-err
 returns-in_err-move_inputs-clause-err g c =

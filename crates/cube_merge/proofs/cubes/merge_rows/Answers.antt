@@ -1,9 +1,8 @@
-use Rattle.std.proofs.Common.{◌≡◌, ◌∙◌, ◌++◌, ◌∷◌, [], true, false, length, rules, arith, length-append, refl, sym, ap, subst}
+use Rattle.std.proofs.Common.{◌≡◌, ◌∙◌, ◌++◌, ◌∷◌, [], true, false, length, rules, arith, length-append, refl, sym, subst}
 use Rattle.std.proofs.KnownBytes.{Appends-nil, Appends-trans}
 use Rattle.std.proofs.lemmas.Result.{err_from_is_err_and}
 use Rattle.std.specs.Io.KnownBytes.{Appends}
 use Rattle.cube_core.specs.Text.{text_of_rows}
-use Rattle.cube_merge.specs.Faults.{FailsToSend}
 use Rattle.cube_merge.specs.Merging.{PutsNext}
 use Rattle.cube_merge.specs.declared.fault.MergeFault.TheVariants.{Memory}
 use Rattle.cube_merge.proofs.CubesLaws.{text_of_rows-more, text_of_rows-push}
@@ -25,7 +24,7 @@ returns-in_err-put_next-clause-err g c =
 pub returns-in_err-send-clause-err : goal.returns-in_err-send-clause-err
 returns-in_err-send-clause-err g c =
     let off : c.in_ok-put_next.field-0 ≡ false = search rules in
-    let put = subst (λ b. PutsNext c.args.given.now.aggregates c.args.sources.now c.loop.inputs c.put_next.new.inputs c.loop.desk.text.items c.put_next.new.desk.text.items b) off (c.in_ok-put_next.ensures.ok) in
+    let put = subst (λ b. PutsNext c.args.given.now c.args.sources.now c.loop.inputs c.put_next.new.inputs c.loop.desk.text.items c.put_next.new.desk.text.items b) off (c.in_ok-put_next.ensures.ok) in
     let p = err_from_is_err_and c.from_residual-in_err-send.result c.from_residual-in_err-send.ensures.1 in
     rw (p.1, p.2) (λ starts m.
     let so_far = c.loop.invariant starts m in
@@ -35,7 +34,7 @@ returns-in_err-send-clause-err g c =
 pub returns-then-not-branch-clause-ok : goal.returns-then-not-branch-clause-ok
 returns-then-not-branch-clause-ok g c starts m =
     let off : c.in_ok-put_next.field-0 ≡ false = search rules in
-    let put = subst (λ b. PutsNext c.args.given.now.aggregates c.args.sources.now c.loop.inputs c.put_next.new.inputs c.loop.desk.text.items c.put_next.new.desk.text.items b) off (c.in_ok-put_next.ensures.ok) in
+    let put = subst (λ b. PutsNext c.args.given.now c.args.sources.now c.loop.inputs c.put_next.new.inputs c.loop.desk.text.items c.put_next.new.desk.text.items b) off (c.in_ok-put_next.ensures.ok) in
     let so_far = c.loop.invariant starts m in
     let sent = c.in_ok-send.ensures.ok in
     let last : Appends (g.W.Write.contents c.loop.w) (g.W.Write.contents c.send.new.w) c.loop.desk.text.items = rw (put.0) at (rw c.as_slice.ensures.value at sent.1) in (
@@ -50,7 +49,7 @@ returns-then-not-branch-clause-ok g c starts m =
 pub returns-in-Err-clause-err : goal.returns-in-Err-clause-err
 returns-in-Err-clause-err g c starts m =
     let on : c.in_ok-put_next.field-0 ≡ true = search rules in
-    let put = subst (λ b. PutsNext c.args.given.now.aggregates c.args.sources.now c.loop.inputs c.put_next.new.inputs c.loop.desk.text.items c.put_next.new.desk.text.items b) on (c.in_ok-put_next.ensures.ok) c.args.wanted.now.aggregates c.requires in
+    let put = subst (λ b. PutsNext c.args.given.now c.args.sources.now c.loop.inputs c.put_next.new.inputs c.loop.desk.text.items c.put_next.new.desk.text.items b) on (c.in_ok-put_next.ensures.ok) c.args.wanted.now.aggregates c.requires in
     let so_far = c.loop.invariant starts m in
     Stops-sending c.args.given.now c.args.wanted.now starts (length c.args.inputs.now) c.put_next.new.inputs (so_far.0 ++ put.0 ∷ []) so_far.1 c.put_next.new.desk.text.items
     (c.put_next.auto.inputs ∙ so_far.2) (put.2 starts so_far.0 so_far.3) (text_of_rows-more c.args.wanted.now so_far.0 put.0 so_far.1 c.loop.desk.text.items c.put_next.new.desk.text.items so_far.5 put.1)
@@ -59,7 +58,7 @@ returns-in-Err-clause-err g c starts m =
 pub loop-preserved : goal.loop-preserved
 loop-preserved g c starts m =
     let on : c.in_ok-put_next.field-0 ≡ true = search rules in
-    let put = subst (λ b. PutsNext c.args.given.now.aggregates c.args.sources.now c.loop.inputs c.put_next.new.inputs c.loop.desk.text.items c.put_next.new.desk.text.items b) on (c.in_ok-put_next.ensures.ok) c.args.wanted.now.aggregates c.requires in
+    let put = subst (λ b. PutsNext c.args.given.now c.args.sources.now c.loop.inputs c.put_next.new.inputs c.loop.desk.text.items c.put_next.new.desk.text.items b) on (c.in_ok-put_next.ensures.ok) c.args.wanted.now.aggregates c.requires in
     let so_far = c.loop.invariant starts m in
     let sent = c.in-Ok.ensures.ok in (
       so_far.0 ++ put.0 ∷ [],

@@ -10,7 +10,7 @@ returns-clause-ok g c wanted sources =
       put.0,
       put.1,
       λ starts rows m.
-          IsMerging-step c.args.given.now.aggregates wanted starts c.args.inputs.now c.move_inputs.new.inputs rows c.put_row.new.desk.used.items put.0 m next.wide c.move_inputs.auto.inputs next.uses next.some (next.answers wanted sources)
+          IsMerging-step c.args.given.now wanted starts c.args.inputs.now c.move_inputs.new.inputs rows c.put_row.new.desk.joint.used.items put.0 m next.wide c.move_inputs.auto.inputs next.uses next.some (next.answers wanted sources) next.fit
           (rw c.as_slice.ensures.value at (c.in_ok-move_inputs.ensures.ok)),
     )
 
@@ -18,4 +18,4 @@ pub returns-in_err-move_inputs-clause-err : goal.returns-in_err-move_inputs-clau
 returns-in_err-move_inputs-clause-err g c =
     let next = (c.in_ok-put_row.ensures.ok).2 in
     let p = err_from_is_err_and c.from_residual-in_err-move_inputs.result c.from_residual-in_err-move_inputs.ensures.1 in
-    rw (p.1, p.2) (StepFails-moves c.args.given.now c.put_row.new.desk.used.items c.args.inputs.now _ _ next.uses (rw c.as_slice.ensures.value at c.in_err-move_inputs.ensures.err))
+    rw (p.1, p.2) (StepFails-moves c.args.given.now c.put_row.new.desk.joint.used.items c.args.inputs.now _ _ next.uses (rw c.as_slice.ensures.value at c.in_err-move_inputs.ensures.err))

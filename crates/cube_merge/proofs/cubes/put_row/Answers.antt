@@ -1,10 +1,10 @@
-use Rattle.std.proofs.Common.{◌≡◌, ◌∙◌, ap, refl, sym, Some, get_or}
+use Rattle.std.proofs.Common.{◌≡◌, ◌∙◌, ap, refl, Some, get_or}
 use Rattle.std.proofs.lemmas.Result.{err_from_is_err_and}
 use Rattle.cube_core.specs.declared.key.Row.{Row}
-use Rattle.cube_merge.specs.Merging.{InputView, nothing_left}
+use Rattle.cube_merge.specs.Merging.{nothing_left}
 use Rattle.cube_merge.proofs.LeastLaws.{at_place, used_rows-some}
 use Rattle.cube_merge.proofs.CubesLaws.{IsLeastSoFar-all}
-use Rattle.cube_merge.proofs.FaultLaws.{StepFails-join, StepFails-row}
+use Rattle.cube_merge.proofs.FaultLaws.{StepFails-join}
 use Rattle.cube_merge.proofs.cubes.put_row.Goals as goal
 
 pub join_rows-requires : goal.join_rows-requires
@@ -25,18 +25,13 @@ returns-clause-ok g c =
       record {
         wide = joined.long;
         uses = joined.uses;
-        some = used_rows-some c.in-Some.row.now.key c.join_rows.new.used.items c.args.inputs.now c.args.place c.in-Some.row.now joined.long joined.uses there refl;
+        fit = rw c.aggregates.ensures.value at joined.fit;
+        some = used_rows-some c.in-Some.row.now.key c.join_rows.new.joint.used.items c.args.inputs.now c.args.place c.in-Some.row.now joined.long joined.uses there refl;
         answers = λ wanted sources. (rw c.as_slice.ensures.value at (c.in_ok-put_answers.ensures {u = tt})) c.args.given.now.aggregates wanted _ (rw c.aggregates.ensures.value at joined.made) sources;
       },
     )
 
-pub returns-in_default-clause-err : goal.returns-in_default-clause-err
-returns-in_default-clause-err g c =
-    let inputs = c.args.inputs.now in
-    StepFails-row c.args.given.now inputs c.args.place c.lines.result c.requires.1 c.fault_of.result c.fault_of.ensures c.requires.0 c.requires.2
-    (c.lines.ensures ∙ ap (λ (x : InputView). x.lines) (sym (at_place inputs c.args.place c.index-inputs-place-in_default.result c.requires.0 c.index-inputs-place-in_default.is)))
-
 pub returns-in_err-join_rows-clause-err : goal.returns-in_err-join_rows-clause-err
 returns-in_err-join_rows-clause-err g c =
     let p = err_from_is_err_and c.from_residual.result c.from_residual.ensures.1 in
-    rw (p.1, p.2) (StepFails-join c.args.given.now c.args.inputs.now _ c.in_err-join_rows.ensures.err)
+    rw (p.1, p.2) (StepFails-join c.args.given.now c.args.inputs.now _ (rw c.aggregates.ensures.value at c.in_err-join_rows.ensures.err))

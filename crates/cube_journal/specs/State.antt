@@ -1,0 +1,160 @@
+-- What a journal's store shows, and what each call does to it.
+use Rattle.std.specs.Prelude.{◌≡◌, ◌≤◌, ◌<◌, ◌^◌, ℕ, false, List, [], ◌∷◌, ◌++◌, length, IsTrue, unwrap_or, ◌⊎◌, ⊤}
+use Rattle.std.specs.List.{AllByRecursion}
+use Rattle.sqlite_value.specs.Order.{Row}
+use Rattle.sqlite_disk.specs.Disk.{MoreFaults}
+use Rattle.sqlite_trees.specs.declared.store.Shape.TheVariants.{Table}
+use Rattle.sqlite_trees.specs.declared.error.StoreError.{StoreError}
+use Rattle.sqlite_trees.specs.declared.error.StoreError.TheVariants.{OutOfMemory, Io, Corrupt, Full, Broken, Unstorable}
+use Rattle.sqlite_trees.specs.Tree.{Trees}
+use Rattle.sqlite_trees.specs.View.{View, doubt, IsClean}
+use Rattle.cube_journal.specs.Rows.{Entry, IsOfSource, rows_from, entries_in, AreChanges, AreNotes, DifferAt, IsForeignAt}
+use Rattle.cube_journal.specs.declared.fault.OpenFault.{OpenFault}
+use Rattle.cube_journal.specs.declared.fault.OpenFault.TheVariants as kind
+
+-- The changes so far, those that are committed, and what is noted of the feeds (this project's choice).
+abbrev pub held_in : View → List Entry
+held_in v = entries_in (v.trees 0)
+
+abbrev pub stored_in : View → List Entry
+stored_in v = entries_in (v.committed 0)
+
+abbrev pub noted_in : View → List Entry
+noted_in v = entries_in (v.committed 1)
+
+-- The tables of a database are those of these changes and these notes, byte for byte (this project's choice).
+pub record Holds (db : Trees) (changes notes : List Entry) : Type 0 where
+  pub changes_are : db 0 ≡ rows_from 1 changes
+  pub sources : AllByRecursion IsOfSource changes
+  pub few : length changes ≤ 2 ^ 62
+  pub notes_are : db 1 ≡ rows_from 0 notes
+
+-- The store has the two tables, in the transaction as in the last commit (this project's choice).
+pub record HasTables (v : View) : Type 0 where
+  pub changes : v.shape 0 ≡ Table
+  pub feeds : v.shape 1 ≡ Table
+  pub unaltered : v.committed_shape ≡ v.shape
+
+-- What holds of a journal's store while no fault has shut it (this project's choice).
+pub record IsStanding (v : View) (count committed : ℕ) : Type 0 where
+  pub sound : v.is_broken ≡ false
+  pub held : AreChanges (v.trees 0) count
+  pub stored : AreChanges (v.committed 0) committed
+  pub same_notes : v.trees 1 ≡ v.committed 1
+  pub notes : AreNotes (v.committed 1) (noted_in v)
+
+-- What holds of a journal's store between any two calls (this project's choice).
+pub record IsJournal (v : View) (count committed : ℕ) : Type 0 where
+  pub tables : IsClean v → HasTables v
+  pub few : count ≤ 2 ^ 62
+  pub within : committed ≤ count
+  pub standing : IsTrue v.is_open → IsStanding v count committed
+
+-- A store that is open on the tables of a list of changes and these notes (this project's choice).
+pub record IsStore (v : View) (notes : List Entry) : Type 0 where
+  pub is_open : IsTrue v.is_open
+  pub tables : HasTables v
+  pub holds : Holds v.committed (stored_in v) notes
+
+-- A store whose two tables have no row: its feeds aren't noted yet (this project's choice).
+pub record IsUnmade (v : View) : Type 0 where
+  pub is_open : IsTrue v.is_open
+  pub tables : HasTables v
+  pub none : (v.committed 0 ≡ []) × (v.committed 1 ≡ [])
+
+-- Only cursors have moved (this project's choice).
+abbrev pub OnlyReads : View → View → Type 0
+OnlyReads old new = new ≡ record old { cursors = new.cursors }
+
+-- What a cursor has left to give (this project's choice).
+abbrev pub left_of : View → ℕ → List Row
+left_of v cursor = unwrap_or (v.cursors cursor) []
+
+-- These changes, one after another, lead a sink from one value to another (this project's choice).
+abbrev pub TakesAll : {K : Type 0} → (K → Entry → K → Type 0) → K → List Entry → K → Type 0
+TakesAll takes start [] end = start ≡ end
+TakesAll {K} takes start (change ∷ changes) end = (next : K) × takes start change next × TakesAll takes next changes end
+
+-- An open journal has the last commit of the store, and nothing more (this project's choice).
+pub record Finds (was now : View) : Type 0 where
+  pub was_open : IsTrue was.is_open
+  pub is_open : IsTrue now.is_open
+  pub stored : stored_in now ≡ stored_in was
+  pub held : held_in now ≡ stored_in was
+  pub noted : noted_in now ≡ noted_in was
+
+-- A new journal is open, has no change, and has these notes, in tables that had no row (this project's choice).
+pub record Makes (notes : List Entry) (was now : View) : Type 0 where
+  pub was_open : IsTrue was.is_open
+  pub none_before : (was.committed 0 ≡ []) × (was.committed 1 ≡ [])
+  pub is_open : IsTrue now.is_open
+  pub stored : stored_in now ≡ []
+  pub held : held_in now ≡ []
+  pub noted : noted_in now ≡ notes
+
+module _ (old new : View) where
+  -- The transaction has one change more, behind the others (this project's choice).
+  pub record Appends (change : Entry) : Type 0 where
+    pub is_open : IsTrue new.is_open
+    pub held : held_in new ≡ held_in old ++ change ∷ []
+    pub stored : stored_in new ≡ stored_in old
+    pub noted : noted_in new ≡ noted_in old
+
+  -- What wasn't committed is gone, unless a fault has shut the store (this project's choice).
+  pub record Undoes : Type 0 where
+    pub was_open : IsTrue new.is_open → IsTrue old.is_open
+    pub held : IsTrue new.is_open → held_in new ≡ stored_in old
+    pub stored : IsTrue new.is_open → stored_in new ≡ stored_in old
+    pub noted : IsTrue new.is_open → noted_in new ≡ noted_in old
+
+  -- The changes so far are committed (this project's choice).
+  pub record Commits : Type 0 where
+    pub is_open : IsTrue new.is_open
+    pub held : held_in new ≡ held_in old
+    pub stored : stored_in new ≡ held_in old
+    pub noted : noted_in new ≡ noted_in old
+
+-- No doubt and no fault is forgotten, and only a fault shuts an open store (this project's choice).
+pub record GoesOn {S : Type 0} (view : S → View) (faults : S → ℕ) (old new : S) : Type 0 where
+  pub clean : doubt (view old).is_clean ≤ doubt (view new).is_clean
+  pub counts : faults old ≤ faults new
+  pub stays : IsClean (view new) → IsTrue (view old).is_open → IsTrue (view new).is_open ⊎ MoreFaults (faults old) (faults new)
+
+-- Why a call on a store fails: want of memory, a fault of the disk or of the file, that the store was shut, or that the row can't be stored (this project's choice).
+abbrev pub IsCause : Type 0 → Type 0 → Type 0 → StoreError → Type 0
+IsCause fault shut unstorable OutOfMemory = ⊤
+IsCause fault shut unstorable Io = fault
+IsCause fault shut unstorable Corrupt = fault
+IsCause fault shut unstorable Full = fault
+IsCause fault shut unstorable Broken = shut
+IsCause fault shut unstorable Unstorable = unstorable
+
+-- Why a store of these trees isn't opened with these notes: a call failed, a table is wanting, the notes differ first at this feed, this row is the first that isn't the next change, or there are more than can be counted (this project's choice).
+abbrev pub Explains : Type 0 → Type 0 → Type 0 → Type 0 → Trees → List Entry → OpenFault → Type 0
+Explains fault shut is_open tables trees notes (kind.Store error) = IsCause fault shut ⊥ error
+Explains fault shut is_open tables trees notes kind.NoTables = tables → ⊥
+Explains fault shut is_open tables trees notes kind.NotEmpty = ⊥
+Explains fault shut is_open tables trees notes (kind.Feed source) = is_open × DifferAt (trees 1) (rows_from 0 notes) source
+Explains fault shut is_open tables trees notes (kind.Row number) = is_open × IsForeignAt (trees 0) number
+Explains fault shut is_open tables trees notes kind.TooMany = is_open × (2 ^ 62 < length (trees 0))
+
+-- Why no journal is made in a store of these trees: a call failed, a note can't be stored, a table is wanting, or one of them has a row (this project's choice).
+abbrev pub Hinders : Type 0 → Type 0 → Type 0 → Type 0 → Type 0 → Trees → OpenFault → Type 0
+Hinders fault shut unstorable tables is_open trees (kind.Store error) = IsCause fault shut unstorable error
+Hinders fault shut unstorable tables is_open trees kind.NoTables = tables → ⊥
+Hinders fault shut unstorable tables is_open trees kind.NotEmpty = is_open × ((trees 0 ≡ []) × (trees 1 ≡ []) → ⊥)
+Hinders fault shut unstorable tables is_open trees _ = ⊥
+
+-- A call on the store failed, for want of memory or by a fault, and not for what is stored (this project's choice).
+abbrev pub IsFailedCall : Type 0 → OpenFault → Type 0
+IsFailedCall fault (kind.Store error) = (error ≡ OutOfMemory) ⊎ fault
+IsFailedCall fault _ = ⊥
+
+-- A call on the store failed, or what is to be stored can't be (this project's choice).
+abbrev pub FailsToStart : Type 0 → Type 0 → OpenFault → Type 0
+FailsToStart fault unstorable (kind.Store error) = ((error ≡ OutOfMemory) ⊎ fault) ⊎ ((error ≡ Unstorable) × unstorable)
+FailsToStart fault unstorable _ = ⊥
+
+-- A start has made a store with these notes, or has opened the one that was there, which has them (this project's choice).
+abbrev pub Starts : List Entry → View → View → Type 0
+Starts notes was now = Makes notes was now ⊎ (Finds was now × (noted_in was ≡ notes))

@@ -1,0 +1,138 @@
+//! The opening of a store: its feeds are compared with what is noted, and its changes are handed over.
+ghost use Rattle.std.specs.Prelude.{◌≡◌, ◌↔◌, ◌⊎◌, List, ◌<◌, ◌≤◌, ◌^◌, false, IsTrue, IfOk, IfErr, OnOk, ⊤};
+ghost use Rattle.sqlite_disk.specs.Disk.{MoreFaults};
+ghost use Rattle.sqlite_trees.specs.View.{IsClean, IsQuiet};
+ghost use Rattle.cube_journal.specs.Rows.{Entry, entries_in, entries_of, AreChanges, AreNotes};
+ghost use Rattle.cube_journal.specs.State.{stored_in, noted_in, HasTables, OnlyReads, IsStore, TakesAll, Finds, Explains, IsFailedCall};
+
+use crate::cursor::{begin, step};
+use crate::fault::OpenFault;
+use crate::journal::{CHANGES, ChangeJournal, FEEDS, MAX_CHANGES};
+use crate::note::FeedNote;
+use crate::row::{is_note, source_at};
+use crate::sink::ChangeSink;
+use sqlite_trees::sound::bytes_of;
+use sqlite_trees::store::{Shape, Store};
+use sqlite_value::row::Row;
+use std::alloc::Global;
+
+/// Whether a store has the two tables.
+pub(crate) fn has_tables<S: Store>(store: &S) -> bool
+    ensures { IsTrue result ↔ (((S.Store.view store.now).shape 0 ≡ Shape.Table) × ((S.Store.view store.now).shape 1 ≡ Shape.Table)) }
+{
+    store.shape(CHANGES) == Shape::Table && store.shape(FEEDS) == Shape::Table
+}
+
+/// Compares what is noted with these notes.
+fn compare<S: Store>(store: &mut S, row: &mut Row, notes: &[FeedNote]) -> Result<(), OpenFault>
+    requires { IsClean (S.Store.view store.old) → (S.Store.view store.old).shape 1 ≡ Shape.Table }
+    ensures same { OnOk result (IsClean (S.Store.view store.new) → AreNotes ((S.Store.view store.old).trees 1) (entries_of notes.now)) }
+    ensures reads { OnOk result (IsClean (S.Store.view store.new) → OnlyReads (S.Store.view store.old) (S.Store.view store.new)) }
+    ensures sound { OnOk result (IsClean (S.Store.view store.new) → (S.Store.view store.old).is_broken ≡ false) }
+    ensures cause { IsClean (S.Store.view store.new) → IfErr result (Explains (MoreFaults (S.Store.faults store.old) (S.Store.faults store.new)) (IsTrue (S.Store.view store.old).is_broken)
+        ((S.Store.view store.old).is_broken ≡ false) ⊤ (S.Store.view store.old).trees (entries_of notes.now)) }
+    ensures quiet { IsQuiet S.Store.view S.Store.faults S.Store.recovers S.Store.is_shielded store.old store.new }
+{
+    begin(store, row, FEEDS)?;
+    'notes: for at in 0..notes.len() {
+        let place = at as u64;
+        if !step(store, row)? {
+            return Err(OpenFault::Feed(place));
+        }
+        if !is_note(row, place, &notes[at]) {
+            return Err(OpenFault::Feed(place));
+        }
+    }
+    if step(store, row)? {
+        return Err(OpenFault::Feed(notes.len() as u64));
+    }
+    Ok(())
+}
+
+/// Hands each change over in its order, and counts them.
+fn replay<S: Store, K: ChangeSink>(
+    store: &mut S,
+    row: &mut Row,
+    sink: &mut K,
+) -> Result<u64, OpenFault>
+    requires { IsClean (S.Store.view store.old) → (S.Store.view store.old).shape 0 ≡ Shape.Table }
+    ensures few { IfOk result (λ count. count ≤ 2 ^ 62) }
+    ensures changes { IfOk result (λ count. IsClean (S.Store.view store.new) → AreChanges ((S.Store.view store.old).trees 0) count) }
+    ensures taken { OnOk result (IsClean (S.Store.view store.new) → TakesAll K.ChangeSink.takes sink.old (entries_in ((S.Store.view store.old).trees 0)) sink.new) }
+    ensures reads { OnOk result (IsClean (S.Store.view store.new) → OnlyReads (S.Store.view store.old) (S.Store.view store.new)) }
+    ensures sound { OnOk result (IsClean (S.Store.view store.new) → (S.Store.view store.old).is_broken ≡ false) }
+    ensures cause { IsClean (S.Store.view store.new) → IfErr result (λ e. (notes : List Entry) → Explains (MoreFaults (S.Store.faults store.old) (S.Store.faults store.new)) (IsTrue (S.Store.view store.old).is_broken)
+        ((S.Store.view store.old).is_broken ≡ false) ⊤ (S.Store.view store.old).trees notes e) }
+    ensures quiet { IsQuiet S.Store.view S.Store.faults S.Store.recovers S.Store.is_shielded store.old store.new }
+{
+    begin(store, row, CHANGES)?;
+    'changes: for at in 0..MAX_CHANGES + 1 {
+        if !step(store, row)? {
+            return Ok(at);
+        }
+        match source_at(row, at + 1) {
+            Some(source) => sink.take(source, bytes_of(row.get(3)))?,
+            None => return Err(OpenFault::Row(at + 1)),
+        }
+    }
+    Err(OpenFault::TooMany)
+}
+
+/// Compares the notes, and then hands the changes over and counts them.
+fn read_all<S: Store, K: ChangeSink>(
+    store: &mut S,
+    row: &mut Row,
+    notes: &[FeedNote],
+    sink: &mut K,
+) -> Result<u64, OpenFault>
+    ensures few { IfOk result (λ count. count ≤ 2 ^ 62) }
+    ensures tables { OnOk result (((S.Store.view store.old).shape 0 ≡ Shape.Table) × ((S.Store.view store.old).shape 1 ≡ Shape.Table)) }
+    ensures changes { IfOk result (λ count. IsClean (S.Store.view store.new) → AreChanges ((S.Store.view store.old).trees 0) count) }
+    ensures same { OnOk result (IsClean (S.Store.view store.new) → AreNotes ((S.Store.view store.old).trees 1) (entries_of notes.now)) }
+    ensures taken { OnOk result (IsClean (S.Store.view store.new) → TakesAll K.ChangeSink.takes sink.old (entries_in ((S.Store.view store.old).trees 0)) sink.new) }
+    ensures reads { OnOk result (IsClean (S.Store.view store.new) → OnlyReads (S.Store.view store.old) (S.Store.view store.new)) }
+    ensures sound { OnOk result (IsClean (S.Store.view store.new) → (S.Store.view store.old).is_broken ≡ false) }
+    ensures cause { IsClean (S.Store.view store.new) → IfErr result (Explains (MoreFaults (S.Store.faults store.old) (S.Store.faults store.new)) (IsTrue (S.Store.view store.old).is_broken)
+        ((S.Store.view store.old).is_broken ≡ false) (((S.Store.view store.old).shape 0 ≡ Shape.Table) × ((S.Store.view store.old).shape 1 ≡ Shape.Table)) (S.Store.view store.old).trees (entries_of notes.now)) }
+    ensures quiet { IsQuiet S.Store.view S.Store.faults S.Store.recovers S.Store.is_shielded store.old store.new }
+{
+    if !has_tables(store) {
+        return Err(OpenFault::NoTables);
+    }
+    compare(store, row, notes)?;
+    let count = replay(store, row, sink)?;
+    Ok(count)
+}
+
+/// Opens a store that was made with these notes, and hands the changes of its last commit over in their order.
+///
+/// Nothing is written: what a crash may leave stays as it was, also after an error, which gives the store back. A store
+/// whose tables are those of changes and of these notes is refused only where a call on it fails.
+pub(crate) fn open<S: Store, K: ChangeSink>(
+    alloc: Global,
+    mut store: S,
+    notes: &[FeedNote],
+    sink: &mut K,
+) -> Result<ChangeJournal<S>, (OpenFault, S)>
+    ensures found { IfOk result (λ j. IsClean (S.Store.view j.store) → Finds (S.Store.view store) (S.Store.view j.store)) }
+    ensures noted { IfOk result (λ j. IsClean (S.Store.view j.store) → noted_in (S.Store.view store) ≡ entries_of notes.now) }
+    ensures taken { IfOk result (λ j. IsClean (S.Store.view j.store) → TakesAll K.ChangeSink.takes sink.old (stored_in (S.Store.view store)) sink.new) }
+    ensures counts { IfOk result (λ j. j.committed ≡ j.count) }
+    ensures quiet { IfOk result (λ j. IsQuiet S.Store.view S.Store.faults S.Store.recovers S.Store.is_shielded store j.store) }
+    ensures unharmed { IfErr result (λ e. IsQuiet S.Store.view S.Store.faults S.Store.recovers S.Store.is_shielded store e.1) }
+    ensures cause { IfErr result (λ e. IsClean (S.Store.view e.1) → Explains (MoreFaults (S.Store.faults store) (S.Store.faults e.1)) (((S.Store.view store).is_open ≡ false) ⊎ MoreFaults (S.Store.faults store) (S.Store.faults e.1))
+        (IsTrue (S.Store.view store).is_open) (HasTables (S.Store.view store)) (S.Store.view store).committed (entries_of notes.now) e.0) }
+    ensures accepts { IfErr result (λ e. IsClean (S.Store.view e.1) → IsStore (S.Store.view store) (entries_of notes.now) → IsFailedCall (MoreFaults (S.Store.faults store) (S.Store.faults e.1)) e.0) }
+{
+    store.rollback();
+    let mut row = Row::new(alloc);
+    match read_all(&mut store, &mut row, notes, sink) {
+        Ok(count) => Ok(ChangeJournal {
+            store,
+            row,
+            count,
+            committed: count,
+        }),
+        Err(fault) => Err((fault, store)),
+    }
+}

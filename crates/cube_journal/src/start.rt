@@ -1,0 +1,51 @@
+//! The start on a store: it is made, or the one that is there is opened.
+ghost use Rattle.std.specs.Prelude.{◌≡◌, ◌⊎◌, ℕ, IfOk, IfErr};
+ghost use Rattle.sqlite_disk.specs.Disk.{MoreFaults};
+ghost use Rattle.sqlite_trees.specs.Tree.{Trees};
+ghost use Rattle.sqlite_trees.specs.View.{IsClean};
+ghost use Rattle.cube_journal.specs.Rows.{entries_of};
+ghost use Rattle.cube_journal.specs.State.{stored_in, IsStore, IsUnmade, TakesAll, Starts, GoesOn, FailsToStart};
+ghost use Rattle.cube_journal.specs.Making.{CantNote, LeavesNotes};
+
+use crate::fault::OpenFault;
+use crate::journal::ChangeJournal;
+use crate::making::{is_unmade, make};
+use crate::note::FeedNote;
+use crate::opening::open;
+use crate::sink::ChangeSink;
+use sqlite_trees::store::Store;
+use std::alloc::Global;
+
+/// Makes a store with these notes where its two tables have no row; else opens the one that is there, which must have these
+/// notes, and hands the changes of its last commit over in their order.
+///
+/// A crash leaves what it left before or, where there was no row, the notes alone. A store of changes and of these notes, or
+/// one without a row, is refused only where a call on it fails, or where a note can't be stored. An error gives the store back.
+pub fn open_or_make<S: Store, K: ChangeSink>(
+    alloc: Global,
+    mut store: S,
+    notes: &[FeedNote],
+    sink: &mut K,
+) -> Result<ChangeJournal<S>, (OpenFault, S)>
+    ensures found { IfOk result (λ j. IsClean (S.Store.view j.store) → Starts (entries_of notes.now) (S.Store.view store) (S.Store.view j.store)) }
+    ensures taken { IfOk result (λ j. IsClean (S.Store.view j.store) → TakesAll K.ChangeSink.takes sink.old (stored_in (S.Store.view j.store)) sink.new) }
+    ensures counts { IfOk result (λ j. j.committed ≡ j.count) }
+    ensures crash { IfOk result (λ j. (db : Trees) → S.Store.recovers j.store db → LeavesNotes (S.Store.view store) (entries_of notes.now) db ⊎ S.Store.recovers store db) }
+    ensures unharmed { IfErr result (λ e. (db : Trees) → S.Store.recovers e.1 db → LeavesNotes (S.Store.view store) (entries_of notes.now) db ⊎ S.Store.recovers store db) }
+    ensures on { IfOk result (λ j. GoesOn S.Store.view S.Store.faults store j.store) }
+    ensures on_err { IfErr result (λ e. GoesOn S.Store.view S.Store.faults store e.1) }
+    ensures accepts { IfErr result (λ e. IsClean (S.Store.view e.1) → IsStore (S.Store.view store) (entries_of notes.now) ⊎ IsUnmade (S.Store.view store)
+        → FailsToStart (MoreFaults (S.Store.faults store) (S.Store.faults e.1)) ((reals : ℕ) × CantNote reals notes.now) e.0) }
+{
+    match is_unmade(alloc, &mut store) {
+        Ok(true) => match make(alloc, store, notes) {
+            Ok(journal) => Ok(journal),
+            Err(refused) => Err(refused),
+        },
+        Ok(false) => match open(alloc, store, notes, sink) {
+            Ok(journal) => Ok(journal),
+            Err(refused) => Err(refused),
+        },
+        Err(error) => Err((OpenFault::Store(error), store)),
+    }
+}

@@ -1,0 +1,142 @@
+"""Follows a table of PostgreSQL, and answers questions over its cube.
+
+Without --serve, questions are read from standard input as `datacube live` reads them (print, slice, drill, rollup), and
+answered so, after the follower has caught up; the end of the input ends it. Every answer is over all transactions until
+some commit. With --serve there is a page at http://127.0.0.1:PORT/, and /metrics for Prometheus, until it is interrupted.
+"""
+from __future__ import annotations
+
+import argparse
+import csv
+import logging
+import os
+import select
+import signal
+import sys
+import time
+from contextlib import closing
+from typing import Iterator, List, Mapping, NoReturn, Optional, Sequence, Tuple
+
+import psycopg2
+
+from .._errors import DatacubeError, Ended, Failure, Unsayable
+from . import Follower, Server, drop_slot, slot_name
+from ._slot import connect
+
+SECONDS_BETWEEN_LOOKS = 0.2
+
+
+def parser() -> argparse.ArgumentParser:
+    asks = argparse.ArgumentParser(prog="python -m datacube.postgres", description=__doc__, formatter_class=argparse.RawDescriptionHelpFormatter)
+    asks.add_argument("--dsn", default="", help="the database, as libpq takes it; what is left out comes from PGHOST and the like")
+    asks.add_argument("--table", required=True, help="the table, as in SQL")
+    asks.add_argument("--schema", metavar="FILE", help="the schema of the cube, a TOML file")
+    asks.add_argument("--dimensions", type=names, metavar="NAMES", help="its columns for the dimensions of the schema, by default those of the same names")
+    asks.add_argument("--measures", type=names, metavar="NAMES", help="its columns for the measures of the schema, likewise")
+    asks.add_argument("--scale", type=scale, action="append", default=[], metavar="COLUMN=N", help="take N decimals of a numeric: 3.50 is 350 by 2")
+    asks.add_argument("--skip", action="store_true", help="leave rows out that can't be said, and count them")
+    asks.add_argument("--slot", help="the replication slot, by default datacube_TABLE")
+    asks.add_argument("--drop", action="store_true", help="drop the slot of a follower that was killed, and end")
+    asks.add_argument("--serve", type=int, metavar="PORT", help="serve the page and metrics on this port of 127.0.0.1; 0 is any free one")
+    asks.add_argument("--slice", type=names, metavar="PATTERN", help="what /metrics shows, as `datacube slice` takes it; by default each value of the first dimension")
+    return asks
+
+
+def names(text: str) -> List[str]:
+    """Names with commas between them, which may be quoted as in CSV."""
+    return next(csv.reader([text]), [])
+
+
+def scale(text: str) -> Tuple[str, int]:
+    column, _, digits = text.rpartition("=")
+    return column, int(digits)
+
+
+def follower_of(given: argparse.Namespace) -> Follower:
+    return Follower(
+        given.dsn, given.table, given.schema, dimensions=given.dimensions, measures=given.measures, scale=dict(given.scale),
+        slot=given.slot, skip=given.skip,
+    )
+
+
+def lines(follower: Follower) -> Iterator[str]:
+    """The lines of standard input, for as long as the follower follows."""
+    rest = b""
+    while True:
+        follower.check()
+        if select.select([0], [], [], SECONDS_BETWEEN_LOOKS)[0]:
+            data = os.read(0, 65536)
+            *whole, rest = (rest + data).split(b"\n") if data else (rest, b"")
+            yield from (it.decode("utf-8", "replace") + "\n" for it in whole)
+            if not data:
+                return
+
+
+def answer(follower: Follower) -> None:
+    """Answers the questions of standard input."""
+    follower.wait()
+    for record in csv.reader(lines(follower)):
+        if record:
+            sys.stdout.buffer.write(reply(follower, record))
+            sys.stdout.buffer.flush()
+
+
+def reply(follower: Follower, record: Sequence[str]) -> bytes:
+    """The answer to a question as a session writes it."""
+    follower.wait()
+    try:
+        text = follower.ask(*record).encode("utf-8")
+    except Unsayable:
+        return b"Q1\n"
+    except Failure as why:
+        if isinstance(why, Ended):
+            raise
+        return f"{why.line}\n".encode("utf-8")
+    return b"ok %d\n%s" % (len(text), text)
+
+
+def serve(follower: Follower, port: int, slice: Optional[Sequence[str]]) -> None:
+    """Serves until the follower ends."""
+    with Server(follower, port, slice) as server:
+        print(server.address, flush=True)
+        while True:
+            follower.check()
+            time.sleep(SECONDS_BETWEEN_LOOKS)
+
+
+def run(given: argparse.Namespace) -> None:
+    slot = given.slot or slot_name(given.table)
+    if given.drop:
+        with closing(connect(given.dsn)) as connection:
+            print(f"the slot {slot} was dropped" if drop_slot(connection, slot) else f"there is no slot {slot}")
+        return
+    with follower_of(given) as follower:
+        if given.serve is None:
+            answer(follower)
+        else:
+            serve(follower, given.serve, given.slice)
+
+
+def interrupted(*_: object) -> NoReturn:
+    raise KeyboardInterrupt
+
+
+def main(words: Optional[Sequence[str]] = None) -> int:
+    asks = parser()
+    given = asks.parse_args(words)
+    if not given.drop and given.schema is None:
+        asks.error("the following arguments are required: --schema")
+    logging.basicConfig(format="datacube.postgres: %(message)s", level=logging.INFO)
+    signal.signal(signal.SIGTERM, interrupted)
+    try:
+        run(given)
+    except KeyboardInterrupt:
+        return 0
+    except (DatacubeError, OSError, OverflowError, psycopg2.Error) as why:
+        print(f"datacube.postgres: {why}", file=sys.stderr)
+        return 1
+    return 0
+
+
+if __name__ == "__main__":
+    sys.exit(main())

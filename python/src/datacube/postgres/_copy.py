@@ -1,0 +1,52 @@
+"""The table as it is in a snapshot, written as a feed."""
+from __future__ import annotations
+
+import csv
+import io
+from typing import TYPE_CHECKING, Iterable, Set, TextIO
+
+from psycopg2 import sql
+
+from ._errors import BeginAnew, RowUnsayable
+from ._slot import snapshot_of
+from ._table import look
+from ._values import Rows, row_of
+
+if TYPE_CHECKING:
+    from psycopg2.extensions import connection as Connection
+
+
+class FeedWriter(io.RawIOBase):
+    """Takes the rows that COPY sends, a line each, and writes them as a feed. `left_out` has the ids of those that can't be
+    said, where they are skipped."""
+
+    def __init__(self, rows: Rows, header: Iterable[str], out: TextIO, skip: bool) -> None:
+        super().__init__()
+        self._rows, self._skip, self._records = rows, skip, csv.writer(out)
+        self._names = rows.names
+        self._records.writerow(["op", "id", *header])
+        self.count = 0
+        self.left_out: Set[str] = set()
+
+    def write(self, line: bytes) -> int:  # type: ignore[override]
+        values = dict(zip(self._names, row_of(bytes(line).decode("utf-8")[:-1])))
+        self.count += 1
+        try:
+            self._records.writerow(["I", self._rows.id_of(values), *self._rows.fields_of(values)])
+        except RowUnsayable:
+            if not self._skip:
+                raise
+            self.left_out.add(self._rows.id_of(values))
+        return len(line)
+
+
+def copy_table(connection: "Connection", snapshot: str, rows: Rows, writer: FeedWriter) -> None:
+    """Copies the rows of a snapshot into a feed; raises `BeginAnew` where they were written anew since the table was looked at,
+    for then a snapshot of before may see none of them (of TRUNCATE, and of some forms of ALTER TABLE)."""
+    name, columns = sql.Identifier(rows.table.schema, rows.table.name), sql.SQL(", ").join(map(sql.Identifier, rows.names))
+    with snapshot_of(connection, snapshot) as cursor:
+        cursor.copy_expert(sql.SQL("COPY (SELECT {} FROM ONLY {}) TO STDOUT").format(columns, name), writer)
+    with connection.cursor() as cursor:
+        now = look(cursor, rows.table.oid)
+    if now is None or now.file != rows.table.file:
+        raise BeginAnew(f"the rows of table {rows.table} were written anew while they were copied")

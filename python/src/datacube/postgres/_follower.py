@@ -1,0 +1,366 @@
+"""A cube that is kept as a table is."""
+from __future__ import annotations
+
+import contextlib
+import os
+import tempfile
+import threading
+import time
+from dataclasses import dataclass, replace
+from types import TracebackType
+from typing import TYPE_CHECKING, Any, Callable, Iterator, Mapping, Optional, Sequence, Set, Tuple, Type, TypeVar
+
+import psycopg2
+import psycopg2.errors
+
+from .._ask import Given
+from .._cells import Cell, Pattern, fields_of
+from .._cube import Cube
+from .._schema import Schema, schema_of
+from ._copy import FeedWriter, copy_table
+from ._errors import BeginAnew, CantFollow, NotCaughtUp
+from ._mirror import Mirror
+from ._slot import (
+    TOLD, Place, cancel, check_server, connect, connect_to_replicate, drop_slot, lsn_text, make_slot, now_of, place_of, slot_name,
+)
+from ._stream import Stream, Transaction
+from ._table import Table, check_same, look, read_table
+from ._values import Rows
+
+if TYPE_CHECKING:
+    from psycopg2.extensions import connection as Connection
+
+AnyConnection = TypeVar("AnyConnection", bound="Connection")
+# (how often the table's columns are looked at, and how long one wait for changes is)
+SECONDS_BETWEEN_LOOKS, SECONDS_TO_WAIT = 1.0, 0.2
+# (after which statements that the server is still at are cancelled)
+SECONDS_TO_END = 1.0
+FIRST_PAUSE, LONGEST_PAUSE = 0.1, 5.0
+# (classes of SQLSTATE: the connection is gone, the server has no room for one, the server is ending; a slot that is in use yet)
+OF_CONNECTIONS, IN_USE = ("08", "53", "57"), "55006"
+
+
+@dataclass(frozen=True)
+class State:
+    """How far a follower is. All that was committed before `lsn` is in the cube, and nothing after it; `behind` is by how
+    many bytes of log the server was ahead at the last look, once a second. `version` changes where the cube does."""
+
+    is_caught_up: bool = False
+    is_connected: bool = False
+    lsn: int = 0
+    behind: int = 0
+    copies: int = 0
+    rows_copied: int = 0
+    transactions: int = 0
+    changes: int = 0
+    left_out: int = 0
+    failure: Optional[BaseException] = None
+
+    @property
+    def lsn_text(self) -> str:
+        return lsn_text(self.lsn)
+
+    @property
+    def version(self) -> Tuple[int, int]:
+        return self.copies, self.transactions
+
+
+class Follower:
+    """A cube over a table of PostgreSQL, which takes each transaction whole, in the order of their commits.
+
+    It makes a replication slot, copies the table as it is in the slot's snapshot, and then takes the changes behind it, in a
+    thread of its own, between `start` and `close` or in a `with` block. Any thread may ask; an answer is over all
+    transactions until some commit, never over a part of one. A question before it has caught up with the table raises
+    `NotCaughtUp`, and one after it has stopped raises why it stopped. Where the connection is lost it connects again and goes
+    on from its place; the answers meanwhile are those of the last commit that it has.
+
+    `dimensions` and `measures` are the columns for those of the schema, where their names differ. `scale` says of a column
+    how many decimals are taken: by 2 the numeric 3.50 is 350. With `skip` rows that can't be said are left out and counted.
+    The schema's `version` and `max_records` are of feeds, and don't matter here."""
+
+    def __init__(
+        self,
+        dsn: str,
+        table: str,
+        schema: Given,
+        *,
+        dimensions: Optional[Sequence[str]] = None,
+        measures: Optional[Sequence[str]] = None,
+        scale: Optional[Mapping[str, int]] = None,
+        slot: Optional[str] = None,
+        skip: bool = False,
+    ) -> None:
+        given = schema_of(schema)
+        # (version 2 can say that a value is kept)
+        self.schema = Schema(given.dimensions, given.measures, given.aggregates, grouping=given.grouping, version=2)
+        self.dsn, self.name, self.slot, self.skip = dsn, table, slot or slot_name(table), skip
+        self._columns = dimensions, measures, scale or {}
+        self._lock = threading.RLock()
+        self._changed = threading.Condition(self._lock)
+        self._state = State()
+        self._mirror: Optional[Mirror] = None
+        self._has_slot = False
+        self._connections: Set["Connection"] = set()
+        self._ending = threading.Event()
+        self._thread = threading.Thread(target=self._run, name="datacube follower", daemon=True)
+
+    # What others call.
+
+    def __enter__(self) -> "Follower":
+        self.start()
+        return self
+
+    def __exit__(self, kind: Optional[Type[BaseException]], why: Optional[BaseException], at: Optional[TracebackType]) -> None:
+        self.close()
+
+    def start(self) -> None:
+        """Begins to follow; `wait` says when it has caught up, or why it can't."""
+        self._thread.start()
+
+    def close(self) -> None:
+        """Ends the session, and drops the slot, since the next follower makes its own."""
+        self._ending.set()
+        if self._thread.ident is not None:
+            self._thread.join(SECONDS_TO_END)
+        while self._thread.is_alive():
+            with contextlib.suppress(psycopg2.Error), contextlib.closing(connect(self.dsn)) as connection:
+                cancel(connection, [it.info.backend_pid for it in list(self._connections)])
+            self._thread.join(SECONDS_TO_END)
+
+    @property
+    def state(self) -> State:
+        return self._state
+
+    def check(self) -> None:
+        """Raises why the follower stopped, where it did."""
+        if self._state.failure:
+            raise self._state.failure
+
+    def wait(self, seconds: Optional[float] = None) -> State:
+        """Waits until the follower has caught up with the table."""
+        return self._wait(lambda it: it.is_caught_up, seconds)
+
+    def wait_for(self, lsn: int, seconds: Optional[float] = None) -> State:
+        """Waits until all that was committed before an LSN is in the cube."""
+        return self._wait(lambda it: it.is_caught_up and it.lsn >= lsn, seconds)
+
+    def catch_up(self, seconds: Optional[float] = None) -> State:
+        """Waits until all that is committed now is in the cube."""
+        with contextlib.closing(connect(self.dsn)) as connection:
+            return self.wait_for(now_of(connection), seconds)
+
+    def ask(self, question: str, *fields: str) -> str:
+        """The text that answers a question of a session: `print`, or `slice` with a field for each dimension."""
+        return self.ask_with_state(question, *fields)[1]
+
+    def ask_with_state(self, question: str, *fields: str) -> Tuple[State, str]:
+        """The same, and the state that it is an answer of."""
+        with self._lock:
+            self.check()
+            if self._mirror is None or not self._state.is_caught_up:
+                raise NotCaughtUp(f"the follower hasn't caught up with table {self.name}")
+            try:
+                return self._state, self._mirror.ask(question, *fields)
+            except BeginAnew as why:
+                raise NotCaughtUp(f"{why}: table {self.name} is copied again") from None
+
+    def cube(self) -> Cube:
+        """The whole cube."""
+        return Cube(self.ask("print"))
+
+    def slice(self, pattern: Pattern) -> Cube:
+        """The rows that a pattern matches; a dimension that a mapping doesn't name is ALL."""
+        return Cube(self.ask("slice", *fields_of(self.schema.dimensions, pattern)))
+
+    def drill(self, cell: Cell, dimension: str) -> Cube:
+        """The rows one step below a cell, along a dimension."""
+        return Cube(self.ask("drill", dimension, *fields_of(self.schema.dimensions, cell)))
+
+    def rollup(self, cell: Cell, dimension: str) -> Cube:
+        """The row one step above a cell, along a dimension, or none where that is no cell of the cube."""
+        return Cube(self.ask("rollup", dimension, *fields_of(self.schema.dimensions, cell)))
+
+    def _wait(self, is_there: Callable[[State], bool], seconds: Optional[float]) -> State:
+        with self._changed:
+            self._changed.wait_for(lambda: self._state.failure or self._ending.is_set() or is_there(self._state), seconds)
+            self.check()
+            if not is_there(self._state):
+                raise NotCaughtUp(f"the follower hasn't caught up with table {self.name}: it is at {self._state.lsn_text}")
+            return self._state
+
+    # What the thread does.
+
+    def _run(self) -> None:
+        failure: Optional[BaseException] = None
+        try:
+            self._follow_copies()
+        except psycopg2.Error as why:
+            failure = CantFollow(text_of_error(why))
+        except BaseException as why:
+            failure = why
+        self._set(failure=failure, is_connected=False)
+        self._put_mirror(None)
+        if self._has_slot:
+            with contextlib.suppress(psycopg2.Error, CantFollow), contextlib.closing(connect(self.dsn)) as connection:
+                drop_slot(connection, self.slot)
+
+    def _follow_copies(self) -> None:
+        """Follows until the end; where the slot or the session is lost, it begins with a copy again."""
+        while not self._ending.is_set():
+            try:
+                place, target = self._copy()
+                self._follow(place, target)
+            except BeginAnew as why:
+                self._set(is_caught_up=False, is_connected=False)
+                self._put_mirror(None)
+                TOLD.warning("%s: the table is copied again", why)
+            except psycopg2.Error as why:
+                if self._ending.is_set():
+                    return
+                if not self._state.copies or not is_cut(why):
+                    raise
+                TOLD.warning("the table couldn't be copied, and is copied again: %s", text_of_error(why))
+            self._ending.wait(FIRST_PAUSE)
+
+    def _copy(self) -> Tuple[Place, int]:
+        """Makes the slot anew, and a session with the table as it is in the slot's snapshot. Gives whose the slot is, and the
+        LSN at which the follower has caught up."""
+        with self._open(connect(self.dsn)) as connection:
+            check_server(connection)
+            with connection.cursor() as cursor:
+                table = read_table(cursor, self.name)
+            rows = Rows(table, self.schema, *self._columns)
+            drop_slot(connection, self.slot)
+            with self._open(connect_to_replicate(self.dsn)) as replication:
+                place = place_of(replication)
+                TOLD.info("making the slot %s, which waits for the transactions that are open", self.slot)
+                start, snapshot = make_slot(replication, self.slot)
+                self._has_slot = True
+                mirror, count = self._mirror_of(connection, snapshot, rows)
+            self._table = table
+            self._put_mirror(mirror)
+            self._set(lsn=start, copies=self._state.copies + 1, rows_copied=count, left_out=len(mirror.left_out))
+            TOLD.info("copied %d rows of table %s, of which %d were left out", count, table, len(mirror.left_out))
+            return place, now_of(connection)
+
+    def _mirror_of(self, connection: "Connection", snapshot: str, rows: Rows) -> Tuple[Mirror, int]:
+        """A session with the rows of a snapshot, and their number."""
+        with tempfile.TemporaryDirectory(prefix="datacube-") as folder:
+            path = os.path.join(folder, "table.csv")
+            with open(path, "w", encoding="utf-8", newline="") as out:
+                writer = FeedWriter(rows, [*self.schema.dimensions, *self.schema.measures], out, self.skip)
+                copy_table(connection, snapshot, rows, writer)
+            return Mirror(rows, self.schema, path, writer.left_out, self.skip), writer.count
+
+    def _follow(self, place: Place, target: int) -> None:
+        """Takes the changes behind the slot, over as many connections as it takes."""
+        pause = FIRST_PAUSE
+        while not self._ending.is_set():
+            before = self._state.lsn
+            try:
+                self._follow_connected(place, target)
+            except psycopg2.Error as why:
+                self._set(is_connected=False)
+                if self._ending.is_set():
+                    return
+                if is_lost(why):
+                    raise BeginAnew(f"the slot {self.slot} is lost ({text_of_error(why)})") from None
+                if not is_cut(why):
+                    raise
+                TOLD.warning("the connection is lost, and is made again: %s", text_of_error(why))
+            pause = FIRST_PAUSE if self._state.lsn > before else min(2 * pause, LONGEST_PAUSE)
+            self._ending.wait(pause)
+
+    def _follow_connected(self, place: Place, target: int) -> None:
+        """Takes changes over one connection, until the end."""
+        with self._open(connect(self.dsn)) as connection, self._open(connect_to_replicate(self.dsn)) as replication:
+            if place_of(replication) != place:
+                raise BeginAnew("the server is another one, or was set back")
+            self._look(connection)
+            stream = Stream(replication, self.slot, self._table, self._state.lsn)
+            self._set(is_connected=True)
+            next_look = time.monotonic() + SECONDS_BETWEEN_LOOKS
+            while not self._ending.is_set():
+                transaction = stream.next(SECONDS_TO_WAIT)
+                if transaction:
+                    self._take(transaction)
+                self._arrive(max(self._state.lsn, stream.seen), target)
+                stream.confirm(self._state.lsn)
+                if time.monotonic() >= next_look:
+                    self._look(connection)
+                    next_look = time.monotonic() + SECONDS_BETWEEN_LOOKS
+
+    def _take(self, transaction: Transaction) -> None:
+        """Makes the changes of a transaction, all between two questions. One that was there before the connection was lost comes
+        twice, and is left."""
+        if transaction.end <= self._state.lsn:
+            return
+        assert self._mirror is not None
+        work, state = self._mirror.prepare(transaction), self._state
+        with self._changed:
+            try:
+                self._mirror.apply(work)
+            except BaseException:
+                # (the session has a part of the transaction)
+                self._put_mirror(None)
+                raise
+            self._set(
+                lsn=transaction.end, transactions=state.transactions + 1, changes=state.changes + work.count, left_out=len(self._mirror.left_out)
+            )
+
+    def _arrive(self, lsn: int, target: int) -> None:
+        """Takes note of an LSN to which the follower has come."""
+        is_caught_up = self._state.is_caught_up or lsn >= target
+        if lsn > self._state.lsn or is_caught_up != self._state.is_caught_up:
+            self._set(lsn=lsn, is_caught_up=is_caught_up)
+
+    def _look(self, connection: "Connection") -> None:
+        """Sees that the table is what it was, and that the session refused nothing."""
+        with connection.cursor() as cursor:
+            now = look(cursor, self._table.oid)
+        check_same(self._table, now)
+        assert now is not None
+        self._table = now
+        with self._lock:
+            if self._mirror is not None:
+                self._mirror.check()
+        self._set(behind=max(now_of(connection) - self._state.lsn, 0))
+
+    @contextlib.contextmanager
+    def _open(self, connection: AnyConnection) -> Iterator[AnyConnection]:
+        """A connection that is closed behind a block, and whose work `close` may cut short."""
+        with contextlib.closing(connection):
+            self._connections.add(connection)
+            try:
+                yield connection
+            finally:
+                self._connections.discard(connection)
+
+    def _set(self, **what: Any) -> None:
+        with self._changed:
+            self._state = replace(self._state, **what)
+            self._changed.notify_all()
+
+    def _put_mirror(self, mirror: Optional[Mirror]) -> None:
+        """Puts a session in place of the one that is there, which ends."""
+        with self._lock:
+            old, self._mirror = self._mirror, mirror
+        if old is not None:
+            old.close()
+
+
+def is_cut(why: psycopg2.Error) -> bool:
+    """Whether an error is of the connection, so that another one may do."""
+    code: Optional[str] = why.pgcode
+    if code is None:
+        return isinstance(why, (psycopg2.OperationalError, psycopg2.InterfaceError)) or type(why) is psycopg2.DatabaseError
+    return code.startswith(OF_CONNECTIONS) or code == IN_USE
+
+
+def is_lost(why: psycopg2.Error) -> bool:
+    """Whether an error says that the slot is gone, or that the log behind it is."""
+    return isinstance(why, (psycopg2.errors.UndefinedObject, psycopg2.errors.ObjectNotInPrerequisiteState))
+
+
+def text_of_error(why: psycopg2.Error) -> str:
+    return " ".join(str(why).split())

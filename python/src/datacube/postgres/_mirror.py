@@ -1,0 +1,182 @@
+"""A session that has the facts of a table."""
+from __future__ import annotations
+
+import contextlib
+import csv
+import io
+import tempfile
+from typing import IO, Final, Iterable, Iterator, List, Optional, Set
+
+from .._errors import Ended
+from .._live import Live
+from .._program import Path
+from .._schema import Schema
+from ._errors import BeginAnew, CantFollow, ColumnsChanged, RowUnsayable
+from ._stream import Change
+from ._values import KEPT, Rows, Values, values_of
+
+SOURCE: Final = "1"
+IN_MEMORY: Final = 16 * 2**20
+
+
+class Work:
+    """What a transaction changes of a session: whether it begins with an empty one, and the records that follow; those of a long
+    transaction lie in a file. `count` is the number of its changes."""
+
+    def __init__(self, schema: Schema) -> None:
+        self._schema = schema
+        self.count = 0
+        self.empty: Optional[Live] = None
+        self._file: Optional[IO[str]]
+        self._clear()
+
+    def _clear(self) -> None:
+        self._text, self._file = io.StringIO(newline=""), None
+        self._records = csv.writer(self._text)
+
+    def put(self, op: str, id: str, *fields: str) -> None:
+        self._records.writerow([SOURCE, op, id, *fields])
+        if self._text.tell() > IN_MEMORY:
+            self._file = self._moved()
+
+    def _moved(self) -> IO[str]:
+        """The file, with what is in memory at its end."""
+        file = self._file or tempfile.TemporaryFile("w+", encoding="utf-8", newline="", prefix="datacube-")
+        file.write(self._text.getvalue())
+        self._text.seek(0)
+        self._text.truncate()
+        return file
+
+    def text(self) -> IO[str]:
+        """The records, from the first one."""
+        text = self._moved() if self._file else self._text
+        text.seek(0)
+        return text
+
+    def truncate(self) -> None:
+        """Nothing is left of what was there, nor of the records until now."""
+        self._clear()
+        self.empty = self.empty or Live(self._schema)
+
+
+class Mirror:
+    """The rows of a table in a session, under their keys as ids. A caller prepares whole transactions, makes them, and asks
+    between them."""
+
+    def __init__(self, rows: Rows, schema: Schema, feed: Path, left_out: Set[str], skip: bool) -> None:
+        self._rows, self._schema, self._skip = rows, schema, skip
+        self.left_out = set(left_out)
+        self._live = Live(self._schema, feed)
+
+    def ask(self, question: str, *fields: str) -> str:
+        with anew_where_full():
+            return self._live.ask(question, *fields)
+
+    def close(self) -> None:
+        with contextlib.suppress(Ended):
+            self._live.close()
+
+    def prepare(self, changes: Iterable[Change]) -> Work:
+        """What a transaction changes. The session isn't touched, and may be asked meanwhile."""
+        work = Work(self._schema)
+        for change in changes:
+            self._change(work, change)
+            work.count += 1
+        return work
+
+    def apply(self, work: Work) -> None:
+        """Makes the changes of a transaction, in the order in which they were prepared. Where that is broken off, the session
+        isn't to be asked any more."""
+        if work.empty is not None:
+            self.close()
+            self._live = work.empty
+        with anew_where_full():
+            self._live.send(work.text())
+
+    def check(self) -> None:
+        """Raises where the session refused a row or a change, which none of a table's is."""
+        with anew_where_full():
+            refused = self._live.refusals()
+        if refused:
+            raise CantFollow(
+                f"change {refused[0].record} of table {self._rows.table} was refused with code {refused[0].code}, so the cube isn't the "
+                "table's any more. This is a fault of the follower: report it, and start it again"
+            )
+
+    def _change(self, work: Work, change: Change) -> None:
+        kind = change["action"]
+        if kind == "I":
+            self._insert(work, self._new(change))
+        elif kind == "U":
+            self._update(work, values_of(change["identity"]), self._new(change))
+        elif kind == "D":
+            self._delete(work, self._rows.id_of(values_of(change["identity"])))
+        elif kind == "T":
+            work.truncate()
+            self.left_out.clear()
+
+    def _new(self, change: Change) -> Values:
+        """The values of a changed row, whose columns have to be those that the table had."""
+        columns = self._rows.table.columns
+        for it in change["columns"]:
+            if it["name"] not in columns or str(columns[it["name"]].number) != it["position"]:
+                raise ColumnsChanged(
+                    f"the columns of table {self._rows.table} changed: column {it['name']} is number {it['position']} now. Start the "
+                    "follower again: it takes the table as it is then"
+                )
+        return values_of(change["columns"])
+
+    def _insert(self, work: Work, values: Values) -> None:
+        id, fields = self._rows.id_of(values), self._fields(values)
+        if fields is None:
+            self.left_out.add(id)
+        elif KEPT in fields:
+            raise self._not_told(values)
+        else:
+            work.put("I", id, *fields)
+
+    def _update(self, work: Work, before: Values, values: Values) -> None:
+        """An update; that of a key is a delete and an insert, and so is one between what can be said and what can't. A value
+        that the log doesn't tell, since it is long and didn't change, is kept."""
+        whole = {**before, **values}
+        old, new = self._rows.id_of(before), self._rows.id_of(whole)
+        fields = self._fields(whole)
+        if old == new and old not in self.left_out and fields is not None:
+            work.put("U", old, *fields)
+        else:
+            self._delete(work, old)
+            self._insert(work, whole)
+
+    def _delete(self, work: Work, id: str) -> None:
+        if id in self.left_out:
+            self.left_out.remove(id)
+        else:
+            work.put("D", id)
+
+    def _fields(self, values: Values) -> Optional[List[str]]:
+        """The fields of a row, or none where it can't be said and is left out."""
+        try:
+            return self._rows.fields_of(values)
+        except RowUnsayable:
+            if not self._skip:
+                raise
+            return None
+
+    def _not_told(self, values: Values) -> CantFollow:
+        missing = next(it for it in self._rows.names if it not in values)
+        table = self._rows.table
+        return CantFollow(
+            f"table {table}, key {self._rows.key_of(values)}: the row is put anew, and the log doesn't tell its column {missing}, whose "
+            f"long text didn't change: ALTER TABLE {table} REPLICA IDENTITY FULL, and start the follower again"
+        )
+
+
+@contextlib.contextmanager
+def anew_where_full() -> Iterator[None]:
+    """Turns the end of a session that has taken as many records as it may into `BeginAnew`."""
+    try:
+        yield
+    except Ended as why:
+        if why.line.endswith("F4"):
+            raise BeginAnew("the session has taken as many changes as it can") from None
+        raise

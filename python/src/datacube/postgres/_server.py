@@ -1,0 +1,142 @@
+"""The pages of a follower, for this machine alone: the explorer over the cube, and metrics."""
+from __future__ import annotations
+
+import os
+import threading
+from http import HTTPStatus
+from http.server import BaseHTTPRequestHandler, ThreadingHTTPServer
+from types import TracebackType
+from typing import Dict, Optional, Sequence, Type
+
+from .._cube import Cube
+from .._errors import DatacubeError
+from ._errors import CantFollow, NotCaughtUp
+from ._follower import Follower
+from ._metrics import CONTENT_TYPE, metrics_text
+from ._slot import TOLD
+
+HERE = os.path.dirname(os.path.abspath(__file__))
+# (in a wheel, and in the repository)
+PAGES = [os.path.join(HERE, "explorer.html"), os.path.join(HERE, *[".."] * 4, "explorer", "index.html")]
+ADDRESS = "127.0.0.1"
+SECONDS_BETWEEN_LOOKS = 0.1
+# (the explorer asks nobody for anything; this one asks where it comes from)
+POLICY, END = "img-src data:", "</body>"
+
+
+class Server:
+    """Serves `/`, the explorer over the live cube, `/cube.csv`, the printed cube, and `/metrics`, a slice of it for monitors,
+    on a port of 127.0.0.1, in threads of its own between `start` and `close`, or in a `with` block. Port 0 is any free one.
+    The slice is given by its fields, as `datacube slice` takes them; without them it is of each value of the first dimension."""
+
+    def __init__(self, follower: Follower, port: int = 0, slice: Optional[Sequence[str]] = None) -> None:
+        count = len(follower.schema.dimensions)
+        fields = list(slice) if slice is not None else ["?"] + ["\\A"] * (count - 1)
+        if len(fields) != count:
+            raise CantFollow(f"the slice for metrics has {len(fields)} fields, and the schema {count} dimensions")
+        page = page_text()
+        handler = type("Handler", (Handler,), {"follower": follower, "fields": fields, "page": page.encode("utf-8")})
+        self._server = ThreadingHTTPServer((ADDRESS, port), handler)
+        self._server.daemon_threads = True
+        self.port = self._server.server_address[1]
+        self._thread = threading.Thread(target=self._server.serve_forever, args=[SECONDS_BETWEEN_LOOKS], name="datacube server", daemon=True)
+
+    @property
+    def address(self) -> str:
+        return f"http://{ADDRESS}:{self.port}/"
+
+    def __enter__(self) -> "Server":
+        self.start()
+        return self
+
+    def __exit__(self, kind: Optional[Type[BaseException]], why: Optional[BaseException], at: Optional[TracebackType]) -> None:
+        self.close()
+
+    def start(self) -> None:
+        self._thread.start()
+
+    def close(self) -> None:
+        if self._thread.ident is not None:
+            self._server.shutdown()
+        self._server.server_close()
+
+
+class Handler(BaseHTTPRequestHandler):
+    """Answers a request."""
+
+    follower: Follower
+    fields: Sequence[str]
+    page: bytes
+    server_version = "datacube"
+
+    def do_GET(self) -> None:
+        path = self.path.partition("?")[0]
+        answers = {"/": self._page, "/cube.csv": self._cube, "/metrics": self._metrics}
+        if not self._is_for_us():
+            self._send(HTTPStatus.MISDIRECTED_REQUEST, "text/plain", b"This is served under the names 127.0.0.1 and localhost alone.\n")
+        elif path not in answers:
+            self._send(HTTPStatus.NOT_FOUND, "text/plain", b"There are /, /cube.csv and /metrics.\n")
+        else:
+            answers[path]()
+
+    def _is_for_us(self) -> bool:
+        """Whether the request names this machine: a page of elsewhere that was led here by its name doesn't."""
+        return self.headers.get("Host", "").partition(":")[0] in (ADDRESS, "localhost")
+
+    def _page(self) -> None:
+        self._send(HTTPStatus.OK, "text/html; charset=utf-8", self.page)
+
+    def _cube(self) -> None:
+        try:
+            state = self.follower.state
+            tag, text = tag_of(state.version), b""
+            if not state.is_caught_up or self.headers.get("If-None-Match") != tag:
+                state, answer = self.follower.ask_with_state("print")
+                tag, text = tag_of(state.version), answer.encode("utf-8")
+        except DatacubeError as why:
+            self._send(HTTPStatus.SERVICE_UNAVAILABLE, "text/plain; charset=utf-8", f"{why}\n".encode("utf-8"))
+            return
+        headers = {"ETag": tag, "Datacube-Table": self.follower.name.encode("ascii", "replace").decode(), "Datacube-Connected": str(int(state.is_connected))}
+        self._send(HTTPStatus.OK if text else HTTPStatus.NOT_MODIFIED, "text/csv; charset=utf-8", text, headers)
+
+    def _metrics(self) -> None:
+        """A follower that hasn't caught up has its own metrics alone; one that stopped has none, so that monitors see it."""
+        cube: Optional[Cube] = None
+        state = self.follower.state
+        try:
+            state, text = self.follower.ask_with_state("slice", *self.fields)
+            cube = Cube(text)
+        except NotCaughtUp:
+            pass
+        except DatacubeError as why:
+            self._send(HTTPStatus.SERVICE_UNAVAILABLE, "text/plain; charset=utf-8", f"{why}\n".encode("utf-8"))
+            return
+        self._send(HTTPStatus.OK, CONTENT_TYPE, metrics_text(self.follower.name, state, cube).encode("utf-8"))
+
+    def _send(self, status: HTTPStatus, kind: str, body: bytes, headers: Optional[Dict[str, str]] = None) -> None:
+        self.send_response(status)
+        fixed = {"Content-Type": kind, "Content-Length": str(len(body)), "Cache-Control": "no-store", "X-Content-Type-Options": "nosniff"}
+        for name, value in {**fixed, **(headers or {})}.items():
+            self.send_header(name, value)
+        self.end_headers()
+        self.wfile.write(body)
+
+    def log_message(self, format: str, *words: object) -> None:
+        TOLD.debug(format, *words)
+
+
+def tag_of(version: "tuple[int, int]") -> str:
+    """The cube's version as an entity tag."""
+    return '"{}-{}"'.format(*version)
+
+
+def page_text() -> str:
+    """The explorer, with a script at its end that puts the cube in, and that may ask the server for it."""
+    path = next((it for it in PAGES if os.path.exists(it)), None)
+    if path is None:
+        raise CantFollow("the package has no page: install it from the repository")
+    with open(path, encoding="utf-8") as file, open(os.path.join(HERE, "live.js"), encoding="utf-8") as script:
+        page, code = file.read(), script.read()
+    assert page.count(POLICY) == 1 and END in page
+    start, end = page.replace(POLICY, f"{POLICY}; connect-src 'self'").rsplit(END, 1)
+    return f"{start}<script>\n{code}</script>\n{END}{end}"

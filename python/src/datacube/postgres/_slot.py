@@ -1,0 +1,175 @@
+"""Connections, and the replication slot that keeps a follower's place in the write-ahead log."""
+from __future__ import annotations
+
+import contextlib
+import logging
+import re
+import time
+from dataclasses import dataclass
+from typing import TYPE_CHECKING, Any, Iterator, Optional, Sequence, Tuple
+
+import psycopg2
+import psycopg2.errors
+import psycopg2.extensions
+import psycopg2.extras
+
+from ._errors import CantFollow
+from ._table import one
+
+if TYPE_CHECKING:
+    from psycopg2.extensions import connection as Connection
+    from psycopg2.extras import LogicalReplicationConnection
+
+TOLD = logging.getLogger("datacube.postgres")
+PLUGIN = "wal2json"
+# (values are written alike by COPY and by the plugin, and no row is hidden)
+SETTINGS = "-c DateStyle=ISO -c TimeZone=UTC -c IntervalStyle=postgres -c row_security=off -c statement_timeout=0 -c lock_timeout=0 -c idle_in_transaction_session_timeout=0"
+# (a connection whose other end is silent is given up after half a minute)
+DEFAULTS = {
+    "connect_timeout": "10", "keepalives_idle": "10", "keepalives_interval": "5", "keepalives_count": "3", "tcp_user_timeout": "30000",
+    "fallback_application_name": "datacube",
+}
+SECONDS_TO_BE_FREE = 10
+
+SERVER = """
+SELECT current_setting('wal_level'), pg_encoding_to_char(encoding), pg_is_in_recovery(), current_setting('server_version_num')::int
+FROM pg_database WHERE datname = current_database()
+"""
+
+SLOT = """
+SELECT plugin, database = current_database(), active_pid FROM pg_replication_slots WHERE slot_name = %s
+"""
+
+
+def dsn_of(dsn: str) -> str:
+    """A connection string with the settings that a follower wants; what the caller says goes before."""
+    given = psycopg2.extensions.parse_dsn(dsn)
+    options = " ".join(it for it in (given.pop("options", ""), SETTINGS) if it)
+    return str(psycopg2.extensions.make_dsn(**{**DEFAULTS, **given, "options": options, "client_encoding": "UTF8"}))
+
+
+def connect(dsn: str) -> "Connection":
+    """A connection for SQL, in which each statement is a transaction."""
+    connection = psycopg2.connect(dsn_of(dsn))
+    connection.autocommit = True
+    return connection
+
+
+def connect_to_replicate(dsn: str) -> "LogicalReplicationConnection":
+    """A connection for a replication slot."""
+    return psycopg2.connect(dsn_of(dsn), connection_factory=psycopg2.extras.LogicalReplicationConnection)
+
+
+def slot_name(table: str) -> str:
+    """The name of the slot of a table, where none is given."""
+    return "datacube_" + re.sub(r"[^a-z0-9_]", "_", table.lower())[:54]
+
+
+@dataclass(frozen=True)
+class Place:
+    """Which history of which server an LSN is of."""
+
+    server: str
+    timeline: str
+
+
+def place_of(connection: "LogicalReplicationConnection") -> Place:
+    with connection.cursor() as cursor:
+        cursor.execute("IDENTIFY_SYSTEM")
+        server, timeline = one(cursor)[:2]
+    return Place(str(server), str(timeline))
+
+
+def check_server(connection: "Connection") -> None:
+    """Raises `CantFollow` where the server or the database can't be followed."""
+    with connection.cursor() as cursor:
+        cursor.execute(SERVER)
+        level, encoding, is_standby, version = one(cursor)
+    if level != "logical":
+        raise CantFollow(f"the server has wal_level = {level}: ALTER SYSTEM SET wal_level = logical, and restart it")
+    if encoding != "UTF8":
+        raise CantFollow(f"the database is written in {encoding}, and only UTF8 is followed")
+    if is_standby:
+        raise CantFollow("the server is a standby: follow its primary")
+    if version < 120000:
+        raise CantFollow("the server is older than PostgreSQL 12")
+
+
+def make_slot(connection: "LogicalReplicationConnection", slot: str) -> Tuple[int, str]:
+    """Makes the slot; gives the LSN from which it tells, and the snapshot of that moment, which holds until the connection is
+    used again."""
+    cursor: Any
+    with connection.cursor() as cursor:
+        try:
+            cursor.create_replication_slot(slot, output_plugin=PLUGIN)
+        except psycopg2.errors.UndefinedFile as why:
+            raise CantFollow(f"the server has no output plugin {PLUGIN}: install it (Debian: postgresql-15-wal2json). {why}") from None
+        except psycopg2.errors.InsufficientPrivilege as why:
+            raise CantFollow(f"the role may not replicate: ALTER ROLE .. REPLICATION. {why}") from None
+        except psycopg2.errors.ConfigurationLimitExceeded as why:
+            raise CantFollow(f"the server has no room for a slot: drop one that nobody uses, or raise max_replication_slots. {why}") from None
+        _, start, snapshot = one(cursor)[:3]
+    return lsn_of(start), snapshot
+
+
+def drop_slot(connection: "Connection", slot: str) -> bool:
+    """Drops the slot where it is there, and says whether it was. It waits some seconds until the slot is free, as one is
+    soon after its follower was killed."""
+    until = time.monotonic() + SECONDS_TO_BE_FREE
+    with connection.cursor() as cursor:
+        while True:
+            cursor.execute(SLOT, [slot])
+            row = cursor.fetchone()
+            if row is None:
+                return False
+            check_ours(slot, *row[:2])
+            with contextlib.suppress(psycopg2.errors.ObjectInUse):
+                cursor.execute("SELECT pg_drop_replication_slot(%s)", [slot])
+                return True
+            if time.monotonic() > until:
+                raise CantFollow(
+                    f"the slot {slot} is in use by the server's process {row[2]}: is another follower running? End that one, or give "
+                    "this one another slot; a follower that was cut off is forgotten after wal_sender_timeout"
+                )
+            time.sleep(0.1)
+
+
+def check_ours(slot: str, plugin: Optional[str], is_of_database: Optional[bool]) -> None:
+    """Raises `CantFollow` where a slot isn't one that a follower of this database made."""
+    if plugin != PLUGIN or not is_of_database:
+        raise CantFollow(f"the slot {slot} is of {plugin or 'a standby'}{'' if is_of_database else ' in another database'}: give this follower another slot")
+
+
+@contextlib.contextmanager
+def snapshot_of(connection: "Connection", snapshot: str) -> Iterator[Any]:
+    """A cursor that sees the tables as they are in a snapshot."""
+    with connection.cursor() as cursor:
+        cursor.execute("BEGIN ISOLATION LEVEL REPEATABLE READ READ ONLY")
+        cursor.execute("SET TRANSACTION SNAPSHOT %s", [snapshot])
+        yield cursor
+        cursor.execute("COMMIT")
+
+
+def now_of(connection: "Connection") -> int:
+    """The LSN up to which the server has written its log."""
+    with connection.cursor() as cursor:
+        cursor.execute("SELECT pg_current_wal_lsn()")
+        return lsn_of(one(cursor)[0])
+
+
+def cancel(connection: "Connection", processes: Sequence[int]) -> None:
+    """Cancels what some of the server's processes are at."""
+    with connection.cursor() as cursor:
+        for it in processes:
+            cursor.execute("SELECT pg_cancel_backend(%s)", [it])
+
+
+def lsn_of(text: str) -> int:
+    """An LSN as a number of bytes."""
+    high, low = text.split("/")
+    return (int(high, 16) << 32) + int(low, 16)
+
+
+def lsn_text(lsn: int) -> str:
+    """An LSN as PostgreSQL writes it."""
+    return f"{lsn >> 32:X}/{lsn & 0xFFFFFFFF:X}"

@@ -1,0 +1,164 @@
+"""Rows as facts: ids, dimensions and measures."""
+from __future__ import annotations
+
+import json
+import re
+from fractions import Fraction
+from typing import Dict, Final, List, Mapping, Optional, Sequence, Union
+
+from .._cube import GREATEST, LEAST
+from .._live import NULL
+from .._schema import Schema
+from ._errors import CantFollow, RowUnsayable
+from ._table import TEXTS, Column, Table
+
+# (a value as COPY and wal2json write it; one that the log leaves out, since it is long and didn't change, isn't there)
+Value = Union[str, bool, None]
+Values = Mapping[str, Value]
+
+KEPT: Final = "\\="
+SPECIAL: Final = {NULL: "null", KEPT: "that a value is kept"}
+BOOLS: Final[Mapping[Value, str]] = {True: "true", False: "false", "t": "true", "f": "false", "true": "true", "false": "false"}
+ESCAPE = re.compile(r"\\(.)", re.DOTALL)
+ESCAPES: Final = {"b": "\b", "f": "\f", "n": "\n", "r": "\r", "t": "\t", "v": "\v"}
+
+
+class Rows:
+    """How the rows of a table are said: which columns are the dimensions and measures of a schema, in its order, and by
+    which power of ten a measure is taken."""
+
+    def __init__(
+        self, table: Table, schema: Schema, dimensions: Optional[Sequence[str]], measures: Optional[Sequence[str]], scale: Mapping[str, int]
+    ) -> None:
+        self.table = table
+        self.dimensions = columns_of(table, "dimension", schema.dimensions, dimensions)
+        self.measures = columns_of(table, "measure", schema.measures, measures)
+        self.factors = factors_of(self.measures, scale)
+        for column in self.dimensions:
+            check_dimension(table, column)
+        for column in self.measures:
+            check_measure(table, column)
+        self._key = [table.columns[it] for it in table.key]
+        self._is_bare = len(self._key) == 1 and self._key[0].base not in TEXTS
+        for column in self._key:
+            if not column.is_exact and column.base != "numeric":
+                raise CantFollow(f"table {table} has a key with column {column.name} of type {column.type}, which can't name rows here")
+
+    @property
+    def names(self) -> List[str]:
+        """The columns that are taken, each once."""
+        return list(dict.fromkeys([*self.table.key, *(it.name for it in [*self.dimensions, *self.measures])]))
+
+    def id_of(self, values: Values) -> str:
+        """The id of a row: the text of its key, or a list of texts where one alone could be empty or mean two keys."""
+        texts = [self._key_text(column, values) for column in self._key]
+        return texts[0] if self._is_bare else json.dumps(texts, ensure_ascii=False)
+
+    def _key_text(self, column: Column, values: Values) -> str:
+        text = text_of(column, values.get(column.name))
+        if text is None:
+            raise CantFollow(f"table {self.table}: a change doesn't tell column {column.name} of its key")
+        return text
+
+    def key_of(self, values: Values) -> str:
+        """The key of a row as errors say it."""
+        shown = [str(text_of(it, values.get(it.name))) for it in self._key]
+        return f"({', '.join(it.name for it in self._key)})=({', '.join(shown)})"
+
+    def fields_of(self, values: Values) -> List[str]:
+        """The fields of a row's dimensions and measures as a feed has them, KEPT where the row doesn't tell one; raises
+        `RowUnsayable` where no feed can say it."""
+        fields = [self._text(it, values) for it in self.dimensions]
+        return fields + [self._number(*it, values) for it in zip(self.measures, self.factors)]
+
+    def _text(self, column: Column, values: Values) -> str:
+        if column.name not in values:
+            return KEPT
+        text = text_of(column, values[column.name])
+        if text is None:
+            return NULL
+        if text in SPECIAL:
+            raise self._unsayable(column, values, f"the text {text} can't be said, since it means {SPECIAL[text]} in a feed")
+        return text
+
+    def _number(self, column: Column, factor: int, values: Values) -> str:
+        if column.name not in values:
+            return KEPT
+        value = values[column.name]
+        if value is None and column.is_not_null:
+            raise self._unsayable(column, values, "NaN or an infinity is no whole number")
+        if value is None:
+            return NULL
+        try:
+            number = int(value) if factor == 1 and column.is_whole else whole(str(value), factor)
+        except ValueError:
+            scaled = f", times {factor}," if factor != 1 else ""
+            raise self._unsayable(column, values, f"{value}{scaled} is no whole number") from None
+        if not LEAST <= number <= GREATEST:
+            raise self._unsayable(column, values, f"{number} doesn't fit 64 bits")
+        return str(number)
+
+    def _unsayable(self, column: Column, values: Values, why: str) -> RowUnsayable:
+        return RowUnsayable(str(self.table), self.key_of(values), column.name, why)
+
+
+def columns_of(table: Table, what: str, wanted: Sequence[str], given: Optional[Sequence[str]]) -> List[Column]:
+    """The columns of the dimensions or of the measures of a schema: those that are given, or those of the same names."""
+    names = list(wanted if given is None else given)
+    if len(names) != len(wanted):
+        raise CantFollow(f"the schema has {len(wanted)} {what}s, {', '.join(wanted)}, and {len(names)} columns are given for them")
+    return [table.column(it, what) for it in names]
+
+
+def factors_of(measures: Sequence[Column], scale: Mapping[str, int]) -> List[int]:
+    """The power of ten that each measure is taken by."""
+    for name, digits in scale.items():
+        if name not in [it.name for it in measures]:
+            raise CantFollow(f"a scale is given for {name}, which is no column of a measure")
+        if not 0 <= digits <= 18:
+            raise CantFollow(f"the scale of {name} is a number of decimals from 0 to 18, and {digits} isn't")
+    return [10 ** scale.get(it.name, 0) for it in measures]
+
+
+def check_dimension(table: Table, column: Column) -> None:
+    if not column.is_exact:
+        raise CantFollow(
+            f"column {column.name} of table {table} is of type {column.type}, of which equal values may have different texts, so it "
+            "is no dimension: follow a generated column of type text, or numeric(P,S)"
+        )
+
+
+def check_measure(table: Table, column: Column) -> None:
+    if not column.is_whole and column.base != "numeric":
+        raise CantFollow(f"column {column.name} of table {table} is of type {column.type}: a measure is a whole number or a numeric")
+
+
+def text_of(column: Column, value: Value) -> Optional[str]:
+    """A value as SQL casts it to text."""
+    if value is None:
+        return None
+    return BOOLS[value] if column.is_bool else str(value)
+
+
+def whole(text: str, factor: int) -> int:
+    """A decimal number times a factor, exactly; raises `ValueError` where that isn't whole."""
+    number = Fraction(text) * factor
+    if number.denominator != 1:
+        raise ValueError(text)
+    return number.numerator
+
+
+def row_of(line: str) -> List[Optional[str]]:
+    """The fields of a line of COPY in its text format."""
+    return [field_of(it) for it in line.split("\t")]
+
+
+def field_of(text: str) -> Optional[str]:
+    if "\\" not in text:
+        return text
+    return None if text == "\\N" else ESCAPE.sub(lambda it: ESCAPES.get(it[1], it[1]), text)
+
+
+def values_of(columns: Sequence[Dict[str, Value]]) -> Dict[str, Value]:
+    """The values of a change by the names of their columns."""
+    return {str(it["name"]): it["value"] for it in columns}

@@ -1,0 +1,208 @@
+"""A private PostgreSQL for tests, writers on it, what SQL says of a table's cube, and a way to it that can be cut."""
+from __future__ import annotations
+
+import contextlib
+import importlib
+import json
+import os
+import select
+import shutil
+import socket
+import subprocess
+import sys
+import tempfile
+import threading
+import time
+import unittest
+from typing import Any, Iterator, List, Optional, Sequence
+
+import beside
+import datacube
+import oracle
+import sql
+
+HERE = os.path.dirname(os.path.realpath(__file__))
+LONG = bool(os.environ.get("DATACUBE_LONG"))
+# (what the tests look for in it isn't safe from a crash of the machine)
+SETTINGS = ["listen_addresses=", "fsync=off", "wal_level=logical", "max_wal_senders=20", "max_replication_slots=20", "jit=off", "deadlock_timeout=50ms"]
+DIMENSIONS, MEASURES = ["city", "product", "is_paid"], ["price", "cents"]
+AGGREGATES = ["count(*)", "count(price)", "sum(price)", "min(price)", "max(price)", "avg(price)", "sum(cents)", "min(cents)", "max(cents)", "avg(cents)"]
+SCHEMA = datacube.Schema(DIMENSIONS, MEASURES, AGGREGATES)
+# the writers' table, and its facts as the schema has them
+CREATE = """
+CREATE TABLE {table} (
+    kind text, number bigint, city text, product varchar(40), is_paid boolean, price numeric(12, 2), cents bigint, note text,
+    PRIMARY KEY (kind, number)
+)
+"""
+FACTS = """
+CREATE OR REPLACE TEMP VIEW facts AS
+SELECT city, product::text, is_paid::text, (price * 100)::bigint AS price, cents FROM {table}
+"""
+
+
+def missing() -> Optional[str]:
+    """What these tests lack, or none."""
+    for module, package in (("psycopg2", "python3-psycopg2"),):
+        try:
+            importlib.import_module(module)
+        except ImportError:
+            return f"{package} isn't installed for this Python"
+    binaries = sql.newest_server()
+    if not binaries:
+        return "Debian's package postgresql isn't installed"
+    if not os.path.exists(f"{os.path.dirname(binaries)}/lib/wal2json.so"):
+        return "Debian's package postgresql-15-wal2json isn't installed"
+    return None if shutil.which("setpriv") else "there is no setpriv"
+
+
+class Private:
+    """A private server in a folder of its own, which may be ended and begun again."""
+
+    def __init__(self) -> None:
+        self.room = tempfile.mkdtemp(prefix="datacube-pg-")
+        self.server = sql.Server(sql.newest_server(), self.room, SETTINGS)
+        self.server.__enter__()
+        self.dsn = f"host={self.room} user=datacube dbname=postgres"
+
+    def close(self) -> None:
+        self.server.end()
+        shutil.rmtree(self.room)
+
+    @contextlib.contextmanager
+    def connected(self) -> Iterator[Any]:
+        """A cursor whose statements are transactions."""
+        import psycopg2
+
+        with contextlib.closing(psycopg2.connect(self.dsn)) as connection:
+            connection.autocommit = True
+            with connection.cursor() as cursor:
+                yield cursor
+
+    def run(self, *statements: str) -> None:
+        with self.connected() as cursor:
+            for it in statements:
+                cursor.execute(it)
+
+    def ask(self, statement: str) -> List[Any]:
+        with self.connected() as cursor:
+            cursor.execute(statement)
+            rows: List[Any] = cursor.fetchall()
+        return rows
+
+    def cube(self, facts: str, schema: datacube.Schema = SCHEMA) -> str:
+        """The printed cube as GROUP BY CUBE gives it, over what a statement makes a view named facts of."""
+        like = oracle.Schema(list(schema.dimensions), list(schema.measures), [aggregate(schema, it) for it in schema.aggregates])
+        header = oracle.text_of(like, []).decode()
+        out = tempfile.SpooledTemporaryFile(2**24)
+        with self.connected() as cursor:
+            cursor.execute(facts)
+            cursor.copy_expert(rf"COPY ({sql.cube(like)}) TO STDOUT WITH (FORMAT csv, NULL '\N')", out)
+        out.seek(0)
+        return header + out.read().decode()
+
+
+def aggregate(schema: datacube.Schema, text: str) -> Any:
+    """An aggregate as the oracle has it."""
+    kind, _, rest = text.partition("(")
+    return kind, None if rest == "*)" else schema.measures.index(rest[:-1])
+
+
+class Writers:
+    """Processes that write side by side."""
+
+    def __init__(self, private: Private, table: str, seed: str, count: int = 4) -> None:
+        command = [sys.executable, "-B", f"{HERE}/writers.py", private.dsn, table]
+        pipes = {"stdin": subprocess.PIPE, "stdout": subprocess.PIPE, "text": True}
+        self.processes = [subprocess.Popen([*command, f"{seed} {at}"], **pipes) for at in range(count)]
+        self.transactions = self.changes = 0
+
+    def __enter__(self) -> "Writers":
+        return self
+
+    def __exit__(self, *_: object) -> None:
+        for it in self.processes:
+            it.stdin.close()
+            it.wait()
+            it.stdout.close()
+
+    def begin(self, count: int) -> None:
+        """Lets each make so many transactions."""
+        for it in self.processes:
+            it.stdin.write(f"run {count}\n")
+            it.stdin.flush()
+
+    def end(self) -> None:
+        """Waits until all have made theirs, and adds up what they committed."""
+        told = [json.loads(it.stdout.readline()) for it in self.processes]
+        self.transactions, self.changes = (sum(it[name] for it in told) for name in ("transactions", "changes"))
+
+    def run(self, count: int) -> None:
+        self.begin(count)
+        self.end()
+
+
+class Way:
+    """A way to a server's socket that can be cut, at once or after so many bytes more from the server."""
+
+    def __init__(self, private: Private) -> None:
+        self.target = f"{private.room}/.s.PGSQL.5432"
+        self.room = tempfile.mkdtemp(prefix="datacube-way-")
+        self.dsn = private.dsn.replace(private.room, self.room)
+        self.left: Optional[int] = None
+        self.cuts, self.is_shut = 0, False
+        self.ends: List[socket.socket] = []
+        self.server = socket.socket(socket.AF_UNIX)
+        self.server.bind(f"{self.room}/.s.PGSQL.5432")
+        self.server.listen()
+        threading.Thread(target=self.accept, daemon=True).start()
+
+    def accept(self) -> None:
+        with contextlib.suppress(OSError):
+            while True:
+                near, far = self.server.accept()[0], socket.socket(socket.AF_UNIX)
+                with contextlib.suppress(OSError):
+                    if not self.is_shut:
+                        far.connect(self.target)
+                        self.ends += [near, far]
+                        threading.Thread(target=self.carry, args=[near, far], daemon=True).start()
+                        continue
+                near.close()
+                far.close()
+
+    def carry(self, near: socket.socket, far: socket.socket) -> None:
+        with near, far, contextlib.suppress(OSError, ValueError):
+            while True:
+                for it in select.select([near, far], [], [])[0]:
+                    data = it.recv(65536)
+                    if not data:
+                        return
+                    if it is far and self.left is not None:
+                        data, self.left = data[: self.left], self.left - len(data)
+                    (far if it is near else near).sendall(data)
+                    if self.left is not None and self.left <= 0:
+                        self.left = None
+                        self.cut()
+                        return
+
+    def cut(self) -> None:
+        """Cuts all connections."""
+        self.cuts += 1
+        ends, self.ends = self.ends, []
+        for it in ends:
+            with contextlib.suppress(OSError):
+                it.shutdown(socket.SHUT_RDWR)
+
+    def close(self) -> None:
+        self.server.close()
+        self.cut()
+        shutil.rmtree(self.room)
+
+
+def until(is_so: Any, seconds: float = 30) -> None:
+    """Waits until something is so."""
+    end = time.monotonic() + seconds
+    while not is_so():
+        if time.monotonic() > end:
+            raise AssertionError(f"it wasn't so within {seconds} seconds")
+        time.sleep(0.01)

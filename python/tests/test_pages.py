@@ -1,0 +1,85 @@
+"""The first minutes of docs/PYTHON.md and docs/POSTGRES.md, word for word, as a new user of this machine would have them.
+
+They run where DATACUBE_LONG=1 is in the environment: an installation takes its time."""
+import os
+import re
+import shutil
+import socket
+import subprocess
+import tempfile
+import unittest
+
+import beside
+import private_server
+
+BLOCK = re.compile(r"^```(\w*)\n(.*?)^```$", re.MULTILINE | re.DOTALL)
+NEEDS = ["python", "release", "explorer", "examples"]
+PATH = "/usr/bin:/bin"
+NOBODY = ["setpriv", "--reuid", "65534", "--regid", "65534", "--clear-groups"] if os.geteuid() == 0 else []
+
+
+def blocks(page, part):
+    """The kinds and texts of a part's blocks, up to the next part."""
+    with open(f"{beside.ROOT}/docs/{page}.md", encoding="utf-8") as file:
+        text = file.read().partition(f"\n## {part}\n")[2].partition("\n## ")[0]
+    return [(it[1], it[2]) for it in BLOCK.finditer(text)]
+
+
+def why_not():
+    if not private_server.LONG:
+        return "they are of the long form"
+    if not os.path.exists("/usr/bin/python3") or not shutil.which("curl", path=PATH):
+        return "Debian's python3 or curl isn't installed"
+    lacks = subprocess.run(["/usr/bin/python3", "-c", "import venv, ensurepip, setuptools, wheel, psycopg2"], stderr=subprocess.DEVNULL).returncode
+    return "Debian's python3-venv, python3-setuptools, python3-wheel or python3-psycopg2 isn't installed" if lacks else private_server.missing()
+
+
+@unittest.skipIf(why_not(), f"the first minutes of the pages: {why_not()}")
+class Pages(unittest.TestCase):
+    def setUp(self):
+        """A folder of a new user, with what the pages take from the repository."""
+        self.folder = tempfile.mkdtemp(prefix="datacube-user-")
+        self.addCleanup(shutil.rmtree, self.folder)
+        for it in NEEDS:
+            shutil.copytree(f"{beside.ROOT}/{it}", f"{self.folder}/{it}", ignore=shutil.ignore_patterns("build", "*.egg-info", "__pycache__", ".mypy_cache"))
+        if NOBODY:
+            subprocess.run(["chown", "-R", "65534:65534", self.folder], check=True)
+
+    def said(self, script):
+        """What a script of bash says, without spaces at the ends of lines."""
+        env = {"HOME": self.folder, "PATH": PATH}
+        ran = subprocess.run([*NOBODY, "bash", "-e"], input=script, cwd=self.folder, env=env, stdout=subprocess.PIPE, stderr=subprocess.STDOUT, text=True)
+        return re.sub(r" +$", "", ran.stdout, flags=re.MULTILINE)
+
+    def test_python(self):
+        (shell, install), (python, example), (_, wanted) = blocks("PYTHON", "Five minutes from nothing")[:3]
+        self.assertEqual((shell, python), ("sh", "python"))
+        self.assertTrue(self.said(f"{install}v/bin/python <<'EOF'\n{example}EOF\n").endswith(wanted))
+
+    def test_postgres(self):
+        """The follower runs beside the commands that come after it, until its pages were looked at."""
+        with socket.socket() as it:
+            it.bind(("127.0.0.1", 0))
+            port = str(it.getsockname()[1])
+        script, wanted = "", []
+        for kind, text in blocks("POSTGRES", "Five minutes from nothing"):
+            text = text.replace("8000", port)
+            if not kind:
+                wanted.append(text)
+            elif kind == "python":
+                script += f"v/bin/python <<'EOF'\n{text}EOF\n"
+            elif "--serve" in text:
+                script += f"{text.rstrip()} > said 2>&1 &\nuntil grep -q copied said; do sleep 0.1; done; cat said\n"
+            elif "curl" in text:
+                script += text.replace("\ncurl", "\nsleep 1\ncurl") + "kill %1; wait\n"
+            else:
+                script += text
+        said = self.said(script)
+        self.assertEqual(len(wanted), 4)
+        for it in wanted:
+            self.assertIn(it, said)
+        self.assertTrue(said.endswith("server stopped\n"), said)
+
+
+if __name__ == "__main__":
+    unittest.main()

@@ -1,0 +1,840 @@
+"""Cubes that follow a table of a private PostgreSQL, beside its own GROUP BY CUBE.
+
+With DATACUBE_LONG=1 in the environment the writers make more than 20,000 transactions, and more is killed and cut."""
+import json
+import os
+import random
+import re
+import signal
+import subprocess
+import sys
+import threading
+import time
+import unittest
+import urllib.error
+import urllib.request
+from fractions import Fraction
+from unittest import mock
+
+import beside
+import datacube
+import private_server
+from datacube import ALL, ANY, KEEP
+from private_server import CREATE, FACTS, LONG, SCHEMA, until
+
+WHY = private_server.missing()
+if WHY is None:
+    from datacube import postgres
+    from datacube.postgres import CantFollow, ColumnsChanged, Follower, NotCaughtUp, RowUnsayable, _metrics, _values
+
+SALES = datacube.Schema(["city", "product"], ["cents"], ["count(*)", "sum(cents)"])
+SECONDS = 60
+PRIVATE = None
+
+
+def setUpModule():
+    global PRIVATE
+    if WHY:
+        raise unittest.SkipTest(f"following a table: {WHY}")
+    PRIVATE = private_server.Private()
+    unittest.addModuleCleanup(PRIVATE.close)
+
+
+class Base(unittest.TestCase):
+    """A test with a table of its own."""
+
+    table = "sales"
+
+    def setUp(self):
+        self.table = re.sub(r"\W", "_", self.id().rpartition(".")[2])[:40]
+        self.addCleanup(self.drop)
+
+    def drop(self):
+        self.run_sql("SELECT pg_drop_replication_slot(slot_name) FROM pg_replication_slots WHERE NOT active")
+        self.run_sql("DROP TABLE IF EXISTS {table}, other_{table} CASCADE")
+
+    def run_sql(self, *statements):
+        PRIVATE.run(*(it.replace("{table}", self.table) for it in statements))
+
+    def sales(self, *rows):
+        """A small table with rows."""
+        self.run_sql("CREATE TABLE {table} (id int PRIMARY KEY, city text, product varchar(20), cents bigint)")
+        for row in rows:
+            with PRIVATE.connected() as cursor:
+                cursor.execute(f"INSERT INTO {self.table} VALUES (%s, %s, %s, %s)", row)
+
+    def follower(self, schema=SALES, dsn=None, **options):
+        """A follower that has caught up."""
+        follower = Follower(dsn or PRIVATE.dsn, self.table, schema, **options)
+        follower.start()
+        self.addCleanup(follower.close)
+        follower.wait(SECONDS)
+        return follower
+
+    def cube_of_sql(self):
+        return PRIVATE.cube(f"CREATE TEMP VIEW facts AS SELECT city, product::text, cents FROM {self.table}", SALES)
+
+    def same(self, follower):
+        """Sees that the cube is that of the table, byte for byte."""
+        follower.catch_up(SECONDS)
+        self.assertEqual(follower.ask("print"), self.cube_of_sql())
+
+    def stopped(self, follower, kind, *words):
+        """Waits until a follower stops, and sees what it says."""
+        until(lambda: follower.state.failure, SECONDS)
+        self.assertIsInstance(follower.state.failure, kind)
+        for it in words:
+            self.assertIn(it, str(follower.state.failure))
+        self.assertRaises(kind, follower.cube)
+
+    def refused(self, kind, *words, **options):
+        """Sees that a table can't be followed, and why."""
+        follower = Follower(PRIVATE.dsn, options.pop("table", self.table), options.pop("schema", SALES), **options)
+        with follower, self.assertRaises(kind) as caught:
+            follower.wait(SECONDS)
+        for it in words:
+            self.assertIn(it, str(caught.exception))
+
+
+class WithWriters(Base):
+    """Writers side by side."""
+
+    def setUp(self):
+        super().setUp()
+        self.run_sql(CREATE, "CREATE TABLE other_{table} (what text)")
+        self.writers = private_server.Writers(PRIVATE, self.table, self.table)
+        self.addCleanup(self.writers.__exit__)
+
+    def cube_of_sql(self):
+        return PRIVATE.cube(FACTS.format(table=self.table))
+
+    def following(self, **options):
+        return self.follower(SCHEMA, scale={"price": 2}, **options)
+
+    def same_after_all(self, follower, copies=1):
+        """Sees that the cube is that of the table, and that each change was taken once."""
+        self.same(follower)
+        self.assertEqual(follower.state.copies, copies)
+        self.assertEqual(follower.state.left_out, 0)
+
+
+class Changes(WithWriters):
+    """Every change is taken, once, whatever happens to the connection."""
+
+    def test_each_change_once(self):
+        self.writers.run(20)
+        follower, before = self.following(), self.writers.changes
+        for _ in range(20 if LONG else 3):
+            self.writers.run(300 if LONG else 60)
+            self.same_after_all(follower)
+            self.assertEqual(follower.state.changes, self.writers.changes - before)
+        if LONG:
+            self.assertGreater(self.writers.transactions, 20_000)
+
+    def test_a_start_among_writers(self):
+        for _ in range(5 if LONG else 1):
+            self.writers.begin(200 if LONG else 60)
+            follower = self.following()
+            self.writers.end()
+            self.same_after_all(follower)
+            follower.close()
+
+    def test_a_cut_connection(self):
+        way, rng = private_server.Way(PRIVATE), random.Random("cuts")
+        self.addCleanup(way.close)
+        self.writers.run(20)
+        follower, before = self.following(dsn=way.dsn), self.writers.changes
+        for _ in range(8 if LONG else 2):
+            self.writers.begin(300 if LONG else 60)
+            for _ in range(6 if LONG else 3):
+                # (so it is cut within a message, and within a transaction)
+                way.left = rng.randrange(30_000)
+                cuts = way.cuts
+                until(lambda: way.cuts > cuts or self.are_done())
+            way.left = None
+            self.writers.end()
+            self.same_after_all(follower)
+            self.assertEqual(follower.state.changes, self.writers.changes - before)
+        self.assertGreater(way.cuts, 10 if LONG else 3)
+
+    def are_done(self):
+        """Whether no writer is at work."""
+        return not PRIVATE.ask("SELECT FROM pg_stat_activity WHERE application_name = 'writer' AND state <> 'idle'")
+
+    def test_a_server_that_ends_its_connections(self):
+        self.writers.run(20)
+        follower, before = self.following(), self.writers.changes
+        for _ in range(10 if LONG else 3):
+            self.writers.begin(50)
+            until(lambda: follower.state.is_connected)
+            self.run_sql("SELECT pg_terminate_backend(pid) FROM pg_stat_activity WHERE application_name = 'datacube'")
+            self.writers.end()
+            self.same_after_all(follower)
+            self.assertEqual(follower.state.changes, self.writers.changes - before)
+
+
+class Restarts(WithWriters):
+    """What is ended and begun again: the follower, and the server."""
+
+    def command(self):
+        schema = f"{PRIVATE.room}/{self.table}.toml"
+        with open(schema, "w", encoding="utf-8") as out:
+            out.write(SCHEMA.toml())
+        words = ["--dsn", PRIVATE.dsn, "--table", self.table, "--schema", schema, "--scale", "price=2"]
+        return Command(*words)
+
+    def test_a_follower_that_is_killed(self):
+        rng = random.Random("kills")
+        self.writers.run(20)
+        command = self.command()
+        command.ask("print")
+        for _ in range(8 if LONG else 2):
+            self.writers.begin(150 if LONG else 50)
+            time.sleep(rng.random() * 0.3)
+            command.kill()
+            command = self.command()
+            self.writers.end()
+            # (its first answer is of all that was committed before it had caught up, so one may wait for the rest)
+            until(lambda: command.ask("print") == self.cube_of_sql())
+        self.assertEqual(command.end(), 0)
+        self.assertEqual(self.slots(), [])
+
+    def slots(self):
+        return PRIVATE.ask("SELECT slot_name FROM pg_replication_slots")
+
+    def test_a_killed_follower_leaves_a_slot_that_can_be_dropped(self):
+        command = self.command()
+        command.ask("print")
+        command.kill()
+        self.assertEqual(self.slots(), [(f"datacube_{self.table}"[:63],)])
+        words = ["--dsn", PRIVATE.dsn, "--table", self.table, "--drop"]
+        self.assertIn("was dropped", run(*words).stdout)
+        self.assertEqual(self.slots(), [])
+        self.assertIn("there is no slot", run(*words).stdout)
+
+    def test_a_server_that_is_restarted(self):
+        self.writers.run(20)
+        follower, before = self.following(), self.writers.changes
+        for how in [signal.SIGINT, signal.SIGQUIT] * (3 if LONG else 1):
+            self.writers.run(30)
+            PRIVATE.server.end(how)
+            self.assertEqual(follower.slice({})[0].key, (ALL,) * 3)
+            PRIVATE.server.begin()
+            self.writers.__exit__()
+            total = self.writers.changes
+            self.writers = private_server.Writers(PRIVATE, self.table, f"{self.table} {total}")
+            self.writers.run(30)
+            self.same_after_all(follower)
+            self.assertEqual(follower.state.changes, total + self.writers.changes - before)
+            before -= total
+
+    def test_a_slot_that_is_lost(self):
+        way = private_server.Way(PRIVATE)
+        self.addCleanup(way.close)
+        self.writers.run(20)
+        follower = self.following(dsn=way.dsn)
+        way.is_shut = True
+        way.cut()
+        until(lambda: not follower.state.is_connected)
+        until(lambda: self.drop_slots())
+        self.writers.run(20)
+        with self.assertLogs("datacube.postgres", "WARNING") as told:
+            way.is_shut = False
+            until(lambda: follower.state.copies == 2)
+        self.assertIn("copied again", "".join(told.output))
+        self.same_after_all(follower, copies=2)
+
+    def test_a_log_that_is_gone(self):
+        """The server gives a slot up that keeps too much of its log."""
+        way = private_server.Way(PRIVATE)
+        self.addCleanup(way.close)
+        follower = self.following(dsn=way.dsn)
+        self.run_sql("ALTER SYSTEM SET max_slot_wal_keep_size = '1MB'", "SELECT pg_reload_conf()")
+        self.addCleanup(self.run_sql, "ALTER SYSTEM RESET max_slot_wal_keep_size", "SELECT pg_reload_conf()")
+        way.is_shut = True
+        way.cut()
+        self.writers.run(20)
+        until(lambda: self.is_log_gone())
+        way.is_shut = False
+        until(lambda: follower.state.copies == 2)
+        self.same_after_all(follower, copies=2)
+
+    def is_log_gone(self):
+        self.run_sql("INSERT INTO other_{table} VALUES ('nothing')", "SELECT pg_switch_wal()", "CHECKPOINT")
+        return PRIVATE.ask("SELECT FROM pg_replication_slots WHERE wal_status = 'lost'")
+
+    def drop_slots(self):
+        self.run_sql("SELECT pg_drop_replication_slot(slot_name) FROM pg_replication_slots WHERE NOT active")
+        return not self.slots()
+
+
+def run(*words):
+    """A run of the command to its end."""
+    how = {"stdin": subprocess.DEVNULL, "stdout": subprocess.PIPE, "stderr": subprocess.PIPE, "text": True, "env": environment()}
+    return subprocess.run([sys.executable, "-m", "datacube.postgres", *words], **how)
+
+
+def environment():
+    return {**os.environ, "PYTHONPATH": f"{beside.ROOT}/python/src"}
+
+
+class Command:
+    """The command, asked over its standard input."""
+
+    def __init__(self, *words):
+        pipes = {"stdin": subprocess.PIPE, "stdout": subprocess.PIPE, "stderr": subprocess.DEVNULL}
+        self.process = subprocess.Popen([sys.executable, "-m", "datacube.postgres", *words], env=environment(), **pipes)
+
+    def ask(self, question):
+        self.process.stdin.write(f"{question}\n".encode())
+        self.process.stdin.flush()
+        line = self.process.stdout.readline().split()
+        return self.process.stdout.read(int(line[1])).decode() if line[0] == b"ok" else line[0].decode()
+
+    def kill(self):
+        self.process.kill()
+        return self.end()
+
+    def end(self):
+        self.process.stdin.close()
+        self.process.stdout.close()
+        return self.process.wait()
+
+
+class Moments(Base):
+    """Answers are of commits, and of none before the follower has caught up."""
+
+    def test_no_answer_has_a_part_of_a_transaction(self):
+        """Each transaction puts, changes or takes rows whose cents add up to nothing."""
+        self.run_sql("CREATE TABLE {table} (id bigint PRIMARY KEY, city text, product text, cents bigint)")
+        follower, ended = self.follower(), threading.Event()
+
+        def write():
+            with PRIVATE.connected() as cursor:
+                for at in range(0, 3000 if LONG else 600, 10):
+                    pair = "CASE WHEN n % 2 = 0 THEN 1 ELSE -1 END * "
+                    cursor.execute(f"INSERT INTO {self.table} SELECT n, 'city ' || n / 2 % 3, NULL, {pair} (n / 2) FROM generate_series({at}, {at} + 9) AS n")
+                    cursor.execute(f"UPDATE {self.table} SET cents = -cents, city = 'b', id = id + 1000000 WHERE id BETWEEN {at} AND {at} + 5")
+                    cursor.execute(f"DELETE FROM {self.table} WHERE id BETWEEN {at} + 6 AND {at} + 7 OR id BETWEEN 1000000 + {at} AND 1000001 + {at}")
+            ended.set()
+
+        threading.Thread(target=write).start()
+        answers = []
+        while not ended.is_set() or not answers:
+            row = follower.slice({})[0]
+            answers.append((row["count(*)"] % 2, row["sum(cents)"] or 0))
+        self.assertEqual(set(answers), {(0, 0)})
+        self.assertGreater(len(answers), 20)
+        self.same(follower)
+
+    def test_no_answer_before_it_has_caught_up(self):
+        """A transaction that is open keeps the slot from being made."""
+        self.sales((1, "York", "tea", 5))
+        with PRIVATE.connected() as cursor:
+            cursor.execute(f"BEGIN; INSERT INTO {self.table} VALUES (2, 'York', 'tea', 7)")
+            follower = Follower(PRIVATE.dsn, self.table, SALES)
+            with follower, postgres.Server(follower) as server:
+                time.sleep(0.5)
+                self.assertRaises(NotCaughtUp, follower.cube)
+                self.assertRaises(NotCaughtUp, follower.wait, 0.1)
+                self.see_that_it_ends_at_once()
+                self.assertEqual(get(f"{server.address}cube.csv")[0], 503)
+                self.assertIn("datacube_follower_caught_up{table=", get(f"{server.address}metrics")[1])
+                self.assertNotIn("datacube_sum_cents", get(f"{server.address}metrics")[1])
+                cursor.execute("COMMIT")
+                follower.wait(SECONDS)
+                self.assertEqual(follower.slice({})[0]["sum(cents)"], 12)
+
+    def see_that_it_ends_at_once(self):
+        other, start = Follower(PRIVATE.dsn, self.table, SALES, slot="other_slot"), time.monotonic()
+        with other:
+            time.sleep(0.3)
+        self.assertLess(time.monotonic() - start, 5)
+        self.assertIsNone(other.state.failure)
+        self.assertEqual(PRIVATE.ask("SELECT FROM pg_replication_slots WHERE slot_name = 'other_slot'"), [])
+
+    def test_the_first_answer_has_what_was_committed_during_the_copy(self):
+        self.sales((0, "York", "tea", 1))
+        copy = postgres._follower.copy_table
+
+        def slowly(*words):
+            copy(*words)
+            with PRIVATE.connected() as cursor:
+                for at in range(1, 301):
+                    cursor.execute(f"INSERT INTO {self.table} VALUES ({at}, 'York', 'tea', 1)")
+
+        follower, answers = Follower(PRIVATE.dsn, self.table, SALES), []
+        with mock.patch("datacube.postgres._follower.copy_table", slowly), follower:
+            while not answers:
+                try:
+                    answers.append(follower.slice({})[0]["count(*)"])
+                except NotCaughtUp:
+                    time.sleep(0.001)
+        self.assertEqual(answers, [301])
+
+    def test_rows_that_are_written_anew_before_they_are_copied(self):
+        """A snapshot of before sees none of them."""
+        self.sales((1, "York", "tea", 5), (2, "Leeds", None, 7))
+        copy, statements = postgres._follower.copy_table, ["UPDATE {table} SET cents = 6", "ALTER TABLE {table} SET UNLOGGED", "ALTER TABLE {table} SET LOGGED"]
+
+        def late(*words):
+            self.run_sql(*statements)
+            statements.clear()
+            copy(*words)
+
+        with mock.patch("datacube.postgres._follower.copy_table", late), self.assertLogs("datacube.postgres", "WARNING") as told:
+            follower = self.follower()
+        self.assertIn("written anew while they were copied", told.output[0])
+        self.same(follower)
+        self.assertEqual((follower.slice({})[0]["sum(cents)"], follower.state.copies), (12, 1))
+
+    def test_truncate_in_a_transaction_that_goes_on(self):
+        self.sales((1, "York", "tea", 5), (2, "Leeds", None, 7))
+        follower = self.follower()
+        with PRIVATE.connected() as cursor:
+            cursor.execute(f"BEGIN; UPDATE {self.table} SET cents = 1; TRUNCATE {self.table}; INSERT INTO {self.table} VALUES (1, 'Hull', 'tea', 1); COMMIT")
+        self.same(follower)
+        with PRIVATE.connected() as cursor:
+            cursor.execute(f"BEGIN; TRUNCATE {self.table}; ROLLBACK")
+        self.run_sql("UPDATE {table} SET cents = 3")
+        self.same(follower)
+
+    def test_a_long_transaction(self):
+        """It doesn't stay in memory, and comes whole."""
+        self.sales()
+        follower = self.follower()
+        with mock.patch("datacube.postgres._stream.IN_MEMORY", 1000), mock.patch("datacube.postgres._mirror.IN_MEMORY", 1000):
+            self.run_sql("INSERT INTO {table} SELECT n, 'city ' || n % 10, NULL, n FROM generate_series(1, 20000) AS n")
+            follower.catch_up(SECONDS)
+        self.assertEqual(follower.slice({})[0]["count(*)"], 20000)
+        self.assertEqual((follower.state.transactions, follower.state.changes), (1, 20000))
+        self.same(follower)
+
+    def test_the_place_goes_on_without_changes(self):
+        self.sales()
+        follower = self.follower()
+        self.run_sql("CREATE TABLE other_{table} (what text)", "INSERT INTO other_{table} VALUES ('nothing')")
+        follower.catch_up(SECONDS)
+        lsn = follower.state.lsn
+        until(lambda: PRIVATE.ask(f"SELECT confirmed_flush_lsn - '0/0' FROM pg_replication_slots WHERE slot_name = '{follower.slot}'")[0][0] >= lsn)
+        self.assertEqual((follower.state.transactions, follower.state.version), (0, (1, 0)))
+
+
+class Rows(Base):
+    """What rows say, and what they can't."""
+
+    def test_kinds_of_columns(self):
+        self.run_sql(
+            "CREATE TYPE mood AS ENUM ('glad', 'sad')", "CREATE DOMAIN amount AS numeric(6, 1)",
+            """CREATE TABLE {table} ("the id" uuid, part date, "City, all" char(6), day timestamptz, mood mood, small smallint, share amount,
+               code int GENERATED ALWAYS AS (small * 2) STORED, PRIMARY KEY (part, "the id"))""",
+            "INSERT INTO {table} VALUES (gen_random_uuid(), '2026-11-26', 'York', '2026-11-26 10:00+02', 'sad', -3, 1.5)",
+        )
+        self.addCleanup(PRIVATE.run, "DROP TYPE mood CASCADE; DROP DOMAIN amount CASCADE")
+        schema = datacube.Schema(["city", "day", "mood", "code"], ["small", "share"], ["count(*)", "sum(small)", "sum(share)"])
+        follower = self.follower(schema, dimensions=["City, all", "day", "mood", "code"], scale={"share": 1})
+        self.run_sql(
+            "INSERT INTO {table} VALUES (gen_random_uuid(), '2026-11-26', 'York', '2026-11-26 08:00+00', 'sad', 7, 2)", "SET TimeZone = 'Asia/Tokyo'",
+            "UPDATE {table} SET mood = 'glad', part = '2026-11-27' WHERE small = 7", "INSERT INTO {table} VALUES (gen_random_uuid(), 'infinity', NULL, NULL, NULL, NULL, NULL)",
+        )
+        follower.catch_up(SECONDS)
+        facts = f'CREATE TEMP VIEW facts AS SELECT "City, all"::char(6) AS city, day::text, mood::text, code::text, small::bigint, (share * 10)::bigint AS share FROM {self.table}'
+        self.assertEqual(follower.ask("print"), PRIVATE.cube("SET TimeZone = 'UTC'; " + facts, schema))
+        self.assertEqual(follower.slice({"city": "York  "})[0].answers, (2, 4, 35))
+        self.assertEqual(follower.slice({"day": "2026-11-26 08:00:00+00"})[0]["count(*)"], 2)
+
+    def test_a_table_in_a_schema_with_a_name_of_any_kind(self):
+        self.addCleanup(PRIVATE.run, """DROP SCHEMA "Shop, 'A.B'" CASCADE""")
+        name = """"Shop, 'A.B'"."All \\ ""sales"".*\""""
+        PRIVATE.run("""CREATE SCHEMA "Shop, 'A.B'" """, f"CREATE TABLE {name} (id int PRIMARY KEY, city text, product text, cents int)")
+        with Follower(PRIVATE.dsn, name, SALES) as follower:
+            follower.wait(SECONDS)
+            PRIVATE.run(f"INSERT INTO {name} VALUES (1, 'York', 'tea', 5)")
+            follower.catch_up(SECONDS)
+            self.assertEqual(follower.slice({"city": "York"})[0]["sum(cents)"], 5)
+
+    def test_rows_that_cant_be_said(self):
+        self.run_sql("CREATE TABLE {table} (id int PRIMARY KEY, city text, product text, cents numeric NOT NULL)")
+        for values, column in ((r"'\N', '', 1", "city"), (r"'', '\=', 1", "product"), ("'', '', 1.5", "cents"), ("'', '', 9223372036854775808", "cents"), ("'', '', 'NaN'", "cents")):
+            with self.subTest(values=values):
+                self.run_sql("DELETE FROM {table}")
+                follower = self.follower()
+                self.run_sql(f"INSERT INTO {{table}} VALUES (17, {values})")
+                self.stopped(follower, RowUnsayable, f"table public.{self.table}, key (id)=(17), column {column}: ")
+                self.refused(RowUnsayable, f"table public.{self.table}, key (id)=(17), column {column}: ")
+
+    def test_scales_are_exact(self):
+        self.run_sql("CREATE TABLE {table} (id int PRIMARY KEY, city text, product text, cents numeric)", "INSERT INTO {table} VALUES (1, '', '', 92233720368547758.07)")
+        follower = self.follower(scale={"cents": 2})
+        self.run_sql("INSERT INTO {table} VALUES (2, '', '', -92233720368547758.08), (3, '', '', 0.1), (4, '', '', 0.20), (5, '', '', NULL)")
+        follower.catch_up(SECONDS)
+        self.assertEqual(follower.slice({})[0].answers, (5, 29))
+        self.run_sql("UPDATE {table} SET cents = 0.001 WHERE id = 3")
+        self.stopped(follower, RowUnsayable, "key (id)=(3), column cents: 0.001, times 100, is no whole number")
+
+    def test_skipped_rows(self):
+        self.sales((1, "York", "tea", 5), (2, "\\N", "tea", 5), (3, "\\=", "tea", 5))
+        follower = self.follower(skip=True)
+        said = lambda: (follower.catch_up(SECONDS).left_out, follower.slice({})[0]["count(*)"])
+        self.assertEqual(said(), (2, 1))
+        for statement, left_out, count in (
+            ("INSERT INTO {table} VALUES (4, '\\N', NULL, 1), (5, NULL, NULL, 1)", 3, 2), ("UPDATE {table} SET city = 'Hull' WHERE id = 2", 2, 3),
+            ("UPDATE {table} SET product = '\\N' WHERE id = 1", 3, 2), ("UPDATE {table} SET cents = 2 WHERE id = 1", 3, 2),
+            ("UPDATE {table} SET id = 10 WHERE id = 1", 3, 2), ("UPDATE {table} SET id = 11, product = NULL WHERE id = 10", 2, 3),
+            ("DELETE FROM {table} WHERE id = 4", 1, 3), ("DELETE FROM {table} WHERE id = 3", 0, 3), ("INSERT INTO {table} VALUES (3, '\\=', '', 0)", 1, 3),
+            ("TRUNCATE {table}", 0, 0),
+        ):
+            self.run_sql(statement)
+            self.assertEqual(said(), (left_out, count), statement)
+
+    def test_a_long_text_that_doesnt_change(self):
+        self.sales((1, "".join(random.Random(1).choices("abcdefghijklmnop", k=50_000)), "tea", 5))
+        follower = self.follower()
+        self.run_sql("UPDATE {table} SET cents = 6")
+        self.same(follower)
+        self.run_sql("UPDATE {table} SET id = 2")
+        self.stopped(follower, CantFollow, "key (id)=(2)", "column city", "REPLICA IDENTITY FULL")
+        self.run_sql("ALTER TABLE {table} REPLICA IDENTITY FULL")
+        follower = self.follower()
+        self.run_sql("UPDATE {table} SET id = 3", "UPDATE {table} SET id = 4, city = 'York'")
+        self.same(follower)
+        self.assertEqual(follower.state.changes, 2)
+
+    def test_a_key_that_is_another_index(self):
+        self.run_sql(
+            "CREATE TABLE {table} (id int PRIMARY KEY DEFERRABLE, code text NOT NULL, city text, product text, cents int)",
+            "CREATE UNIQUE INDEX {table}_code ON {table} (code)",
+        )
+        self.refused(CantFollow, "no key")
+        self.run_sql("ALTER TABLE {table} REPLICA IDENTITY USING INDEX {table}_code", "INSERT INTO {table} VALUES (1, '', 'York', 'tea', 5), (2, 'a', 'York', 'tea', 6)")
+        follower = self.follower()
+        self.run_sql("UPDATE {table} SET id = id + 1", "DELETE FROM {table} WHERE code = ''")
+        self.same(follower)
+
+
+class Faults(Base):
+    """What stops a follower, or keeps it from beginning, is told by name."""
+
+    def looking_often(self):
+        often = mock.patch("datacube.postgres._follower.SECONDS_BETWEEN_LOOKS", 0.1)
+        often.start()
+        self.addCleanup(often.stop)
+
+    def test_changes_of_columns(self):
+        self.looking_often()
+        for statement, *words in (
+            ("ADD COLUMN discount int", "column discount is new"), ("DROP COLUMN product", "column product is gone"),
+            ("RENAME COLUMN cents TO pence", "column cents is gone", "column pence is new"), ("ALTER COLUMN cents TYPE int", "column cents", "type integer"),
+            ("ALTER COLUMN cents TYPE bigint USING cents * 100", "column cents was altered"), ("RENAME TO {table}_2", "is public.", "_2 now"),
+            ("DROP COLUMN cents, ADD COLUMN cents bigint DEFAULT 7", "column cents is number 5"), ("REPLICA IDENTITY NOTHING", "REPLICA IDENTITY NOTHING"),
+            ("DROP CONSTRAINT {table}_pkey", "no key"),
+        ):
+            with self.subTest(statement=statement):
+                self.run_sql("DROP TABLE IF EXISTS {table}, {table}_2")
+                self.sales((1, "York", "tea", 5))
+                follower = self.follower()
+                self.run_sql(f"ALTER TABLE {{table}} {statement}")
+                self.stopped(follower, CantFollow, *words)
+        self.run_sql("DROP TABLE IF EXISTS {table}_2")
+
+    def test_a_changed_column_is_seen_with_its_first_row(self):
+        self.sales()
+        with mock.patch("datacube.postgres._follower.SECONDS_BETWEEN_LOOKS", 1000):
+            follower = self.follower()
+            self.run_sql("ALTER TABLE {table} ADD COLUMN discount int", "INSERT INTO {table} VALUES (1, 'York', 'tea', 5, 6)")
+            self.stopped(follower, ColumnsChanged, "column discount")
+
+    def test_changes_that_dont_matter(self):
+        self.looking_often()
+        self.sales((1, "York", "tea", 5))
+        follower = self.follower()
+        self.run_sql("ALTER TABLE {table} ALTER COLUMN cents SET DEFAULT 5", "CREATE INDEX ON {table} (city)", "ANALYZE {table}")
+        time.sleep(0.5)
+        self.run_sql("VACUUM FULL {table}", "UPDATE {table} SET cents = 6")
+        time.sleep(0.5)
+        self.same(follower)
+
+    def test_a_table_that_is_gone(self):
+        self.sales()
+        follower = self.follower()
+        self.run_sql("DROP TABLE {table}")
+        self.stopped(follower, ColumnsChanged, "is gone")
+
+    def test_tables_that_cant_be_followed(self):
+        self.refused(CantFollow, "there is no table nothing", table="nothing")
+        self.refused(CantFollow, "nothing", table='"nothing')
+        columns = "(id int PRIMARY KEY, city text, product text, cents bigint)"
+        for statement, *words in (
+            ("CREATE TABLE {table} (id int, city text, product text, cents bigint)", "no key", "primary key"),
+            ("CREATE UNLOGGED TABLE {table} " + columns, "unlogged", "SET LOGGED"), ("CREATE TABLE {table} " + columns + " PARTITION BY RANGE (id)", "partitioned"),
+            ("CREATE TABLE {table} (id int PRIMARY KEY, city text, product float, cents bigint)", "column product", "double precision"),
+            ("CREATE TABLE {table} (id int PRIMARY KEY, city numeric, product text, cents bigint)", "column city", "numeric"),
+            ("CREATE TABLE {table} (id int PRIMARY KEY, city text, product text, cents text)", "column cents", "type text"),
+            ("CREATE TABLE {table} (id int PRIMARY KEY, city text, cents bigint)", "no column product"),
+            ("CREATE TABLE {table} (id float PRIMARY KEY, city text, product text, cents bigint)", "column id", "double precision"),
+            ("CREATE TABLE {table} " + columns + "; CREATE TABLE other_{table} () INHERITS ({table})", "inherit"), ("CREATE TABLE {table} " + columns + "; ALTER TABLE {table} REPLICA IDENTITY NOTHING", "NOTHING"),
+        ):
+            with self.subTest(statement=statement):
+                self.run_sql("DROP TABLE IF EXISTS {table} CASCADE", statement)
+                self.refused(CantFollow, *words)
+
+    def test_options_that_dont_fit(self):
+        self.sales()
+        self.refused(CantFollow, "2 dimensions", dimensions=["city"])
+        self.refused(CantFollow, "no column pence", measures=["pence"])
+        self.refused(CantFollow, "no column of a measure", scale={"city": 2})
+        self.refused(CantFollow, "from 0 to 18", scale={"cents": 19})
+
+    def test_two_followers_with_one_slot(self):
+        self.sales((1, "York", "tea", 5))
+        follower = self.follower()
+        with mock.patch("datacube.postgres._slot.SECONDS_TO_BE_FREE", 0.3):
+            self.refused(CantFollow, "in use", "another slot")
+        other = self.follower(slot="another_slot")
+        self.run_sql("UPDATE {table} SET cents = 6")
+        self.same(follower)
+        self.same(other)
+        other.close()
+        self.run_sql("SELECT pg_create_logical_replication_slot('another_slot', 'test_decoding')")
+        self.refused(CantFollow, "another_slot is of test_decoding", slot="another_slot")
+
+    def test_no_server(self):
+        follower = Follower("host=/nowhere dbname=postgres", "sales", SALES)
+        with follower, self.assertRaises(CantFollow) as caught:
+            follower.wait(SECONDS)
+        self.assertIn("/nowhere", str(caught.exception))
+
+    def test_a_role_that_may_not(self):
+        self.sales()
+        self.run_sql("CREATE ROLE reader LOGIN", "GRANT SELECT ON {table} TO reader")
+        self.addCleanup(self.run_sql, "DROP OWNED BY reader", "DROP ROLE reader")
+        dsn = PRIVATE.dsn.replace("user=datacube", "user=reader")
+        with Follower(dsn, self.table, SALES) as follower, self.assertRaises(CantFollow) as caught:
+            follower.wait(SECONDS)
+        self.assertRegex(str(caught.exception), "(?i)replication")
+        self.run_sql("ALTER ROLE reader REPLICATION", "REVOKE SELECT ON {table} FROM reader")
+        with Follower(dsn, self.table, SALES) as follower, self.assertRaises(CantFollow) as caught:
+            follower.wait(SECONDS)
+        self.assertIn("permission denied for table", str(caught.exception))
+        self.run_sql("GRANT SELECT ON {table} TO reader")
+        with Follower(dsn, self.table, SALES) as follower:
+            follower.wait(SECONDS)
+
+    def test_a_server_that_tells_too_little(self):
+        self.sales()
+        settings, PRIVATE.server.settings = PRIVATE.server.settings, [*PRIVATE.server.settings, "wal_level=replica"]
+        PRIVATE.server.end()
+        PRIVATE.server.begin()
+        try:
+            self.refused(CantFollow, "wal_level = replica", "ALTER SYSTEM SET wal_level = logical")
+        finally:
+            PRIVATE.server.settings = settings
+            PRIVATE.server.end()
+            PRIVATE.server.begin()
+
+    def test_a_session_that_is_full(self):
+        self.looking_often()
+        self.sales((1, "York", "tea", 0), (2, "Leeds", "tea", 0))
+        follower = Follower(PRIVATE.dsn, self.table, SALES)
+        follower.schema = datacube.Schema(SALES.dimensions, SALES.measures, SALES.aggregates, version=2, max_records=8)
+        with follower:
+            follower.wait(SECONDS)
+            for at in range(30):
+                self.run_sql(f"UPDATE {{table}} SET cents = {at} WHERE id = 1")
+            until(lambda: self.answer(follower) == self.cube_of_sql(), SECONDS)
+            self.assertGreater(follower.state.copies, 1)
+
+    def answer(self, follower):
+        try:
+            return follower.ask("print")
+        except NotCaughtUp:
+            return None
+
+    def test_a_session_that_dies(self):
+        self.sales((1, "York", "tea", 5))
+        follower = self.follower()
+        follower._mirror._live._process.kill()
+        self.run_sql("UPDATE {table} SET cents = 6")
+        self.stopped(follower, datacube.Ended, "SIGKILL")
+
+
+class Commands(Base):
+    def words(self, *more):
+        path = f"{PRIVATE.room}/{self.table}.toml"
+        with open(path, "w", encoding="utf-8") as out:
+            out.write(SALES.toml())
+        return ["--dsn", PRIVATE.dsn, "--table", self.table, "--schema", path, *more]
+
+    def test_questions(self):
+        self.sales((1, "York", "tea", 5), (2, None, "tea", 6))
+        command = Command(*self.words("--dimensions", "city,product", "--measures", "cents"))
+        self.assertEqual(command.ask("print"), self.cube_of_sql())
+        self.assertEqual(command.ask(r"slice,=York,\A").splitlines()[1], "York,\\N,0,1,1,5")
+        self.assertEqual(command.ask(r"drill,product,=York,\A").splitlines()[1], "York,tea,0,0,1,5")
+        self.assertEqual(command.ask("what"), "Q1")
+        self.assertEqual(command.ask("1,D,2"), "Q1")
+        self.assertEqual(command.ask("slice,what,what"), "P2")
+        self.assertEqual(command.end(), 0)
+
+    def test_serving(self):
+        self.sales((1, "York", "tea", 5))
+        command = Command(*self.words("--serve", "0", "--slice", r"\A,?"))
+        address = command.process.stdout.readline().decode().strip()
+        until(lambda: get(f"{address}cube.csv")[0] == 200)
+        self.assertEqual(get(f"{address}cube.csv")[1], self.cube_of_sql())
+        self.assertIn('product="tea"', get(f"{address}metrics")[1])
+        self.run_sql("ALTER TABLE {table} DROP COLUMN product")
+        self.assertEqual(command.process.wait(SECONDS), 1)
+        command.end()
+
+    def test_faults(self):
+        self.sales((1, "\\N", "tea", 5))
+        ran = run(*self.words())
+        self.assertEqual((ran.returncode, ran.stdout), (1, ""))
+        self.assertIn(f"datacube.postgres: table public.{self.table}, key (id)=(1), column city: the text \\N", ran.stderr)
+        self.assertEqual(run("--table", "sales").returncode, 2)
+        ran = run("--table", "sales", "--schema", "/nowhere.toml")
+        self.assertEqual((ran.returncode, "schema unreadable" in ran.stderr), (1, True))
+
+    def test_interrupted(self):
+        self.sales((1, "York", "tea", 5))
+        command = Command(*self.words())
+        command.ask("print")
+        command.process.send_signal(signal.SIGTERM)
+        self.assertEqual(command.process.wait(), 0)
+        command.end()
+        self.assertEqual(PRIVATE.ask("SELECT slot_name FROM pg_replication_slots"), [])
+
+
+def get(address, **headers):
+    """The status, the text and the headers of a page."""
+    request = urllib.request.Request(address, headers={it.replace("_", "-"): value for it, value in headers.items()})
+    try:
+        with urllib.request.urlopen(request, timeout=SECONDS) as answer:
+            return answer.status, answer.read().decode(), answer.headers
+    except urllib.error.HTTPError as why:
+        with why:
+            return why.code, why.read().decode(), why.headers
+
+
+class Served(Base):
+    """What a follower serves."""
+
+    def setUp(self):
+        super().setUp()
+        self.sales((1, "York", 'green "tea"\n', 5), (2, None, "tea", 6), (3, "", "tea", None))
+        self.followed = self.follower()
+        self.server = postgres.Server(self.followed)
+        self.server.start()
+        self.addCleanup(self.server.close)
+
+    def test_the_cube(self):
+        status, text, headers = get(f"{self.server.address}cube.csv")
+        self.assertEqual((status, text, headers["Datacube-Connected"]), (200, self.cube_of_sql(), "1"))
+        self.assertEqual(get(f"{self.server.address}cube.csv", If_None_Match=headers["ETag"])[0], 304)
+        self.run_sql("UPDATE {table} SET cents = 8")
+        self.followed.catch_up(SECONDS)
+        status, text, others = get(f"{self.server.address}cube.csv", If_None_Match=headers["ETag"])
+        self.assertEqual((status, text, others["ETag"] == headers["ETag"]), (200, self.cube_of_sql(), False))
+
+    def test_this_machine_alone(self):
+        self.assertEqual(self.server._server.server_address[0], "127.0.0.1")
+        self.assertEqual(get(f"{self.server.address}cube.csv", Host=f"shop.example:{self.server.port}")[0], 421)
+        self.assertEqual(get(f"{self.server.address}cube.csv", Host=f"localhost:{self.server.port}")[0], 200)
+        self.assertEqual(get(f"{self.server.address}etc/passwd")[0], 404)
+
+    def test_metrics(self):
+        status, text, headers = get(f"{self.server.address}metrics")
+        self.assertEqual((status, headers["Content-Type"]), (200, "text/plain; version=0.0.4; charset=utf-8"))
+        lines = text.splitlines()
+        for line in (
+            "# TYPE datacube_sum_cents gauge", r'datacube_sum_cents{city="York",product="\\N",grouping_city="0",grouping_product="1"} 5',
+            r'datacube_sum_cents{city="\\N",product="\\N",grouping_city="0",grouping_product="1"} 6', r'datacube_count{city="",product="\\N",grouping_city="0",grouping_product="1"} 1',
+            r'datacube_sum_cents{city="\\N",product="\\N",grouping_city="1",grouping_product="1"} 11', f'datacube_follower_connected{{table="{self.table}"}} 1',
+        ):
+            self.assertIn(line, lines)
+        self.assertFalse([it for it in lines if it.startswith('datacube_sum_cents{city="",')], "null has no sample")
+        self.assertEqual(len(lines), len(set(lines)))
+
+    def test_metrics_of_a_chosen_slice(self):
+        server = postgres.Server(self.followed, slice=["?", "?"])
+        server.start()
+        self.addCleanup(server.close)
+        self.assertIn(r'datacube_sum_cents{city="York",product="green \"tea\"\n",grouping_city="0",grouping_product="0"} 5', get(f"{server.address}metrics")[1].splitlines())
+        self.assertRaises(CantFollow, postgres.Server, self.followed, slice=["?"])
+
+    def test_a_follower_that_stopped(self):
+        self.run_sql("ALTER TABLE {table} DROP COLUMN product")
+        self.stopped(self.followed, ColumnsChanged)
+        for page in ("cube.csv", "metrics"):
+            status, text, _ = get(f"{self.server.address}{page}")
+            self.assertEqual((status, "column product is gone" in text), (503, True))
+
+    def test_the_page_shows_a_sale_that_is_committed(self):
+        with browser(self) as driver:
+            driver.get(self.server.address)
+            rows = lambda: driver.execute_script(ROWS)
+            until(lambda: ["York", "1", "5"] in rows(), SECONDS)
+            driver.execute_script("document.querySelector('#table tbody button').focus()")
+            with PRIVATE.connected() as cursor:
+                cursor.execute("BEGIN")
+                cursor.execute(f"INSERT INTO {self.table} VALUES (4, 'Leeds', 'tea', 70), (5, 'York', 'tea', 30)")
+                time.sleep(1.5)
+                self.assertFalse([it for it in rows() if it[0] == "Leeds"])
+                cursor.execute("COMMIT")
+            until(lambda: ["Leeds", "1", "70"] in rows() and ["York", "2", "35"] in rows(), SECONDS)
+            self.see_that_the_view_stays(driver, rows)
+
+    def see_that_the_view_stays(self, driver, rows):
+        """A view that was drilled to stays, and its numbers go on."""
+        driver.execute_script("[...document.querySelectorAll('#table tbody button')].find((it) => it.textContent === 'York').click()")
+        until(lambda: ["tea", "1", "30"] in rows(), SECONDS)
+        self.run_sql("UPDATE {table} SET cents = 31 WHERE id = 5")
+        until(lambda: ["tea", "1", "31"] in rows(), SECONDS)
+        self.assertIn("slice=%3DYork%2C%3F", driver.current_url)
+        self.assertIn("lines, as they are at", driver.find_element("id", "about").text)
+        self.server.close()
+        until(lambda: "doesn't answer" in driver.find_element("id", "problem").text, SECONDS)
+        self.assertEqual([it for it in driver.get_log("browser") if it["level"] == "SEVERE" and "cube.csv" not in it["message"]], [])
+
+
+ROWS = """
+return [...document.querySelectorAll("#table tbody tr[data-row]")].map((row) => [...row.children].map((it) => it.textContent));
+"""
+
+
+def browser(test):
+    """A headless Chromium, or the test is skipped."""
+    try:
+        from selenium import webdriver
+    except ImportError:
+        test.skipTest("python3-selenium isn't installed for this Python")
+    if not os.path.exists("/usr/bin/chromedriver"):
+        test.skipTest("chromium-driver isn't installed")
+    options = webdriver.ChromeOptions()
+    for it in ("--headless=new", "--no-sandbox", "--disable-dev-shm-usage", "--window-size=1200,800"):
+        options.add_argument(it)
+    options.set_capability("goog:loggingPrefs", {"browser": "ALL"})
+    return webdriver.Chrome(options=options)
+
+
+class Parts(unittest.TestCase):
+    """What needs no server."""
+
+    def test_lines_of_copy(self):
+        self.assertEqual(_values.row_of("a\t\\N\t\\\\N\t\\b\\f\\n\\r\\t\\v\\\\\t"), ["a", None, "\\N", "\b\f\n\r\t\v\\", ""])
+
+    def test_numbers(self):
+        self.assertEqual([_values.whole(*it) for it in (("3.50", 100), ("-0.01", 100), ("7", 1), ("5.00", 1), ("9" * 40, 10))], [350, -1, 7, 5, int("9" * 40 + "0")])
+        for text, factor in (("3.505", 100), ("0.5", 1), ("NaN", 1), ("-Infinity", 100), ("", 1)):
+            self.assertRaises(ValueError, _values.whole, text, factor)
+
+    def test_names_of_metrics(self):
+        text = "a b,a_b,1,grouping(a b),grouping(a_b),grouping(1),count(*),avg(x),avg(x),sum(a.b)\n\\\",,é,0,0,0,2,1/3,1/3,\\N\n"
+        metrics = "".join(_metrics.of_cube("t", datacube.Cube(text)))
+        self.assertIn('datacube_avg_x_2{a_b="\\\\\\"",a_b_2="",d_1="é",grouping_a_b="0",grouping_a_b_2="0",grouping_1="0"} 0.3333333333333333\n', metrics)
+        self.assertNotIn("datacube_sum_a_b{", metrics)
+
+
+if __name__ == "__main__":
+    unittest.main()

@@ -1,0 +1,195 @@
+#!/usr/bin/env python3
+"""Measures a follower of a PostgreSQL table: what it costs the writers, and how fresh its answers are.
+
+    scripts/postgres_speed.py [--seconds N] [--rounds N] [--rows N] [--rate N] [--probes N]
+
+A private server (with the settings of a new one, but wal_level) has a table of N rows (200,000). pgbench has four clients
+make transactions of one row each, as fast as they go, in rounds with and without a follower, in turn (6 rounds of 3 seconds):
+first with commits that wait for the disk, then with `synchronous_commit = off`, which shows more of the processors' work. Then
+it makes 1,000 transactions a second, and a probe commits a sale to a city of its own and asks for that city's cell until
+the sale is in it: the time from the end of the commit to the end of the answer, 500 times. Needs Debian's packages
+postgresql, postgresql-15-wal2json and python3-psycopg2, which is of Debian's Python; where one isn't there, the status is 77.
+"""
+import argparse
+import contextlib
+import os
+import re
+import statistics
+import subprocess
+import sys
+import tempfile
+import time
+
+sys.dont_write_bytecode = True
+import programs
+import sql
+
+ROOT = programs.ROOT
+sys.path.insert(0, f"{ROOT}/python/src")
+os.environ.setdefault("DATACUBE", programs.datacube())
+CLIENTS, CITIES, PRODUCTS = 4, 50, 200
+SETTINGS = ["listen_addresses=", "wal_level=logical"]
+TABLE = f"""
+CREATE TABLE sales (id bigserial PRIMARY KEY, city text, product text, cents bigint);
+INSERT INTO sales (city, product, cents)
+    SELECT 'city ' || n % {CITIES}, 'product ' || n % {PRODUCTS}, n % 10000 FROM generate_series(1, ROWS) AS n;
+ANALYZE sales; CHECKPOINT;
+"""
+# of ten transactions so many are of a kind
+SCRIPTS = {
+    5: f"\\set n random(1, 1000000)\nINSERT INTO sales (city, product, cents) VALUES ('city ' || :n % {CITIES}, 'product ' || :n % {PRODUCTS}, :n % 10000);\n",
+    4: "\\set id random(1, ROWS)\n\\set n random(1, 10000)\nUPDATE sales SET cents = :n, product = 'product ' || :n % 200 WHERE id = :id;\n",
+    1: "\\set id random(1, ROWS)\nDELETE FROM sales WHERE id = :id;\n",
+}
+SCHEMA = 'dimensions = ["city", "product"]\nmeasures = ["cents"]\naggregates = ["count(*)", "sum(cents)", "min(cents)", "max(cents)", "avg(cents)"]\n'
+
+
+class Bench:
+    """A private server with the table, and pgbench on it."""
+
+    def __init__(self, server, room, rows):
+        self.server, self.room = server, room
+        self.dsn = f"host={server.room} user=datacube dbname=postgres"
+        self.schema = self.write("schema.toml", SCHEMA)
+        self.scripts = [f"{self.write(f'{weight}.sql', text.replace('ROWS', str(rows)))}@{weight}" for weight, text in SCRIPTS.items()]
+        server.ask(TABLE.replace('ROWS', str(rows)).encode())
+
+    def write(self, name, text):
+        path = f"{self.room}/{name}"
+        with open(path, "w", encoding="utf-8") as out:
+            out.write(text)
+        return path
+
+    def writing(self, seconds, *more, waits=True):
+        """pgbench, which writes for so many seconds; each commit waits for the disk, or none does."""
+        files = [word for it in self.scripts for word in ("-f", it)]
+        words = ["-n", "-c", str(CLIENTS), "-T", str(seconds), *files, *more, "-h", self.server.room, "-U", "datacube", "postgres"]
+        env = {**os.environ, "PGOPTIONS": f"-c synchronous_commit={'on' if waits else 'off'}"}
+        pipes = {"stdout": subprocess.PIPE, "stderr": subprocess.STDOUT, "text": True, "env": env}
+        return subprocess.Popen([f"{self.server.binaries}/pgbench", *words], **pipes)
+
+    def commits(self, seconds, waits):
+        """How many transactions a second are committed."""
+        said = self.writing(seconds, waits=waits).communicate()[0]
+        found = re.search(r"tps = ([0-9.]+) \(without", said)
+        return float(found[1]) if found else sys.exit(said)
+
+    @contextlib.contextmanager
+    def followed(self):
+        """A follower that is a process of its own, while a block runs."""
+        words = ["-m", "datacube.postgres", "--dsn", self.dsn, "--table", "sales", "--schema", self.schema]
+        env = {**os.environ, "PYTHONPATH": f"{ROOT}/python/src"}
+        pipes = {"stdin": subprocess.PIPE, "stdout": subprocess.PIPE, "stderr": subprocess.DEVNULL}
+        process = subprocess.Popen([sys.executable, *words], env=env, **pipes)
+        process.stdin.write(b"slice,\\A,\\A\n")
+        process.stdin.flush()
+        process.stdout.readline()
+        yield process
+        process.stdin.close()
+        process.stdout.read()
+        process.wait()
+
+
+def cost(bench, rounds, seconds, waits):
+    """The writers' speed with and without a follower."""
+    found = {False: [], True: []}
+    bench.commits(seconds, waits)
+    for at in range(rounds):
+        # (each is the first of two in every other round)
+        for has_follower in (at % 2 == 1, at % 2 == 0):
+            with bench.followed() if has_follower else contextlib.nullcontext():
+                found[has_follower].append(bench.commits(seconds, waits))
+    for has_follower, name in ((False, "without a follower"), (True, "with a follower")):
+        of_all = ", ".join(f"{it:.0f}" for it in found[has_follower])
+        how = "commits" if waits else "commits that don't wait"
+        print(f"{f'{how} a second, {name}':56} median {statistics.median(found[has_follower]):.0f} ({of_all})", flush=True)
+
+
+def freshness(bench, rate, probes, questions):
+    """The time from commit to answer, and that of a question, while others write."""
+    from datacube.postgres import Follower
+
+    start = time.perf_counter()
+    with Follower(bench.dsn, "sales", bench.schema) as follower:
+        state = follower.wait()
+        print(f"{'until the first answer':56} {time.perf_counter() - start:.2f} s, over {state.rows_copied} rows")
+        writing = bench.writing(3600, "-R", str(rate))
+        try:
+            time.sleep(2)
+            before, start = follower.state.transactions, time.perf_counter()
+            said("from commit to answer", list(probed(bench, follower, probes)))
+            rate = (follower.state.transactions - before) / (time.perf_counter() - start)
+            print(f"{'transactions a second meanwhile':56} {rate:.0f}")
+            said("a question of one cell", [asked(follower, at) for at in range(questions)])
+        finally:
+            writing.terminate()
+            writing.wait()
+        long_transaction(bench, follower)
+
+
+def long_transaction(bench, follower):
+    """One transaction that changes many rows, and questions until it is there."""
+    before = follower.catch_up()
+    bench.server.ask(b"UPDATE sales SET cents = cents + 1 WHERE id <= 100000;")
+    start, asks = time.perf_counter(), []
+    while follower.state.transactions == before.transactions:
+        asks.append(asked(follower, len(asks)))
+    print(f"{'a transaction of many changes, from commit to answer':56} {time.perf_counter() - start:.2f} s, of {follower.state.changes - before.changes}")
+    said("a question of one cell until then", asks)
+
+
+def probed(bench, follower, count):
+    """The seconds from the end of each commit to the end of the answer that has it."""
+    import psycopg2
+
+    with contextlib.closing(psycopg2.connect(bench.dsn)) as connection, connection.cursor() as cursor:
+        for at in range(count):
+            cursor.execute("INSERT INTO sales (city, product, cents) VALUES (%s, 'probe', 1)", [f"probe {at}"])
+            connection.commit()
+            start = time.perf_counter()
+            while not len(follower.slice({"city": f"probe {at}"})):
+                time.sleep(0.0005)
+            yield time.perf_counter() - start
+            time.sleep(0.01)
+
+
+def asked(follower, at):
+    """The seconds of a question of one cell."""
+    start = time.perf_counter()
+    follower.slice({"city": f"city {at % CITIES}", "product": f"product {at % PRODUCTS}"})
+    spent = time.perf_counter() - start
+    time.sleep(0.001)
+    return spent
+
+
+def said(name, seconds):
+    """A line of the middle, the 99th of a hundred, and the largest, in milliseconds."""
+    ordered = sorted(it * 1000 for it in seconds)
+    middle, late = statistics.median(ordered), ordered[len(ordered) * 99 // 100]
+    print(f"{name:56} median {middle:.2f} ms   99% {late:.2f} ms   most {ordered[-1]:.2f} ms   of {len(ordered)}", flush=True)
+
+
+def main():
+    parser = argparse.ArgumentParser(description=__doc__, formatter_class=argparse.RawDescriptionHelpFormatter)
+    for name, number in (("seconds", 3), ("rounds", 6), ("rows", 200_000), ("rate", 1000), ("probes", 500)):
+        parser.add_argument(f"--{name}", type=int, default=number)
+    given = parser.parse_args()
+    binaries = sql.newest_server()
+    try:
+        import psycopg2
+    except ImportError:
+        psycopg2 = None
+    if not binaries or not psycopg2:
+        print("Debian's packages postgresql and python3-psycopg2 aren't there for this Python")
+        return 77
+    folder = lambda: tempfile.TemporaryDirectory(prefix="datacube-speed-")
+    with folder() as room, folder() as ours, sql.Server(binaries, room, SETTINGS) as server:
+        bench = Bench(server, ours, given.rows)
+        for waits in (True, False):
+            cost(bench, given.rounds, given.seconds, waits)
+        freshness(bench, given.rate, given.probes, 1000)
+    return 0
+
+
+if __name__ == "__main__":
+    sys.exit(main())

@@ -1,0 +1,84 @@
+#!/usr/bin/env python3
+"""Runs the tests of the Python package, and says what it left out and why.
+
+    scripts/python_tests.py [--program PATH] [--long]
+
+They run under the Python that has most of the packages that they want: Debian's, where it has pytest, else the one that runs
+this, whose unittest does. mypy looks at the package's types where it is installed. `--long` is the long form of the tests over
+PostgreSQL, of some minutes. The last line is `N passed, M failed`.
+"""
+import argparse
+import os
+import re
+import shutil
+import subprocess
+import sys
+
+sys.dont_write_bytecode = True
+import programs
+
+ROOT = programs.ROOT
+DEBIANS = "/usr/bin/python3"
+COUNTED = re.compile(r"(\d+) (passed|failed|errors?|skipped)")
+
+
+def has_pytest(python):
+    """Whether a Python is there, and has pytest."""
+    return bool(shutil.which(python)) and not subprocess.run([python, "-c", "import pytest"], stderr=subprocess.DEVNULL).returncode
+
+
+def pytest(python, env):
+    """Runs the tests by pytest; gives the numbers that passed and failed."""
+    words = ["-B", "-m", "pytest", "-q", "-rs", "--tb=short", "-p", "no:cacheprovider", "python/tests"]
+    ran = subprocess.run([python, *words], cwd=ROOT, env=env, stdout=subprocess.PIPE, stderr=subprocess.STDOUT, text=True, errors="replace")
+    if ran.returncode not in (0, 5):
+        print(ran.stdout)
+    for line in re.findall(r"^SKIPPED \[\d+\] .*?: (.*)$", ran.stdout, re.MULTILINE):
+        print(f"left out: {line}")
+    counts = {kind: int(count) for count, kind in COUNTED.findall(ran.stdout.strip().rpartition("\n")[2])}
+    failed = counts.get("failed", 0) + counts.get("error", 0) + counts.get("errors", 0)
+    return counts.get("passed", 0), failed or int(ran.returncode not in (0, 5))
+
+
+def unittests(env):
+    """Runs the tests by unittest; gives the numbers that passed and failed."""
+    print("left out, since there is no pytest: what wants packages that this Python doesn't have")
+    ran = subprocess.run([sys.executable, "-B", "-m", "unittest", "discover", "-s", "python/tests"], cwd=ROOT, env=env, stdout=subprocess.PIPE, stderr=subprocess.STDOUT, text=True)
+    if ran.returncode:
+        print(ran.stdout)
+    found = re.search(r"^Ran (\d+) tests?", ran.stdout, re.MULTILINE)
+    bad = sum(map(int, re.findall(r"(?:failures|errors)=(\d+)", ran.stdout)))
+    skipped = sum(map(int, re.findall(r"skipped=(\d+)", ran.stdout)))
+    count = int(found[1]) if found else 0
+    return count - bad - skipped, bad or int(ran.returncode != 0)
+
+
+def types():
+    """Whether mypy is content with the package, or None where there is no mypy."""
+    if not shutil.which("mypy"):
+        print("left out, since there is no mypy: the types of the package")
+        return None
+    ran = subprocess.run(["mypy", "--cache-dir", os.devnull], cwd=f"{ROOT}/python", stdout=subprocess.PIPE, stderr=subprocess.STDOUT, text=True)
+    if ran.returncode:
+        print(ran.stdout)
+    return ran.returncode == 0
+
+
+def main():
+    parser = argparse.ArgumentParser(description=__doc__, formatter_class=argparse.RawDescriptionHelpFormatter)
+    parser.add_argument("--program")
+    parser.add_argument("--long", action="store_true")
+    given = parser.parse_args()
+    env = {**os.environ, "DATACUBE": os.path.abspath(given.program or programs.datacube())}
+    if given.long:
+        env["DATACUBE_LONG"] = "1"
+    python = next((it for it in (DEBIANS, sys.executable) if has_pytest(it)), None)
+    passed, failed = pytest(python, env) if python else unittests(env)
+    are_right = types()
+    passed, failed = passed + (are_right is True), failed + (are_right is False)
+    print(f"{passed} passed, {failed} failed")
+    return 1 if failed else 0
+
+
+if __name__ == "__main__":
+    sys.exit(main())
