@@ -64,12 +64,12 @@ _datacube() {
     COMPREPLY=()
     case $command in
     check) words='-h --help' ;;
-    print) words='--ring --builders --threads --quiet --partial -h --help' ;;
-    refusals) words='--ring --builders --threads --quiet -h --help' ;;
-    slice) words='--ring --builders --threads --quiet -h --help' ;;
-    drill) words='--ring --builders --threads --quiet -h --help' ;;
-    rollup) words='--ring --builders --threads --quiet -h --help' ;;
-    live) words='--ring --threads --quiet -h --help' ;;
+    print) words='--ring --shard --builders --threads --quiet --partial -h --help' ;;
+    refusals) words='--ring --shard --builders --threads --quiet -h --help' ;;
+    slice) words='--ring --shard --builders --threads --quiet -h --help' ;;
+    drill) words='--ring --shard --builders --threads --quiet -h --help' ;;
+    rollup) words='--ring --shard --builders --threads --quiet -h --help' ;;
+    live) words='--ring --shard --threads --quiet -h --help' ;;
     merge) words='--partial --check --quiet -h --help' ;;
     explain) words='-h --help' ;;
     *) words= ;;

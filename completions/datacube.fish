@@ -14,6 +14,7 @@ complete -c datacube -n __fish_use_subcommand -a explain -d 'Says what a code me
 complete -c datacube -n '__fish_seen_subcommand_from check' -s h -l help -d 'Print help'
 complete -c datacube -n '__fish_seen_subcommand_from check' -F
 complete -c datacube -n '__fish_seen_subcommand_from print' -l ring -x -d 'How many records may wait between a feed and a builder, 1 to 65536 [default: 64]'
+complete -c datacube -n '__fish_seen_subcommand_from print' -l shard -d '<J/N>   Reads only the lines whose id is in share J of N, N up to 65536; the prints of all shares, made with --partial, merge to the whole'
 complete -c datacube -n '__fish_seen_subcommand_from print' -l builders -x -d 'How many threads build the cube, 1 to 8; what is printed is the same [default: 1]'
 complete -c datacube -n '__fish_seen_subcommand_from print' -l threads -x -d 'How many threads fill, sort and print the cube, 1 to 16; as many as the machine has, at most 16, where left out'
 complete -c datacube -n '__fish_seen_subcommand_from print' -l quiet -d 'Shows no progress on standard error, where that is a terminal'
@@ -21,30 +22,35 @@ complete -c datacube -n '__fish_seen_subcommand_from print' -l partial -d 'With 
 complete -c datacube -n '__fish_seen_subcommand_from print' -s h -l help -d 'Print help'
 complete -c datacube -n '__fish_seen_subcommand_from print' -F
 complete -c datacube -n '__fish_seen_subcommand_from refusals' -l ring -x -d 'How many records may wait between a feed and a builder, 1 to 65536 [default: 64]'
+complete -c datacube -n '__fish_seen_subcommand_from refusals' -l shard -d '<J/N>   Reads only the lines whose id is in share J of N, N up to 65536; the prints of all shares, made with --partial, merge to the whole'
 complete -c datacube -n '__fish_seen_subcommand_from refusals' -l builders -x -d 'How many threads build the cube, 1 to 8; what is printed is the same [default: 1]'
 complete -c datacube -n '__fish_seen_subcommand_from refusals' -l threads -x -d 'How many threads fill, sort and print the cube, 1 to 16; as many as the machine has, at most 16, where left out'
 complete -c datacube -n '__fish_seen_subcommand_from refusals' -l quiet -d 'Shows no progress on standard error, where that is a terminal'
 complete -c datacube -n '__fish_seen_subcommand_from refusals' -s h -l help -d 'Print help'
 complete -c datacube -n '__fish_seen_subcommand_from refusals' -F
 complete -c datacube -n '__fish_seen_subcommand_from slice' -l ring -x -d 'How many records may wait between a feed and a builder, 1 to 65536 [default: 64]'
+complete -c datacube -n '__fish_seen_subcommand_from slice' -l shard -d '<J/N>   Reads only the lines whose id is in share J of N, N up to 65536; the prints of all shares, made with --partial, merge to the whole'
 complete -c datacube -n '__fish_seen_subcommand_from slice' -l builders -x -d 'How many threads build the cube, 1 to 8; what is printed is the same [default: 1]'
 complete -c datacube -n '__fish_seen_subcommand_from slice' -l threads -x -d 'How many threads fill, sort and print the cube, 1 to 16; as many as the machine has, at most 16, where left out'
 complete -c datacube -n '__fish_seen_subcommand_from slice' -l quiet -d 'Shows no progress on standard error, where that is a terminal'
 complete -c datacube -n '__fish_seen_subcommand_from slice' -s h -l help -d 'Print help'
 complete -c datacube -n '__fish_seen_subcommand_from slice' -F
 complete -c datacube -n '__fish_seen_subcommand_from drill' -l ring -x -d 'How many records may wait between a feed and a builder, 1 to 65536 [default: 64]'
+complete -c datacube -n '__fish_seen_subcommand_from drill' -l shard -d '<J/N>   Reads only the lines whose id is in share J of N, N up to 65536; the prints of all shares, made with --partial, merge to the whole'
 complete -c datacube -n '__fish_seen_subcommand_from drill' -l builders -x -d 'How many threads build the cube, 1 to 8; what is printed is the same [default: 1]'
 complete -c datacube -n '__fish_seen_subcommand_from drill' -l threads -x -d 'How many threads fill, sort and print the cube, 1 to 16; as many as the machine has, at most 16, where left out'
 complete -c datacube -n '__fish_seen_subcommand_from drill' -l quiet -d 'Shows no progress on standard error, where that is a terminal'
 complete -c datacube -n '__fish_seen_subcommand_from drill' -s h -l help -d 'Print help'
 complete -c datacube -n '__fish_seen_subcommand_from drill' -F
 complete -c datacube -n '__fish_seen_subcommand_from rollup' -l ring -x -d 'How many records may wait between a feed and a builder, 1 to 65536 [default: 64]'
+complete -c datacube -n '__fish_seen_subcommand_from rollup' -l shard -d '<J/N>   Reads only the lines whose id is in share J of N, N up to 65536; the prints of all shares, made with --partial, merge to the whole'
 complete -c datacube -n '__fish_seen_subcommand_from rollup' -l builders -x -d 'How many threads build the cube, 1 to 8; what is printed is the same [default: 1]'
 complete -c datacube -n '__fish_seen_subcommand_from rollup' -l threads -x -d 'How many threads fill, sort and print the cube, 1 to 16; as many as the machine has, at most 16, where left out'
 complete -c datacube -n '__fish_seen_subcommand_from rollup' -l quiet -d 'Shows no progress on standard error, where that is a terminal'
 complete -c datacube -n '__fish_seen_subcommand_from rollup' -s h -l help -d 'Print help'
 complete -c datacube -n '__fish_seen_subcommand_from rollup' -F
 complete -c datacube -n '__fish_seen_subcommand_from live' -l ring -x -d 'How many records may wait between a feed and a builder, 1 to 65536 [default: 64]'
+complete -c datacube -n '__fish_seen_subcommand_from live' -l shard -d '<J/N>  Reads only the lines whose id is in share J of N, N up to 65536; the prints of all shares, made with --partial, merge to the whole'
 complete -c datacube -n '__fish_seen_subcommand_from live' -l threads -x -d 'How many threads fill, sort and print the cube, 1 to 16; as many as the machine has, at most 16, where left out'
 complete -c datacube -n '__fish_seen_subcommand_from live' -l quiet -d 'Shows no progress on standard error, where that is a terminal'
 complete -c datacube -n '__fish_seen_subcommand_from live' -s h -l help -d 'Print help'

@@ -231,11 +231,6 @@ def shards(cluster, tally, program, lines):
         out.write(text)
         for at in range(lines):
             out.write(b"%s,%d,city %d,product %d,card,1,%d\n" % (rng.choice([b"I", b"I", b"U"]), at // 2, at % 50, at % 30, rng.randrange(10**6)))
-    if b"--shard" not in subprocess.run([program, "print", "--help"], stdout=subprocess.PIPE).stdout:
-        got = cluster.run("--shards", "16", "schema.toml", "long.csv")
-        named = r"(datacube_dask: worker \w+ at tcp://[0-9.:]+ has a program \S+ without the option --shard\n)+"
-        tally.note(got[:2] == (1, b"") and re.fullmatch(named, got[2]), "the program has no --shard yet: an error by name", got)
-        return
     for name, words in (("cube", ["print"]), ("refusals", ["refusals"])):
         one = subprocess.run([program, *words, "schema.toml", "long.csv"], cwd=folder, stdout=subprocess.PIPE)
         got = cluster.run("--shards", "16", *(["--refusals"] if name == "refusals" else []), "schema.toml", "long.csv")

@@ -6,7 +6,7 @@
 It opens the shop's cube, cubes with texts and numbers of every kind, files that are no printed cube, and the cube of a
 generated feed, with N lines or more (1,000,000). `--screenshots` takes the pictures of docs/explorer/ anew. Where
 Firefox is installed, it opens a cube there too. Needs Debian's chromium-driver and python3-selenium; where one isn't
-there, the status is 77. The last line is `N passed, M failed`.
+there, or the browser doesn't start, the status is 77. The last line is `N passed, M failed`.
 """
 import argparse
 import csv
@@ -760,9 +760,10 @@ def large_pictures(page):
 
 
 def chromium():
-    """A headless Chromium, or None with a line that says what isn't installed."""
+    """A headless Chromium, or None with a line that says what isn't installed, or why it doesn't start."""
     try:
         from selenium import webdriver
+        from selenium.common.exceptions import WebDriverException
         from selenium.webdriver.chrome.service import Service
     except ImportError:
         print("explorer: Debian's package python3-selenium isn't installed")
@@ -777,7 +778,11 @@ def chromium():
         options.add_argument(word)
     if os.geteuid() == 0:
         options.add_argument("--no-sandbox")
-    return webdriver.Chrome(service=Service(driver), options=options)
+    try:
+        return webdriver.Chrome(service=Service(driver), options=options)
+    except WebDriverException as why:
+        print(f"explorer: the browser can't be driven here: {why.msg}")
+        return None
 
 
 def try_small(trials, page, room, given):

@@ -125,7 +125,7 @@ def quick_parts(program):
         ("cases", ["scripts/cases.py", "--program", program]),
         ("documents", ["scripts/documents.py", "--check", "--program", program]),
         ("a wrong program", ["scripts/spoil.py", "--program", program]),
-        ("merges beside a slow program", ["scripts/merges.py", "--cases", "40", "--if-there", "--program", program]),
+        ("merges beside a slow program", ["scripts/merges.py", "--cases", "40", "--program", program]),
         ("sessions beside a slow program", ["scripts/sessions.py", "--cases", "10", "--program", program]),
         ("the progress line in a terminal", ["scripts/progress.py", "--program", program]),
         ("the Python package", ["scripts/python_tests.py", "--program", program]),

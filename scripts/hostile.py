@@ -315,6 +315,28 @@ def cut_in_turn(program, data):
     return len(data) + 1
 
 
+def cut_cubes(trials):
+    program = trials.program
+    program.write("schema.toml", SAMPLE.toml())
+    program.write("feed.csv", oracle.encode([SAMPLE.header(), *MIXED]))
+    cube = program.run(["print", "--partial", "schema.toml", "feed.csv"]).out
+    program.write("whole.csv", cube)
+    trials.trial("a cube cut at each byte, beside the whole one", lambda: cut_cube_in_turn(program, cube))
+
+
+def cut_cube_in_turn(program, cube):
+    """The header cut is M4, a line cut M5, and a cube that ends after a line without its grand total M8."""
+    head = cube.index(b"\n") + 1
+    for size in range(len(cube)):
+        program.write("cut.csv", cube[:size])
+        code = "M4" if size < head else "M8" if cube[:size].endswith(b"\n") else "M5"
+        wanted = b"datacube: %s 2 %d\n" % (code.encode(), cube[:size].count(b"\n") + 1)
+        answer = program.run(["merge", "schema.toml", "whole.csv", "cut.csv"])
+        if (answer.status, answer.err) != (1, wanted):
+            return f"{size} bytes: {answer.status}, {answer.err[:200]!r}, and not {wanted!r}"
+    return len(cube)
+
+
 def endless(program):
     """A feed that never ends, behind a pipe by name."""
     program.write("few.toml", oracle.Schema(SAMPLE.dimensions, SAMPLE.measures, SAMPLE.aggregates, max_records=1000).toml())
@@ -572,6 +594,7 @@ def main():
         refusals_in_turn(trials)
         ends_of_output(trials)
         cut_feeds(trials)
+        cut_cubes(trials)
         if not given.short:
             growths_in_turn(trials)
             big_inputs(trials)

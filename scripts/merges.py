@@ -1,7 +1,7 @@
 #!/usr/bin/env python3
 """Runs `merge` and `--shard` beside scripts/oracle.py on generated cubes: what is printed, and which fault is met first.
 
-    scripts/merges.py [--program PATH] [--cases N] [--seed N] [--if-there]
+    scripts/merges.py [--program PATH] [--cases N] [--seed N]
 
 A case is the partial cubes of parts of facts, merged at once and in a tree; or the shards of feeds; or cubes whose
 numbers are near their bounds; or cubes of which one is spoiled. In the first two what is wanted is the printed cube of
@@ -86,9 +86,6 @@ def parts(room, rng):
 
 def shards(room, rng):
     """The shards of feeds: their partial cubes, which are merged, and their refusals."""
-    if b"--shard" not in room.run(["print", "--help"])[1]:
-        room.seen["times no --shard yet"] += 1
-        return None if room.if_there else "the program has no --shard yet"
     schema, feeds = case_of(rng)
     room.write("schema.toml", schema.toml())
     names = [room.write(f"feed{at}.csv", oracle.encode([schema.header(), *it], rng)) for at, it in enumerate(feeds)]
@@ -199,4 +196,4 @@ def compare(room, rng):
 
 
 if __name__ == "__main__":
-    sys.exit(programs.beside_oracle(__doc__, "merge", compare, 200))
+    sys.exit(programs.beside_oracle(__doc__, compare, 200))

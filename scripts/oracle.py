@@ -212,12 +212,13 @@ class Source:
     """The facts that are present of a source, by id, and its refusals as (record, code)."""
 
     def __init__(self, schema):
-        self.schema, self.book, self.refusals, self.count = schema, {}, [], 0
+        self.schema, self.book, self.refusals, self.count, self.last = schema, {}, [], 0, 0
 
     def take(self, record, shard=(1, 1)):
         """Takes the next data record, which is only counted where it is in another shard."""
         self.count += 1
         if shard_of(record, shard[1]) == shard[0] - 1:
+            self.last = self.count
             code = self.code_of(change_of(self.schema, record))
             self.refusals += [(self.count, code)] if code else []
 
@@ -358,13 +359,13 @@ class Run:
 
 
 class Session:
-    """A cube that stays, over 64 sources, the first of which begin with the data records of feeds."""
+    """A cube that stays, over 64 sources, the first of which begin with the data records of feeds that are in a shard."""
 
-    def __init__(self, schema, feeds):
-        self.schema, self.sources, self.kept = schema, [Source(schema) for _ in range(MOST_FEEDS)], None
+    def __init__(self, schema, feeds, shard=(1, 1)):
+        self.schema, self.sources, self.kept, self.shard = schema, [Source(schema) for _ in range(MOST_FEEDS)], None, shard
         for source, records in zip(self.sources, feeds):
             for record in records:
-                source.take(record)
+                source.take(record, shard)
 
     def status(self):
         return 4 if self.refused() else 0
@@ -387,9 +388,12 @@ class Session:
             answer = self.answer(record)
             return answer.encode() + b"\n" if isinstance(answer, str) else b"ok %d\n" % len(answer) + answer
         source = self.sources[at - 1]
-        if source.count == self.schema.max_records:
+        if shard_of(record[1:], self.shard[1]) != self.shard[0] - 1:
+            return b""
+        if source.last == self.schema.max_records:
             raise Failure(f"G3 {at} F4", 1)
-        source.take(record[1:])
+        source.count = source.last
+        source.take(record[1:], self.shard)
         self.kept = None
         return b""
 
@@ -878,11 +882,11 @@ def rollup_command(words):
 
 
 def live_command(words):
-    given = Words(words, [b"--ring", b"--threads"], 1, sys.maxsize)
+    given = Words(words, [b"--ring", b"--threads", b"--shard"], 1, sys.maxsize)
     if len(given.rest) - 1 > MOST_FEEDS:
         raise Failure("too many feeds", 2)
     schema = read_schema(given.rest[0])
-    session, sent = Session(schema, read_feeds(schema, given.rest[1:])), [0]
+    session, sent = Session(schema, read_feeds(schema, given.rest[1:]), given.shard()), [0]
     serve(session, read, lambda data: sent.append(write(data, sent[-1])))
     return session.status()
 

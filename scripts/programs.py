@@ -25,8 +25,8 @@ def datacube():
 class Room:
     """A folder in which a program is run on files; `seen` counts what the cases met."""
 
-    def __init__(self, program, folder, if_there):
-        self.program, self.folder, self.if_there, self.seen = program, folder, if_there, collections.Counter()
+    def __init__(self, program, folder):
+        self.program, self.folder, self.seen = program, folder, collections.Counter()
 
     def write(self, name, data):
         """Writes a file, and gives its name."""
@@ -57,21 +57,17 @@ def differs(name, got, wanted):
     return f"{name}: at byte {place} {theirs!r} was to come, and {ours!r} came"
 
 
-def beside_oracle(about, command, compare, cases):
-    """Tries generated cases of a command, and says `N passed, M failed`: compare says what is wrong with a case, or None."""
+def beside_oracle(about, compare, cases):
+    """Tries generated cases, and says `N passed, M failed`: compare says what is wrong with a case, or None."""
     asks = argparse.ArgumentParser(description=about, formatter_class=argparse.RawDescriptionHelpFormatter)
     asks.add_argument("--program")
     asks.add_argument("--cases", type=int, default=cases)
     asks.add_argument("--seed", type=int, default=1)
-    asks.add_argument("--if-there", action="store_true", help="all is well where the program has no such command")
     given = asks.parse_args()
     program = os.path.abspath(given.program or datacube())
-    if subprocess.run([program, command, "--help"], stdout=subprocess.DEVNULL, stderr=subprocess.DEVNULL).returncode:
-        print("the program has no such command yet")
-        return 0 if given.if_there else 1
     failed = 0
     with tempfile.TemporaryDirectory(prefix="datacube-generated-") as folder:
-        room = Room(program, folder, given.if_there)
+        room = Room(program, folder)
         for at in range(given.cases):
             try:
                 why = compare(room, random.Random(f"{given.seed} {at}"))

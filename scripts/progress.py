@@ -393,12 +393,15 @@ def main():
     names = [name for name in TRIALS if not given.words or any(word in name for word in given.words)]
     failed = 0
     with ThreadPoolExecutor(len(names) or 1) as pool:
-        for name, (wrong, terminal) in zip(names, pool.map(lambda name: tried(program, name), names)):
-            failed += wrong is not None
-            if given.v:
-                print(f"{name}: {[round(at, 2) for at in terminal.times]} {terminal.lines()} {terminal.rows()}")
-            if wrong:
-                print(f"FAILED  {name}: {wrong}")
+        ends = list(pool.map(lambda name: tried(program, name), names))
+    # (a line that comes late may be the machine's doing, on which all trials run at once)
+    ends = [end if end[0] is None else tried(program, name) for name, end in zip(names, ends)]
+    for name, (wrong, terminal) in zip(names, ends):
+        failed += wrong is not None
+        if given.v:
+            print(f"{name}: {[round(at, 2) for at in terminal.times]} {terminal.lines()} {terminal.rows()}")
+        if wrong:
+            print(f"FAILED  {name}: {wrong}")
     print(f"{len(names) - failed} passed, {failed} failed")
     return 1 if failed or not names else 0
 

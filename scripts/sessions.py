@@ -1,7 +1,7 @@
 #!/usr/bin/env python3
 """Runs `live` beside scripts/oracle.py over generated sessions: the bytes of all answers, the status, standard error.
 
-    scripts/sessions.py [--program PATH] [--cases N] [--seed N] [--records N] [--if-there]
+    scripts/sessions.py [--program PATH] [--cases N] [--seed N] [--records N]
 
 Each session is asked twice: its whole input at once, and by a pipe, where each question is answered before the next
 record is written; now and then a record goes in two pieces. With `--records` each is a long session of so many records,
@@ -118,12 +118,14 @@ def pieces_of(rng, records, made):
         yield from [(data[:cut], 0), (data[cut:], size)] if cut else [(data, size)]
 
 
-def is_as_run(schema, feeds, records, live):
-    """Whether the oracle's session ends where a run over the feeds, each with its changes after it, would."""
+def is_as_run(schema, feeds, records, live, shard):
+    """Whether the oracle's session ends where a run over the feeds, each with its changes after it, would; a session over a
+    shard numbers its changes in another way."""
     feeds = feeds + [[]] * (oracle.MOST_FEEDS - len(feeds))
     changes = lambda source: [it[1:] for it in records if it[0] == b"%d" % source]
-    run = oracle.Run(schema, [it + changes(source) for source, it in enumerate(feeds, 1)])
-    return (run.print(), run.refusals(), run.status) == (live.run().print(), live.refusals(), live.status())
+    run = oracle.Run(schema, [it + changes(source) for source, it in enumerate(feeds, 1)], shard)
+    is_same = (run.print(), run.status) == (live.run().print(), live.status())
+    return is_same and (shard != (1, 1) or run.refusals() == live.refusals())
 
 
 def compare(room, rng, made_by=session):
@@ -131,11 +133,13 @@ def compare(room, rng, made_by=session):
     room.write("schema.toml", schema.toml())
     names = [room.write(f"feed{at}.csv", oracle.encode([schema.header(), *it], rng)) for at, it in enumerate(feeds)]
     options = rng.choice([[], ["--ring", "1"], ["--threads", "2"]])
+    shard = rng.choice([(1, 1), (1, 1), (1, 2), (3, 3)])
+    options += ["--shard", "%d/%d" % shard] if shard != (1, 1) else []
     data = tail(rng, rng.choice(records) if records else [b"print"])
     last = oracle.records_of(data)
-    live = oracle.Session(schema, feeds)
+    live = oracle.Session(schema, feeds, shard)
     made, line = replies(live, records + last)
-    if not line and not is_as_run(schema, feeds, records + last, live):
+    if not line and not is_as_run(schema, feeds, records + last, live, shard):
         return "the oracle's own session isn't as its run"
     wanted = 1 if line else live.status(), b"".join(made), said(line)
     room.seen.update({"records": len(records), "answers": sum(map(bool, made)), "sessions": 1, "ended by F4": bool(line)})
@@ -152,8 +156,8 @@ def main():
     given, sys.argv[1:] = asks.parse_known_args()
     if given.records:
         made_by = functools.partial(long_session, given.records)
-        return programs.beside_oracle(__doc__, "live", functools.partial(compare, made_by=made_by), 1)
-    return programs.beside_oracle(__doc__, "live", compare, 200)
+        return programs.beside_oracle(__doc__, functools.partial(compare, made_by=made_by), 1)
+    return programs.beside_oracle(__doc__, compare, 200)
 
 
 if __name__ == "__main__":

@@ -53,7 +53,18 @@ def missing() -> Optional[str]:
         return "Debian's package postgresql isn't installed"
     if not os.path.exists(f"{os.path.dirname(binaries)}/lib/wal2json.so"):
         return "Debian's package postgresql-15-wal2json isn't installed"
+    if not has_loopback():
+        return "127.0.0.1 can't be reached"
     return None if shutil.which("setpriv") else "there is no setpriv"
+
+
+def has_loopback() -> bool:
+    """Whether a server on 127.0.0.1 can be reached."""
+    try:
+        with socket.create_server(("127.0.0.1", 0)) as server, socket.create_connection(server.getsockname()):
+            return True
+    except OSError:
+        return False
 
 
 class Private:
@@ -199,7 +210,7 @@ class Way:
         shutil.rmtree(self.room)
 
 
-def until(is_so: Any, seconds: float = 30) -> None:
+def until(is_so: Any, seconds: float = 60) -> None:
     """Waits until something is so."""
     end = time.monotonic() + seconds
     while not is_so():

@@ -143,8 +143,8 @@ class Changes(WithWriters):
         way, rng = private_server.Way(PRIVATE), random.Random("cuts")
         self.addCleanup(way.close)
         self.writers.run(20)
-        follower, before = self.following(dsn=way.dsn), self.writers.changes
-        for _ in range(8 if LONG else 2):
+        follower, before, wanted = self.following(dsn=way.dsn), self.writers.changes, 40 if LONG else 4
+        while way.cuts < wanted:
             self.writers.begin(300 if LONG else 60)
             for _ in range(6 if LONG else 3):
                 # (so it is cut within a message, and within a transaction)
@@ -155,7 +155,6 @@ class Changes(WithWriters):
             self.writers.end()
             self.same_after_all(follower)
             self.assertEqual(follower.state.changes, self.writers.changes - before)
-        self.assertGreater(way.cuts, 10 if LONG else 3)
 
     def are_done(self):
         """Whether no writer is at work."""
@@ -320,11 +319,10 @@ class Moments(Base):
 
         threading.Thread(target=write).start()
         answers = []
-        while not ended.is_set() or not answers:
+        while not ended.is_set() or len(answers) < 20:
             row = follower.slice({})[0]
             answers.append((row["count(*)"] % 2, row["sum(cents)"] or 0))
         self.assertEqual(set(answers), {(0, 0)})
-        self.assertGreater(len(answers), 20)
         self.same(follower)
 
     def test_no_answer_before_it_has_caught_up(self):
@@ -349,7 +347,7 @@ class Moments(Base):
         other, start = Follower(PRIVATE.dsn, self.table, SALES, slot="other_slot"), time.monotonic()
         with other:
             time.sleep(0.3)
-        self.assertLess(time.monotonic() - start, 5)
+        self.assertLess(time.monotonic() - start, SECONDS / 2)
         self.assertIsNone(other.state.failure)
         self.assertEqual(PRIVATE.ask("SELECT FROM pg_replication_slots WHERE slot_name = 'other_slot'"), [])
 

@@ -1,3 +1,4 @@
+mod ShardLaws
 pub mod ListLaws
 mod ValueLaws
 pub mod ArrivalLaws

@@ -1,7 +1,7 @@
 -- The partial form of a schema is a schema.
-use Rattle.std.proofs.Common.{◌≡◌, ◌<◌, ◌≤◌, ◌+◌, ◌++◌, ◌∷◌, [], ℕ, Bool, true, false, List, length, map, fold, refl, sym, ap, ◌∙◌, inl, inr, arith, length-append}
+use Rattle.std.proofs.Common.{◌≡◌, ◌≤◌, ◌∷◌, [], ℕ, Bool, true, List, length, map, fold, refl, inl, inr, arith, length-append}
 use Rattle.std.specs.List.{list_all}
-use Rattle.std.proofs.lemmas.Bool.{cases_Bool, and_parts, and_from}
+use Rattle.std.proofs.lemmas.Bool.{cases_Bool, and_parts}
 use Rattle.std.proofs.lemmas.List.Folds.{list_all-append}
 use Rattle.cube_core.specs.Layout.{Layout, IsSchema, is_aggregate_of, spelling_of}
 use Rattle.cube_core.specs.PartialForm.{has_aggregate, with_aggregate, with_parts, partial_aggregates, partial_form}
@@ -68,11 +68,12 @@ partial_form-IsSchema s is few = record {
   sets_are_of_dimensions = is.sets_are_of_dimensions;
   version_at_least = is.version_at_least;
   version_at_most = is.version_at_most;
+  lawful_shard = is.lawful_shard;
 }
 
 -- the same, of parts that were copied or made
 pub copied-IsSchema : (s : Layout) (dimensions measures texts : List (List ℕ)) (aggregates : List Agg) (sets : List ℕ) → IsSchema s
     → dimensions ≡ s.dimensions → measures ≡ s.measures → aggregates ≡ partial_aggregates s.aggregates → texts ≡ map (spelling_of measures) aggregates → sets ≡ s.grouping_sets → length aggregates ≤ 24
-    → IsSchema (record { dimensions = dimensions; measures = measures; aggregates = aggregates; aggregate_texts = texts; max_records = s.max_records; grouping_sets = sets; version = s.version })
+    → IsSchema (record { dimensions = dimensions; measures = measures; aggregates = aggregates; aggregate_texts = texts; max_records = s.max_records; grouping_sets = sets; version = s.version; shard = s.shard })
 copied-IsSchema s dimensions measures texts aggregates sets is d m a t g few =
     rw (d, t, a, m, g) (partial_form-IsSchema s is (rw a at few))

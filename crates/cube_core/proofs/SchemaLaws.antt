@@ -13,6 +13,8 @@ use Rattle.cube_core.proofs.GroupingLaws.{grouping-AreKept}
 use Rattle.toml.specs.Parse.{parse_document}
 use Rattle.cube_core.specs.declared.schema_fault.SchemaFault.{SchemaFault}
 use Rattle.cube_core.specs.declared.schema_fault.SchemaFault.TheVariants.{Memory, Toml, UnknownKey, Dimensions, Measures, Name, Aggregates, MaxRecords, Grouping, Version}
+use Rattle.cube_core.specs.Shard.{IsShard}
+use Rattle.cube_core.specs.declared.shard.Shard.{Shard}
 use Rattle.cube_core.specs.Layout.{Layout, IsSchema, spelling_of, is_aggregate_of, is_lawful_name, are_distinct}
 use Rattle.cube_core.specs.SchemaDocument.{is_some_up_to, are_lawful_names, aggregates_over, aggregate_spelled, are_spellings, record_limit, max_records_in, default_max_records, sets_of_grouping, feed_version, version_in, dimensions_in, measures_in, spellings_in, document_faults, has_fault, first_fault, layout_of, AnswersDocument, AnswersBytes}
 use Rattle.cube_core.specs.declared.aggregate.Agg.{Agg}
@@ -129,15 +131,15 @@ version_in-bounds : (document : Members) (n : ℕ) → version_in document ≡ S
 version_in-bounds document n is = version_in-at (get_member (codes "version") document) n is
 
 -- parts read off a document that has none of the faults make a schema
-pub layout_of-document : (document : Members) (dimensions measures texts : List (List ℕ)) (aggregates : List Agg) (limit : ℕ) (sets : List ℕ) (version : ℕ)
-    → (dimensions ≡ dimensions_in document) × (is_some_up_to 8 (dimensions_in document) ≡ true)
+pub layout_of-document : (document : Members) (dimensions measures texts : List (List ℕ)) (aggregates : List Agg) (limit : ℕ) (sets : List ℕ) (version : ℕ) (shard : Shard)
+    → IsShard shard → (dimensions ≡ dimensions_in document) × (is_some_up_to 8 (dimensions_in document) ≡ true)
     → (measures ≡ measures_in document) × (is_some_up_to 4 (measures_in document) ≡ true)
     → are_lawful_names (dimensions ++ measures) ≡ true
     → (texts ≡ spellings_in document) × (is_some_up_to 16 (spellings_in document) ≡ true)
     → (aggregates ≡ filter_map (aggregate_spelled measures) texts) × (are_spellings measures texts ≡ true)
     → Some limit ≡ max_records_in document → Some sets ≡ sets_of_grouping dimensions (get_member (codes "grouping") document) → Some version ≡ version_in document
-    → IsSchema (record { dimensions = dimensions; measures = measures; aggregates = aggregates; aggregate_texts = texts; max_records = limit; grouping_sets = sets; version = version })
-layout_of-document document dimensions measures texts aggregates limit sets version d m names t spellings limit_is sets_are version_is =
+    → IsSchema (record { dimensions = dimensions; measures = measures; aggregates = aggregates; aggregate_texts = texts; max_records = limit; grouping_sets = sets; version = version; shard = shard })
+layout_of-document document dimensions measures texts aggregates limit sets version shard lawful_shard d m names t spellings limit_is sets_are version_is =
     let ds = is_some_up_to-length 8 dimensions (rw d.0 d.1) in
     let ms = is_some_up_to-length 4 measures (rw m.0 m.1) in
     let ts = is_some_up_to-length 16 texts (rw t.0 t.1) in
@@ -164,6 +166,7 @@ layout_of-document document dimensions measures texts aggregates limit sets vers
       sets_are_of_dimensions = kept.of_dimensions;
       version_at_least = versions.0;
       version_at_most = versions.1;
+      lawful_shard = lawful_shard;
     })
 
 -- no document is answered that it is none

@@ -4,6 +4,7 @@ use Rattle.std.specs.Str.{bytes_eq, is_utf8, all_ascii_digits}
 use Rattle.std.specs.Str.Parse.{without_leading_sign, signed_digits_value}
 use Rattle.std.specs.List.{list_all, list_any, filter_map}
 use Rattle.cube_core.specs.Layout.{Layout}
+use Rattle.cube_core.specs.Shard.{is_in_shard}
 use Rattle.cube_core.specs.Takes.{null_text, may_amend}
 use Rattle.cube_core.specs.declared.fact.Fact.{Fact}
 use Rattle.cube_core.specs.declared.change.Change.{Change}
@@ -169,15 +170,22 @@ pub record Coming (End : Type 0) : Type 0 where
 abbrev pub coming_after : {End : Type 0} → Item → Coming End → Coming End
 coming_after item rest = record { items = item ∷ rest.items; end = rest.end }
 
--- what data records give after so many of them: an item each, up to the schema's number of records
+-- whether a data record is in the schema's shard: its id decides, whatever its faults, the empty text where it has none
+abbrev pub is_read : Layout → List (List ℕ) → Bool
+is_read s fields = is_in_shard s.shard (field_at fields 1)
+
+-- what data records give after so many of them: an item each that is in the shard, up to the schema's number of records
 abbrev pub items_after : Layout → ℕ → List (List (List ℕ)) → Coming FeedEnd
 items_after s number [] = record { items = []; end = Good }
 items_after s number (fields ∷ records) =
-    if nat_lt number s.max_records
+    if nat_lt number s.max_records then (
+    if is_read s fields
     then coming_after (record { number = number + 1; what = change_of s fields }) (items_after s (number + 1) records)
+    else items_after s (number + 1) records
+    )
     else record { items = []; end = TooManyRecords }
 
--- what the records of a feed give: nothing where there is none, and only after a right header an item for each data record
+-- what the records of a feed give: nothing where there is none, and only after a right header an item for each data record of the shard
 abbrev pub items_of : Layout → List (List (List ℕ)) → Coming FeedEnd
 items_of s [] = record { items = []; end = Good }
 items_of s (header ∷ records) =

@@ -4,11 +4,13 @@ use Rattle.std.specs.Str.{bytes_eq}
 use Rattle.std.specs.List.{list_any, list_all}
 use Rattle.std.specs.List.Sorted.{IsStrictlyIncreasing}
 use Rattle.cube_core.specs.GroupingSet.{mask_of, all_sets, is_among}
+use Rattle.cube_core.specs.Shard.{IsShard, whole_feed}
 use Rattle.cube_core.specs.declared.key.Key.{Key}
+use Rattle.cube_core.specs.declared.shard.Shard.{Shard}
 use Rattle.cube_core.specs.declared.aggregate.Agg.{Agg}
 use Rattle.cube_core.specs.declared.aggregate.Agg.TheVariants.{CountAll, Count, Sum, Min, Max, Avg}
 
--- a schema: the names of the dimensions and of the measures, the aggregates, each with its spelling, how many data records a feed may have, the masks of the grouping sets that are kept, and the version of its feeds
+-- a schema: the names of the dimensions and of the measures, the aggregates, each with its spelling, how many data records a feed may have, the masks of the grouping sets that are kept, the version of its feeds, and the shard of them that is read
 pub record Layout : Type 0 where
   pub dimensions : List (List ℕ)
   pub measures : List (List ℕ)
@@ -17,6 +19,7 @@ pub record Layout : Type 0 where
   pub max_records : ℕ
   pub grouping_sets : List ℕ
   pub version : ℕ
+  pub shard : Shard
 
 -- whether a text stands in a list of texts
 abbrev pub is_listed : List ℕ → List (List ℕ) → Bool
@@ -61,7 +64,7 @@ spelling_of measures (Min m) = spelled_with (codes "min") measures m
 spelling_of measures (Max m) = spelled_with (codes "max") measures m
 spelling_of measures (Avg m) = spelled_with (codes "avg") measures m
 
--- what is true of every schema: the numbers of its parts, lawful names that differ, aggregates of its measures in their spelling, and grouping sets of its dimensions, in ascending order
+-- what is true of every schema: the numbers of its parts, lawful names that differ, aggregates of its measures in their spelling, and grouping sets of its dimensions, in ascending order, and a lawful shard
 pub record IsSchema (s : Layout) : Type 0 where
   pub some_dimension : 1 ≤ length s.dimensions
   pub dimensions_at_most : length s.dimensions ≤ 8
@@ -80,6 +83,7 @@ pub record IsSchema (s : Layout) : Type 0 where
   pub sets_are_of_dimensions : All (λ set. set < 2 ^ length s.dimensions) s.grouping_sets
   pub version_at_least : 1 ≤ s.version
   pub version_at_most : s.version ≤ 2
+  pub lawful_shard : IsShard s.shard
 
 -- whether a schema keeps the grouping set of a key
 abbrev pub keeps : Layout → Key → Bool
@@ -95,4 +99,5 @@ sample_layout = record {
   max_records = 4294967295;
   grouping_sets = all_sets 2;
   version = 1;
+  shard = whole_feed;
 }

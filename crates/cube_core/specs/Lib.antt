@@ -1,5 +1,6 @@
 pub mod Stored
 pub mod Values
+pub mod Shard
 pub mod Layout
 pub mod PartialForm
 pub mod SchemaDocument

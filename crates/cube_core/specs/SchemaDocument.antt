@@ -5,6 +5,7 @@ use Rattle.std.specs.Option.{option_map_or}
 use Rattle.std.specs.List.{list_all, filter_map, range_with_len}
 use Rattle.toml.specs.Data.{Data, string, integer, array, as_array, Items, no_items, item, Members, no_members, member, get_member}
 use Rattle.toml.specs.Parse.{parse_document}
+use Rattle.cube_core.specs.Shard.{whole_feed}
 use Rattle.cube_core.specs.Layout.{Layout, is_listed, are_distinct, is_lawful_name, spelling_of}
 use Rattle.cube_core.specs.GroupingSet.{all_sets, is_among}
 use Rattle.cube_core.specs.declared.aggregate.Agg.{Agg}
@@ -184,6 +185,7 @@ layout_of document = record {
   max_records = unwrap_or (max_records_in document) default_max_records;
   grouping_sets = unwrap_or (grouping_sets_in document) [];
   version = unwrap_or (version_in document) 1;
+  shard = whole_feed;
 }
 
 -- what a document says: its first fault, or its schema

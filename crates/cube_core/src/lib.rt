@@ -18,6 +18,7 @@ mod schema;
 mod schema_fault;
 mod schema_toml;
 mod sequence;
+mod shard;
 mod small_sequence;
 mod text;
 
@@ -33,5 +34,6 @@ pub use query::QueryFault;
 pub use schema::Schema;
 pub use schema_fault::SchemaFault;
 pub use sequence::Sequence;
+pub use shard::Shard;
 pub use small_sequence::SmallSequence;
 pub use text::Text;

@@ -34,6 +34,7 @@ impl Schema {
             max_records: self.max_records,
             grouping_sets: Vec::from_slice(alloc, &self.grouping_sets)?,
             version: self.version,
+            shard: self.shard,
         })
     }
 }

@@ -2,6 +2,7 @@
 ghost use Rattle.std.specs.Prelude.{◌≡◌, ◌≤◌, ◌<◌, ◌+◌, ◌^◌, IfOk, length, option_map};
 ghost use Rattle.std.specs.List.{list_all};
 ghost use Rattle.cube_core.specs.Layout.{IsSchema, sample_layout, keeps};
+ghost use Rattle.cube_core.specs.Shard.{IsShard};
 ghost use Rattle.cube_core.specs.Takes.{fits, fits_part, takes, is_id, is_dimension_value, puts_dimension_value};
 ghost use Rattle.cube_core.specs.GroupingSet.{is_among, mask_of, mask_of_coords};
 
@@ -11,6 +12,7 @@ use crate::dimension_values::{DimensionValues, text_of};
 use crate::fact::Fact;
 use crate::key::{Coord, Key};
 use crate::partial::{Field, Partial};
+use crate::shard::Shard;
 use crate::text::{Text, copy_texts};
 use std::alloc::{AllocError, Global};
 use std::marker::Model;
@@ -28,6 +30,7 @@ pub struct Schema {
     pub(crate) max_records: u32,
     pub(crate) grouping_sets: Vec<u8>,
     pub(crate) version: u32,
+    pub(crate) shard: Shard,
 }
 
 impl Model for Schema {
@@ -43,6 +46,7 @@ impl Model for Schema {
       max_records = s.max_records;
       grouping_sets = s.grouping_sets.items;
       version = s.version;
+      shard = s.shard;
     } };
 
     ghost invariant = { λ s. IsSchema (record {
@@ -53,6 +57,7 @@ impl Model for Schema {
       max_records = s.max_records;
       grouping_sets = s.grouping_sets.items;
       version = s.version;
+      shard = s.shard;
     }) };
 }
 
@@ -75,6 +80,7 @@ impl Schema {
             max_records: u32::MAX,
             grouping_sets: sample_sets(alloc)?,
             version: 1,
+            shard: Shard::whole(),
         })
     }
 
@@ -90,6 +96,7 @@ impl Schema {
             max_records: self.max_records,
             grouping_sets: Vec::from_slice(alloc, &self.grouping_sets)?,
             version: self.version,
+            shard: self.shard,
         })
     }
 
@@ -148,6 +155,25 @@ impl Schema {
         ensures schema { IsSchema self.now }
     {
         self.version
+    }
+
+    /// The shard of each feed that is read: of the data records, those whose id is in it. A schema that was read is of
+    /// whole feeds.
+    pub fn shard(&self) -> Shard
+        ensures value { result ≡ self.now.shard }
+        ensures schema { IsSchema self.now }
+    {
+        self.shard
+    }
+
+    /// The same schema, of one shard of each feed.
+    pub fn with_shard(self, shard: Shard) -> Schema
+        requires { IsShard shard }
+        ensures { result ≡ record self { shard = shard } }
+    {
+        let mut schema = self;
+        schema.shard = shard;
+        schema
     }
 
     /// Whether the schema keeps the grouping set of a key: the set of dimensions that aren't ALL in it. The key

@@ -12,6 +12,7 @@ mod grouping;
 use crate::aggregate::Agg;
 use crate::schema::Schema;
 use crate::schema_fault::SchemaFault;
+use crate::shard::Shard;
 use crate::text::Text;
 use grouping::sets_of_grouping;
 use std::alloc::{AllocError, Global};
@@ -78,6 +79,7 @@ fn schema_of(alloc: Global, document: &Table) -> Result<Schema, SchemaFault>
         max_records,
         grouping_sets,
         version,
+        shard: Shard::whole(),
     })
 }
 

@@ -100,7 +100,7 @@ IsBuilder-new ledger cube schema sets sources same are new cells = record {
 
 -- ---- an item refused
 
-all_facts-refuse : (old new : LedgerView) (source number code : ℕ) → 1 ≤ source → source ≤ length old.accounts
+pub all_facts-refuse : (old new : LedgerView) (source number code : ℕ) → 1 ≤ source → source ≤ length old.accounts
     → AtSource (λ o n. n ≡ with_refusal o number code) source old new → IsPermutation (all_facts old.accounts) (all_facts new.accounts)
 all_facts-refuse old new source number code first last at =
     subst (λ accounts. IsPermutation (all_facts old.accounts) (all_facts accounts)) (sym at.accounts)

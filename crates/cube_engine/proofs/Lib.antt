@@ -10,3 +10,4 @@ pub mod RulingLaws
 pub mod BuilderLaws
 pub mod FillLaws
 pub mod TakingLaws
+pub mod PartedLaws

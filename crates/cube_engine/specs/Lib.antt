@@ -3,3 +3,4 @@ pub mod Ledger
 pub mod Builder
 pub mod Build
 pub mod Taking
+pub mod Parted

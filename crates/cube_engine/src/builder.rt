@@ -218,6 +218,13 @@ impl Builder {
         &self.cube
     }
 
+    /// The books and the refusals of all sources.
+    pub fn ledger(&self) -> &Ledger
+        ensures { result.now ≡ self.now.ledger }
+    {
+        &self.ledger
+    }
+
     /// The refusals of a source, numbered from 1, in the order of its items.
     pub fn refusals(&self, source: u32) -> &[Refusal]
         requires first { 1 ≤ source }

@@ -34,8 +34,8 @@ fn fill_from_book(cube: &mut Cube, book: &Book) -> Result<(), AllocError>
     Ok(())
 }
 
-// Adds a fact, unless it couldn't be counted.
-fn add_counted(cube: &mut Cube, fact: &Fact) -> Result<(), AllocError>
+/// Adds a fact, unless it couldn't be counted.
+pub fn add_counted(cube: &mut Cube, fact: &Fact) -> Result<(), AllocError>
     requires { fits cube.old.schema fact.now ≡ true }
     ensures { OnOk result (GainsFacts (fact.now ∷ []) cube.old cube.new) }
 {

@@ -14,6 +14,7 @@ mod fault;
 mod fill;
 pub mod laws;
 mod ledger;
+mod parted;
 mod ruling;
 mod taking;
 
@@ -22,3 +23,4 @@ pub use build::{build_ledger, build_plain};
 pub use builder::Builder;
 pub use fault::BuildFault;
 pub use ledger::Ledger;
+pub use parted::{Part, Parted};

@@ -1,19 +1,71 @@
--- What is to come of a feed, before and after an item.
-use Rattle.std.proofs.Common.{◌≡◌, ◌<◌, ◌+◌, ℕ, true, [], ◌∷◌, Some, None, refl}
-use Rattle.std.specs.Prelude.{Result, Ok}
+-- What is to come of a feed, before and after a record.
+use Rattle.std.proofs.Common.{◌≡◌, ◌<◌, ◌+◌, ℕ, List, true, false, [], ◌∷◌, Some, None, refl, subst}
+use Rattle.std.specs.Prelude.{⊤, Result, Ok, Err, Option, nat_lt}
 use Rattle.std.proofs.lemmas.Bool.{lt-ltb}
 use Rattle.cube_core.specs.Layout.{Layout}
-use Rattle.cube_core.specs.Items.{change_of, items_after}
-use Rattle.cube_core.specs.declared.change.Change.{Change}
-use Rattle.cube_core.specs.declared.change.LineFault.{LineFault}
-use Rattle.cube_feed.specs.Reading.{RecordsView, Advances}
-use Rattle.cube_feed.specs.Feed.{Left, Gives, to_come, after_header}
+use Rattle.cube_core.specs.Items.{Coming, coming_after, change_of, is_read, items_after}
+use Rattle.cube_core.specs.declared.change.Item.{Item}
+use Rattle.cube_feed.specs.Reading.{RecordsView, Advances, IsReadingFault}
+use Rattle.cube_feed.specs.Feed.{Ahead, Left, Gives, to_come, after_header}
+use Rattle.cube_feed.specs.declared.fault.FeedFault.{FeedFault}
+use Rattle.cube_feed.specs.declared.fault.FeedFault.TheVariants.{Memory, Read, Header, TooMany}
 
--- the item of a record that was taken
-pub change_of-Gives : (s : Layout) (number : ℕ) (old : Left) (new : RecordsView) (what : Result Change LineFault) → number < s.max_records
-    → Advances old true new → what ≡ change_of s new.fields
-    → Gives (after_header s number old) (Ok (Some (record { number = number + 1; what = what }))) (after_header s (number + 1) new.left)
-change_of-Gives s number None new what h a w = tt
-change_of-Gives s number (Some []) new what h a w = cc a
-change_of-Gives s number (Some (fields ∷ rest)) new what h a w =
-    (to_come (items_after s (number + 1) rest), rw (lt-ltb number s.max_records h, w, a.1) refl, rw a.2 refl)
+-- where the reader tells its bytes, the same is to come now as then
+abbrev pub StillComes : Ahead → Ahead → Type 0
+StillComes None now = ⊤
+StillComes (Some then) now = now ≡ Some then
+
+pub StillComes-refl : (now : Ahead) → StillComes now now
+StillComes-refl None = tt
+StillComes-refl (Some coming) = refl
+
+pub StillComes-Gives : (then now new : Ahead) (answer : Result (Option Item) FeedFault) → StillComes then now → Gives now answer new → Gives then answer new
+StillComes-Gives None now new answer same gives = tt
+StillComes-Gives (Some coming) now new answer same gives = subst (λ (ahead : Ahead). Gives ahead answer new) same gives
+
+-- a record of another shard is passed over
+skip-Some : (s : Layout) (number : ℕ) (coming : Coming (Option FeedFault)) (old : Left) (new : RecordsView) → number < s.max_records
+    → Advances old true new → is_read s new.fields ≡ false → after_header s number old ≡ Some coming → after_header s (number + 1) new.left ≡ Some coming
+skip-Some s number coming None new below advances other is = cc is
+skip-Some s number coming (Some []) new below advances other is = cc advances
+skip-Some s number coming (Some (fields ∷ rest)) new below advances other is =
+    let unread : is_read s fields ≡ false = subst (λ (fs : List (List ℕ)). is_read s fs ≡ false) advances.1 other in
+    rw advances.2 (rw (lt-ltb number s.max_records below, unread) at is)
+
+pub StillComes-skip : (s : Layout) (number : ℕ) (then : Ahead) (old : Left) (new : RecordsView) → number < s.max_records
+    → Advances old true new → is_read s new.fields ≡ false → StillComes then (after_header s number old) → StillComes then (after_header s (number + 1) new.left)
+StillComes-skip s number None old new below advances other same = tt
+StillComes-skip s number (Some coming) old new below advances other same = skip-Some s number coming old new below advances other same
+
+-- the item of a record of the shard
+pub item-Gives : (s : Layout) (number : ℕ) (old : Left) (new : RecordsView) (item : Item) → number < s.max_records → Advances old true new → is_read s new.fields ≡ true
+    → item.number ≡ number + 1 → item.what ≡ change_of s new.fields → Gives (after_header s number old) (Ok (Some item)) (after_header s item.number new.left)
+item-Gives s number None new item below advances read is says = tt
+item-Gives s number (Some []) new item below advances read is says = cc advances
+item-Gives s number (Some (fields ∷ rest)) new item below advances read is says =
+    let known : is_read s fields ≡ true = subst (λ (fs : List (List ℕ)). is_read s fs ≡ true) advances.1 read in
+    (to_come (items_after s (number + 1) rest), first_of known, rw (advances.2, is) refl)
+  where
+    first_of : is_read s fields ≡ true → to_come (items_after s number (fields ∷ rest)) ≡ coming_after item (to_come (items_after s (number + 1) rest))
+    first_of known = rw (lt-ltb number s.max_records below, known, is, says, advances.1) refl
+
+-- no record is left
+pub none-Gives : (s : Layout) (number : ℕ) (old : Left) (new : RecordsView) (ahead : Ahead) → Advances old false new → Gives (after_header s number old) (Ok None) ahead
+none-Gives s number None new ahead advances = tt
+none-Gives s number (Some []) new ahead advances = refl
+none-Gives s number (Some (fields ∷ rest)) new ahead advances = cc advances.0
+
+-- a record too many
+pub too_many-Gives : (s : Layout) (number : ℕ) (old : Left) (new : RecordsView) (ahead : Ahead) → nat_lt number s.max_records ≡ false → Advances old true new
+    → Gives (after_header s number old) (Err TooMany) ahead
+too_many-Gives s number None new ahead full advances = tt
+too_many-Gives s number (Some []) new ahead full advances = cc advances
+too_many-Gives s number (Some (fields ∷ rest)) new ahead full advances = rw full refl
+
+-- a fault of the reader or of memory may come at any time
+pub reading-Gives : (ahead now : Ahead) (fault : FeedFault) → IsReadingFault fault → Gives ahead (Err fault) now
+reading-Gives None now fault is = tt
+reading-Gives (Some coming) now Memory is = tt
+reading-Gives (Some coming) now Read is = tt
+reading-Gives (Some coming) now Header is = absurd is
+reading-Gives (Some coming) now TooMany is = absurd is

@@ -1,6 +1,7 @@
 -- What a feed has to come, and what each call of it gives (this project's choice).
-use Rattle.std.specs.Prelude.{◌≡◌, ⊤, ◌+◌, ◌≤◌, ℕ, Bool, true, false, List, [], Option, Some, None, option_map, Result, Ok, Err, IfOk, IfSome}
+use Rattle.std.specs.Prelude.{◌≡◌, ⊤, ◌+◌, ◌<◌, ◌≤◌, ℕ, Bool, true, false, List, [], Option, Some, None, option_map, Result, Ok, Err, IfOk, IfSome}
 use Rattle.cube_core.specs.Layout.{Layout}
+use Rattle.cube_core.specs.Shard.{whole_feed}
 use Rattle.cube_core.specs.Takes.{takes}
 use Rattle.cube_core.specs.Items.{Coming, FeedEnd, Good, WrongHeader, TooManyRecords, coming_after, items_of, items_after}
 use Rattle.cube_core.specs.declared.change.Item.{Item}
@@ -82,9 +83,21 @@ Gives (Some old) (Err TooMany) new = old ≡ nothing_but (Some TooMany)
 abbrev pub IsTaken : Layout → Result (Option Item) FeedFault → Type 0
 IsTaken schema answer = IfOk answer (λ next. IfSome next (λ item. IfOk item.what (λ change. takes schema change ≡ true)))
 
--- an item has the next number, which is the schema's number of records at most; without one the number stays
+-- the number of an item that is given, or the one before where none is
+abbrev pub number_after : ℕ → Result (Option Item) FeedFault → ℕ
+number_after number (Ok (Some item)) = item.number
+number_after number (Ok None) = number
+number_after number (Err fault) = number
+
+-- an item's number comes after the one before, and is the schema's number of records at most; of a whole feed it is the next
+pub record IsNumbered (s : Layout) (before number : ℕ) : Type 0 where
+  pub after : before < number
+  pub at_most : number ≤ s.max_records
+  pub next : s.shard ≡ whole_feed → number ≡ before + 1
+
+-- an item is numbered after the one before; without one the number stays
 abbrev pub Numbers : FeedView → Result (Option Item) FeedFault → FeedView → Type 0
-Numbers old (Ok (Some item)) new = (item.number ≡ old.number + 1) × (new.number ≡ item.number) × (new.number ≤ old.schema.max_records) × (new.ended ≡ None)
+Numbers old (Ok (Some item)) new = IsNumbered old.schema old.number item.number × (new.number ≡ item.number) × (new.ended ≡ None)
 Numbers old (Ok None) new = new.number ≡ old.number
 Numbers old (Err fault) new = new.number ≡ old.number
 

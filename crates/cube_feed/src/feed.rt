@@ -1,13 +1,15 @@
 //! A feed: the items that its bytes say, one after the other.
 ghost use Rattle.std.specs.Prelude.{◌≡◌, ◌≤◌, ◌+◌, None, Some, IfOk, IfErr, IfSome, IfNone, option_map};
 ghost use Rattle.cube_core.specs.Records.{records_of};
-ghost use Rattle.cube_core.specs.Items.{items_of};
-ghost use Rattle.cube_feed.specs.Feed.{HasEnded, Gives, IsTaken, Numbers, TakesHeader, IsFeed, after_header, ended_of, end_answer, to_come, to_come_of};
+ghost use Rattle.cube_core.specs.Items.{change_of, is_read, items_of};
+ghost use Rattle.cube_feed.specs.Reading.{IsReadingFault};
+ghost use Rattle.cube_feed.specs.Feed.{HasEnded, Gives, IsNumbered, IsTaken, Numbers, TakesHeader, IsFeed, after_header, ended_of, end_answer, number_after, to_come, to_come_of};
 
 use crate::fault::FeedFault;
 use crate::header::is_header;
 use crate::line::change;
 use crate::records::Records;
+use crate::rest::is_read;
 use cube_core::{Item, Schema};
 use std::alloc::Global;
 use std::io::Read;
@@ -63,7 +65,31 @@ fn take_header<R: Read>(schema: &Schema, records: &mut Records<R>) -> Result<boo
     }
 }
 
-// Reads the record after so many, and gives its item.
+// Whether the record that was taken last is in the schema's shard.
+fn is_last_read<R: Read>(schema: &Schema, records: &Records<R>) -> bool
+    ensures { result ≡ is_read schema.now records.now.fields }
+{
+    is_read(schema, records.row())
+}
+
+// The item of the record that was taken last, which has this number.
+fn item_of<R: Read>(
+    alloc: Global,
+    schema: &Schema,
+    records: &Records<R>,
+    number: u32,
+) -> Result<Item, FeedFault>
+    ensures number { IfOk result (λ item. item.number ≡ number) }
+    ensures what { IfOk result (λ item. item.what ≡ change_of schema.now records.now.fields) }
+    ensures fault { IfErr result IsReadingFault }
+{
+    match change(alloc, schema, &records.fields()) {
+        Ok(what) => Ok(Item { number, what }),
+        Err(_) => Err(FeedFault::Memory),
+    }
+}
+
+// Reads the records after so many, up to the first that is in the schema's shard, and gives its item.
 fn take_item<R: Read>(
     alloc: Global,
     schema: &Schema,
@@ -71,23 +97,23 @@ fn take_item<R: Read>(
     number: u32,
 ) -> Result<Option<Item>, FeedFault>
     requires { number ≤ schema.now.max_records }
-    ensures gives { Gives (after_header schema.now number records.old.left) result (after_header schema.now (number + 1) records.new.left) }
-    ensures item { IfOk result (λ next. IfSome next (λ item. (item.number ≡ number + 1) × (number + 1 ≤ schema.now.max_records))) }
+    ensures gives { Gives (after_header schema.now number records.old.left) result
+        (after_header schema.now (number_after number result) records.new.left) }
+    ensures item { IfOk result (λ next. IfSome next (λ item. IsNumbered schema.now number item.number)) }
     ensures taken { IsTaken schema.now result }
 {
-    if !records.advance()? {
-        return Ok(None);
+    for before in number..schema.max_records() {
+        if !records.advance()? {
+            return Ok(None);
+        }
+        if is_last_read(schema, records) {
+            return Ok(Some(item_of(alloc, schema, records, before + 1)?));
+        }
     }
-    if number == schema.max_records() {
+    if records.advance()? {
         return Err(FeedFault::TooMany);
     }
-    match change(alloc, schema, &records.fields()) {
-        Ok(what) => Ok(Some(Item {
-            number: number + 1,
-            what,
-        })),
-        Err(_) => Err(FeedFault::Memory),
-    }
+    Ok(None)
 }
 
 // Reads the next item, after the header where that wasn't read.
@@ -100,8 +126,9 @@ fn take_next<R: Read>(
 ) -> Result<Option<Item>, FeedFault>
     requires feed { IsFeed schema.now number stage }
     requires open { ended_of stage ≡ None }
-    ensures gives { Gives (to_come_of schema.now number stage records.old.left) result (after_header schema.now (number + 1) records.new.left) }
-    ensures item { IfOk result (λ next. IfSome next (λ item. (item.number ≡ number + 1) × (number + 1 ≤ schema.now.max_records))) }
+    ensures gives { Gives (to_come_of schema.now number stage records.old.left) result
+        (after_header schema.now (number_after number result) records.new.left) }
+    ensures item { IfOk result (λ next. IfSome next (λ item. IsNumbered schema.now number item.number)) }
     ensures taken { IsTaken schema.now result }
 {
     if let Stage::Start = stage {
@@ -131,7 +158,8 @@ impl<'s, R: Read> Feed<'s, R> {
         }
     }
 
-    /// The next item, or `None` after the last one of a good feed.
+    /// The next item, or `None` after the last one of a good feed. Of a shard of the feed only its records are items, each with
+    /// its number in the feed; of another shard's record nothing but its id is looked at.
     ///
     /// A change that an item has is one that the schema takes: no caller need ask again.
     ///

@@ -59,6 +59,16 @@ impl<'r> Model for Fields<'r> {
     ghost invariant = { λ f. f.are_ascii ≡ true → IsAscii (text_of f.row.now) };
 }
 
+/// The bytes of the field at a place of a record; empty past the last.
+pub(crate) fn bytes_at(row: &ByteRecord, place: usize) -> &[u8]
+    ensures { result.now ≡ field_at (fields_of row.now) place }
+{
+    match row.get(place) {
+        Some(field) => field,
+        None => &[],
+    }
+}
+
 impl<'r> Fields<'r> {
     /// The fields of a record.
     #[inline]
@@ -80,10 +90,7 @@ impl<'r> Fields<'r> {
     pub(crate) fn bytes_at(&self, place: usize) -> &[u8]
         ensures { result.now ≡ field_at self.now place }
     {
-        match self.row.get(place) {
-            Some(field) => field,
-            None => &[],
-        }
+        bytes_at(self.row, place)
     }
 
     /// The bytes of the fields from a place to another, which lie one after another, with the length of each in a list. None

@@ -19,5 +19,5 @@ mod takes_items;
 pub use fault::FeedFault;
 pub use feed::Feed;
 pub use record_reader::RecordReader;
-pub use rest::{change_of_record, put_rest};
+pub use rest::{change_of_record, is_read, put_rest};
 pub use takes_items::TakesItems;

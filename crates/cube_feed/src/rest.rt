@@ -1,9 +1,9 @@
-//! The fields of a record from a place on, and the change that a record says.
+//! The fields of a record from a place on, the change that a record says, and whether it is read.
 ghost use Rattle.std.specs.Prelude.{◌≡◌, drop, IfOk, OnOk};
 ghost use Rattle.csv.specs.Records.{fields_of};
-ghost use Rattle.cube_core.specs.Items.{change_of};
+ghost use Rattle.cube_core.specs.Items.{change_of, is_read};
 
-use crate::field::Fields;
+use crate::field::{Fields, bytes_at};
 use crate::line::change;
 use csv::ByteRecord;
 use cube_core::{Change, LineFault, Schema};
@@ -32,4 +32,12 @@ pub fn change_of_record(
     ensures { IfOk result (λ what. what ≡ change_of schema.now (fields_of fields.now)) }
 {
     change(alloc, schema, &Fields::of(fields))
+}
+
+/// Whether a data record of a feed is in the schema's shard. Its id alone decides, whatever its faults: the empty text where
+/// it has no second field.
+pub fn is_read(schema: &Schema, fields: &ByteRecord) -> bool
+    ensures { result ≡ is_read schema.now (fields_of fields.now) }
+{
+    schema.shard().has(bytes_at(fields, 1))
 }

@@ -14,6 +14,8 @@ mod RollupKeyLaws
 mod RollupBestLaws
 mod RollupLaws
 mod SharesLaws
+mod ShardLaws
+mod ShardTextLaws
 mod MergedLaws
 mod PartsLaws
 mod MergeOrderLaws

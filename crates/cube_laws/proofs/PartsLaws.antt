@@ -1,6 +1,7 @@
 -- The partial form of a schema has what each of its aggregates, and each of the schema's, is made of.
 use Rattle.std.proofs.Common.{◌≡◌, ℕ, zero, suc, ◌≤◌, true, List, [], ◌∷◌, length, fold, Some, Contains, ◌⊎◌, refl, sym, ap, ◌∙◌, subst, inl, inr, eqb-true, eq-eqb, map}
-use Rattle.std.specs.List.{AllByRecursion, AllZip}
+use Rattle.std.specs.Prelude.{Bool}
+use Rattle.std.specs.List.{AllByRecursion, AllZip, list_all}
 use Rattle.std.proofs.lemmas.Bool.{cases_Bool, false≢true}
 use Rattle.std.proofs.lemmas.List.Elements.{Contains-append_left, Contains-push, Contains-push_cases}
 use Rattle.cube_core.specs.Cube.{AreRows}
@@ -11,6 +12,7 @@ use Rattle.cube_core.specs.declared.aggregate.Agg.TheVariants.{CountAll, Count, 
 use Rattle.cube_core.specs.declared.fact.Fact.{Fact}
 use Rattle.cube_core.specs.declared.key.Row.{Row}
 use Rattle.cube_core.proofs.ListLaws.{Contains-AllByRecursion, Contains-cases, Contains-list_any, Contains-nil, list_any-Contains}
+use Rattle.cube_merge.specs.Source.{can_be_made}
 use Rattle.cube_laws.specs.Merging.{joined, AreMergedOf, Stands, IsMadeOf}
 use Rattle.cube_laws.proofs.MergedLaws.{AreMergedOf-AreRowsOver}
 
@@ -175,3 +177,39 @@ partial_aggregates-itself aggregates =
 pub partial_form-itself : (s : Layout) → partial_form (partial_form s) ≡ partial_form s
 partial_form-itself s =
     ap (λ (aggregates : List Agg). let form : Layout = record s { aggregates = aggregates; aggregate_texts = map (spelling_of s.measures) aggregates } in form) (partial_aggregates-itself s.aggregates)
+
+-- ---- what can be made
+each-passes : (p : Agg → Bool) (xs : List Agg) → AllByRecursion (λ x. p x ≡ true) xs → list_all p xs ≡ true
+each-passes p [] all = refl
+each-passes p (x ∷ xs) all = rw (all.0, each-passes p xs all.1) refl
+
+is_aggregate-refl : (agg : Agg) → is_aggregate agg agg ≡ true
+is_aggregate-refl CountAll = refl
+is_aggregate-refl (Count m) = eq-eqb m m refl
+is_aggregate-refl (Sum m) = eq-eqb m m refl
+is_aggregate-refl (Min m) = eq-eqb m m refl
+is_aggregate-refl (Max m) = eq-eqb m m refl
+is_aggregate-refl (Avg m) = eq-eqb m m refl
+
+has_aggregate-among : (given : List Agg) (agg : Agg) → Contains given agg → has_aggregate agg given ≡ true
+has_aggregate-among given agg among = Contains-list_any (is_aggregate agg) given agg among (is_aggregate-refl agg)
+
+partial-makes : (aggregates : List Agg) (agg : Agg) → Contains (partial_aggregates aggregates) agg → can_be_made (partial_aggregates aggregates) agg ≡ true
+partial-makes aggregates (Avg m) among =
+    let parts = fold-HasParts aggregates aggregates m (fold-Avg aggregates aggregates m among) in
+    rw (has_aggregate-among (partial_aggregates aggregates) (Sum m) parts.0, has_aggregate-among (partial_aggregates aggregates) (Count m) parts.1) refl
+partial-makes aggregates CountAll among = has_aggregate-among (partial_aggregates aggregates) CountAll among
+partial-makes aggregates (Count m) among = has_aggregate-among (partial_aggregates aggregates) (Count m) among
+partial-makes aggregates (Sum m) among = has_aggregate-among (partial_aggregates aggregates) (Sum m) among
+partial-makes aggregates (Min m) among = has_aggregate-among (partial_aggregates aggregates) (Min m) among
+partial-makes aggregates (Max m) among = has_aggregate-among (partial_aggregates aggregates) (Max m) among
+
+pub partial-makes_each : (aggregates : List Agg) → list_all (can_be_made (partial_aggregates aggregates)) (partial_aggregates aggregates) ≡ true
+partial-makes_each aggregates =
+    each-passes (can_be_made (partial_aggregates aggregates)) (partial_aggregates aggregates)
+    (Contains-AllByRecursion (λ agg. can_be_made (partial_aggregates aggregates) agg ≡ true) (partial_aggregates aggregates) (partial-makes aggregates))
+
+pub own-makes_each : (aggregates : List Agg) → list_all (can_be_made (partial_aggregates aggregates)) aggregates ≡ true
+own-makes_each aggregates =
+    each-passes (can_be_made (partial_aggregates aggregates)) aggregates
+    (Contains-AllByRecursion (λ agg. can_be_made (partial_aggregates aggregates) agg ≡ true) aggregates (λ agg among. partial-makes aggregates agg (fold-keeps aggregates aggregates agg among)))

@@ -3,7 +3,7 @@ use Rattle.std.proofs.Common.{◌≡◌, ℕ, ◌≤◌, ◌+◌, nat_lt, List, 
 use Rattle.std.specs.List.{AllByRecursion, AllZip, cons_option}
 use Rattle.std.proofs.lemmas.List.{map-append}
 use Rattle.std.proofs.lemmas.Grind.{flat_map-append}
-use Rattle.cube_core.specs.Items.{Coming, coming_after, FeedEnd, WrongHeader, TooManyRecords, change_of, is_header, items_after, items_of}
+use Rattle.cube_core.specs.Items.{Coming, coming_after, FeedEnd, WrongHeader, TooManyRecords, change_of, is_header, is_read, items_after, items_of}
 use Rattle.cube_core.specs.Layout.{Layout, IsSchema}
 use Rattle.cube_core.specs.Life.{changes_of, taken_change}
 use Rattle.cube_core.specs.PartialForm.{partial_form}
@@ -29,7 +29,7 @@ items_after-partial s number [] = refl
 items_after-partial s number (fields ∷ records) =
     let item : Item = record { number = number + 1; what = change_of s fields } in
     let no_more : Coming FeedEnd = record { items = []; end = TooManyRecords } in
-    ap (λ (rest : Coming FeedEnd). if nat_lt number s.max_records then coming_after item rest else no_more) (items_after-partial s (number + 1) records)
+    ap (λ (rest : Coming FeedEnd). if nat_lt number s.max_records then (if is_read s fields then coming_after item rest else rest) else no_more) (items_after-partial s (number + 1) records)
 
 items_of-partial : (s : Layout) (records : List (List (List ℕ))) → items_of (partial_form s) records ≡ items_of s records
 items_of-partial s [] = refl
@@ -59,14 +59,14 @@ AreSurviving-partial s bytes facts survive =
     subst (λ (coming : Coming FeedEnd). Survive (changes_of s coming.items) facts) (items_of-partial s (records_of bytes))
     (subst (λ changes. Survive changes facts) (changes_of-partial s (items_of (partial_form s) (records_of bytes)).items) survive)
 
-AllZip-partial : (s : Layout) (sources : List (List ℕ)) (parts : List (List Fact)) → AllZip (AreSurviving (partial_form s)) (items_of_sources (partial_form s) sources) parts
+pub AllZip-partial : (s : Layout) (sources : List (List ℕ)) (parts : List (List Fact)) → AllZip (AreSurviving (partial_form s)) (items_of_sources (partial_form s) sources) parts
     → AllZip (AreSurviving s) (items_of_sources s sources) parts
 AllZip-partial s [] [] all = all
 AllZip-partial s [] (part ∷ parts) all = all
 AllZip-partial s (bytes ∷ sources) [] all = all
 AllZip-partial s (bytes ∷ sources) (part ∷ parts) all = (AreSurviving-partial s bytes part all.0, AllZip-partial s sources parts all.1)
 
-SurviveTogether-partial : (s : Layout) (sources : List (List ℕ)) (facts : List Fact) → SurviveTogether (partial_form s) (items_of_sources (partial_form s) sources) facts
+pub SurviveTogether-partial : (s : Layout) (sources : List (List ℕ)) (facts : List Fact) → SurviveTogether (partial_form s) (items_of_sources (partial_form s) sources) facts
     → SurviveTogether s (items_of_sources s sources) facts
 SurviveTogether-partial s sources facts survive = record { parts = survive.parts; of_each = AllZip-partial s sources survive.parts survive.of_each; joined = survive.joined }
 

@@ -12,7 +12,7 @@ use Rattle.std.proofs.lemmas.List.Sorted.{IsPermutation-remove, Contains-permuta
 use Rattle.std.proofs.lemmas.Map.Keys.{IsDistinct-tail}
 use Rattle.std.proofs.lemmas.Slice.Eq.{bytes_eq-Decides}
 use Rattle.cube_core.specs.Amendment.{over, fields_over}
-use Rattle.cube_core.specs.Items.{change_of, fact_of, fits_i64, insert_of, is_keep, is_measure, is_null, is_number, items_after, items_of, keeps_any, measure_field_of, measure_fields, measure_of, number_of, put_of, update_of, width_of, field_at, is_header}
+use Rattle.cube_core.specs.Items.{change_of, fact_of, fits_i64, insert_of, is_keep, is_measure, is_null, is_number, is_read, items_after, items_of, keeps_any, measure_field_of, measure_fields, measure_of, number_of, put_of, update_of, width_of, field_at, is_header}
 use Rattle.cube_core.specs.Layout.{Layout, IsSchema}
 use Rattle.cube_core.specs.Life.{id_of, naming, is_delete, since_delete, updated, from_insert, life_of, taken_change, changes_of}
 use Rattle.cube_core.specs.Records.{records_of}
@@ -262,14 +262,22 @@ IsSmallItem item = IfOk item.what IsSmallChange
 items_after-small : (s : Layout) (number : ℕ) (records : List (List (List ℕ))) → AllByRecursion IsSmallItem (items_after s number records).items
 items_after-small s number [] = tt
 items_after-small s number (fields ∷ records) = elim (cases_Bool (nat_lt number s.max_records)) [
-  | inl within ↦ rw within (change_of-small s fields, items_after-small s (number + 1) records)
+  | inl within ↦ elim (cases_Bool (is_read s fields)) [
+    | inl read ↦ rw (within, read) (change_of-small s fields, items_after-small s (number + 1) records)
+    | inr other ↦ rw (within, other) (items_after-small s (number + 1) records)
+  ]
   | inr past ↦ rw past tt
 ]
 
 items_after-length : (s : Layout) (number : ℕ) (records : List (List (List ℕ))) → number ≤ s.max_records → number + length (items_after s number records).items ≤ s.max_records
 items_after-length s number [] within = omega arith
 items_after-length s number (fields ∷ records) within = elim (cases_Bool (nat_lt number s.max_records)) [
-  | inl below ↦ rw below (omega (arith, items_after-length s (number + 1) records (omega (arith, ltb-true number s.max_records below))))
+  | inl below ↦
+      let after = items_after-length s (number + 1) records (omega (arith, ltb-true number s.max_records below)) in
+      elim (cases_Bool (is_read s fields)) [
+        | inl read ↦ rw (below, read) (omega (arith, after))
+        | inr other ↦ rw (below, other) (omega (arith, after))
+      ]
   | inr past ↦ rw past (omega arith)
 ]
 

@@ -1,5 +1,5 @@
 -- A document that writes a schema is read as that schema.
-use Rattle.std.proofs.Common.{◌≡◌, ℕ, ◌≤◌, Bool, true, false, List, [], ◌∷◌, length, map, find, unwrap_or, None, Ok, Err, refl, ap, ◌∙◌}
+use Rattle.std.proofs.Common.{◌≡◌, ℕ, ◌≤◌, Bool, true, false, List, [], ◌∷◌, length, map, find, unwrap_or, None, Ok, Err, refl, sym, ap, ◌∙◌}
 use Rattle.std.proofs.lemmas.List.{length-map}
 use Rattle.std.specs.List.{list_all, filter_map}
 use Rattle.std.specs.Option.{option_map_or}
@@ -7,6 +7,7 @@ use Rattle.std.proofs.lemmas.Bool.{and_parts, le-leb, not_from_true}
 use Rattle.toml.specs.Data.{Members}
 use Rattle.cube_core.specs.Layout.{Layout, IsSchema, spelling_of, is_aggregate_of}
 use Rattle.cube_core.specs.SchemaDocument.{is_some_up_to, aggregate_spelled, are_spellings, dimensions_in, measures_in, spellings_in, max_records_in, default_max_records, grouping_sets_in, version_in, document_faults, has_fault, first_fault, layout_of, schema_of}
+use Rattle.cube_core.specs.Shard.{whole_feed}
 use Rattle.cube_laws.specs.Written.{Writes}
 use Rattle.cube_core.specs.declared.aggregate.Agg.{Agg}
 use Rattle.cube_core.specs.declared.schema_fault.SchemaFault.{SchemaFault}
@@ -34,8 +35,8 @@ is_some_up_to-length most texts least greatest = rw (le-leb 1 (length texts) lea
 find-document_faults : (holds : SchemaFault → Bool) → holds UnknownKey ≡ false → holds Dimensions ≡ false → holds Measures ≡ false → holds Name ≡ false → holds Aggregates ≡ false → holds MaxRecords ≡ false → holds Grouping ≡ false → holds Version ≡ false → find holds document_faults ≡ None
 find-document_faults holds a b c d e f g h = rw (a, b, c, d, e, f, g, h)
 
-pub Writes-schema_of : (document : Members) (s : Layout) → IsSchema s → length s.aggregates ≤ 16 → Writes document s → schema_of document ≡ Ok s
-Writes-schema_of document s is few writes =
+pub Writes-schema_of : (document : Members) (s : Layout) → IsSchema s → s.shard ≡ whole_feed → length s.aggregates ≤ 16 → Writes document s → schema_of document ≡ Ok s
+Writes-schema_of document s is whole few writes =
     let dimensions : dimensions_in document ≡ s.dimensions = ap (λ o. unwrap_or o []) writes.dimensions in
     let measures : measures_in document ≡ s.measures = ap (λ o. unwrap_or o []) writes.measures in
     let texts : spellings_in document ≡ s.aggregate_texts = ap (λ o. unwrap_or o []) writes.aggregates in
@@ -56,5 +57,5 @@ Writes-schema_of document s is few writes =
     (not_from_true _ (rw writes.max_records))
     (not_from_true _ (rw writes.grouping_sets))
     (not_from_true _ (rw writes.version)) in
-    let layout : layout_of document ≡ s = λ i. record { dimensions = dimensions i; measures = measures i; aggregates = aggregates i; aggregate_texts = texts i; max_records = limit i; grouping_sets = sets i; version = version i } in
+    let layout : layout_of document ≡ s = λ i. record { dimensions = dimensions i; measures = measures i; aggregates = aggregates i; aggregate_texts = texts i; max_records = limit i; grouping_sets = sets i; version = version i; shard = sym whole i } in
     ap (λ fault. option_map_or Err fault (Ok (layout_of document))) no_fault ∙ ap Ok layout

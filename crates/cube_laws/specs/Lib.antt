@@ -6,3 +6,4 @@ pub mod Rollup
 pub mod Written
 pub mod Merging
 pub mod Told
+pub mod Shards

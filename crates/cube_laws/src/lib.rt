@@ -12,5 +12,6 @@ pub mod rollup;
 pub mod rows;
 pub mod schema;
 pub mod sets;
+pub mod shards;
 pub mod survivors;
 pub mod text_back;

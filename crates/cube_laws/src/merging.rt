@@ -1,6 +1,6 @@
 //! How the cubes of parts of the facts make the cube of them all.
-ghost use Rattle.std.specs.Prelude.{◌≡◌, ◌≤◌, ℕ, List, IsPermutation, Some, length, map};
-ghost use Rattle.std.specs.List.{AllByRecursion, AllZip};
+ghost use Rattle.std.specs.Prelude.{◌≡◌, ◌≤◌, ℕ, List, IsPermutation, Some, length, map, true};
+ghost use Rattle.std.specs.List.{AllByRecursion, AllZip, list_all};
 ghost use Rattle.cube_core.specs.Cube.{AreRows, AreRowsOver};
 ghost use Rattle.cube_core.specs.Layout.{IsSchema, Layout};
 ghost use Rattle.cube_core.specs.PartialForm.{partial_aggregates, partial_form};
@@ -9,6 +9,7 @@ ghost use Rattle.cube_core.specs.Sources.{IsPrintedOf};
 ghost use Rattle.cube_laws.specs.Told.{AreFewSources, CanBePrinted};
 ghost use Rattle.cube_laws.specs.Merging.{AreMergedOf, AreMergeTrees, IsMergedText, IsMergeTree, PutsPrinted, PutsPrintedOf, joined};
 ghost use Rattle.cube_merge.specs.Merging.{IsMergeOf};
+ghost use Rattle.cube_merge.specs.Source.{can_be_made};
 ghost use Rattle.cube_core.specs.declared.aggregate.Agg.{Agg};
 ghost use Rattle.cube_core.specs.declared.fact.Fact.{Fact};
 ghost use Rattle.cube_core.specs.declared.key.Row.{Row};
@@ -25,6 +26,15 @@ pub fn cubes_add_up()
         1 ≤ length parts → AllZip (AreRows (partial_form s)) parts cubes →
         AreMergedOf (partial_aggregates s.aggregates) (partial_aggregates s.aggregates) cubes rows →
         AreRows (partial_form s) (joined parts) rows }
+{}
+
+/// Under the partial form of a schema each aggregate of the schema's can be made, and each of the partial form's, so that no
+/// merge from the one to the other is given up for its aggregates (this project's choice).
+pub fn partial_form_makes_each_aggregate()
+    ensures whole { (s : Layout) →
+        list_all (can_be_made (partial_aggregates s.aggregates)) s.aggregates ≡ true }
+    ensures partial { (s : Layout) → list_all
+        (can_be_made (partial_aggregates s.aggregates)) (partial_aggregates s.aggregates) ≡ true }
 {}
 
 /// And the rows of the cube of all facts are merged rows of those of the parts, and no others are,

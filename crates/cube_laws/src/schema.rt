@@ -6,6 +6,7 @@ ghost use Rattle.cube_core.specs.Cube.{AreRows, AreRowsOver};
 ghost use Rattle.cube_core.specs.GroupingSet.{all_sets};
 ghost use Rattle.cube_core.specs.Layout.{Layout, IsSchema, spelling_of, is_aggregate_of};
 ghost use Rattle.cube_core.specs.PartialForm.{partial_form};
+ghost use Rattle.cube_core.specs.Shard.{whole_feed};
 ghost use Rattle.cube_core.specs.SchemaDocument.{schema_of, aggregate_spelled};
 ghost use Rattle.cube_laws.specs.Written.{Writes};
 ghost use Rattle.cube_core.specs.declared.aggregate.Agg.{Agg};
@@ -13,10 +14,10 @@ ghost use Rattle.cube_core.specs.declared.fact.Fact.{Fact};
 ghost use Rattle.cube_core.specs.declared.key.Row.{Row};
 
 /// A document that writes a schema is read as that schema and no other: no schema is refused, and none is taken for
-/// another. A document has at most 16 aggregates; the partial form of a schema may have more.
+/// another. A document has at most 16 aggregates, the partial form of a schema may have more; and it is of whole feeds.
 pub fn written_schema_is_read()
     ensures { (document : Members) (s : Layout) →
-        IsSchema s → length s.aggregates ≤ 16 → Writes document s → schema_of document ≡ Ok s }
+        IsSchema s → s.shard ≡ whole_feed → length s.aggregates ≤ 16 → Writes document s → schema_of document ≡ Ok s }
 {}
 
 /// Each schema is written by some document (of TOML's values; the text of a file isn't spoken of).

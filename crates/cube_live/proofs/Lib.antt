@@ -1,8 +1,10 @@
 pub mod RequestLaws
 pub mod ReplyLaws
 pub mod ServingLaws
+pub mod KeepingLaws
 pub mod LiveLaws
 pub mod RowLaws
 pub mod RefusalLaws
 pub mod ShowsLaws
 pub mod OpeningLaws
+pub mod PartLaws

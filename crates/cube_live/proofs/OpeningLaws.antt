@@ -8,13 +8,12 @@ use Rattle.cube_core.specs.Layout.{Layout}
 use Rattle.cube_core.specs.Run.{Told, AreGood, AreItemsOf}
 use Rattle.cube_core.specs.declared.change.Item.{Item}
 use Rattle.cube_core.proofs.ListLaws.{AllZip-length}
-use Rattle.cube_engine.specs.Builder.{HasFacts}
-use Rattle.cube_engine.specs.Ledger.{LedgerStandsAt, LedgerView, all_facts, new_account}
+use Rattle.cube_engine.specs.Ledger.{LedgerStandsAt, LedgerView, new_account}
 use Rattle.cube_feeders.specs.FeedingAll.{IsNew, TakeAll}
 use Rattle.cube_feeders.specs.declared.roster.Gatherer.{Gatherer}
-use Rattle.cube_live.specs.Live.{Counts, LiveStandsAt, LiveView}
+use Rattle.cube_live.specs.Live.{AreLast, LiveStandsAt, LiveView}
 use Rattle.cube_live.specs.Opening.{IsOpening, OpeningStandsAt, OpeningView, OpensOver}
-use Rattle.cube_live.proofs.LiveLaws.{Counts-more, of_source-other}
+use Rattle.cube_live.proofs.LiveLaws.{AreLast-more, of_source-other}
 
 -- where no record was taken
 none-at : (n place none : ℕ) → get_or (replicate n none) place none ≡ none
@@ -22,8 +21,8 @@ none-at zero place none = refl
 none-at (suc n) zero none = refl
 none-at (suc n) (suc place) none = none-at n place none
 
-pub Counts-none : Counts (replicate 64 0) []
-Counts-none source first last = none-at 64 (source - 1) 0
+pub AreLast-none : AreLast (replicate 64 0) []
+AreLast-none source first last = none-at 64 (source - 1) 0
 
 pub IsOpening-new : (s : Layout) (ledger : LedgerView) (feeds most : ℕ) (numbers : List ℕ) → ledger.schema ≡ s → ledger.accounts ≡ replicate 64 new_account → feeds ≤ 64 → most ≡ s.max_records
     → numbers ≡ replicate 64 0 → IsOpening ledger feeds most numbers
@@ -80,12 +79,23 @@ OpensOver-made to opens = record {
 }
 
 -- the cube that is made of an opening stands where it stood
-pub LiveStandsAt-made : (first opening : OpeningView) (live : LiveView) (arrivals : Arrivals) → live.builder.ledger ≡ opening.ledger → HasFacts (all_facts opening.ledger.accounts) live.builder.cube
+pub LiveStandsAt-made : (first opening : OpeningView) (live : LiveView) (arrivals : Arrivals) → live.ledger ≡ opening.ledger
     → live.numbers ≡ opening.numbers → OpeningStandsAt first opening arrivals → LiveStandsAt live arrivals
-LiveStandsAt-made first opening live arrivals ledger has numbers stands = record {
-  builder = record {
-    ledger = subst (λ (l : LedgerView). LedgerStandsAt l arrivals) (sym ledger) stands.ledger;
-    cube = subst (λ (l : LedgerView). HasFacts (all_facts l.accounts) live.builder.cube) (sym ledger) has;
-  };
-  numbers = subst (λ (ns : List ℕ). Counts ns arrivals) (sym numbers) stands.numbers;
+LiveStandsAt-made first opening live arrivals ledger numbers stands = record {
+  ledger = subst (λ (l : LedgerView). LedgerStandsAt l arrivals) (sym ledger) stands.ledger;
+  numbers = subst (λ (ns : List ℕ). AreLast ns arrivals) (sym numbers) stands.numbers;
+}
+
+-- an opening took the next item of a source with a feed
+pub OpeningStandsAt-more : (first old new : OpeningView) (arrivals : Arrivals) (source : ℕ) (item : Item) → 1 ≤ source → source ≤ old.feeds → old.feeds ≤ 64 → length old.numbers ≡ 64
+    → new.ledger.schema ≡ old.ledger.schema → new.feeds ≡ old.feeds → (LedgerStandsAt old.ledger arrivals → LedgerStandsAt new.ledger (arrivals ++ (source, item) ∷ []))
+    → new.numbers ≡ slice_set old.numbers (source - 1) item.number → OpeningStandsAt first old arrivals → OpeningStandsAt first new (arrivals ++ (source, item) ∷ [])
+OpeningStandsAt-more first old new arrivals source item some within few long schema feeds takes set stands = record {
+  schema = schema ∙ stands.schema;
+  feeds = feeds ∙ stands.feeds;
+  ledger = takes stands.ledger;
+  numbers = AreLast-more old.numbers new.numbers arrivals source item some (omega (arith, within, few)) long set stands.numbers;
+  others = λ other beyond.
+      let past : old.feeds < other = subst (λ n. n < other) feeds beyond in
+      of_source-other arrivals source other item (λ same. omega (arith, same, within, past)) ∙ stands.others other past;
 }

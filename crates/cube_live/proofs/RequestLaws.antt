@@ -42,7 +42,7 @@ IsSound-asked s (Ok value) ask sound = sound
 IsSound-asked s (Err fault) ask sound = tt
 
 -- a choice of an answer or a fault has what the answer has
-IfOk-if_Err : {A : Type 0} (P : A → Type 0) (test : Bool) (answer : Result A QueryFault) (fault : QueryFault) → (test ≡ true → IfOk answer P) → IfOk (if test then answer else Err fault) P
+pub IfOk-if_Err : {A : Type 0} (P : A → Type 0) (test : Bool) (answer : Result A QueryFault) (fault : QueryFault) → (test ≡ true → IfOk answer P) → IfOk (if test then answer else Err fault) P
 IfOk-if_Err P true answer fault has = has refl
 IfOk-if_Err P false answer fault has = tt
 

@@ -5,13 +5,13 @@ use Rattle.std.specs.Io.KnownBytes.{Appends}
 use Rattle.std.proofs.lemmas.List.{take_all, take-append-le}
 use Rattle.csv.proofs.WriteFacts.{appends-none, appends-more}
 use Rattle.cube_core.specs.Arrival.{Arrivals, of_source}
-use Rattle.cube_core.specs.Items.{change_of}
+use Rattle.cube_core.specs.Items.{is_read}
 use Rattle.cube_core.specs.Layout.{Layout}
 use Rattle.cube_feed.specs.Reading.{Advances, RecordsView}
 use Rattle.cube_live.specs.Live.{LiveView, LiveStandsAt}
 use Rattle.cube_live.specs.Request.{request_of}
 use Rattle.cube_live.specs.Serving.{Answered, Leaves, Serves, ServingFails, Replied, ReplyFails, IsJournalFault, IsInputFault, WritesNone, WritesPart, WritesReply, BreaksReply, ExplainsChange}
-use Rattle.cube_live.specs.Session.{AreReplies, IsReply, arrivals_after, said_item}
+use Rattle.cube_live.specs.Session.{AreReplies, IsReply, arrivals_after, arrivals_changed, last_number}
 use Rattle.cube_live.specs.declared.request.Question.{Question}
 use Rattle.cube_live.specs.declared.request.Request.{Request}
 use Rattle.cube_live.specs.declared.request.Request.TheVariants as request
@@ -42,7 +42,7 @@ Went-none s records start live old stands = record {
 }
 
 -- where a record was taken, it is the next of those that were left
-taken-next : (left : List (List (List ℕ))) (view : RecordsView) → Advances (Some left) true view
+pub taken-next : (left : List (List (List ℕ))) (view : RecordsView) → Advances (Some left) true view
     → (rest : List (List (List ℕ))) × (left ≡ view.fields ∷ rest) × (view.left ≡ Some rest)
 taken-next [] view advances = cc advances
 taken-next (fields ∷ rest) view advances = (rest, ap (λ f. f ∷ rest) (sym advances.1), advances.2)
@@ -70,11 +70,11 @@ pub Went-Answered : (s : Layout) (records : List (List (List ℕ))) (start : Arr
 Went-Answered s records start count left live sent old new went = record { text = went.text; replies = went.replies; written = went.written }
 
 -- no record is left
-none-left : (left : List (List (List ℕ))) (view : RecordsView) → Advances (Some left) false view → left ≡ []
+pub none-left : (left : List (List (List ℕ))) (view : RecordsView) → Advances (Some left) false view → left ≡ []
 none-left [] view advances = refl
 none-left (fields ∷ rest) view advances = cc advances.0
 
-take-none_left : {A : Type 0} (count : ℕ) (records : List A) → drop count records ≡ [] → take count records ≡ records
+pub take-none_left : {A : Type 0} (count : ℕ) (records : List A) → drop count records ≡ [] → take count records ≡ records
 take-none_left zero [] is = refl
 take-none_left zero (r ∷ records) is = cc is
 take-none_left (suc count) [] is = refl
@@ -130,7 +130,7 @@ Leaves-ReplyFails s records start count left live view sent (TooMany source) old
     let next = taken-next (drop count records) view (rw went.left_is at advances) in (
       count,
       record { text = went.text; replies = went.replies; written = rw fails.0 went.written },
-      record { fields = view.fields; rest = next.0; is_next = next.1; asks = fails.1.asked; last = fails.1.last },
+      record { fields = view.fields; rest = next.0; is_next = next.1; asks = fails.1.asked; read = fails.1.read; last = fails.1.last },
     )
 Leaves-ReplyFails s records start count left live view sent (Write total) old mid new went advances fails =
     let next = taken-next (drop count records) view (rw went.left_is at advances) in
@@ -179,7 +179,7 @@ WritesNone-first line text sent (Journal fault) old new fails = absurd fails
 -- ---- one record
 -- a change has no reply
 pub Replied-change : (s : Layout) (arrivals : Arrivals) (fields : List (List ℕ)) (source : ℕ) (after : LiveView) (sent : ℕ) (old : Option (List ℕ)) → request.Change source ≡ request_of s fields
-    → LiveStandsAt after (arrivals ++ (source, said_item arrivals source (change_of s (drop 1 fields))) ∷ []) → Replied s arrivals fields after sent sent old old
+    → LiveStandsAt after (arrivals_changed s arrivals source (drop 1 fields)) → Replied s arrivals fields after sent sent old old
 Replied-change s arrivals fields source after sent old asks stands = record {
   writes = record { reply = []; is_reply = rw (← asks) refl; written = appends-none old; counted = sym (add-zero sent) };
   stands = rw (← asks) stands;
@@ -215,12 +215,12 @@ BreaksReply-writes s arrivals asks reply sent (Journal why) old new is fails = a
 
 -- a change that wasn't taken
 pub ReplyFails-change : (s : Layout) (live : LiveView) (arrivals : Arrivals) (fields : List (List ℕ)) (source sent : ℕ) (fault : SessionFault) (old : Option (List ℕ)) → live.schema ≡ s → request.Change source ≡ request_of s fields
-    → (1 ≤ source) × (source ≤ 64) → LiveStandsAt live arrivals → ExplainsChange source live fault → ReplyFails s arrivals fields sent fault old old
+    → (1 ≤ source) × (source ≤ 64) → LiveStandsAt live arrivals → ExplainsChange (is_read s (drop 1 fields)) source live fault → ReplyFails s arrivals fields sent fault old old
 ReplyFails-change s live arrivals fields source sent Read old is asks within stands why = absurd why
 ReplyFails-change s live arrivals fields source sent (TooMany other) old is asks within stands why =
     let same : other ≡ source = why.0 in
-    let last : length (of_source arrivals source) ≡ s.max_records = sym (stands.numbers source within.0 within.1) ∙ why.1 ∙ ap (λ (l : Layout). l.max_records) is in
-    rw same (refl, record { asked = sym asks; last = last })
+    let last : last_number (of_source arrivals source) ≡ s.max_records = sym (stands.numbers source within.0 within.1) ∙ why.2 ∙ ap (λ (l : Layout). l.max_records) is in
+    rw same (refl, record { asked = sym asks; read = why.1; last = last })
 ReplyFails-change s live arrivals fields source sent Full old is asks within stands why = refl
 ReplyFails-change s live arrivals fields source sent (Write total) old is asks within stands why = absurd why
 ReplyFails-change s live arrivals fields source sent (Journal fault) old is asks within stands why = refl

@@ -4,3 +4,4 @@ pub mod Session
 pub mod Live
 pub mod Opening
 pub mod Serving
+pub mod Keeping

@@ -1,50 +1,53 @@
--- A cube that is kept right: the builder of all 64 sources, and how many records of each were taken (this project's choice).
+-- A cube that is kept right: the ledger of all 64 sources, and the number of the last record of each that was taken (this project's choice).
 use Rattle.std.specs.Prelude.{◌≡◌, ◌≤◌, ◌<◌, ◌-◌, ◌++◌, ◌∷◌, [], ⊤, ℕ, List, length, get_or, Result}
 use Rattle.cube_core.specs.Arrival.{Arrivals, of_source}
 use Rattle.cube_core.specs.Layout.{Layout}
 use Rattle.cube_core.specs.declared.change.Change.{Change}
 use Rattle.cube_core.specs.declared.change.LineFault.{LineFault}
-use Rattle.cube_engine.specs.Builder.{BuilderView, SameBuilder, StandsAt}
-use Rattle.cube_live.specs.Session.{said_item}
+use Rattle.cube_engine.specs.Ledger.{LedgerView, LedgerStandsAt}
+use Rattle.cube_live.specs.Session.{arrivals_changed, last_number, said_item}
 use Rattle.cube_live.specs.declared.live.LiveFault.{LiveFault}
 use Rattle.cube_live.specs.declared.live.LiveFault.TheVariants.{TooMany, Memory}
 use Rattle.cube_live.specs.declared.request.Question.{Question}
 use Rattle.cube_live.specs.declared.request.Question.TheVariants.{Print, Slice, Drill, RollUp, Refusals, RefusalsAfter}
 
--- the schema, the books and the cells, and how many records of each source were taken, from the first
+-- the schema, the books and the refusals, and the number of the last record of each source that was taken, 0 where none was
 pub record LiveView : Type 0 where
   pub schema : Layout
-  pub builder : BuilderView
+  pub ledger : LedgerView
   pub numbers : List ℕ
 
--- what is true of it always: its builder is of the schema, over its grouping sets and 64 sources, and no source has more records than the schema takes
-pub record IsLive (s : Layout) (builder : BuilderView) (numbers : List ℕ) : Type 0 where
-  pub schema : builder.ledger.schema ≡ s
-  pub sets : builder.cube.sets ≡ s.grouping_sets
-  pub sources : length builder.ledger.accounts ≡ 64
+-- what is true of it always: its ledger is of the schema and 64 sources, and no source has a record past those that the schema takes
+pub record IsLive (s : Layout) (ledger : LedgerView) (numbers : List ℕ) : Type 0 where
+  pub schema : ledger.schema ≡ s
+  pub sources : length ledger.accounts ≡ 64
   pub numbered : length numbers ≡ 64
   pub at_most : (place : ℕ) → get_or numbers place 0 ≤ s.max_records
 
--- each of these numbers counts what an arrival list has of its source, of the 64
-abbrev pub Counts : List ℕ → Arrivals → Type 0
-Counts numbers arrivals = (source : ℕ) → 1 ≤ source → source ≤ 64 → get_or numbers (source - 1) 0 ≡ length (of_source arrivals source)
+-- each of these numbers is that of the last item that an arrival list has of its source, of the 64
+abbrev pub AreLast : List ℕ → Arrivals → Type 0
+AreLast numbers arrivals = (source : ℕ) → 1 ≤ source → source ≤ 64 → get_or numbers (source - 1) 0 ≡ last_number (of_source arrivals source)
 
--- it stands at an arrival list: the builder does, and its numbers count what the list has of each source
+-- it stands at an arrival list: the ledger does, and its numbers are those of the list's last items
 pub record LiveStandsAt (live : LiveView) (arrivals : Arrivals) : Type 0 where
-  pub builder : StandsAt live.builder arrivals
-  pub numbers : Counts live.numbers arrivals
+  pub ledger : LedgerStandsAt live.ledger arrivals
+  pub numbers : AreLast live.numbers arrivals
 
 -- it took what the next record of a source says
 abbrev pub TakesNext : ℕ → Result Change LineFault → LiveView → LiveView → Type 0
 TakesNext source what old new =
     (arrivals : Arrivals) → LiveStandsAt old arrivals → LiveStandsAt new (arrivals ++ (source, said_item arrivals source what) ∷ [])
 
+-- it took a change of a source, a data record of these fields
+abbrev pub TakesChange : ℕ → List (List ℕ) → LiveView → LiveView → Type 0
+TakesChange source fields old new = (arrivals : Arrivals) → LiveStandsAt old arrivals → LiveStandsAt new (arrivals_changed old.schema arrivals source fields)
+
 -- nothing changed that counts
 pub record SameLive (old new : LiveView) : Type 0 where
-  pub builder : SameBuilder old.builder new.builder
+  pub ledger : new.ledger ≡ old.ledger
   pub numbers : new.numbers ≡ old.numbers
 
--- why a record wasn't taken: its source has as many as the schema takes; memory may be wanting at any time
+-- why a record wasn't taken: its source has the last that the schema takes; memory may be wanting at any time
 abbrev pub ExplainsLive : ℕ → LiveView → LiveFault → Type 0
 ExplainsLive source live TooMany = get_or live.numbers (source - 1) 0 ≡ live.schema.max_records
 ExplainsLive source live Memory = ⊤

@@ -1,11 +1,12 @@
 -- What serving a session promises: which replies went out where it ends well, and which first part of them where it fails (this project's choice).
-use Rattle.std.specs.Prelude.{◌≡◌, ◌≤◌, ◌+◌, ◌-◌, ◌∷◌, ⊤, ℕ, List, length, take, drop, get_or, Option}
+use Rattle.std.specs.Prelude.{◌≡◌, ◌≤◌, ◌+◌, ◌-◌, ◌∷◌, ⊤, ℕ, Bool, true, List, length, take, drop, get_or, Option}
 use Rattle.std.specs.Io.KnownBytes.{Appends}
 use Rattle.cube_core.specs.Arrival.{Arrivals, of_source}
+use Rattle.cube_core.specs.Items.{is_read}
 use Rattle.cube_core.specs.Layout.{Layout}
 use Rattle.cube_live.specs.Live.{LiveView, LiveStandsAt}
 use Rattle.cube_live.specs.Request.{request_of}
-use Rattle.cube_live.specs.Session.{AreReplies, IsReply, arrivals_after, arrivals_with}
+use Rattle.cube_live.specs.Session.{AreReplies, IsReply, arrivals_after, arrivals_with, last_number}
 use Rattle.cube_live.specs.declared.request.Request.{Request}
 use Rattle.cube_live.specs.declared.request.Request.TheVariants.{Change}
 use Rattle.cube_live.specs.declared.session.SessionFault.{SessionFault}
@@ -25,13 +26,14 @@ pub record AnsweredInPart (s : Layout) (records : List (List (List ℕ))) (start
   pub within : sent ≤ length text
   pub written : Appends old new (take sent text)
 
--- the first record that was not replied to is a change of a source that has as many records as the schema takes
+-- the first record that was not replied to is a change of a source that has the last record that the schema takes, and is in the schema's shard
 pub record IsPastLast (s : Layout) (records : List (List (List ℕ))) (start : Arrivals) (count source : ℕ) : Type 0 where
   pub fields : List (List ℕ)
   pub rest : List (List (List ℕ))
   pub is_next : drop count records ≡ fields ∷ rest
   pub asks : request_of s fields ≡ Change source
-  pub last : length (of_source (arrivals_after s start (take count records)) source) ≡ s.max_records
+  pub read : is_read s (drop 1 fields) ≡ true
+  pub last : last_number (of_source (arrivals_after s start (take count records)) source) ≡ s.max_records
 
 -- a session ended well: wherever the cube stood, the replies to all records went out, and it stands after them
 abbrev pub Serves : Layout → List (List (List ℕ)) → LiveView → LiveView → Option (List ℕ) → Option (List ℕ) → Type 0
@@ -83,14 +85,15 @@ pub record Replied (s : Layout) (arrivals : Arrivals) (fields : List (List ℕ))
   pub writes : WritesReply s arrivals (request_of s fields) sent total old new
   pub stands : LiveStandsAt after (arrivals_with s arrivals fields)
 
--- a change of a source wasn't taken, since the source has as many records as the schema takes
-pub record IsOneTooMany (s : Layout) (arrivals : Arrivals) (asks : Request) (source : ℕ) : Type 0 where
-  pub asked : asks ≡ Change source
-  pub last : length (of_source arrivals source) ≡ s.max_records
+-- a change of a source, which is in the schema's shard, wasn't taken, since the source has the last record that the schema takes
+pub record IsOneTooMany (s : Layout) (arrivals : Arrivals) (fields : List (List ℕ)) (source : ℕ) : Type 0 where
+  pub asked : request_of s fields ≡ Change source
+  pub read : is_read s (drop 1 fields) ≡ true
+  pub last : last_number (of_source arrivals source) ≡ s.max_records
 
 -- a record wasn't taken, or its reply didn't go out whole
 abbrev pub ReplyFails : Layout → Arrivals → List (List ℕ) → ℕ → SessionFault → Option (List ℕ) → Option (List ℕ) → Type 0
-ReplyFails s arrivals fields sent (TooMany source) old new = (new ≡ old) × IsOneTooMany s arrivals (request_of s fields) source
+ReplyFails s arrivals fields sent (TooMany source) old new = (new ≡ old) × IsOneTooMany s arrivals fields source
 ReplyFails s arrivals fields sent fault old new = BreaksReply s arrivals (request_of s fields) sent fault old new
 
 -- the input couldn't be read, or memory was wanting
@@ -109,10 +112,10 @@ IsJournalFault Full = ⊥
 IsJournalFault (Write sent) = ⊥
 IsJournalFault (Journal fault) = ⊤
 
--- why a change of a source wasn't taken: the source has as many records as the schema takes; memory or the journal may be wanting at any time
-abbrev pub ExplainsChange : ℕ → LiveView → SessionFault → Type 0
-ExplainsChange source live Read = ⊥
-ExplainsChange source live (TooMany of) = (of ≡ source) × (get_or live.numbers (source - 1) 0 ≡ live.schema.max_records)
-ExplainsChange source live Full = ⊤
-ExplainsChange source live (Write sent) = ⊥
-ExplainsChange source live (Journal fault) = ⊤
+-- why a change of a source wasn't taken: it is in the schema's shard, and the source has the last record that the schema takes; memory or the journal may be wanting at any time
+abbrev pub ExplainsChange : Bool → ℕ → LiveView → SessionFault → Type 0
+ExplainsChange read source live Read = ⊥
+ExplainsChange read source live (TooMany of) = (of ≡ source) × (read ≡ true) × (get_or live.numbers (source - 1) 0 ≡ live.schema.max_records)
+ExplainsChange read source live Full = ⊤
+ExplainsChange read source live (Write sent) = ⊥
+ExplainsChange read source live (Journal fault) = ⊤

@@ -1,5 +1,5 @@
 -- What the text shows that a question is answered by, over the items of all sources (this project's choice).
-use Rattle.std.specs.Prelude.{◌≡◌, ◌++◌, ◌-◌, nat_lt, ℕ, Bool, List, [], length, map, filter, get_or}
+use Rattle.std.specs.Prelude.{◌≡◌, ◌++◌, ◌-◌, nat_lt, ⊤, ℕ, Bool, false, List, [], length, map, filter, get_or}
 use Rattle.std.specs.List.{flat_map}
 use Rattle.std.specs.Ordering.{eq_by_cmp}
 use Rattle.cube_core.specs.Layout.{Layout}
@@ -38,6 +38,24 @@ pub record ShowsRows (test : Key → Bool) (s : Layout) (feeds : List (List Item
 -- whether a key is this one
 abbrev pub is_key : Key → Key → Bool
 is_key above key = eq_by_cmp key_cmp above key
+
+-- a question is one of the rows whose keys pass a test: a slice, a drill-down or a roll-up
+abbrev pub AsksRows : Question → Type 0
+AsksRows Print = ⊥
+AsksRows (Slice pattern) = ⊤
+AsksRows (Drill key dimension) = ⊤
+AsksRows (RollUp key dimension) = ⊤
+AsksRows Refusals = ⊥
+AsksRows (RefusalsAfter source number) = ⊥
+
+-- whether a question of rows asks for that of a key; any other question asks for none
+abbrev pub asks_for : Question → Key → Bool
+asks_for Print key = false
+asks_for (Slice pattern) key = matches pattern key
+asks_for (Drill above dimension) key = drills_down dimension above key
+asks_for (RollUp below dimension) key = is_key (rolled_up dimension below) key
+asks_for Refusals key = false
+asks_for (RefusalsAfter source number) key = false
 
 -- whether a refusal is numbered above a record
 abbrev pub is_after : ℕ → Refusal → Bool

@@ -18,8 +18,10 @@ mod session;
 
 pub use journal::{Journal, JournalFault, NoJournal};
 pub use live::{Live, LiveFault};
+pub use number::count_of;
 pub use opening::open;
 pub use parse::request_of;
+pub use refusals::print_refusals;
 pub use reply::{code_text, ok_line};
 pub use request::{Question, Request, RequestFault};
 pub use session::{SessionFault, serve};

@@ -4,30 +4,37 @@ ghost use Rattle.cube_core.specs.Arrival.{Arrivals, of_sources};
 ghost use Rattle.cube_live.specs.Live.{CanAsk, ExplainsLive, IsLive, LiveStandsAt, SameLive, TakesNext};
 ghost use Rattle.cube_live.specs.Shows.{Shows};
 
-use crate::refusals::{refusals_after_text, refusals_text};
+use crate::refusals::{print_refusals, refusals_after_text};
 use crate::request::Question;
-use crate::rows::{cube_text, drill_text, roll_up_text, slice_text};
+use crate::rows::{cube_text, rows_text};
 use cube_core::{Change, Item, LineFault, Schema};
-use cube_engine::Builder;
+use cube_engine::{Ledger, Parted};
 use std::alloc::{AllocError, Global};
 use std::marker::Model;
+use std::thread::Threads;
+
+/// How many facts may wait before the cubes follow the books without a question.
+const MANY: usize = 10_000;
 
 /// Why a record wasn't taken.
 #[derive(Clone, Copy, Debug, PartialEq, Eq)]
 pub enum LiveFault {
-    /// The source has as many records as the schema takes.
+    /// The source has the last record that the schema takes.
     TooMany,
     /// A growth was refused.
     Memory,
 }
 
-/// The books, the refusals and the cube of 64 sources, and how many records of each were taken.
+/// The books, the refusals and the cubes of 64 sources, and the number of the last record of each that was taken.
+///
+/// A change is made in the books at once, and in the cubes before the next question is answered.
 #[derive(Drop)]
 pub struct Live<'s> {
     alloc: Global,
     schema: &'s Schema,
-    builder: Builder,
+    parted: Parted,
     numbers: Vec<u32>,
+    threads: usize,
 }
 
 impl<'s> Model for Live<'s> {
@@ -35,36 +42,62 @@ impl<'s> Model for Live<'s> {
 
     ghost Value = { LiveView };
 
-    ghost view = { λ l. record { schema = l.schema.now; builder = l.builder; numbers = l.numbers.items } };
+    ghost view = { λ l. record { schema = l.schema.now; ledger = l.parted; numbers = l.numbers.items } };
 
-    ghost invariant = { λ l. IsLive l.schema.now l.builder l.numbers.items };
+    ghost invariant = { λ l. IsLive l.schema.now l.parted l.numbers.items };
 }
 
 impl<'s> Live<'s> {
-    /// The cube of a builder of 64 sources over all grouping sets of the schema, where so many records of each source
-    /// were taken, from the first.
-    pub fn new(alloc: Global, schema: &'s Schema, builder: Builder, numbers: Vec<u32>) -> Live<'s>
-        requires schema { builder.ledger.schema ≡ schema.now }
-        requires sets { builder.cube.sets ≡ schema.now.grouping_sets }
-        requires sources { length builder.ledger.accounts ≡ 64 }
+    /// What is kept of 64 sources, over all grouping sets of the schema, where these are the numbers of the last records of
+    /// the sources that were taken, 0 where none was; at most so many threads have the cubes follow the books.
+    pub fn new(
+        alloc: Global,
+        schema: &'s Schema,
+        parted: Parted,
+        numbers: Vec<u32>,
+        threads: usize,
+    ) -> Live<'s>
+        requires schema { parted.schema ≡ schema.now }
+        requires sources { length parted.accounts ≡ 64 }
         requires numbered { length numbers.items ≡ 64 }
         requires at_most { (place : ℕ) → get_or numbers.items place 0 ≤ schema.now.max_records }
         ensures schema { result.schema ≡ schema.now }
-        ensures builder { result.builder ≡ builder }
+        ensures ledger { result.ledger ≡ parted }
         ensures numbers { result.numbers ≡ numbers.items }
     {
         Live {
             alloc,
             schema,
-            builder,
+            parted,
             numbers,
+            threads,
         }
     }
 
     /// Takes what the next record of a source says, 1 to 64: a change, or a line fault.
     ///
     /// It is refused, and noted so, as an item of a feed is, and that is no error. On an error nothing changed.
-    pub fn apply(&mut self, source: u32, what: Result<Change, LineFault>) -> Result<(), LiveFault>
+    pub fn apply<T: Threads + Sync>(
+        &mut self,
+        rt: &T,
+        source: u32,
+        what: Result<Change, LineFault>,
+    ) -> Result<(), LiveFault>
+        requires first { 1 ≤ source }
+        requires last { source ≤ 64 }
+        ensures takes { OnOk result (TakesNext source what self.old self.new) }
+        ensures schema { self.new.schema ≡ self.old.schema }
+        ensures same { OnErr result (SameLive self.old self.new) }
+        ensures why { IfErr result (ExplainsLive source self.old) }
+    {
+        match self.settle_many(rt) {
+            Ok(()) => self.take(source, what),
+            Err(_) => Err(LiveFault::Memory),
+        }
+    }
+
+    // The same, where the cubes may wait.
+    fn take(&mut self, source: u32, what: Result<Change, LineFault>) -> Result<(), LiveFault>
         requires first { 1 ≤ source }
         requires last { source ≤ 64 }
         ensures takes { OnOk result (TakesNext source what self.old self.new) }
@@ -77,11 +110,8 @@ impl<'s> Live<'s> {
         if number == self.schema.max_records() {
             return Err(LiveFault::TooMany);
         }
-        if self.builder.facts() == u64::MAX {
-            return Err(LiveFault::Memory);
-        }
         let number = number + 1;
-        match self.builder.apply(source, Item { number, what }) {
+        match self.parted.apply(source, Item { number, what }) {
             Ok(()) => {
                 self.numbers[place] = number;
                 Ok(())
@@ -90,28 +120,62 @@ impl<'s> Live<'s> {
         }
     }
 
-    /// The text that answers a question over what was taken. The only error is want of memory.
-    pub fn text_of(&self, question: &Question) -> Result<Vec<u8>, AllocError>
+    // Has the cubes follow the books where many facts wait.
+    fn settle_many<T: Threads + Sync>(&mut self, rt: &T) -> Result<(), AllocError>
+        ensures { self.new ≡ self.old }
+    {
+        if self.parted.waiting() < MANY {
+            return Ok(());
+        }
+        self.settle(rt)
+    }
+
+    /// The text that answers a question over what was taken. The only error is want of memory; after one in which the
+    /// cubes were to follow the books, each question has it.
+    pub fn text_of<T: Threads + Sync>(
+        &mut self,
+        rt: &T,
+        question: &Question,
+    ) -> Result<Vec<u8>, AllocError>
+        requires { CanAsk self.old.schema question.now }
+        ensures text { IfOk result (λ text. (arrivals : Arrivals) → LiveStandsAt self.old arrivals →
+            Shows question.now self.old.schema (of_sources 64 arrivals) text.items) }
+        ensures same { self.new ≡ self.old }
+    {
+        self.settle(rt)?;
+        self.shown(question)
+    }
+
+    // Has the cubes follow the books.
+    fn settle<T: Threads + Sync>(&mut self, rt: &T) -> Result<(), AllocError>
+        ensures { self.new ≡ self.old }
+    {
+        self.parted.settle(rt, self.threads)
+    }
+
+    // The text that answers a question, where the cubes have followed the books.
+    fn shown(&self, question: &Question) -> Result<Vec<u8>, AllocError>
         requires { CanAsk self.now.schema question.now }
         ensures { IfOk result (λ text. (arrivals : Arrivals) → LiveStandsAt self.now arrivals →
             Shows question.now self.now.schema (of_sources 64 arrivals) text.items) }
     {
-        let (alloc, schema, builder) = (self.alloc, self.schema, &self.builder);
+        let (alloc, schema, parted) = (self.alloc, self.schema, &self.parted);
         match question {
-            Question::Print => cube_text(alloc, schema, builder),
-            Question::Slice(pattern) => slice_text(alloc, schema, builder, pattern),
-            Question::Drill(key, dimension) => drill_text(alloc, schema, builder, key, *dimension),
-            Question::RollUp(key, dimension) => {
-                roll_up_text(alloc, schema, builder, key, *dimension)
-            }
-            Question::Refusals => refusals_text(alloc, builder),
-            Question::RefusalsAfter(source, number) => {
-                refusals_after_text(alloc, *source, *number, builder.refusals(*source))
-            }
+            Question::Print => cube_text(alloc, schema, parted),
+            Question::Slice(_) => rows_text(alloc, schema, parted, question),
+            Question::Drill(_, _) => rows_text(alloc, schema, parted, question),
+            Question::RollUp(_, _) => rows_text(alloc, schema, parted, question),
+            Question::Refusals => print_refusals(alloc, parted.ledger()),
+            Question::RefusalsAfter(source, number) => refusals_after_text(
+                alloc,
+                *source,
+                *number,
+                parted.ledger().refusals(*source),
+            ),
         }
     }
 
-    /// Whether a record of a source, 1 to 64, may be taken: it has fewer than the schema takes.
+    /// Whether a record of a source, 1 to 64, may be taken: it hasn't the last that the schema takes.
     pub fn has_room(&self, source: u32) -> bool
         requires first { 1 ≤ source }
         requires last { source ≤ 64 }
@@ -127,11 +191,11 @@ impl<'s> Live<'s> {
         self.schema
     }
 
-    /// The books, the refusals and the cube.
-    pub fn builder(&self) -> &Builder
-        ensures value { result.now ≡ self.now.builder }
-        ensures live { IsLive self.now.schema self.now.builder self.now.numbers }
+    /// The books and the refusals.
+    pub fn ledger(&self) -> &Ledger
+        ensures value { result.now ≡ self.now.ledger }
+        ensures live { IsLive self.now.schema self.now.ledger self.now.numbers }
     {
-        &self.builder
+        self.parted.ledger()
     }
 }

@@ -7,9 +7,8 @@ ghost use Rattle.cube_live.specs.Live.{LiveStandsAt};
 ghost use Rattle.cube_live.specs.Opening.{OpeningStandsAt, OpeningView, OpensOver};
 
 use crate::live::Live;
-use cube_cells::Cube;
 use cube_core::{Item, Schema};
-use cube_engine::{Builder, Ledger};
+use cube_engine::{Ledger, Parted};
 use cube_feed::TakesItems;
 use cube_feeders::{Gatherer, feed_all};
 use cube_threads::{FeedingFault, Gate, Settings};
@@ -19,7 +18,7 @@ use std::marker::Model;
 use std::sync::Wait;
 use std::thread::Threads;
 
-/// The ledger of 64 sources, of which the first have a feed, and how many records of each were taken.
+/// The ledger of 64 sources, of which the first have a feed, and the number of the last record of each that was taken.
 #[derive(Drop)]
 struct Opening {
     ledger: Ledger,
@@ -77,7 +76,7 @@ impl Opening {
         })
     }
 
-    // Takes the next item of a source with a feed, unless the source has as many as the schema takes, which no good
+    // Takes the next item of a source with a feed, unless it is numbered past those that the schema takes, which no good
     // feed gives. The only error is want of memory.
     fn apply(&mut self, source: u32, item: Item) -> Result<(), AllocError>
         requires { (1 ≤ source) × (source ≤ self.old.feeds) }
@@ -88,18 +87,17 @@ impl Opening {
         ensures unchanged { OnErr result ((first : OpeningView) (arrivals : Arrivals) →
             OpeningStandsAt first self.old arrivals → OpeningStandsAt first self.new arrivals) }
     {
-        let place = source as usize - 1;
-        let number = self.numbers[place];
-        if number == self.most {
+        let number = item.number;
+        if number > self.most {
             return Err(AllocError);
         }
         self.ledger.apply(source, item)?;
-        self.numbers[place] = number + 1;
+        self.numbers[source as usize - 1] = number;
         Ok(())
     }
 
-    // The cube of what was taken, over all grouping sets of the schema, filled by so many threads. The only error is
-    // want of memory.
+    // The cubes of what was taken, over all grouping sets of the schema: as many parts as threads, but at most 8. The only
+    // error is want of memory.
     fn finish<'s, T: Threads + Sync>(
         self,
         rt: &T,
@@ -112,9 +110,8 @@ impl Opening {
         ensures stands { IfOk result (λ live. (first : OpeningView) (arrivals : Arrivals) →
             OpeningStandsAt first self arrivals → LiveStandsAt live arrivals) }
     {
-        let cube = Cube::new(alloc, schema)?;
-        let builder = Builder::of_with(rt, threads, self.ledger, cube)?;
-        Ok(Live::new(alloc, schema, builder, self.numbers))
+        let parted = Parted::of(rt, alloc, schema, threads.clamp(1, 8), self.ledger)?;
+        Ok(Live::new(alloc, schema, parted, self.numbers, threads))
     }
 }
 

@@ -1,4 +1,4 @@
-//! The texts of refusals that questions are answered by.
+//! The texts of refusals.
 ghost use Rattle.std.specs.Prelude.{◌≡◌, ◌<◌, [], ◌∷◌, map, filter, decimal, OnOk, IfOk};
 ghost use Rattle.std.specs.List.{flat_map};
 ghost use Rattle.cube_live.specs.Shows.{is_after, text_after};
@@ -6,7 +6,7 @@ ghost use Rattle.cube_core.specs.Text.{lines_of_sources, refusal_header, refusal
 ghost use Rattle.cube_text.specs.Lines.{AddsFields, AddsText};
 
 use cube_core::Refusal;
-use cube_engine::Builder;
+use cube_engine::Ledger;
 use cube_text::{Lines, end_line, into_text, no_lines, put_field};
 use itoa::Buffer;
 use std::alloc::{AllocError, Global};
@@ -15,13 +15,13 @@ use std::alloc::{AllocError, Global};
 /// the order of its items.
 ///
 /// The only error is want of memory.
-pub fn refusals_text(alloc: Global, builder: &Builder) -> Result<Vec<u8>, AllocError>
+pub fn print_refusals(alloc: Global, ledger: &Ledger) -> Result<Vec<u8>, AllocError>
     ensures { IfOk result (λ text. text.items ≡
-        text_of_refusals (map (λ account. account.refusals) builder.now.ledger.accounts)) }
+        text_of_refusals (map (λ account. account.refusals) ledger.now.accounts)) }
 {
     let mut lines = no_lines(alloc);
     put_refusal_header(&mut lines)?;
-    put_all_refusals(&mut lines, builder)?;
+    put_all_refusals(&mut lines, ledger)?;
     into_text(lines)
 }
 
@@ -61,13 +61,13 @@ fn put_refusals_after(
 }
 
 // Adds the lines of the refusals of all sources.
-fn put_all_refusals(lines: &mut Lines, builder: &Builder) -> Result<(), AllocError>
+fn put_all_refusals(lines: &mut Lines, ledger: &Ledger) -> Result<(), AllocError>
     ensures { OnOk result (AddsText (lines_of_sources
-        (map (λ account. account.refusals) builder.now.ledger.accounts)) lines.old lines.new) }
+        (map (λ account. account.refusals) ledger.now.accounts)) lines.old lines.new) }
 {
-    for place in 0..builder.sources() {
+    for place in 0..ledger.sources() {
         let source = place + 1;
-        put_refusals(lines, source, builder.refusals(source))?;
+        put_refusals(lines, source, ledger.refusals(source))?;
     }
     Ok(())
 }

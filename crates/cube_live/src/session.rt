@@ -1,12 +1,13 @@
 //! A session: records in, replies out.
-ghost use Rattle.std.specs.Prelude.{◌≡◌, ◌≤◌, ◌<◌, ◌+◌, ◌^◌, ◌++◌, drop, length, IfOk, IfErr, IfSome, OnOk};
+ghost use Rattle.std.specs.Prelude.{◌≡◌, ◌≤◌, ◌<◌, ◌+◌, ◌^◌, ◌++◌, drop, length, IfOk, IfErr, IfSome, OnOk, OnErr};
 ghost use Rattle.std.specs.Io.KnownBytes.{Appends};
 ghost use Rattle.csv.specs.Records.{fields_of};
 ghost use Rattle.cube_core.specs.Arrival.{Arrivals};
 ghost use Rattle.cube_feed.specs.Reading.{Advances};
-ghost use Rattle.cube_core.specs.Items.{change_of};
+ghost use Rattle.cube_core.specs.Items.{is_read};
 ghost use Rattle.cube_core.specs.Layout.{Layout};
-ghost use Rattle.cube_live.specs.Live.{CanAsk, LiveStandsAt, TakesNext};
+ghost use Rattle.cube_live.specs.Keeping.{EndsIn, FailsKept, KeepsOn, keeping_after, keeping_changed, keeping_with, made_sure, with_change};
+ghost use Rattle.cube_live.specs.Live.{CanAsk, LiveStandsAt, TakesChange};
 ghost use Rattle.cube_live.specs.Serving.{ExplainsChange, IsInputFault, IsJournalFault, Replied, ReplyFails, Serves, ServingFails, WritesNone, WritesPart, WritesReply, BreaksReply};
 ghost use Rattle.cube_live.specs.declared.request.Request.TheVariants as request;
 
@@ -16,10 +17,11 @@ use crate::parse::request_of;
 use crate::reply::{code_line, ok_line};
 use crate::request::{Question, Request, RequestFault};
 use csv::ByteRecord;
-use cube_feed::{FeedFault, RecordReader, change_of_record, put_rest};
+use cube_feed::{FeedFault, RecordReader, change_of_record, is_read, put_rest};
 use cube_text::write_whole;
 use std::alloc::{AllocError, Global};
 use std::io::{Read, Write};
+use std::thread::Threads;
 
 /// Why a session ended before its input did.
 #[derive(Clone, Copy, Debug, PartialEq, Eq)]
@@ -50,8 +52,13 @@ impl From<AllocError> for SessionFault {
 /// Takes the records of a session to their end, and writes the reply to each, which is flushed before the next is read.
 ///
 /// The writer is given nothing but whole replies, but where it fails. A change has no reply: it is told to the journal, and
-/// then applied. A question is answered after the journal has made sure of all changes before it.
-pub fn serve<R: Read, W: Write, J: Journal>(
+/// then applied. A question is answered after the journal has made sure of all changes before it, and the cubes have
+/// followed them.
+///
+/// However it ends, the journal keeps the changes among a first part of the records, and has made sure of all that stood
+/// before any answer of which a byte went out.
+pub fn serve<T: Threads + Sync, R: Read, W: Write, J: Journal>(
+    rt: &T,
     alloc: Global,
     live: &mut Live<'_>,
     records: &mut RecordReader<R>,
@@ -62,6 +69,11 @@ pub fn serve<R: Read, W: Write, J: Journal>(
         live.old live.new (W.contents out.old) (W.contents out.new))) }
     ensures err { IfErr result (λ fault. IfSome records.old.left (λ taken. ServingFails live.old.schema taken fault
         live.old (W.contents out.old) (W.contents out.new))) }
+    ensures kept { OnOk result (IfSome records.old.left (λ taken.
+        KeepsOn J.keeps J.keeps journal.old (λ k. made_sure (keeping_after live.old.schema k taken)) journal.new)) }
+    ensures err_kept { IfErr result (λ fault. IfSome records.old.left (λ taken.
+        FailsKept J.keeps J.breaks journal.old journal.new live.old.schema taken live.old fault
+        (W.contents out.old) (W.contents out.new))) }
     ensures schema { live.new.schema ≡ live.old.schema }
 {
     let mut rest = ByteRecord::new(alloc);
@@ -70,7 +82,16 @@ pub fn serve<R: Read, W: Write, J: Journal>(
         if !advance(records)? {
             return settle(journal);
         }
-        match take_record(alloc, live, records.fields(), &mut rest, journal, out, sent) {
+        match take_record(
+            rt,
+            alloc,
+            live,
+            records.fields(),
+            &mut rest,
+            journal,
+            out,
+            sent,
+        ) {
             Ok(total) => sent = total,
             Err(fault) => return Err(fault),
         }
@@ -92,7 +113,9 @@ fn advance<R: Read>(records: &mut RecordReader<R>) -> Result<bool, SessionFault>
 
 // Has the journal make sure of all changes that it took.
 fn settle<J: Journal>(journal: &mut J) -> Result<(), SessionFault>
-    ensures { IfErr result IsJournalFault }
+    ensures fault { IfErr result IsJournalFault }
+    ensures kept { OnOk result (KeepsOn J.keeps J.keeps journal.old made_sure journal.new) }
+    ensures err_kept { OnErr result (KeepsOn J.keeps J.breaks journal.old (λ k. k) journal.new) }
 {
     match journal.settle() {
         Ok(()) => Ok(()),
@@ -101,7 +124,8 @@ fn settle<J: Journal>(journal: &mut J) -> Result<(), SessionFault>
 }
 
 // Takes a record, and writes the reply to it. The answer is how many bytes went out since the session began.
-fn take_record<W: Write, J: Journal>(
+fn take_record<T: Threads + Sync, W: Write, J: Journal>(
+    rt: &T,
     alloc: Global,
     live: &mut Live<'_>,
     fields: &ByteRecord,
@@ -116,39 +140,47 @@ fn take_record<W: Write, J: Journal>(
     ensures err { IfErr result (λ fault. (arrivals : Arrivals) → LiveStandsAt live.old arrivals →
         ReplyFails live.old.schema arrivals (fields_of fields.now) sent fault
         (W.contents out.old) (W.contents out.new)) }
+    ensures kept { OnOk result (KeepsOn J.keeps J.keeps journal.old
+        (λ k. keeping_with live.old.schema k (fields_of fields.now)) journal.new) }
+    ensures err_kept { IfErr result (λ fault. EndsIn J.keeps J.breaks fault journal.old
+        (λ k. keeping_with live.old.schema k (fields_of fields.now)) journal.new) }
     ensures schema { live.new.schema ≡ live.old.schema }
 {
     match request_of(alloc, live.schema(), fields)? {
         Request::Change(source) => {
-            match change(alloc, live, source, fields, rest, journal) {
+            match change(rt, alloc, live, source, fields, rest, journal) {
                 Ok(()) => Ok(sent),
                 Err(fault) => Err(fault),
             }
         }
-        Request::Ask(question) => answer(alloc, live, &question, journal, out, sent),
+        Request::Ask(question) => answer(rt, alloc, live, &question, journal, out, sent),
         Request::Wrong(fault) => refuse(alloc, &fault, journal, out, sent),
     }
 }
 
 // Answers a question. The result is how many bytes went out since the session began.
-fn answer<W: Write, J: Journal>(
+fn answer<T: Threads + Sync, W: Write, J: Journal>(
+    rt: &T,
     alloc: Global,
-    live: &Live<'_>,
+    live: &mut Live<'_>,
     question: &Question,
     journal: &mut J,
     out: &mut W,
     sent: u64,
 ) -> Result<u64, SessionFault>
-    requires { CanAsk live.now.schema question.now }
-    ensures ok { IfOk result (λ total. (arrivals : Arrivals) → LiveStandsAt live.now arrivals →
-        WritesReply live.now.schema arrivals (request.Ask question.now) sent total
+    requires ask { CanAsk live.old.schema question.now }
+    ensures ok { IfOk result (λ total. (arrivals : Arrivals) → LiveStandsAt live.old arrivals →
+        WritesReply live.old.schema arrivals (request.Ask question.now) sent total
         (W.contents out.old) (W.contents out.new)) }
-    ensures err { IfErr result (λ fault. (arrivals : Arrivals) → LiveStandsAt live.now arrivals →
-        BreaksReply live.now.schema arrivals (request.Ask question.now) sent fault
+    ensures err { IfErr result (λ fault. (arrivals : Arrivals) → LiveStandsAt live.old arrivals →
+        BreaksReply live.old.schema arrivals (request.Ask question.now) sent fault
         (W.contents out.old) (W.contents out.new)) }
+    ensures same { live.new ≡ live.old }
+    ensures kept { OnOk result (KeepsOn J.keeps J.keeps journal.old made_sure journal.new) }
+    ensures err_kept { IfErr result (λ fault. EndsIn J.keeps J.breaks fault journal.old made_sure journal.new) }
 {
     settle(journal)?;
-    let text = live.text_of(question)?;
+    let text = live.text_of(rt, question)?;
     let line = ok_line(alloc, text.len())?;
     write_reply(out, &line, &text, sent)
 }
@@ -167,14 +199,18 @@ fn refuse<W: Write, J: Journal>(
     ensures err { IfErr result (λ why. (s : Layout) (arrivals : Arrivals) →
         BreaksReply s arrivals (request.Wrong fault.now) sent why
         (W.contents out.old) (W.contents out.new)) }
+    ensures kept { OnOk result (KeepsOn J.keeps J.keeps journal.old made_sure journal.new) }
+    ensures err_kept { IfErr result (λ why. EndsIn J.keeps J.breaks why journal.old made_sure journal.new) }
 {
     settle(journal)?;
     let line = code_line(alloc, fault)?;
     write_reply(out, &line, &[], sent)
 }
 
-// Takes what the fields after the first say of a source, once the journal was told of it.
-fn change<J: Journal>(
+// Takes what the fields after the first say of a source, once the journal was told of the record; what is in another
+// shard is left alone.
+fn change<T: Threads + Sync, J: Journal>(
+    rt: &T,
     alloc: Global,
     live: &mut Live<'_>,
     source: u32,
@@ -184,18 +220,25 @@ fn change<J: Journal>(
 ) -> Result<(), SessionFault>
     requires first { 1 ≤ source }
     requires last { source ≤ 64 }
-    ensures takes { OnOk result (TakesNext source
-        (change_of live.old.schema (drop 1 (fields_of fields.now))) live.old live.new) }
-    ensures fault { IfErr result (ExplainsChange source live.old) }
+    ensures takes { OnOk result (TakesChange source (drop 1 (fields_of fields.now)) live.old live.new) }
+    ensures fault { IfErr result
+        (ExplainsChange (is_read live.old.schema (drop 1 (fields_of fields.now))) source live.old) }
+    ensures kept { OnOk result (KeepsOn J.keeps J.keeps journal.old
+        (λ k. keeping_changed live.old.schema k source (fields_of fields.now)) journal.new) }
+    ensures err_kept { IfErr result (λ why. EndsIn J.keeps J.breaks why journal.old
+        (λ k. keeping_changed live.old.schema k source (fields_of fields.now)) journal.new) }
     ensures schema { live.new.schema ≡ live.old.schema }
 {
+    put_rest(fields, 1, rest)?;
+    if !is_read(live.schema(), rest) {
+        return Ok(());
+    }
     if !live.has_room(source) {
         return Err(SessionFault::TooMany(source));
     }
-    put_rest(fields, 1, rest)?;
-    note(journal, source, rest)?;
+    note(journal, source, fields)?;
     let what = change_of_record(alloc, live.schema(), rest)?;
-    match live.apply(source, what) {
+    match live.apply(rt, source, what) {
         Ok(()) => Ok(()),
         Err(LiveFault::TooMany) => Err(SessionFault::TooMany(source)),
         Err(LiveFault::Memory) => Err(SessionFault::Full),
@@ -204,7 +247,11 @@ fn change<J: Journal>(
 
 // Tells the journal of a change.
 fn note<J: Journal>(journal: &mut J, source: u32, fields: &ByteRecord) -> Result<(), SessionFault>
-    ensures { IfErr result IsJournalFault }
+    ensures fault { IfErr result IsJournalFault }
+    ensures kept { OnOk result (KeepsOn J.keeps J.keeps journal.old
+        (λ k. with_change k source (fields_of fields.now)) journal.new) }
+    ensures err_kept { OnErr result (KeepsOn J.keeps J.breaks journal.old
+        (λ k. with_change k source (fields_of fields.now)) journal.new) }
 {
     match journal.note(source, fields) {
         Ok(()) => Ok(()),

@@ -5,8 +5,10 @@ mod JointLaws
 mod MergedLaws
 mod StepLaws
 mod ReadLaws
+mod ParseLaws
 mod LineLaws
 mod LeastLaws
 mod LawfulLaws
 mod CubesLaws
 mod FaultLaws
+mod LackLaws

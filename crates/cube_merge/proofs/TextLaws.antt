@@ -142,3 +142,9 @@ plain-fraction z q fits small =
 pub fraction-parts : (old p q a b c d : List ℕ) → a ≡ old ++ p → b ≡ a ++ 47 ∷ [] → c ≡ b ++ q → d ≡ c ++ 44 ∷ [] → d ≡ (old ++ (p ++ codes "/" ++ q)) ++ 44 ∷ []
 fraction-parts old p q a b c d a_is b_is c_is d_is =
     d_is ∙ ap (λ t. t ++ 44 ∷ []) (c_is ∙ ap (λ t. t ++ q) (b_is ∙ ap (λ t. t ++ 47 ∷ []) a_is ∙ append_assoc old p (47 ∷ [])) ∙ append_assoc old (p ++ 47 ∷ []) q)
+
+-- what a row shows of its key, its answers, and the line's end
+pub EndsLine-keyed : (a b c : List (List ℕ)) (old key first second new : List ℕ) → 1 ≤ length a → 1 ≤ length b → key ≡ parts (a ++ b) → first ≡ old ++ key → AddsParts c first second → EndsLine second new → new ≡ old ++ line (a ++ b ++ c)
+EndsLine-keyed a b c old key first second new some_a some_b key_is one two ended =
+    let both : first ≡ (old ++ parts a) ++ parts b = one ∙ ap (λ t. old ++ t) (key_is ∙ flat_map-append part a b) ∙ sym (append_assoc old (parts a) (parts b)) in
+    EndsLine-line a b c old (old ++ parts a) first second new some_a some_b refl both two ended

@@ -7,4 +7,5 @@ pub mod Source
 pub mod Lawful
 pub mod Merging
 pub mod Joint
+pub mod Front
 pub mod Faults

@@ -1,7 +1,9 @@
 -- The text of fields each ended by a comma, as a line stands in memory before its last comma becomes its end (this project's choice).
-use Rattle.std.specs.Prelude.{◌≡◌, ◌∷◌, [], ◌++◌, ℕ, List}
+use Rattle.std.specs.Prelude.{◌≡◌, ◌∷◌, [], ◌++◌, ℕ, List, map}
 use Rattle.std.specs.List.{flat_map}
 use Rattle.csv.specs.Writing.{default_writer, field_text}
+use Rattle.cube_core.specs.Text.{coord_text, grouping_text}
+use Rattle.cube_core.specs.declared.key.Key.{Key}
 
 -- a field's text and a comma
 abbrev pub part : List ℕ → List ℕ
@@ -14,3 +16,7 @@ parts fields = flat_map part fields
 -- the texts of fields were put at the end of a text, each with a comma
 abbrev pub AddsParts : List (List ℕ) → List ℕ → List ℕ → Type 0
 AddsParts fields old new = new ≡ old ++ parts fields
+
+-- the texts of what a row shows of its key: its dimensions and their GROUPING columns, each with a comma
+abbrev pub key_parts : Key → List ℕ
+key_parts key = parts (map coord_text key.coords ++ map grouping_text key.coords)

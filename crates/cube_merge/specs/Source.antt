@@ -1,7 +1,11 @@
 -- Where the answers of merged rows come from while rows with one key are joined (this project's choice).
-use Rattle.std.specs.Prelude.{◌≡◌, List, Some, slice_get}
+use Rattle.std.specs.Prelude.{◌≡◌, ◌&&◌, ⊤, Bool, false, List, Some, slice_get}
+use Rattle.std.specs.List.{list_all}
+use Rattle.cube_core.specs.PartialForm.{has_aggregate}
 use Rattle.cube_core.specs.declared.aggregate.Agg.{Agg}
 use Rattle.cube_core.specs.declared.aggregate.Agg.TheVariants.{Count, Sum, Avg}
+use Rattle.cube_merge.specs.declared.fault.MergeFault.{MergeFault}
+use Rattle.cube_merge.specs.declared.fault.MergeFault.TheVariants.{Aggregates}
 use Rattle.cube_merge.specs.declared.source.Source.{Source}
 use Rattle.cube_merge.specs.declared.source.Source.TheVariants.{Made, Mean}
 
@@ -11,3 +15,13 @@ IsSourceOf given (Avg m) (Mean sums counts) = (slice_get given sums ≡ Some (Su
 IsSourceOf given (Avg m) (Made place) = ⊥
 IsSourceOf given agg (Made place) = slice_get given place ≡ Some agg
 IsSourceOf given agg (Mean sums counts) = ⊥
+
+-- whether answers to an aggregate can be made of those to the given ones: it stands among them, or is a mean whose sum and count do
+abbrev pub can_be_made : List Agg → Agg → Bool
+can_be_made given (Avg m) = has_aggregate (Sum m) given && has_aggregate (Count m) given
+can_be_made given agg = has_aggregate agg given
+
+-- where a merge is given up for its aggregates, one of the wanted ones can't be made of the given ones
+abbrev pub TellsLack : List Agg → List Agg → MergeFault → Type 0
+TellsLack given wanted Aggregates = list_all (can_be_made given) wanted ≡ false
+TellsLack given wanted _ = ⊤

@@ -2,15 +2,16 @@
 ghost use Rattle.std.specs.Prelude.{◌≡◌, ◌<◌, ◌≤◌, ◌+◌, ◌++◌, [], ℕ, List, Some, true, false, IfErr, IfOk, IfSome, OnOk, length, map, get_or};
 ghost use Rattle.std.specs.List.{AllZip};
 ghost use Rattle.std.specs.Io.KnownBytes.{Appends};
-ghost use Rattle.cube_merge.specs.Source.{IsSourceOf};
+ghost use Rattle.cube_merge.specs.Front.{AreAbove, AreUnused, IsInFront};
+ghost use Rattle.cube_merge.specs.Source.{IsSourceOf, TellsLack};
 ghost use Rattle.cube_merge.specs.Faults.{FailsToMerge, FailsToOpen, FailsToOpenAll, FailsToSend, InputsFail, RestFails, StepFails};
 ghost use Rattle.cube_merge.specs.Merging.{HasTaken, IsLeastSoFar, IsMergeOf, MergesInputs, MergesRest, PutsNext, PutsRow};
 
 use crate::fault::MergeFault;
+use crate::front::Front;
 use crate::input::Input;
-use crate::read::Scratch;
 use crate::source::{Source, sources_of};
-use crate::step::{Joint, fault_of, join_rows, least_input, move_inputs, put_answers};
+use crate::step::{Joint, fault_of, join_rows, move_inputs, put_answers};
 use crate::text::{push_header, push_line};
 use cube_core::{Answer, Row, Schema};
 use cube_text::write_whole;
@@ -26,7 +27,6 @@ struct Desk {
     joint: Joint,
     answers: Vec<Answer>,
     text: Vec<u8>,
-    scratch: Scratch,
 }
 
 /// Merges printed cubes: reads the cubes, each printed under the given schema, side by side, and writes the cube of all
@@ -50,13 +50,14 @@ pub fn merge<R: Read + Drop, W: Write>(
         (W.contents w.old) (W.contents w.new)) }
     ensures err { IfErr result (λ fault. FailsToMerge given.now wanted.now (map R.remaining readers.items)
         fault (W.contents w.old) (W.contents w.new)) }
+    ensures lacks { IfErr result (TellsLack given.now.aggregates wanted.now.aggregates) }
 {
     let Some(sources) = sources_of(alloc, given.aggregates(), wanted.aggregates())? else {
         return Err(MergeFault::Aggregates);
     };
     let mut header = Vec::new(alloc);
     push_header(alloc, &mut header, given)?;
-    let mut inputs = open_inputs(alloc, header.as_slice(), readers)?;
+    let mut inputs = open_inputs(alloc, given, header.as_slice(), readers)?;
     merge_inputs(
         alloc,
         given,
@@ -83,13 +84,13 @@ fn merge_inputs<R: Read, W: Write>(
         fault (W.contents w.old) (W.contents w.new)) }
 {
     let used = all_used(alloc, inputs.len())?;
-    let mut scratch = Scratch::new(alloc);
-    move_inputs(alloc, given, inputs, used.as_slice(), &mut scratch)?;
+    move_inputs(alloc, given, inputs, used.as_slice())?;
     merge_rows(alloc, given, wanted, sources, inputs, w)
 }
 
 fn open_inputs<R: Read + Drop>(
     alloc: Global,
+    schema: &Schema,
     header: &[u8],
     readers: Vec<R>,
 ) -> Result<Vec<Input<R>>, MergeFault>
@@ -99,7 +100,7 @@ fn open_inputs<R: Read + Drop>(
 {
     let mut inputs = Vec::with_capacity(alloc, readers.len())?;
     for reader in readers {
-        let input = open_input(alloc, header, reader, inputs.len())?;
+        let input = open_input(alloc, schema, header, reader, inputs.len())?;
         inputs.push(input)?;
     }
     Ok(inputs)
@@ -108,6 +109,7 @@ fn open_inputs<R: Read + Drop>(
 // The input at a place, whose header was taken.
 fn open_input<R: Read + Drop>(
     alloc: Global,
+    schema: &Schema,
     header: &[u8],
     reader: R,
     place: usize,
@@ -115,7 +117,7 @@ fn open_input<R: Read + Drop>(
     ensures ok { IfOk result (HasTaken R.remaining header.now reader) }
     ensures err { IfErr result (FailsToOpen header.now place (R.remaining reader)) }
 {
-    let Ok(mut input) = Input::new(alloc, reader) else {
+    let Ok(mut input) = Input::new(alloc, schema, reader) else {
         return Err(MergeFault::Memory);
     };
     match input.take_header(header) {
@@ -154,12 +156,12 @@ fn merge_rows<R: Read, W: Write>(
         joint: Joint::new(alloc),
         answers: Vec::new(alloc),
         text: Vec::new(alloc),
-        scratch: Scratch::new(alloc),
     };
+    let mut front = Front::new(alloc);
     push_header(alloc, &mut desk.text, wanted)?;
     let mut sent = 0;
     for _ in 0..u64::MAX {
-        if !put_next(alloc, given, sources, inputs, &mut desk)? {
+        if !put_next(alloc, given, sources, inputs, &mut front, &mut desk)? {
             send(w, desk.text.as_slice(), sent)?;
             return Ok(());
         }
@@ -178,23 +180,21 @@ fn put_next<R: Read>(
     given: &Schema,
     sources: &[Source],
     inputs: &mut [Input<R>],
+    front: &mut Front,
     desk: &mut Desk,
 ) -> Result<bool, MergeFault>
+    requires { AreAbove front.old.bound front.old.behind.items inputs.old }
+    ensures above { OnOk result (AreAbove front.new.bound front.new.behind.items inputs.new) }
     ensures ok { IfOk result (PutsNext given.now sources.now inputs.old inputs.new
         desk.old.text.items desk.new.text.items) }
     ensures err { IfErr result (StepFails given.now inputs.old) }
 {
-    let Some(place) = least_input(inputs) else {
+    let Some(place) = front.least_input(alloc, inputs)? else {
         return Ok(false);
     };
-    put_row(given, sources, inputs, place, desk)?;
-    move_inputs(
-        alloc,
-        given,
-        inputs,
-        desk.joint.used.as_slice(),
-        &mut desk.scratch,
-    )?;
+    put_row(given, sources, inputs, front.behind.as_slice(), place, desk)?;
+    move_inputs(alloc, given, inputs, desk.joint.used.as_slice())?;
+    front.put_moved(inputs, desk.joint.places.as_slice());
     Ok(true)
 }
 
@@ -203,24 +203,30 @@ fn put_row<R: Read>(
     given: &Schema,
     sources: &[Source],
     inputs: &[Input<R>],
+    behind: &[bool],
     place: usize,
     desk: &mut Desk,
 ) -> Result<(), MergeFault>
-    requires { IsLeastSoFar inputs.now (Some place) (length inputs.now) }
+    requires least { IsLeastSoFar inputs.now (Some place) (length inputs.now) }
+    requires front { IsInFront inputs.now behind.now place }
+    ensures unused { OnOk result (AreUnused behind.now desk.new.joint.used.items) }
     ensures ok { OnOk result (PutsRow given.now.aggregates sources.now inputs.now desk.new.joint.used.items
         desk.old.text.items desk.new.text.items) }
     ensures err { IfErr result (StepFails given.now inputs.now) }
 {
-    let Some(row) = row_to_merge(&inputs[place]) else {
+    let input = &inputs[place];
+    let Some(row) = row_to_merge(input) else {
         return Err(MergeFault::Memory);
     };
-    join_rows(given.aggregates(), inputs, &row.key, &mut desk.joint)?;
-    put_answers(sources, desk.joint.made.as_slice(), &mut desk.answers)?;
-    push_line(
-        &mut desk.text,
-        row.key.coords.as_slice(),
-        desk.answers.as_slice(),
+    join_rows(
+        given.aggregates(),
+        inputs,
+        behind,
+        &row.key,
+        &mut desk.joint,
     )?;
+    put_answers(sources, desk.joint.made.as_slice(), &mut desk.answers)?;
+    push_line(&mut desk.text, input.key_text(), desk.answers.as_slice())?;
     Ok(())
 }
 

@@ -2,16 +2,15 @@
 ghost use Rattle.std.specs.Prelude.{◌≡◌, [], Contains, IfErr, IfOk, IfSome, OnOk, true, false, None, Some, option_map};
 ghost use Rattle.std.specs.List.{list_all};
 ghost use Rattle.std.specs.Io.KnownBytes.{Consumes};
-ghost use Rattle.cube_core.specs.Text.{line, header_fields};
 ghost use Rattle.cube_core.specs.GroupingSet.{is_all_coord};
 ghost use Rattle.cube_merge.specs.Faults.{FailsToMove, FailsToTakeHeader};
 ghost use Rattle.cube_merge.specs.Merging.{Advances, IsAbove, Moves};
+ghost use Rattle.cube_merge.specs.Parts.{key_parts};
 
 use crate::fault::InputFault;
-use crate::lawful::is_total;
+use crate::lawful::{Laws, is_total};
 use crate::parse::empty_row;
-use crate::read::{Scratch, read_line, read_row};
-use crate::text::push_header;
+use crate::read::{read_line, read_row};
 use cube_core::{Row, Schema};
 use std::alloc::Global;
 use std::cmp::Ordering;
@@ -24,36 +23,46 @@ use std::mem;
 pub(crate) struct Input<R: Read> {
     reader: BufReader<R>,
     line: Vec<u8>,
+    // How many bytes of the line show the row's key.
+    key_len: usize,
     row: Option<Row>,
     spare: Row,
     lines: u64,
+    laws: Laws,
 }
 
 impl<R: Read> Model for Input<R> {
+    ghost use Rattle.std.specs.Prelude.{◌≡◌, IfSome, take};
     ghost use Rattle.std.specs.Io.Buffered.{reader_remaining};
     ghost use Rattle.cube_merge.specs.Merging.{InputView};
+    ghost use Rattle.cube_merge.specs.Parts.{key_parts};
 
     ghost Value = { InputView };
 
     ghost view = { λ i. record { left = reader_remaining R.remaining i.reader; row = i.row; lines = i.lines } };
+
+    ghost invariant = { λ i. IfSome i.row (λ row. take i.key_len i.line.items ≡ key_parts row.key) };
 }
 
 impl<R: Read + Drop> Input<R> {
-    /// An input of what a reader gives, of which nothing is read.
-    pub(crate) fn new(alloc: Global, reader: R) -> Result<Input<R>, InputFault>
+    /// An input of what a reader gives, a cube of the schema, of which nothing is read.
+    pub(crate) fn new(alloc: Global, schema: &Schema, reader: R) -> Result<Input<R>, InputFault>
         ensures left { IfOk result (λ input. input.left ≡ R.remaining reader) }
         ensures row { IfOk result (λ input. input.row ≡ None) }
         ensures lines { IfOk result (λ input. input.lines ≡ 0) }
     {
+        let laws = Laws::of(alloc, schema)?;
         let Ok(reader) = BufReader::with_capacity(alloc, 65536, reader) else {
             return Err(InputFault::Memory);
         };
         Ok(Input {
             reader,
             line: Vec::new(alloc),
+            key_len: 0,
             row: None,
             spare: empty_row(alloc),
             lines: 0,
+            laws,
         })
     }
 }
@@ -66,6 +75,14 @@ impl<R: Read> Input<R> {
         self.row.as_ref()
     }
 
+    /// What the line of the row shows of its key, each field with a comma.
+    pub(crate) fn key_text(&self) -> &[u8]
+        ensures { IfSome self.now.row (λ row. result.now ≡ key_parts row.key) }
+    {
+        let len = self.key_len.min(self.line.len());
+        &self.line[..len]
+    }
+
     /// How many lines were taken, the header among them.
     pub(crate) fn lines(&self) -> u64
         ensures { result ≡ self.now.lines }
@@ -76,11 +93,12 @@ impl<R: Read> Input<R> {
     /// Takes the header line of a schema.
     pub(crate) fn take_header(&mut self, header: &[u8]) -> Result<(), InputFault>
         ensures line { OnOk result (Consumes self.old.left self.new.left header.now) }
-        ensures row { self.new.row ≡ self.old.row }
+        ensures row { self.new.row ≡ None }
         ensures lines { self.new.lines ≡ 1 }
         ensures err { IfErr result (FailsToTakeHeader header.now self.old.left) }
     {
         self.lines = 1;
+        self.row = None;
         read_line(&mut self.reader, &mut self.line)?;
         if self.line.as_slice() == header {
             Ok(())
@@ -95,24 +113,18 @@ impl<R: Read> Input<R> {
         alloc: Global,
         schema: &Schema,
         is_used: bool,
-        scratch: &mut Scratch,
     ) -> Result<(), InputFault>
         ensures ok { OnOk result (Moves schema.now is_used self.old self.new) }
         ensures err { IfErr result (λ fault. (is_used ≡ true)
             × FailsToMove schema.now self.old fault self.new.lines) }
     {
         if is_used {
-            return self.advance(alloc, schema, scratch);
+            return self.advance(alloc, schema);
         }
         Ok(())
     }
 
-    fn advance(
-        &mut self,
-        alloc: Global,
-        schema: &Schema,
-        scratch: &mut Scratch,
-    ) -> Result<(), InputFault>
+    fn advance(&mut self, alloc: Global, schema: &Schema) -> Result<(), InputFault>
         ensures ok { OnOk result (Advances schema.now self.old self.new) }
         ensures err { IfErr result (λ fault. FailsToMove schema.now self.old fault self.new.lines) }
     {
@@ -120,22 +132,25 @@ impl<R: Read> Input<R> {
             return Err(InputFault::Memory);
         };
         self.lines = lines;
+        let before = self.row.take();
         read_line(&mut self.reader, &mut self.line)?;
         if self.line.is_empty() {
-            if !is_complete(schema, &self.row) {
+            if !is_complete(schema, &before) {
                 return Err(InputFault::Incomplete);
             }
-            self.row = None;
             return Ok(());
         }
         let spare = mem::replace(&mut self.spare, empty_row(alloc));
-        let Some(row) = read_row(alloc, schema, self.line.as_slice(), scratch, spare)? else {
+        let Some((row, key_len)) = read_row(alloc, schema, &self.laws, &mut self.line, spare)?
+        else {
             return Err(InputFault::Line);
         };
-        if !is_above(&self.row, &row) {
+        if !is_above(&before, &row) {
             return Err(InputFault::Order);
         }
-        if let Some(before) = self.row.replace(row) {
+        self.key_len = key_len;
+        self.row = Some(row);
+        if let Some(before) = before {
             self.spare = before;
         }
         Ok(())

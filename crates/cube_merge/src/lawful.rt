@@ -4,24 +4,85 @@ ghost use Rattle.std.specs.List.{AllZip, list_all};
 ghost use Rattle.cube_core.specs.GroupingSet.{is_all_coord};
 ghost use Rattle.cube_merge.specs.Lawful.{IsFraction, IsNumber, IsOfKind, IsRowOf, IsValue, has_no_null_text, is_no_null_text};
 
-use crate::gather::mean_of;
-use crate::source::is_same;
+use crate::gather::{answer_at, mean_of};
+use crate::source::place_of;
 use cube_core::{Agg, Answer, Coord, Key, Row, Schema};
+use std::alloc::{AllocError, Global};
 
-/// Whether a printed cube of the schema can have this row, as far as the row alone tells: that it is a row of the schema,
-/// its grouping set, and that its answers don't gainsay one another.
-pub(crate) fn is_lawful(schema: &Schema, row: &Row) -> bool
+/// Where the answers of a row stand that must not gainsay one another.
+#[derive(Drop)]
+pub(crate) struct Laws {
+    // The number of facts.
+    facts: Option<usize>,
+    // Each aggregate that stood before, and the first time that it stood.
+    repeats: Vec<(usize, usize)>,
+    measures: Vec<MeasurePlaces>,
+}
+
+// Where the answers to the aggregates of a measure stand.
+#[derive(Clone, Copy)]
+struct MeasurePlaces {
+    count: Option<usize>,
+    sum: Option<usize>,
+    least: Option<usize>,
+    greatest: Option<usize>,
+    mean: Option<usize>,
+}
+
+impl Laws {
+    /// The places of a schema's aggregates.
+    pub(crate) fn of(alloc: Global, schema: &Schema) -> Result<Laws, AllocError> {
+        let aggregates = schema.aggregates();
+        Ok(Laws {
+            facts: place_of(aggregates, &Agg::CountAll),
+            repeats: repeats_of(alloc, aggregates)?,
+            measures: measures_of(alloc, aggregates, schema.measures().len())?,
+        })
+    }
+}
+
+fn repeats_of(alloc: Global, aggregates: &[Agg]) -> Result<Vec<(usize, usize)>, AllocError> {
+    let mut repeats = Vec::new(alloc);
+    for (place, aggregate) in aggregates.iter().enumerate() {
+        match place_of(aggregates, aggregate) {
+            Some(first) if first != place => repeats.push((place, first))?,
+            _ => {}
+        }
+    }
+    Ok(repeats)
+}
+
+fn measures_of(
+    alloc: Global,
+    aggregates: &[Agg],
+    count: usize,
+) -> Result<Vec<MeasurePlaces>, AllocError> {
+    let mut measures = Vec::with_capacity(alloc, count)?;
+    for measure in 0..count {
+        measures.push(MeasurePlaces {
+            count: place_of(aggregates, &Agg::Count(measure)),
+            sum: place_of(aggregates, &Agg::Sum(measure)),
+            least: place_of(aggregates, &Agg::Min(measure)),
+            greatest: place_of(aggregates, &Agg::Max(measure)),
+            mean: place_of(aggregates, &Agg::Avg(measure)),
+        })?;
+    }
+    Ok(measures)
+}
+
+/// Whether a printed cube of the schema, with its laws, can have this row, as far as the row alone tells: that it is a row
+/// of the schema, its grouping set, and that its answers don't gainsay one another.
+pub(crate) fn is_lawful(schema: &Schema, laws: &Laws, row: &Row) -> bool
     ensures { result ≡ true → IsRowOf schema.now row.now }
 {
     if !is_row_of(schema, row) {
         return false;
     }
-    let aggregates = schema.aggregates();
     let answers = row.answers.as_slice();
     schema.keeps(&row.key)
-        && are_same_answers(aggregates, answers)
-        && are_measures_consistent(schema, answers)
-        && (is_total(row) || !has_no_fact(aggregates, answers))
+        && are_repeats_same(laws.repeats.as_slice(), answers)
+        && are_measures_consistent(laws.measures.as_slice(), answers)
+        && (is_total(row) || !has_no_fact(laws, answers))
 }
 
 fn is_row_of(schema: &Schema, row: &Row) -> bool
@@ -119,36 +180,28 @@ fn is_all_coord(coord: &Coord) -> bool
 }
 
 // Whether an aggregate that stands twice has the same answer.
-fn are_same_answers(aggregates: &[Agg], answers: &[Answer]) -> bool {
-    for (aggregate, answer) in aggregates.iter().zip(answers) {
-        if answer_to(aggregates, answers, aggregate) != Some(*answer) {
+fn are_repeats_same(repeats: &[(usize, usize)], answers: &[Answer]) -> bool {
+    for (place, first) in repeats {
+        if answer_at(answers, *place) != answer_at(answers, *first) {
             return false;
         }
     }
     true
 }
 
-// The answer to an aggregate, where it first stands.
-fn answer_to(aggregates: &[Agg], answers: &[Answer], wanted: &Agg) -> Option<Answer> {
-    for (aggregate, answer) in aggregates.iter().zip(answers) {
-        if is_same(aggregate, wanted) {
-            return Some(*answer);
-        }
-    }
-    None
+// The answer at a place, where there is a place.
+fn answer_in(answers: &[Answer], place: Option<usize>) -> Option<Answer> {
+    Some(answer_at(answers, place?))
 }
 
 // Whether the row counts no fact.
-fn has_no_fact(aggregates: &[Agg], answers: &[Answer]) -> bool {
-    matches!(
-        answer_to(aggregates, answers, &Agg::CountAll),
-        Some(Answer::Count(0))
-    )
+fn has_no_fact(laws: &Laws, answers: &[Answer]) -> bool {
+    matches!(answer_in(answers, laws.facts), Some(Answer::Count(0)))
 }
 
-fn are_measures_consistent(schema: &Schema, answers: &[Answer]) -> bool {
-    for measure in 0..schema.measures().len() {
-        if !is_measure_consistent(schema.aggregates(), answers, measure) {
+fn are_measures_consistent(measures: &[MeasurePlaces], answers: &[Answer]) -> bool {
+    for places in measures {
+        if !is_measure_consistent(places, answers) {
             return false;
         }
     }
@@ -157,12 +210,12 @@ fn are_measures_consistent(schema: &Schema, answers: &[Answer]) -> bool {
 
 // Whether the answers to the aggregates of a measure can be those of one group: null together, exactly where the count is
 // there and 0; the least not above the greatest; and the mean that of the sum and the count.
-fn is_measure_consistent(aggregates: &[Agg], answers: &[Answer], measure: usize) -> bool {
-    let count = answer_to(aggregates, answers, &Agg::Count(measure));
-    let sum = answer_to(aggregates, answers, &Agg::Sum(measure));
-    let least = answer_to(aggregates, answers, &Agg::Min(measure));
-    let greatest = answer_to(aggregates, answers, &Agg::Max(measure));
-    let mean = answer_to(aggregates, answers, &Agg::Avg(measure));
+fn is_measure_consistent(places: &MeasurePlaces, answers: &[Answer]) -> bool {
+    let count = answer_in(answers, places.count);
+    let sum = answer_in(answers, places.sum);
+    let least = answer_in(answers, places.least);
+    let greatest = answer_in(answers, places.greatest);
+    let mean = answer_in(answers, places.mean);
     let is_empty = match count {
         Some(count) => count == Answer::Count(0),
         None => is_some_null(&sum)

@@ -3,6 +3,7 @@
 
 mod cubes;
 mod fault;
+mod front;
 mod gather;
 mod input;
 mod lawful;

@@ -1,71 +1,58 @@
 //! Lines of a printed cube, read strictly: a line is that of a row where the row's printed line is this very line.
-ghost use Rattle.std.specs.Prelude.{◌≡◌, ◌≤◌, [], drop, length, IfErr, IfOk, IfSome, OnOk, true};
+ghost use Rattle.std.specs.Prelude.{◌≡◌, ◌≤◌, ◌∷◌, [], ◌++◌, ℕ, List, drop, length, IfErr, IfOk, IfSome, OnOk, take, true};
 ghost use Rattle.std.specs.Io.KnownBytes.{Consumes, IsAtEnd};
 ghost use Rattle.std.specs.Io.Buffered.{reader_remaining};
 ghost use Rattle.cube_core.specs.Text.{row_line};
 ghost use Rattle.cube_merge.specs.Faults.{IsReadFault};
 ghost use Rattle.cube_merge.specs.Lawful.{IsRowOf};
+ghost use Rattle.cube_merge.specs.Parts.{key_parts};
 ghost use Rattle.cube_merge.specs.NextLine.{IsNextLine, is_quoted_after, is_quoted_behind};
 
 use crate::fault::InputFault;
-use crate::lawful::is_lawful;
+use crate::lawful::{Laws, is_lawful};
 use crate::parse::parse_row;
-use crate::text::push_row;
 use cube_core::{Row, Schema};
 use std::alloc::{AllocError, Global};
 use std::io;
 use std::io::{BufRead, BufReader, ErrorKind, Read};
 
-/// Memory that reading takes again and again.
-#[derive(Drop)]
-pub(crate) struct Scratch {
-    pub(crate) field: Vec<u8>,
-    pub(crate) text: Vec<u8>,
-}
-
-impl Scratch {
-    pub(crate) fn new(alloc: Global) -> Scratch {
-        Scratch {
-            field: Vec::new(alloc),
-            text: Vec::new(alloc),
-        }
-    }
-}
-
-/// The row whose printed line a line is, in the memory of a spare row; None where it is that of no lawful row.
+/// The row whose printed line a line is, in the memory of a spare row, and how many bytes of the line show its key; None
+/// where it is that of no lawful row. The line gets a comma in place of its end.
 pub(crate) fn read_row(
     alloc: Global,
     schema: &Schema,
-    line: &[u8],
-    scratch: &mut Scratch,
+    laws: &Laws,
+    line: &mut Vec<u8>,
     spare: Row,
-) -> Result<Option<Row>, AllocError>
-    ensures line { IfOk result (λ found. IfSome found (λ row. row_line row ≡ line.now)) }
-    ensures of_schema { IfOk result (λ found. IfSome found (IsRowOf schema.now)) }
-{
-    let Some(row) = parse_row(alloc, schema, line, &mut scratch.field, spare)? else {
-        return Ok(None);
-    };
-    if !is_lawful(schema, &row) || !is_line_of(schema, &row, line, &mut scratch.text)? {
-        return Ok(None);
-    }
-    Ok(Some(row))
-}
-
-// Whether a line is the printed line of a row. The buffer is for that line, and what it holds doesn't matter.
-fn is_line_of(
-    schema: &Schema,
-    row: &Row,
-    line: &[u8],
-    text: &mut Vec<u8>,
-) -> Result<bool, AllocError>
-    requires { IsRowOf schema.now row.now }
-    ensures { IfOk result (λ same. same ≡ true → row_line row.now ≡ line.now) }
+) -> Result<Option<(Row, usize)>, AllocError>
+    ensures line { IfOk result (λ found. IfSome found (λ read. row_line read.0 ≡ line.old.items)) }
+    ensures of_schema { IfOk result (λ found. IfSome found (λ read. IsRowOf schema.now read.0)) }
+    ensures key { IfOk result (λ found. IfSome found (λ read.
+        take read.1 line.new.items ≡ key_parts read.0.key)) }
 {
     let _ = schema.dimensions();
-    text.clear();
-    push_row(text, row)?;
-    Ok(text.as_slice() == line)
+    if !end_by_comma(line)? {
+        return Ok(None);
+    }
+    let Some((row, key_len)) = parse_row(alloc, schema, line.as_slice(), spare)? else {
+        return Ok(None);
+    };
+    if !is_lawful(schema, laws, &row) {
+        return Ok(None);
+    }
+    Ok(Some((row, key_len)))
+}
+
+// Puts a comma in place of the end of a line; false where it has none.
+fn end_by_comma(line: &mut Vec<u8>) -> Result<bool, AllocError>
+    ensures { IfOk result (λ is_ended. is_ended ≡ true →
+        (fields : List ℕ) × (line.old.items ≡ fields ++ 10 ∷ []) × (line.new.items ≡ fields ++ 44 ∷ [])) }
+{
+    if line.pop() != Some(b'\n') {
+        return Ok(false);
+    }
+    line.push(b',')?;
+    Ok(true)
 }
 
 /// Reads the next line in place of what the buffer holds, its end too; no byte at the end of the text. A line goes on
@@ -107,8 +94,8 @@ fn is_quoted_after(is_quoted: bool, line: &[u8], from: usize) -> bool
     ensures { result ≡ is_quoted_after is_quoted (drop from line.now) }
 {
     let mut quoted = is_quoted;
-    for place in from..line.len() {
-        quoted = is_quoted_behind(quoted, line[place]);
+    for byte in &line[from..] {
+        quoted = is_quoted_behind(quoted, *byte);
     }
     quoted
 }
@@ -117,11 +104,7 @@ fn is_quoted_after(is_quoted: bool, line: &[u8], from: usize) -> bool
 fn is_quoted_behind(is_quoted: bool, byte: u8) -> bool
     ensures { result ≡ is_quoted_behind is_quoted byte }
 {
-    if is_quoted {
-        byte != b'"'
-    } else {
-        byte == b'"'
-    }
+    is_quoted != (byte == b'"')
 }
 
 fn read_fault(error: &io::Error) -> InputFault

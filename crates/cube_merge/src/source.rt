@@ -1,9 +1,10 @@
 //! Where the answers to the wanted aggregates come from.
-ghost use Rattle.std.specs.Prelude.{◌≡◌, IfOk, IfSome, Some, slice_get, true, List};
-ghost use Rattle.std.specs.List.{AllZip};
+ghost use Rattle.std.specs.Prelude.{◌≡◌, IfNone, IfOk, IfSome, Some, slice_get, false, true, List};
+ghost use Rattle.std.specs.List.{AllZip, list_all};
 ghost use Rattle.cube_core.specs.Merged.{IsMerged};
 ghost use Rattle.cube_merge.specs.Made.{AreMade};
-ghost use Rattle.cube_merge.specs.Source.{IsSourceOf};
+ghost use Rattle.cube_merge.specs.Source.{IsSourceOf, can_be_made};
+ghost use Rattle.cube_core.specs.PartialForm.{has_aggregate, is_aggregate};
 ghost use Rattle.cube_core.specs.declared.aggregate.Agg.{Agg};
 ghost use Rattle.cube_core.specs.declared.key.Row.{Row};
 
@@ -26,8 +27,10 @@ pub(crate) fn sources_of(
     given: &[Agg],
     wanted: &[Agg],
 ) -> Result<Option<Vec<Source>>, AllocError>
-    ensures { IfOk result (λ found. IfSome found (λ sources.
+    ensures some { IfOk result (λ found. IfSome found (λ sources.
         AllZip (IsSourceOf given.now) wanted.now sources.items)) }
+    ensures none { IfOk result (λ found. IfNone found
+        (list_all (can_be_made given.now) wanted.now ≡ false)) }
 {
     let mut sources = Vec::with_capacity(alloc, wanted.len())?;
     for aggregate in wanted {
@@ -40,7 +43,8 @@ pub(crate) fn sources_of(
 }
 
 fn source_of(given: &[Agg], wanted: &Agg) -> Option<Source>
-    ensures { IfSome result (IsSourceOf given.now wanted.now) }
+    ensures some { IfSome result (IsSourceOf given.now wanted.now) }
+    ensures none { IfNone result (can_be_made given.now wanted.now ≡ false) }
 {
     match wanted {
         Agg::Avg(measure) => Some(Source::Mean {
@@ -53,20 +57,22 @@ fn source_of(given: &[Agg], wanted: &Agg) -> Option<Source>
     }
 }
 
-// A place where an aggregate stands.
-fn place_of(given: &[Agg], wanted: &Agg) -> Option<usize>
-    ensures { IfSome result (λ place. slice_get given.now place ≡ Some wanted.now) }
+/// The first place where an aggregate stands.
+pub(crate) fn place_of(given: &[Agg], wanted: &Agg) -> Option<usize>
+    ensures some { IfSome result (λ place. slice_get given.now place ≡ Some wanted.now) }
+    ensures none { IfNone result (has_aggregate wanted.now given.now ≡ false) }
 {
-    for (place, aggregate) in given.iter().enumerate() {
-        if is_same(aggregate, wanted) {
+    for place in 0..given.len() {
+        if is_same(wanted, &given[place]) {
             return Some(place);
         }
     }
     None
 }
 
-pub(crate) fn is_same(one: &Agg, other: &Agg) -> bool
-    ensures { result ≡ true → one.now ≡ other.now }
+fn is_same(one: &Agg, other: &Agg) -> bool
+    ensures same { result ≡ true → one.now ≡ other.now }
+    ensures tells { result ≡ is_aggregate one.now other.now }
 {
     match one {
         Agg::CountAll => matches!(other, Agg::CountAll),

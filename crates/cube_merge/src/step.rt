@@ -1,7 +1,7 @@
 //! One step of a merge: the rows with the least key make one more row.
-ghost use Rattle.std.specs.Prelude.{◌≡◌, ◌<◌, ◌≤◌, ◌+◌, ◌++◌, ℕ, List, IfErr, OnOk, length, get_or, option_map, option_to_list};
+ghost use Rattle.std.specs.Prelude.{◌≡◌, ◌<◌, ◌≤◌, ◌+◌, ◌++◌, ℕ, List, IfErr, OnOk, length, get_or, option_map, option_to_list, true};
 ghost use Rattle.std.specs.List.{AllZip};
-ghost use Rattle.std.specs.Ordering.{is_eq, is_lt};
+ghost use Rattle.std.specs.Ordering.{is_eq};
 ghost use Rattle.cube_core.specs.Order.{key_cmp};
 ghost use Rattle.cube_core.specs.declared.aggregate.Agg.{Agg};
 ghost use Rattle.cube_core.specs.Merged.{IsMerged, column};
@@ -9,58 +9,20 @@ ghost use Rattle.cube_core.specs.declared.key.Row.{Row};
 ghost use Rattle.cube_merge.specs.Made.{AreMade};
 ghost use Rattle.cube_merge.specs.Range.{AreInRange};
 ghost use Rattle.cube_merge.specs.Source.{IsSourceOf};
+ghost use Rattle.cube_merge.specs.Front.{AreAbove};
 ghost use Rattle.cube_merge.specs.Joint.{HaveRows, place_where, rows_of};
 ghost use Rattle.cube_merge.specs.Faults.{FailsToJoin, FailsToMake, FailsToMoveAll, IsFaultAt, TellsOverflow};
-ghost use Rattle.cube_merge.specs.Merging.{AllMove, AreUses, IsLeastSoFar, IsNotBelow, IsUse, nothing_left, used_rows};
+ghost use Rattle.cube_merge.specs.Merging.{AllMove, AreUses, IsBelow, IsNotBelow, IsUse, nothing_left, used_rows};
 
 use crate::fault::{InputFault, MergeFault};
+use crate::front::is_behind;
 use crate::gather::{answer_at, made_of};
 use crate::input::Input;
-use crate::read::Scratch;
 use crate::source::{Source, answer_from};
 use cube_core::{Agg, Answer, Key, Row, Schema};
 use std::alloc::{AllocError, Global};
 use std::cmp::Ordering;
 use std::io::Read;
-
-/// The place of an input whose row has the least key; None where no input has a row.
-pub(crate) fn least_input<R: Read>(inputs: &[Input<R>]) -> Option<usize>
-    ensures { IsLeastSoFar inputs.now result (length inputs.now) }
-{
-    let mut least = None;
-    for place in 0..inputs.len() {
-        least = lesser(inputs, least, place);
-    }
-    least
-}
-
-// Of the least so far and one more input the one with the lesser key.
-fn lesser<R: Read>(inputs: &[Input<R>], least: Option<usize>, place: usize) -> Option<usize>
-    requires inside { place < length inputs.now }
-    requires so_far { IsLeastSoFar inputs.now least place }
-    ensures { IsLeastSoFar inputs.now result (place + 1) }
-{
-    let Some(row) = inputs[place].row() else {
-        return least;
-    };
-    let Some(best) = least else {
-        return Some(place);
-    };
-    let Some(other) = inputs[best].row() else {
-        return Some(place);
-    };
-    if is_below(&row.key, &other.key) {
-        Some(place)
-    } else {
-        least
-    }
-}
-
-fn is_below(key: &Key, other: &Key) -> bool
-    ensures { result ≡ is_lt (key_cmp key.now other.now) }
-{
-    matches!(key.compare(other), Ordering::Less)
-}
 
 fn is_same_key(key: &Key, other: &Key) -> bool
     ensures { result ≡ is_eq (key_cmp key.now other.now) }
@@ -89,14 +51,17 @@ impl Joint {
     }
 }
 
-/// Joins the answers of each row that has the key, and tells whose rows they are.
+/// Joins the answers of each row that has the key, the least, and tells whose rows they are. Rows of inputs that are behind
+/// are above it.
 pub(crate) fn join_rows<R: Read>(
     given: &[Agg],
     inputs: &[Input<R>],
+    behind: &[bool],
     key: &Key,
     joint: &mut Joint,
 ) -> Result<(), MergeFault>
-    requires { (k : ℕ) → IsNotBelow key.now (get_or inputs.now k nothing_left) }
+    requires least { (k : ℕ) → IsNotBelow key.now (get_or inputs.now k nothing_left) }
+    requires above { AreAbove key.now behind.now inputs.now }
     ensures long { OnOk result (length joint.new.used.items ≡ length inputs.now) }
     ensures uses { OnOk result (AreUses key.now joint.new.used.items inputs.now) }
     ensures made { OnOk result
@@ -105,7 +70,7 @@ pub(crate) fn join_rows<R: Read>(
         (AreInRange given.now (used_rows joint.new.used.items inputs.now)) }
     ensures err { IfErr result (FailsToJoin given.now inputs.now) }
 {
-    find_used(inputs, key, &mut joint.used, &mut joint.places)?;
+    find_used(inputs, behind, key, &mut joint.used, &mut joint.places)?;
     make_answers(
         given,
         inputs,
@@ -118,11 +83,13 @@ pub(crate) fn join_rows<R: Read>(
 // Tells whose rows have the key, by flag and by place.
 fn find_used<R: Read>(
     inputs: &[Input<R>],
+    behind: &[bool],
     key: &Key,
     used: &mut Vec<bool>,
     places: &mut Vec<usize>,
 ) -> Result<(), AllocError>
-    requires { (k : ℕ) → IsNotBelow key.now (get_or inputs.now k nothing_left) }
+    requires least { (k : ℕ) → IsNotBelow key.now (get_or inputs.now k nothing_left) }
+    requires above { AreAbove key.now behind.now inputs.now }
     ensures long { OnOk result (length used.new.items ≡ length inputs.now) }
     ensures uses { OnOk result (AreUses key.now used.new.items inputs.now) }
     ensures rows { OnOk result
@@ -132,7 +99,7 @@ fn find_used<R: Read>(
     used.clear();
     places.clear();
     for place in 0..inputs.len() {
-        let is_used = has_key(&inputs[place], key);
+        let is_used = has_key(&inputs[place], is_behind(behind, place), key);
         used.push(is_used)?;
         put_where(places, place, is_used)?;
     }
@@ -148,11 +115,15 @@ fn put_where(places: &mut Vec<usize>, place: usize, is_used: bool) -> Result<(),
     Ok(())
 }
 
-// Whether the row of an input has the key, where it isn't below it.
-fn has_key<R: Read>(input: &Input<R>, key: &Key) -> bool
-    requires { IsNotBelow key.now input.now }
+// Whether the row of an input has the key, where it isn't below it; one that is behind is above it.
+fn has_key<R: Read>(input: &Input<R>, is_behind: bool, key: &Key) -> bool
+    requires least { IsNotBelow key.now input.now }
+    requires above { is_behind ≡ true → IsBelow key.now input.now }
     ensures { IsUse key.now result input.now }
 {
+    if is_behind {
+        return false;
+    }
     match input.row() {
         Some(row) => is_same_key(&row.key, key),
         None => false,
@@ -253,14 +224,13 @@ pub(crate) fn move_inputs<R: Read>(
     schema: &Schema,
     inputs: &mut [Input<R>],
     used: &[bool],
-    scratch: &mut Scratch,
 ) -> Result<(), MergeFault>
     requires { length used.now ≡ length inputs.old }
     ensures ok { OnOk result (AllMove schema.now used.now inputs.old inputs.new) }
     ensures err { IfErr result (FailsToMoveAll schema.now used.now inputs.old) }
 {
     for place in 0..inputs.len() {
-        if let Err(fault) = inputs[place].move_on(alloc, schema, used[place], scratch) {
+        if let Err(fault) = inputs[place].move_on(alloc, schema, used[place]) {
             return Err(fault_of(fault, place, inputs[place].lines()));
         }
     }

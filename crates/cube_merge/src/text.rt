@@ -5,33 +5,26 @@
 ghost use Rattle.std.specs.Prelude.{◌≡◌, ◌≤◌, ◌∷◌, [], ◌++◌, codes, decimal, length, map, true, false, ℕ, List, OnOk};
 ghost use Rattle.std.specs.Fmt.{signed_decimal};
 ghost use Rattle.csv.specs.Writing.{default_writer, escaped, field_text, needs_byte, needs_quotes};
-ghost use Rattle.cube_core.specs.Text.{answer_text, coord_text, grouping_text, header_fields, grouping_name, line, row_line};
-ghost use Rattle.cube_merge.specs.Parts.{AddsParts};
+ghost use Rattle.cube_core.specs.Text.{answer_text, coord_text, grouping_text, header_fields, grouping_name, line};
+ghost use Rattle.cube_core.specs.declared.key.Key.{Key};
+ghost use Rattle.cube_merge.specs.Parts.{AddsParts, key_parts};
 
-use cube_core::{Answer, Coord, Row, Schema, Text};
+use cube_core::{Answer, Schema, Text};
 use itoa::Buffer;
 use std::alloc::{AllocError, Global};
 
-/// Puts the line of a row at the end of the text.
-pub(crate) fn push_row(text: &mut Vec<u8>, row: &Row) -> Result<(), AllocError>
-    requires { 1 ≤ length row.now.key.coords }
-    ensures { OnOk result (text.new.items ≡ text.old.items ++ row_line row.now) }
-{
-    push_line(text, row.key.coords.as_slice(), row.answers.as_slice())
-}
-
-/// Puts the line of the row with these coordinates and answers at the end of the text.
+/// Puts the line of a row at the end of the text, of what it shows of its key, each field with a comma, and of its
+/// answers.
 pub(crate) fn push_line(
     text: &mut Vec<u8>,
-    coords: &[Coord],
+    key: &[u8],
     answers: &[Answer],
 ) -> Result<(), AllocError>
-    requires { 1 ≤ length coords.now }
-    ensures { OnOk result (text.new.items ≡ text.old.items ++ line
-        (map coord_text coords.now ++ map grouping_text coords.now ++ map answer_text answers.now)) }
+    ensures { OnOk result ((of : Key) → 1 ≤ length of.coords → key.now ≡ key_parts of →
+        text.new.items ≡ text.old.items ++ line
+        (map coord_text of.coords ++ map grouping_text of.coords ++ map answer_text answers.now)) }
 {
-    push_coords(text, coords)?;
-    push_groupings(text, coords)?;
+    text.extend_from_slice(key)?;
     push_answers(text, answers)?;
     end_line(text)
 }
@@ -66,42 +59,6 @@ fn push_texts(text: &mut Vec<u8>, texts: &[Text]) -> Result<(), AllocError>
         push_field(text, field.as_str().as_bytes())?;
     }
     Ok(())
-}
-
-fn push_coords(text: &mut Vec<u8>, coords: &[Coord]) -> Result<(), AllocError>
-    ensures { OnOk result (AddsParts (map coord_text coords.now) text.old.items text.new.items) }
-{
-    for coord in coords {
-        push_field(text, coord_field(coord))?;
-    }
-    Ok(())
-}
-
-fn coord_field(coord: &Coord) -> &[u8]
-    ensures { result.now ≡ coord_text coord.now }
-{
-    match coord {
-        Coord::Text(text) => text.as_str().as_bytes(),
-        Coord::Null | Coord::All => b"\\N",
-    }
-}
-
-fn push_groupings(text: &mut Vec<u8>, coords: &[Coord]) -> Result<(), AllocError>
-    ensures { OnOk result (AddsParts (map grouping_text coords.now) text.old.items text.new.items) }
-{
-    for coord in coords {
-        push_field(text, grouping_field(coord))?;
-    }
-    Ok(())
-}
-
-fn grouping_field(coord: &Coord) -> &'static [u8]
-    ensures { result.now ≡ grouping_text coord.now }
-{
-    match coord {
-        Coord::Text(_) | Coord::Null => b"0",
-        Coord::All => b"1",
-    }
 }
 
 fn push_answers(text: &mut Vec<u8>, answers: &[Answer]) -> Result<(), AllocError>
@@ -206,13 +163,15 @@ fn push_quoted(text: &mut Vec<u8>, field: &[u8]) -> Result<(), AllocError>
     Ok(())
 }
 
-fn needs_quotes(field: &[u8]) -> bool
+/// Whether a field is printed in quotes.
+pub(crate) fn needs_quotes(field: &[u8]) -> bool
     ensures { result ≡ needs_quotes default_writer field.now }
 {
     field.iter().any(|byte| needs_byte(*byte))
 }
 
-fn needs_byte(byte: u8) -> bool
+/// Whether a field with this byte is.
+pub(crate) fn needs_byte(byte: u8) -> bool
     ensures { result ≡ needs_byte default_writer byte }
 {
     matches!(byte, b',' | b'"' | b'\r' | b'\n')

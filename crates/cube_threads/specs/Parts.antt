@@ -5,6 +5,7 @@ use Rattle.cube_core.specs.GroupingSet.{sets_of_part}
 use Rattle.cube_core.specs.Layout.{Layout}
 use Rattle.cube_core.specs.Query.{AreRowsWhere}
 use Rattle.cube_core.specs.Run.{Told, AreGood, AreTaken}
+use Rattle.cube_core.specs.Shard.{whole_feed}
 use Rattle.cube_core.specs.declared.fact.Fact.{Fact}
 use Rattle.cube_core.specs.declared.key.Key.{Key}
 use Rattle.cube_core.specs.declared.key.Row.{Row}
@@ -26,7 +27,7 @@ pub record BuiltView : Type 0 where
 -- the ledger of no source, under a schema of no dimension
 abbrev pub no_ledger : LedgerView
 no_ledger = record {
-  schema = record { dimensions = []; measures = []; aggregates = []; aggregate_texts = []; max_records = 0; grouping_sets = []; version = 1 };
+  schema = record { dimensions = []; measures = []; aggregates = []; aggregate_texts = []; max_records = 0; grouping_sets = []; version = 1; shard = whole_feed };
   accounts = [];
 }
 

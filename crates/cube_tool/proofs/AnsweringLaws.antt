@@ -24,19 +24,20 @@ use Rattle.cube_feeders.specs.declared.fault.FeedingFault.{FeedingFault}
 use Rattle.cube_feeders.specs.declared.fault.FeedingFault.TheVariants as feeding_fault
 use Rattle.cube_tool.specs.declared.fault.RunFault.TheVariants as run_fault
 use Rattle.cube_threads.specs.Parts.{AreRowsOfRun, IsRowOfRun, BuiltView, BuildsParts, facts_of_run, schema_of_run}
-use Rattle.cube_live.specs.Shows.{is_key}
+use Rattle.cube_live.specs.Shows.{IsTextWhere, is_key}
+use Rattle.cube_live.proofs.RefusalLaws.{refusals_of_accounts}
 use Rattle.cube_live.proofs.RowLaws.{AreRowsWhere-IsRowOver, AreRowsWhere-none}
 use Rattle.cube_text.specs.Shape.{HasShapeOf}
 use Rattle.cube_text.proofs.RowShapeLaws.{HasShapeOf-AreRowsWhere}
 use Rattle.cube_tool.specs.Answering.{Answers, FailsToAnswer, IsToldOf, Writes, question_fault, refusals_of_run}
 use Rattle.cube_tool.specs.Faults.{fault_of_build, fault_of_feeding, fault_of_text}
-use Rattle.cube_tool.specs.Run.{ExplainsPlainRun, ExplainsRun, IsTextWhere, Leaves, Tells}
+use Rattle.cube_tool.specs.Run.{ExplainsPlainRun, ExplainsRun, Leaves, Tells}
 use Rattle.cube_tool.specs.declared.fault.TextFault.{TextFault}
 use Rattle.cube_tool.specs.declared.fault.TextFault.TheVariants as text_fault
 use Rattle.cube_tool.specs.declared.question.Question.{Question}
 use Rattle.cube_tool.specs.declared.command.failure.Failure.{Failure}
 use Rattle.cube_tool.specs.declared.command.failure.Failure.TheVariants as failure
-use Rattle.cube_tool.proofs.RunLaws.{OfFeeds-first, OfFeeds-whole_first, Wrote-weaker, WroteFirst-weaker, refused}
+use Rattle.cube_tool.proofs.RunLaws.{OfFeeds-first, OfFeeds-whole_first, Wrote-weaker, WroteFirst-weaker}
 
 -- ---- what writing a text comes to
 
@@ -72,7 +73,7 @@ Leaves-text question text_fault.Full old new some builds same = (same, record { 
 Leaves-text question (text_fault.Write sent) old new some builds wrote = OfFeeds-first some builds wrote
 
 pub Leaves-plain_text : (question : Question) {s : Layout} {sources : Told} {builder : BuilderView} (why : TextFault) (old new : Option (List ℕ))
-    → BuildsWhole s sources builder → Writes {T = Unit {0}} (Tells question s (all_facts builder.ledger.accounts) (refused builder.ledger.accounts)) (Err why) old new
+    → BuildsWhole s sources builder → Writes {T = Unit {0}} (Tells question s (all_facts builder.ledger.accounts) (refusals_of_accounts builder.ledger.accounts)) (Err why) old new
     → Leaves (ExplainsPlainRun s sources) question s sources (fault_of_text why) old new
 Leaves-plain_text question text_fault.Full old new builds same = (same, record { why = build_fault.Full; is = refl; explains = tt })
 Leaves-plain_text question (text_fault.Write sent) old new builds wrote = OfFeeds-whole_first builds wrote

@@ -1,11 +1,10 @@
 -- From ledgers that have taken good feeds to what a question over feeds promises.
-use Rattle.std.proofs.Common.{◌≡◌, ◌≤◌, ◌∙◌, ℕ, List, [], ◌∷◌, length, map, get_or, refl, sym, ap, ap₂, subst, arith}
+use Rattle.std.proofs.Common.{◌≡◌, ◌≤◌, ◌∙◌, ℕ, List, [], ◌∷◌, length, map, get_or, refl, sym, ap, subst, arith}
 use Rattle.std.specs.Prelude.{Option}
 use Rattle.std.specs.List.{AllZip}
 use Rattle.std.proofs.lemmas.List.FromFn.{length-map-range_with_len}
 use Rattle.cube_core.specs.Arrival.{Arrivals, of_source, of_sources}
 use Rattle.cube_core.proofs.ListLaws.{AllZip-length}
-use Rattle.cube_core.specs.Cube.{AreRows, AreRowsOver}
 use Rattle.cube_core.specs.Layout.{Layout}
 use Rattle.cube_core.specs.Refusals.{refusals_of}
 use Rattle.cube_core.specs.Run.{Told, AreItemsOf}
@@ -13,13 +12,13 @@ use Rattle.cube_core.specs.Sources.{SurviveTogether}
 use Rattle.cube_core.specs.declared.change.Item.{Item}
 use Rattle.cube_core.specs.declared.change.Refusal.{Refusal}
 use Rattle.cube_core.specs.declared.fact.Fact.{Fact}
-use Rattle.cube_core.specs.declared.key.Row.{Row}
-use Rattle.cube_cells.specs.Cube.{Lattice}
 use Rattle.cube_engine.specs.Build.{BuildsWhole}
 use Rattle.cube_engine.specs.Builder.{BuilderView, StandsAt}
-use Rattle.cube_engine.specs.Ledger.{AccountView, AccountStandsAt, LedgerView, LedgerStandsAt, all_facts}
+use Rattle.cube_engine.specs.Ledger.{AccountStandsAt, LedgerView, LedgerStandsAt, all_facts}
 use Rattle.cube_engine.proofs.SurvivorLaws.{SurviveTogether-stands}
 use Rattle.cube_link.specs.Link.{Receiving}
+use Rattle.cube_live.proofs.RefusalLaws.{refusals_of_accounts}
+use Rattle.cube_live.proofs.ShowsLaws.{refusals-each}
 use Rattle.cube_threads.specs.Parts.{BuiltView, BuildsParts, PartStandsAt, StandsInParts, first_ledger, facts_of_run}
 use Rattle.cube_feeders.specs.declared.parcel.Parcel.{Parcel}
 use Rattle.cube_tool.specs.Answering.{HasTaken, refusals_of_run, status_over}
@@ -28,26 +27,7 @@ use Rattle.cube_tool.specs.Run.{IsTextOf, OfFeeds, StandsOver, Tells, Wrote, Wro
 use Rattle.cube_tool.specs.declared.command.status.Status.{Status}
 use Rattle.cube_tool.specs.declared.question.Question.{Question}
 
--- the rows of a cube of a schema over its grouping sets are the rows of the schema
-pub AreRows-AreRowsOver : (s : Layout) (cube : Lattice) (facts : List Fact) (rows : List Row) → cube.schema ≡ s → cube.sets ≡ s.grouping_sets
-    → AreRowsOver cube.sets (length cube.schema.dimensions) cube.schema.aggregates facts rows → AreRows s facts rows
-AreRows-AreRowsOver s cube facts rows schema sets are =
-    subst (λ (l : Layout). AreRowsOver s.grouping_sets (length l.dimensions) l.aggregates facts rows) schema
-    (subst (λ (kept : List ℕ). AreRowsOver kept (length cube.schema.dimensions) cube.schema.aggregates facts rows) sets are)
-
 -- ---- what a ledger says of the feeds at which it stands
-
--- the refusals of each account
-abbrev pub refused : List AccountView → List (List Refusal)
-refused accounts = map (λ account. account.refusals) accounts
-
--- accounts that stand at the items of feeds have their refusals
-refused-stands : (s : Layout) (feeds : List (List Item)) (accounts : List AccountView) → AllZip (AccountStandsAt s) feeds accounts
-    → refused accounts ≡ map (refusals_of s) feeds
-refused-stands s [] [] stand = refl
-refused-stands s [] (account ∷ accounts) stand = absurd stand
-refused-stands s (items ∷ feeds) [] stand = absurd stand
-refused-stands s (items ∷ feeds) (account ∷ accounts) stand = ap₂ (λ r rs. r ∷ rs) stand.0.refused (refused-stands s feeds accounts stand.1)
 
 -- a ledger of a schema and so many sources stands at what an arrival list has of each
 pub record StandsUnder (s : Layout) (sources : ℕ) (arrivals : Arrivals) (ledger : LedgerView) : Type 0 where
@@ -65,15 +45,15 @@ survives {sources = sources} {arrivals = arrivals} {ledger = ledger} under =
 
 -- its refusals are those of the feeds
 pub refused-under : {s : Layout} {sources : ℕ} {arrivals : Arrivals} {ledger : LedgerView} → StandsUnder s sources arrivals ledger
-    → refused ledger.accounts ≡ map (refusals_of s) (of_sources sources arrivals)
+    → refusals_of_accounts ledger.accounts ≡ map (refusals_of s) (of_sources sources arrivals)
 refused-under {s = s} {sources = sources} {arrivals = arrivals} {ledger = ledger} under =
-    refused-stands s (of_sources sources arrivals) ledger.accounts
+    refusals-each s (of_sources sources arrivals) ledger.accounts
     (subst (λ (l : Layout). AllZip (AccountStandsAt l) (of_sources sources arrivals) ledger.accounts) under.schema
     (subst (λ (n : ℕ). AllZip (AccountStandsAt ledger.schema) (of_sources n arrivals) ledger.accounts) under.all under.stands))
 
 -- a text that tells what is asked of its facts and refusals is that of the question over the feeds
 pub IsTextOf-Tells : {s : Layout} {sources : ℕ} {arrivals : Arrivals} {ledger : LedgerView} (question : Question) (text : List ℕ) → StandsUnder s sources arrivals ledger
-    → Tells question s (all_facts ledger.accounts) (refused ledger.accounts) text → IsTextOf question s (of_sources sources arrivals) text
+    → Tells question s (all_facts ledger.accounts) (refusals_of_accounts ledger.accounts) text → IsTextOf question s (of_sources sources arrivals) text
 IsTextOf-Tells {s = s} {ledger = ledger} question text under tells = record {
   facts = all_facts ledger.accounts;
   survive = survives under;
@@ -165,7 +145,7 @@ StandsUnder-BuildsWhole : {s : Layout} {sources : Told} {builder : BuilderView} 
 StandsUnder-BuildsWhole builds = record { schema = builds.ledger.schema; all = builds.ledger.all; stands = builds.ledger.stands }
 
 pub OfFeeds-BuildsWhole : {s : Layout} {sources : Told} {builder : BuilderView} {question : Question} {old new : Option (List ℕ)}
-    → BuildsWhole s sources builder → Wrote (Tells question s (all_facts builder.ledger.accounts) (refused builder.ledger.accounts)) old new
+    → BuildsWhole s sources builder → Wrote (Tells question s (all_facts builder.ledger.accounts) (refusals_of_accounts builder.ledger.accounts)) old new
     → OfFeeds s sources (λ feeds. Wrote (IsTextOf question s feeds) old new × StandsOver (StandsAt builder) feeds)
 OfFeeds-BuildsWhole {sources = sources} {builder = builder} {question = question} builds wrote = record {
   feeds = of_sources (length sources) builds.ledger.arrivals;
@@ -178,7 +158,7 @@ OfFeeds-BuildsWhole {sources = sources} {builder = builder} {question = question
 }
 
 pub OfFeeds-whole_first : {s : Layout} {sources : Told} {builder : BuilderView} {question : Question} {sent : ℕ} {old new : Option (List ℕ)}
-    → BuildsWhole s sources builder → WroteFirst (Tells question s (all_facts builder.ledger.accounts) (refused builder.ledger.accounts)) sent old new
+    → BuildsWhole s sources builder → WroteFirst (Tells question s (all_facts builder.ledger.accounts) (refusals_of_accounts builder.ledger.accounts)) sent old new
     → OfFeeds s sources (λ feeds. WroteFirst (IsTextOf question s feeds) sent old new)
 OfFeeds-whole_first {sources = sources} {question = question} builds wrote = record {
   feeds = of_sources (length sources) builds.ledger.arrivals;
@@ -191,14 +171,14 @@ OfFeeds-whole_first {sources = sources} {question = question} builds wrote = rec
 
 -- the refusals of a builder that stands over feeds are theirs
 pub refused-StandsOver : {s : Layout} {feeds : List (List Item)} {builder : BuilderView} → builder.ledger.schema ≡ s → length builder.ledger.accounts ≡ length feeds
-    → StandsOver (StandsAt builder) feeds → refused builder.ledger.accounts ≡ map (refusals_of s) feeds
+    → StandsOver (StandsAt builder) feeds → refusals_of_accounts builder.ledger.accounts ≡ map (refusals_of s) feeds
 refused-StandsOver {s = s} {feeds = feeds} {builder = builder} schema all over =
     let under : StandsUnder s (length feeds) over.arrivals builder.ledger = record { schema = schema; all = all; stands = over.stands.ledger } in
     refused-under under ∙ ap (map (refusals_of s)) over.same
 
 -- so is the status by its refusals, of a run over the sources of the sample
 pub OfFeeds-sample : {s : Layout} {sources : Told} {builder : BuilderView} {status : Status} {old new : Option (List ℕ)} (question : Question) (under : Layout) (told : Told) → under ≡ s → told ≡ sources
-    → builder.ledger.schema ≡ under → length builder.ledger.accounts ≡ length told → status ≡ status_after (refused builder.ledger.accounts)
+    → builder.ledger.schema ≡ under → length builder.ledger.accounts ≡ length told → status ≡ status_after (refusals_of_accounts builder.ledger.accounts)
     → OfFeeds under told (λ feeds. Wrote (IsTextOf question under feeds) old new × StandsOver (StandsAt builder) feeds)
     → OfFeeds s sources (λ feeds. Wrote (IsTextOf question s feeds) old new × (status ≡ status_over s feeds))
 OfFeeds-sample {sources = sources} {builder = builder} {status = status} {old = old} {new = new} question under told schema_is told_is schema all status_is of =

@@ -4,6 +4,7 @@ use Rattle.std.specs.Prelude.{Option, Some, None, IfSome}
 use Rattle.std.proofs.lemmas.List.{take_all}
 use Rattle.cube_core.specs.Layout.{Layout}
 use Rattle.cube_core.specs.Run.{Told}
+use Rattle.cube_live.proofs.RefusalLaws.{refusals_of_accounts}
 use Rattle.cube_live.specs.Live.{IsLive, LiveStandsAt, LiveView}
 use Rattle.cube_live.specs.Opening.{OpensOver}
 use Rattle.cube_live.specs.Serving.{Serves, ServingFails}
@@ -13,21 +14,21 @@ use Rattle.cube_tool.specs.Command.{status_after}
 use Rattle.cube_tool.specs.Run.{OfFeeds}
 use Rattle.cube_tool.specs.Session.{BreaksOver, ServesOver}
 use Rattle.cube_tool.specs.declared.command.status.Status.{Status}
-use Rattle.cube_tool.proofs.RunLaws.{StandsUnder, refused, refused-under}
+use Rattle.cube_tool.proofs.RunLaws.{StandsUnder, refused-under}
 
 -- a session that was opened over feeds and served to its end
 served-over : {s : Layout} {sources : Told} (before after : LiveView) (records : Option (List (List (List ℕ)))) (status : Status) (old new : Option (List ℕ))
-    → OpensOver s sources (LiveStandsAt before) → IsLive s after.builder after.numbers → status ≡ status_after (refused after.builder.ledger.accounts)
+    → OpensOver s sources (LiveStandsAt before) → IsLive s after.ledger after.numbers → status ≡ status_after (refusals_of_accounts after.ledger.accounts)
     → IfSome records (λ taken. Serves s taken before after old new)
     → OfFeeds s sources (λ feeds. IfSome records (λ taken. ServesOver s feeds taken status old new))
 served-over before after None status old new opens live is serves = record { feeds = opens.feeds; good = opens.good; items = opens.items; holds = tt }
 served-over {s = s} before after (Some taken) status old new opens live is serves =
     let served = serves opens.start opens.stands in
     let whole : take (length taken) taken ≡ taken = take_all (length taken) taken (omega arith) in
-    let under : StandsUnder s 64 (arrivals_after s opens.start taken) after.builder.ledger = record {
+    let under : StandsUnder s 64 (arrivals_after s opens.start taken) after.ledger = record {
       schema = live.schema;
       all = live.sources;
-      stands = served.1.builder.ledger;
+      stands = served.1.ledger;
     } in
     record {
       feeds = opens.feeds;
@@ -46,7 +47,7 @@ served-over {s = s} before after (Some taken) status old new opens live is serve
     }
 
 pub OfFeeds-served : {s : Layout} {sources : Told} (before after : LiveView) (records : Option (List (List (List ℕ)))) (status : Status) (old new : Option (List ℕ)) → before.schema ≡ s
-    → OpensOver s sources (LiveStandsAt before) → IsLive s after.builder after.numbers → status ≡ status_after (refused after.builder.ledger.accounts)
+    → OpensOver s sources (LiveStandsAt before) → IsLive s after.ledger after.numbers → status ≡ status_after (refusals_of_accounts after.ledger.accounts)
     → IfSome records (λ taken. Serves before.schema taken before after old new)
     → OfFeeds s sources (λ feeds. IfSome records (λ taken. ServesOver s feeds taken status old new))
 OfFeeds-served before after records status old new schema opens live is serves =

@@ -2,12 +2,13 @@
 use Rattle.std.specs.Prelude.{◌≡◌, ◌≤◌, ⊤, ℕ, List, [], ◌∷◌, ◌++◌, length, take, codes, Option, IfSome, Result, Ok, Err}
 use Rattle.std.specs.Io.KnownBytes.{Appends}
 use Rattle.cube_core.specs.Layout.{Layout}
-use Rattle.cube_core.specs.Query.{Says, Wanted, cell_of, pattern_of}
+use Rattle.cube_core.specs.Query.{Says, pattern_of}
 use Rattle.cube_core.specs.SchemaDocument.{AnswersBytes}
 use Rattle.cube_core.specs.declared.change.Refusal.{Refusal}
 use Rattle.cube_core.specs.declared.key.Key.{Key}
 use Rattle.cube_core.specs.declared.query.QueryFault.{QueryFault}
 use Rattle.cube_core.specs.declared.schema_fault.SchemaFault.TheVariants as schema_fault
+use Rattle.cube_live.specs.Request.{cell_by}
 use Rattle.cube_tool.specs.declared.fault.RunFault.TheVariants as run_fault
 use Rattle.cube_tool.specs.declared.command.status.Status.{Status}
 use Rattle.cube_tool.specs.declared.command.status.Status.TheVariants.{Done, Failed, WrongWords, WrongSchema, LinesRefused}
@@ -93,11 +94,6 @@ abbrev pub answer_of : {T : Type 0} → Result T QueryFault → Result T Failure
 answer_of (Ok value) = Ok value
 answer_of (Err fault) = Err (Query fault)
 
--- the key of a pattern, where there is a pattern
-abbrev pub key_of_pattern : Result Wanted QueryFault → Result Key QueryFault
-key_of_pattern (Ok pattern) = cell_of pattern
-key_of_pattern (Err fault) = Err fault
-
 -- the cell that a word spells under a schema: a pattern that leaves no dimension open
 abbrev pub key_of_word : Layout → List ℕ → Result Key QueryFault
-key_of_word s word = key_of_pattern (pattern_of s word)
+key_of_word s word = cell_by (pattern_of s word)

@@ -7,3 +7,4 @@ pub mod Explain
 pub mod Answering
 pub mod Session
 pub mod MergingCubes
+pub mod ShardWord

@@ -5,19 +5,17 @@ use Rattle.std.specs.List.{AllZip}
 use Rattle.cube_core.specs.Arrival.{Arrivals, of_sources}
 use Rattle.cube_core.specs.Layout.{Layout}
 use Rattle.cube_core.specs.Printed.{IsPrinted}
-use Rattle.cube_core.specs.Query.{AreRowsWhere, drills_down, matches, rolled_up}
+use Rattle.cube_core.specs.Query.{drills_down, matches, rolled_up}
 use Rattle.cube_core.specs.Refusals.{refusals_of}
 use Rattle.cube_core.specs.Run.{Told, AreGood, AreItemsOf}
 use Rattle.cube_core.specs.Sources.{SurviveTogether}
-use Rattle.cube_core.specs.Text.{text_of_refusals, text_of_rows}
+use Rattle.cube_core.specs.Text.{text_of_refusals}
 use Rattle.cube_core.specs.declared.change.Item.{Item}
 use Rattle.cube_core.specs.declared.change.Refusal.{Refusal}
 use Rattle.cube_core.specs.declared.fact.Fact.{Fact}
-use Rattle.cube_core.specs.declared.key.Key.{Key}
-use Rattle.cube_core.specs.declared.key.Row.{Row}
 use Rattle.cube_engine.specs.Build.{ExplainsBuild}
 use Rattle.cube_engine.specs.declared.fault.BuildFault.{BuildFault}
-use Rattle.cube_live.specs.Shows.{is_key}
+use Rattle.cube_live.specs.Shows.{IsTextWhere, is_key}
 use Rattle.cube_feeders.specs.FeedingAll.{ExplainsFeeding}
 use Rattle.cube_feeders.specs.declared.fault.FeedingFault.{FeedingFault}
 use Rattle.cube_tool.specs.Faults.{fault_of_build, fault_of_feeding}
@@ -32,12 +30,6 @@ pub record OfFeeds (s : Layout) (sources : Told) (Holds : List (List Item) → T
   pub good : AreGood s sources
   pub items : AllZip (AreItemsOf s) sources feeds
   pub holds : Holds feeds
-
--- a text is that of the rows of the cube over these facts whose keys pass a test
-pub record IsTextWhere (test : Key → Bool) (s : Layout) (facts : List Fact) (text : List ℕ) : Type 0 where
-  pub rows : List Row
-  pub are_rows : AreRowsWhere test s.grouping_sets (length s.dimensions) s.aggregates facts rows
-  pub text_is : text ≡ text_of_rows s rows
 
 -- a text tells what is asked of these facts and of the refusals of each source: the printed cube, the rows that match, the rows that drill down, the row of the rolled-up key, or the refusals
 abbrev pub Tells : Question → Layout → List Fact → List (List Refusal) → List ℕ → Type 0

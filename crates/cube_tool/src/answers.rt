@@ -13,10 +13,10 @@ ghost use Rattle.cube_tool.specs.Run.{Tells};
 use crate::command::Failure;
 use crate::fault::TextFault;
 use crate::question::Question;
-use crate::refusals::print_refusals;
 use crate::reporter::Reporter;
 use cube_core::{Key, Pattern, Row, Schema};
 use cube_engine::Builder;
+use cube_live::print_refusals;
 use cube_text::{print_cells, print_cells_in_pieces, print_rows, write_pieces, write_whole};
 use cube_threads::Built;
 use std::alloc::{AllocError, Global};
@@ -167,7 +167,7 @@ pub fn write_refusals<W: Write>(alloc: Global, built: &Built, out: &mut W) -> Re
     ensures { Writes (λ text. text ≡ text_of_refusals (refusals_of_run built.now))
         result (W.contents out.old) (W.contents out.new) }
 {
-    let text = print_refusals(alloc, first_builder(built))?;
+    let text = print_refusals(alloc, first_builder(built).ledger())?;
     write_text(&text, out)
 }
 

@@ -12,6 +12,7 @@ mod query;
 mod sample;
 mod schema_file;
 mod session;
+mod shard;
 mod status;
 mod words;
 
@@ -25,5 +26,6 @@ pub use query::{read_cell, read_dimension, read_pattern};
 pub use sample::run_sample;
 pub use schema_file::{check, read_schema};
 pub use session::live;
+pub use shard::read_shard;
 pub use status::Status;
 pub use words::answer_words;

@@ -5,18 +5,17 @@ mod answers;
 pub mod command;
 mod fault;
 mod question;
-mod refusals;
 mod reporter;
 mod runs;
 
 pub use answers::{
     answer, write_cube, write_drill, write_plain_cube, write_refusals, write_roll_up, write_slice,
 };
+pub use cube_live::print_refusals;
 pub use cube_merge::{InputFault, MergeFault};
 pub use cube_text::{WriteFault, print_cells, print_rows, write_whole};
 pub use cube_threads::{Gate, OpenGate, Settings};
 pub use fault::{RunFault, TextFault};
 pub use question::Question;
-pub use refusals::print_refusals;
 pub use reporter::Reporter;
 pub use runs::{run, run_plain};

@@ -52,7 +52,7 @@ is_given-ReadsOne E (Some text) None none value = go (bytes_eq text (codes "true
 
 -- the words of a run that `live` has too
 abbrev pub live_of : RunWords → LiveWords
-live_of run = record { schema = run.schema; feeds = run.feeds; ring = run.ring; threads = run.threads; quiet = run.quiet }
+live_of run = record { schema = run.schema; feeds = run.feeds; ring = run.ring; threads = run.threads; shard = run.shard; quiet = run.quiet }
 
 -- of the words of a run, those that `live` has too are its own
 pub AreLiveWords-AreRunWords : (rows : List Row) (run : RunWords) → AreRunWords rows run → AreLiveWords rows (live_of run)
@@ -61,6 +61,7 @@ AreLiveWords-AreRunWords rows run are = record {
   feeds = ap (λ (o : Option (List Text)). unwrap_or o []) are.feeds;
   ring = are.ring;
   threads = are.threads;
+  shard = are.shard;
   is_quiet = are.is_quiet;
 }
 

@@ -87,13 +87,17 @@ partial_option = flag (codes "partial")
 abbrev pub check_option : Rule
 check_option = flag (codes "check")
 
+-- `--shard`, the share of the feeds that is read: any text, which is looked at later
+abbrev pub shard_option : Rule
+shard_option = record (new_rule (codes "shard")) { long = Some (codes "shard"); value_names = 1 }
+
 -- `--quiet`, which shows no progress
 abbrev pub quiet_option : Rule
 quiet_option = flag (codes "quiet")
 
 -- a command with the feeds and the options of a run behind its words
 abbrev pub with_feeds : App → App
-with_feeds line = with_rule (with_rule (with_rule (with_rule (with_rule line feed_words) ring_option) builders_option) threads_option) quiet_option
+with_feeds line = with_rule (with_rule (with_rule (with_rule (with_rule (with_rule line feed_words) ring_option) shard_option) builders_option) threads_option) quiet_option
 
 -- each command and its words
 abbrev pub check_line : App
@@ -115,7 +119,7 @@ abbrev pub rollup_line : App
 rollup_line = with_feeds (with_rule (with_rule (with_rule (new_app (codes "rollup")) schema_word) cell_word) dimension_word)
 
 abbrev pub live_line : App
-live_line = with_rule (with_rule (with_rule (with_rule (with_rule (new_app (codes "live")) schema_word) optional_feed_words) ring_option) threads_option) quiet_option
+live_line = with_rule (with_rule (with_rule (with_rule (with_rule (with_rule (new_app (codes "live")) schema_word) optional_feed_words) ring_option) shard_option) threads_option) quiet_option
 
 abbrev pub merge_line : App
 merge_line = with_rule (with_rule (with_rule (with_rule (with_rule (new_app (codes "merge")) schema_word) merged_words) partial_option) check_option) quiet_option
@@ -178,6 +182,7 @@ pub record AreRunWords (rows : List Row) (run : RunWords) : Type 0 where
   pub ring : IsNumberOf (one_of (codes "ring") rows) (Some run.ring)
   pub builders : IsNumberOf (one_of (codes "builders") rows) (Some run.builders)
   pub threads : IsNumberOf (one_of (codes "threads") rows) run.threads
+  pub shard : option_map (λ text. text.now) run.shard ≡ first_of (codes "shard") rows
   pub is_quiet : run.quiet ≡ is_given (one_of (codes "quiet") rows)
 
 -- a run has at least one feed, and its options, where they are given, are in their bounds
@@ -195,6 +200,7 @@ pub record AreLiveWords (rows : List Row) (live : LiveWords) : Type 0 where
   pub feeds : words_of (codes "FEED") rows ≡ map (λ path. path.now) live.feeds.items
   pub ring : IsNumberOf (one_of (codes "ring") rows) (Some live.ring)
   pub threads : IsNumberOf (one_of (codes "threads") rows) live.threads
+  pub shard : option_map (λ text. text.now) live.shard ≡ first_of (codes "shard") rows
   pub is_quiet : live.quiet ≡ is_given (one_of (codes "quiet") rows)
 
 -- the options of `live`, where they are given, are in their bounds

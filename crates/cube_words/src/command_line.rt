@@ -2,7 +2,7 @@
 ghost use Rattle.std.specs.Prelude.{◌≡◌, IfOk, false};
 ghost use Rattle.clap.specs.Words.{app_of, rule_of, shape_of, with_rule, with_subcommand};
 ghost use Rattle.clap.specs.declared.builder.command.Command.TheViews.{out-Command as fields_of};
-ghost use Rattle.cube_words.specs.CommandLine.{builders_option, cell_word, check_line, check_option, code_word, command_line, dimension_word, drill_line, explain_line, feed_words, live_line, merge_line, merged_words, named_line, optional_feed_words, partial_option, print_line, quiet_option, refusals_line, ring_option, rollup_line, schema_word, slice_line, threads_option, with_feeds};
+ghost use Rattle.cube_words.specs.CommandLine.{builders_option, cell_word, check_line, check_option, code_word, command_line, dimension_word, drill_line, explain_line, feed_words, live_line, merge_line, merged_words, named_line, optional_feed_words, partial_option, print_line, quiet_option, refusals_line, ring_option, rollup_line, schema_word, shard_option, slice_line, threads_option, with_feeds};
 
 use clap::builder::ValueParser;
 use clap::{Arg, ArgAction, Command};
@@ -15,7 +15,7 @@ dimensions. Each feed is a CSV file of inserts, updates and deletes; the cube is
 which are present in the end.";
 
 /// The program's version, by the rules of Semantic Versioning 2.0.0. It stands here alone.
-const VERSION: &str = "1.2.0";
+const VERSION: &str = "1.3.0";
 
 /// The forms of a command line.
 const USAGE: &str = "datacube < FEED
@@ -298,7 +298,7 @@ fn live_command<'a>(alloc: Global) -> Result<Command<'a>, AllocError>
         .about("Keeps the cube right change by change, and answers questions in between")
         .after_help(AFTER_LIVE);
     let fed = with_word(with_word(command, schema(alloc))?, optional_feeds(alloc))?;
-    with_threads(alloc, with_word(fed, ring(alloc))?)
+    with_threads(alloc, with_ring(alloc, fed)?)
 }
 
 // The command `merge` with its words.
@@ -336,8 +336,18 @@ fn with_all_feeds<'a>(alloc: Global, command: Command<'a>) -> Result<Command<'a>
     ensures local { IfOk result (λ all. (fields_of all).has_globals ≡ false) }
 {
     let fed = with_word(command, feeds(alloc))?;
-    let ringed = with_word(fed, ring(alloc))?;
-    with_threads(alloc, with_word(ringed, builders(alloc))?)
+    let shared = with_ring(alloc, fed)?;
+    with_threads(alloc, with_word(shared, builders(alloc))?)
+}
+
+// A command with the options for the capacity of the rings and for the share of the feeds behind its words.
+fn with_ring<'a>(alloc: Global, command: Command<'a>) -> Result<Command<'a>, AllocError>
+    requires { (fields_of command).has_globals ≡ false }
+    ensures line { IfOk result (λ all.
+        app_of all ≡ with_rule (with_rule (app_of command.entry) ring_option) shard_option) }
+    ensures local { IfOk result (λ all. (fields_of all).has_globals ≡ false) }
+{
+    with_word(with_word(command, ring(alloc))?, shard(alloc))
 }
 
 // A command with the options for the number of threads and for no progress behind its words.
@@ -455,6 +465,19 @@ fn threads<'a>(alloc: Global) -> Arg<'a>
         .value_parser(ValueParser::Unsigned(1, 16))
         .help(
             "How many threads fill, sort and print the cube, 1 to 16; as many as the machine has, at most 16, where left out",
+        )
+}
+
+// The option for the share of the feeds that is read.
+fn shard<'a>(alloc: Global) -> Arg<'a>
+    ensures rule { rule_of result ≡ shard_option }
+    ensures own { result.global ≡ false }
+{
+    Arg::new(alloc, "shard")
+        .long("shard")
+        .value_name("J/N")
+        .help(
+            "Reads only the lines whose id is in share J of N, N up to 65536; the prints of all shares, made with --partial, merge to the whole",
         )
 }
 

@@ -19,6 +19,8 @@ pub struct RunWords<'a> {
     pub builders: u32,
     /// The number of threads, 1 to 16; none where the words leave it out.
     pub threads: Option<usize>,
+    /// The share of the feeds that is read, as the words spell it; none where they leave it out.
+    pub shard: Option<&'a str>,
     /// Whether no progress is shown.
     pub quiet: bool,
 }
@@ -34,6 +36,8 @@ pub struct LiveWords<'a> {
     pub ring: usize,
     /// The number of threads, 1 to 16; none where the words leave it out.
     pub threads: Option<usize>,
+    /// The share of the feeds and of the changes that is read, as the words spell it; none where they leave it out.
+    pub shard: Option<&'a str>,
     /// Whether no progress is shown.
     pub quiet: bool,
 }
@@ -245,6 +249,7 @@ fn run_words<'a>(alloc: Global, words: &ArgMatches<'a>) -> Result<Option<RunWord
         ring: live.ring,
         builders: builders as u32,
         threads: live.threads,
+        shard: live.shard,
         quiet: live.quiet,
     }))
 }
@@ -274,6 +279,7 @@ fn live_words<'a>(
         feeds,
         ring,
         threads,
+        shard: word_of(words, "shard"),
         quiet: has_flag(words, "quiet"),
     }))
 }

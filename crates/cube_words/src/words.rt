@@ -82,6 +82,26 @@ pub fn unreadable_words(alloc: Global, error: &io::Error) -> Error
     }
 }
 
+/// What there is to say of a share that isn't spelled as one is, or isn't one.
+pub fn unlawful_shard(alloc: Global) -> Error
+    ensures { (kind_of result ≡ kind.InvalidValue) ⊎ (kind_of result ≡ kind.OutOfMemory) }
+{
+    match shard_not_lawful(alloc) {
+        Ok(error) => error,
+        Err(error) => Error::from(error),
+    }
+}
+
+fn shard_not_lawful(alloc: Global) -> Result<Error, AllocError>
+    ensures { IfOk result (λ error. kind_of error ≡ kind.InvalidValue) }
+{
+    let mut command = program(alloc)?;
+    command.error(
+        ErrorKind::InvalidValue,
+        "invalid value for '--shard <J/N>': J is a number from 1 to N, and N one from 1 to 65536, in digits without leading zeros",
+    )
+}
+
 fn words_not_text(alloc: Global) -> Result<Error, AllocError>
     ensures { IfOk result (λ error. kind_of error ≡ kind.InvalidValue) }
 {

@@ -3,22 +3,25 @@
 #![tactic(auto)]
 
 ghost use Rattle.std.specs.Prelude.{◌≡◌, ◌≤◌, length, vec_len, IfOk, IfSome};
+ghost use Rattle.cube_core.specs.Shard.{IsShard};
 ghost use Rattle.cube_tool.specs.Answering.{Fits};
 ghost use Rattle.cube_words.specs.CommandLine.{HasRoom, IsInBounds, IsUpTo, LiveHasRoom};
 
 mod watch;
 
 use crate::watch::Watch;
-use cube_core::Schema;
+use cube_core::{Schema, Shard};
 use cube_progress::{Counts, CubeReader, FeedReader, Output, Phase, Progress};
 use cube_threads::Settings;
 use cube_tool::command::{
     Failure, LATER_NOTES, NOTES, Question, Status, answer_words, ask, check, check_cubes, explain,
     first_repeated, live, merge_cubes, read_cell, read_dimension, read_pattern, read_schema,
-    run_sample,
+    read_shard, run_sample,
 };
 use cube_tool::{InputFault, MergeFault, RunFault};
-use cube_words::{LiveWords, MergeWords, Request, RunWords, read_words, unreadable_words};
+use cube_words::{
+    LiveWords, MergeWords, Request, RunWords, read_words, unlawful_shard, unreadable_words,
+};
 use std::fs::File;
 use std::io::{IsTerminal, Stderr};
 use std::process::ExitCode;
@@ -138,30 +141,35 @@ fn obey<T: Threads + Wait + Clock + Sync>(
     requires { IsInBounds request.now }
 {
     let alloc = rt.alloc();
+    let Some(shard) = shard_of(request) else {
+        return refuse_shard(rt);
+    };
     match request {
         Request::Sample => run_sample(alloc, rt.stdin(), &mut rt.stdout()),
         Request::Check { schema } => check(alloc, open_schema(rt, schema)?, &mut rt.stdout()),
         Request::Explain { code } => explain_code(rt, *code),
-        Request::Print { run, partial } => print(rt, threads, run, *partial, progress),
-        Request::Refusals { run } => answer(rt, threads, run, Asked::Refusals, progress),
-        Request::Slice { run, cell } => answer(rt, threads, run, Asked::Slice { cell }, progress),
+        Request::Print { run, partial } => print(rt, threads, run, shard, *partial, progress),
+        Request::Refusals { run } => answer(rt, threads, run, shard, Asked::Refusals, progress),
+        Request::Slice { run, cell } => {
+            answer(rt, threads, run, shard, Asked::Slice { cell }, progress)
+        }
         Request::Drill {
             run,
             cell,
             dimension,
-        } => answer(rt, threads, run, Asked::Drill { cell, dimension }, progress),
+        } => {
+            let asked = Asked::Drill { cell, dimension };
+            answer(rt, threads, run, shard, asked, progress)
+        }
         Request::RollUp {
             run,
             cell,
             dimension,
-        } => answer(
-            rt,
-            threads,
-            run,
-            Asked::RollUp { cell, dimension },
-            progress,
-        ),
-        Request::Live { live } => serve(rt, threads, live, progress),
+        } => {
+            let asked = Asked::RollUp { cell, dimension };
+            answer(rt, threads, run, shard, asked, progress)
+        }
+        Request::Live { live } => serve(rt, threads, live, shard, progress),
         Request::Merge { merge } => merge_files(rt, merge, progress),
     }
 }
@@ -190,12 +198,14 @@ fn print<T: Threads + Wait + Clock + Sync>(
     rt: &HostRuntime,
     threads: &T,
     words: &RunWords,
+    shard: Shard,
     is_partial: bool,
     progress: &Progress<'_, T, Stderr>,
 ) -> Result<Status, Failure>
-    requires { HasRoom words.now }
+    requires room { HasRoom words.now }
+    requires shard { IsShard shard }
 {
-    let schema = schema_of(rt, words.schema, &words.feeds, 1)?;
+    let schema = schema_of(rt, words.schema, &words.feeds, 1)?.with_shard(shard);
     if is_partial {
         let partial = schema.partial(rt.alloc())?;
         return answer_under(rt, threads, words, &partial, Asked::Cube, progress);
@@ -208,13 +218,41 @@ fn answer<T: Threads + Wait + Clock + Sync>(
     rt: &HostRuntime,
     threads: &T,
     words: &RunWords,
+    shard: Shard,
     asked: Asked,
     progress: &Progress<'_, T, Stderr>,
 ) -> Result<Status, Failure>
-    requires { HasRoom words.now }
+    requires room { HasRoom words.now }
+    requires shard { IsShard shard }
 {
-    let schema = schema_of(rt, words.schema, &words.feeds, 1)?;
+    let schema = schema_of(rt, words.schema, &words.feeds, 1)?.with_shard(shard);
     answer_under(rt, threads, words, &schema, asked, progress)
+}
+
+/// The share of the feeds that is read: the whole, where the words leave it out, and none where they name no share.
+fn shard_of(request: &Request) -> Option<Shard>
+    ensures { IfSome result IsShard }
+{
+    let word = match request {
+        Request::Print { run, .. }
+        | Request::Refusals { run }
+        | Request::Slice { run, .. }
+        | Request::Drill { run, .. }
+        | Request::RollUp { run, .. } => run.shard,
+        Request::Live { live } => live.shard,
+        _ => None,
+    };
+    match word {
+        Some(word) => read_shard(word),
+        None => Some(Shard::whole()),
+    }
+}
+
+/// Says that the words name no share.
+fn refuse_shard(rt: &HostRuntime) -> Result<Status, Failure> {
+    let alloc = rt.alloc();
+    let refusal = unlawful_shard(alloc);
+    answer_words(alloc, &refusal, &mut rt.stdout(), &mut rt.stderr())
 }
 
 /// Answers a command with feeds under a schema.
@@ -274,11 +312,13 @@ fn serve<T: Threads + Wait + Clock + Sync>(
     rt: &HostRuntime,
     threads: &T,
     words: &LiveWords,
+    shard: Shard,
     progress: &Progress<'_, T, Stderr>,
 ) -> Result<Status, Failure>
-    requires { LiveHasRoom words.now }
+    requires room { LiveHasRoom words.now }
+    requires shard { IsShard shard }
 {
-    let schema = schema_of(rt, words.schema, &words.feeds, 0)?;
+    let schema = schema_of(rt, words.schema, &words.feeds, 0)?.with_shard(shard);
     let feeds = open_feeds(rt, &words.feeds, progress.counts())?;
     let settings = settings_of(threads, words.ring, 1, words.threads);
     progress.begin(Phase::Reading { feeds: feeds.len() });

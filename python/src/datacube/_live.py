@@ -13,10 +13,11 @@ from types import TracebackType
 from typing import IO, Callable, List, Literal, Optional, Sequence, Type, Union
 
 from ._ask import Given
-from ._cells import KEEP, Cell, Mark, Named, Pattern, fields_of, in_order, text_of
-from ._cube import GREATEST, LEAST, Cube, Refusal, refusals_of
+from ._cells import KEEP, Mark, Named, in_order, text_of
+from ._cube import GREATEST, LEAST, Refusal, refusals_of
 from ._errors import Ended, Failure, ProgramNotFound, Unsayable
 from ._program import DONE, Paths, line_of, meaning_of, paths_of, words_of
+from ._questions import Questions
 from ._schema import schema_of
 
 Keep = Literal[Mark.KEEP]
@@ -26,7 +27,7 @@ SOURCES = 64
 NULL = "\\N"
 
 
-class Live:
+class Live(Questions):
     """A running `datacube live`: a cube over feeds (feed s is source s) and the changes that come after.
 
     Any thread may make changes and ask. A change is sent whole, in the order in which the threads come; a question is
@@ -113,22 +114,6 @@ class Live:
         if text == NULL or text == "\\=" and self.schema.version == 2:
             raise Unsayable(f"dimension {name}: a feed can't say the text {text}, which means {'null' if text == NULL else 'KEEP'}")
         return text
-
-    def cube(self) -> Cube:
-        """The whole cube, as it is now."""
-        return Cube(self.ask("print"))
-
-    def slice(self, pattern: Pattern) -> Cube:
-        """The rows that a pattern matches; a dimension that a mapping doesn't name is ALL."""
-        return Cube(self.ask("slice", *fields_of(self.schema.dimensions, pattern)))
-
-    def drill(self, cell: Cell, dimension: str) -> Cube:
-        """The rows one step below a cell, along a dimension."""
-        return Cube(self.ask("drill", dimension, *fields_of(self.schema.dimensions, cell)))
-
-    def rollup(self, cell: Cell, dimension: str) -> Cube:
-        """The row one step above a cell, along a dimension, or none where that is no cell of the cube."""
-        return Cube(self.ask("rollup", dimension, *fields_of(self.schema.dimensions, cell)))
 
     def refusals(self, source: Optional[int] = None, after: int = 0) -> List[Refusal]:
         """The refused lines and changes of all sources, or those of one after one of its records."""

@@ -35,7 +35,7 @@ pub fn run_sample<R: Read + Drop, W: Write>(
         return Err(Failure::Run(RunFault::Memory));
     };
     let builder = run_plain(alloc, &schema, readers, out)?;
-    Ok(status_after(&builder))
+    Ok(status_after(builder.ledger()))
 }
 
 // The readers of a run over one feed.

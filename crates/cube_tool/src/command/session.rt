@@ -49,6 +49,6 @@ pub fn live<
     let mut live = open(rt, alloc, schema, readers, settings, watcher)?;
     watcher.begins_serving();
     let mut records = RecordReader::new(alloc, input);
-    serve(alloc, &mut live, &mut records, &mut NoJournal, out)?;
-    Ok(status_after(live.builder()))
+    serve(rt, alloc, &mut live, &mut records, &mut NoJournal, out)?;
+    Ok(status_after(live.ledger()))
 }

@@ -4,7 +4,7 @@ ghost use Rattle.cube_tool.specs.Answering.{refusals_of_run};
 ghost use Rattle.cube_tool.specs.Command.{status_after, status_code};
 
 use crate::answers::first_builder;
-use cube_engine::Builder;
+use cube_engine::Ledger;
 use cube_threads::Built;
 
 /// What the program ends with.
@@ -41,15 +41,15 @@ impl Status {
 pub(crate) fn status_of_run(built: &Built) -> Status
     ensures { result ≡ status_after (refusals_of_run built.now) }
 {
-    status_after(first_builder(built))
+    status_after(first_builder(built).ledger())
 }
 
-/// The same by the refusals of a builder.
-pub(crate) fn status_after(builder: &Builder) -> Status
-    ensures { result ≡ status_after (map (λ account. account.refusals) builder.now.ledger.accounts) }
+/// The same by the refusals of a ledger.
+pub(crate) fn status_after(ledger: &Ledger) -> Status
+    ensures { result ≡ status_after (map (λ account. account.refusals) ledger.now.accounts) }
 {
-    for place in 0..builder.sources() {
-        if !builder.refusals(place + 1).is_empty() {
+    for place in 0..ledger.sources() {
+        if !ledger.refusals(place + 1).is_empty() {
             return Status::LinesRefused;
         }
     }

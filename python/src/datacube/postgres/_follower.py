@@ -14,8 +14,7 @@ import psycopg2
 import psycopg2.errors
 
 from .._ask import Given
-from .._cells import Cell, Pattern, fields_of
-from .._cube import Cube
+from .._questions import Questions
 from .._schema import Schema, schema_of
 from ._copy import FeedWriter, copy_table
 from ._errors import BeginAnew, CantFollow, NotCaughtUp
@@ -65,7 +64,7 @@ class State:
         return self.copies, self.transactions
 
 
-class Follower:
+class Follower(Questions):
     """A cube over a table of PostgreSQL, which takes each transaction whole, in the order of their commits.
 
     It makes a replication slot, copies the table as it is in the slot's snapshot, and then takes the changes behind it, in a
@@ -163,22 +162,6 @@ class Follower:
                 return self._state, self._mirror.ask(question, *fields)
             except BeginAnew as why:
                 raise NotCaughtUp(f"{why}: table {self.name} is copied again") from None
-
-    def cube(self) -> Cube:
-        """The whole cube."""
-        return Cube(self.ask("print"))
-
-    def slice(self, pattern: Pattern) -> Cube:
-        """The rows that a pattern matches; a dimension that a mapping doesn't name is ALL."""
-        return Cube(self.ask("slice", *fields_of(self.schema.dimensions, pattern)))
-
-    def drill(self, cell: Cell, dimension: str) -> Cube:
-        """The rows one step below a cell, along a dimension."""
-        return Cube(self.ask("drill", dimension, *fields_of(self.schema.dimensions, cell)))
-
-    def rollup(self, cell: Cell, dimension: str) -> Cube:
-        """The row one step above a cell, along a dimension, or none where that is no cell of the cube."""
-        return Cube(self.ask("rollup", dimension, *fields_of(self.schema.dimensions, cell)))
 
     def _wait(self, is_there: Callable[[State], bool], seconds: Optional[float]) -> State:
         with self._changed:

@@ -15,4 +15,4 @@ invariant_of-result c =
     let texts : (c.in-Some-3.aggregate_texts.items ≡ spellings_in document) × (is_some_up_to 16 (spellings_in document) ≡ true) = search rules in
     let spelled : (c.in-Some-4.aggregates.items ≡ filter_map (aggregate_spelled c.in-Some-2.measures.items) c.in-Some-3.aggregate_texts.items) × (are_spellings c.in-Some-2.measures.items c.in-Some-3.aggregate_texts.items ≡ true) = search rules in
     let sets : Some c.in-Some-5.grouping_sets.items ≡ sets_of_grouping c.in-Some.dimensions.items (get_member (codes "grouping") document) = search rules in
-    layout_of-document document _ _ _ _ _ _ _ dimensions measures names texts spelled (c.in-Some-max_records_in.ensures {u = tt}) sets (c.in-Some-version_in.ensures {u = tt})
+    layout_of-document document _ _ _ _ _ _ _ _ c.whole.ensures.lawful dimensions measures names texts spelled (c.in-Some-max_records_in.ensures {u = tt}) sets (c.in-Some-version_in.ensures {u = tt})

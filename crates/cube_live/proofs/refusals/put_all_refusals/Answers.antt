@@ -9,7 +9,7 @@ use Rattle.cube_live.proofs.refusals.put_all_refusals.Goals as goal
 
 pub loop-place-preserved : goal.loop-place-preserved
 loop-place-preserved c =
-    let accounts = c.args.builder.now.ledger.accounts in
+    let accounts = c.args.ledger.now.accounts in
     let place = c.loop-place.place in
     let back : place + 1 - 1 ≡ place = omega arith in
     let here : c.refusals.result.now ≡ (get_or accounts place new_account).refusals = c.refusals.ensures ∙ ap (λ (n : ℕ). (get_or accounts n new_account).refusals) back in

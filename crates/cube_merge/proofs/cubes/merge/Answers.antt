@@ -6,6 +6,7 @@ use Rattle.cube_merge.specs.Faults.{FailsToOpenAll}
 use Rattle.cube_merge.specs.Merging.{HasTaken}
 use Rattle.cube_merge.proofs.CubesLaws.{IsMergeOf-ends}
 use Rattle.cube_merge.proofs.FaultLaws.{FailsToMerge-inputs, FailsToMerge-open}
+use Rattle.cube_merge.proofs.LackLaws.{tells-inputs, tells-open}
 use Rattle.cube_merge.proofs.cubes.merge.Goals as goal
 
 pub returns-clause-ok : goal.returns-clause-ok
@@ -31,3 +32,16 @@ returns-in_err-inputs-clause-err g c =
     let header : c.as_slice.result.now ≡ first = c.as_slice.ensures.value ∙ c.in_ok-push_header.ensures {u = tt} ∙ ap (λ t. t ++ first) c.new-header.ensures.items in
     let p = err_from_is_err_and c.from_residual-in_err-inputs.result c.from_residual-in_err-inputs.ensures.1 in
     rw (p.1, p.2) (FailsToMerge-open g.R.Read.remaining c.args.given.now c.args.wanted.now c.args.readers.items c.in_err-inputs.field-0.0 _ _ refl (subst (λ h. FailsToOpenAll h (map g.R.Read.remaining c.args.readers.items) c.in_err-inputs.field-0.0) header c.in_err-inputs.ensures.err))
+
+pub returns-clause-lacks : goal.returns-clause-lacks
+returns-clause-lacks g c =
+    let first = line (header_fields c.args.given.now) in
+    let header : c.as_slice.result.now ≡ first = c.as_slice.ensures.value ∙ c.in_ok-push_header.ensures {u = tt} ∙ ap (λ t. t ++ first) c.new-header.ensures.items in
+    let taken = subst (λ h. AllZip (HasTaken g.R.Read.remaining h) c.args.readers.items c.in_ok-inputs.inputs.items) header c.in_ok-inputs.ensures.ok in
+    IfErr-weaker c.merge_inputs.result _ _ (λ fault fails. tells-inputs g.R.Read.remaining c.args.given.now c.args.wanted.now c.args.readers.items c.in_ok-inputs.inputs.items taken _ _ c.args.given.now.aggregates c.args.wanted.now.aggregates fault
+    (rw c.as_mut_slice.ensures.value at fails)) c.merge_inputs.ensures.err
+
+pub returns-in_err-inputs-clause-lacks : goal.returns-in_err-inputs-clause-lacks
+returns-in_err-inputs-clause-lacks g c =
+    let p = err_from_is_err_and c.from_residual-in_err-inputs.result c.from_residual-in_err-inputs.ensures.1 in
+    rw (p.1, p.2) (tells-open _ _ c.args.given.now.aggregates c.args.wanted.now.aggregates c.in_err-inputs.field-0.0 c.in_err-inputs.ensures.err)

@@ -1,13 +1,18 @@
-use Rattle.std.proofs.Common.{◌≡◌, ◌++◌, ◌∷◌, [], length, length-append, rules, subst, arith}
+use Rattle.std.proofs.Common.{◌≡◌, ◌++◌, ◌∷◌, [], length, length-append, rules, subst, sym, ◌∙◌, arith}
 use Rattle.cube_merge.specs.Joint.{place_where}
-use Rattle.cube_merge.specs.Merging.{IsNotBelow}
+use Rattle.cube_merge.specs.Merging.{IsBelow, IsNotBelow}
 use Rattle.cube_merge.proofs.JointLaws.{HaveRows-more, rows_of-more}
 use Rattle.cube_merge.proofs.LeastLaws.{AreUses-all, AreUses-push, at_place}
 use Rattle.cube_merge.proofs.step.find_used.Goals as goal
 
-pub has_key-is_used-requires : goal.has_key-is_used-requires
-has_key-is_used-requires g c =
-    subst (IsNotBelow c.args.key.now) (at_place c.args.inputs.now c.loop-place.place c.index-inputs-place.result c.loop-place-test.true c.index-inputs-place.is) (c.requires c.loop-place.place)
+pub has_key-is_used-requires-clause-least : goal.has_key-is_used-requires-clause-least
+has_key-is_used-requires-clause-least g c =
+    subst (IsNotBelow c.args.key.now) (at_place c.args.inputs.now c.loop-place.place c.index-inputs-place.result c.loop-place-test.true c.index-inputs-place.is) (c.requires.least c.loop-place.place)
+
+pub has_key-is_used-requires-clause-above : goal.has_key-is_used-requires-clause-above
+has_key-is_used-requires-clause-above g c there =
+    subst (IsBelow c.args.key.now) (at_place c.args.inputs.now c.loop-place.place c.index-inputs-place.result c.loop-place-test.true c.index-inputs-place.is)
+    (c.requires.above c.loop-place.place (sym c.is_behind.ensures ∙ there))
 
 pub loop-place-preserved : goal.loop-place-preserved
 loop-place-preserved g c =

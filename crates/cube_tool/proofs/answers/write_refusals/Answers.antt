@@ -3,7 +3,7 @@ use Rattle.std.proofs.lemmas.Result.{err_from_is_err_and}
 use Rattle.cube_core.specs.Text.{text_of_refusals}
 use Rattle.cube_engine.specs.Ledger.{LedgerView}
 use Rattle.cube_tool.proofs.AnsweringLaws.{Writes-weaker}
-use Rattle.cube_tool.proofs.RunLaws.{refused}
+use Rattle.cube_live.proofs.RefusalLaws.{refusals_of_accounts}
 use Rattle.cube_tool.proofs.answers.write_refusals.Goals as goal
 
 pub returns-in_err-text : goal.returns-in_err-text
@@ -12,5 +12,5 @@ returns-in_err-text g c = let p = err_from_is_err_and c.from_residual.result c.f
 pub returns : goal.returns
 returns g c =
     Writes-weaker c.write_text.result _ _
-    (λ text is. is ∙ c.deref.ensures.value ∙ c.in_ok-text.ensures ∙ ap (λ (l : LedgerView). text_of_refusals (refused l.accounts)) c.first_builder.ensures)
+    (λ text is. is ∙ c.deref.ensures.value ∙ c.in_ok-text.ensures ∙ ap (λ (l : LedgerView). text_of_refusals (refusals_of_accounts l.accounts)) (c.ledger.ensures ∙ c.first_builder.ensures))
     c.write_text.ensures

@@ -1,4 +1,4 @@
-use Rattle.std.proofs.Common.{◌≡◌, rules, map, length, arith, ◌≤◌}
+use Rattle.std.proofs.Common.{◌≡◌, rules, map, length, ◌≤◌}
 use Rattle.cube_core.specs.Layout.{Layout, spelling_of}
 use Rattle.cube_core.specs.PartialForm.{partial_aggregates}
 use Rattle.cube_core.proofs.PartialFormLaws.{copied-IsSchema}
@@ -14,6 +14,7 @@ invariant_of-result c =
       max_records = c.self.inside.max_records;
       grouping_sets = c.self.inside.grouping_sets.items;
       version = c.self.inside.version;
+      shard = c.self.inside.shard;
     } in
     let dimensions : c.in_ok-copy_texts.field-0.items ≡ s.dimensions = search rules in
     let measures : c.in_ok-copy_texts-2.field-0.items ≡ s.measures = search rules in

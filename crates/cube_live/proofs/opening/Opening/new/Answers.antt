@@ -1,6 +1,6 @@
 use Rattle.std.proofs.Common.{ℕ, List, [], refl, subst, sym}
-use Rattle.cube_live.specs.Live.{Counts}
-use Rattle.cube_live.proofs.OpeningLaws.{Counts-none, IsOpening-new}
+use Rattle.cube_live.specs.Live.{AreLast}
+use Rattle.cube_live.proofs.OpeningLaws.{AreLast-none, IsOpening-new}
 use Rattle.cube_live.proofs.opening.Opening.new.Goals as goal
 
 pub invariant_of-result : goal.invariant_of-result
@@ -13,6 +13,6 @@ returns-clause-stands c = record {
   schema = refl;
   feeds = refl;
   ledger = c.in_ok-new.ensures.stands;
-  numbers = subst (λ (numbers : List ℕ). Counts numbers []) (sym c.in_ok-no_numbers.ensures) Counts-none;
+  numbers = subst (λ (numbers : List ℕ). AreLast numbers []) (sym c.in_ok-no_numbers.ensures) AreLast-none;
   others = λ source above. refl;
 }

@@ -17,5 +17,5 @@ returns-in_err-serve-clause-err g c =
 pub returns-clause-ok : goal.returns-clause-ok
 returns-clause-ok g c =
     OfFeeds-served c.in_ok-live.live c.serve.new.live _ c.status_after.result _ _ c.in_ok-live.ensures.schema c.in_ok-live.ensures.ok
-    (rw (c.serve.ensures.schema, c.in_ok-live.ensures.schema) at c.builder.ensures.live) (rw c.builder.ensures.value at c.status_after.ensures)
+    (rw (c.serve.ensures.schema, c.in_ok-live.ensures.schema) at c.ledger.ensures.live) (rw c.ledger.ensures.value at c.status_after.ensures)
     (rw c.new-records.ensures at c.in_ok-serve.ensures.ok)

@@ -5,7 +5,7 @@ use Rattle.cube_tool.proofs.command.status.status_after.Goals as goal
 
 pub returns-then-not-is_empty : goal.returns-then-not-is_empty
 returns-then-not-is_empty c =
-    let accounts = c.args.builder.now.ledger.accounts in
+    let accounts = c.args.ledger.now.accounts in
     let place = c.loop-place.place in
     let back : place + 1 - 1 ≡ place = omega arith in
     let here : c.refusals.result.now ≡ (get_or accounts place new_account).refusals = c.refusals.ensures ∙ ap (λ (n : ℕ). (get_or accounts n new_account).refusals) back in
@@ -14,7 +14,7 @@ returns-then-not-is_empty c =
 
 pub loop-place-preserved : goal.loop-place-preserved
 loop-place-preserved c =
-    let accounts = c.args.builder.now.ledger.accounts in
+    let accounts = c.args.ledger.now.accounts in
     let place = c.loop-place.place in
     let back : place + 1 - 1 ≡ place = omega arith in
     let here : c.refusals.result.now ≡ (get_or accounts place new_account).refusals = c.refusals.ensures ∙ ap (λ (n : ℕ). (get_or accounts n new_account).refusals) back in

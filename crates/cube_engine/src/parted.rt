@@ -1,0 +1,368 @@
+//! The books of all sources, and the cubes of the parts of the grouping sets, which follow the books when they are asked.
+ghost use Rattle.std.specs.Prelude.{◌≡◌, ◌≤◌, ◌<◌, ◌++◌, ◌∷◌, [], List, None, Option, Some, false, true, Ok, length, map, get_or, IfOk, IfSome, OnOk, OnErr, ℕ};
+ghost use Rattle.std.specs.Bool.{OnTrue};
+ghost use Rattle.cube_core.specs.Arrival.{Arrivals};
+ghost use Rattle.cube_core.specs.GroupingSet.{sets_of_part};
+ghost use Rattle.cube_core.specs.Takes.{fits};
+ghost use Rattle.cube_core.specs.declared.fact.Fact.{Fact as TheFact};
+ghost use Rattle.cube_engine.specs.Builder.{GainsFacts, HasFacts};
+ghost use Rattle.cube_engine.specs.Ledger.{AllFit, AtSource, Enters, Exchanges, LedgerStandsAt, account_of, all_facts};
+ghost use Rattle.cube_engine.specs.Parted.{AllSettle, ArePartsWith, IsPartWith, LosesFacts, MaySettle, Notes, Settles};
+ghost use Rattle.cube_engine.specs.declared.parted.Part.{Part as ThePart};
+
+use crate::fill::{add_counted, fill};
+use crate::ledger::Ledger;
+use crate::ruling::Ruling;
+use cube_cells::Cube;
+use cube_core::{Fact, Item, Schema, Text};
+use std::alloc::{AllocError, Global};
+use std::marker::Model;
+use std::thread::{Threads, for_each_mut, map_indices};
+
+/// How many facts may wait for which no thread is started.
+const FEW: usize = 64;
+
+/// The cube of a part of the grouping sets, and whether a refused growth has spoilt it.
+#[derive(Drop)]
+pub struct Part {
+    pub cube: Cube,
+    pub is_spent: bool,
+}
+
+/// What 1 to 64 sources have sent so far: the books and the refusals of each, and the cubes of the facts in all books, each
+/// over a part of the grouping sets.
+///
+/// A change is made in the books at once; what comes to them and what is gone from them waits until [`Parted::settle`],
+/// which changes the cubes side by side.
+#[derive(Drop)]
+pub struct Parted {
+    alloc: Global,
+    ledger: Ledger,
+    parts: Vec<Part>,
+    come: Vec<Fact>,
+    gone: Vec<Fact>,
+    is_spent: bool,
+}
+
+impl Model for Parted {
+    ghost use Rattle.std.specs.Prelude.{◌≡◌, false};
+    ghost use Rattle.cube_engine.specs.Ledger.{LedgerView};
+    ghost use Rattle.cube_engine.specs.Parted.{AreBehind};
+
+    ghost Value = { LedgerView };
+
+    ghost view = { λ p. p.ledger };
+
+    ghost invariant = { λ p. p.is_spent ≡ false →
+        AreBehind p.ledger p.parts.items p.come.items p.gone.items };
+}
+
+impl Parted {
+    /// The books of a ledger, with the cubes of so many parts, 1 to 8, each made on a thread of its own. The only error is
+    /// want of memory, or of numbers to count the facts with.
+    pub fn of<T: Threads + Sync>(
+        rt: &T,
+        alloc: Global,
+        schema: &Schema,
+        parts: usize,
+        ledger: Ledger,
+    ) -> Result<Parted, AllocError>
+        requires schema { ledger.schema ≡ schema.now }
+        requires some { 1 ≤ parts }
+        requires few { parts ≤ 8 }
+        ensures { IfOk result (λ parted. parted ≡ ledger) }
+    {
+        let parts = filled_parts(rt, alloc, schema, parts, &ledger)?;
+        Ok(Parted {
+            alloc,
+            ledger,
+            parts,
+            come: Vec::new(alloc),
+            gone: Vec::new(alloc),
+            is_spent: false,
+        })
+    }
+
+    /// Takes an item of a source: a refused one is noted with its code, and any other changes the book of the source.
+    ///
+    /// The only error is want of memory; then nothing changed, and the item is given up.
+    pub fn apply(&mut self, source: u32, item: Item) -> Result<(), AllocError>
+        requires first { 1 ≤ source }
+        requires last { source ≤ length self.old.accounts }
+        ensures enters { OnOk result
+            (AtSource (Enters self.old.schema item) source self.old self.new) }
+        ensures stands { OnOk result ((arrivals : Arrivals) → LedgerStandsAt self.old arrivals →
+            LedgerStandsAt self.new (arrivals ++ (source, item) ∷ [])) }
+        ensures sources { OnOk result (length self.new.accounts ≡ length self.old.accounts) }
+        ensures schema { self.new.schema ≡ self.old.schema }
+        ensures err { OnErr result (self.new ≡ self.old) }
+    {
+        let Item { number, what } = item;
+        match self.ledger.rule(source, what)? {
+            Ruling::Refuse { code } => self.ledger.refuse(source, number, code),
+            Ruling::Put { id, fact } => self.put(source, id, fact),
+            Ruling::Take { id } => {
+                self.take(source, &id);
+                Ok(())
+            }
+        }
+    }
+
+    // Puts a fact under an id of a source, in place of the one that is there.
+    fn put(&mut self, source: u32, id: Text, fact: Fact) -> Result<(), AllocError>
+        requires first { 1 ≤ source }
+        requires last { source ≤ length self.old.accounts }
+        requires fits { fits self.old.schema fact ≡ true }
+        ensures put { OnOk result ((gone : Option TheFact) ×
+            AtSource (Exchanges id gone (Some fact)) source self.old self.new) }
+        ensures err { OnErr result (self.new ≡ self.old) }
+    {
+        let come = fact.copy(self.alloc)?;
+        match self.ledger.put(source, id, fact) {
+            Ok(gone) => {
+                let noted = note_both(&mut self.come, come, &mut self.gone, gone);
+                self.is_spent |= !noted;
+                Ok(())
+            }
+            Err(fact) => {
+                drop(fact);
+                Err(AllocError)
+            }
+        }
+    }
+
+    // Takes the fact under an id of a source out, if there is one.
+    fn take(&mut self, source: u32, id: &Text)
+        requires first { 1 ≤ source }
+        requires last { source ≤ length self.old.accounts }
+        ensures { (gone : Option TheFact) ×
+            AtSource (Exchanges id.now gone None) source self.old self.new }
+    {
+        let gone = self.ledger.take(source, id);
+        let noted = note(&mut self.gone, gone);
+        self.is_spent |= !noted;
+    }
+
+    /// How many facts wait.
+    pub fn waiting(&self) -> usize {
+        self.come.len().saturating_add(self.gone.len())
+    }
+
+    /// Has the cubes follow the books, by at most so many threads; no thread is started where few facts wait.
+    ///
+    /// The only error is want of memory, or of numbers to count the facts with. From then on the cubes are spent, and
+    /// each call answers it.
+    pub fn settle<T: Threads + Sync>(&mut self, rt: &T, threads: usize) -> Result<(), AllocError>
+        ensures { self.new ≡ self.old }
+    {
+        if self.is_spent {
+            return Err(AllocError);
+        }
+        let threads = if self.waiting() < FEW {
+            1
+        } else {
+            threads.max(1)
+        };
+        settle_parts(
+            rt,
+            threads,
+            self.parts.as_mut_slice(),
+            self.come.as_slice(),
+            self.gone.as_slice(),
+        );
+        self.come.clear();
+        self.gone.clear();
+        if is_any_spent(&self.parts) {
+            self.is_spent = true;
+            return Err(AllocError);
+        }
+        Ok(())
+    }
+
+    /// The cubes of all parts, over the facts in the books of all sources; `None` where facts wait, and where the cubes are
+    /// spent.
+    pub fn parts(&self) -> Option<&[Part]>
+        ensures parts { IfSome result (λ parts.
+            ArePartsWith self.now.schema (all_facts self.now.accounts) parts.now) }
+        ensures fit { IfSome result (λ parts. AllFit self.now.schema (all_facts self.now.accounts)) }
+    {
+        if self.is_spent || !self.come.is_empty() || !self.gone.is_empty() {
+            return None;
+        }
+        Some(self.parts.as_slice())
+    }
+
+    /// The books and the refusals of all sources.
+    pub fn ledger(&self) -> &Ledger
+        ensures { result.now ≡ self.now }
+    {
+        &self.ledger
+    }
+}
+
+// Puts a fact, where there is one, behind others, and answers whether there was memory for it.
+fn note(facts: &mut Vec<Fact>, fact: Option<Fact>) -> bool
+    ensures { OnTrue result (Notes fact facts.old.items facts.new.items) }
+{
+    match fact {
+        Some(fact) => facts.push(fact).is_ok(),
+        None => true,
+    }
+}
+
+// Puts a fact that came behind others, and one that is gone, if there is one, behind others.
+fn note_both(come: &mut Vec<Fact>, came: Fact, gone: &mut Vec<Fact>, went: Option<Fact>) -> bool
+    ensures came { OnTrue result (Notes (Some came) come.old.items come.new.items) }
+    ensures went { OnTrue result (Notes went gone.old.items gone.new.items) }
+{
+    note(come, Some(came)) && note(gone, went)
+}
+
+// Has the cubes of parts gain the facts that came and lose those that are gone, by at most so many threads.
+fn settle_parts<T: Threads + Sync>(
+    rt: &T,
+    threads: usize,
+    parts: &mut [Part],
+    come: &[Fact],
+    gone: &[Fact],
+)
+    requires threads { 1 ≤ threads }
+    requires each { (part : ℕ) (d : ThePart) → part < length parts.old →
+        MaySettle come.now gone.now (get_or parts.old part d).cube }
+    ensures number { length parts.new ≡ length parts.old }
+    ensures each { AllSettle come.now gone.now parts.old parts.new }
+{
+    for_each_mut(
+        rt,
+        parts,
+        threads,
+        &|_, part| {
+            settle_part(part, come, gone);
+        },
+    );
+}
+
+fn settle_part(part: &mut Part, come: &[Fact], gone: &[Fact])
+    requires { MaySettle come.now gone.now part.old.cube }
+    ensures { part.new.is_spent ≡ false → Settles come.now gone.now part.old.cube part.new.cube }
+{
+    part.is_spent = settle_cube(&mut part.cube, come, gone).is_err();
+}
+
+// Has a cube gain the facts that came and lose those that are gone. The only error is want of memory, or of numbers to
+// count the facts with.
+fn settle_cube(cube: &mut Cube, come: &[Fact], gone: &[Fact]) -> Result<(), AllocError>
+    requires { MaySettle come.now gone.now cube.old }
+    ensures { OnOk result (Settles come.now gone.now cube.old cube.new) }
+{
+    add_all(cube, come)?;
+    take_all(cube, gone);
+    Ok(())
+}
+
+// Adds facts, unless they couldn't be counted.
+fn add_all(cube: &mut Cube, facts: &[Fact]) -> Result<(), AllocError>
+    requires { AllFit cube.old.schema facts.now }
+    ensures { OnOk result (GainsFacts facts.now cube.old cube.new) }
+{
+    for fact in facts {
+        add_counted(cube, fact)?;
+    }
+    Ok(())
+}
+
+// Takes facts away that the cube has.
+fn take_all(cube: &mut Cube, facts: &[Fact])
+    requires fit { AllFit cube.old.schema facts.now }
+    requires has { (left : List TheFact) × HasFacts (facts.now ++ left) cube.old }
+    ensures { LosesFacts facts.now cube.old cube.new }
+{
+    for fact in facts {
+        cube.remove(fact);
+    }
+}
+
+fn is_any_spent(parts: &[Part]) -> bool
+    ensures { result ≡ false → (part : ℕ) (d : ThePart) → part < length parts.now →
+        (get_or parts.now part d).is_spent ≡ false }
+{
+    parts.iter().any(|part| part.is_spent)
+}
+
+// The cubes of so many parts, filled with the facts of all books of a ledger.
+fn filled_parts<T: Threads + Sync>(
+    rt: &T,
+    alloc: Global,
+    schema: &Schema,
+    parts: usize,
+    ledger: &Ledger,
+) -> Result<Vec<Part>, AllocError>
+    requires schema { ledger.now.schema ≡ schema.now }
+    requires fit { AllFit schema.now (all_facts ledger.now.accounts) }
+    requires some { 1 ≤ parts }
+    requires few { parts ≤ 8 }
+    ensures { IfOk result (λ filled.
+        ArePartsWith schema.now (all_facts ledger.now.accounts) filled.items) }
+{
+    let made = made_parts(rt, alloc, schema, parts, ledger)?;
+    all_made(alloc, made)
+}
+
+// The same, each made on a thread of its own.
+fn made_parts<T: Threads + Sync>(
+    rt: &T,
+    alloc: Global,
+    schema: &Schema,
+    parts: usize,
+    ledger: &Ledger,
+) -> Result<Vec<Result<Part, AllocError>>, AllocError>
+    requires schema { ledger.now.schema ≡ schema.now }
+    requires fit { AllFit schema.now (all_facts ledger.now.accounts) }
+    requires few { parts ≤ 8 }
+    ensures long { IfOk result (λ made. length made.items ≡ parts) }
+    ensures each { IfOk result (λ made. (part : ℕ) (unused : _) → part < parts →
+        IfOk (get_or made.items part unused) (λ filled.
+        IsPartWith schema.now (all_facts ledger.now.accounts) parts part filled.cube)) }
+{
+    map_indices(
+        rt,
+        alloc,
+        parts,
+        &|part| { filled_part(alloc, schema, part as u32, parts as u32, ledger) },
+    )
+}
+
+// The parts, if each of them was made.
+fn all_made(alloc: Global, made: Vec<Result<Part, AllocError>>) -> Result<Vec<Part>, AllocError>
+    ensures { IfOk result (λ parts. map Ok parts.items ≡ made.items) }
+{
+    let mut parts = Vec::with_capacity(alloc, made.len())?;
+    for part in made {
+        parts.push(part?)?;
+    }
+    Ok(parts)
+}
+
+// The cube of a part, of so many, filled with the facts of all books of a ledger.
+fn filled_part(
+    alloc: Global,
+    schema: &Schema,
+    part: u32,
+    parts: u32,
+    ledger: &Ledger,
+) -> Result<Part, AllocError>
+    requires schema { ledger.now.schema ≡ schema.now }
+    requires fit { AllFit schema.now (all_facts ledger.now.accounts) }
+    requires parts { parts ≤ 8 }
+    requires part { part < parts }
+    ensures { IfOk result (λ filled. IsPartWith schema.now (all_facts ledger.now.accounts) parts part filled.cube) }
+{
+    let mut cube = Cube::new_part(alloc, schema, part, parts)?;
+    let mut finest = cube.finest()?;
+    fill(&mut finest, ledger)?;
+    cube.fill(finest)?;
+    Ok(Part {
+        cube,
+        is_spent: false,
+    })
+}

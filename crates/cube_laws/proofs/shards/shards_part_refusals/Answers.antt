@@ -1,0 +1,5 @@
+use Rattle.cube_laws.proofs.ShardLaws.{refusals_of-part}
+use Rattle.cube_laws.proofs.shards.shards_part_refusals.Goals as goal
+
+pub returns : goal.returns
+returns c = refusals_of-part

@@ -1,0 +1,56 @@
+//! Shards part a feed, and their printed cubes add up.
+ghost use Rattle.std.specs.Prelude.{◌≡◌, ◌≤◌, ℕ, List, filter};
+ghost use Rattle.std.specs.List.{AllZip};
+ghost use Rattle.cube_core.specs.Items.{items_of};
+ghost use Rattle.cube_core.specs.Layout.{IsSchema, Layout};
+ghost use Rattle.cube_core.specs.PartialForm.{partial_form};
+ghost use Rattle.cube_core.specs.Refusals.{refusals_of};
+ghost use Rattle.cube_core.specs.Shard.{whole_feed};
+ghost use Rattle.cube_core.specs.Sources.{IsPrintedOf};
+ghost use Rattle.cube_core.specs.Surviving.{AreSurviving};
+ghost use Rattle.cube_laws.specs.Merging.{IsMergedText, joined};
+ghost use Rattle.cube_laws.specs.Shards.{has_record, of_shard, places};
+ghost use Rattle.cube_laws.specs.Told.{AreFewSources};
+ghost use Rattle.cube_core.specs.declared.fact.Fact.{Fact};
+
+/// The items of a shard are those items of the feed whose records are in the shard, in their order and with their numbers,
+/// and the feed ends alike (this project's choice).
+pub fn shards_part_items()
+    ensures items { (s : Layout) (count place : ℕ) (records : List (List (List ℕ))) → s.shard ≡ whole_feed →
+        (items_of (of_shard count s place) records).items
+        ≡ filter (λ item. has_record (of_shard count s place) records item.number) (items_of s records).items }
+    ensures ends { (s : Layout) (count place : ℕ) (records : List (List (List ℕ))) →
+        (items_of (of_shard count s place) records).end ≡ (items_of s records).end }
+{}
+
+/// The refusals of a shard are those refusals of the feed whose records are in the shard, in their order, with their
+/// numbers and codes: so each refusal of the feed is one of exactly one shard (this project's choice).
+pub fn shards_part_refusals()
+    ensures { (s : Layout) (count place : ℕ) (records : List (List (List ℕ))) → s.shard ≡ whole_feed →
+        refusals_of (of_shard count s place) (items_of (of_shard count s place) records).items
+        ≡ filter (λ refusal. has_record (of_shard count s place) records refusal.number)
+        (refusals_of s (items_of s records).items) }
+{}
+
+/// The facts that survive a feed are those that survive its shards, together (this project's choice: the changes that
+/// name an id are of one shard).
+pub fn shards_part_survivors()
+    ensures { (s : Layout) (count : ℕ) (records : List (List (List ℕ))) (parts : List (List Fact)) →
+        s.shard ≡ whole_feed → 1 ≤ count →
+        AllZip (λ place facts. AreSurviving (of_shard count s place) (items_of (of_shard count s place) records).items facts)
+        (places count) parts →
+        AreSurviving s (items_of s records).items (joined parts) }
+{}
+
+/// The text of the merged rows of the printed partial cubes of all shards of feeds is the printed cube of the feeds, and so
+/// under the partial form itself (this project's choice).
+pub fn shards_of_sources_add_up()
+    ensures whole { (s : Layout) (count : ℕ) (sources texts : List (List ℕ)) (text : List ℕ) →
+        IsSchema s → s.shard ≡ whole_feed → 1 ≤ count → count ≤ 65536 → AreFewSources sources →
+        AllZip (λ place part. IsPrintedOf (partial_form (of_shard count s place)) sources part) (places count) texts →
+        IsMergedText (partial_form s) s texts text → IsPrintedOf s sources text }
+    ensures partial { (s : Layout) (count : ℕ) (sources texts : List (List ℕ)) (text : List ℕ) →
+        IsSchema s → s.shard ≡ whole_feed → 1 ≤ count → count ≤ 65536 → AreFewSources sources →
+        AllZip (λ place part. IsPrintedOf (partial_form (of_shard count s place)) sources part) (places count) texts →
+        IsMergedText (partial_form s) (partial_form s) texts text → IsPrintedOf (partial_form s) sources text }
+{}

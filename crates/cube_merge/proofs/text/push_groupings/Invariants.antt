@@ -1,7 +1,0 @@
-use Rattle.std.proofs.Common.{◌≡◌, ◌++◌, map, take}
-use Rattle.cube_merge.specs.Parts.{parts}
-use Rattle.cube_core.specs.Text.{grouping_text}
-use Rattle.cube_merge.proofs.text.push_groupings.Given as goal
-
-abbrev pub invariant-loop-coord : goal.invariant-loop-coord
-invariant-loop-coord l = l.text.items ≡ l.initial.text.items ++ parts (map grouping_text (take l.coord-index l.coords))

@@ -1,0 +1,21 @@
+use Rattle.std.proofs.Common.{◌≡◌, ◌<◌, ◌^◌, ◌∙◌, arith}
+use Rattle.sqlite_trees.proofs.Doubt.{clean_of}
+use Rattle.cube_store.proofs.FileLaws as laws
+use Rattle.cube_store.proofs.files.make_tables.Goals as goal
+
+pub returns-in-Ok-clause-made : goal.returns-in-Ok-clause-made
+returns-in-Ok-clause-made g c = λ clean.
+    let first : 0 < 2 ^ 32 = omega arith in
+    let second : 1 < 2 ^ 32 = omega arith in
+    let e = c.in-Ok.ensures in
+    record {
+      is_open = e.ready.is_open clean;
+      tables = laws.store_tables c.in-Ok.store (e.schema ∙ c.requires.schema) e.ready.unaltered;
+      none = (e.empty (clean_of _ clean) 0 first, e.empty (clean_of _ clean) 1 second);
+    }
+
+pub returns-in-Ok-clause-honest : goal.returns-in-Ok-clause-honest
+returns-in-Ok-clause-honest g c = λ clean. c.in-Ok.ensures.honest (clean_of _ clean)
+
+pub returns-in-Err-clause-falls : goal.returns-in-Err-clause-falls
+returns-in-Err-clause-falls g c = λ clean. c.in-Err.ensures.falls (laws.left_is_clean c.in-Err.left c.close.result.log c.close.result.db c.close.ensures clean)

@@ -1,0 +1,58 @@
+-- The code of each fault of a store.
+use Rattle.std.specs.Prelude.{⊤}
+use Rattle.sqlite_trees.specs.declared.error.StoreError.{StoreError}
+use Rattle.sqlite_trees.specs.declared.error.StoreError.TheVariants as cause
+use Rattle.sqlite_store.specs.declared.error.OpenError.{OpenError}
+use Rattle.sqlite_store.specs.declared.error.OpenError.TheVariants as refusal
+use Rattle.sqlite_wal.specs.declared.error.Error.{Error}
+use Rattle.sqlite_wal.specs.declared.error.Error.TheVariants as log
+use Rattle.cube_journal.specs.declared.fault.OpenFault.{OpenFault}
+use Rattle.cube_journal.specs.declared.fault.OpenFault.TheVariants as kind
+use Rattle.cube_store.specs.declared.fault.StoreFault.{StoreFault}
+use Rattle.cube_store.specs.declared.fault.StoreFault.TheVariants.{InUse, CantOpen, NotAStore, Row, Feed, Failed, NoRoom, Memory}
+
+-- What a failed call on an open store is told as (this project's choice).
+abbrev pub code_of : StoreError → StoreFault
+code_of cause.OutOfMemory = Memory
+code_of cause.Io = Failed
+code_of cause.Corrupt = Failed
+code_of cause.Full = NoRoom
+code_of cause.Broken = Failed
+code_of cause.Unstorable = NoRoom
+
+-- What a refused store is told as (this project's choice).
+abbrev pub open_code_of : OpenFault → StoreFault
+open_code_of (kind.Store error) = code_of error
+open_code_of kind.NoTables = NotAStore
+open_code_of kind.NotEmpty = NotAStore
+open_code_of (kind.Feed source) = Feed source
+open_code_of (kind.Row number) = Row number
+open_code_of kind.TooMany = NotAStore
+
+-- What refused files are told as (this project's choice).
+abbrev pub file_code_of : OpenError → StoreFault
+file_code_of refusal.OutOfMemory = Memory
+file_code_of refusal.Io = Failed
+file_code_of refusal.Full = NoRoom
+file_code_of refusal.Refused = NotAStore
+
+-- What a failed look at the files is told as (this project's choice).
+abbrev pub look_code_of : Error → StoreFault
+look_code_of (log.Io error) = Failed
+look_code_of log.OutOfMemory = Memory
+look_code_of log.Full = NoRoom
+look_code_of log.Closed = NotAStore
+look_code_of log.NoSuchPage = NotAStore
+look_code_of log.Corrupt = NotAStore
+look_code_of log.Exists = NotAStore
+
+-- A call failed, and nothing was refused for what the files hold (this project's choice).
+abbrev pub IsFailedCall : StoreFault → Type 0
+IsFailedCall InUse = ⊥
+IsFailedCall CantOpen = ⊥
+IsFailedCall NotAStore = ⊥
+IsFailedCall (Row number) = ⊥
+IsFailedCall (Feed source) = ⊥
+IsFailedCall Failed = ⊤
+IsFailedCall NoRoom = ⊤
+IsFailedCall Memory = ⊤

@@ -1,0 +1,48 @@
+-- What a journal of changes keeps from some first moment on, and what a crash may leave of it.
+use Rattle.std.specs.Prelude.{◌≡◌, ◌≤◌, ℕ, List, ◌++◌, length, take, IsTrue}
+use Rattle.std.specs.Coded.{Coded, code_by, coded×, coded_ℕ}
+use Rattle.std.specs.Prelude.{refl}
+use Rattle.sqlite_trees.specs.Tree.{Trees}
+use Rattle.sqlite_trees.specs.View.{View, IsClean}
+use Rattle.cube_journal.specs.Rows.{Entry}
+use Rattle.cube_journal.specs.State.{held_in, stored_in, noted_in, Holds}
+
+-- a store with the number of the changes that wait for a commit
+pub record Batch (S : Type 0) : Type 0 where
+  pub store : S
+  pub waiting : ℕ
+
+-- a journal as a pair
+abbrev pub batch_code : {S : Type 0} → Coded S → Coded (Batch S)
+batch_code {S} store = code_by (S × ℕ) (coded× store coded_ℕ) (λ batch. (batch.store, batch.waiting)) (λ parts. record { store = parts.0; waiting = parts.1 }) (λ _. refl)
+
+-- a crash leaves the changes that were stored first and a first part of these after them, so many at least, byte for byte and in their order
+pub record LeavesPart (first : View) (changes : List Entry) (sure : ℕ) (db : Trees) : Type 0 where
+  pub count : ℕ
+  pub at_least : sure ≤ count
+  pub at_most : count ≤ length changes
+  pub holds : Holds db (stored_in first ++ take count changes) (noted_in first)
+
+module _ {S : Type 0} (view : S → View) (recovers : S → Trees → Type 0) where
+  -- an honest disk has these changes after those that were stored first, so many of them for certain
+  pub record Stands (first : View) (now : Batch S) (changes : List Entry) (sure : ℕ) : Type 0 where
+    pub is_open : IsTrue (view now.store).is_open
+    pub held : held_in (view now.store) ≡ stored_in first ++ changes
+    pub noted : noted_in (view now.store) ≡ noted_in first
+    pub leaves : (db : Trees) → recovers now.store db → LeavesPart first changes sure db
+    pub settled : now.waiting ≡ 0 → (db : Trees) → recovers now.store db → LeavesPart first changes (length changes) db
+
+  -- a journal was told of these changes from some first moment on, and has made sure of so many
+  pub record HasKept (first now : Batch S) (changes : List Entry) (sure : ℕ) : Type 0 where
+    pub was_clean : IsClean (view now.store) → IsClean (view first.store)
+    pub within : sure ≤ length changes
+    pub stands : IsClean (view now.store) → Stands (view first.store) now changes sure
+
+  -- the same, but a call failed since: a crash leaves a first part of these changes, so many at least
+  pub record HasBroken (first now : Batch S) (changes : List Entry) (sure : ℕ) : Type 0 where
+    pub was_clean : IsClean (view now.store) → IsClean (view first.store)
+    pub leaves : IsClean (view now.store) → (db : Trees) → recovers now.store db → LeavesPart (view first.store) changes sure db
+
+  -- a journal that kept so much from some first moment on goes on to keep this
+  abbrev pub KeepsOn : (Batch S → Batch S → List Entry → ℕ → Type 0) → Batch S → Batch S → (List Entry → List Entry) → (List Entry → ℕ → ℕ) → Type 0
+  KeepsOn after old new told sure = (first : Batch S) → (changes : List Entry) → (so_many : ℕ) → HasKept first old changes so_many → after first new (told changes) (sure changes so_many)

@@ -1,0 +1,116 @@
+//! A journal that commits by itself where many changes wait.
+ghost use Rattle.std.specs.Prelude.{◌≡◌, ◌<◌, ◌++◌, ◌∷◌, [], length, IsTrue, OnOk, OnErr};
+ghost use Rattle.sqlite_trees.specs.View.{IsClean};
+ghost use Rattle.cube_journal.specs.State.{held_in, stored_in};
+ghost use Rattle.cube_store.specs.Keeping.{HasBroken, HasKept, KeepsOn};
+
+use cube_journal::ChangeJournal;
+use sqlite_trees::error::StoreError;
+use sqlite_trees::store::Store;
+use std::marker::Model;
+
+/// So many changes wait for a commit at most.
+const MAX_WAITING: u64 = 10_000;
+
+/// A journal of changes that commits by itself where 10,000 wait, so that memory and a commit's time have a bound.
+pub struct BatchJournal<S: Store> {
+    journal: ChangeJournal<S>,
+    waiting: u64,
+}
+
+impl<S: Store> Model for BatchJournal<S> {
+    ghost use Rattle.std.specs.Prelude.{◌≤◌};
+    ghost use Rattle.cube_store.specs.Keeping.{Batch, batch_code};
+
+    ghost Value = { Batch S };
+
+    ghost coded = { batch_code S.code };
+
+    ghost view = { λ j. record { store = j.journal.store; waiting = j.waiting } };
+
+    ghost invariant = { λ j. j.waiting ≤ 10000 };
+}
+
+// By hand, so that no caller proves again how a store's parts are let go.
+impl<S: Store + Drop> Drop for BatchJournal<S> {
+    fn drop(self) {
+        let BatchJournal {
+            journal: _journal,
+            waiting: _,
+        } = self;
+    }
+}
+
+impl<S: Store> BatchJournal<S> {
+    /// Goes on with a journal in which nothing waits for a commit.
+    pub fn new(journal: ChangeJournal<S>) -> BatchJournal<S>
+        ensures store { result.store ≡ journal.store }
+        ensures kept { (IsClean (S.Store.view journal.store) → IsTrue (S.Store.view journal.store).is_open × (held_in (S.Store.view journal.store) ≡ stored_in (S.Store.view journal.store)))
+            → HasKept S.Store.view S.Store.recovers result result [] 0 }
+    {
+        let _settled = journal.store();
+        BatchJournal {
+            journal,
+            waiting: 0,
+        }
+    }
+
+    /// Takes a change of a source, 1 to 64, and the bytes of its record, behind the others. No more is certain than before.
+    ///
+    /// After an error nothing more is to be taken: a crash, and the next opening, find a first part of the changes, and of
+    /// these all that were certain.
+    pub fn append(&mut self, source: u32, content: &[u8]) -> Result<(), StoreError>
+        ensures kept { OnOk result (KeepsOn S.Store.view S.Store.recovers (HasKept S.Store.view S.Store.recovers) self.old self.new
+            (λ changes. changes ++ (source, content.now) ∷ []) (λ _ sure. sure)) }
+        ensures broken { OnErr result (KeepsOn S.Store.view S.Store.recovers (HasBroken S.Store.view S.Store.recovers) self.old self.new
+            (λ changes. changes ++ (source, content.now) ∷ []) (λ _ sure. sure)) }
+    {
+        self.make_room()?;
+        self.journal.append(source, content)?;
+        self.waiting += 1;
+        Ok(())
+    }
+
+    // Makes all changes certain where as many wait as may.
+    fn make_room(&mut self) -> Result<(), StoreError>
+        ensures kept { OnOk result (KeepsOn S.Store.view S.Store.recovers (HasKept S.Store.view S.Store.recovers) self.old self.new
+            (λ changes. changes) (λ _ sure. sure)) }
+        ensures broken { OnErr result (KeepsOn S.Store.view S.Store.recovers (HasBroken S.Store.view S.Store.recovers) self.old self.new
+            (λ changes. changes) (λ _ sure. sure)) }
+        ensures room { OnOk result (self.new.waiting < 10000) }
+    {
+        if self.waiting < MAX_WAITING {
+            return Ok(());
+        }
+        self.settle()
+    }
+
+    /// Makes all changes certain: each crash from now on leaves them.
+    ///
+    /// After an error nothing more is to be taken, as after one of `append`.
+    pub fn settle(&mut self) -> Result<(), StoreError>
+        ensures kept { OnOk result (KeepsOn S.Store.view S.Store.recovers (HasKept S.Store.view S.Store.recovers) self.old self.new
+            (λ changes. changes) (λ changes _. length changes)) }
+        ensures broken { OnErr result (KeepsOn S.Store.view S.Store.recovers (HasBroken S.Store.view S.Store.recovers) self.old self.new
+            (λ changes. changes) (λ _ sure. sure)) }
+        ensures none { OnOk result (self.new.waiting ≡ 0) }
+    {
+        if self.waiting == 0 {
+            return Ok(());
+        }
+        self.journal.commit()?;
+        self.waiting = 0;
+        Ok(())
+    }
+
+    /// Gives the journal back. What waits for a commit is lost with it.
+    pub fn into_journal(self) -> ChangeJournal<S>
+        ensures { result.store ≡ self.store }
+    {
+        let BatchJournal {
+            journal,
+            waiting: _,
+        } = self;
+        journal
+    }
+}

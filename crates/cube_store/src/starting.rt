@@ -1,0 +1,67 @@
+//! A journal over a store's files.
+ghost use Rattle.std.specs.Prelude.{◌≡◌, ◌⊎◌, IsTrue, IfOk, IfErr};
+ghost use Rattle.sqlite_wal.specs.Recovery.{Image};
+ghost use Rattle.sqlite_trees.specs.Tree.{Trees};
+ghost use Rattle.sqlite_trees.specs.View.{View, IsClean};
+ghost use Rattle.sqlite_store.specs.FileStore.{state, view, recovers};
+ghost use Rattle.cube_journal.specs.Rows.{entries_of};
+ghost use Rattle.cube_journal.specs.State.{stored_in, IsStore, IsUnmade, TakesAll, Starts};
+ghost use Rattle.cube_journal.specs.Making.{LeavesNotes};
+ghost use Rattle.cube_store.specs.Codes.{IsFailedCall};
+ghost use Rattle.cube_store.specs.Found.{StoreIn, IsFound};
+
+use crate::fault::StoreFault;
+use crate::files::page_size;
+use crate::tables::schema;
+use cube_journal::{ChangeJournal, ChangeSink, FeedNote, open_or_make};
+use sqlite_disk::Disk;
+use sqlite_store::FileStore;
+use std::alloc::{AllocError, Global};
+
+/// Starts on an open store: notes what the feeds are where it has no row; else it must have these notes, and its changes
+/// are handed over in their order.
+///
+/// A store of changes and of these notes, or one without a row, is refused only where a call fails. An error gives the store
+/// back.
+pub fn start<D: Disk, K: ChangeSink>(
+    alloc: Global,
+    store: FileStore<D>,
+    notes: &[FeedNote],
+    sink: &mut K,
+) -> Result<ChangeJournal<FileStore<D>>, (StoreFault, FileStore<D>)>
+    ensures found { IfOk result (λ j. IsClean (view j.store) → Starts (entries_of notes.now) (view store) (view j.store)) }
+    ensures taken { IfOk result (λ j. IsClean (view j.store) → TakesAll K.ChangeSink.takes sink.old (stored_in (view j.store)) sink.new) }
+    ensures crash { IfOk result (λ j. (db : Trees) → recovers j.store db → LeavesNotes (view store) (entries_of notes.now) db ⊎ recovers store db) }
+    ensures unharmed { IfErr result (λ e. (db : Trees) → recovers e.1 db → LeavesNotes (view store) (entries_of notes.now) db ⊎ recovers store db) }
+    ensures accepts { IfErr result (λ e. IsClean (view e.1) → IsStore (view store) (entries_of notes.now) ⊎ IsUnmade (view store) → IsFailedCall e.0) }
+{
+    match open_or_make(alloc, store, notes, sink) {
+        Ok(journal) => Ok(journal),
+        Err((fault, store)) => Err((StoreFault::from(fault), store)),
+    }
+}
+
+/// Whether the store still has the pages and the two tables that `open_files` opens, which nothing here changes. Then each
+/// image that a crash at this moment may leave is a store's, and what the next opening finds is what the store says that a
+/// crash may leave: while no fault has shut it, what the last commit has.
+pub fn next_open<D: Disk>(journal: &ChangeJournal<FileStore<D>>) -> Result<bool, AllocError>
+    ensures accepts { IfOk result (λ same. IsTrue same → (left : Image) → (state journal.now.store).may_leave left → ∥ StoreIn left ∥₁) }
+    ensures found { IfOk result (λ same. IsTrue same → (left : Image) → (state journal.now.store).may_leave left → (v : View) → IsFound left v
+        → ((db : Trees) × recovers journal.now.store db × (v.committed 0 ≡ db 0) × (v.committed 1 ≡ db 1))) }
+{
+    match journal.store().is_over(page_size(), &schema()) {
+        Ok(same) => Ok(same),
+        Err(error) => Err(error),
+    }
+}
+
+/// Copies the log into the file, so that one file is left, and closes both. What isn't committed is lost.
+pub fn close<D: Disk + Drop>(journal: ChangeJournal<FileStore<D>>) -> Result<(), StoreFault> {
+    let mut store = journal.into_store();
+    let done = store.checkpoint();
+    drop(store.close());
+    match done {
+        Ok(()) => Ok(()),
+        Err(error) => Err(StoreFault::from(error)),
+    }
+}

@@ -1,8 +1,0 @@
-use Rattle.std.proofs.Common.{take}
-use Rattle.std.specs.List.{flat_map}
-use Rattle.cube_core.specs.Text.{refusal_line}
-use Rattle.cube_text.specs.Lines.{AddsText}
-use Rattle.cube_tool.proofs.refusals.put_refusals.Given as goal
-
-abbrev pub invariant-loop-refusal : goal.invariant-loop-refusal
-invariant-loop-refusal l = AddsText (flat_map (refusal_line l.source) (take l.refusal-index l.refusals)) l.initial.lines l.lines
