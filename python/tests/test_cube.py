@@ -66,6 +66,34 @@ class Shop(unittest.TestCase):
     def test_rollup(self):
         self.assertEqual(rows_of(datacube.rollup(SCHEMA, FEEDS, {"city": "York"}, "city"))[0][0], (ALL, ALL, ALL))
 
+    def test_shards_add_up(self):
+        shards = [datacube.cube(SCHEMA, FEEDS, shard=(at, 3), partial=True) for at in (1, 2, 3)]
+        self.assertEqual(datacube.merge(SCHEMA, shards).text, read("cube"))
+        refused = [it for at in (1, 2, 3) for it in datacube.refusals(SCHEMA, FEEDS, shard=(at, 3))]
+        self.assertEqual(sorted(refused), datacube.refusals(SCHEMA, FEEDS))
+        nested = datacube.merge(SCHEMA, shards[:2], partial=True)
+        self.assertEqual(datacube.merge(SCHEMA, [nested, shards[2]]).text, read("cube"))
+        total = lambda shard: [
+            datacube.slice(SCHEMA, FEEDS, {}, shard=shard)[0]["count(*)"],
+            sum(row["count(*)"] for row in datacube.drill(SCHEMA, FEEDS, {}, "city", shard=shard)),
+            datacube.rollup(SCHEMA, FEEDS, {}, "city", shard=shard)[0]["count(*)"],
+        ]
+        self.assertEqual([one + two for one, two in zip(total((1, 2)), total((2, 2)))], [7] * 3)
+        with self.assertRaises(datacube.Failure) as caught:
+            datacube.cube(SCHEMA, FEEDS, shard=(4, 3))
+        self.assertEqual(caught.exception.status, 2)
+
+    def test_merging_files(self):
+        with tempfile.TemporaryDirectory() as room:
+            parts = [f"{room}/{at}.csv" for at in range(len(FEEDS))]
+            for feed, part in zip(FEEDS, parts):
+                datacube.cube(SCHEMA, feed, partial=True).to_csv(part)
+            merged = datacube.merge(SCHEMA, parts)
+            self.assertEqual((merged.text, merged.refused), (read("cube"), None))
+            with self.assertRaises(datacube.Failure) as caught:
+                datacube.merge(SCHEMA, [parts[0], parts[0]])
+            self.assertEqual((caught.exception.code, caught.exception.status), ("M2", 2))
+
     def test_to_csv_writes_the_bytes(self):
         cube = datacube.cube(SCHEMA, FEEDS[0])
         with tempfile.TemporaryDirectory() as folder:
@@ -133,6 +161,13 @@ class Generated(unittest.TestCase):
             self.assertEqual(list(cube.aggregates), schema.aggregate_texts())
             for row in cube:
                 self.assertIs(cube.at(row.key), row)
+
+    def test_shards(self):
+        for rng, schema, paths, run in self.each(30):
+            like, count = beside.schema_like(schema), rng.choice([1, 2, 5])
+            parts = [datacube.cube(like, paths, shard=(at, count), partial=True) for at in range(1, count + 1)]
+            self.assertEqual(datacube.merge(like, parts).text.encode(), run.print())
+            self.assertEqual(any(it.refused for it in parts), bool(run.refused))
 
     def test_slices(self):
         for rng, schema, paths, run in self.each(60):

@@ -198,6 +198,17 @@ class Ends(unittest.TestCase):
         with self.assertRaises(datacube.Ended):
             live.cube()
 
+    def test_shards(self):
+        """A change goes to the sessions of all shards, and counts in one."""
+        with Live(PLAIN, shard=(1, 2)) as one, Live(PLAIN, shard=(2, 2)) as two:
+            for live in (one, two):
+                for at in range(50):
+                    live.insert(1, f"id {at}", ["west", "tea"], [at])
+                live.delete(1, "nobody")
+            counts = [live.slice({})[0]["count(*)"] for live in (one, two)]
+            self.assertEqual((sum(counts), min(counts) > 0), (50, True))
+            self.assertEqual(len(one.refusals() + two.refusals()), 1)
+
     def test_faults_of_feeds_are_told_at_once(self):
         for feeds, line, status in ((["none.csv"], "feed 1 unreadable", 1), ([__file__], "G3 1 F3", 1), ([os.devnull] * 65, "too many feeds", 2)):
             with self.assertRaises(datacube.Ended) as caught:

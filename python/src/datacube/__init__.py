@@ -8,7 +8,7 @@
 
 The program `datacube` does the work: it is in this package's wheel, and `DATACUBE` in the environment names another.
 """
-from ._ask import cube, drill, refusals, rollup, slice
+from ._ask import cube, drill, merge, refusals, rollup, slice
 from ._cells import ALL, ANY, KEEP, Cell, Coordinate, Pattern
 from ._cube import Answer, Cube, Refusal, Row
 from ._errors import DatacubeError, Ended, Failure, ProgramNotFound, Unreadable, Unsayable
@@ -18,6 +18,6 @@ from ._schema import Schema
 
 __all__ = [
     "ALL", "ANY", "KEEP", "Answer", "Cell", "Coordinate", "Cube", "DatacubeError", "Ended", "Failure", "Live", "Pattern",
-    "ProgramNotFound", "Refusal", "Row", "Schema", "Unreadable", "Unsayable", "cube", "drill", "explain", "program",
+    "ProgramNotFound", "Refusal", "Row", "Schema", "Unreadable", "Unsayable", "cube", "drill", "explain", "merge", "program",
     "refusals", "rollup", "slice",
 ]

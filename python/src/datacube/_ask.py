@@ -1,7 +1,9 @@
-"""Questions over feeds: each is one run of the program."""
+"""Questions over feeds, and the merging of cubes: each is one run of the program."""
 from __future__ import annotations
 
-from typing import List, Optional, Sequence, Tuple, Union
+import os
+import tempfile
+from typing import Iterable, List, Optional, Sequence, Tuple, Union
 
 from ._cells import Cell, Pattern, fields_of, word_of
 from ._cube import Cube, Refusal, refusals_of
@@ -9,44 +11,77 @@ from ._program import Path, Paths, Word, paths_of, run, words_of
 from ._schema import Schema, schema_of
 
 Given = Union[Schema, Path]
+Shard = Tuple[int, int]
 
 
-def cube(schema: Given, feeds: Paths, *, threads: Optional[int] = None) -> Cube:
-    """The whole cube of 1 to 64 feeds."""
-    return asked("print", schema, feeds, [], threads)
+def cube(
+    schema: Given, feeds: Paths, *, threads: Optional[int] = None, shard: Optional[Shard] = None, partial: bool = False
+) -> Cube:
+    """The whole cube of 1 to 64 feeds, or of one shard of them: the J-th of N, as (J, N). With `partial` each mean has its
+    sum and count beside it, so that `merge` makes one cube of several."""
+    return asked("print", schema, feeds, [], options_of(threads, shard) + ["--partial"] * partial)
 
 
-def slice(schema: Given, feeds: Paths, pattern: Pattern, *, threads: Optional[int] = None) -> Cube:
+def slice(
+    schema: Given, feeds: Paths, pattern: Pattern, *, threads: Optional[int] = None, shard: Optional[Shard] = None
+) -> Cube:
     """The rows that a pattern matches. A dimension that a mapping doesn't name is ALL: `{"city": ANY}` are the totals of
     each city, and of all."""
     schema = schema_of(schema)
-    return asked("slice", schema, feeds, [word_of(fields_of(schema.dimensions, pattern))], threads)
+    return asked("slice", schema, feeds, [word_of(fields_of(schema.dimensions, pattern))], options_of(threads, shard))
 
 
-def drill(schema: Given, feeds: Paths, cell: Cell, dimension: str, *, threads: Optional[int] = None) -> Cube:
+def drill(
+    schema: Given, feeds: Paths, cell: Cell, dimension: str, *, threads: Optional[int] = None, shard: Optional[Shard] = None
+) -> Cube:
     """The rows one step below a cell: those with each value of a dimension that is ALL in it."""
     schema = schema_of(schema)
-    return asked("drill", schema, feeds, [word_of(fields_of(schema.dimensions, cell)), dimension.encode("utf-8")], threads)
+    words = [word_of(fields_of(schema.dimensions, cell)), dimension.encode("utf-8")]
+    return asked("drill", schema, feeds, words, options_of(threads, shard))
 
 
-def rollup(schema: Given, feeds: Paths, cell: Cell, dimension: str, *, threads: Optional[int] = None) -> Cube:
+def rollup(
+    schema: Given, feeds: Paths, cell: Cell, dimension: str, *, threads: Optional[int] = None, shard: Optional[Shard] = None
+) -> Cube:
     """The row one step above a cell: the one with ALL at a dimension, or none where that is no cell of the cube."""
     schema = schema_of(schema)
-    return asked("rollup", schema, feeds, [word_of(fields_of(schema.dimensions, cell)), dimension.encode("utf-8")], threads)
+    words = [word_of(fields_of(schema.dimensions, cell)), dimension.encode("utf-8")]
+    return asked("rollup", schema, feeds, words, options_of(threads, shard))
 
 
-def refusals(schema: Given, feeds: Paths) -> List[Refusal]:
-    """The refused lines of feeds."""
-    return refusals_of(answer("refusals", schema, feeds, [], None)[1])
+def refusals(schema: Given, feeds: Paths, *, shard: Optional[Shard] = None) -> List[Refusal]:
+    """The refused lines of feeds, or of one shard of them."""
+    return refusals_of(answer("refusals", schema, feeds, [], options_of(None, shard))[1])
 
 
-def asked(command: str, schema: Given, feeds: Paths, words: Sequence[Word], threads: Optional[int]) -> Cube:
-    status, text = answer(command, schema, feeds, words, threads)
+def merge(schema: Given, cubes: Iterable[Union[Cube, Path]], *, partial: bool = False) -> Cube:
+    """The cube of all the facts of 1 to 64 cubes, each of other facts: partial ones that `cube` or `merge` gave, or the paths
+    of files with such. With `partial` it is partial again, so that merges nest."""
+    with schema_of(schema).file() as path, tempfile.TemporaryDirectory(prefix="datacube-") as folder:
+        paths = [written(it, os.path.join(folder, f"{at}.csv")) for at, it in enumerate(cubes)]
+        return Cube(run(words_of("merge", ["--partial"] * partial, [path, *paths]))[1])
+
+
+def written(cube: Union[Cube, Path], path: str) -> str:
+    """The path of a cube, which is written to this one where it has none."""
+    if not isinstance(cube, Cube):
+        return os.fspath(cube)
+    cube.to_csv(path)
+    return path
+
+
+def options_of(threads: Optional[int], shard: Optional[Shard]) -> List[str]:
+    """The options of a command with feeds."""
+    options = [] if threads is None else ["--threads", str(threads)]
+    return options if shard is None else [*options, "--shard", f"{shard[0]}/{shard[1]}"]
+
+
+def asked(command: str, schema: Given, feeds: Paths, words: Sequence[Word], options: Sequence[str]) -> Cube:
+    status, text = answer(command, schema, feeds, words, options)
     return Cube(text, status == 4)
 
 
-def answer(command: str, schema: Given, feeds: Paths, words: Sequence[Word], threads: Optional[int]) -> Tuple[int, str]:
+def answer(command: str, schema: Given, feeds: Paths, words: Sequence[Word], options: Sequence[str]) -> Tuple[int, str]:
     """The status and the text of a command over feeds."""
-    options = [] if threads is None else ["--threads", str(threads)]
     with schema_of(schema).file() as path:
         return run(words_of(command, options, [path, *words, *paths_of(feeds)]))

@@ -66,7 +66,7 @@ class Row:
 
 class Cube(Sequence[Row]):
     """The rows of a cube, or of a part of it, in key order. `refused` says whether lines of the feeds were refused; it is
-    None in a session."""
+    None in a session, and of merged cubes."""
 
     def __init__(self, text: str, refused: Optional[bool] = None) -> None:
         self.text, self.refused = text, refused

@@ -12,7 +12,7 @@ import threading
 from types import TracebackType
 from typing import IO, Callable, List, Literal, Optional, Sequence, Type, Union
 
-from ._ask import Given
+from ._ask import Given, Shard, options_of
 from ._cells import KEEP, Mark, Named, in_order, text_of
 from ._cube import GREATEST, LEAST, Refusal, refusals_of
 from ._errors import Ended, Failure, ProgramNotFound, Unsayable
@@ -31,20 +31,22 @@ class Live(Questions):
     """A running `datacube live`: a cube over feeds (feed s is source s) and the changes that come after.
 
     Any thread may make changes and ask. A change is sent whole, in the order in which the threads come; a question is
-    answered over all changes before it, and those that come meanwhile wait in the pipe. What no feed can say raises
+    answered over all changes before it, and those that come meanwhile wait in the pipe. With a shard, the J-th of N as (J, N),
+    changes of the others are left alone. What no feed can say raises
     `Unsayable`, and nothing is sent; a change that the facts refuse, as the insert of an id that is present, is noted in
     `refusals`. Where the process ends by itself, every call from then on raises `Ended` with its status and last line."""
 
-    def __init__(self, schema: Given, feeds: Paths = (), *, threads: Optional[int] = None) -> None:
+    def __init__(
+        self, schema: Given, feeds: Paths = (), *, threads: Optional[int] = None, shard: Optional[Shard] = None
+    ) -> None:
         self.schema = schema_of(schema)
         self.status: Optional[int] = None
         self._line = ""
         # (where a thread holds both, it took them in this order)
         self._asking, self._writing = threading.Lock(), threading.RLock()
         self._told = tempfile.TemporaryFile()
-        options = [] if threads is None else ["--threads", str(threads)]
         with self.schema.file() as path:
-            self._process = self._begun(words_of("live", options, [path, *paths_of(feeds)]))
+            self._process = self._begun(words_of("live", options_of(threads, shard), [path, *paths_of(feeds)]))
             self._records = csv.writer(self._input)
             self._ready()
 
