@@ -1,7 +1,7 @@
 #!/usr/bin/env python3
 """Measures `live` beside PostgreSQL: batches of a thousand changes, questions of one cell, and memory.
 
-    scripts/live_speed.py [--facts N] [--batches N] [--many N]
+    scripts/live_speed.py [--facts N] [--batches N] [--many N] [--threads N]
 
 The facts are those of the workload `tall` of scripts/workloads.py. A batch is 1,000 changes and a question, timed from
 the first byte to the answer's last. A question of one cell is timed so too, through the pipe. Where PostgreSQL is
@@ -29,8 +29,8 @@ TOTAL = ",".join(["\\A"] * len(CARDS))
 class Session:
     """A running `live`, asked by bytes."""
 
-    def __init__(self, schema, feeds):
-        self.process = subprocess.Popen([DATACUBE, "live", schema, *feeds], stdin=subprocess.PIPE, stdout=subprocess.PIPE)
+    def __init__(self, schema, feeds, options):
+        self.process = subprocess.Popen([DATACUBE, "live", *options, schema, *feeds], stdin=subprocess.PIPE, stdout=subprocess.PIPE)
 
     def ask(self, records):
         """Sends records of which the last alone is a question; gives its answer, and the seconds until it was there."""
@@ -93,10 +93,10 @@ def said(name, seconds):
     print(f"{name:44} median {statistics.median(ordered):9.3f} ms   99% {ordered[int(len(ordered) * 0.99) - (len(ordered) < 100)]:9.3f} ms   most {ordered[-1]:9.3f} ms", flush=True)
 
 
-def measure(schema, feeds, batches, many):
-    """Measures a session over these feeds."""
+def measure(schema, feeds, batches, many, options):
+    """Measures a session over these feeds, by these options of `live`."""
     start = time.perf_counter()
-    session = Session(schema, feeds)
+    session = Session(schema, feeds, options)
     session.ask(f"slice,{TOTAL}\n".encode())
     print(f"{'until the first answer':44} {time.perf_counter() - start:.2f} s")
     print(f"{'largest memory, MiB':44} {session.most_memory():.0f}; of print {run([DATACUBE, 'print', schema, *feeds])[0].memory:.0f}")
@@ -147,10 +147,11 @@ def main():
     parser.add_argument("--facts", type=int, default=300_000)
     parser.add_argument("--batches", type=int, default=20)
     parser.add_argument("--many", type=int, default=0)
+    parser.add_argument("--threads", type=int)
     given = parser.parse_args()
     with tempfile.TemporaryDirectory() as folder:
         schema, *feeds = workloads.make(folder, "tall", 1, given.facts / RECORDS)
-        measure(schema, feeds, given.batches, given.many)
+        measure(schema, feeds, given.batches, given.many, ["--threads", str(given.threads)] if given.threads else [])
         if sql.newest_server():
             measure_postgres(feeds, 5)
         else:

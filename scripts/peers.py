@@ -82,7 +82,7 @@ class Postgres(sql.Server):
 CLICKHOUSE = """<yandex>
     <logger><level>warning</level><log>{room}/log</log><errorlog>{room}/errors</errorlog></logger>
     <listen_host>127.0.0.1</listen_host><tcp_port>{port}</tcp_port>
-    <path>{room}/data/</path><tmp_path>{room}/tmp/</tmp_path><mark_cache_size>1073741824</mark_cache_size>
+    <path>{room}/data/</path><tmp_path>{room}/temporary/</tmp_path><mark_cache_size>1073741824</mark_cache_size>
     <users_config>{room}/config.xml</users_config>
     <default_profile>default</default_profile><default_database>default</default_database>
     <profiles><default></default></profiles><quotas><default></default></quotas>

@@ -7,8 +7,7 @@ import tempfile
 import threading
 import time
 from dataclasses import dataclass, replace
-from types import TracebackType
-from typing import TYPE_CHECKING, Any, Callable, Iterator, Mapping, Optional, Sequence, Set, Tuple, Type, TypeVar
+from typing import TYPE_CHECKING, Any, Callable, Iterator, Mapping, Optional, Sequence, Set, Tuple, TypeVar
 
 import psycopg2
 import psycopg2.errors
@@ -19,6 +18,7 @@ from .._schema import Schema, schema_of
 from ._copy import FeedWriter, copy_table
 from ._errors import BeginAnew, CantFollow, NotCaughtUp
 from ._mirror import Mirror
+from ._running import Running
 from ._slot import (
     TOLD, Place, cancel, check_server, connect, connect_to_replicate, drop_slot, lsn_text, make_slot, now_of, place_of, slot_name,
 )
@@ -64,7 +64,7 @@ class State:
         return self.copies, self.transactions
 
 
-class Follower(Questions):
+class Follower(Questions, Running):
     """A cube over a table of PostgreSQL, which takes each transaction whole, in the order of their commits.
 
     It makes a replication slot, copies the table as it is in the slot's snapshot, and then takes the changes behind it, in a
@@ -104,13 +104,6 @@ class Follower(Questions):
         self._thread = threading.Thread(target=self._run, name="datacube follower", daemon=True)
 
     # What others call.
-
-    def __enter__(self) -> "Follower":
-        self.start()
-        return self
-
-    def __exit__(self, kind: Optional[Type[BaseException]], why: Optional[BaseException], at: Optional[TracebackType]) -> None:
-        self.close()
 
     def start(self) -> None:
         """Begins to follow; `wait` says when it has caught up, or why it can't."""

@@ -5,14 +5,14 @@ import os
 import threading
 from http import HTTPStatus
 from http.server import BaseHTTPRequestHandler, ThreadingHTTPServer
-from types import TracebackType
-from typing import Dict, Optional, Sequence, Type
+from typing import Dict, Optional, Sequence
 
 from .._cube import Cube
 from .._errors import DatacubeError
 from ._errors import CantFollow, NotCaughtUp
 from ._follower import Follower
 from ._metrics import CONTENT_TYPE, metrics_text
+from ._running import Running
 from ._slot import TOLD
 
 HERE = os.path.dirname(os.path.abspath(__file__))
@@ -24,7 +24,7 @@ SECONDS_BETWEEN_LOOKS = 0.1
 POLICY, END = "img-src data:", "</body>"
 
 
-class Server:
+class Server(Running):
     """Serves `/`, the explorer over the live cube, `/cube.csv`, the printed cube, and `/metrics`, a slice of it for monitors,
     on a port of 127.0.0.1, in threads of its own between `start` and `close`, or in a `with` block. Port 0 is any free one.
     The slice is given by its fields, as `datacube slice` takes them; without them it is of each value of the first dimension."""
@@ -44,13 +44,6 @@ class Server:
     @property
     def address(self) -> str:
         return f"http://{ADDRESS}:{self.port}/"
-
-    def __enter__(self) -> "Server":
-        self.start()
-        return self
-
-    def __exit__(self, kind: Optional[Type[BaseException]], why: Optional[BaseException], at: Optional[TracebackType]) -> None:
-        self.close()
 
     def start(self) -> None:
         self._thread.start()
