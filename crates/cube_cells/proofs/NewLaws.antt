@@ -1,5 +1,5 @@
 -- Laws of the new cube: its kept sets, its empty dictionaries, and its one cell or none.
-use Rattle.std.proofs.Common.{◌≡◌, ℕ, zero, suc, ◌^◌, ◌<◌, ◌≤◌, ◌==◌, ◌%◌, List, [], ◌∷◌, Bool, true, false, cond, ◌||◌, refl, sym, ap, ◌∙◌, subst, arith, inl, inr, length, replicate, Some, None, if◌then◌else◌}
+use Rattle.std.proofs.Common.{◌≡◌, ℕ, zero, suc, ◌^◌, ◌<◌, ◌≤◌, ◌==◌, List, [], ◌∷◌, Bool, true, false, cond, ◌||◌, refl, sym, ap, ◌∙◌, subst, arith, inl, inr, length, replicate, Some, None, if◌then◌else◌}
 use Rattle.std.specs.Prelude.{All, IfSome, is_some}
 use Rattle.std.specs.Cmp.{eq_by_cmp_equiv}
 use Rattle.std.specs.List.{list_all, IsDistinct}
@@ -14,7 +14,7 @@ use Rattle.std.proofs.lemmas.Map.Keys.{sorted_from_strictly_increasing}
 use Rattle.std.proofs.lemmas.List.Sums.{sum_by-cons}
 use Rattle.std.proofs.lemmas.Bool.{cases_lt}
 use Rattle.cube_core.specs.Cube.{is_cell, is_total}
-use Rattle.cube_core.specs.GroupingSet.{mask_of, is_among, is_all_coord, sets_of_part}
+use Rattle.cube_core.specs.GroupingSet.{mask_of, is_among, is_all_coord, part_of, sets_of_part}
 use Rattle.cube_core.specs.Layout.{Layout, IsSchema}
 use Rattle.cube_core.specs.Order.{key_cmp}
 use Rattle.cube_core.specs.declared.key.Key.{Key}
@@ -203,10 +203,10 @@ IsNewCube-AreNewCells schema sets dictionaries total cells is within ascending t
 
 -- the sets of a part are grouping sets of the dimensions, in ascending order
 pub sets_of_part-below : (schema : Layout) (part of : ℕ) → IsSchema schema → All (λ set. set < 2 ^ length schema.dimensions) (sets_of_part part of schema.grouping_sets)
-sets_of_part-below schema part of is = All-filter (λ set. set % of == part) (λ set. set < 2 ^ length schema.dimensions) schema.grouping_sets is.sets_are_of_dimensions
+sets_of_part-below schema part of is = All-filter (λ set. part_of of set == part) (λ set. set < 2 ^ length schema.dimensions) schema.grouping_sets is.sets_are_of_dimensions
 
 pub sets_of_part-IsStrictlySortedBy : (schema : Layout) (part of : ℕ) → IsSchema schema → IsStrictlySortedBy nat_cmp (sets_of_part part of schema.grouping_sets)
-sets_of_part-IsStrictlySortedBy schema part of is = IsStrictlySortedBy-filter nat_cmp (λ set. set % of == part) schema.grouping_sets (sorted_from_strictly_increasing schema.grouping_sets is.sets_are_ascending)
+sets_of_part-IsStrictlySortedBy schema part of is = IsStrictlySortedBy-filter nat_cmp (λ set. part_of of set == part) schema.grouping_sets (sorted_from_strictly_increasing schema.grouping_sets is.sets_are_ascending)
 
 -- one set is in order
 pub IsStrictlySortedBy-one : (set : ℕ) → IsStrictlySortedBy nat_cmp (set ∷ [])
@@ -217,5 +217,5 @@ IsStrictlySortedBy-one set = (tt, tt)
 pub sets_of_part-one : (sets : List ℕ) → sets_of_part 0 1 sets ≡ sets
 sets_of_part-one [] = refl
 sets_of_part-one (set ∷ sets) =
-    let whole : (set % 1 == 0) ≡ true = eq-eqb (set % 1) 0 (omega arith) in
+    let whole : (part_of 1 set == 0) ≡ true = eq-eqb (part_of 1 set) 0 (omega arith) in
     rw whole (ap (λ (xs : List ℕ). set ∷ xs) (sets_of_part-one sets))

@@ -4,7 +4,7 @@ ghost use Rattle.std.specs.List.Sorted.{IsStrictlySortedBy};
 ghost use Rattle.std.specs.Option.{option_map};
 ghost use Rattle.std.specs.Ordering.{nat_cmp};
 ghost use Rattle.std.specs.Str.{bytes_eq};
-ghost use Rattle.cube_core.specs.GroupingSet.{sets_of_part, is_among};
+ghost use Rattle.cube_core.specs.GroupingSet.{sets_of_part, part_of, is_among};
 ghost use Rattle.cube_core.specs.Takes.{fits};
 ghost use Rattle.cube_core.specs.declared.fact.Fact.{Fact};
 ghost use Rattle.cube_core.specs.declared.key.Key.{Key};
@@ -70,8 +70,9 @@ impl Cube {
         Cube::new_part(alloc, schema, 0, 1)
     }
 
-    /// The cube of no fact over the grouping sets of a part of the schema's: those whose mask leaves `part` when
-    /// it is divided by `of` (this project's choice). The grand total is in part 0.
+    /// The cube of no fact over the grouping sets of a part of the schema's: those of which the last two digits of the
+    /// mask, written to the base `of`, add up to `part` or to `of` more (this project's choice: so each part has coarse
+    /// sets and fine ones). The grand total is in part 0.
     pub fn new_part(alloc: Global, schema: &Schema, part: u32, of: u32) -> Result<Cube, AllocError>
         requires parts { of ≤ 8 }
         requires part { part < of }
@@ -205,9 +206,18 @@ fn kept_sets(alloc: Global, schema: &Schema, part: u32, of: u32) -> Result<Vec<u
     let chosen = schema.grouping_sets();
     let mut sets = Vec::with_capacity(alloc, chosen.len())?;
     for set in chosen {
-        push_kept(&mut sets, *set, u32::from(*set) % of == part)?;
+        push_kept(&mut sets, *set, part_of(u32::from(*set), of) == part)?;
     }
     Ok(sets)
+}
+
+// The part, of so many, that a grouping set is in.
+fn part_of(set: u32, of: u32) -> u32
+    requires some { 0 < of }
+    requires set { set < 256 }
+    ensures { result ≡ part_of of set }
+{
+    (set + set / of) % of
 }
 
 fn push_kept(sets: &mut Vec<u8>, set: u8, is_kept: bool) -> Result<(), AllocError>

@@ -1,11 +1,12 @@
 -- The masks of grouping sets, in ascending order.
-use Rattle.std.proofs.Common.{◌≡◌, ◌<◌, ◌+◌, ◌^◌, ℕ, length, get_or, List, [], ◌∷◌, ◌++◌, All, refl, sym, ap, ◌∙◌, arith}
+use Rattle.std.proofs.Common.{◌≡◌, ◌<◌, ◌≤◌, ◌+◌, ◌/◌, ◌^◌, ℕ, length, get_or, List, [], ◌∷◌, ◌++◌, All, refl, sym, ap, ◌∙◌, arith}
 use Rattle.std.specs.List.{range_with_len}
 use Rattle.std.specs.List.Sorted.{IsStrictlyIncreasing}
 use Rattle.std.proofs.lemmas.List.FromFn.{length-range_with_len, get_or-range_with_len, map-range_with_len_more}
 use Rattle.std.proofs.lemmas.List.{map-id}
 use Rattle.std.proofs.lemmas.List.Elements.{All-from_get_or}
-use Rattle.cube_core.specs.GroupingSet.{all_sets}
+use Rattle.std.proofs.Math.Nat.{mod-lt}
+use Rattle.cube_core.specs.GroupingSet.{all_sets, part_of}
 
 -- numbers one after another rise
 range_with_len-IsStrictlyIncreasing : (a n : ℕ) → IsStrictlyIncreasing (range_with_len a n)
@@ -29,3 +30,7 @@ all_sets-All dimensions = All-from_get_or (λ set. set < 2 ^ dimensions) (all_se
 -- the list of them after one more
 pub range_with_len-more : (a n : ℕ) → range_with_len a (n + 1) ≡ range_with_len a n ++ (a + n) ∷ []
 range_with_len-more a n = sym (map-id (range_with_len a (n + 1))) ∙ map-range_with_len_more (λ i. i) a n (a + n) refl ∙ ap (λ (xs : List ℕ). xs ++ (a + n) ∷ []) (map-id (range_with_len a n))
+
+-- each set is in one of the parts
+pub part_of-below : (parts set : ℕ) → 1 ≤ parts → part_of parts set < parts
+part_of-below parts set some = mod-lt (set + set / parts) some

@@ -1,5 +1,5 @@
 -- Grouping sets: the set of dimensions that aren't ALL in a key, written as a mask (SQL:1999, grouping sets; the masks are this project's choice).
-use Rattle.std.specs.Prelude.{◌+◌, ◌*◌, ◌^◌, ◌%◌, ◌==◌, ℕ, Bool, true, false, IsTrue, List, [], ◌∷◌, filter, slice_get, if◌then◌else◌}
+use Rattle.std.specs.Prelude.{◌+◌, ◌*◌, ◌/◌, ◌^◌, ◌%◌, ◌==◌, ℕ, Bool, true, false, IsTrue, List, [], ◌∷◌, filter, slice_get, if◌then◌else◌}
 use Rattle.std.specs.Option.{option_map_or}
 use Rattle.std.specs.List.{AllByRecursion, range_with_len, list_any}
 use Rattle.cube_core.specs.declared.key.Coord.{Coord}
@@ -29,9 +29,13 @@ mask_of key = mask_of_coords key.coords
 abbrev pub all_sets : ℕ → List ℕ
 all_sets dimensions = range_with_len 0 (2 ^ dimensions)
 
--- the grouping sets of part j of n: those whose mask leaves j when it is divided by n
+-- the part, of n, that a grouping set is in: what the last two digits of its mask to the base n add up to, modulo n, so that each part has coarse sets and fine ones (this project's choice)
+abbrev pub part_of : ℕ → ℕ → ℕ
+part_of n set = (set + set / n) % n
+
+-- the grouping sets of part j of n
 abbrev pub sets_of_part : ℕ → ℕ → List ℕ → List ℕ
-sets_of_part j n sets = filter (λ set. set % n == j) sets
+sets_of_part j n sets = filter (λ set. part_of n set == j) sets
 
 -- whether a grouping set is one of a list
 abbrev pub is_among : ℕ → List ℕ → Bool

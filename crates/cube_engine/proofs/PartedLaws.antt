@@ -1,10 +1,11 @@
 -- Cubes of parts that follow the books by the facts that came and those that are gone.
-use Rattle.std.proofs.Common.{◌≡◌, ◌<◌, ◌≤◌, ◌+◌, ◌∙◌, ℕ, true, false, List, [], ◌∷◌, ◌++◌, length, map, get_or, drop, append_assoc, sym, ap, subst, refl, arith}
-use Rattle.std.specs.Prelude.{◌||◌, not, Bool, Option, Some, None, Ok, Err, Result, IfOk, IfSome, OnOk, OnErr, All}
+use Rattle.std.proofs.Common.{◌≡◌, ◌<◌, ◌≤◌, ◌+◌, ◌∙◌, ℕ, true, false, List, [], ◌∷◌, ◌++◌, length, get_or, drop, append_assoc, sym, ap, subst, refl, arith, inl, inr, length-append}
+use Rattle.std.specs.Prelude.{◌||◌, not, Bool, Option, Some, None, Ok, Err, Result, IfSome, IsSome, OnOk, OnErr, All}
 use Rattle.std.specs.Option.{option_to_list}
 use Rattle.std.specs.List.Sorted.{IsPermutation}
-use Rattle.std.specs.declared.alloc.AllocError.{AllocError}
-use Rattle.std.proofs.lemmas.List.{append-nil, drop_more, drop_all, get_or-map, length-map}
+use Rattle.std.proofs.lemmas.List.{append-nil, drop_more, drop_all, get_or_append_left}
+use Rattle.std.proofs.Math.Seq.{get_or-append_seam}
+use Rattle.std.proofs.lemmas.Bool.{cases_lt}
 use Rattle.std.proofs.lemmas.List.Elements.{All-nil, All-append}
 use Rattle.std.proofs.lemmas.List.Sorted.{All-permutation, IsPermutation-append_right, IsPermutation-refl, IsPermutation-trans}
 use Rattle.cube_core.specs.GroupingSet.{sets_of_part}
@@ -14,7 +15,7 @@ use Rattle.cube_core.specs.declared.fact.Fact.{Fact}
 use Rattle.cube_cells.specs.Cube.{HoldsFact, IsCubeOf, Lattice, SameSets, TakesFact}
 use Rattle.cube_engine.specs.Builder.{GainsFacts, HasFacts}
 use Rattle.cube_engine.specs.Ledger.{AllFit, AtSource, Exchanges, LedgerView, all_facts, with_refusal}
-use Rattle.cube_engine.specs.Parted.{AllSettle, AreBehind, ArePartsWith, IsPartBehind, IsPartWith, LosesFacts, MaySettle, Settles}
+use Rattle.cube_engine.specs.Parted.{AllFill, AllSettle, AreBehind, ArePartsOver, ArePartsWith, IsPartBehind, IsPartOver, LosesFacts, MaySettle, Settles}
 use Rattle.cube_engine.specs.declared.parted.Part.{Part}
 use Rattle.cube_engine.proofs.BuilderLaws.{AllFit-exchange, HasFacts-permutation, HasFacts-remove, HoldsFact-HasFacts, SameSets-trans, all_facts-exchange, all_facts-refuse}
 use Rattle.cube_engine.proofs.LedgerLaws.{AllFit-come, All-append_left, All-append_right, swap-front}
@@ -148,6 +149,11 @@ AreBehind-new ledger s parts same fit with = record {
 
 -- ---- the books change
 
+-- a copy that was made is of its fact
+pub is_copy : (copy : Option Fact) (fact : Fact) → IsSome copy → IfSome copy (λ c. c ≡ fact) → copy ≡ Some fact
+is_copy None fact some same = cc some
+is_copy (Some c) fact some same = ap Some same
+
 -- what is owed after a fact came and another is gone
 owed-exchange : (come gone counted old new : List Fact) (put out : Option Fact) → IsPermutation (come ++ counted) (gone ++ old) → IsPermutation (option_to_list put ++ old) (option_to_list out ++ new)
     → IsPermutation ((come ++ option_to_list put) ++ counted) ((gone ++ option_to_list out) ++ new)
@@ -210,19 +216,31 @@ AreBehind-refuse old new parts come gone source number code first last at behind
 
 -- ---- the cubes made
 
--- the parts that were made are those of the facts
-pub ArePartsWith-made : (s : Layout) (facts : List Fact) (parts : ℕ) (made : List (Result Part AllocError)) (filled : List Part) → 1 ≤ parts → length made ≡ parts
-    → ((part : ℕ) (unused : Result Part AllocError) → part < parts → IfOk (get_or made part unused) (λ p. IsPartWith s facts parts part p.cube))
-    → map Ok filled ≡ made → ArePartsWith s facts filled
-ArePartsWith-made s facts parts made filled some long each are =
-    let count : length filled ≡ parts = sym (length-map filled Ok) ∙ ap length are ∙ long in
+-- the new parts, and one more
+pub ArePartsOver-more : (s : Layout) (count : ℕ) (parts : List Part) (next : Part) → IsPartOver s count (length parts) next.cube → ArePartsOver s count parts → ArePartsOver s count (parts ++ next ∷ [])
+ArePartsOver-more s count parts next is are part d below = elim (cases_lt part (length parts)) [
+  | inl inside ↦ rw (get_or_append_left parts (next ∷ []) d part inside) (are part d inside)
+  | inr past ↦
+      let at : part ≡ length parts = omega (arith, past, below, length-append parts (next ∷ [])) in
+      rw (at, get_or-append_seam parts next [] d) is
+]
+
+-- parts over their sets that were filled have the facts
+pub ArePartsWith-filled : (s : Layout) (facts : List Fact) (count : ℕ) (old new : List Part) → 1 ≤ count → length old ≡ count → length new ≡ length old → ArePartsOver s count old → AllFill facts old new
+    → ((part : ℕ) (d : Part) → part < length new → (get_or new part d).is_spent ≡ false) → ArePartsWith s facts new
+ArePartsWith-filled s facts count old new some long same over fill none =
+    let number : length new ≡ count = same ∙ long in
     record {
-      some = omega (arith, count, some);
+      some = omega (arith, number, some);
       each = λ part d below.
-          let inside : part < parts = omega (arith, count, below) in
-          let at = each part (Ok d) inside in
-          let is : get_or made part (Ok d) ≡ Ok (get_or filled part d) = ap (λ l. get_or l part (Ok d)) (sym are) ∙ get_or-map Ok filled part d (Ok d) below in
-          rw count (subst (λ (r : Result Part AllocError). IfOk r (λ p. IsPartWith s facts parts part p.cube)) is at);
+          let inside : part < length old = omega (arith, same, below) in
+          let at = over part d inside in
+          let filled = fill part d inside (none part d below) in
+          rw number (record {
+            schema = filled.same.schema ∙ at.schema;
+            sets = filled.same.sets ∙ at.sets;
+            has = filled.has;
+          });
     }
 
 -- what is left of facts from a place on

@@ -46,6 +46,25 @@ pub record AreBehind (ledger : LedgerView) (parts : List Part) (come gone : List
   pub each : (part : ℕ) (d : Part) → part < length parts
       → IsPartBehind ledger.schema (all_facts ledger.accounts) come gone (length parts) part (get_or parts part d).cube
 
+-- the cube of a part, of so many, is over its grouping sets under a schema
+pub record IsPartOver (s : Layout) (parts part : ℕ) (cube : Lattice) : Type 0 where
+  pub schema : cube.schema ≡ s
+  pub sets : cube.sets ≡ sets_of_part part parts s.grouping_sets
+
+-- the cube of each part, of so many, is so
+abbrev pub ArePartsOver : Layout → ℕ → List Part → Type 0
+ArePartsOver s count parts = (part : ℕ) (d : Part) → part < length parts → IsPartOver s count part (get_or parts part d).cube
+
+-- a cube over the same sets was filled with these facts
+pub record Fills (facts : List Fact) (old new : Lattice) : Type 0 where
+  pub same : SameSets old new
+  pub has : HasFacts facts new
+
+-- of these parts, each that isn't spent was filled with these facts
+abbrev pub AllFill : List Fact → List Part → List Part → Type 0
+AllFill facts old new =
+    (part : ℕ) (d : Part) → part < length old → (get_or new part d).is_spent ≡ false → Fills facts (get_or old part d).cube (get_or new part d).cube
+
 -- the cube of a part, of so many, has these facts
 pub record IsPartWith (s : Layout) (facts : List Fact) (parts part : ℕ) (cube : Lattice) : Type 0 where
   pub schema : cube.schema ≡ s

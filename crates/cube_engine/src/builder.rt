@@ -49,8 +49,7 @@ impl Builder {
         Builder::new_part(alloc, schema, sources, 0, 1)
     }
 
-    /// The same over the grouping sets of a part of the schema's alone: those whose mask leaves `part` when it is
-    /// divided by `of`.
+    /// The same over the grouping sets of a part of the schema's alone, as [`Cube::new_part`] has them.
     pub fn new_part(
         alloc: Global,
         schema: &Schema,

@@ -45,6 +45,14 @@ impl Ledger {
         })
     }
 
+    /// The schema.
+    pub(crate) fn schema(&self) -> &Schema
+        ensures value { result.now ≡ self.now.schema }
+        ensures fit { AllFit self.now.schema (all_facts self.now.accounts) }
+    {
+        &self.schema
+    }
+
     /// How many sources there are.
     pub fn sources(&self) -> u32
         ensures { result ≡ length self.now.accounts }

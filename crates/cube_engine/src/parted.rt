@@ -1,26 +1,28 @@
 //! The books of all sources, and the cubes of the parts of the grouping sets, which follow the books when they are asked.
-ghost use Rattle.std.specs.Prelude.{◌≡◌, ◌≤◌, ◌<◌, ◌++◌, ◌∷◌, [], List, None, Option, Some, false, true, Ok, length, map, get_or, IfOk, IfSome, OnOk, OnErr, ℕ};
+ghost use Rattle.std.specs.Prelude.{◌≡◌, ◌≤◌, ◌<◌, ◌++◌, ◌∷◌, [], List, None, Option, Some, false, true, length, get_or, IfOk, IfSome, IsSome, OnOk, OnErr, ℕ};
 ghost use Rattle.std.specs.Bool.{OnTrue};
 ghost use Rattle.cube_core.specs.Arrival.{Arrivals};
-ghost use Rattle.cube_core.specs.GroupingSet.{sets_of_part};
 ghost use Rattle.cube_core.specs.Takes.{fits};
 ghost use Rattle.cube_core.specs.declared.fact.Fact.{Fact as TheFact};
 ghost use Rattle.cube_engine.specs.Builder.{GainsFacts, HasFacts};
 ghost use Rattle.cube_engine.specs.Ledger.{AllFit, AtSource, Enters, Exchanges, LedgerStandsAt, account_of, all_facts};
-ghost use Rattle.cube_engine.specs.Parted.{AllSettle, ArePartsWith, IsPartWith, LosesFacts, MaySettle, Notes, Settles};
+ghost use Rattle.cube_engine.specs.Parted.{AllFill, AllSettle, ArePartsOver, ArePartsWith, Fills, LosesFacts, MaySettle, Notes, Settles};
 ghost use Rattle.cube_engine.specs.declared.parted.Part.{Part as ThePart};
 
 use crate::fill::{add_counted, fill};
 use crate::ledger::Ledger;
 use crate::ruling::Ruling;
 use cube_cells::Cube;
-use cube_core::{Fact, Item, Schema, Text};
+use cube_core::{Fact, Item, Text};
 use std::alloc::{AllocError, Global};
 use std::marker::Model;
-use std::thread::{Threads, for_each_mut, map_indices};
+use std::thread::{Threads, for_each_mut};
 
 /// How many facts may wait for which no thread is started.
 const FEW: usize = 64;
+
+/// How many facts may wait in any case, before the cubes are filled anew instead.
+const MANY: usize = 10_000;
 
 /// The cube of a part of the grouping sets, and whether a refused growth has spoilt it.
 #[derive(Drop)]
@@ -33,7 +35,8 @@ pub struct Part {
 /// over a part of the grouping sets.
 ///
 /// A change is made in the books at once; what comes to them and what is gone from them waits until [`Parted::settle`],
-/// which changes the cubes side by side.
+/// which changes the cubes side by side. Where many facts wait, nothing is noted any more: the cubes are out of date, and
+/// are filled anew from the books.
 #[derive(Drop)]
 pub struct Parted {
     alloc: Global,
@@ -41,7 +44,7 @@ pub struct Parted {
     parts: Vec<Part>,
     come: Vec<Fact>,
     gone: Vec<Fact>,
-    is_spent: bool,
+    is_out_of_date: bool,
 }
 
 impl Model for Parted {
@@ -53,40 +56,45 @@ impl Model for Parted {
 
     ghost view = { λ p. p.ledger };
 
-    ghost invariant = { λ p. p.is_spent ≡ false →
+    ghost invariant = { λ p. p.is_out_of_date ≡ false →
         AreBehind p.ledger p.parts.items p.come.items p.gone.items };
 }
 
 impl Parted {
-    /// The books of a ledger, with the cubes of so many parts, 1 to 8, each made on a thread of its own. The only error is
-    /// want of memory, or of numbers to count the facts with.
-    pub fn of<T: Threads + Sync>(
-        rt: &T,
-        alloc: Global,
-        schema: &Schema,
-        parts: usize,
-        ledger: Ledger,
-    ) -> Result<Parted, AllocError>
-        requires schema { ledger.schema ≡ schema.now }
-        requires some { 1 ≤ parts }
-        requires few { parts ≤ 8 }
-        ensures { IfOk result (λ parted. parted ≡ ledger) }
+    /// The books of a ledger. The cubes are out of date until they are settled.
+    pub fn of(alloc: Global, ledger: Ledger) -> Parted
+        ensures { result ≡ ledger }
     {
-        let parts = filled_parts(rt, alloc, schema, parts, &ledger)?;
-        Ok(Parted {
+        Parted {
             alloc,
             ledger,
-            parts,
+            parts: Vec::new(alloc),
             come: Vec::new(alloc),
             gone: Vec::new(alloc),
-            is_spent: false,
-        })
+            is_out_of_date: true,
+        }
     }
 
     /// Takes an item of a source: a refused one is noted with its code, and any other changes the book of the source.
     ///
     /// The only error is want of memory; then nothing changed, and the item is given up.
     pub fn apply(&mut self, source: u32, item: Item) -> Result<(), AllocError>
+        requires first { 1 ≤ source }
+        requires last { source ≤ length self.old.accounts }
+        ensures enters { OnOk result
+            (AtSource (Enters self.old.schema item) source self.old self.new) }
+        ensures stands { OnOk result ((arrivals : Arrivals) → LedgerStandsAt self.old arrivals →
+            LedgerStandsAt self.new (arrivals ++ (source, item) ∷ [])) }
+        ensures sources { OnOk result (length self.new.accounts ≡ length self.old.accounts) }
+        ensures schema { self.new.schema ≡ self.old.schema }
+        ensures err { OnErr result (self.new ≡ self.old) }
+    {
+        self.rest_where_many_wait();
+        self.enter(source, item)
+    }
+
+    // The same, however many facts wait.
+    fn enter(&mut self, source: u32, item: Item) -> Result<(), AllocError>
         requires first { 1 ≤ source }
         requires last { source ≤ length self.old.accounts }
         ensures enters { OnOk result
@@ -117,11 +125,11 @@ impl Parted {
             AtSource (Exchanges id gone (Some fact)) source self.old self.new) }
         ensures err { OnErr result (self.new ≡ self.old) }
     {
-        let come = fact.copy(self.alloc)?;
+        let come = copy_unless(self.is_out_of_date, self.alloc, &fact);
         match self.ledger.put(source, id, fact) {
             Ok(gone) => {
                 let noted = note_both(&mut self.come, come, &mut self.gone, gone);
-                self.is_spent |= !noted;
+                self.is_out_of_date |= !noted;
                 Ok(())
             }
             Err(fact) => {
@@ -140,23 +148,36 @@ impl Parted {
     {
         let gone = self.ledger.take(source, id);
         let noted = note(&mut self.gone, gone);
-        self.is_spent |= !noted;
+        self.is_out_of_date |= !noted;
     }
 
-    /// How many facts wait.
-    pub fn waiting(&self) -> usize {
+    // How many facts wait.
+    fn waiting(&self) -> usize {
         self.come.len().saturating_add(self.gone.len())
     }
 
-    /// Has the cubes follow the books, by at most so many threads; no thread is started where few facts wait.
+    // Gives the cubes up where so many facts wait that filling them anew takes less than following them.
+    fn rest_where_many_wait(&mut self)
+        ensures { self.new ≡ self.old }
+    {
+        let held = self.parts.first().map_or(0, |part| part.cube.facts());
+        if self.waiting() < MANY || (self.waiting() as u64) < held / 8 {
+            return;
+        }
+        self.is_out_of_date = true;
+        self.come = Vec::new(self.alloc);
+        self.gone = Vec::new(self.alloc);
+    }
+
+    /// Has the cubes follow the books, by at most so many threads; no thread is started where few facts wait. Cubes that
+    /// are out of date are made anew: as many parts as threads, but at most 8.
     ///
-    /// The only error is want of memory, or of numbers to count the facts with. From then on the cubes are spent, and
-    /// each call answers it.
+    /// The only error is want of memory, or of numbers to count the facts with. The cubes are out of date then.
     pub fn settle<T: Threads + Sync>(&mut self, rt: &T, threads: usize) -> Result<(), AllocError>
         ensures { self.new ≡ self.old }
     {
-        if self.is_spent {
-            return Err(AllocError);
+        if self.is_out_of_date {
+            return self.fill_anew(rt, threads);
         }
         let threads = if self.waiting() < FEW {
             1
@@ -173,20 +194,33 @@ impl Parted {
         self.come.clear();
         self.gone.clear();
         if is_any_spent(&self.parts) {
-            self.is_spent = true;
+            self.is_out_of_date = true;
             return Err(AllocError);
         }
         Ok(())
     }
 
+    // Makes the cubes of all parts from the books.
+    fn fill_anew<T: Threads + Sync>(&mut self, rt: &T, threads: usize) -> Result<(), AllocError>
+        ensures { self.new ≡ self.old }
+    {
+        self.is_out_of_date = true;
+        self.parts = Vec::new(self.alloc);
+        self.come.clear();
+        self.gone.clear();
+        self.parts = filled_parts(rt, self.alloc, threads.clamp(1, 8), &self.ledger)?;
+        self.is_out_of_date = false;
+        Ok(())
+    }
+
     /// The cubes of all parts, over the facts in the books of all sources; `None` where facts wait, and where the cubes are
-    /// spent.
+    /// out of date.
     pub fn parts(&self) -> Option<&[Part]>
         ensures parts { IfSome result (λ parts.
             ArePartsWith self.now.schema (all_facts self.now.accounts) parts.now) }
         ensures fit { IfSome result (λ parts. AllFit self.now.schema (all_facts self.now.accounts)) }
     {
-        if self.is_spent || !self.come.is_empty() || !self.gone.is_empty() {
+        if self.is_out_of_date || !self.come.is_empty() || !self.gone.is_empty() {
             return None;
         }
         Some(self.parts.as_slice())
@@ -211,11 +245,27 @@ fn note(facts: &mut Vec<Fact>, fact: Option<Fact>) -> bool
 }
 
 // Puts a fact that came behind others, and one that is gone, if there is one, behind others.
-fn note_both(come: &mut Vec<Fact>, came: Fact, gone: &mut Vec<Fact>, went: Option<Fact>) -> bool
-    ensures came { OnTrue result (Notes (Some came) come.old.items come.new.items) }
+fn note_both(
+    come: &mut Vec<Fact>,
+    came: Option<Fact>,
+    gone: &mut Vec<Fact>,
+    went: Option<Fact>,
+) -> bool
+    ensures some { OnTrue result (IsSome came) }
+    ensures came { OnTrue result (Notes came come.old.items come.new.items) }
     ensures went { OnTrue result (Notes went gone.old.items gone.new.items) }
 {
-    note(come, Some(came)) && note(gone, went)
+    came.is_some() && note(come, came) && note(gone, went)
+}
+
+// A copy of a fact, unless none is wanted, or there is no memory for it.
+fn copy_unless(is_unwanted: bool, alloc: Global, fact: &Fact) -> Option<Fact>
+    ensures { IfSome result (λ copy. copy ≡ fact.now) }
+{
+    if is_unwanted {
+        return None;
+    }
+    fact.copy(alloc).ok()
 }
 
 // Has the cubes of parts gain the facts that came and lose those that are gone, by at most so many threads.
@@ -289,80 +339,84 @@ fn is_any_spent(parts: &[Part]) -> bool
     parts.iter().any(|part| part.is_spent)
 }
 
-// The cubes of so many parts, filled with the facts of all books of a ledger.
+// The cubes of so many parts, filled with the facts of all books of a ledger, half of them at a time, since each takes the
+// room of its finest set.
 fn filled_parts<T: Threads + Sync>(
     rt: &T,
     alloc: Global,
-    schema: &Schema,
     parts: usize,
     ledger: &Ledger,
 ) -> Result<Vec<Part>, AllocError>
-    requires schema { ledger.now.schema ≡ schema.now }
-    requires fit { AllFit schema.now (all_facts ledger.now.accounts) }
     requires some { 1 ≤ parts }
     requires few { parts ≤ 8 }
-    ensures { IfOk result (λ filled.
-        ArePartsWith schema.now (all_facts ledger.now.accounts) filled.items) }
+    ensures parts { IfOk result (λ filled.
+        ArePartsWith ledger.now.schema (all_facts ledger.now.accounts) filled.items) }
+    ensures fit { IfOk result (λ filled. AllFit ledger.now.schema (all_facts ledger.now.accounts)) }
 {
-    let made = made_parts(rt, alloc, schema, parts, ledger)?;
-    all_made(alloc, made)
-}
-
-// The same, each made on a thread of its own.
-fn made_parts<T: Threads + Sync>(
-    rt: &T,
-    alloc: Global,
-    schema: &Schema,
-    parts: usize,
-    ledger: &Ledger,
-) -> Result<Vec<Result<Part, AllocError>>, AllocError>
-    requires schema { ledger.now.schema ≡ schema.now }
-    requires fit { AllFit schema.now (all_facts ledger.now.accounts) }
-    requires few { parts ≤ 8 }
-    ensures long { IfOk result (λ made. length made.items ≡ parts) }
-    ensures each { IfOk result (λ made. (part : ℕ) (unused : _) → part < parts →
-        IfOk (get_or made.items part unused) (λ filled.
-        IsPartWith schema.now (all_facts ledger.now.accounts) parts part filled.cube)) }
-{
-    map_indices(
-        rt,
-        alloc,
-        parts,
-        &|part| { filled_part(alloc, schema, part as u32, parts as u32, ledger) },
-    )
-}
-
-// The parts, if each of them was made.
-fn all_made(alloc: Global, made: Vec<Result<Part, AllocError>>) -> Result<Vec<Part>, AllocError>
-    ensures { IfOk result (λ parts. map Ok parts.items ≡ made.items) }
-{
-    let mut parts = Vec::with_capacity(alloc, made.len())?;
-    for part in made {
-        parts.push(part?)?;
+    let mut filled = new_parts(alloc, parts, ledger)?;
+    fill_parts(rt, parts.div_ceil(2), filled.as_mut_slice(), ledger);
+    if is_any_spent(&filled) {
+        return Err(AllocError);
     }
-    Ok(parts)
+    Ok(filled)
 }
 
-// The cube of a part, of so many, filled with the facts of all books of a ledger.
-fn filled_part(
-    alloc: Global,
-    schema: &Schema,
-    part: u32,
-    parts: u32,
-    ledger: &Ledger,
-) -> Result<Part, AllocError>
-    requires schema { ledger.now.schema ≡ schema.now }
-    requires fit { AllFit schema.now (all_facts ledger.now.accounts) }
-    requires parts { parts ≤ 8 }
-    requires part { part < parts }
-    ensures { IfOk result (λ filled. IsPartWith schema.now (all_facts ledger.now.accounts) parts part filled.cube) }
+// The cubes of so many parts, over no fact.
+fn new_parts(alloc: Global, parts: usize, ledger: &Ledger) -> Result<Vec<Part>, AllocError>
+    requires few { parts ≤ 8 }
+    ensures fit { AllFit ledger.now.schema (all_facts ledger.now.accounts) }
+    ensures long { IfOk result (λ new. length new.items ≡ parts) }
+    ensures each { IfOk result (λ new. ArePartsOver ledger.now.schema parts new.items) }
 {
-    let mut cube = Cube::new_part(alloc, schema, part, parts)?;
+    let schema = ledger.schema();
+    let mut new = Vec::with_capacity(alloc, parts)?;
+    for part in 0..parts {
+        let cube = Cube::new_part(alloc, schema, part as u32, parts as u32)?;
+        new.push(Part {
+            cube,
+            is_spent: false,
+        })?;
+    }
+    Ok(new)
+}
+
+// Fills the cubes of parts with the facts of all books of a ledger, by at most so many threads.
+fn fill_parts<T: Threads + Sync>(rt: &T, threads: usize, parts: &mut [Part], ledger: &Ledger)
+    requires threads { 1 ≤ threads }
+    requires fit { AllFit ledger.now.schema (all_facts ledger.now.accounts) }
+    requires each { (part : ℕ) (d : ThePart) → part < length parts.old →
+        (get_or parts.old part d).cube.schema ≡ ledger.now.schema }
+    ensures number { length parts.new ≡ length parts.old }
+    ensures each { AllFill (all_facts ledger.now.accounts) parts.old parts.new }
+{
+    for_each_mut(
+        rt,
+        parts,
+        threads,
+        &|_, part| {
+            fill_part(part, ledger);
+        },
+    );
+}
+
+fn fill_part(part: &mut Part, ledger: &Ledger)
+    requires fit { AllFit ledger.now.schema (all_facts ledger.now.accounts) }
+    requires schema { part.old.cube.schema ≡ ledger.now.schema }
+    ensures { part.new.is_spent ≡ false →
+        Fills (all_facts ledger.now.accounts) part.old.cube part.new.cube }
+{
+    part.is_spent = fill_cube(&mut part.cube, ledger).is_err();
+}
+
+// Fills a cube with the facts of all books of a ledger. The only error is want of memory, or of numbers to count the facts
+// with.
+fn fill_cube(cube: &mut Cube, ledger: &Ledger) -> Result<(), AllocError>
+    requires fit { AllFit ledger.now.schema (all_facts ledger.now.accounts) }
+    requires schema { cube.old.schema ≡ ledger.now.schema }
+    ensures { OnOk result (Fills (all_facts ledger.now.accounts) cube.old cube.new) }
+{
     let mut finest = cube.finest()?;
     fill(&mut finest, ledger)?;
     cube.fill(finest)?;
-    Ok(Part {
-        cube,
-        is_spent: false,
-    })
+    Ok(())
 }

@@ -1,8 +1,7 @@
 -- Filters of lists, of grouping sets and of the rows of a cube.
-use Rattle.std.specs.Prelude.{◌≡◌, ◌==◌, ◌≤◌, ◌%◌, ℕ, Bool, true, List, [], ◌∷◌, map, filter, ◌<◌, ◌^◌, length}
+use Rattle.std.specs.Prelude.{◌≡◌, ◌==◌, ◌≤◌, ℕ, Bool, true, List, [], ◌∷◌, map, filter, ◌<◌, ◌^◌, length}
 use Rattle.std.proofs.Common.{refl, sym, ap, ◌∙◌, inl, inr}
 use Rattle.std.proofs.lemmas.List.Elements.{All-from_recursion, recursion_from_All, All-filter}
-use Rattle.std.proofs.Math.Nat.{mod-lt}
 use Rattle.std.proofs.lemmas.List.Kept.{IsStrictlySortedBy-filter}
 use Rattle.std.proofs.lemmas.Bool.{cases_Bool, or_cases, or_left, or_right, and_parts, and_from, eqb-true, eq-eqb}
 use Rattle.std.specs.List.{AllByRecursion}
@@ -10,7 +9,8 @@ use Rattle.cube_core.specs.Layout.{Layout, IsSchema}
 use Rattle.cube_core.proofs.GroupingLaws.{list_any-all_sets}
 use Rattle.cube_core.specs.Cube.{is_cell, key_of, HasAnswers, AreRowsOver}
 use Rattle.cube_core.specs.Order.{key_cmp}
-use Rattle.cube_core.specs.GroupingSet.{mask_of, all_sets, is_among, sets_of_part}
+use Rattle.cube_core.proofs.SetLaws.{part_of-below}
+use Rattle.cube_core.specs.GroupingSet.{mask_of, all_sets, is_among, part_of, sets_of_part}
 use Rattle.cube_core.specs.GroupingSet.{AreAmong}
 use Rattle.cube_laws.specs.Sets.{rows_in, IsTrueOfOne}
 use Rattle.cube_core.specs.declared.aggregate.Agg.{Agg}
@@ -85,29 +85,29 @@ filter-is_among p (first ∷ sets) set among = elim (cases_Bool (p first)) [
 
 -- a part has no set that isn't in the list
 pub is_among-sets_of_part : (parts j : ℕ) (sets : List ℕ) (set : ℕ) → is_among set (sets_of_part j parts sets) ≡ true → is_among set sets ≡ true
-is_among-sets_of_part parts j sets set among = (filter-is_among (λ other. other % parts == j) sets set among).0
+is_among-sets_of_part parts j sets set among = (filter-is_among (λ other. part_of parts other == j) sets set among).0
 
 -- a set that is in part k of so many leaves k
-sets_of_part-mod : (parts : ℕ) (sets : List ℕ) (set k : ℕ) → is_among set (sets_of_part k parts sets) ≡ true → k ≡ set % parts
-sets_of_part-mod parts sets set k among = sym (eqb-true (set % parts) k (filter-is_among (λ other. other % parts == k) sets set among).1)
+sets_of_part-mod : (parts : ℕ) (sets : List ℕ) (set k : ℕ) → is_among set (sets_of_part k parts sets) ≡ true → k ≡ part_of parts set
+sets_of_part-mod parts sets set k among = sym (eqb-true (part_of parts set) k (filter-is_among (λ other. part_of parts other == k) sets set among).1)
 
 -- a set is in the part that it leaves
-sets_of_part-own : (parts : ℕ) (sets : List ℕ) (set : ℕ) → is_among set sets ≡ true → is_among set (sets_of_part (set % parts) parts sets) ≡ true
-sets_of_part-own parts sets set among = is_among-filter (λ other. other % parts == set % parts) sets set among (eq-eqb (set % parts) (set % parts) refl)
+sets_of_part-own : (parts : ℕ) (sets : List ℕ) (set : ℕ) → is_among set sets ≡ true → is_among set (sets_of_part (part_of parts set) parts sets) ≡ true
+sets_of_part-own parts sets set among = is_among-filter (λ other. part_of parts other == part_of parts set) sets set among (eq-eqb (part_of parts set) (part_of parts set) refl)
 
 -- each set is in one part
 pub sets_of_part-unique : (parts : ℕ) (sets : List ℕ) (set : ℕ) → 1 ≤ parts → is_among set sets ≡ true
     → IsTrueOfOne parts (λ j. is_among set (sets_of_part j parts sets))
 sets_of_part-unique parts sets set some among =
-    (set % parts, mod-lt set some, sets_of_part-own parts sets set among, λ k here. sets_of_part-mod parts sets set k here)
+    (part_of parts set, part_of-below parts set some, sets_of_part-own parts sets set among, λ k here. sets_of_part-mod parts sets set k here)
 
 -- each cell is in one part
 pub is_cell-sets_of_part : (parts dimensions : ℕ) (sets : List ℕ) (facts : List Fact) (key : Key) → 1 ≤ parts → is_cell sets dimensions facts key ≡ true
     → IsTrueOfOne parts (λ j. is_cell (sets_of_part j parts sets) dimensions facts key)
 is_cell-sets_of_part parts dimensions sets facts key some cell =
     let halves = and_parts _ _ cell in (
-      mask_of key % parts,
-      mod-lt (mask_of key) some,
+      part_of parts (mask_of key),
+      part_of-below parts (mask_of key) some,
       and_from _ _ (sets_of_part-own parts sets (mask_of key) halves.0) halves.1,
       λ k here. sets_of_part-mod parts sets (mask_of key) k (and_parts _ _ here).0,
     )

@@ -1,7 +1,6 @@
 -- What a journal keeps of a session, record by record.
-use Rattle.std.proofs.Common.{◌≡◌, ◌⊎◌, inl, inr, ◌+◌, ◌≤◌, ℕ, zero, suc, true, false, List, [], ◌∷◌, ◌++◌, length, take, drop, refl, sym, ap, subst, ◌∙◌, add-one, arith, length-append}
-use Rattle.std.specs.Prelude.{Option, None, Some, IfSome, Result, Ok, Err, OnOk, OnErr, IfErr, if◌then◌else◌}
-use Rattle.std.specs.Io.KnownBytes.{Appends}
+use Rattle.std.proofs.Common.{◌≡◌, inl, inr, ◌+◌, ℕ, zero, suc, true, false, List, [], ◌∷◌, ◌++◌, take, drop, refl, sym, ap, subst, ◌∙◌, add-one, arith, length-append}
+use Rattle.std.specs.Prelude.{Option, None, Some, IfSome, Result, Ok, Err, OnOk, OnErr, IfErr}
 use Rattle.csv.proofs.WriteFacts.{appends-more}
 use Rattle.cube_core.specs.Arrival.{Arrivals}
 use Rattle.cube_core.specs.Items.{is_read}
@@ -9,7 +8,6 @@ use Rattle.cube_core.specs.Layout.{Layout}
 use Rattle.cube_feed.specs.Reading.{Advances, RecordsView}
 use Rattle.cube_live.specs.Keeping.{EndsIn, FailsKept, Keeping, KeepsFirst, KeepsOn, KeepsPart, KeepsUpTo, keeping_after, keeping_by, keeping_changed, keeping_with, made_sure, with_change}
 use Rattle.cube_live.specs.Live.{LiveView, LiveStandsAt}
-use Rattle.cube_live.specs.Request.{request_of}
 use Rattle.cube_live.specs.Serving.{Answered, AnsweredInPart, IsInputFault, IsJournalFault, Replied, ReplyFails}
 use Rattle.cube_live.specs.Session.{arrivals_after}
 use Rattle.cube_live.specs.declared.request.Request.{Request}

@@ -12,7 +12,7 @@ use Rattle.cube_core.specs.declared.change.Item.{Item}
 use Rattle.cube_core.specs.declared.change.LineFault.{LineFault}
 use Rattle.cube_core.proofs.ArrivalLaws.{of_source-append}
 use Rattle.cube_engine.specs.Ledger.{LedgerStandsAt}
-use Rattle.cube_live.specs.Live.{AreLast, LiveStandsAt, LiveView, TakesChange, TakesNext}
+use Rattle.cube_live.specs.Live.{AreLast, LiveView, TakesChange, TakesNext}
 use Rattle.cube_live.specs.Session.{last_number, said_item}
 
 -- the last of items that end with this one

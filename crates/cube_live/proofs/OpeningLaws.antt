@@ -1,15 +1,13 @@
 -- How an opening takes items, and that it stands over feeds that it was fed.
-use Rattle.std.proofs.Common.{◌≡◌, ◌≢◌, ◌+◌, ◌-◌, ◌<◌, ◌≤◌, ◌++◌, ◌∙◌, ℕ, zero, suc, List, [], ◌∷◌, length, get_or, replicate, refl, sym, ap, subst, arith}
+use Rattle.std.proofs.Common.{◌≡◌, ◌-◌, ◌<◌, ◌≤◌, ◌++◌, ◌∙◌, ℕ, zero, suc, List, [], ◌∷◌, length, get_or, replicate, refl, sym, ap, subst, arith}
 use Rattle.std.specs.Prelude.{slice_set}
-use Rattle.std.specs.List.{All}
-use Rattle.std.proofs.lemmas.List.Elements.{All-cons, All-nil}
 use Rattle.cube_core.specs.Arrival.{Arrivals}
 use Rattle.cube_core.specs.Layout.{Layout}
 use Rattle.cube_core.specs.Run.{Told, AreGood, AreItemsOf}
 use Rattle.cube_core.specs.declared.change.Item.{Item}
 use Rattle.cube_core.proofs.ListLaws.{AllZip-length}
 use Rattle.cube_engine.specs.Ledger.{LedgerStandsAt, LedgerView, new_account}
-use Rattle.cube_feeders.specs.FeedingAll.{IsNew, TakeAll}
+use Rattle.cube_feeders.specs.FeedingAll.{TakeAll}
 use Rattle.cube_feeders.specs.declared.roster.Gatherer.{Gatherer}
 use Rattle.cube_live.specs.Live.{AreLast, LiveStandsAt, LiveView}
 use Rattle.cube_live.specs.Opening.{IsOpening, OpeningStandsAt, OpeningView, OpensOver}

@@ -1,12 +1,10 @@
 -- The rows of the cubes of all parts, part by part.
 use Rattle.std.proofs.Common.{◌≡◌, ◌<◌, ◌≤◌, ◌+◌, ◌++◌, ◌∷◌, ◌∙◌, ℕ, Bool, true, List, [], length, map, get_or, refl, sym, ap, subst, arith, IsPermutation}
-use Rattle.std.specs.Prelude.{Contains}
 use Rattle.std.specs.List.{IsDistinct}
 use Rattle.std.specs.List.Sorted.{IsSortedBy}
 use Rattle.std.specs.Ordering.{is_lt}
 use Rattle.std.proofs.lemmas.List.{get_or-map, length-map}
-use Rattle.cube_core.specs.Cube.{AreRows, AreRowsOver}
-use Rattle.cube_core.specs.GroupingSet.{sets_of_part}
+use Rattle.cube_core.specs.Cube.{AreRows}
 use Rattle.cube_core.specs.Layout.{Layout}
 use Rattle.cube_core.specs.Order.{key_cmp}
 use Rattle.cube_core.specs.Query.{AreRowsWhere}
@@ -15,8 +13,7 @@ use Rattle.cube_core.specs.declared.fact.Fact.{Fact}
 use Rattle.cube_core.specs.declared.key.Key.{Key}
 use Rattle.cube_core.specs.declared.key.Row.{Row}
 use Rattle.cube_core.proofs.ListLaws.{Contains-nil}
-use Rattle.cube_cells.specs.Cube.{IsCubeOf, Lattice}
-use Rattle.cube_cells.specs.Rows.{AreRowsInOrder, CellsInOrder}
+use Rattle.cube_cells.specs.Cube.{IsCubeOf}
 use Rattle.cube_engine.specs.Builder.{BuilderView}
 use Rattle.cube_engine.specs.Ledger.{LedgerView, all_facts}
 use Rattle.cube_engine.specs.Parted.{ArePartsWith, IsPartWith}

@@ -19,7 +19,7 @@ mod session;
 pub use journal::{Journal, JournalFault, NoJournal};
 pub use live::{Live, LiveFault};
 pub use number::count_of;
-pub use opening::open;
+pub use opening::{open, open_unsettled};
 pub use parse::request_of;
 pub use refusals::print_refusals;
 pub use reply::{code_text, ok_line};

@@ -13,9 +13,6 @@ use std::alloc::{AllocError, Global};
 use std::marker::Model;
 use std::thread::Threads;
 
-/// How many facts may wait before the cubes follow the books without a question.
-const MANY: usize = 10_000;
-
 /// Why a record wasn't taken.
 #[derive(Clone, Copy, Debug, PartialEq, Eq)]
 pub enum LiveFault {
@@ -74,30 +71,10 @@ impl<'s> Live<'s> {
         }
     }
 
-    /// Takes what the next record of a source says, 1 to 64: a change, or a line fault.
+    /// Takes what the next record of a source says, 1 to 64: a change, or a line fault. The cubes wait for the next question.
     ///
     /// It is refused, and noted so, as an item of a feed is, and that is no error. On an error nothing changed.
-    pub fn apply<T: Threads + Sync>(
-        &mut self,
-        rt: &T,
-        source: u32,
-        what: Result<Change, LineFault>,
-    ) -> Result<(), LiveFault>
-        requires first { 1 ≤ source }
-        requires last { source ≤ 64 }
-        ensures takes { OnOk result (TakesNext source what self.old self.new) }
-        ensures schema { self.new.schema ≡ self.old.schema }
-        ensures same { OnErr result (SameLive self.old self.new) }
-        ensures why { IfErr result (ExplainsLive source self.old) }
-    {
-        match self.settle_many(rt) {
-            Ok(()) => self.take(source, what),
-            Err(_) => Err(LiveFault::Memory),
-        }
-    }
-
-    // The same, where the cubes may wait.
-    fn take(&mut self, source: u32, what: Result<Change, LineFault>) -> Result<(), LiveFault>
+    pub fn apply(&mut self, source: u32, what: Result<Change, LineFault>) -> Result<(), LiveFault>
         requires first { 1 ≤ source }
         requires last { source ≤ 64 }
         ensures takes { OnOk result (TakesNext source what self.old self.new) }
@@ -120,18 +97,7 @@ impl<'s> Live<'s> {
         }
     }
 
-    // Has the cubes follow the books where many facts wait.
-    fn settle_many<T: Threads + Sync>(&mut self, rt: &T) -> Result<(), AllocError>
-        ensures { self.new ≡ self.old }
-    {
-        if self.parted.waiting() < MANY {
-            return Ok(());
-        }
-        self.settle(rt)
-    }
-
-    /// The text that answers a question over what was taken. The only error is want of memory; after one in which the
-    /// cubes were to follow the books, each question has it.
+    /// The text that answers a question over what was taken. The only error is want of memory.
     pub fn text_of<T: Threads + Sync>(
         &mut self,
         rt: &T,
@@ -146,8 +112,8 @@ impl<'s> Live<'s> {
         self.shown(question)
     }
 
-    // Has the cubes follow the books.
-    fn settle<T: Threads + Sync>(&mut self, rt: &T) -> Result<(), AllocError>
+    /// Has the cubes follow the books, as each question does. The only error is want of memory.
+    pub fn settle<T: Threads + Sync>(&mut self, rt: &T) -> Result<(), AllocError>
         ensures { self.new ≡ self.old }
     {
         self.parted.settle(rt, self.threads)

@@ -96,22 +96,20 @@ impl Opening {
         Ok(())
     }
 
-    // The cubes of what was taken, over all grouping sets of the schema: as many parts as threads, but at most 8. The only
-    // error is want of memory.
-    fn finish<'s, T: Threads + Sync>(
-        self,
-        rt: &T,
-        alloc: Global,
-        schema: &'s Schema,
-        threads: usize,
-    ) -> Result<Live<'s>, AllocError>
+    // What a session starts from, where at most so many threads make the cubes.
+    fn finish<'s>(self, alloc: Global, schema: &'s Schema, threads: usize) -> Live<'s>
         requires { self.ledger.schema ≡ schema.now }
-        ensures schema { IfOk result (λ live. live.schema ≡ schema.now) }
-        ensures stands { IfOk result (λ live. (first : OpeningView) (arrivals : Arrivals) →
-            OpeningStandsAt first self arrivals → LiveStandsAt live arrivals) }
+        ensures schema { result.schema ≡ schema.now }
+        ensures stands { (first : OpeningView) (arrivals : Arrivals) →
+            OpeningStandsAt first self arrivals → LiveStandsAt result arrivals }
     {
-        let parted = Parted::of(rt, alloc, schema, threads.clamp(1, 8), self.ledger)?;
-        Ok(Live::new(alloc, schema, parted, self.numbers, threads))
+        Live::new(
+            alloc,
+            schema,
+            Parted::of(alloc, self.ledger),
+            self.numbers,
+            threads,
+        )
     }
 }
 
@@ -137,6 +135,28 @@ pub fn open<'s, T: Threads + Wait + Sync, R: Read + Drop + Send, G: Gate + Sync>
     ensures schema { IfOk result (λ live. live.schema ≡ schema.now) }
     ensures err { IfErr result (ExplainsFeeding schema.now (map R.Read.remaining readers.items)) }
 {
+    let mut live = open_unsettled(rt, alloc, schema, readers, settings, gate)?;
+    match live.settle(rt) {
+        Ok(()) => Ok(live),
+        Err(_) => Err(FeedingFault::Full),
+    }
+}
+
+/// Opens a session as [`open`] does, but the cubes are made when they are settled first, or asked.
+pub fn open_unsettled<'s, T: Threads + Wait + Sync, R: Read + Drop + Send, G: Gate + Sync>(
+    rt: &T,
+    alloc: Global,
+    schema: &'s Schema,
+    readers: Vec<R>,
+    settings: &Settings,
+    gate: &G,
+) -> Result<Live<'s>, FeedingFault>
+    requires { vec_len readers ≤ 64 }
+    ensures ok { IfOk result (λ live.
+        OpensOver schema.now (map R.Read.remaining readers.items) (LiveStandsAt live)) }
+    ensures schema { IfOk result (λ live. live.schema ≡ schema.now) }
+    ensures err { IfErr result (ExplainsFeeding schema.now (map R.Read.remaining readers.items)) }
+{
     let Ok(opening) = Opening::new(alloc, schema, readers.len() as u32) else {
         return Err(FeedingFault::Memory);
     };
@@ -149,10 +169,7 @@ pub fn open<'s, T: Threads + Wait + Sync, R: Read + Drop + Send, G: Gate + Sync>
         opening,
         gate,
     )?;
-    match opening.finish(rt, alloc, schema, settings.threads()) {
-        Ok(live) => Ok(live),
-        Err(_) => Err(FeedingFault::Full),
-    }
+    Ok(opening.finish(alloc, schema, settings.threads()))
 }
 
 // An opening that has taken all feeds, of which no item came to it before; no thread is started where there are none.

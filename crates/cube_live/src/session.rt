@@ -148,7 +148,7 @@ fn take_record<T: Threads + Sync, W: Write, J: Journal>(
 {
     match request_of(alloc, live.schema(), fields)? {
         Request::Change(source) => {
-            match change(rt, alloc, live, source, fields, rest, journal) {
+            match change(alloc, live, source, fields, rest, journal) {
                 Ok(()) => Ok(sent),
                 Err(fault) => Err(fault),
             }
@@ -209,8 +209,7 @@ fn refuse<W: Write, J: Journal>(
 
 // Takes what the fields after the first say of a source, once the journal was told of the record; what is in another
 // shard is left alone.
-fn change<T: Threads + Sync, J: Journal>(
-    rt: &T,
+fn change<J: Journal>(
     alloc: Global,
     live: &mut Live<'_>,
     source: u32,
@@ -238,7 +237,7 @@ fn change<T: Threads + Sync, J: Journal>(
     }
     note(journal, source, fields)?;
     let what = change_of_record(alloc, live.schema(), rest)?;
-    match live.apply(rt, source, what) {
+    match live.apply(source, what) {
         Ok(()) => Ok(()),
         Err(LiveFault::TooMany) => Err(SessionFault::TooMany(source)),
         Err(LiveFault::Memory) => Err(SessionFault::Full),

@@ -1,12 +1,11 @@
 -- The rows of the parts of a cube, one part's after the other's and put in key order, are the rows of the cube.
-use Rattle.std.proofs.Common.{◌≡◌, ◌<◌, ◌≤◌, ◌+◌, ◌%◌, ◌==◌, ◌&&◌, ◌||◌, ◌↔◌, ◌⊎◌, inl, inr, ℕ, Bool, true, false, List, [], ◌∷◌, ◌++◌, length, map, get_or, refl, sym, ap, subst, ◌∙◌, arith, Contains, IsPermutation}
+use Rattle.std.proofs.Common.{◌≡◌, ◌<◌, ◌≤◌, ◌+◌, ◌==◌, ◌&&◌, ◌||◌, ◌↔◌, ◌⊎◌, inl, inr, ℕ, Bool, true, false, List, [], ◌∷◌, ◌++◌, length, map, get_or, refl, sym, ap, subst, ◌∙◌, arith, Contains, IsPermutation}
 use Rattle.std.specs.Prelude.{IsTrue, Some}
 use Rattle.std.specs.Cmp.{IsEquivalence}
 use Rattle.std.specs.List.{AllByRecursion, IsDistinct}
 use Rattle.std.specs.List.Sorted.{IsSortedBy, IsStrictlySortedBy}
 use Rattle.std.specs.Ordering.{eq_by_cmp, is_lt}
 use Rattle.std.proofs.lemmas.Bool.{and_parts, and_from, both_ways, cases_Bool, eqb-true, eq-eqb}
-use Rattle.std.proofs.Math.Nat.{mod-lt}
 use Rattle.std.proofs.lemmas.Cmp.{eq_by_cmp_equiv}
 use Rattle.std.proofs.lemmas.List.{get_or-map, length-map, map-append}
 use Rattle.std.proofs.lemmas.List.Elements.{Contains-append_left, Contains-append_right, Contains-append_cases}
@@ -14,7 +13,8 @@ use Rattle.std.proofs.lemmas.List.Sorted.{IsPermutation-sym, IsPermutation-map, 
 use Rattle.std.proofs.lemmas.Map.Keys.{sorted_from_all_adjacent, IsDistinct-IsPermutation, IsDistinct-from_sorted, IsDistinct-head, IsDistinct-tail, IsDistinct-cons, apart_from_distinct}
 use Rattle.std.proofs.lemmas.Map.Views.{tells_apart}
 use Rattle.cube_core.specs.Cube.{is_cell, key_of, HasAnswers, AreRowsOver}
-use Rattle.cube_core.specs.GroupingSet.{mask_of, is_among, sets_of_part}
+use Rattle.cube_core.proofs.SetLaws.{part_of-below}
+use Rattle.cube_core.specs.GroupingSet.{mask_of, is_among, part_of, sets_of_part}
 use Rattle.cube_core.specs.Order.{key_cmp}
 use Rattle.cube_core.specs.Query.{AreRowsWhere}
 use Rattle.cube_core.specs.declared.aggregate.Agg.{Agg}
@@ -29,21 +29,21 @@ use Rattle.cube_feeders.proofs.WireLaws.{lt-cases}
 
 -- ---- the sets of a part
 -- a set is in a part exactly where it is in the list and leaves the part
-among-part : (part parts : ℕ) (sets : List ℕ) (set : ℕ) → is_among set (sets_of_part part parts sets) ≡ (set % parts == part) && is_among set sets
-among-part part parts [] set = no (set % parts == part) where
+among-part : (part parts : ℕ) (sets : List ℕ) (set : ℕ) → is_among set (sets_of_part part parts sets) ≡ (part_of parts set == part) && is_among set sets
+among-part part parts [] set = no (part_of parts set == part) where
   no : (b : Bool) → false ≡ b && false
   no true = refl
   no false = refl
-among-part part parts (first ∷ sets) set = elim (cases_Bool (first % parts == part)) [
+among-part part parts (first ∷ sets) set = elim (cases_Bool (part_of parts first == part)) [
   | inl kept ↦ rw kept (head (cases_Bool (first == set)) kept (among-part part parts sets set))
   | inr left ↦ rw left (among-part part parts sets set ∙ other (cases_Bool (first == set)) left)
 ] where
-  head : (first == set ≡ true) ⊎ (first == set ≡ false) → first % parts == part ≡ true → is_among set (sets_of_part part parts sets) ≡ (set % parts == part) && is_among set sets →
-      (first == set || is_among set (sets_of_part part parts sets)) ≡ (set % parts == part) && (first == set || is_among set sets)
+  head : (first == set ≡ true) ⊎ (first == set ≡ false) → part_of parts first == part ≡ true → is_among set (sets_of_part part parts sets) ≡ (part_of parts set == part) && is_among set sets →
+      (first == set || is_among set (sets_of_part part parts sets)) ≡ (part_of parts set == part) && (first == set || is_among set sets)
   head (inl same) kept rest = let is : first ≡ set = eqb-true first set same in rw (same, ← is, kept) refl
   head (inr apart) kept rest = rw apart rest
 
-  other : (first == set ≡ true) ⊎ (first == set ≡ false) → first % parts == part ≡ false → (set % parts == part) && is_among set sets ≡ (set % parts == part) && (first == set || is_among set sets)
+  other : (first == set ≡ true) ⊎ (first == set ≡ false) → part_of parts first == part ≡ false → (part_of parts set == part) && is_among set sets ≡ (part_of parts set == part) && (first == set || is_among set sets)
   other (inl same) left = let is : first ≡ set = eqb-true first set same in rw (← is, left) refl
   other (inr apart) left = rw apart refl
 
@@ -152,7 +152,7 @@ rows-sorted P aggregates facts rows sorted moved order are = (
 pub record IsKeyBelow (count parts : ℕ) (test : Key → Bool) (sets : List ℕ) (dimensions : ℕ) (facts : List Fact) (key : Key) : Type 0 where
   pub cell : is_cell sets dimensions facts key ≡ true
   pub passes : test key ≡ true
-  pub below : mask_of key % parts < count
+  pub below : part_of parts (mask_of key) < count
 
 -- these are the rows of the first so many parts of a cube, in any order, whose keys pass a test
 abbrev pub AreRowsBelow : ℕ → ℕ → (Key → Bool) → List ℕ → ℕ → List Agg → List Fact → List Row → Type 0
@@ -171,20 +171,20 @@ rows-where test sets dimensions aggregates facts rows are = record {
 }
 
 -- a cell of a part is a cell whose mask leaves the part
-cell-part : (part parts : ℕ) (sets : List ℕ) (dimensions : ℕ) (facts : List Fact) (key : Key) → is_cell (sets_of_part part parts sets) dimensions facts key ≡ (mask_of key % parts == part) && is_cell sets dimensions facts key
-cell-part part parts sets dimensions facts key = rw (among-part part parts sets (mask_of key)) (grouped (mask_of key % parts == part) (is_among (mask_of key) sets) _) where
+cell-part : (part parts : ℕ) (sets : List ℕ) (dimensions : ℕ) (facts : List Fact) (key : Key) → is_cell (sets_of_part part parts sets) dimensions facts key ≡ (part_of parts (mask_of key) == part) && is_cell sets dimensions facts key
+cell-part part parts sets dimensions facts key = rw (among-part part parts sets (mask_of key)) (grouped (part_of parts (mask_of key) == part) (is_among (mask_of key) sets) _) where
   grouped : (a b c : Bool) → (a && b) && c ≡ a && (b && c)
   grouped true b c = refl
   grouped false b c = refl
 
-of-part : (part parts : ℕ) (test : Key → Bool) (sets : List ℕ) (dimensions : ℕ) (facts : List Fact) (key : Key) → IsKeyOf part parts test sets dimensions facts key → (mask_of key % parts ≡ part) × (is_cell sets dimensions facts key ≡ true)
+of-part : (part parts : ℕ) (test : Key → Bool) (sets : List ℕ) (dimensions : ℕ) (facts : List Fact) (key : Key) → IsKeyOf part parts test sets dimensions facts key → (part_of parts (mask_of key) ≡ part) × (is_cell sets dimensions facts key ≡ true)
 of-part part parts test sets dimensions facts key is =
-    let both = and_parts (mask_of key % parts == part) (is_cell sets dimensions facts key) (sym (cell-part part parts sets dimensions facts key) ∙ is.0) in
-    (eqb-true (mask_of key % parts) part both.0, both.1)
+    let both = and_parts (part_of parts (mask_of key) == part) (is_cell sets dimensions facts key) (sym (cell-part part parts sets dimensions facts key) ∙ is.0) in
+    (eqb-true (part_of parts (mask_of key)) part both.0, both.1)
 
-to-part : (part parts : ℕ) (test : Key → Bool) (sets : List ℕ) (dimensions : ℕ) (facts : List Fact) (key : Key) → mask_of key % parts ≡ part → is_cell sets dimensions facts key ≡ true → test key ≡ true → IsKeyOf part parts test sets dimensions facts key
+to-part : (part parts : ℕ) (test : Key → Bool) (sets : List ℕ) (dimensions : ℕ) (facts : List Fact) (key : Key) → part_of parts (mask_of key) ≡ part → is_cell sets dimensions facts key ≡ true → test key ≡ true → IsKeyOf part parts test sets dimensions facts key
 to-part part parts test sets dimensions facts key at cell passes =
-    (cell-part part parts sets dimensions facts key ∙ and_from (mask_of key % parts == part) (is_cell sets dimensions facts key) (eq-eqb (mask_of key % parts) part at) cell, passes)
+    (cell-part part parts sets dimensions facts key ∙ and_from (part_of parts (mask_of key) == part) (is_cell sets dimensions facts key) (eq-eqb (part_of parts (mask_of key)) part at) cell, passes)
 
 -- the rows of part 0
 pub rows-first : (parts : ℕ) (test : Key → Bool) (sets : List ℕ) (dimensions : ℕ) (aggregates : List Agg) (facts : List Fact) (rows : List Row) → AreRowsWhere test (sets_of_part 0 parts sets) dimensions aggregates facts rows →
@@ -206,7 +206,7 @@ rows-more part parts test sets dimensions aggregates facts rows more are add =
         | inl p ↦ let below = p.below in record { cell = p.cell; passes = p.passes; below = omega arith }
         | inr q ↦ let o = of-part part parts test sets dimensions facts key q in let at = o.0 in record { cell = o.1; passes = q.1; below = omega arith }
       ],
-      λ is. elim (lt-cases (mask_of key % parts) part is.below) [
+      λ is. elim (lt-cases (part_of parts (mask_of key)) part is.below) [
         | inl less ↦ inl (record { cell = is.cell; passes = is.passes; below = less })
         | inr at ↦ inr (to-part part parts test sets dimensions facts key at is.cell is.passes)
       ],
@@ -220,7 +220,7 @@ below-all : (parts : ℕ) (test : Key → Bool) (sets : List ℕ) (dimensions : 
 below-all parts test sets dimensions aggregates facts rows some are ordered = record {
   cells = λ key. (
     λ inside. let is = (are.keys key).0 inside in (is.cell, is.passes),
-    λ is. (are.keys key).1 (record { cell = is.0; passes = is.1; below = mod-lt (mask_of key) some }),
+    λ is. (are.keys key).1 (record { cell = is.0; passes = is.1; below = part_of-below parts (mask_of key) some }),
   );
   ordered = ordered;
   answers = are.answers;
@@ -258,29 +258,29 @@ over-rows sets dimensions aggregates facts rows are = record {
 pub row-of-part : (part parts : ℕ) (sets : List ℕ) (dimensions : ℕ) (aggregates : List Agg) (facts : List Fact) (key : Key) (row : Row) → IsRowOver (sets_of_part part parts sets) dimensions aggregates facts key (Some row) →
     IsRowOver sets dimensions aggregates facts key (Some row)
 row-of-part part parts sets dimensions aggregates facts key row is =
-    let both = and_parts (mask_of key % parts == part) (is_cell sets dimensions facts key) (sym (cell-part part parts sets dimensions facts key) ∙ is.0) in
+    let both = and_parts (part_of parts (mask_of key) == part) (is_cell sets dimensions facts key) (sym (cell-part part parts sets dimensions facts key) ∙ is.0) in
     (both.1, is.1, is.2)
 
 -- a key that is a cell is of none of the first so many parts
 abbrev pub IsNotBelow : ℕ → ℕ → List ℕ → ℕ → List Fact → Key → Type 0
-IsNotBelow count parts sets dimensions facts key = is_cell sets dimensions facts key ≡ true → count ≤ mask_of key % parts
+IsNotBelow count parts sets dimensions facts key = is_cell sets dimensions facts key ≡ true → count ≤ part_of parts (mask_of key)
 
 -- nor of one part more, where it is no cell of that
 pub not-below-more : (part parts : ℕ) (sets : List ℕ) (dimensions : ℕ) (facts : List Fact) (key : Key) → IsNotBelow part parts sets dimensions facts key → is_cell (sets_of_part part parts sets) dimensions facts key ≡ false →
     IsNotBelow (part + 1) parts sets dimensions facts key
 not-below-more part parts sets dimensions facts key none other cell =
     let above = none cell in
-    elim (lt-cases part (mask_of key % parts) (omega arith)) [
+    elim (lt-cases part (part_of parts (mask_of key)) (omega arith)) [
       | inl less ↦ omega arith
       | inr at ↦
           let there : is_cell (sets_of_part part parts sets) dimensions facts key ≡ true =
-          cell-part part parts sets dimensions facts key ∙ and_from (mask_of key % parts == part) (is_cell sets dimensions facts key) (eq-eqb (mask_of key % parts) part (sym at)) cell in
+          cell-part part parts sets dimensions facts key ∙ and_from (part_of parts (mask_of key) == part) (is_cell sets dimensions facts key) (eq-eqb (part_of parts (mask_of key)) part (sym at)) cell in
           absurd (both_ways _ other there)
     ]
 
 -- and of no part, it is no cell
 pub not-below-all : (parts : ℕ) (sets : List ℕ) (dimensions : ℕ) (facts : List Fact) (key : Key) → 1 ≤ parts → IsNotBelow parts parts sets dimensions facts key → is_cell sets dimensions facts key ≡ false
 not-below-all parts sets dimensions facts key some none = elim (cases_Bool (is_cell sets dimensions facts key)) [
-  | inl cell ↦ let above = none cell in let below = mod-lt (mask_of key) some in absurd (omega (arith, above, below))
+  | inl cell ↦ let above = none cell in let below = part_of-below parts (mask_of key) some in absurd (omega (arith, above, below))
   | inr not_cell ↦ not_cell
 ]

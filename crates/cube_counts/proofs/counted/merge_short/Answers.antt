@@ -1,7 +1,5 @@
 use Rattle.cube_counts.proofs.counted.merge_short.Goals.{in-One+in_ok-grown-in-One, in-Few+in_ok-log_of-in-Few}
-use Rattle.std.proofs.Common.{◌≡◌, rules}
-use Rattle.cube_counts.specs.Bag.{AddsBag}
-use Rattle.cube_counts.specs.Values.{bag_of}
+use Rattle.std.proofs.Common.{rules}
 use Rattle.cube_counts.proofs.counted.merge_short.Goals as goal
 
 pub returns : goal.returns

@@ -1,4 +1,3 @@
-use Rattle.std.proofs.Common.{inl, inr}
 use Rattle.std.proofs.lemmas.Result.{err_from_is_err_and}
 use Rattle.cube_live.specs.Keeping.{EndsIn, made_sure}
 use Rattle.cube_live.proofs.KeepingLaws as laws

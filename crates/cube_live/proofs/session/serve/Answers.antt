@@ -1,5 +1,5 @@
 use Rattle.std.proofs.Common.{◌∙◌, Result, Ok, Err, refl}
-use Rattle.std.specs.Prelude.{OnOk, IfSome}
+use Rattle.std.specs.Prelude.{OnOk}
 use Rattle.std.proofs.lemmas.Result.{err_from_is_err_and, on_ok_weaker}
 use Rattle.cube_live.proofs.ServingLaws.{HasGone-none, HasGone-more, HasGone-all, HasGone-fails}
 use Rattle.cube_live.specs.declared.session.SessionFault.TheVariants.{Full}

@@ -10,14 +10,14 @@ use Rattle.cube_live.proofs.ServingLaws.{Replied-change, ReplyFails-breaks, Repl
 use Rattle.cube_live.proofs.session.take_record.Goals as goal
 
 pub change-requires-clause-first : goal.change-requires-clause-first
-change-requires-clause-first g c = λ sync lives.
+change-requires-clause-first g c =
     let s = c.args.live.now.schema in
     let fields = fields_of c.args.fields.now in
     let asks : request.Change c.in-Change.source ≡ request_of s fields = sym c.in-Change.is ∙ (rw c.schema.ensures at c.in_ok-source.ensures) in
     (subst (λ (r : Request). IsSound s r) (sym asks) (IsSound-request_of s fields)).0
 
 pub change-requires-clause-last : goal.change-requires-clause-last
-change-requires-clause-last g c = λ sync lives.
+change-requires-clause-last g c =
     let s = c.args.live.now.schema in
     let fields = fields_of c.args.fields.now in
     let asks : request.Change c.in-Change.source ≡ request_of s fields = sym c.in-Change.is ∙ (rw c.schema.ensures at c.in_ok-source.ensures) in

@@ -4,7 +4,7 @@ use Rattle.cube_engine.proofs.PartedLaws.{AreBehind-refused}
 use Rattle.cube_engine.proofs.RulingLaws.{AtSource-Obeys, AtSource-put, AtSource-take}
 use Rattle.cube_engine.proofs.StandLaws.{LedgerStandsAt-Enters}
 use Rattle.cube_engine.specs.declared.ruling.Ruling.TheVariants.{Refuse, Put, Take}
-use Rattle.cube_engine.proofs.parted.Parted.apply.Goals as goal
+use Rattle.cube_engine.proofs.parted.Parted.enter.Goals as goal
 
 pub invariant_of-self : goal.invariant_of-self
 invariant_of-self c = λ fresh.

@@ -1,7 +1,7 @@
 use Rattle.std.proofs.Common.{◌≡◌, ◌<◌, ◌-◌, ◌∙◌, get_or, length, refl, arith}
 use Rattle.std.proofs.lemmas.List.{get_or_default}
 use Rattle.cube_live.proofs.LiveLaws.{TakesNext-numbered}
-use Rattle.cube_live.proofs.live.Live.take.Goals as goal
+use Rattle.cube_live.proofs.live.Live.apply.Goals as goal
 
 pub returns-in-Ok-clause-takes : goal.returns-in-Ok-clause-takes
 returns-in-Ok-clause-takes c =
