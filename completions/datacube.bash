@@ -57,7 +57,15 @@ M6
 M7
 M8
 standard input is taken
-too many cubes'
+too many cubes
+D1
+D2
+D3
+D4
+D5
+D6
+D7
+D8'
 
 _datacube() {
     local word=${COMP_WORDS[COMP_CWORD]} command=${COMP_WORDS[1]} words IFS=$' \t\n'
@@ -69,14 +77,14 @@ _datacube() {
     slice) words='--ring --shard --builders --threads --quiet -h --help' ;;
     drill) words='--ring --shard --builders --threads --quiet -h --help' ;;
     rollup) words='--ring --shard --builders --threads --quiet -h --help' ;;
-    live) words='--ring --shard --threads --quiet -h --help' ;;
+    live) words='--ring --shard --threads --quiet --store --wary -h --help' ;;
     merge) words='--partial --check --quiet -h --help' ;;
     explain) words='-h --help' ;;
     *) words= ;;
     esac
     if [ "$COMP_CWORD" -eq 1 ]; then
         COMPREPLY=($(compgen -W 'check print refusals slice drill rollup live merge explain -h --help -V --version' -- "$word"))
-    elif [[ ${COMP_WORDS[COMP_CWORD - 1]} == @(--builders|--ring|--threads) ]]; then
+    elif [[ ${COMP_WORDS[COMP_CWORD - 1]} == @(--builders|--ring|--shard|--threads) ]]; then
         compopt +o default
     elif [[ $word == -* ]]; then
         COMPREPLY=($(compgen -W "$words" -- "$word"))

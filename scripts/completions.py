@@ -2,7 +2,7 @@
 import re
 
 SECTION = re.compile(r"^(\w+):\n((?:  .*\n?)+)", re.MULTILINE)
-OPTION = re.compile(r"^  (?:(-\w), |    )(--[\w-]+)(?: <(\w+)>)? +(.*)$")
+OPTION = re.compile(r"^  (?:(-\w), |    )(--[\w-]+)(?: <([^>]+)>)? +(.*)$")
 ARGUMENT = re.compile(r"^  [<\[](\w+)[>\]](\.\.\.)? +(.*)$")
 MADE = "made by scripts/documents.py from what the program says"
 
@@ -10,6 +10,9 @@ MADE = "made by scripts/documents.py from what the program says"
 class Option:
     def __init__(self, short, long, value, about):
         self.short, self.long, self.value, self.about = short, long, value, about
+
+    def is_file(self):
+        return self.value == "FILE"
 
 
 class Argument:
@@ -58,7 +61,7 @@ def made_of(line):
 
 def bash_of(line):
     cases = "".join(f"    {name}) words='{' '.join(it.flags())}' ;;\n" for name, it in line.commands.items())
-    takes = "|".join(sorted({it.long for command in line.commands.values() for it in command.options if it.value}))
+    takes = "|".join(sorted({it.long for command in line.commands.values() for it in command.options if it.value and not it.is_file()}))
     codes = "\n".join(line.codes)
     return f"""# Completion of datacube for bash, {MADE}.
 _datacube_codes='{codes}'
@@ -128,7 +131,9 @@ def zsh_options(options):
     for it in options:
         about = f"[{quoted(it.about, '[]')}]"
         if it.value:
-            made.append(f"'{it.long}={about}:{it.value}: '")
+            made.append(f"'{it.long}={about}:{it.value}:{'_files' if it.is_file() else ' '}'")
+        elif not it.short:
+            made.append(f"'{it.long}{about}'")
         else:
             made.append(f"'(- *)'{{{it.short},{it.long}}}'{about}'")
     return made
@@ -155,7 +160,8 @@ def fish_of(line):
 
 def fish_option(option):
     words = [f"-s {option.short[1:]}"] if option.short else []
-    words += [f"-l {option.long[2:]}", *(["-x"] if option.value else []), f"-d '{quoted(option.about, '')}'"]
+    takes = ["-r -F"] if option.is_file() else ["-x"] if option.value else []
+    words += [f"-l {option.long[2:]}", *takes, f"-d '{quoted(option.about, '')}'"]
     return " ".join(words)
 
 

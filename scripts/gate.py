@@ -129,6 +129,7 @@ def quick_parts(program):
         ("sessions beside a slow program", ["scripts/sessions.py", "--cases", "10", "--program", program]),
         ("the progress line in a terminal", ["scripts/progress.py", "--program", program]),
         ("the Python package", ["scripts/python_tests.py", "--program", program]),
+        ("a session over a store, the short form", ["scripts/store_trials.py", "--short", "--program", program]),
     ]
     if shutil.which("cc"):
         parts.append(("hostile use, the short form", ["scripts/hostile.sh", "--short", "--program", program]))

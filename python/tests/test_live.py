@@ -3,6 +3,7 @@ import os
 import random
 import signal
 import sys
+import tempfile
 import threading
 import unittest
 
@@ -208,6 +209,26 @@ class Ends(unittest.TestCase):
             counts = [live.slice({})[0]["count(*)"] for live in (one, two)]
             self.assertEqual((sum(counts), min(counts) > 0), (50, True))
             self.assertEqual(len(one.refusals() + two.refusals()), 1)
+
+    def test_a_store(self):
+        """A session over a store goes on where the last one ended, also where that was killed; another schema is refused."""
+        with tempfile.TemporaryDirectory() as folder:
+            store = os.path.join(folder, "sales.db")
+            with Live(PLAIN, store=store) as live:
+                live.insert(1, "a", ["west", "tea"], [2])
+            live = Live(PLAIN, store=store, wary=True)
+            live.insert(1, "b", ["west", None], [3])
+            self.assertEqual(live.slice({})[0]["count(*)"], 2)
+            os.kill(live._process.pid, signal.SIGKILL)
+            live._process.wait()
+            with Live(PLAIN, store=store) as live:
+                self.assertEqual(live.slice({})[0]["count(*)"], 2)
+                with self.assertRaises(datacube.Ended) as caught:
+                    Live(PLAIN, store=store)
+                self.assertEqual((caught.exception.line, caught.exception.status), ("D1", 1))
+            with self.assertRaises(datacube.Ended) as caught:
+                Live(SHORT, store=store)
+            self.assertEqual((caught.exception.line, caught.exception.status), ("D5 0", 1))
 
     def test_faults_of_feeds_are_told_at_once(self):
         for feeds, line, status in ((["none.csv"], "feed 1 unreadable", 1), ([__file__], "G3 1 F3", 1), ([os.devnull] * 65, "too many feeds", 2)):

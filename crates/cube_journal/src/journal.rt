@@ -127,6 +127,7 @@ impl<S: Store> ChangeJournal<S> {
     pub fn commit(&mut self) -> Result<(), StoreError>
         ensures ok { OnOk result (IsClean (S.Store.view self.new.store) → Commits (S.Store.view self.old.store) (S.Store.view self.new.store)) }
         ensures counts { OnOk result ((self.new.count ≡ self.old.count) × (self.new.committed ≡ self.old.count)) }
+        ensures reals { OnOk result (IsClean (S.Store.view self.new.store) → (S.Store.view self.new.store).reals ≡ (S.Store.view self.old.store).reals) }
         ensures durable { OnOk result (IsClean (S.Store.view self.new.store) → (db : Trees) → S.Store.recovers self.new.store db → Holds db (held_in (S.Store.view self.old.store)) (noted_in (S.Store.view self.old.store))) }
         ensures err { OnErr result (IsClean (S.Store.view self.new.store) → Undoes (S.Store.view self.old.store) (S.Store.view self.new.store)) }
         ensures taken_back { OnErr result ((self.new.count ≡ self.old.committed) × (self.new.committed ≡ self.old.committed)) }

@@ -1,5 +1,5 @@
 -- Which codes a refusal may have.
-use Rattle.std.proofs.Common.{◌≡◌, ◌⊎◌, inl, inr, ℕ}
+use Rattle.std.proofs.Common.{◌≡◌, ◌⊎◌, inl, inr, ℕ, IsTrue}
 use Rattle.sqlite_wal.specs.declared.error.Error.{Error}
 use Rattle.sqlite_wal.specs.declared.error.Error.TheVariants as log
 use Rattle.sqlite_wal.specs.Outcome.{HasCause, OnlyIf}
@@ -8,10 +8,11 @@ use Rattle.sqlite_store.specs.declared.error.OpenError.TheVariants as refusal
 use Rattle.sqlite_store.specs.Opening.{FailsToOpen}
 use Rattle.sqlite_trees.specs.declared.error.StoreError.{StoreError}
 use Rattle.sqlite_trees.specs.declared.error.StoreError.TheVariants as cause
+use Rattle.sqlite_trees.specs.View as trees
 use Rattle.cube_journal.specs.declared.fault.OpenFault.{OpenFault}
 use Rattle.cube_journal.specs.declared.fault.OpenFault.TheVariants as kind
 use Rattle.cube_journal.specs.State as journal
-use Rattle.cube_store.specs.Codes.{code_of, open_code_of, file_code_of, look_code_of, IsFailedCall}
+use Rattle.cube_store.specs.Codes.{code_of, open_code_of, file_code_of, look_code_of, IsFailedCall, HasReason}
 
 -- a look that only a log without end stops
 pub look_fails : (a b : ℕ) (P : Type 0) (e : Error) → HasCause a b (OnlyIf log.Full P) e → IsFailedCall (look_code_of e)
@@ -60,3 +61,12 @@ start_fails fault cant kind.NotEmpty h = h
 start_fails fault cant (kind.Feed source) h = h
 start_fails fault cant (kind.Row number) h = h
 start_fails fault cant kind.TooMany h = h
+
+-- a copy of the log fails for want of memory, or at a fault
+pub copy_fails : (was : trees.View) (fault : Type 0) (e : StoreError) → trees.HasCause was fault ⊥ e → HasReason fault (IsTrue was.is_broken) (code_of e)
+copy_fails was fault cause.OutOfMemory h = tt
+copy_fails was fault cause.Io h = inl h
+copy_fails was fault cause.Corrupt h = inl h
+copy_fails was fault cause.Full h = h
+copy_fails was fault cause.Broken h = inr h
+copy_fails was fault cause.Unstorable h = absurd h

@@ -1,20 +1,50 @@
 -- What a journal keeps, call by call.
-use Rattle.std.proofs.Common.{◌≡◌, ◌⊎◌, inl, inr, ◌≤◌, ℕ, List, [], ◌∷◌, ◌++◌, length, take, IsTrue, refl, sym, ap, subst, ◌∙◌, arith, append_assoc, length-append}
-use Rattle.std.specs.Prelude.{◌+◌, Result, Ok, Err, OnErr}
+use Rattle.std.proofs.Common.{◌≡◌, ◌⊎◌, inl, inr, ◌<◌, ◌≤◌, ◌^◌, ℕ, Bool, true, false, List, [], ◌∷◌, ◌++◌, length, IsTrue, refl, sym, ap, subst, ◌∙◌, arith, append_assoc, length-append}
+use Rattle.std.specs.Prelude.{◌+◌, Result, Ok, Err, IfErr, OnErr}
+use Rattle.std.specs.Result.{IsErrAnd}
 use Rattle.std.proofs.lemmas.List.{append-nil, take_all, take-append-le}
+use Rattle.sqlite_disk.specs.Disk.{MoreFaults}
+use Rattle.sqlite_trees.specs.declared.error.StoreError.{StoreError}
+use Rattle.sqlite_trees.specs.declared.error.StoreError.TheVariants as cause
 use Rattle.sqlite_trees.specs.Tree.{Trees}
-use Rattle.sqlite_trees.specs.View.{View, IsClean}
-use Rattle.cube_journal.specs.Rows.{Entry}
-use Rattle.cube_journal.specs.State.{held_in, stored_in, noted_in, Holds, Appends, Commits, GoesOn}
-use Rattle.cube_store.specs.Keeping.{Batch, LeavesPart, Stands, HasKept, HasBroken}
+use Rattle.sqlite_trees.specs.View.{View, IsClean, IsStorableRow}
+use Rattle.cube_journal.specs.Rows.{Entry, IsOfSource, row_of}
+use Rattle.cube_journal.specs.State.{held_in, stored_in, noted_in, Holds, Appends, Commits, GoesOn, IsCause}
+use Rattle.cube_store.specs.Keeping.{Batch, LeavesPart, Stands, HasKept, HasBroken, CantStore, TakesAsBefore}
 
 -- what holds in any case holds where a result is an error
 pub OnErr-always : {T E X : Type 0} (r : Result T E) → X → OnErr r X
 OnErr-always (Ok value) holds = tt
 OnErr-always (Err fault) holds = holds
 
+-- what holds of an error holds of what a `?` makes of it
+pub IfErr-same : {T E : Type 0} (r : Result T E) (fault : E) (P : E → Type 0) → IsErrAnd r (λ e. e ≡ fault) → P fault → IfErr r P
+IfErr-same (Ok value) fault P same holds = absurd same
+IfErr-same (Err e) fault P same holds = subst P (sym same) holds
+
 pub more_waits : (waiting : ℕ) → waiting + 1 ≡ 0 → ⊥
 more_waits waiting none = omega (arith, none)
+
+-- ---- why a call fails
+abbrev HasNoRoom : Entry → (ℕ → ℕ) → ℕ → Type 0
+HasNoRoom change reals count = (IsStorableRow (reals 0) (row_of (count + 1) change) → ⊥) ⊎ ((2 ^ 62 < count + 1) ⊎ (IsOfSource change → ⊥))
+
+cant_store : (old mid : View) (count : ℕ) (change : Entry) → TakesAsBefore old mid → (IsTrue mid.is_open → length (held_in mid) ≡ count) → HasNoRoom change mid.reals count
+    → (is_open : Bool) → mid.is_open ≡ is_open → CantStore old change
+cant_store old mid count change same long none false shut = inl (same.stays shut)
+cant_store old mid count change same long none true is_open =
+    let counted : length (held_in old) ≡ count = ap length (sym same.held) ∙ long is_open in
+    inr (subst (λ n. HasNoRoom change old.reals n) (sym counted) (subst (λ (r : ℕ → ℕ). HasNoRoom change r count) same.reals none))
+
+-- an append that fails behind a call that went well
+pub append_fails : (a b c : ℕ) (old mid : View) (count : ℕ) (change : Entry) (e : StoreError) → a ≤ b → TakesAsBefore old mid → (IsTrue mid.is_open → length (held_in mid) ≡ count)
+    → IsCause (MoreFaults b c) (mid.is_open ≡ false) (HasNoRoom change mid.reals count) e → IsCause (MoreFaults a c) (old.is_open ≡ false) (CantStore old change) e
+append_fails a b c old mid count change cause.OutOfMemory up same long h = tt
+append_fails a b c old mid count change cause.Io up same long h = omega arith
+append_fails a b c old mid count change cause.Corrupt up same long h = omega arith
+append_fails a b c old mid count change cause.Full up same long h = omega arith
+append_fails a b c old mid count change cause.Broken up same long h = same.stays h
+append_fails a b c old mid count change cause.Unstorable up same long h = cant_store old mid count change same long h mid.is_open refl
 
 -- ---- what a crash leaves
 LeavesPart-whole : (first : View) (changes : List Entry) (db : Trees) → Holds db (stored_in first ++ changes) (noted_in first) → LeavesPart first changes (length changes) db

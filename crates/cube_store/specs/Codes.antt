@@ -1,5 +1,5 @@
 -- The code of each fault of a store.
-use Rattle.std.specs.Prelude.{⊤}
+use Rattle.std.specs.Prelude.{⊤, ◌⊎◌}
 use Rattle.sqlite_trees.specs.declared.error.StoreError.{StoreError}
 use Rattle.sqlite_trees.specs.declared.error.StoreError.TheVariants as cause
 use Rattle.sqlite_store.specs.declared.error.OpenError.{OpenError}
@@ -56,3 +56,14 @@ IsFailedCall (Feed source) = ⊥
 IsFailedCall Failed = ⊤
 IsFailedCall NoRoom = ⊤
 IsFailedCall Memory = ⊤
+
+-- Why a call on a store is told as failed: want of memory, a fault of the disk or of the file, or one that broke the store before (this project's choice).
+abbrev pub HasReason : Type 0 → Type 0 → StoreFault → Type 0
+HasReason fault broken InUse = ⊥
+HasReason fault broken CantOpen = ⊥
+HasReason fault broken NotAStore = ⊥
+HasReason fault broken (Row number) = ⊥
+HasReason fault broken (Feed source) = ⊥
+HasReason fault broken Failed = fault ⊎ broken
+HasReason fault broken NoRoom = fault
+HasReason fault broken Memory = ⊤

@@ -1,10 +1,10 @@
 -- What a journal of changes keeps from some first moment on, and what a crash may leave of it.
-use Rattle.std.specs.Prelude.{◌≡◌, ◌≤◌, ℕ, List, ◌++◌, length, take, IsTrue}
+use Rattle.std.specs.Prelude.{◌≡◌, ◌⊎◌, ◌+◌, ◌<◌, ◌≤◌, ◌^◌, ℕ, false, List, ◌++◌, length, take, IsTrue}
 use Rattle.std.specs.Coded.{Coded, code_by, coded×, coded_ℕ}
 use Rattle.std.specs.Prelude.{refl}
 use Rattle.sqlite_trees.specs.Tree.{Trees}
-use Rattle.sqlite_trees.specs.View.{View, IsClean}
-use Rattle.cube_journal.specs.Rows.{Entry}
+use Rattle.sqlite_trees.specs.View.{View, IsClean, IsStorableRow}
+use Rattle.cube_journal.specs.Rows.{Entry, IsOfSource, row_of}
 use Rattle.cube_journal.specs.State.{held_in, stored_in, noted_in, Holds}
 
 -- a store with the number of the changes that wait for a commit
@@ -22,6 +22,16 @@ pub record LeavesPart (first : View) (changes : List Entry) (sure : ℕ) (db : T
   pub at_least : sure ≤ count
   pub at_most : count ≤ length changes
   pub holds : Holds db (stored_in first ++ take count changes) (noted_in first)
+
+-- why a change can't be stored: a fault has shut the store, it isn't of a source, or its row has no room behind the changes so far
+abbrev pub CantStore : View → Entry → Type 0
+CantStore v change = (v.is_open ≡ false) ⊎ ((¬ IsStorableRow (v.reals 0) (row_of (length (held_in v) + 1) change)) ⊎ ((2 ^ 62 < length (held_in v) + 1) ⊎ (¬ IsOfSource change)))
+
+-- a store takes the changes that it took: it isn't shut, and has the same changes so far
+pub record TakesAsBefore (old new : View) : Type 0 where
+  pub stays : new.is_open ≡ false → old.is_open ≡ false
+  pub held : held_in new ≡ held_in old
+  pub reals : new.reals ≡ old.reals
 
 module _ {S : Type 0} (view : S → View) (recovers : S → Trees → Type 0) where
   -- an honest disk has these changes after those that were stored first, so many of them for certain

@@ -1,8 +1,9 @@
 //! A journal that commits by itself where many changes wait.
-ghost use Rattle.std.specs.Prelude.{◌≡◌, ◌<◌, ◌++◌, ◌∷◌, [], length, IsTrue, OnOk, OnErr};
+ghost use Rattle.std.specs.Prelude.{◌≡◌, ◌<◌, ◌++◌, ◌∷◌, [], length, false, IsTrue, IfErr, OnOk, OnErr};
+ghost use Rattle.sqlite_disk.specs.Disk.{MoreFaults};
 ghost use Rattle.sqlite_trees.specs.View.{IsClean};
-ghost use Rattle.cube_journal.specs.State.{held_in, stored_in};
-ghost use Rattle.cube_store.specs.Keeping.{HasBroken, HasKept, KeepsOn};
+ghost use Rattle.cube_journal.specs.State.{held_in, stored_in, GoesOn, IsCause};
+ghost use Rattle.cube_store.specs.Keeping.{HasBroken, HasKept, KeepsOn, CantStore, TakesAsBefore};
 
 use cube_journal::ChangeJournal;
 use sqlite_trees::error::StoreError;
@@ -64,8 +65,12 @@ impl<S: Store> BatchJournal<S> {
             (λ changes. changes ++ (source, content.now) ∷ []) (λ _ sure. sure)) }
         ensures broken { OnErr result (KeepsOn S.Store.view S.Store.recovers (HasBroken S.Store.view S.Store.recovers) self.old self.new
             (λ changes. changes ++ (source, content.now) ∷ []) (λ _ sure. sure)) }
+        ensures cause { IfErr result (λ e. IsClean (S.Store.view self.new.store) → IsCause (MoreFaults (S.Store.faults self.old.store) (S.Store.faults self.new.store))
+            ((S.Store.view self.old.store).is_open ≡ false) (CantStore (S.Store.view self.old.store) (source, content.now)) e) }
+        ensures on { GoesOn S.Store.view S.Store.faults self.old.store self.new.store }
     {
         self.make_room()?;
+        let _held = self.journal.count();
         self.journal.append(source, content)?;
         self.waiting += 1;
         Ok(())
@@ -78,6 +83,10 @@ impl<S: Store> BatchJournal<S> {
         ensures broken { OnErr result (KeepsOn S.Store.view S.Store.recovers (HasBroken S.Store.view S.Store.recovers) self.old self.new
             (λ changes. changes) (λ _ sure. sure)) }
         ensures room { OnOk result (self.new.waiting < 10000) }
+        ensures same { OnOk result (IsClean (S.Store.view self.new.store) → TakesAsBefore (S.Store.view self.old.store) (S.Store.view self.new.store)) }
+        ensures cause { IfErr result (λ e. IsClean (S.Store.view self.new.store) → IsCause (MoreFaults (S.Store.faults self.old.store) (S.Store.faults self.new.store))
+            ((S.Store.view self.old.store).is_open ≡ false) ⊥ e) }
+        ensures on { GoesOn S.Store.view S.Store.faults self.old.store self.new.store }
     {
         if self.waiting < MAX_WAITING {
             return Ok(());
@@ -94,6 +103,10 @@ impl<S: Store> BatchJournal<S> {
         ensures broken { OnErr result (KeepsOn S.Store.view S.Store.recovers (HasBroken S.Store.view S.Store.recovers) self.old self.new
             (λ changes. changes) (λ _ sure. sure)) }
         ensures none { OnOk result (self.new.waiting ≡ 0) }
+        ensures same { OnOk result (IsClean (S.Store.view self.new.store) → TakesAsBefore (S.Store.view self.old.store) (S.Store.view self.new.store)) }
+        ensures cause { IfErr result (λ e. IsClean (S.Store.view self.new.store) → IsCause (MoreFaults (S.Store.faults self.old.store) (S.Store.faults self.new.store))
+            ((S.Store.view self.old.store).is_open ≡ false) ⊥ e) }
+        ensures on { GoesOn S.Store.view S.Store.faults self.old.store self.new.store }
     {
         if self.waiting == 0 {
             return Ok(());

@@ -8,6 +8,7 @@
 mod batch;
 mod fault;
 mod files;
+mod noting;
 mod starting;
 mod tables;
 #[cfg(test)]
@@ -16,5 +17,6 @@ mod tests;
 pub use batch::BatchJournal;
 pub use fault::StoreFault;
 pub use files::{open_files, open_path};
+pub use noting::{NoteFault, note_of};
 pub use sqlite_std_file::{Unknown, Wary};
-pub use starting::{close, next_open, start};
+pub use starting::{close, copy_log, next_open, start};

@@ -1,5 +1,5 @@
 //! A journal over a store's files.
-ghost use Rattle.std.specs.Prelude.{◌≡◌, ◌⊎◌, IsTrue, IfOk, IfErr};
+ghost use Rattle.std.specs.Prelude.{◌≡◌, ◌⊎◌, IsTrue, IfOk, IfErr, OnOk};
 ghost use Rattle.sqlite_wal.specs.Recovery.{Image};
 ghost use Rattle.sqlite_trees.specs.Tree.{Trees};
 ghost use Rattle.sqlite_trees.specs.View.{View, IsClean};
@@ -7,6 +7,7 @@ ghost use Rattle.sqlite_store.specs.FileStore.{state, view, recovers};
 ghost use Rattle.cube_journal.specs.Rows.{entries_of};
 ghost use Rattle.cube_journal.specs.State.{stored_in, IsStore, IsUnmade, TakesAll, Starts};
 ghost use Rattle.cube_journal.specs.Making.{LeavesNotes};
+ghost use Rattle.cube_store.specs.Closing.{IsCopied, IsEmptied, IsUnharmed, LeavesOneFile, LeavesUnharmed};
 ghost use Rattle.cube_store.specs.Codes.{IsFailedCall};
 ghost use Rattle.cube_store.specs.Found.{StoreIn, IsFound};
 
@@ -55,13 +56,40 @@ pub fn next_open<D: Disk>(journal: &ChangeJournal<FileStore<D>>) -> Result<bool,
     }
 }
 
-/// Copies the log into the file, so that one file is left, and closes both. What isn't committed is lost.
-pub fn close<D: Disk + Drop>(journal: ChangeJournal<FileStore<D>>) -> Result<(), StoreFault> {
+/// Copies the log into the file, so that one file is left, and gives the store back, whose `close` gives the two files. What
+/// isn't committed is lost with the journal.
+///
+/// An error gives the store back too: want of memory, a fault of the disk, or one that broke the store before. What a crash
+/// leaves then it could leave before.
+pub fn copy_log<D: Disk>(
+    journal: ChangeJournal<FileStore<D>>,
+) -> Result<FileStore<D>, (StoreFault, FileStore<D>)>
+    ensures copied { IfOk result (λ it. IsClean (view it) → IsCopied journal.store it) }
+    ensures emptied { IfOk result (λ it. IsEmptied journal.store it) }
+    ensures unharmed { IfErr result (λ e. IsUnharmed journal.store e.1 e.0) }
+{
     let mut store = journal.into_store();
-    let done = store.checkpoint();
-    drop(store.close());
-    match done {
-        Ok(()) => Ok(()),
-        Err(error) => Err(StoreFault::from(error)),
+    match store.checkpoint() {
+        Ok(()) => Ok(store),
+        Err(error) => Err((StoreFault::from(error), store)),
+    }
+}
+
+/// Copies the log into the file, as `copy_log` does, and closes both. What isn't committed is lost.
+///
+/// An error closes them too. What a crash leaves then it could leave before.
+pub fn close<D: Disk + Drop>(journal: ChangeJournal<FileStore<D>>) -> Result<(), StoreFault>
+    ensures left { OnOk result (LeavesOneFile journal.store) }
+    ensures unharmed { IfErr result (λ fault. LeavesUnharmed journal.store fault) }
+{
+    match copy_log(journal) {
+        Ok(store) => {
+            drop(store.close());
+            Ok(())
+        }
+        Err((fault, store)) => {
+            drop(store.close());
+            Err(fault)
+        }
     }
 }

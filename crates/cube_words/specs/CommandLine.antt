@@ -95,6 +95,14 @@ shard_option = record (new_rule (codes "shard")) { long = Some (codes "shard"); 
 abbrev pub quiet_option : Rule
 quiet_option = flag (codes "quiet")
 
+-- `--store`, the file that keeps the changes of a session: any text
+abbrev pub store_option : Rule
+store_option = record (new_rule (codes "store")) { long = Some (codes "store"); value_names = 1 }
+
+-- `--wary`, which has nothing supposed of what a torn write leaves of the store
+abbrev pub wary_option : Rule
+wary_option = flag (codes "wary")
+
 -- a command with the feeds and the options of a run behind its words
 abbrev pub with_feeds : App → App
 with_feeds line = with_rule (with_rule (with_rule (with_rule (with_rule (with_rule line feed_words) ring_option) shard_option) builders_option) threads_option) quiet_option
@@ -119,7 +127,7 @@ abbrev pub rollup_line : App
 rollup_line = with_feeds (with_rule (with_rule (with_rule (new_app (codes "rollup")) schema_word) cell_word) dimension_word)
 
 abbrev pub live_line : App
-live_line = with_rule (with_rule (with_rule (with_rule (with_rule (with_rule (new_app (codes "live")) schema_word) optional_feed_words) ring_option) shard_option) threads_option) quiet_option
+live_line = with_rule (with_rule (with_rule (with_rule (with_rule (with_rule (with_rule (with_rule (new_app (codes "live")) schema_word) optional_feed_words) ring_option) shard_option) threads_option) quiet_option) store_option) wary_option
 
 abbrev pub merge_line : App
 merge_line = with_rule (with_rule (with_rule (with_rule (with_rule (new_app (codes "merge")) schema_word) merged_words) partial_option) check_option) quiet_option
@@ -194,14 +202,20 @@ pub record HasRoom (run : RunWords) : Type 0 where
   pub most_builders : run.builders ≤ 8
   pub threads : IfSome run.threads (IsUpTo 16)
 
--- the files and the options of `live` are those that clap found, each under its name, and the feeds, if any, in their order
-pub record AreLiveWords (rows : List Row) (live : LiveWords) : Type 0 where
+-- the files and the options that `live` has and each command with feeds too are those that clap found, each under its name, and the feeds, if any, in their order
+pub record AreSharedWords (rows : List Row) (live : LiveWords) : Type 0 where
   pub schema : first_of (codes "SCHEMA") rows ≡ Some live.schema.now
   pub feeds : words_of (codes "FEED") rows ≡ map (λ path. path.now) live.feeds.items
   pub ring : IsNumberOf (one_of (codes "ring") rows) (Some live.ring)
   pub threads : IsNumberOf (one_of (codes "threads") rows) live.threads
   pub shard : option_map (λ text. text.now) live.shard ≡ first_of (codes "shard") rows
   pub is_quiet : live.quiet ≡ is_given (one_of (codes "quiet") rows)
+
+-- the files and the options of `live` are those that clap found: those that it shares, the store, and whether to be wary of torn writes
+pub record AreLiveWords (rows : List Row) (live : LiveWords) : Type 0 where
+  pub shared : AreSharedWords rows live
+  pub store : option_map (λ text. text.now) live.store ≡ first_of (codes "store") rows
+  pub is_wary : live.wary ≡ is_given (one_of (codes "wary") rows)
 
 -- the options of `live`, where they are given, are in their bounds
 pub record LiveHasRoom (live : LiveWords) : Type 0 where

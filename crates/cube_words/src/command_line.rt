@@ -2,7 +2,7 @@
 ghost use Rattle.std.specs.Prelude.{◌≡◌, IfOk, false};
 ghost use Rattle.clap.specs.Words.{app_of, rule_of, shape_of, with_rule, with_subcommand};
 ghost use Rattle.clap.specs.declared.builder.command.Command.TheViews.{out-Command as fields_of};
-ghost use Rattle.cube_words.specs.CommandLine.{builders_option, cell_word, check_line, check_option, code_word, command_line, dimension_word, drill_line, explain_line, feed_words, live_line, merge_line, merged_words, named_line, optional_feed_words, partial_option, print_line, quiet_option, refusals_line, ring_option, rollup_line, schema_word, shard_option, slice_line, threads_option, with_feeds};
+ghost use Rattle.cube_words.specs.CommandLine.{builders_option, cell_word, check_line, check_option, code_word, command_line, dimension_word, drill_line, explain_line, feed_words, live_line, merge_line, merged_words, named_line, optional_feed_words, partial_option, print_line, quiet_option, refusals_line, ring_option, rollup_line, schema_word, shard_option, slice_line, store_option, threads_option, wary_option, with_feeds};
 
 use clap::builder::ValueParser;
 use clap::{Arg, ArgAction, Command};
@@ -15,7 +15,7 @@ dimensions. Each feed is a CSV file of inserts, updates and deletes; the cube is
 which are present in the end.";
 
 /// The program's version, by the rules of Semantic Versioning 2.0.0. It stands here alone.
-const VERSION: &str = "1.3.0";
+const VERSION: &str = "1.4.0";
 
 /// The forms of a command line.
 const USAGE: &str = "datacube < FEED
@@ -130,6 +130,11 @@ For the dimensions region and kind:
 
 A change has no answer. A question is answered before the next record is read: by `ok N`, a
 line end and N bytes, the text that the command of that name prints; or by a code alone.
+
+With --store each change is kept in FILE, a SQLite database that is made where it isn't there:
+all changes before an answer are certain once a byte of it is out, whatever ends the program.
+The next start with this FILE, this SCHEMA and these feeds takes the kept changes after the
+feeds, and goes on from there. One program at a time has it open; its codes are D1 to D8.
 
 Exit status: 0 done, 1 it failed, 2 wrong words, 3 wrong schema, 4 done, with lines of feeds
 or changes refused. `datacube explain CODE` explains a code.";
@@ -298,7 +303,7 @@ fn live_command<'a>(alloc: Global) -> Result<Command<'a>, AllocError>
         .about("Keeps the cube right change by change, and answers questions in between")
         .after_help(AFTER_LIVE);
     let fed = with_word(with_word(command, schema(alloc))?, optional_feeds(alloc))?;
-    with_threads(alloc, with_ring(alloc, fed)?)
+    with_store(alloc, with_threads(alloc, with_ring(alloc, fed)?)?)
 }
 
 // The command `merge` with its words.
@@ -358,6 +363,16 @@ fn with_threads<'a>(alloc: Global, command: Command<'a>) -> Result<Command<'a>, 
     ensures local { IfOk result (λ all. (fields_of all).has_globals ≡ false) }
 {
     with_word(with_word(command, threads(alloc))?, quiet(alloc))
+}
+
+// A command with the options for a store and for what a torn write may leave of it behind its words.
+fn with_store<'a>(alloc: Global, command: Command<'a>) -> Result<Command<'a>, AllocError>
+    requires { (fields_of command).has_globals ≡ false }
+    ensures line { IfOk result (λ all.
+        app_of all ≡ with_rule (with_rule (app_of command.entry) store_option) wary_option) }
+    ensures local { IfOk result (λ all. (fields_of all).has_globals ≡ false) }
+{
+    with_word(with_word(command, store(alloc))?, wary(alloc))
 }
 
 // A command with the options to read all cubes first and for no progress behind its words.
@@ -512,4 +527,30 @@ fn quiet<'a>(alloc: Global) -> Arg<'a>
         .long("quiet")
         .action(ArgAction::SetTrue)
         .help("Shows no progress on standard error, where that is a terminal")
+}
+
+// The option for the file that keeps the changes of a session.
+fn store<'a>(alloc: Global) -> Arg<'a>
+    ensures rule { rule_of result ≡ store_option }
+    ensures own { result.global ≡ false }
+{
+    Arg::new(alloc, "store")
+        .long("store")
+        .value_name("FILE")
+        .help(
+            "Keeps each change in this file before an answer shows it, and begins with those it has",
+        )
+}
+
+// The option for a store of which nothing is supposed after a torn write.
+fn wary<'a>(alloc: Global) -> Arg<'a>
+    ensures rule { rule_of result ≡ wary_option }
+    ensures own { result.global ≡ false }
+{
+    Arg::new(alloc, "wary")
+        .long("wary")
+        .action(ArgAction::SetTrue)
+        .help(
+            "Supposes nothing of what a torn write leaves of the store, and syncs twice a commit; does nothing without --store",
+        )
 }

@@ -1,7 +1,7 @@
 //! What a command line asks for.
 ghost use Rattle.std.specs.Prelude.{◌≡◌, ◌≤◌, ℕ, Option, Some, None, IsOk, IfOk, IfSome, codes, length, map, option_map};
 ghost use Rattle.clap.specs.Words.{all_of, first_of, found_of, one_of, rows_of, subcommand_rows_of};
-ghost use Rattle.cube_words.specs.CommandLine.{AreLiveWords, AreMergeWords, AreRunWords, HasRoom, IsNumberOf, IsRequest, IsUpTo, LiveHasRoom, is_given, words_of};
+ghost use Rattle.cube_words.specs.CommandLine.{AreLiveWords, AreMergeWords, AreRunWords, AreSharedWords, HasRoom, IsNumberOf, IsRequest, IsUpTo, LiveHasRoom, is_given, words_of};
 
 use clap::ArgMatches;
 use std::alloc::{AllocError, Global};
@@ -40,6 +40,10 @@ pub struct LiveWords<'a> {
     pub shard: Option<&'a str>,
     /// Whether no progress is shown.
     pub quiet: bool,
+    /// The path of the store that keeps the changes; none where the words leave it out.
+    pub store: Option<&'a str>,
+    /// Whether nothing is supposed of what a torn write leaves of the store; without effect where there is none.
+    pub wary: bool,
 }
 
 /// The files and the options of `merge`.
@@ -96,7 +100,7 @@ pub enum Request<'a> {
         cell: &'a str,
         dimension: &'a str,
     },
-    /// `live SCHEMA [FEED...]`: a cube that is kept right change by change, and asked in between.
+    /// `live SCHEMA [FEED...]`: a cube that is kept right change by change, and asked in between, over a store or none.
     Live {
         live: LiveWords<'a>,
     },
@@ -235,7 +239,7 @@ fn run_words<'a>(alloc: Global, words: &ArgMatches<'a>) -> Result<Option<RunWord
         IfOk result (λ found. ¬ (found ≡ None)) }
 {
     let (Some(live), Ok(Some(builders))) = (
-        live_words(alloc, words)?,
+        shared_words(alloc, words)?,
         number_of(words, "builders", 8),
     ) else {
         return Ok(None);
@@ -254,8 +258,7 @@ fn run_words<'a>(alloc: Global, words: &ArgMatches<'a>) -> Result<Option<RunWord
     }))
 }
 
-// The files and the options of `live`, which each command with feeds has too; none only where the schema is missing or
-// a number out of bounds.
+// The files and the options of `live`; none only where the schema is missing or a number out of bounds.
 fn live_words<'a>(
     alloc: Global,
     words: &ArgMatches<'a>,
@@ -264,6 +267,28 @@ fn live_words<'a>(
         (λ live. IfSome live (AreLiveWords (rows_of (found_of words.now)))) }
     ensures room { IfOk result (λ live. IfSome live LiveHasRoom) }
     ensures none { (live : LiveWords) → AreLiveWords (rows_of (found_of words.now)) live → LiveHasRoom live →
+        IfOk result (λ found. ¬ (found ≡ None)) }
+{
+    let Some(shared) = shared_words(alloc, words)? else {
+        return Ok(None);
+    };
+    Ok(Some(LiveWords {
+        store: word_of(words, "store"),
+        wary: has_flag(words, "wary"),
+        ..shared
+    }))
+}
+
+// The files and the options of `live` that each command with feeds has too, without a store; none only where the schema
+// is missing or a number out of bounds.
+fn shared_words<'a>(
+    alloc: Global,
+    words: &ArgMatches<'a>,
+) -> Result<Option<LiveWords<'a>>, AllocError>
+    ensures words { IfOk result
+        (λ live. IfSome live (AreSharedWords (rows_of (found_of words.now)))) }
+    ensures room { IfOk result (λ live. IfSome live LiveHasRoom) }
+    ensures none { (live : LiveWords) → AreSharedWords (rows_of (found_of words.now)) live → LiveHasRoom live →
         IfOk result (λ found. ¬ (found ≡ None)) }
 {
     let (Some(schema), Ok(Some(ring)), Ok(threads)) = (
@@ -281,6 +306,8 @@ fn live_words<'a>(
         threads,
         shard: word_of(words, "shard"),
         quiet: has_flag(words, "quiet"),
+        store: None,
+        wary: false,
     }))
 }
 

@@ -7,16 +7,18 @@ ghost use Rattle.cube_core.specs.Shard.{IsShard};
 ghost use Rattle.cube_tool.specs.Answering.{Fits};
 ghost use Rattle.cube_words.specs.CommandLine.{HasRoom, IsInBounds, IsUpTo, LiveHasRoom};
 
+mod kept;
 mod watch;
 
+use crate::kept::serve_kept;
 use crate::watch::Watch;
 use cube_core::{Schema, Shard};
 use cube_progress::{Counts, CubeReader, FeedReader, Output, Phase, Progress};
 use cube_threads::Settings;
 use cube_tool::command::{
-    Failure, LATER_NOTES, NOTES, Question, Status, answer_words, ask, check, check_cubes, explain,
-    first_repeated, live, merge_cubes, read_cell, read_dimension, read_pattern, read_schema,
-    read_shard, run_sample,
+    Failure, LATER_NOTES, NOTES, Question, STORE_NOTES, Status, answer_words, ask, check,
+    check_cubes, explain, first_repeated, live, merge_cubes, read_cell, read_dimension,
+    read_pattern, read_schema, read_shard, run_sample,
 };
 use cube_tool::{InputFault, MergeFault, RunFault};
 use cube_words::{
@@ -29,6 +31,7 @@ use std::sync::Wait;
 use std::thread::Threads;
 use std::time::Clock;
 use std::{env, io, mem, thread};
+use stored_tool::StoredFailure;
 
 /// The most threads that a run works with once its feeds have ended.
 const MOST_THREADS: usize = 16;
@@ -58,18 +61,21 @@ fn main(rt: HostRuntime) -> ExitCode {
 }
 
 // `threads` is the runtime too, as what starts threads.
-fn run<T: Threads + Wait + Clock + Sync>(rt: &HostRuntime, threads: &T) -> Result<Status, Failure> {
+fn run<T: Threads + Wait + Clock + Sync>(
+    rt: &HostRuntime,
+    threads: &T,
+) -> Result<Status, StoredFailure> {
     let alloc = rt.alloc();
     let words = match words_of(rt) {
         Ok(words) => words,
         Err(error) => {
             let refusal = unreadable_words(alloc, &error);
-            return answer_words(alloc, &refusal, &mut rt.stdout(), &mut rt.stderr());
+            return Ok(answer_words(alloc, &refusal, &mut rt.stdout(), &mut rt.stderr())?);
         }
     };
     match read_words(alloc, words.as_slice()) {
         Ok(request) => watched(rt, threads, &request),
-        Err(answer) => answer_words(alloc, &answer, &mut rt.stdout(), &mut rt.stderr()),
+        Err(answer) => Ok(answer_words(alloc, &answer, &mut rt.stdout(), &mut rt.stderr())?),
     }
 }
 
@@ -83,7 +89,7 @@ fn watched<T: Threads + Wait + Clock + Sync>(
     rt: &HostRuntime,
     threads: &T,
     request: &Request,
-) -> Result<Status, Failure>
+) -> Result<Status, StoredFailure>
     requires { IsInBounds request.now }
 {
     let is_shown = shows_progress(rt, request);
@@ -96,7 +102,7 @@ fn watched<T: Threads + Wait + Clock + Sync>(
     thread::scope(
         thread::scope_env(),
         threads,
-        |scope| -> Result<Status, Failure>
+        |scope| -> Result<Status, StoredFailure>
             requires { IsInBounds request.now }
         {
             let _ = scope.spawn(move || seen.show_until_over());
@@ -137,13 +143,32 @@ fn obey<T: Threads + Wait + Clock + Sync>(
     threads: &T,
     request: &Request,
     progress: &Progress<'_, T, Stderr>,
-) -> Result<Status, Failure>
+) -> Result<Status, StoredFailure>
     requires { IsInBounds request.now }
 {
-    let alloc = rt.alloc();
     let Some(shard) = shard_of(request) else {
-        return refuse_shard(rt);
+        return Ok(refuse_shard(rt)?);
     };
+    if let Request::Live { live } = request
+        && let Some(path) = live.store
+    {
+        return serve_kept(rt, threads, live, path, shard, progress);
+    }
+    Ok(obey_alone(rt, threads, request, shard, progress)?)
+}
+
+/// Does what is asked for, where no store is.
+fn obey_alone<T: Threads + Wait + Clock + Sync>(
+    rt: &HostRuntime,
+    threads: &T,
+    request: &Request,
+    shard: Shard,
+    progress: &Progress<'_, T, Stderr>,
+) -> Result<Status, Failure>
+    requires bounds { IsInBounds request.now }
+    requires shard { IsShard shard }
+{
+    let alloc = rt.alloc();
     match request {
         Request::Sample => run_sample(alloc, rt.stdin(), &mut rt.stdout()),
         Request::Check { schema } => check(alloc, open_schema(rt, schema)?, &mut rt.stdout()),
@@ -174,11 +199,20 @@ fn obey<T: Threads + Wait + Clock + Sync>(
     }
 }
 
-/// Says what a code means, or what all mean: first of the one table of notes, then of the other.
+/// Says what a code means, or what all mean: of the three tables of notes, one after the other.
 fn explain_code(rt: &HostRuntime, code: Option<&str>) -> Result<Status, Failure> {
     match explain_first(rt, code) {
-        Err(Failure::UnknownCode) => explain_later(rt, code),
-        Ok(_) if code.is_none() => explain_later(rt, code),
+        Err(Failure::UnknownCode) => explain_others(rt, code),
+        Ok(_) if code.is_none() => explain_others(rt, code),
+        ended => ended,
+    }
+}
+
+/// Says what a code of the second or the third table means, or what all do.
+fn explain_others(rt: &HostRuntime, code: Option<&str>) -> Result<Status, Failure> {
+    match explain_later(rt, code) {
+        Err(Failure::UnknownCode) => explain_store(rt, code),
+        Ok(_) if code.is_none() => explain_store(rt, code),
         ended => ended,
     }
 }
@@ -188,9 +222,14 @@ fn explain_first(rt: &HostRuntime, code: Option<&str>) -> Result<Status, Failure
     explain(rt.alloc(), &NOTES, code, &mut rt.stdout())
 }
 
-/// Says what a code of the later table means, or what all do.
+/// Says what a code of the second table means, or what all do.
 fn explain_later(rt: &HostRuntime, code: Option<&str>) -> Result<Status, Failure> {
     explain(rt.alloc(), &LATER_NOTES, code, &mut rt.stdout())
+}
+
+/// Says what a code of a store means, or what all do.
+fn explain_store(rt: &HostRuntime, code: Option<&str>) -> Result<Status, Failure> {
+    explain(rt.alloc(), &STORE_NOTES, code, &mut rt.stdout())
 }
 
 /// Prints the cube of feeds, under the schema or its partial form.
@@ -320,7 +359,8 @@ fn serve<T: Threads + Wait + Clock + Sync>(
 {
     let schema = schema_of(rt, words.schema, &words.feeds, 0)?.with_shard(shard);
     let feeds = open_feeds(rt, &words.feeds, progress.counts())?;
-    let settings = settings_of(threads, words.ring, 1, words.threads);
+    let wanted = session_threads(threads, words.threads);
+    let settings = settings_of(threads, words.ring, 1, wanted);
     progress.begin(Phase::Reading { feeds: feeds.len() });
     let watch = Watch { progress };
     let (alloc, input, out) = (rt.alloc(), rt.stdin(), &mut rt.stdout());
@@ -373,6 +413,19 @@ fn settings_of<T: Threads>(rt: &T, ring: usize, builders: u32, threads: Option<u
         unreachable!()
     };
     settings
+}
+
+/// How many threads a session works with: those that the words give, and else as many as the machine has, but for one that
+/// is left to whoever sends the changes, where there are more than two.
+fn session_threads<T: Threads>(rt: &T, threads: Option<usize>) -> Option<usize>
+    requires { IfSome threads (IsUpTo 16) }
+    ensures { IfSome result (IsUpTo 16) }
+{
+    if threads.is_some() {
+        return threads;
+    }
+    let count = processors(rt);
+    Some(if count > 2 { count - 1 } else { count })
 }
 
 /// How many threads the machine runs at once, 1 to 16.

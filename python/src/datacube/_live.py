@@ -5,6 +5,7 @@ import contextlib
 import csv
 import io
 import operator
+import os
 import shutil
 import subprocess
 import tempfile
@@ -16,7 +17,7 @@ from ._ask import Given, Shard, options_of
 from ._cells import KEEP, Mark, Named, in_order, text_of
 from ._cube import GREATEST, LEAST, Refusal, refusals_of
 from ._errors import Ended, Failure, ProgramNotFound, Unsayable
-from ._program import DONE, Paths, line_of, meaning_of, paths_of, words_of
+from ._program import DONE, Path, Paths, line_of, meaning_of, paths_of, words_of
 from ._questions import Questions
 from ._schema import schema_of
 
@@ -32,12 +33,20 @@ class Live(Questions):
 
     Any thread may make changes and ask. A change is sent whole, in the order in which the threads come; a question is
     answered over all changes before it, and those that come meanwhile wait in the pipe. With a shard, the J-th of N as (J, N),
-    changes of the others are left alone. What no feed can say raises
-    `Unsayable`, and nothing is sent; a change that the facts refuse, as the insert of an id that is present, is noted in
+    changes of the others are left alone. With a store, the path of a SQLite file, each change is kept there and certain
+    before an answer shows it, and a session over the same schema, feeds and store goes on where the last one ended; a wary
+    one supposes nothing of what a torn write leaves. What no feed can say raises `Unsayable`, and nothing is sent; a change that the facts refuse, as the insert of an id that is present, is noted in
     `refusals`. Where the process ends by itself, every call from then on raises `Ended` with its status and last line."""
 
     def __init__(
-        self, schema: Given, feeds: Paths = (), *, threads: Optional[int] = None, shard: Optional[Shard] = None
+        self,
+        schema: Given,
+        feeds: Paths = (),
+        *,
+        threads: Optional[int] = None,
+        shard: Optional[Shard] = None,
+        store: Optional[Path] = None,
+        wary: bool = False,
     ) -> None:
         self.schema = schema_of(schema)
         self.status: Optional[int] = None
@@ -46,7 +55,8 @@ class Live(Questions):
         self._asking, self._writing = threading.Lock(), threading.RLock()
         self._told = tempfile.TemporaryFile()
         with self.schema.file() as path:
-            self._process = self._begun(words_of("live", options_of(threads, shard), [path, *paths_of(feeds)]))
+            options = [*options_of(threads, shard), *store_options(store, wary)]
+            self._process = self._begun(words_of("live", options, [path, *paths_of(feeds)]))
             self._records = csv.writer(self._input)
             self._ready()
 
@@ -194,6 +204,11 @@ class Live(Questions):
                 self._line = line_of(self._told.read())
                 self._told.close()
         return Ended(self._line, meaning_of(self._line), self.status)
+
+
+def store_options(store: Optional[Path], wary: bool) -> List[str]:
+    """The options of a store, spelled so that its path isn't taken for one."""
+    return [] if store is None else [f"--store={os.fspath(store)}"] + ["--wary"] * wary
 
 
 def mark(what: str, value: Union[None, Mark], can_keep: bool) -> str:

@@ -457,3 +457,63 @@ pub const LATER_NOTES: [Note; 13] = [
         example: "",
     },
 ];
+
+/// The codes of the store of a session.
+pub const STORE_NOTES: [Note; 8] = [
+    Note {
+        code: "D1",
+        about: "store",
+        means: "Another process has the store open.",
+        mend: "End it, or wait until it ends.",
+        example: "",
+    },
+    Note {
+        code: "D2",
+        about: "store",
+        means: "The store can't be opened or made.",
+        mend: "Check the path, its rights, and that its folder is there and may be written to.",
+        example: "",
+    },
+    Note {
+        code: "D3",
+        about: "store",
+        means: "The file isn't a store: it has another table, an index or another page size, or it is damaged.",
+        mend: "Name another file, or take a copy of the store.",
+        example: "",
+    },
+    Note {
+        code: "D4",
+        about: "store",
+        means: "A row of the store isn't the next change: its number leaves a gap, its source isn't one from 1 to 64, or its value is of another kind. The message has the row, counted from 1.",
+        mend: "Whoever changed the file has to undo it, or take a copy of the store.",
+        example: "",
+    },
+    Note {
+        code: "D5",
+        about: "store",
+        means: "The feed of the source that follows, or the schema where that is 0, isn't the one that the store was made with; or there is one feed more, or one less.",
+        mend: "Start with the feeds and the schema that the store was made with, or begin a new store.",
+        example: "",
+    },
+    Note {
+        code: "D6",
+        about: "store",
+        means: "A read or a write of the store's file, or of the log beside it, failed.",
+        mend: "Check the disk, and start again: all changes before the last answer are there.",
+        example: "",
+    },
+    Note {
+        code: "D7",
+        about: "store",
+        means: "The disk is full, or a record is longer than SQLite takes.",
+        mend: "Make room, and start again: all changes before the last answer are there.",
+        example: "",
+    },
+    Note {
+        code: "D8",
+        about: "store",
+        means: "There wasn't enough memory for the store.",
+        mend: "Give the program more memory, and start again.",
+        example: "",
+    },
+];

@@ -44,8 +44,8 @@ pub(crate) fn status_of_run(built: &Built) -> Status
     status_after(first_builder(built).ledger())
 }
 
-/// The same by the refusals of a ledger.
-pub(crate) fn status_after(ledger: &Ledger) -> Status
+/// The status of a session that was served to its end, by the refusals of its ledger.
+pub fn status_after(ledger: &Ledger) -> Status
     ensures { result ≡ status_after (map (λ account. account.refusals) ledger.now.accounts) }
 {
     for place in 0..ledger.sources() {

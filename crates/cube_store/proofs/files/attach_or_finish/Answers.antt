@@ -1,4 +1,4 @@
-use Rattle.std.proofs.Common.{◌≡◌, inl, inr}
+use Rattle.std.proofs.Common.{inl, inr}
 use Rattle.cube_store.proofs.files.attach_or_finish.Goals as goal
 
 pub returns-in-Ok-clause-found : goal.returns-in-Ok-clause-found

@@ -1,4 +1,4 @@
-use Rattle.std.proofs.Common.{◌≡◌, ◌<◌, ◌^◌, ◌∙◌, arith}
+use Rattle.std.proofs.Common.{◌<◌, ◌^◌, ◌∙◌, arith}
 use Rattle.sqlite_trees.proofs.Doubt.{clean_of}
 use Rattle.cube_store.proofs.FileLaws as laws
 use Rattle.cube_store.proofs.files.make_tables.Goals as goal

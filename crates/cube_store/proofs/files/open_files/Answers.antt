@@ -1,4 +1,4 @@
-use Rattle.std.proofs.Common.{◌≡◌, inr, sym, subst}
+use Rattle.std.proofs.Common.{inr, sym, subst}
 use Rattle.sqlite_wal.specs.Files.{seen_image}
 use Rattle.sqlite_store.specs.FileStore.{view}
 use Rattle.cube_store.specs.Found.{StoreIn, IsFound}

@@ -1,4 +1,4 @@
-use Rattle.std.proofs.Common.{◌≡◌, sym, subst}
+use Rattle.std.proofs.Common.{sym, subst}
 use Rattle.sqlite_store.specs.FileStore.{view}
 use Rattle.cube_store.specs.Found.{StoreIn, IsFound}
 use Rattle.cube_store.proofs.FileLaws as laws

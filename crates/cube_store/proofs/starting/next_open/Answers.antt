@@ -1,4 +1,4 @@
-use Rattle.std.proofs.Common.{◌≡◌, ◌∙◌}
+use Rattle.std.proofs.Common.{◌∙◌}
 use Rattle.cube_store.proofs.FileLaws as laws
 use Rattle.cube_store.proofs.starting.next_open.Goals as goal
 

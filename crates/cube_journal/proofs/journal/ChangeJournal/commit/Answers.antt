@@ -1,5 +1,5 @@
-use Rattle.std.proofs.Common.{◌≤◌, arith}
-use Rattle.sqlite_trees.specs.View.{IsClean}
+use Rattle.std.proofs.Common.{◌≤◌, ap, arith}
+use Rattle.sqlite_trees.specs.View.{View, IsClean}
 use Rattle.cube_journal.proofs.ViewLaws as laws
 use Rattle.cube_journal.proofs.journal.ChangeJournal.commit.Goals as goal
 
@@ -62,3 +62,6 @@ returns-in-Err-clause-crash g c =
     let store = c.self.inside.store in
     rw (← c.self.view_is) (λ db h. laws.commit_leaves (g.S.Store.view store) c.self.inside.count c.self.inside.committed (g.S.Store.recovers store) db c.self.invariant
     (g.met.S.Store.broken_if_shut store) (g.met.S.Store.shut_if_dirty store) (c.commit.ensures.crash db h))
+
+pub returns-in-Ok-clause-reals : goal.returns-in-Ok-clause-reals
+returns-in-Ok-clause-reals g c = rw (← c.self.view_is) (λ clean. ap (λ (v : View). v.reals) (c.in-Ok.ensures.ok clean).is)

@@ -1,4 +1,6 @@
-use Rattle.std.proofs.Common.{[], ◌∷◌, ◌+◌}
+use Rattle.std.proofs.Common.{[], ◌∷◌, ◌+◌, ◌∙◌, arith}
+use Rattle.sqlite_trees.specs.View.{IsClean}
+use Rattle.cube_journal.specs.Rows.{Entry}
 use Rattle.cube_store.specs.Keeping.{Batch}
 use Rattle.cube_store.proofs.KeepingLaws as laws
 use Rattle.cube_store.proofs.batch.BatchJournal.append.Goals as goal
@@ -23,3 +25,15 @@ returns-clause-kept g c =
     λ first changes sure kept.
     laws.HasKept-append g.S.Store.view g.S.Store.recovers g.S.Store.faults first mid new changes sure
     (rw (← c.self.view_is) at (c.in_ok-make_room.ensures.kept first changes sure kept)) (c.args.source, c.args.content.now) c.append.ensures.on c.in_ok-append.ensures.ok c.append.ensures.crash (laws.more_waits c.self.inside.waiting)
+
+pub returns-in_err-append-clause-cause : goal.returns-in_err-append-clause-cause
+returns-in_err-append-clause-cause g c =
+    let old = g.S.Store.view c.args.self.now.store in
+    let mid = g.S.Store.view c.self.inside.journal.store in
+    let on = rw (← c.self.view_is) at c.in_ok-make_room.ensures.on in
+    let same = rw (← c.self.view_is) at c.in_ok-make_room.ensures.same in
+    let change : Entry = (c.args.source, c.args.content.now) in
+    laws.IfErr-same c.from_residual-in_err-append.result c.in_err-append.field-0.0 _ c.from_residual-in_err-append.ensures.1 (λ clean.
+    let midway : IsClean mid = omega (arith, c.append.ensures.on.clean) in
+    laws.append_fails (g.S.Store.faults c.args.self.now.store) (g.S.Store.faults c.self.inside.journal.store) (g.S.Store.faults c.append.new.self.store) old mid c.self.inside.journal.count change
+    c.in_err-append.field-0.0 on.counts (same midway) (λ is_open. c.count-held.ensures.held is_open ∙ c.count-held.ensures.value) (c.in_err-append.ensures.cause clean))

@@ -1,0 +1,5 @@
+pub mod RecordLaws
+pub mod KeepingLaws
+pub mod ReplayLaws
+pub mod StartLaws
+pub mod StoredLaws

@@ -1,0 +1,14 @@
+//! A session's changes, kept in a store: what `cube_live` calls a journal, over `cube_store`.
+//!
+//! [`StoreJournal`] is told of each change before it is applied, and [`Replay`] takes the changes of a store before a
+//! session's first record; [`serve_stored`] does both.
+#![tactic(auto)]
+
+mod journal;
+mod record;
+mod replay;
+mod session;
+
+pub use journal::StoreJournal;
+pub use replay::Replay;
+pub use session::{StoredFault, resume, serve_stored};

@@ -1,0 +1,113 @@
+//! A session over a store: its changes are taken before the first record, and those of the session are kept in it.
+ghost use Rattle.std.specs.Prelude.{◌≡◌, ◌⊎◌, [], IfOk, IfErr, IfSome};
+ghost use Rattle.sqlite_trees.specs.Tree.{Trees};
+ghost use Rattle.sqlite_trees.specs.View.{IsClean};
+ghost use Rattle.sqlite_store.specs.FileStore.{view, recovers};
+ghost use Rattle.cube_journal.specs.Making.{LeavesNotes};
+ghost use Rattle.cube_journal.specs.Rows.{entries_of};
+ghost use Rattle.cube_journal.specs.State.{stored_in, noted_in, IsStore, IsUnmade, TakesAll};
+ghost use Rattle.cube_store.specs.Codes.{IsFailedCall};
+ghost use Rattle.cube_store.specs.Keeping.{HasKept};
+ghost use Rattle.cube_stored.specs.Replay.{TakesStored};
+ghost use Rattle.cube_live.specs.Keeping.{KeepsOn, keeping_after, made_sure};
+ghost use Rattle.cube_live.specs.Serving.{Serves};
+ghost use Rattle.cube_stored.specs.Kept.{FailsStored, keeps};
+ghost use Rattle.cube_stored.specs.Serving.{BreaksStored, ServesStored};
+
+use crate::journal::StoreJournal;
+use crate::replay::Replay;
+use cube_feed::RecordReader;
+use cube_journal::FeedNote;
+use cube_live::{Live, SessionFault, serve};
+use cube_store::{StoreFault, start};
+use sqlite_disk::Disk;
+use sqlite_store::FileStore;
+use sqlite_trees::store::Store;
+use std::alloc::Global;
+use std::io::{Read, Write};
+use std::thread::Threads;
+
+/// Why a session over a store ended before its input did.
+#[derive(Clone, Copy, Debug, PartialEq, Eq)]
+pub enum StoredFault {
+    /// The store wasn't taken, and nothing was answered.
+    Store(StoreFault),
+    /// The session failed.
+    Session(SessionFault),
+}
+
+/// Takes the changes of a store into the cube of a session, which stands where its feeds ended, and gives the journal that
+/// keeps those of the session behind them. A store without a row notes what the feeds are, and must have the same notes else.
+///
+/// A store of changes and of these notes is refused only where a call fails, for want of memory, or where it has more changes
+/// of a source than the schema takes. An error gives the store back.
+pub fn resume<'s, D: Disk>(
+    alloc: Global,
+    live: Live<'s>,
+    store: FileStore<D>,
+    notes: &[FeedNote],
+) -> Result<(Live<'s>, StoreJournal<FileStore<D>>), (StoreFault, FileStore<D>)>
+    ensures taken { IfOk result (λ r. IsClean (view r.1.store) → TakesAll TakesStored live.entry (stored_in (view store)) r.0) }
+    ensures stored { IfOk result (λ r. IsClean (view r.1.store) → stored_in (view r.1.store) ≡ stored_in (view store)) }
+    ensures noted { IfOk result (λ r. IsClean (view r.1.store) → noted_in (view r.1.store) ≡ entries_of notes.now) }
+    ensures kept { IfOk result (λ r. HasKept view recovers r.1 r.1 [] 0) }
+    ensures unharmed { IfErr result (λ e. (db : Trees) → recovers e.1 db → LeavesNotes (view store) (entries_of notes.now) db ⊎ recovers store db) }
+    ensures accepts { IfErr result (λ e. IsClean (view e.1) → IsStore (view store) (entries_of notes.now) ⊎ IsUnmade (view store) → IsFailedCall e.0) }
+{
+    let mut replay = Replay::new(alloc, live);
+    match start(alloc, store, notes, &mut replay) {
+        Ok(journal) => Ok((replay.into_live(), StoreJournal::new(alloc, journal))),
+        Err(refused) => Err(refused),
+    }
+}
+
+/// Takes the changes of a store, and then the records of a session to their end, as `serve` does.
+///
+/// The answers are those of a session in which the stored changes stood before the first record. Each change is in the store
+/// before it is applied, and certain before a byte of a later answer goes out. An error gives the store back.
+pub fn serve_stored<'s, T: Threads + Sync, D: Disk, R: Read, W: Write>(
+    rt: &T,
+    alloc: Global,
+    live: Live<'s>,
+    store: FileStore<D>,
+    notes: &[FeedNote],
+    records: &mut RecordReader<R>,
+    out: &mut W,
+) -> Result<(Live<'s>, StoreJournal<FileStore<D>>), (StoredFault, FileStore<D>)>
+    ensures ok { IfOk result (λ r. IfSome records.old.left (λ taken. IsClean (view r.1.store) →
+        ServesStored live.entry.schema (view store) (entries_of notes.now) taken live.entry r.0 (view r.1.store) (recovers r.1.store)
+        (W.contents out.old) (W.contents out.new))) }
+    ensures err { IfErr result (λ e. IfSome records.old.left (λ taken. IsClean (view e.1) →
+        BreaksStored live.entry.schema (view store) (entries_of notes.now) taken live.entry (recovers store) (recovers e.1)
+        (W.contents out.old) (W.contents out.new) e.0)) }
+    ensures schema { IfOk result (λ r. IfSome records.old.left (λ taken. IsClean (view r.1.store) → r.0.schema ≡ live.entry.schema)) }
+{
+    match resume(alloc, live, store, notes) {
+        Ok((live, journal)) => match serve_resumed(rt, alloc, live, journal, records, out) {
+            Ok(served) => Ok(served),
+            Err((fault, store)) => Err((StoredFault::Session(fault), store)),
+        },
+        Err((fault, store)) => Err((StoredFault::Store(fault), store)),
+    }
+}
+
+// Takes the records of a session to their end, as `serve` does.
+fn serve_resumed<'s, T: Threads + Sync, S: Store, R: Read, W: Write>(
+    rt: &T,
+    alloc: Global,
+    mut live: Live<'s>,
+    mut journal: StoreJournal<S>,
+    records: &mut RecordReader<R>,
+    out: &mut W,
+) -> Result<(Live<'s>, StoreJournal<S>), (SessionFault, S)>
+    ensures ok { IfOk result (λ r. IfSome records.old.left (λ taken. Serves live.entry.schema taken live.entry r.0 (W.contents out.old) (W.contents out.new))) }
+    ensures kept { IfOk result (λ r. IfSome records.old.left (λ taken. KeepsOn (keeps S.Store.view S.Store.recovers) (keeps S.Store.view S.Store.recovers) journal
+        (λ k. made_sure (keeping_after live.entry.schema k taken)) r.1)) }
+    ensures err { IfErr result (λ e. IfSome records.old.left (FailsStored S.Store.view S.Store.recovers live.entry journal e.1 e.0 (W.contents out.old) (W.contents out.new))) }
+    ensures schema { IfOk result (λ r. r.0.schema ≡ live.entry.schema) }
+{
+    match serve(rt, alloc, &mut live, records, &mut journal, out) {
+        Ok(()) => Ok((live, journal)),
+        Err(fault) => Err((fault, journal.into_store())),
+    }
+}

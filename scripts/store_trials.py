@@ -1,0 +1,734 @@
+#!/usr/bin/env python3
+"""Tries what `live --store` promises on the built program: kills, a second process, a full disk, files that were spoiled,
+other feeds, and what SQLite reads of the file.
+
+    scripts/store_trials.py [--program PATH] [--short] [--only WORD] [--seed N]
+
+The program is the one given, else the one that `./datacube` would run. The short form has a tenth of the kills, and turns
+a byte a page. What an answer has to be is computed by scripts/oracle.py, never by the program: which first part of the
+changes a store kept is told by the numbers of changes that are refused on purpose, one a source. Each trial is a line;
+the last line is `N passed, M failed`, and the status is 1 where one failed. The full disk is a tmpfs, which takes root;
+what Python's SQLite reads takes one that knows STRICT tables. A trial that can't be made here is left out, by its name.
+The stores lie in TMPDIR, else in /dev/shm where that is there: a kill leaves what was written, on whatever disk, and so the
+trials don't wait for one.
+"""
+import argparse
+import collections
+import hashlib
+import os
+import random
+import re
+import shutil
+import sqlite3
+import subprocess
+import sys
+import tempfile
+import threading
+import time
+
+sys.dont_write_bytecode = True
+import oracle
+import programs
+
+SCHEMA = oracle.Schema(["place", "kind"], ["amount"], [("count", None), ("sum", 0)])
+PAGE = 4096
+SECONDS = 120
+SOURCES = (1, 2, 3)
+# (one feed more and one less than these are refused too)
+FEEDS = [
+    [[b"I", b"a", b"west", b"tea", b"5"], [b"I", b"b", b"\\N", b"tea", b"7"], [b"D", b"c"]],
+    [[b"I", b"a", b"east", b"tea, green", b"-3"], [b"U", b"a", b"east", b'"', b"4"]],
+]
+TEXTS = [b"west", b"east", b"a,b", b'a "b"', b"two\nlines", b"\\N", b"", b"K\xc3\xb6ln", b"north of everything that has a name"]
+QUESTIONS = [[b"refusals", b"1", b"0"], [b"rollup", b"place", b"\\A", b"\\A"], [b"slice", b"?", b"\\A"], [b"refusals"], [b"sync"]]
+# (what a start may say of a file that was spoiled)
+SPOILED = re.compile(r"D3|D4 \d+|D5 \d+|D6")
+TABLES = [
+    "CREATE TABLE changes(number INTEGER PRIMARY KEY, source INTEGER NOT NULL, record BLOB NOT NULL) STRICT",
+    "CREATE TABLE feeds(source INTEGER PRIMARY KEY, length INTEGER NOT NULL, digest BLOB NOT NULL) STRICT",
+]
+KNOWS_STRICT = sqlite3.sqlite_version_info >= (3, 37)
+
+
+class LeftOut(Exception):
+    """A trial that can't be made here, and why."""
+
+
+class Wrong(Exception):
+    """What is wrong with what the program did."""
+
+
+# ---- sessions
+
+
+class Changes:
+    """Changes of three sources: inserts, changes and deletes of some hundred ids, and now and then one that is refused."""
+
+    def __init__(self, rng):
+        self.rng, self.present = rng, {source: [] for source in SOURCES}
+
+    def next(self):
+        rng, source = self.rng, self.rng.choice(SOURCES)
+        ids, kind = self.present[source], self.rng.random()
+        if kind < 0.05:
+            return self.refused(source)
+        if kind < 0.5 and len(ids) < 200 or not ids:
+            name = b"i%d" % rng.randrange(10**6)
+            ids.append(name)
+            return [b"%d" % source, b"I", name, *self.fact()]
+        if kind < 0.8:
+            return [b"%d" % source, b"U", rng.choice(ids), *self.fact()]
+        name = ids.pop(rng.randrange(len(ids)))
+        return [b"%d" % source, b"D", name] + (self.fact() if rng.random() < 0.3 else [])
+
+    def fact(self):
+        rng = self.rng
+        return [rng.choice(TEXTS), rng.choice(TEXTS), rng.choice([b"\\N", b"%d" % rng.randint(-(10**9), 10**9)])]
+
+    def refused(self, source):
+        some = [[b"D", b"nobody"], [b"I"], [], [b""], [b"I", b"x", b"\xff", b"a", b"1"], [b"U", b"nobody", *self.fact()], [b"X,\r\n", b'"']]
+        return [b"%d" % source, *self.rng.choice(some)]
+
+
+class Live:
+    """A running session, asked through pipes."""
+
+    def __init__(self, room, words):
+        self.file = tempfile.TemporaryFile()
+        streams = {"stdin": subprocess.PIPE, "stdout": subprocess.PIPE, "stderr": self.file}
+        self.process = subprocess.Popen([room.program, "live", *words], cwd=room.folder, **streams)
+        self.is_late = False
+        self.late = threading.Timer(SECONDS, self.stop)
+        self.late.start()
+
+    def stop(self):
+        """Ends a session that ran past its time."""
+        self.is_late = True
+        self.process.kill()
+
+    def send(self, records):
+        """Writes records; whether there was somebody to read them."""
+        try:
+            self.process.stdin.write(oracle.encode(records))
+            self.process.stdin.flush()
+            return True
+        except (BrokenPipeError, ConnectionResetError):
+            return False
+
+    def answer(self):
+        """The bytes of the next answer, or as many of them as came."""
+        line = self.process.stdout.readline()
+        if self.is_late:
+            raise Wrong(f"a session ran past its {SECONDS} seconds")
+        size = int(line[3:]) if line.startswith(b"ok ") and line.endswith(b"\n") else 0
+        return line + (self.process.stdout.read(size) if size else b"")
+
+    def ask(self, *records):
+        """The answer to the last of some records."""
+        self.send(records)
+        return self.answer()
+
+    def end(self, is_killed=False):
+        """Ends it; its status, what it still wrote, and what it said on standard error."""
+        if is_killed:
+            self.process.kill()
+        try:
+            self.process.stdin.close()
+        except (BrokenPipeError, ConnectionResetError):
+            pass
+        rest, status = self.process.stdout.read(), self.process.wait()
+        self.process.stdout.close()
+        self.late.cancel()
+        with self.file:
+            self.file.seek(0)
+            return status, rest, self.file.read()
+
+
+class Room(programs.Room):
+    """A folder with a schema and feeds, in which sessions run over a store."""
+
+    def __init__(self, program, folder, short):
+        super().__init__(program, folder)
+        self.is_short = short
+        self.write("schema.toml", SCHEMA.toml())
+        self.names = [self.write(f"feed{at}.csv", feed_bytes(records)) for at, records in enumerate(FEEDS, 1)]
+
+    def words(self, store, *options):
+        """The words of a session over a store, after `live`."""
+        return ["--store", store, *options, "schema.toml", *self.names]
+
+    def open(self, store, *options):
+        return Live(self, self.words(store, *options))
+
+    def path(self, name):
+        return f"{self.folder}/{name}"
+
+    def made(self, name, count, rng):
+        """Makes a store of so many changes by a session that ends well; the changes, and a session that stands after them."""
+        self.remove(name)
+        changes = Changes(rng)
+        records = [changes.next() for _ in range(count)]
+        state = oracle.Session(SCHEMA, FEEDS)
+        live = self.open(name)
+        live.send(records)
+        expect(live.ask([b"print"]), taken(state, records).reply([b"print"]), "the answer of the session that made the store")
+        ended_well(live, state)
+        return records, state
+
+    def copied(self, name, other):
+        """A copy of a store that no session has open, with its log where there is one."""
+        self.remove(other)
+        for end in ("", "-wal"):
+            if os.path.exists(self.path(name + end)):
+                shutil.copyfile(self.path(name + end), self.path(other + end))
+        return other
+
+    def remove(self, name):
+        """Takes a store away, where it is there, with all that lies beside it."""
+        for end in ("", "-wal", "-shm", "-journal"):
+            if os.path.exists(self.path(name + end)):
+                os.remove(self.path(name + end))
+
+
+def feed_bytes(records):
+    return oracle.encode([SCHEMA.header(), *records])
+
+
+def taken(state, records):
+    """A session once it took records that are changes."""
+    for record in records:
+        state.reply(record)
+    return state
+
+
+def expect(got, wanted, what):
+    if got != wanted:
+        raise Wrong(f"{what}: {shown(wanted)} was to come, and {shown(got)} came")
+
+
+def shown(it):
+    text = repr(it)
+    return text if len(text) < 200 else f"{text[:90]} .. {text[-90:]} of {len(it)}"
+
+
+def ended_well(live, state):
+    """Ends a session at the end of its input; it has to end with the status of its changes, and nothing more to say."""
+    expect(live.end(), (state.status(), b"", b""), "the end of a session")
+
+
+def refusal_of(room, words, given=b"print\n"):
+    """The code that a session is refused by, or None where it isn't; then its answers and its status."""
+    status, out, err = room.run(["live", *words], given)
+    told = re.fullmatch(rb"datacube: (.+)\n", err)
+    if status == 1 and told and not out:
+        return told[1].decode(), out, status
+    if status in (0, 4) and not err:
+        return None, out, status
+    raise Wrong(f"status {status} with {shown(out)} and {shown(err)}")
+
+
+def everything(state):
+    """What `print` and `refusals` answer."""
+    return state.reply([b"print"]) + state.reply([b"refusals"])
+
+
+# ---- kills
+
+
+class Killed:
+    """A store whose sessions are killed again and again, and what is known of it: `state` stands after the first changes,
+    those that a restart found; `sent` are the changes after them, of which so many are certain."""
+
+    def __init__(self, room, name, rng):
+        self.room, self.name, self.rng = room, name, rng
+        self.state, self.changes = oracle.Session(SCHEMA, FEEDS), Changes(rng)
+        self.rows, self.sent, self.certain, self.answers = [], [], 0, []
+        self.counts = collections.Counter()
+
+    def options(self):
+        return ["--wary"] if self.rng.random() < 0.3 else []
+
+    def hurt(self, start):
+        """Starts a session, sends changes and questions, and kills it at some moment; `start` is how long a start takes."""
+        live = self.room.open(self.name, *self.options())
+        killer = threading.Timer(self.moment(start), live.process.kill)
+        killer.start()
+        try:
+            while self.send_some(live):
+                if self.rng.random() < 0.02:
+                    live.process.stdin.close()
+                    time.sleep(self.rng.uniform(0, 0.01))
+                    break
+        finally:
+            killer.cancel()
+            status, rest, err = live.end(is_killed=True)
+        expect((status in (-9, 0, 4), err), (True, b""), "a session that is killed")
+        if status != -9:
+            self.certain = len(self.sent)
+            self.counts["ends"] += 1
+        if rest and self.answers and not self.answers[-1][2]:
+            self.certain = self.answers[-1][0]
+            self.answers[-1] = (*self.answers[-1][:2], rest)
+
+    def moment(self, start):
+        """How many seconds after its start a session is killed: within it, or while it works."""
+        return self.rng.uniform(0, 1.2 * start) if self.rng.random() < 0.25 else start + self.rng.uniform(0, 0.08)
+
+    def send_some(self, live):
+        """Sends some changes, and then mostly a question, whose answer is waited for; whether it goes on."""
+        rng = self.rng
+        some = [self.changes.next() for _ in range(rng.choice([0, 1, 1, 3, 30, 300, 300, 11000 if rng.random() < 0.05 else 1]))]
+        self.sent += some
+        if not live.send(some):
+            return False
+        if rng.random() < 0.15:
+            return True
+        question = rng.choice(QUESTIONS)
+        self.answers.append((len(self.sent), question, b""))
+        if not live.send([question]):
+            return False
+        answer = live.answer()
+        if answer:
+            self.certain = len(self.sent)
+            self.answers[-1] = (len(self.sent), question, answer)
+        self.counts["answers"] += bool(answer)
+        return bool(answer)
+
+    def found(self):
+        """Restarts it, sees which first part of the changes it has, and that its answers are those over that part."""
+        live = self.room.open(self.name, *self.options())
+        told = live.ask([b"print"]) + live.ask([b"refusals"])
+        probes = [[b"%d" % source, b"D", b"nobody"] for source in SOURCES]
+        last = [last_number(live.ask(probe, [b"refusals", probe[0], b"0"])) for probe in probes]
+        count = self.part_of(last)
+        if count < self.certain:
+            raise Wrong(f"{self.certain} changes stood before an answer, and a restart has {count} of them, of {len(self.sent)}")
+        self.advance(count)
+        expect(told, everything(self.state), f"the answers after a restart with {count} of {len(self.sent)} changes, {self.certain} of them certain")
+        taken(self.state, probes)
+        self.rows += self.sent[:count] + probes
+        self.counts.update({"changes": count, "lost": len(self.sent) - count})
+        self.changes.present = {source: [it for it in self.state.sources[source - 1].book if it not in (b"a", b"b")] for source in SOURCES}
+        self.sent, self.certain, self.answers = [], 0, []
+        return live
+
+    def part_of(self, last):
+        """How many of the changes that were sent a session has, by how many records of each source came before the probe's."""
+        have = [number - 1 - self.state.sources[source - 1].count for source, number in zip(SOURCES, last)]
+        count = sum(have)
+        sources = collections.Counter(int(it[0]) for it in self.sent[:max(count, 0)])
+        if min(have) < 0 or count > len(self.sent) or [sources[it] for it in SOURCES] != have:
+            raise Wrong(f"a restart has {have} changes more of the sources, which no first part of {len(self.sent)} has")
+        return count
+
+    def advance(self, count):
+        """Takes the changes that were found, and sees that each answer was the one over the changes before it."""
+        answers = collections.deque(self.answers)
+        for at in range(count + 1):
+            while answers and answers[0][0] == at:
+                _, question, answer = answers.popleft()
+                wanted = self.state.reply(question)
+                expect(answer, wanted[:len(answer)], f"the answer to {question} before a kill")
+            if at < count:
+                self.state.reply(self.sent[at])
+
+
+def last_number(answer):
+    """The number of the last record in an answer to `refusals`."""
+    lines = answer.decode().splitlines()
+    if len(lines) < 3 or not re.fullmatch(r"\d+,\d+,\d+", lines[-1]):
+        raise Wrong(f"a probe was answered by {shown(answer)}")
+    return int(lines[-1].split(",")[1])
+
+
+def kills(room, rng, count):
+    store = Killed(room, "killed.db", rng)
+    begun = time.monotonic()
+    store.found().end(is_killed=True)
+    start = time.monotonic() - begun
+    for _ in range(count):
+        store.hurt(start)
+        begun = time.monotonic()
+        live = store.found()
+        start = (start + time.monotonic() - begun) / 2
+        if rng.random() < 0.5:
+            live.end(is_killed=True)
+        else:
+            ended_well(live, store.state)
+    live = room.open("killed.db")
+    expect(live.ask([b"print"]), store.state.reply([b"print"]), "the last answer")
+    ended_well(live, store.state)
+    if KNOWS_STRICT:
+        see_file(room, "killed.db", store.rows)
+    it = store.counts
+    return f"{count - it['ends']} kills, {it['ends']} ends before one, {it['answers']} answers, {it['changes']} changes that were found, {it['lost']} lost after the last answer"
+
+
+# ---- what SQLite reads
+
+
+def see_file(room, name, records):
+    """Sees that the file alone has these changes and the notes of the feeds, as SQLite reads it, and nothing else."""
+    with tempfile.TemporaryDirectory() as folder:
+        shutil.copyfile(room.path(name), f"{folder}/copy.db")
+        base = sqlite3.connect(f"{folder}/copy.db")
+        try:
+            expect(base.execute("PRAGMA integrity_check").fetchall(), [("ok",)], "integrity_check")
+            expect(base.execute("PRAGMA page_size").fetchone(), (PAGE,), "the page size")
+            expect(base.execute("SELECT sql FROM sqlite_schema ORDER BY name").fetchall(), [(it,) for it in TABLES], "the tables")
+            rows = base.execute("SELECT number, source, record, typeof(record) FROM changes ORDER BY number").fetchall()
+            notes = base.execute("SELECT source, length, digest FROM feeds ORDER BY source").fetchall()
+        finally:
+            base.close()
+    expect(len(rows), len(records), "the number of rows")
+    for at, (row, record) in enumerate(zip(rows, records), 1):
+        expect(row, (at, int(record[0]), oracle.line_of(record)[:-1], "blob"), f"row {at}")
+        expect(oracle.records_of(row[2]), [record], f"the fields of row {at}")
+    data = [SCHEMA.toml(), *map(feed_bytes, FEEDS)]
+    expect(notes, [(at, len(it), hashlib.sha256(it).digest()) for at, it in enumerate(data)], "the notes on the feeds")
+
+
+def sqlite_reads(room, rng):
+    if not KNOWS_STRICT:
+        raise LeftOut("Python's SQLite doesn't know STRICT tables")
+    records, state = room.made("read.db", 2500, rng)
+    see_file(room, "read.db", records)
+    more = [Changes(rng).next() for _ in range(40)]
+    live = room.open("read.db")
+    live.send(more)
+    ended_well(live, taken(state, more))
+    see_file(room, "read.db", records + more)
+    return f"{len(records + more)} rows"
+
+
+def odd_records(room, rng):
+    """Records that are quoted without need, that end in CR LF or by the end of the input, and blank lines."""
+    given = b'\xef\xbb\xbf1,I,x,"west",tea,1\r\n\n"2","I",y,"a,""b""","line\nend",\\N\n3\n3,\n"3",""\n64,D,"nobody"\r\n\r\n1,U,x,west,"tea",2'
+    records = oracle.records_of(given)
+    state = taken(oracle.Session(SCHEMA, FEEDS), records)
+    words = ["live", *room.words("odd.db")]
+    expect(room.run(words, given), (state.status(), b"", b""), "a session without a question")
+    expect(room.run(words, b"print\nrefusals\n"), (state.status(), everything(state), b""), "the next one")
+    if KNOWS_STRICT:
+        see_file(room, "odd.db", records)
+    return f"{len(records)} records"
+
+
+# ---- other processes and disks
+
+
+def second_process(room, rng):
+    changes = Changes(rng)
+    for turn in range(5):
+        live, state = room.open("shared.db"), oracle.Session(SCHEMA, FEEDS)
+        if turn:
+            taken(state, records)
+        else:
+            records = []
+        expect(live.ask([b"print"]), state.reply([b"print"]), "the answer of the first process")
+        expect(refusal_of(room, room.words("shared.db"))[0], "D1", "what a second process is told")
+        if KNOWS_STRICT:
+            expect(is_locked(room.path("shared.db")), True, "whether SQLite is locked out")
+        more = [changes.next() for _ in range(50)]
+        records = records + more
+        taken(state, more)
+        expect(live.ask(*more, [b"print"]), state.reply([b"print"]), "the answer after that")
+        expect(refusal_of(room, room.words("shared.db"), b"1,I,zz,a,a,1\n")[0], "D1", "what a third process is told")
+        if turn % 2:
+            live.end(is_killed=True)
+        else:
+            ended_well(live, state)
+    expect(refusal_of(room, room.words("shared.db"), b"print\nrefusals\n")[1], everything(state), "the answers of the next start")
+    return None
+
+
+def is_locked(path):
+    """Whether SQLite can't read a file now."""
+    base = sqlite3.connect(path, timeout=0)
+    try:
+        base.execute("SELECT count(*) FROM changes").fetchone()
+        return False
+    except sqlite3.OperationalError as error:
+        return "locked" in str(error)
+    finally:
+        base.close()
+
+
+def full_disk(room, rng):
+    """A store on a disk of 4 MB, until it is full; then the disk has more room."""
+    if os.geteuid() != 0:
+        raise LeftOut("only root mounts a tmpfs")
+    place = room.path("disk")
+    os.mkdir(place)
+    if subprocess.run(["mount", "-t", "tmpfs", "-o", "size=4m", "tmpfs", place], stderr=subprocess.DEVNULL).returncode:
+        raise LeftOut("no tmpfs can be mounted here")
+    try:
+        return fill_disk(room, place, rng)
+    finally:
+        subprocess.run(["umount", place], check=True)
+
+
+def fill_disk(room, place, rng):
+    store, turns = Killed(room, "disk/full.db", rng), 0
+    for size in ("64m",) if room.is_short else ("12m", "64m"):
+        until_full(store)
+        turns += 1
+        subprocess.run(["mount", "-o", f"remount,size={size}", "tmpfs", place], check=True)
+        ended_well(store.found(), store.state)
+    if KNOWS_STRICT:
+        see_file(room, "disk/full.db", store.rows)
+    return f"{turns} times D7, {store.counts['changes']} changes that were found, {store.counts['lost']} lost after the last answer"
+
+
+def until_full(store):
+    """Sends changes and questions to a session until it ends; it has to end by D7."""
+    live = store.room.open(store.name)
+    for _ in range(20000):
+        store.sent += (some := [store.changes.next() for _ in range(200)])
+        question = [b"rollup", b"place", b"\\A", b"\\A"]
+        if not live.send([*some, question]):
+            break
+        answer = live.answer()
+        if not answer:
+            break
+        store.certain = len(store.sent)
+        store.answers.append((store.certain, question, answer))
+    expect(live.end(), (1, b"", b"datacube: D7\n"), "the end of a session on a full disk")
+
+
+# ---- files that were spoiled
+
+
+class Spoiled:
+    """A store of which copies are spoiled, and what came of them."""
+
+    def __init__(self, room, rng, count):
+        self.room, self.counts = room, collections.Counter()
+        self.state = room.made("whole.db", count, rng)[1]
+        with open(room.path("whole.db"), "rb") as file:
+            self.data = file.read()
+        self.right = everything(self.state)
+
+    def pages(self):
+        return len(self.data) // PAGE
+
+    def start(self, data):
+        """What a start over this file says: a code, `right` or `wrong`."""
+        self.room.remove("spoiled.db")
+        self.room.write("spoiled.db", data)
+        code, out, _ = refusal_of(self.room, self.room.words("spoiled.db"), b"print\nrefusals\n")
+        if code and not SPOILED.fullmatch(code):
+            raise Wrong(f"a start says {code}")
+        said = code.split()[0] if code else "right" if out == self.right else "wrong"
+        self.counts[said] += 1
+        return said
+
+    def told(self):
+        return ", ".join(f"{count} {name}" for name, count in sorted(self.counts.items()))
+
+
+def cut_files(room, rng):
+    """A store cut at each boundary of pages: no bytes are a new store, and any other part has to be refused."""
+    store = Spoiled(room, rng, 1200 if room.is_short else 6000)
+    room.remove("spoiled.db")
+    room.write("spoiled.db", b"")
+    fresh = refusal_of(room, room.words("spoiled.db"), b"print\nrefusals\n")[:2]
+    expect(fresh, (None, everything(oracle.Session(SCHEMA, FEEDS))), "a start over an empty file")
+    for page in range(1, store.pages()):
+        if store.start(store.data[: page * PAGE]) in ("right", "wrong"):
+            raise Wrong(f"cut after {page} of {store.pages()} pages it is taken")
+    expect(store.start(store.data), "right", "a start over the whole file")
+    return f"{store.pages()} pages: {store.told()}"
+
+
+def turned_bytes(room, rng):
+    """A store with a byte turned: it is noticed, or changes nothing, or lies in a page that has the content of rows."""
+    store, times = Spoiled(room, rng, 1200 if room.is_short else 6000), 1 if room.is_short else 6
+    kinds = kinds_of(store.data)
+    for page in range(store.pages()):
+        for _ in range(times):
+            place = page * PAGE + rng.randrange(PAGE)
+            turned = bytes([store.data[place] ^ rng.randrange(1, 256)])
+            said = store.start(store.data[:place] + turned + store.data[place + 1 :])
+            if said == "wrong" and kinds[page] != "changes":
+                raise Wrong(f"byte {place}, in a page of {kinds[page]}, gives a wrong answer")
+    return f"{store.pages()} pages, {kinds.count('changes')} of them rows of changes: {store.told()}, each wrong one in such a page"
+
+
+def kinds_of(data):
+    """What each page of a store is: `changes` or `feeds` for a leaf of a table, `inner` for a page above the leaves, `tables`
+    for the first one, and `free` for one that no table has."""
+    kinds = ["tables", *["free"] * (len(data) // PAGE - 1)]
+    for name, root in zip(("changes", "feeds"), (2, 3)):
+        waiting = [root]
+        while waiting:
+            page = waiting.pop()
+            start = (page - 1) * PAGE
+            is_leaf = data[start] == 13
+            kinds[page - 1] = name if is_leaf else "inner"
+            if not is_leaf:
+                waiting += [number_at(data, start + 8), *(number_at(data, start + it) for it in cells_of(data, start, 12))]
+    return kinds
+
+
+def cells_of(data, start, head):
+    """Where the cells of a page begin."""
+    return [int.from_bytes(data[start + head + 2 * at :][:2], "big") for at in range(int.from_bytes(data[start + 3 :][:2], "big"))]
+
+
+def number_at(data, place):
+    return int.from_bytes(data[place : place + 4], "big")
+
+
+def changed_tables(room, rng):
+    """What SQLite may have done to a store meanwhile, and what a start says of it."""
+    if not KNOWS_STRICT:
+        raise LeftOut("Python's SQLite doesn't know STRICT tables")
+    state = room.made("sound.db", 300, rng)[1]
+    done = 0
+    for code, *statements in (
+        (None, "VACUUM"),
+        (None, "SELECT count(*) FROM changes"),
+        ("D3", "CREATE TABLE other(a)"),
+        ("D3", "CREATE INDEX by_source ON changes(source)"),
+        (None, "CREATE VIEW all_changes AS SELECT * FROM changes"),
+        ("D3", "DROP TABLE feeds"),
+        ("D3", "PRAGMA journal_mode=DELETE", "PRAGMA page_size=8192", "VACUUM"),
+        ("D4 1", "DELETE FROM changes WHERE number = 1"),
+        ("D4 17", "DELETE FROM changes WHERE number = 17"),
+        ("D4 301", "INSERT INTO changes SELECT 302, source, record FROM changes WHERE number = 1"),
+        ("D4 1", "INSERT INTO changes SELECT 0, source, record FROM changes WHERE number = 1"),
+        ("D4 1", "INSERT INTO changes SELECT -5, source, record FROM changes WHERE number = 1"),
+        ("D4 20", "UPDATE changes SET source = 65 WHERE number = 20"),
+        ("D4 300", "UPDATE changes SET source = 0 WHERE number = 300"),
+        ("D5 1", "UPDATE feeds SET length = length + 1 WHERE source = 1"),
+        ("D5 2", "UPDATE feeds SET digest = zeroblob(32) WHERE source = 2"),
+        ("D5 0", "UPDATE feeds SET digest = zeroblob(32) WHERE source = 0"),
+        ("D5 0", "DELETE FROM feeds"),
+        ("D5 3", "INSERT INTO feeds VALUES(3, 0, zeroblob(32))"),
+    ):
+        name = room.copied("sound.db", "changed.db")
+        base = sqlite3.connect(room.path(name), isolation_level=None)
+        for statement in statements:
+            base.execute(statement).fetchall()
+        base.close()
+        got, out, _ = refusal_of(room, room.words(name), b"print\nrefusals\n")
+        expect((got, out), (code, b"" if code else everything(state)), f"a start after {'; '.join(statements)}")
+        done += 1
+    return f"{done} files"
+
+
+def no_stores(room, rng):
+    """Files that are no stores, and paths that can't be opened."""
+    os.makedirs(room.path("folder.db"), exist_ok=True)
+    room.write("text.db", b"op,id\n" * 2000)
+    room.write("short.db", b"not a database\n")
+    room.write("zeros.db", bytes(3 * PAGE))
+    for name, wanted in (("nowhere/new.db", "D2"), ("folder.db", "D2"), ("schema.toml/new.db", "D2"), ("", "D2"), ("text.db", "D3"), ("short.db", "D3")):
+        before = os.path.isfile(room.path(name)) and open(room.path(name), "rb").read()
+        expect(refusal_of(room, room.words(name))[0], wanted, f"a start over {name!r}")
+        after = os.path.isfile(room.path(name)) and open(room.path(name), "rb").read()
+        expect(after, before, f"what {name!r} has after it was refused")
+    code = refusal_of(room, room.words("zeros.db"))[0]
+    if code not in ("D3", None):
+        raise Wrong(f"zeros are refused by {code}")
+    return None
+
+
+# ---- other feeds
+
+
+def other_feeds(room, rng):
+    """A start with other feeds or another schema than the store was made with, and then one with the right ones."""
+    state = room.made("fed.db", 200, rng)[1]
+    one, two = room.names
+    write = room.write
+    grown = write("grown.csv", feed_bytes([*FEEDS[1], [b"D", b"a"]]))
+    same = write("same.csv", feed_bytes(FEEDS[0]))
+    turned = write("turned.csv", feed_bytes(FEEDS[0]).replace(b"west", b"wesT"))
+    cut = write("cut.csv", feed_bytes(FEEDS[1])[:-1])
+    spaced = write("spaced.toml", SCHEMA.toml() + b"\n")
+    for wanted, schema, *feeds in (
+        (None, "schema.toml", same, two),
+        ("D5 1", "schema.toml", turned, two),
+        ("D5 2", "schema.toml", one, grown),
+        ("D5 2", "schema.toml", one, cut),
+        ("D5 1", "schema.toml", turned, grown),
+        ("D5 1", "schema.toml", two, one),
+        ("D5 3", "schema.toml", one, two, same),
+        ("D5 2", "schema.toml", one),
+        ("D5 1", "schema.toml"),
+        ("D5 0", spaced, one, two),
+        ("D5 0", spaced, turned, two),
+    ):
+        got, out, _ = refusal_of(room, ["--store", "fed.db", schema, *feeds], b"print\nrefusals\n")
+        expect((got, out), (wanted, b"" if wanted else everything(state)), f"a start over {schema} {' '.join(feeds)}")
+        right = refusal_of(room, room.words("fed.db"), b"print\nrefusals\n")
+        expect(right, (None, everything(state), state.status()), "a start with the right feeds after that")
+    return None
+
+
+def without_feeds(room, rng):
+    """A store of a session without a feed."""
+    changes = Changes(rng)
+    records, state = [changes.next() for _ in range(100)], oracle.Session(SCHEMA, [])
+    words = ["--store", "plain.db", "schema.toml"]
+    got = refusal_of(room, words, oracle.encode([*records, [b"print"]]))
+    expect(got, (None, taken(state, records).reply([b"print"]), state.status()), "the session that makes it")
+    expect(refusal_of(room, words, b"print\nrefusals\n"), (None, everything(state), state.status()), "the next one")
+    expect(refusal_of(room, room.words("plain.db"))[0], "D5 1", "one with feeds")
+    return None
+
+
+# ---- all of them
+
+
+class Trials:
+    def __init__(self, room, only, seed):
+        self.room, self.only, self.seed, self.passed, self.failed = room, only, seed, 0, 0
+
+    def trial(self, name, call, *more):
+        if self.only not in name:
+            return
+        begun = time.monotonic()
+        try:
+            told, mark = call(self.room, random.Random(f"{self.seed} {name}"), *more), "ok     "
+        except LeftOut as why:
+            print(f"        left out: {name}, since {why}", flush=True)
+            return
+        except Wrong as why:
+            told, mark = why, "FAILED "
+        except Exception as error:
+            told, mark = f"the trial itself failed: {error!r}", "FAILED "
+        self.passed, self.failed = self.passed + (mark == "ok     "), self.failed + (mark != "ok     ")
+        print(f"{mark} {name}{f': {told}' if told else ''} ({time.monotonic() - begun:.1f} s)", flush=True)
+
+
+def main():
+    asks = argparse.ArgumentParser(description=__doc__, formatter_class=argparse.RawDescriptionHelpFormatter)
+    asks.add_argument("--program")
+    asks.add_argument("--short", action="store_true", help="the short form")
+    asks.add_argument("--only", default="", help="only the trials whose name has this word")
+    asks.add_argument("--seed", type=int, default=1)
+    given = asks.parse_args()
+    place = os.environ.get("TMPDIR") or ("/dev/shm" if os.access("/dev/shm", os.W_OK) else None)
+    with tempfile.TemporaryDirectory(prefix="store-trials-", dir=place) as folder:
+        room = Room(os.path.abspath(given.program or programs.datacube()), folder, given.short)
+        trials = Trials(room, given.only, given.seed)
+        trials.trial("records of every kind, kept and taken again", odd_records)
+        trials.trial("what SQLite reads after a session", sqlite_reads)
+        trials.trial("a session that is killed at random moments", kills, 20 if given.short else 200)
+        trials.trial("a second process", second_process)
+        trials.trial("a full disk", full_disk)
+        trials.trial("a file cut at each boundary of pages", cut_files)
+        trials.trial("a byte turned in each page", turned_bytes)
+        trials.trial("tables and rows that SQLite changed", changed_tables)
+        trials.trial("files that are no stores", no_stores)
+        trials.trial("other feeds and another schema", other_feeds)
+        trials.trial("a store without feeds", without_feeds)
+    print(f"{trials.passed} passed, {trials.failed} failed")
+    return 1 if trials.failed or not trials.passed else 0
+
+
+if __name__ == "__main__":
+    sys.exit(main())
