@@ -400,7 +400,7 @@ class Session:
     def answer(self, record):
         """The text that answers a question, or the code of what is wrong with it."""
         name, count = record[0], len(self.schema.dimensions)
-        widths = {b"print": [1], b"slice": [1 + count], b"drill": [2 + count], b"rollup": [2 + count], b"refusals": [1, 3]}
+        widths = {b"print": [1], b"slice": [1 + count], b"drill": [2 + count], b"rollup": [2 + count], b"refusals": [1, 3], b"sync": [1]}
         if name not in widths:
             return "Q1"
         if len(record) not in widths[name]:
@@ -409,6 +409,8 @@ class Session:
             return self.run().print()
         if name == b"refusals":
             return self.refusals(*record[1:])
+        if name == b"sync":
+            return b""
         wanted = wanted_of(record[1 if name == b"slice" else 2 :])
         if name == b"slice" or isinstance(wanted, str):
             return wanted if isinstance(wanted, str) else self.run().slice(wanted)

@@ -23,7 +23,7 @@ from programs import differs, said
 COORDINATES = [b"?", b"\\A", b"\\A", b"\\N", b"=", b"=a", b"=b", b"=west", b"=a,b", b'="', b"=\\N", b"a", b"", b"=\xff"]
 WRONG = [[b"Print"], [b"0", b"I"], [b"65", b"I"], [b"01", b"I"], [b"+1", b"I"], [b""], [b"\xff", b"a"], [b"print", b""], [b"slice"],
          [b" print"], [b"refusals", b"1"], [b"refusals", b"65", b"0"], [b"refusals", b"1", b"00"], [b"refusals", b"1", b""],
-         [b"refusals", b"\xff", b"0"], [b"refusals", b"1", b"-1"], [b"refusals", b"1", b"0", b"0"], [b"stop"], [b"1 ", b"D", b"a"]]
+         [b"refusals", b"\xff", b"0"], [b"refusals", b"1", b"-1"], [b"refusals", b"1", b"0", b"0"], [b"stop"], [b"sync", b""], [b"1 ", b"D", b"a"]]
 
 
 def question(rng, schema):
@@ -32,7 +32,7 @@ def question(rng, schema):
     if kind < 0.08:
         return rng.choice(WRONG)
     if kind < 0.2:
-        return rng.choice([[b"print"], [b"refusals"]])
+        return rng.choice([[b"print"], [b"refusals"], [b"sync"]])
     if kind < 0.3:
         return [b"refusals", b"%d" % rng.randint(1, 4), b"%d" % rng.choice([0, 1, 5, rng.randrange(3000), 2**32])]
     some = COORDINATES if rng.random() < 0.1 else COORDINATES[:8] if rng.random() < 0.7 else COORDINATES[1:8]

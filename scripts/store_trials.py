@@ -1,14 +1,16 @@
 #!/usr/bin/env python3
-"""Tries what `live --store` promises on the built program: kills, a second process, a full disk, files that were spoiled,
-other feeds, and what SQLite reads of the file.
+"""Tries what `live --store` promises on the built program: kills, calls and memory refused in turn, what a crash of the
+machine may leave, a second process, a full disk, files that were spoiled, other feeds, and what SQLite reads of the file.
 
-    scripts/store_trials.py [--program PATH] [--short] [--only WORD] [--seed N]
+    scripts/store_trials.py [--program PATH] [--short | --each] [--only WORD] [--seed N]
 
-The program is the one given, else the one that `./datacube` would run. The short form has a tenth of the kills, and turns
-a byte a page. What an answer has to be is computed by scripts/oracle.py, never by the program: which first part of the
+The program is the one given, else the one that `./datacube` would run. The short form, which is part of the gate, has a
+few of the kills, of the calls and of the crashes, and turns a byte a page; the long one refuses one allocation of eleven,
+and with --each it refuses each. What an answer has to be is computed by scripts/oracle.py, never by the program: which first part of the
 changes a store kept is told by the numbers of changes that are refused on purpose, one a source. Each trial is a line;
 the last line is `N passed, M failed`, and the status is 1 where one failed. The full disk is a tmpfs, which takes root;
-what Python's SQLite reads takes one that knows STRICT tables. A trial that can't be made here is left out, by its name.
+what Python's SQLite reads takes one that knows STRICT tables; refusals (store_calls.py) and crashes (store_crashes.py) take
+cc. A trial that can't be made here is left out, by its name.
 The stores lie in TMPDIR, else in /dev/shm where that is there: a kill leaves what was written, on whatever disk, and so the
 trials don't wait for one.
 """
@@ -29,17 +31,11 @@ import time
 sys.dont_write_bytecode = True
 import oracle
 import programs
+import store_calls
+import store_crashes
+from store_rooms import FEEDS, SCHEMA, SOURCES, Changes, LeftOut, Room, Wrong, ended_well, everything, expect, feed_bytes, refusal_of, taken
 
-SCHEMA = oracle.Schema(["place", "kind"], ["amount"], [("count", None), ("sum", 0)])
 PAGE = 4096
-SECONDS = 120
-SOURCES = (1, 2, 3)
-# (one feed more and one less than these are refused too)
-FEEDS = [
-    [[b"I", b"a", b"west", b"tea", b"5"], [b"I", b"b", b"\\N", b"tea", b"7"], [b"D", b"c"]],
-    [[b"I", b"a", b"east", b"tea, green", b"-3"], [b"U", b"a", b"east", b'"', b"4"]],
-]
-TEXTS = [b"west", b"east", b"a,b", b'a "b"', b"two\nlines", b"\\N", b"", b"K\xc3\xb6ln", b"north of everything that has a name"]
 QUESTIONS = [[b"refusals", b"1", b"0"], [b"rollup", b"place", b"\\A", b"\\A"], [b"slice", b"?", b"\\A"], [b"refusals"], [b"sync"]]
 # (what a start may say of a file that was spoiled)
 SPOILED = re.compile(r"D3|D4 \d+|D5 \d+|D6")
@@ -48,188 +44,6 @@ TABLES = [
     "CREATE TABLE feeds(source INTEGER PRIMARY KEY, length INTEGER NOT NULL, digest BLOB NOT NULL) STRICT",
 ]
 KNOWS_STRICT = sqlite3.sqlite_version_info >= (3, 37)
-
-
-class LeftOut(Exception):
-    """A trial that can't be made here, and why."""
-
-
-class Wrong(Exception):
-    """What is wrong with what the program did."""
-
-
-# ---- sessions
-
-
-class Changes:
-    """Changes of three sources: inserts, changes and deletes of some hundred ids, and now and then one that is refused."""
-
-    def __init__(self, rng):
-        self.rng, self.present = rng, {source: [] for source in SOURCES}
-
-    def next(self):
-        rng, source = self.rng, self.rng.choice(SOURCES)
-        ids, kind = self.present[source], self.rng.random()
-        if kind < 0.05:
-            return self.refused(source)
-        if kind < 0.5 and len(ids) < 200 or not ids:
-            name = b"i%d" % rng.randrange(10**6)
-            ids.append(name)
-            return [b"%d" % source, b"I", name, *self.fact()]
-        if kind < 0.8:
-            return [b"%d" % source, b"U", rng.choice(ids), *self.fact()]
-        name = ids.pop(rng.randrange(len(ids)))
-        return [b"%d" % source, b"D", name] + (self.fact() if rng.random() < 0.3 else [])
-
-    def fact(self):
-        rng = self.rng
-        return [rng.choice(TEXTS), rng.choice(TEXTS), rng.choice([b"\\N", b"%d" % rng.randint(-(10**9), 10**9)])]
-
-    def refused(self, source):
-        some = [[b"D", b"nobody"], [b"I"], [], [b""], [b"I", b"x", b"\xff", b"a", b"1"], [b"U", b"nobody", *self.fact()], [b"X,\r\n", b'"']]
-        return [b"%d" % source, *self.rng.choice(some)]
-
-
-class Live:
-    """A running session, asked through pipes."""
-
-    def __init__(self, room, words):
-        self.file = tempfile.TemporaryFile()
-        streams = {"stdin": subprocess.PIPE, "stdout": subprocess.PIPE, "stderr": self.file}
-        self.process = subprocess.Popen([room.program, "live", *words], cwd=room.folder, **streams)
-        self.is_late = False
-        self.late = threading.Timer(SECONDS, self.stop)
-        self.late.start()
-
-    def stop(self):
-        """Ends a session that ran past its time."""
-        self.is_late = True
-        self.process.kill()
-
-    def send(self, records):
-        """Writes records; whether there was somebody to read them."""
-        try:
-            self.process.stdin.write(oracle.encode(records))
-            self.process.stdin.flush()
-            return True
-        except (BrokenPipeError, ConnectionResetError):
-            return False
-
-    def answer(self):
-        """The bytes of the next answer, or as many of them as came."""
-        line = self.process.stdout.readline()
-        if self.is_late:
-            raise Wrong(f"a session ran past its {SECONDS} seconds")
-        size = int(line[3:]) if line.startswith(b"ok ") and line.endswith(b"\n") else 0
-        return line + (self.process.stdout.read(size) if size else b"")
-
-    def ask(self, *records):
-        """The answer to the last of some records."""
-        self.send(records)
-        return self.answer()
-
-    def end(self, is_killed=False):
-        """Ends it; its status, what it still wrote, and what it said on standard error."""
-        if is_killed:
-            self.process.kill()
-        try:
-            self.process.stdin.close()
-        except (BrokenPipeError, ConnectionResetError):
-            pass
-        rest, status = self.process.stdout.read(), self.process.wait()
-        self.process.stdout.close()
-        self.late.cancel()
-        with self.file:
-            self.file.seek(0)
-            return status, rest, self.file.read()
-
-
-class Room(programs.Room):
-    """A folder with a schema and feeds, in which sessions run over a store."""
-
-    def __init__(self, program, folder, short):
-        super().__init__(program, folder)
-        self.is_short = short
-        self.write("schema.toml", SCHEMA.toml())
-        self.names = [self.write(f"feed{at}.csv", feed_bytes(records)) for at, records in enumerate(FEEDS, 1)]
-
-    def words(self, store, *options):
-        """The words of a session over a store, after `live`."""
-        return ["--store", store, *options, "schema.toml", *self.names]
-
-    def open(self, store, *options):
-        return Live(self, self.words(store, *options))
-
-    def path(self, name):
-        return f"{self.folder}/{name}"
-
-    def made(self, name, count, rng):
-        """Makes a store of so many changes by a session that ends well; the changes, and a session that stands after them."""
-        self.remove(name)
-        changes = Changes(rng)
-        records = [changes.next() for _ in range(count)]
-        state = oracle.Session(SCHEMA, FEEDS)
-        live = self.open(name)
-        live.send(records)
-        expect(live.ask([b"print"]), taken(state, records).reply([b"print"]), "the answer of the session that made the store")
-        ended_well(live, state)
-        return records, state
-
-    def copied(self, name, other):
-        """A copy of a store that no session has open, with its log where there is one."""
-        self.remove(other)
-        for end in ("", "-wal"):
-            if os.path.exists(self.path(name + end)):
-                shutil.copyfile(self.path(name + end), self.path(other + end))
-        return other
-
-    def remove(self, name):
-        """Takes a store away, where it is there, with all that lies beside it."""
-        for end in ("", "-wal", "-shm", "-journal"):
-            if os.path.exists(self.path(name + end)):
-                os.remove(self.path(name + end))
-
-
-def feed_bytes(records):
-    return oracle.encode([SCHEMA.header(), *records])
-
-
-def taken(state, records):
-    """A session once it took records that are changes."""
-    for record in records:
-        state.reply(record)
-    return state
-
-
-def expect(got, wanted, what):
-    if got != wanted:
-        raise Wrong(f"{what}: {shown(wanted)} was to come, and {shown(got)} came")
-
-
-def shown(it):
-    text = repr(it)
-    return text if len(text) < 200 else f"{text[:90]} .. {text[-90:]} of {len(it)}"
-
-
-def ended_well(live, state):
-    """Ends a session at the end of its input; it has to end with the status of its changes, and nothing more to say."""
-    expect(live.end(), (state.status(), b"", b""), "the end of a session")
-
-
-def refusal_of(room, words, given=b"print\n"):
-    """The code that a session is refused by, or None where it isn't; then its answers and its status."""
-    status, out, err = room.run(["live", *words], given)
-    told = re.fullmatch(rb"datacube: (.+)\n", err)
-    if status == 1 and told and not out:
-        return told[1].decode(), out, status
-    if status in (0, 4) and not err:
-        return None, out, status
-    raise Wrong(f"status {status} with {shown(out)} and {shown(err)}")
-
-
-def everything(state):
-    """What `print` and `refusals` answer."""
-    return state.reply([b"print"]) + state.reply([b"refusals"])
 
 
 # ---- kills
@@ -243,19 +57,19 @@ class Killed:
         self.room, self.name, self.rng = room, name, rng
         self.state, self.changes = oracle.Session(SCHEMA, FEEDS), Changes(rng)
         self.rows, self.sent, self.certain, self.answers = [], [], 0, []
-        self.counts = collections.Counter()
+        self.start, self.counts = 0.0, collections.Counter()
 
     def options(self):
         return ["--wary"] if self.rng.random() < 0.3 else []
 
-    def hurt(self, start):
-        """Starts a session, sends changes and questions, and kills it at some moment; `start` is how long a start takes."""
+    def hurt(self):
+        """Starts a session, sends changes and questions, and kills it at some moment."""
         live = self.room.open(self.name, *self.options())
-        killer = threading.Timer(self.moment(start), live.process.kill)
+        killer = threading.Timer(self.moment(), live.process.kill)
         killer.start()
         try:
             while self.send_some(live):
-                if self.rng.random() < 0.02:
+                if self.rng.random() < 0.01:
                     live.process.stdin.close()
                     time.sleep(self.rng.uniform(0, 0.01))
                     break
@@ -270,14 +84,18 @@ class Killed:
             self.certain = self.answers[-1][0]
             self.answers[-1] = (*self.answers[-1][:2], rest)
 
-    def moment(self, start):
-        """How many seconds after its start a session is killed: within it, or while it works."""
-        return self.rng.uniform(0, 1.2 * start) if self.rng.random() < 0.25 else start + self.rng.uniform(0, 0.08)
+    def moment(self):
+        """How many seconds after its start a session is killed: within the time that a start takes, or while it works."""
+        return self.rng.uniform(0, 1.2 * self.start) if self.rng.random() < 0.25 else self.start + self.rng.uniform(0, 0.08)
+
+    def most(self):
+        """How many changes are sent at once at most: more than wait for a commit, but in the short form."""
+        return 1000 if self.room.is_short else 11000
 
     def send_some(self, live):
         """Sends some changes, and then mostly a question, whose answer is waited for; whether it goes on."""
         rng = self.rng
-        some = [self.changes.next() for _ in range(rng.choice([0, 1, 1, 3, 30, 300, 300, 11000 if rng.random() < 0.05 else 1]))]
+        some = [self.changes.next() for _ in range(rng.choice([0, 1, 1, 3, 30, 300, 300, self.most() if rng.random() < 0.05 else 1]))]
         self.sent += some
         if not live.send(some):
             return False
@@ -296,8 +114,10 @@ class Killed:
 
     def found(self):
         """Restarts it, sees which first part of the changes it has, and that its answers are those over that part."""
+        begun = time.monotonic()
         live = self.room.open(self.name, *self.options())
         told = live.ask([b"print"]) + live.ask([b"refusals"])
+        self.start = (self.start + time.monotonic() - begun) / 2
         probes = [[b"%d" % source, b"D", b"nobody"] for source in SOURCES]
         last = [last_number(live.ask(probe, [b"refusals", probe[0], b"0"])) for probe in probes]
         count = self.part_of(last)
@@ -342,15 +162,21 @@ def last_number(answer):
 
 
 def kills(room, rng, count):
+    """So many kills, with a fresh store after each twenty, since a start takes longer the more changes a store has."""
+    it = collections.Counter()
+    for begun in range(0, count, 20):
+        it += killed_store(room, rng, min(20, count - begun))
+    return f"{count - it['ends']} kills, {it['ends']} ends before one, {it['answers']} answers, {it['changes']} changes that were found, {it['lost']} lost after the last answer"
+
+
+def killed_store(room, rng, count):
+    """A new store whose sessions are killed so many times; what was counted."""
+    room.remove("killed.db")
     store = Killed(room, "killed.db", rng)
-    begun = time.monotonic()
     store.found().end(is_killed=True)
-    start = time.monotonic() - begun
     for _ in range(count):
-        store.hurt(start)
-        begun = time.monotonic()
+        store.hurt()
         live = store.found()
-        start = (start + time.monotonic() - begun) / 2
         if rng.random() < 0.5:
             live.end(is_killed=True)
         else:
@@ -360,8 +186,7 @@ def kills(room, rng, count):
     ended_well(live, store.state)
     if KNOWS_STRICT:
         see_file(room, "killed.db", store.rows)
-    it = store.counts
-    return f"{count - it['ends']} kills, {it['ends']} ends before one, {it['answers']} answers, {it['changes']} changes that were found, {it['lost']} lost after the last answer"
+    return store.counts
 
 
 # ---- what SQLite reads
@@ -455,12 +280,12 @@ def is_locked(path):
 
 
 def full_disk(room, rng):
-    """A store on a disk of 4 MB, until it is full; then the disk has more room."""
+    """A store on a disk of 4 MB, or of 1, until it is full; then the disk has more room."""
     if os.geteuid() != 0:
         raise LeftOut("only root mounts a tmpfs")
     place = room.path("disk")
     os.mkdir(place)
-    if subprocess.run(["mount", "-t", "tmpfs", "-o", "size=4m", "tmpfs", place], stderr=subprocess.DEVNULL).returncode:
+    if subprocess.run(["mount", "-t", "tmpfs", "-o", f"size={'1m' if room.is_short else '4m'}", "tmpfs", place], stderr=subprocess.DEVNULL).returncode:
         raise LeftOut("no tmpfs can be mounted here")
     try:
         return fill_disk(room, place, rng)
@@ -708,16 +533,21 @@ def main():
     asks = argparse.ArgumentParser(description=__doc__, formatter_class=argparse.RawDescriptionHelpFormatter)
     asks.add_argument("--program")
     asks.add_argument("--short", action="store_true", help="the short form")
+    asks.add_argument("--each", action="store_true", help="refuse each allocation, and not one of eleven")
     asks.add_argument("--only", default="", help="only the trials whose name has this word")
     asks.add_argument("--seed", type=int, default=1)
     given = asks.parse_args()
     place = os.environ.get("TMPDIR") or ("/dev/shm" if os.access("/dev/shm", os.W_OK) else None)
     with tempfile.TemporaryDirectory(prefix="store-trials-", dir=place) as folder:
-        room = Room(os.path.abspath(given.program or programs.datacube()), folder, given.short)
+        room = Room(os.path.abspath(given.program or programs.datacube()), folder, given.short, given.each)
         trials = Trials(room, given.only, given.seed)
         trials.trial("records of every kind, kept and taken again", odd_records)
         trials.trial("what SQLite reads after a session", sqlite_reads)
-        trials.trial("a session that is killed at random moments", kills, 20 if given.short else 200)
+        trials.trial("a session that is killed at random moments", kills, 6 if given.short else 200)
+        for cause in store_calls.CAUSES:
+            trials.trial(f"refused in turn: each {cause}", store_calls.refused_in_turn, cause)
+        trials.trial("what a crash of the machine may leave", store_crashes.crash_images)
+        trials.trial("what a second crash may leave, of the start after the first", store_crashes.second_crashes)
         trials.trial("a second process", second_process)
         trials.trial("a full disk", full_disk)
         trials.trial("a file cut at each boundary of pages", cut_files)

@@ -13,16 +13,18 @@ enum Form {
     One,
     Few,
     Log,
+    Owed,
     Ordered,
     Table,
     Repeated,
 }
 
-const FORMS: [Form; 7] = [
+const FORMS: [Form; 8] = [
     Form::Empty,
     Form::One,
     Form::Few,
     Form::Log,
+    Form::Owed,
     Form::Ordered,
     Form::Table,
     Form::Repeated,
@@ -84,14 +86,18 @@ fn of_form(rt: &impl Abort, alloc: Global, form: Form) -> Result<(Counted, Vec<i
         Form::One => add_twice(&mut values, &mut plain, 1)?,
         Form::Few => add_twice(&mut values, &mut plain, 5)?,
         Form::Log => add_twice(&mut values, &mut plain, MANY)?,
-        Form::Ordered => {
+        Form::Owed => {
             add_twice(&mut values, &mut plain, MANY)?;
             take(rt, &mut values, &mut plain, 7);
             take(rt, &mut values, &mut plain, 7);
         }
+        Form::Ordered => {
+            add_twice(&mut values, &mut plain, MANY)?;
+            take(rt, &mut values, &mut plain, 0);
+        }
         Form::Table => {
             add_twice(&mut values, &mut plain, MANY)?;
-            take(rt, &mut values, &mut plain, 7);
+            take(rt, &mut values, &mut plain, 0);
             add(&mut values, &mut plain, -7)?;
             take(rt, &mut values, &mut plain, -7);
         }

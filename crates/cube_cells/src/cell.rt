@@ -103,7 +103,7 @@ impl Cell {
         self.facts > 0 && hold_values(&self.measures, values, self.facts)
     }
 
-    /// Takes a fact away whose values the cell holds. It takes no memory.
+    /// Takes a fact away whose values the cell holds. It needs no memory.
     pub fn minus(&mut self, values: &[Option<i64>])
         requires { IsTrue (holds_fact self.old values.now) }
         ensures { PlusFact values.now self.new self.old }

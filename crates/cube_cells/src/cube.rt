@@ -70,9 +70,8 @@ impl Cube {
         Cube::new_part(alloc, schema, 0, 1)
     }
 
-    /// The cube of no fact over the grouping sets of a part of the schema's: those of which the last two digits of the
-    /// mask, written to the base `of`, add up to `part` or to `of` more (this project's choice: so each part has coarse
-    /// sets and fine ones). The grand total is in part 0.
+    /// The cube of no fact over the grouping sets of a part of the schema's: those whose mask is `part` modulo `of` (this
+    /// project's choice). The grand total is in part 0.
     pub fn new_part(alloc: Global, schema: &Schema, part: u32, of: u32) -> Result<Cube, AllocError>
         requires parts { of ≤ 8 }
         requires part { part < of }
@@ -143,7 +142,7 @@ impl Cube {
     }
 
     /// Takes a fact away that the cube holds: its measures from each cell of a kept set that covers it. A cell left
-    /// with no fact goes, the grand total excepted. It takes no memory.
+    /// with no fact goes, the grand total excepted. It needs no memory.
     pub fn remove(&mut self, fact: &Fact)
         requires { HoldsFact self.old fact.now }
         ensures taken { TakesFact fact.now self.old self.new }
@@ -213,11 +212,10 @@ fn kept_sets(alloc: Global, schema: &Schema, part: u32, of: u32) -> Result<Vec<u
 
 // The part, of so many, that a grouping set is in.
 fn part_of(set: u32, of: u32) -> u32
-    requires some { 0 < of }
-    requires set { set < 256 }
+    requires { 0 < of }
     ensures { result ≡ part_of of set }
 {
-    (set + set / of) % of
+    set % of
 }
 
 fn push_kept(sets: &mut Vec<u8>, set: u8, is_kept: bool) -> Result<(), AllocError>

@@ -76,15 +76,14 @@ impl Measure {
         self.values.shrink_to_fit();
     }
 
-    /// Takes a value away; a null changes nothing. It takes no memory.
+    /// Takes a value away; a null changes nothing. Where memory is wanting, it does without.
     pub fn minus(&mut self, value: Option<i64>)
         requires { ForSome value (λ v. 0 < held_of self.old v) }
         ensures { AddsValue self.new self.old value }
     {
         if let Some(value) = value {
-            if self.values.remove(value) {
-                self.sum = sum_without(self.sum, value);
-            }
+            self.values.take(value);
+            self.sum = sum_without(self.sum, value);
         }
     }
 

@@ -29,9 +29,9 @@ mask_of key = mask_of_coords key.coords
 abbrev pub all_sets : ℕ → List ℕ
 all_sets dimensions = range_with_len 0 (2 ^ dimensions)
 
--- the part, of n, that a grouping set is in: what the last two digits of its mask to the base n add up to, modulo n, so that each part has coarse sets and fine ones (this project's choice)
+-- the part, of n, that a grouping set is in: its mask modulo n (this project's choice)
 abbrev pub part_of : ℕ → ℕ → ℕ
-part_of n set = (set + set / n) % n
+part_of n set = set % n
 
 -- the grouping sets of part j of n
 abbrev pub sets_of_part : ℕ → ℕ → List ℕ → List ℕ

@@ -296,7 +296,7 @@ size_of-split pairs i added split =
     omega (arith, joined (λ _. 1), weight_of-same (λ _. 1) (added ++ drop i pairs) pairs (record { held = λ x. omega (arith, joined (one_at x), split.held x) }))
 
 -- the pair at i is among what is left
-weight_of-drop_more : (f : ℤ → ℕ) (pairs : Bag) (i : ℕ) (d : ℤ × ℕ) → i < length pairs → weight_of f (drop i pairs) ≡ f (get_or pairs i d).0 * (get_or pairs i d).1 + weight_of f (drop (i + 1) pairs)
+pub weight_of-drop_more : (f : ℤ → ℕ) (pairs : Bag) (i : ℕ) (d : ℤ × ℕ) → i < length pairs → weight_of f (drop i pairs) ≡ f (get_or pairs i d).0 * (get_or pairs i d).1 + weight_of f (drop (i + 1) pairs)
 weight_of-drop_more f pairs i d within = sum_by-drop_more (part f) pairs i d within
 
 -- the pair at i has room

@@ -1,2 +1,3 @@
 pub mod BagLaws
 pub mod LogLaws
+pub mod OwedLaws

@@ -1,8 +1,7 @@
 -- Laws of logs: what sorting, joining and counting down leave held, and where a number is counted in a list in order.
-use Rattle.std.proofs.Common.{◌≡◌, ℕ, ◌+◌, ◌-◌, ◌*◌, ◌<◌, ◌≤◌, [], ◌∷◌, ◌++◌, refl, arith, ap, sym, ◌∙◌, length, Bool, get_or, set, true, false, cond, subst, not, inl, inr, ◌⊎◌}
-use Rattle.std.specs.Prelude.{ℤ, ◌≤ℤ◌, Some, All, Contains, int_lt}
+use Rattle.std.proofs.Common.{◌≡◌, ℕ, ◌+◌, ◌-◌, ◌*◌, ◌<◌, ◌≤◌, [], ◌∷◌, ◌++◌, refl, arith, ap, sym, ◌∙◌, length, get_or, set, true, false, cond, subst, not, inl, inr, ◌⊎◌}
+use Rattle.std.specs.Prelude.{ℤ, ◌≤ℤ◌, Some, All, Contains, int_lt, nat_lt, filter}
 use Rattle.std.specs.List.Sorted.{IsPartitionedBy, IsPartitionPoint, IsSortedByKey}
-use Rattle.std.specs.Bool.{OnTrue, OnFalse}
 use Rattle.std.specs.Map.{keys_of}
 use Rattle.std.specs.Int.{int_min, int_max}
 use Rattle.std.specs.List.{HoldsAt, AllWithin}
@@ -11,13 +10,27 @@ use Rattle.std.proofs.Math.Logic.{⊎_elim}
 use Rattle.std.proofs.lemmas.Bool.{cases_eq, cases_lt, false_from_ne_true}
 use Rattle.std.proofs.lemmas.Int.{ints}
 use Rattle.std.proofs.lemmas.List.{get_or_default, get_or-set_same, get_or-set_other, length-set}
-use Rattle.std.proofs.lemmas.List.Elements.{All-head, All-tail, All-cons, All-nil, All-append}
+use Rattle.std.proofs.lemmas.List.Elements.{All-head, All-tail}
 use Rattle.std.proofs.lemmas.List.Sorted.{sorted_far, ranks_by}
 use Rattle.std.proofs.lemmas.Cmp.{int_cmp_total}
 use Rattle.std.proofs.lemmas.List.Sums.{sum_by-append, sum_by-le}
 use Rattle.cube_counts.specs.Bag.{Bag, one_at, held_of, size_of, SameHeld, AddsBag, AddsOne, HasLeast, HasGreatest}
-use Rattle.cube_counts.specs.Log.{IsAdded, Rises, IsJoined, IsOrdered, IsLastOf, IsCut}
+use Rattle.cube_counts.specs.Log.{HasEnds, Rises, IsJoined, IsOrdered, IsLastOf, IsCut}
 use Rattle.cube_counts.proofs.BagLaws.{part, weight_of-cons, weight_of-set, one_at-refl, one_at-distinct, int_eq-same, held_of-absent, held_le_size, held_of-get_or, least_of_pairs, greatest_of_pairs, AddsOne-set, count_at}
+
+-- ---- pairs that count nothing
+-- without them each number is held as often
+held_of-filter : (bag : Bag) (x : ℤ) → held_of (filter (λ e. nat_lt 0 e.1) bag) x ≡ held_of bag x
+held_of-filter [] x = refl
+held_of-filter ((y, n) ∷ bag) x = elim (nat_lt 0 n) as (λ b. nat_lt 0 n ≡ b → held_of (cond b ((y, n) ∷ filter (λ (e : ℤ × ℕ). nat_lt 0 e.1) bag) (filter (λ (e : ℤ × ℕ). nat_lt 0 e.1) bag)) x ≡ held_of ((y, n) ∷ bag) x) [
+  | true ↦ λ counts. omega (arith, held_of-filter bag x, weight_of-cons (one_at x) (y, n) bag, weight_of-cons (one_at x) (y, n) (filter (λ (e : ℤ × ℕ). nat_lt 0 e.1) bag))
+  | false ↦ λ none. omega (arith, held_of-filter bag x, weight_of-cons (one_at x) (y, n) bag, ap (λ m. one_at x y * m) (zero_from none))
+] refl where
+  zero_from : nat_lt 0 n ≡ false → n ≡ 0
+  zero_from none = grind (arith, none)
+
+pub SameHeld-filter : (bag : Bag) → SameHeld bag (filter (λ e. nat_lt 0 e.1) bag)
+SameHeld-filter bag = record { held = λ x. sym (held_of-filter bag x) }
 
 -- ---- the ends
 -- what is said of each pair that counts holds of each number that is held
@@ -68,9 +81,8 @@ pub AddsBag-append : (old more : Bag) → AddsBag old (old ++ more) more
 AddsBag-append old more = record { held = λ x. sum_by-append (part (one_at x)) old more }
 
 -- the ends of a pair
-pub IsAdded-pair : (v : ℤ) (n : ℕ) → 0 < n → IsAdded ((v, n) ∷ []) v v
-IsAdded-pair v n some = record {
-  some = All-cons (λ (e : ℤ × ℕ). 0 < e.1) (v, n) [] some (All-nil (λ (e : ℤ × ℕ). 0 < e.1));
+pub HasEnds-pair : (v : ℤ) (n : ℕ) → 0 < n → HasEnds ((v, n) ∷ []) v v
+HasEnds-pair v n some = record {
   least = record { held = here; below = λ x h. omega (arith, ints, only x h) };
   greatest = record { held = here; above = λ x h. omega (arith, ints, only x h) };
 } where
@@ -84,32 +96,28 @@ IsAdded-pair v n some = record {
   ] refl
 
 -- the ends of pairs, by their least and greatest numbers
-pub IsAdded-keys_of : (bag : Bag) (l g : ℤ) → All (λ e. 0 < e.1) bag → Contains (keys_of bag) l → All (λ e. l ≤ℤ e.0) bag → Contains (keys_of bag) g → All (λ e. e.0 ≤ℤ g) bag → IsAdded bag l g
-IsAdded-keys_of bag l g some at_least below at_most above = record { some = some; least = least_of_pairs bag (Some l) some at_least below; greatest = greatest_of_pairs bag (Some g) some at_most above }
+pub HasEnds-keys_of : (bag : Bag) (l g : ℤ) → All (λ e. 0 < e.1) bag → Contains (keys_of bag) l → All (λ e. l ≤ℤ e.0) bag → Contains (keys_of bag) g → All (λ e. e.0 ≤ℤ g) bag → HasEnds bag l g
+HasEnds-keys_of bag l g some at_least below at_most above = record { least = least_of_pairs bag (Some l) some at_least below; greatest = greatest_of_pairs bag (Some g) some at_most above }
 
 -- the ends of both
-pub IsAdded-append : (old more : Bag) (l g m h : ℤ) → IsAdded old l g → IsAdded more m h → IsAdded (old ++ more) (int_min l m) (int_max g h)
-IsAdded-append old more l g m h first second = record {
-  some = All-append (λ (e : ℤ × ℕ). 0 < e.1) old more first.some second.some;
+pub HasEnds-AddsBag : (old new more : Bag) (l g m h : ℤ) → AddsBag old new more → HasEnds old l g → HasEnds more m h → HasEnds new (int_min l m) (int_max g h)
+HasEnds-AddsBag old new more l g m h both first second = record {
   least = record { held = low; below = λ x some. ⊎_elim (λ a. below_first x (first.least.below x a)) (λ b. below_second x (second.least.below x b)) (of x some) };
   greatest = record { held = high; above = λ x some. ⊎_elim (λ a. above_first x (first.greatest.above x a)) (λ b. above_second x (second.greatest.above x b)) (of x some) };
 } where
-  both : (x : ℤ) → held_of (old ++ more) x ≡ held_of old x + held_of more x
-  both x = sum_by-append (part (one_at x)) old more
+  of : (x : ℤ) → 0 < held_of new x → (0 < held_of old x) ⊎ (0 < held_of more x)
+  of x some = ⊎_elim inl (λ none. inr (omega (arith, some, both.held x, none))) (cases_lt 0 (held_of old x))
 
-  of : (x : ℤ) → 0 < held_of (old ++ more) x → (0 < held_of old x) ⊎ (0 < held_of more x)
-  of x some = ⊎_elim inl (λ none. inr (omega (arith, some, both x, none))) (cases_lt 0 (held_of old x))
-
-  low : 0 < held_of (old ++ more) (int_min l m)
-  low = elim (int_lt m l) as (λ b. 0 < held_of (old ++ more) (cond b m l)) [
-    | true ↦ omega (arith, both m, second.least.held)
-    | false ↦ omega (arith, both l, first.least.held)
+  low : 0 < held_of new (int_min l m)
+  low = elim (int_lt m l) as (λ b. 0 < held_of new (cond b m l)) [
+    | true ↦ omega (arith, both.held m, second.least.held)
+    | false ↦ omega (arith, both.held l, first.least.held)
   ]
 
-  high : 0 < held_of (old ++ more) (int_max g h)
-  high = elim (int_lt h g) as (λ b. 0 < held_of (old ++ more) (cond b g h)) [
-    | true ↦ omega (arith, both g, first.greatest.held)
-    | false ↦ omega (arith, both h, second.greatest.held)
+  high : 0 < held_of new (int_max g h)
+  high = elim (int_lt h g) as (λ b. 0 < held_of new (cond b g h)) [
+    | true ↦ omega (arith, both.held g, first.greatest.held)
+    | false ↦ omega (arith, both.held h, second.greatest.held)
   ]
 
   below_first : (x : ℤ) → l ≤ℤ x → int_min l m ≤ℤ x
@@ -125,7 +133,7 @@ IsAdded-append old more l g m h first second = record {
   above_second x le = grind (arith, ints, le)
 
 -- ---- where a number is counted in a list in order
-int_eq-distinct : (v x : ℤ) → (v ≡ x → ⊥) → int_eq v x ≡ false
+pub int_eq-distinct : (v x : ℤ) → (v ≡ x → ⊥) → int_eq v x ≡ false
 int_eq-distinct v x h = false_from_ne_true (int_eq v x) (λ t. h (int_eq-same v x t))
 
 -- no other pair counts: the number is held as often as this one says
@@ -298,13 +306,3 @@ pub IsSortedByKey-Rises : (bag : Bag) → IsSortedByKey (λ e. e.0) int_cmp bag 
 IsSortedByKey-Rises bag sorted i j d before within =
     let far : is_lt (int_cmp (get_or bag j d).0 (get_or bag i d).0) ≡ false = sorted_far (λ (a b : ℤ × ℕ). is_lt (int_cmp a.0 b.0)) (ranks_by int_cmp_total (λ (e : ℤ × ℕ). e.0)) bag sorted i j d before within in
     grind (arith, ints, far)
-
--- ---- what is said of equally held pairs
-pub AddsOne-SameHeld : (b : Bool) (new bag old : Bag) (v : ℤ) → SameHeld old bag → OnTrue b (AddsOne new bag v) → OnTrue b (AddsOne new old v)
-AddsOne-SameHeld true new bag old v same taken = record { held = λ x. omega (arith, same.held x, taken.held x) }
-AddsOne-SameHeld false new bag old v same taken = tt
-
--- what is held is not found absent
-pub OnFalse-held_of : (b : Bool) (P : Type 0) (bag old : Bag) (v : ℤ) → SameHeld old bag → 0 < held_of old v → OnFalse b (held_of bag v ≡ 0) → OnFalse b P
-OnFalse-held_of true P bag old v same some absent = tt
-OnFalse-held_of false P bag old v same some absent = absurd (omega (arith, same.held v, some, absent))

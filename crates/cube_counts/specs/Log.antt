@@ -1,11 +1,40 @@
--- What a log keeps of its pairs: of those that were added, and of those in order.
-use Rattle.std.specs.Prelude.{◌≡◌, ℕ, ◌+◌, ◌<◌, ◌≤◌, ◌≤ℤ◌, ◌<ℤ◌, ℤ, All, length, slice_index_or}
+-- What a log keeps of its pairs: of those that were added, of the numbers that were taken away, and of pairs in order.
+use Rattle.std.specs.Prelude.{◌≡◌, ℕ, ◌+◌, ◌^◌, ◌<◌, ◌≤◌, ◌≤ℤ◌, ◌<ℤ◌, ℤ, List, [], ◌∷◌, suc, zero, Option, IfSome, IfNone, length, slice_index_or, sum_by, if◌then◌else◌}
+use Rattle.std.specs.Ordering.{int_eq}
 use Rattle.std.specs.List.{AllWithin}
-use Rattle.cube_counts.specs.Bag.{Bag, held_of, HasLeast, HasGreatest}
+use Rattle.cube_counts.specs.Bag.{Bag, one_at, held_of, size_of, HasLeast, HasGreatest}
 
--- each pair counts, and these are the ends
-pub record IsAdded (bag : Bag) (low high : ℤ) : Type 0 where
-  pub some : All (λ e. 0 < e.1) bag
+-- how often a number stands in a list
+abbrev pub times_in : List ℤ → ℤ → ℕ
+times_in numbers x = sum_by (one_at x) numbers
+
+-- the bag without one v, where it holds one
+abbrev pub without_one : ℤ → Bag → Bag
+without_one v [] = []
+without_one v ((x, zero) ∷ bag) = (x, zero) ∷ without_one v bag
+without_one v ((x, suc n) ∷ bag) = if int_eq v x then (x, n) ∷ bag else (x, suc n) ∷ without_one v bag
+
+-- the bag without each of the numbers of a list
+abbrev pub without : List ℤ → Bag → Bag
+without [] bag = bag
+without (v ∷ numbers) bag = without numbers (without_one v bag)
+
+-- the bag holds each number at least as often as the list does
+pub record Covers (bag : Bag) (numbers : List ℤ) : Type 0 where
+  pub times : (x : ℤ) → times_in numbers x ≤ held_of bag x
+
+-- the old bag holds each number as often as the new one and the list together
+pub record TakesAll (old new : Bag) (numbers : List ℤ) : Type 0 where
+  pub held : (x : ℤ) → held_of old x ≡ held_of new x + times_in numbers x
+
+-- what is owed is held, and the total, of 64 bits, is no less than the size of the bag; where there is none, nothing is owed
+pub record Owes (bag : Bag) (owed : List ℤ) (total : Option ℕ) : Type 0 where
+  pub covered : Covers bag owed
+  pub size : IfSome total (λ n. (size_of bag ≤ n) × (n < 2 ^ 64))
+  pub none : IfNone total (owed ≡ [])
+
+-- these are the ends of the bag
+pub record HasEnds (bag : Bag) (low high : ℤ) : Type 0 where
   pub least : HasLeast bag low
   pub greatest : HasGreatest bag high
 
@@ -21,6 +50,11 @@ IsJoined bag n = (k : ℕ) (d : ℤ × ℕ) → k + 1 < n → (slice_index_or ba
 pub record IsOrdered (bag : Bag) : Type 0 where
   pub rises : Rises bag
   pub joined : IsJoined bag (length bag)
+
+-- the pairs are in order, and nothing is owed
+pub record IsSettled (bag : Bag) (owed : List ℤ) : Type 0 where
+  pub ordered : IsOrdered bag
+  pub none : owed ≡ []
 
 -- the pair at this place is of the number, which is held as often as it says
 pub record IsLastOf (bag : Bag) (v : ℤ) (place : ℕ) : Type 0 where

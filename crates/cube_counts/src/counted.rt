@@ -1,7 +1,7 @@
 //! A multiset of numbers.
 ghost use Rattle.std.specs.Prelude.{nat_lt, ◌==◌, ℤ, ◌≡◌, ◌<◌, ◌≤◌, ◌+◌, ◌^◌, ◌↔◌, All, IsTrue, IsNone, IfSome, IfOk, OnOk, OnErr};
 ghost use Rattle.std.specs.Bool.{OnTrue, OnFalse};
-ghost use Rattle.cube_counts.specs.Bag.{Bag, AddsBag, AddsOne, AddsTimes, held_of, size_of, HasLeast, HasGreatest};
+ghost use Rattle.cube_counts.specs.Bag.{Bag, AddsBag, AddsOne, AddsTimes, SameHeld, held_of, size_of, HasLeast, HasGreatest};
 ghost use Rattle.cube_counts.specs.Values.{bag_of};
 
 use crate::log::Log;
@@ -15,9 +15,11 @@ use std::marker::Model;
 /// A multiset of numbers: how often each is held.
 ///
 /// A number that is held alone, however often, takes no memory of its own, and few numbers stand in a short list. More
-/// are a log of what was added until the first removal, which sorts it; the next add makes a hash table of it. So a log
-/// answers its least and greatest number at once, and looks at each of its pairs for `holds`. Where the numbers of a log
-/// repeat, a table takes its place too. `least` and `greatest` of a table look at each of the different numbers.
+/// are a log of what was added, with a list of what was taken away since; it answers its least and greatest number at
+/// once, and looks at each of its pairs for `holds`. When one of its ends is taken, or very much is, the log is sorted and
+/// what was taken leaves it. If that was little, as with a client that always takes the least number, the pairs stay
+/// sorted, and the next add makes a hash table of them. Where the numbers of a log repeat, a table takes its place too.
+/// `least` and `greatest` of a table look at each of the different numbers.
 #[derive(Drop)]
 pub struct Counted {
     len: u64,
@@ -98,7 +100,19 @@ impl Counted {
         }
     }
 
-    /// Takes one `value` away; answers whether there was one. It takes no memory.
+    /// Takes one `value` away, which is held; a log makes no search for it where it lies between the ends. Where memory is
+    /// wanting, it does without.
+    #[tactic(auto, using(crate::proofs::BagLaws::size_of_one, crate::proofs::BagLaws::held_before))]
+    pub fn take(&mut self, value: i64)
+        requires { 0 < held_of self.old value }
+        ensures taken { AddsOne self.new self.old value }
+        ensures size { size_of self.old < 2 ^ 64 }
+    {
+        take_value(&mut self.values, value);
+        self.len -= 1;
+    }
+
+    /// Takes one `value` away; answers whether there was one. Where memory is wanting, it does without.
     #[tactic(auto, using(crate::proofs::BagLaws::size_of_one, crate::proofs::BagLaws::held_before))]
     pub fn remove(&mut self, value: i64) -> bool
         ensures found { IsTrue result ↔ (0 < held_of self.old value) }
@@ -117,12 +131,7 @@ impl Counted {
     pub fn holds(&self, value: i64) -> bool
         ensures { result ≡ nat_lt 0 (held_of self.now value) }
     {
-        match &self.values {
-            Values::One(single) => single.holds(value),
-            Values::Few(short) => short.holds(value),
-            Values::Logged(log) => log.holds(value),
-            Values::Many(table) => table.holds(value),
-        }
+        holds_value(&self.values, value)
     }
 
     /// The least number held. It looks at each of the different numbers.
@@ -248,12 +257,24 @@ fn merge_log(alloc: Global, values: &mut Values, more: &Log) -> Result<(), Alloc
             if log.append(more)? {
                 return Ok(());
             }
-            return merge_pairs(alloc, values, more.pairs());
+            return merge_each(alloc, values, more);
         }
-        Values::Many(_) => return merge_pairs(alloc, values, more.pairs()),
+        Values::Many(_) => return merge_each(alloc, values, more),
     };
     *values = grown;
     Ok(())
+}
+
+// Adds the numbers of a log, pair by pair.
+fn merge_each(alloc: Global, values: &mut Values, more: &Log) -> Result<(), AllocError>
+    requires { size_of (bag_of values.old) + size_of more.now < 2 ^ 64 }
+    ensures { OnOk result (AddsBag (bag_of values.old) (bag_of values.new) more.now) }
+{
+    if let Some(pairs) = more.pairs() {
+        return merge_pairs(alloc, values, pairs);
+    }
+    let settled = more.settled(alloc)?;
+    merge_pairs(alloc, values, &settled)
 }
 
 // A copy of a log, with the number that is held alone.
@@ -353,22 +374,66 @@ fn table_of(alloc: Global, log: &Log, more: (i64, u64)) -> Result<Box<Table>, Al
     requires fits { size_of log.now + more.1 < 2 ^ 64 }
     ensures { IfOk result (λ table. AddsTimes log.now table.value more.0 more.1) }
 {
-    let mut table = Table::of_pairs(alloc, log.pairs())?;
+    let mut table = table_of_each(alloc, log)?;
     table.add(more.0, more.1)?;
     let table = Box::new(alloc, table)?;
     Ok(table)
 }
 
+// A table of the numbers of a log.
+fn table_of_each(alloc: Global, log: &Log) -> Result<Table, AllocError>
+    requires { size_of log.now < 2 ^ 64 }
+    ensures { IfOk result (SameHeld log.now) }
+{
+    if let Some(pairs) = log.pairs() {
+        return Table::of_pairs(alloc, pairs);
+    }
+    let settled = log.settled(alloc)?;
+    Table::of_pairs(alloc, &settled)
+}
+
+fn holds_value(values: &Values, value: i64) -> bool
+    ensures { result ≡ nat_lt 0 (held_of (bag_of values.now) value) }
+{
+    match values {
+        Values::One(single) => single.holds(value),
+        Values::Few(short) => short.holds(value),
+        Values::Logged(log) => log.holds(value),
+        Values::Many(table) => table.holds(value),
+    }
+}
+
+// Takes one `value` away where it is held; answers whether it was.
 fn remove_value(values: &mut Values, value: i64) -> bool
     requires { size_of (bag_of values.old) < 2 ^ 64 }
     ensures taken { OnTrue result (AddsOne (bag_of values.new) (bag_of values.old) value) }
     ensures absent { OnFalse result (held_of (bag_of values.old) value ≡ 0) }
     ensures unchanged { OnFalse result (bag_of values.new ≡ bag_of values.old) }
 {
+    if !holds_value(values, value) {
+        return false;
+    }
+    take_value(values, value);
+    true
+}
+
+// Takes one `value` away, which is held.
+#[tactic(auto, using(crate::proofs::OwedLaws::AddsOne_held))]
+fn take_value(values: &mut Values, value: i64)
+    requires held { 0 < held_of (bag_of values.old) value }
+    requires fits { size_of (bag_of values.old) < 2 ^ 64 }
+    ensures { AddsOne (bag_of values.new) (bag_of values.old) value }
+{
     match values {
-        Values::One(single) => single.remove(value),
-        Values::Few(short) => short.remove(value),
-        Values::Logged(log) => log.remove(value),
-        Values::Many(table) => table.remove(value),
+        Values::One(single) => {
+            let _ = single.remove(value);
+        }
+        Values::Few(short) => {
+            let _ = short.remove(value);
+        }
+        Values::Logged(log) => log.take(value),
+        Values::Many(table) => {
+            let _ = table.remove(value);
+        }
     }
 }

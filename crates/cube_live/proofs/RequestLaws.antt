@@ -17,7 +17,7 @@ use Rattle.cube_core.specs.declared.query.QueryFault.TheVariants.{Field, NotCell
 use Rattle.cube_core.proofs.ItemLaws.{length-filter_map}
 use Rattle.cube_live.specs.Live.{CanAsk}
 use Rattle.cube_live.specs.Request.{asked, cell_and_dimension, cell_by, count_of, drill_by, drill_request, of_width, question_of, refusals_by, request_of, roll_up_request, slice_request, source_numbered, source_of, with_dimension}
-use Rattle.cube_live.specs.declared.request.Question.TheVariants.{Print, Slice, Drill, RollUp, Refusals}
+use Rattle.cube_live.specs.declared.request.Question.TheVariants.{Print, Slice, Drill, RollUp, Refusals, Sync}
 use Rattle.cube_live.specs.declared.request.Request.{Request}
 use Rattle.cube_live.specs.declared.request.Request.TheVariants.{Change, Ask, Wrong}
 use Rattle.cube_live.specs.declared.request.RequestFault.TheVariants.{Shape, Query}
@@ -128,7 +128,8 @@ IsSound-question_of s fields =
     (IsSound-if s (bytes_eq (field_at fields 0) (codes "refusals")) _ _
     (λ _. IsSound-if s (length fields == 1) (Ask Refusals) _ (λ _. tt)
     (IsSound-of_width s 3 fields _ (λ _. IsSound-refusals_by s (source_of (field_at fields 1)) (count_of (field_at fields 2)) (source_of-bounds (field_at fields 1)))))
-    tt))))
+    (IsSound-if s (bytes_eq (field_at fields 0) (codes "sync")) _ _ (λ _. IsSound-of_width s 1 fields (Ask Sync) (λ _. tt))
+    tt)))))
   where
     any : (found : Result Wanted QueryFault) → IfOk found (λ pattern. IsSound s (Ask (Slice pattern)))
     any (Ok pattern) = tt

@@ -15,7 +15,7 @@ use Rattle.cube_engine.proofs.SurvivorLaws.{SurviveTogether-stands}
 use Rattle.cube_live.specs.Live.{IsLive}
 use Rattle.cube_live.specs.Shows.{AsksRows, IsTextWhere, Shows, ShowsCube, ShowsRows, asks_for, text_after}
 use Rattle.cube_live.specs.declared.request.Question.{Question}
-use Rattle.cube_live.specs.declared.request.Question.TheVariants.{Print, Slice, Drill, RollUp, Refusals, RefusalsAfter}
+use Rattle.cube_live.specs.declared.request.Question.TheVariants.{Print, Slice, Drill, RollUp, Refusals, RefusalsAfter, Sync}
 
 -- the facts of the books survive together in what the list has of the 64 sources
 survive : (s : Layout) (ledger : LedgerView) (numbers : List ℕ) (arrivals : Arrivals) → IsLive s ledger numbers → LedgerStandsAt ledger arrivals
@@ -79,3 +79,4 @@ Shows-asked (Drill key dimension) s feeds text asks shows = shows
 Shows-asked (RollUp key dimension) s feeds text asks shows = shows
 Shows-asked Refusals s feeds text asks shows = absurd asks
 Shows-asked (RefusalsAfter source number) s feeds text asks shows = absurd asks
+Shows-asked Sync s feeds text asks shows = absurd asks

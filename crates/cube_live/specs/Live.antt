@@ -9,7 +9,7 @@ use Rattle.cube_live.specs.Session.{arrivals_changed, last_number, said_item}
 use Rattle.cube_live.specs.declared.live.LiveFault.{LiveFault}
 use Rattle.cube_live.specs.declared.live.LiveFault.TheVariants.{TooMany, Memory}
 use Rattle.cube_live.specs.declared.request.Question.{Question}
-use Rattle.cube_live.specs.declared.request.Question.TheVariants.{Print, Slice, Drill, RollUp, Refusals, RefusalsAfter}
+use Rattle.cube_live.specs.declared.request.Question.TheVariants.{Print, Slice, Drill, RollUp, Refusals, RefusalsAfter, Sync}
 
 -- the schema, the books and the refusals, and the number of the last record of each source that was taken, 0 where none was
 pub record LiveView : Type 0 where
@@ -60,3 +60,4 @@ CanAsk s (Drill key dimension) = (dimension < length s.dimensions) × (length ke
 CanAsk s (RollUp key dimension) = (dimension < length s.dimensions) × (length key.coords ≡ length s.dimensions)
 CanAsk s Refusals = ⊤
 CanAsk s (RefusalsAfter source number) = (1 ≤ source) × (source ≤ 64)
+CanAsk s Sync = ⊤

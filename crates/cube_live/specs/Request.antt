@@ -7,7 +7,7 @@ use Rattle.cube_core.specs.Layout.{Layout}
 use Rattle.cube_core.specs.Query.{Wanted, cell_of, drill_fault, place_of, spelled_by}
 use Rattle.cube_core.specs.declared.key.Key.{Key}
 use Rattle.cube_core.specs.declared.query.QueryFault.{QueryFault}
-use Rattle.cube_live.specs.declared.request.Question.TheVariants.{Print, Slice, Drill, RollUp, Refusals, RefusalsAfter}
+use Rattle.cube_live.specs.declared.request.Question.TheVariants.{Print, Slice, Drill, RollUp, Refusals, RefusalsAfter, Sync}
 use Rattle.cube_live.specs.declared.request.Request.{Request}
 use Rattle.cube_live.specs.declared.request.Request.TheVariants.{Change, Ask, Wrong}
 use Rattle.cube_live.specs.declared.request.RequestFault.TheVariants.{Unknown, Shape, Query}
@@ -91,6 +91,7 @@ question_of s fields =
     else if bytes_eq (field_at fields 0) (codes "drill") then drill_request s fields
     else if bytes_eq (field_at fields 0) (codes "rollup") then roll_up_request s fields
     else if bytes_eq (field_at fields 0) (codes "refusals") then refusals_asked fields
+    else if bytes_eq (field_at fields 0) (codes "sync") then of_width 1 fields (Ask Sync)
     else Wrong Unknown
 
 -- what a record asks: a change where its first field names a source

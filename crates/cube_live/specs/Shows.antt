@@ -15,7 +15,7 @@ use Rattle.cube_core.specs.declared.fact.Fact.{Fact}
 use Rattle.cube_core.specs.declared.key.Key.{Key}
 use Rattle.cube_core.specs.declared.key.Row.{Row}
 use Rattle.cube_live.specs.declared.request.Question.{Question}
-use Rattle.cube_live.specs.declared.request.Question.TheVariants.{Print, Slice, Drill, RollUp, Refusals, RefusalsAfter}
+use Rattle.cube_live.specs.declared.request.Question.TheVariants.{Print, Slice, Drill, RollUp, Refusals, RefusalsAfter, Sync}
 
 -- a text shows the printed cube of the facts that survive in all sources
 pub record ShowsCube (s : Layout) (feeds : List (List Item)) (text : List ℕ) : Type 0 where
@@ -47,6 +47,7 @@ AsksRows (Drill key dimension) = ⊤
 AsksRows (RollUp key dimension) = ⊤
 AsksRows Refusals = ⊥
 AsksRows (RefusalsAfter source number) = ⊥
+AsksRows Sync = ⊥
 
 -- whether a question of rows asks for that of a key; any other question asks for none
 abbrev pub asks_for : Question → Key → Bool
@@ -56,6 +57,7 @@ asks_for (Drill above dimension) key = drills_down dimension above key
 asks_for (RollUp below dimension) key = is_key (rolled_up dimension below) key
 asks_for Refusals key = false
 asks_for (RefusalsAfter source number) key = false
+asks_for Sync key = false
 
 -- whether a refusal is numbered above a record
 abbrev pub is_after : ℕ → Refusal → Bool
@@ -73,3 +75,4 @@ Shows (Drill key dimension) s feeds text = ShowsRows (drills_down dimension key)
 Shows (RollUp key dimension) s feeds text = ShowsRows (is_key (rolled_up dimension key)) s feeds text
 Shows Refusals s feeds text = text ≡ text_of_refusals (map (refusals_of s) feeds)
 Shows (RefusalsAfter source number) s feeds text = text ≡ text_after source number (refusals_of s (get_or feeds (source - 1) []))
+Shows Sync s feeds text = text ≡ []

@@ -108,7 +108,9 @@ impl<'s> Live<'s> {
             Shows question.now self.old.schema (of_sources 64 arrivals) text.items) }
         ensures same { self.new ≡ self.old }
     {
-        self.settle(rt)?;
+        if !matches!(question, Question::Sync) {
+            self.settle(rt)?;
+        }
         self.shown(question)
     }
 
@@ -138,6 +140,7 @@ impl<'s> Live<'s> {
                 *number,
                 parted.ledger().refusals(*source),
             ),
+            Question::Sync => Ok(Vec::new(alloc)),
         }
     }
 

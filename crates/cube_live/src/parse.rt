@@ -44,6 +44,8 @@ fn question_of(alloc: Global, schema: &Schema, fields: &ByteRecord) -> Result<Re
         roll_up_request(alloc, schema, fields)
     } else if name == b"refusals".as_slice() {
         Ok(refusals_asked(fields))
+    } else if name == b"sync".as_slice() {
+        Ok(of_width(fields, 1, Request::Ask(Question::Sync)))
     } else {
         Ok(Request::Wrong(RequestFault::Unknown))
     }

@@ -16,6 +16,8 @@ pub enum Question {
     Refusals,
     /// The refusals of a source after a record of it.
     RefusalsAfter(u32, u64),
+    /// Nothing: a client asks it to have all changes before it taken, and certain where they are kept.
+    Sync,
 }
 
 /// What is wrong with a record.

@@ -111,7 +111,8 @@ fn rows_of_cube(
         Question::Slice(pattern) => slice_rows(alloc, schema, cube, pattern),
         Question::Drill(key, dimension) => drill_rows(cube, key, *dimension),
         Question::RollUp(key, dimension) => roll_up_rows(alloc, cube, key, *dimension),
-        Question::Print | Question::Refusals | Question::RefusalsAfter(_, _) => Err(AllocError),
+        Question::Print | Question::Refusals | Question::RefusalsAfter(_, _) | Question::Sync =>
+            Err(AllocError),
     }
 }
 

@@ -3,12 +3,14 @@ use Rattle.std.proofs.Common.{◌≡◌, ◌==◌, inl, inr, ◌∙◌, ◌++◌
 use Rattle.std.proofs.lemmas.List.{append-nil, take_all, take-append-le}
 use Rattle.std.proofs.lemmas.Bool.{cases_Bool}
 use Rattle.std.specs.List.{list_any}
-use Rattle.std.specs.Prelude.{Some, if◌then◌else◌}
+use Rattle.std.specs.Prelude.{All, Some, if◌then◌else◌}
 use Rattle.csv.specs.Writing.{default_writer, is_blank, needs_byte, read_back, row_body, row_text}
 use Rattle.cube_feed.specs.Reading.{Advances, RecordsView}
 use Rattle.csv.specs.Reading.{default_config, records, records_from, strip_bom}
 use Rattle.csv.proofs.RoundTrip.{read-write}
 use Rattle.cube_core.specs.Records.{records_of}
+use Rattle.cube_stored.proofs.PieceLaws.{first_piece, other_pieces, is_blank-pieces, pieces-begin, row_body-pieces}
+use Rattle.cube_stored.specs.Pieces.{IsPlainByte, MayBegin, pieces}
 use Rattle.cube_stored.specs.Records.{ReadsBack, fields_in, first_of, record_text}
 
 -- a line is the text of its record and a line end
@@ -56,3 +58,17 @@ ReadsBack-text fields b more others is other =
     subst (λ (f : List (List ℕ)). fields_in (record_text f) ≡ f) (sym is)
     (ap (λ text. first_of (records_of text)) (sym (row_text-record ((b ∷ more) ∷ others)))
     ∙ ap (λ text. first_of (records default_config text)) (strip_bom-row b more others other) ∙ first_of-row ((b ∷ more) ∷ others))
+
+-- ---- a text without quotes
+plain_fields : (b : ℕ) (more : List ℕ) → MayBegin b → All IsPlainByte (b ∷ more) → fields_in (b ∷ more) ≡ pieces (b ∷ more)
+plain_fields b more begins plain =
+    let text : List ℕ = b ∷ more in
+    let written : record_text (pieces text) ≡ text = rw (is_blank-pieces b more begins.no_comma plain) (append-nil (row_body default_writer (pieces text)) ∙ row_body-pieces text plain) in
+    subst (λ (t : List ℕ). fields_in t ≡ pieces text) written
+    (ReadsBack-text (pieces text) b (first_piece (pieces more)) (other_pieces (pieces more)) (pieces-begin b more begins.no_comma) begins.no_mark)
+
+-- the fields of a text that begins as a change does and calls for no quotes are its pieces
+pub fields_in-pieces : (text : List ℕ) → (b : ℕ) × (more : List ℕ) × (text ≡ b ∷ more) × MayBegin b → All IsPlainByte text → fields_in text ≡ pieces text
+fields_in-pieces text begins plain =
+    let fields = plain_fields begins.0 begins.1 begins.3 (subst (All IsPlainByte) begins.2 plain) in
+    subst (λ (t : List ℕ). fields_in t ≡ pieces t) (sym begins.2) fields

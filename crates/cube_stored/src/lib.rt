@@ -5,6 +5,7 @@
 #![tactic(auto)]
 
 mod journal;
+mod plain;
 mod record;
 mod replay;
 mod session;

@@ -1,9 +1,12 @@
 //! The changes of a store, taken before a session's first record.
-ghost use Rattle.std.specs.Prelude.{◌≡◌, ◌++◌, ◌∷◌, [], IfOk, OnOk};
+ghost use Rattle.std.specs.Prelude.{◌≡◌, ◌++◌, ◌∷◌, [], ℕ, List, IfOk, OnOk};
+ghost use Rattle.std.specs.Bool.{OnTrue};
 ghost use Rattle.csv.specs.Records.{fields_of};
+ghost use Rattle.cube_stored.specs.Pieces.{MayBegin};
 ghost use Rattle.cube_stored.specs.Records.{fields_in};
 ghost use Rattle.cube_stored.specs.Replay.{TakesStored};
 
+use crate::plain::{is_plain, read_pieces};
 use csv::ByteRecord;
 use cube_feed::{RecordReader, change_of_record, is_read, put_rest};
 use cube_journal::ChangeSink;
@@ -18,6 +21,9 @@ use std::marker::Model;
 pub struct Replay<'s> {
     alloc: Global,
     live: Live<'s>,
+    // The fields of the change that is taken, and those behind its source.
+    fields: ByteRecord,
+    rest: ByteRecord,
 }
 
 impl<'s> Model for Replay<'s> {
@@ -33,33 +39,58 @@ impl<'s> Replay<'s> {
     pub fn new(alloc: Global, live: Live<'s>) -> Replay<'s>
         ensures { result ≡ live.entry }
     {
-        Replay { alloc, live }
+        Replay {
+            alloc,
+            live,
+            fields: ByteRecord::new(alloc),
+            rest: ByteRecord::new(alloc),
+        }
     }
 
     /// The cube.
     pub fn into_live(self) -> Live<'s>
         ensures { result ≡ self.entry }
     {
-        let Replay { alloc: _, live } = self;
+        let Replay { live, .. } = self;
         live
     }
 }
 
-// The fields of the record in a stored text. The only error is want of memory.
-fn record_in(alloc: Global, text: &[u8]) -> Result<ByteRecord, AllocError>
-    ensures { IfOk result (λ row. fields_of row ≡ fields_in text.now) }
+// Takes the fields of the record in a stored text: the pieces between its commas where it begins as a change does and calls
+// for no quotes, without a reader, which costs much more. The only error is want of memory.
+fn read_stored(alloc: Global, text: &[u8], fields: &mut ByteRecord) -> Result<(), AllocError>
+    ensures { OnOk result (fields_of fields.new ≡ fields_in text.now) }
+{
+    if may_begin(text) && is_plain(text) {
+        return read_pieces(text, fields);
+    }
+    read_quoted(alloc, text, fields)
+}
+
+// Whether a text begins with what is no comma, and no byte order mark.
+fn may_begin(text: &[u8]) -> bool
+    ensures { OnTrue result ((b : ℕ) × (more : List ℕ) × (text.now ≡ b ∷ more) × MayBegin b) }
+{
+    match text.first() {
+        Some(first) => *first != b',' && *first != 0xEF,
+        None => false,
+    }
+}
+
+// Takes the fields of the record in a stored text as a reader reads them. The only error is want of memory.
+fn read_quoted(alloc: Global, text: &[u8], fields: &mut ByteRecord) -> Result<(), AllocError>
+    ensures { OnOk result (fields_of fields.new ≡ fields_in text.now) }
 {
     let mut line = Vec::with_capacity(alloc, 1)?;
     line.extend_from_slice(text)?;
     line.push(b'\n')?;
     let mut records = RecordReader::new(alloc, line.as_slice());
-    let mut fields = ByteRecord::new(alloc);
+    fields.clear();
     match records.advance() {
-        Ok(true) => put_rest(records.fields(), 0, &mut fields)?,
-        Ok(false) => {}
-        Err(_) => return Err(AllocError),
+        Ok(true) => put_rest(records.fields(), 0, fields),
+        Ok(false) => Ok(()),
+        Err(_) => Err(AllocError),
     }
-    Ok(fields)
 }
 
 impl<'s> ChangeSink for Replay<'s> {
@@ -71,13 +102,12 @@ impl<'s> ChangeSink for Replay<'s> {
         if source < 1 || source > 64 {
             return Err(AllocError);
         }
-        let fields = record_in(self.alloc, content)?;
-        let mut rest = ByteRecord::new(self.alloc);
-        put_rest(&fields, 1, &mut rest)?;
-        if !is_read(self.live.schema(), &rest) {
+        read_stored(self.alloc, content, &mut self.fields)?;
+        put_rest(&self.fields, 1, &mut self.rest)?;
+        if !is_read(self.live.schema(), &self.rest) {
             return Ok(());
         }
-        let what = change_of_record(self.alloc, self.live.schema(), &rest)?;
+        let what = change_of_record(self.alloc, self.live.schema(), &self.rest)?;
         match self.live.apply(source, what) {
             Ok(()) => Ok(()),
             Err(_) => Err(AllocError),

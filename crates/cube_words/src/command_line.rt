@@ -15,7 +15,7 @@ dimensions. Each feed is a CSV file of inserts, updates and deletes; the cube is
 which are present in the end.";
 
 /// The program's version, by the rules of Semantic Versioning 2.0.0. It stands here alone.
-const VERSION: &str = "1.4.0";
+const VERSION: &str = "1.5.0";
 
 /// The forms of a command line.
 const USAGE: &str = "datacube < FEED
@@ -123,6 +123,7 @@ change or a question:
   rollup,DIM,FIELD...        the line one step above CELL along DIM
   refusals                   the refused lines of all sources so far
   refusals,SOURCE,RECORD     those of this source after this record, 0 for all of it
+  sync                       nothing: all before it is taken, and certain in the store
 
 For the dimensions region and kind:
   3,I,a7,west,tea,2          source 3 inserts the fact a7

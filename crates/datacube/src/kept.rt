@@ -4,7 +4,7 @@ ghost use Rattle.cube_core.specs.Shard.{IsShard};
 ghost use Rattle.cube_words.specs.CommandLine.{LiveHasRoom};
 
 use crate::watch::Watch;
-use crate::{open_schema, path_of, schema_of, session_threads, settings_of};
+use crate::{open_schema, path_of, schema_of, settings_of};
 use cube_core::Shard;
 use cube_journal::FeedNote;
 use cube_progress::{Counts, FeedReader, Phase, Progress};
@@ -60,8 +60,7 @@ fn serve_over<T: Threads + Wait + Clock + Sync, S: Start>(
     push_note(rt, &mut notes, 0, &mut open_schema(rt, words.schema)?)?;
     let feeds = noted_feeds(rt, &words.feeds, progress.counts(), &mut notes)?;
     let store = open_store(rt, path, start)?;
-    let wanted = session_threads(threads, words.threads);
-    let settings = settings_of(threads, words.ring, 1, wanted);
+    let settings = settings_of(threads, words.ring, 1, words.threads);
     progress.begin(Phase::Reading { feeds: feeds.len() });
     let watch = Watch { progress };
     let (input, out) = (rt.stdin(), &mut rt.stdout());

@@ -359,8 +359,7 @@ fn serve<T: Threads + Wait + Clock + Sync>(
 {
     let schema = schema_of(rt, words.schema, &words.feeds, 0)?.with_shard(shard);
     let feeds = open_feeds(rt, &words.feeds, progress.counts())?;
-    let wanted = session_threads(threads, words.threads);
-    let settings = settings_of(threads, words.ring, 1, wanted);
+    let settings = settings_of(threads, words.ring, 1, words.threads);
     progress.begin(Phase::Reading { feeds: feeds.len() });
     let watch = Watch { progress };
     let (alloc, input, out) = (rt.alloc(), rt.stdin(), &mut rt.stdout());
@@ -413,19 +412,6 @@ fn settings_of<T: Threads>(rt: &T, ring: usize, builders: u32, threads: Option<u
         unreachable!()
     };
     settings
-}
-
-/// How many threads a session works with: those that the words give, and else as many as the machine has, but for one that
-/// is left to whoever sends the changes, where there are more than two.
-fn session_threads<T: Threads>(rt: &T, threads: Option<usize>) -> Option<usize>
-    requires { IfSome threads (IsUpTo 16) }
-    ensures { IfSome result (IsUpTo 16) }
-{
-    if threads.is_some() {
-        return threads;
-    }
-    let count = processors(rt);
-    Some(if count > 2 { count - 1 } else { count })
 }
 
 /// How many threads the machine runs at once, 1 to 16.

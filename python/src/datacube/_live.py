@@ -131,6 +131,10 @@ class Live(Questions):
         """The refused lines and changes of all sources, or those of one after one of its records."""
         return refusals_of(self.ask("refusals") if source is None else self.ask("refusals", str(source), str(after)))
 
+    def sync(self) -> None:
+        """Returns once every change before it is taken, and certain where there is a store."""
+        self.ask("sync")
+
     def ask(self, question: str, *fields: str) -> str:
         """The text that answers a question of the session; one that is refused raises `Failure` with its code."""
         record = [text_of(it, "a field of a question") for it in (question, *fields)]

@@ -369,14 +369,14 @@ pub const LATER_NOTES: [Note; 13] = [
         code: "Q1",
         about: "session",
         means: "The first field of a record is neither a source, 1 to 64, nor a question.",
-        mend: "Begin a change with the number of its source, and a question with `print`, `slice`, `drill`, `rollup` or `refusals`.",
+        mend: "Begin a change with the number of its source, and a question with `print`, `slice`, `drill`, `rollup`, `refusals` or `sync`.",
         example: "3,D,a7",
     },
     Note {
         code: "Q2",
         about: "session",
         means: "A question has another number of fields than it takes, or `refusals` names what is no source or no record number.",
-        mend: "`print` takes none, `slice` a field for each dimension, `drill` and `rollup` a dimension and a field for each, `refusals` none, or a source and a record number.",
+        mend: "`print` and `sync` take none, `slice` a field for each dimension, `drill` and `rollup` a dimension and a field for each, `refusals` none, or a source and a record number.",
         example: "drill,kind,=west,\\A",
     },
     Note {
