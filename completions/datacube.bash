@@ -72,11 +72,11 @@ _datacube() {
     COMPREPLY=()
     case $command in
     check) words='-h --help' ;;
-    print) words='--ring --shard --builders --threads --quiet --partial -h --help' ;;
-    refusals) words='--ring --shard --builders --threads --quiet -h --help' ;;
-    slice) words='--ring --shard --builders --threads --quiet -h --help' ;;
-    drill) words='--ring --shard --builders --threads --quiet -h --help' ;;
-    rollup) words='--ring --shard --builders --threads --quiet -h --help' ;;
+    print) words='--ring --shard --builders --threads --quiet --store --wary --partial -h --help' ;;
+    refusals) words='--ring --shard --builders --threads --quiet --store --wary -h --help' ;;
+    slice) words='--ring --shard --builders --threads --quiet --store --wary -h --help' ;;
+    drill) words='--ring --shard --builders --threads --quiet --store --wary -h --help' ;;
+    rollup) words='--ring --shard --builders --threads --quiet --store --wary -h --help' ;;
     live) words='--ring --shard --threads --quiet --store --wary -h --help' ;;
     merge) words='--partial --check --quiet -h --help' ;;
     explain) words='-h --help' ;;

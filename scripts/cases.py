@@ -17,6 +17,8 @@ is ../examples. A case is a block of lines:
                          when it is divided by 7; a NAME with {1..3} in it is three files, in which ## is the file's
                          number
     coded NAME           a file as `file`, in which \\xFF is a byte
+    before WORDS         a run of its own before the one that is tried, on the lines below it as standard input; it has to end
+                         with status 0 or 4
     folder NAME          a folder
     locked NAME          takes all rights from a file
     bytes NAME N         a file of N bytes: the sample schema and then a comment
@@ -57,6 +59,7 @@ class Case:
     def __init__(self, name):
         self.name = name
         self.words = []
+        self.before = []
         self.made = []
         self.stdin = None
         self.stdout = None
@@ -132,7 +135,9 @@ def read_line(case, word, rest, place):
     """Takes a line of a case, and gives the list for the lines below it."""
     lines = []
     if word == "words":
-        case.words = [bytes_of(it) for word in shlex.split(rest.replace("\\x", "\\\\x")) for it in spread(word)]
+        case.words = words_in(rest)
+    elif word == "before":
+        case.before.append((words_in(rest), lines))
     elif word in ("file", "coded", "folder", "locked"):
         case.made += [(word, name, (number, lines)) for number, name in enumerate(spread(rest), 1)]
     elif word == "bytes":
@@ -161,6 +166,11 @@ def read_line(case, word, rest, place):
     else:
         sys.exit(f"{place}: {word} means nothing here")
     return lines
+
+
+def words_in(text):
+    """Gives the words of a line, each as bytes."""
+    return [bytes_of(it) for word in shlex.split(text.replace("\\x", "\\\\x")) for it in spread(word)]
 
 
 def spread(text):
@@ -220,10 +230,15 @@ def run(case, room):
     """Runs a case in a folder, and says what is wrong, or gives None."""
     for made in case.made:
         make(room, *made)
-    words = [f"{room}/../datacube", *case.words]
+    program = [f"{room}/../datacube"]
     if os.geteuid() == 0:
         give_away(room)
-        words = NOBODY + words
+        program = NOBODY + program
+    for earlier, lines in case.before:
+        ran = subprocess.run(program + earlier, cwd=room, input="".join(lines).encode(), capture_output=True, timeout=SECONDS)
+        if ran.returncode not in (0, 4):
+            return f"a run before it ends with status {ran.returncode}: {ran.stderr!r}"
+    words = program + case.words
     how = {"cwd": room, "stderr": subprocess.PIPE, "stdin": subprocess.DEVNULL, "stdout": subprocess.PIPE, "timeout": SECONDS}
     closed = [fd for fd, way in ((0, case.stdin), (1, case.stdout)) if way == "closed"]
     if case.stdin and case.stdin != "closed":

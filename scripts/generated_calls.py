@@ -238,7 +238,7 @@ def filled(schema, part, of, count, way):
     facts = [fact_of(schema, rng, numbers) for _ in range(count)]
     others = [fact_of(schema, rng, numbers) for _ in range(count)]
     kept = oracle.Schema(schema.dimensions, schema.measures, schema.aggregates)
-    kept.masks = [it for it in schema.masks if it % of == part]
+    kept.masks = [it for it in schema.masks if (it + it // of) % of == part]
     for fact in facts:
         made.call(f"{way} {fields(fact)}")
     if way == "gather":

@@ -61,7 +61,7 @@ class Live:
     """A running session, asked through pipes."""
 
     def __init__(self, room, words):
-        self.file = tempfile.TemporaryFile()
+        self.room, self.words, self.file = room, words, tempfile.TemporaryFile()
         streams = {"stdin": subprocess.PIPE, "stdout": subprocess.PIPE, "stderr": self.file}
         self.process = subprocess.Popen([room.program, "live", *words], cwd=room.folder, **streams)
         self.is_late = False
@@ -179,8 +179,13 @@ def shown(it):
 
 
 def ended_well(live, state):
-    """Ends a session at the end of its input; it has to end with the status of its changes, and nothing more to say."""
+    """Ends a session at the end of its input; it has to end with the status of its changes, and nothing more to say. Where it
+    had a store, the commands that read print what it would answer."""
     expect(live.end(), (state.status(), b"", b""), "the end of a session")
+    if "--store" in live.words:
+        for question in ("print", "refusals"):
+            text = state.reply([question.encode()]).split(b"\n", 1)[1]
+            expect(live.room.run([question, *live.words], b""), (state.status(), text, b""), f"{question} over its store")
 
 
 def refusal_of(room, words, given=b"print\n"):

@@ -223,12 +223,31 @@ class Ends(unittest.TestCase):
             live._process.wait()
             with Live(PLAIN, store=store) as live:
                 self.assertEqual(live.slice({})[0]["count(*)"], 2)
+                with self.assertRaises(datacube.Failure) as failed:
+                    datacube.cube(PLAIN, [], store=store)
+                self.assertEqual((failed.exception.line, failed.exception.status), ("D1", 1))
                 with self.assertRaises(datacube.Ended) as caught:
                     Live(PLAIN, store=store)
                 self.assertEqual((caught.exception.line, caught.exception.status), ("D1", 1))
             with self.assertRaises(datacube.Ended) as caught:
                 Live(SHORT, store=store)
             self.assertEqual((caught.exception.line, caught.exception.status), ("D5 0", 1))
+
+    def test_questions_over_a_store(self):
+        """What is asked of a store is what its session answered last; a store that isn't there isn't made."""
+        with tempfile.TemporaryDirectory() as folder:
+            store = os.path.join(folder, "sales.db")
+            with self.assertRaises(datacube.Failure) as caught:
+                datacube.cube(PLAIN, [], store=store)
+            self.assertEqual((caught.exception.line, caught.exception.status, os.listdir(folder)), ("D2", 1, []))
+            with Live(PLAIN, store=store) as live:
+                live.insert(1, "a", ["west", "tea"], [2])
+                live.insert(1, "a", ["west", "tea"], [2])
+                answers = (live.cube().text, live.slice({}).text, live.refusals())
+            for wary in (False, True):
+                cube, total = datacube.cube(PLAIN, [], store=store, wary=wary), datacube.slice(PLAIN, [], {}, store=store, wary=wary)
+                self.assertEqual((cube.text, total.text, datacube.refusals(PLAIN, [], store=store, wary=wary)), answers)
+                self.assertEqual((cube.refused, total.refused), (True, True))
 
     def test_faults_of_feeds_are_told_at_once(self):
         for feeds, line, status in ((["none.csv"], "feed 1 unreadable", 1), ([__file__], "G3 1 F3", 1), ([os.devnull] * 65, "too many feeds", 2)):

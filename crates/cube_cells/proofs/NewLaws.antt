@@ -20,6 +20,7 @@ use Rattle.cube_core.specs.Order.{key_cmp}
 use Rattle.cube_core.specs.declared.key.Key.{Key}
 use Rattle.cube_core.proofs.CellKeyLaws.{key_cmp-is_total}
 use Rattle.cube_core.proofs.KeyOrderLaws.{key_cmp-IsTotalOrder}
+use Rattle.cube_core.proofs.SetLaws.{part_of-below}
 use Rattle.cube_cells.specs.Codes.{Dictionaries, IsDictionary, are_codes, coords_at, key_at, all_code}
 use Rattle.cube_cells.specs.Coded.{CodedCells, IsCodedCell, IsCoded, AreNewCells, same_codes, coded_at, decoded, lattice_of, total_codes}
 use Rattle.cube_cells.specs.Cube.{IsLattice, IsCubeOf, IsNewLattice, cell_at}
@@ -217,5 +218,6 @@ IsStrictlySortedBy-one set = (tt, tt)
 pub sets_of_part-one : (sets : List ℕ) → sets_of_part 0 1 sets ≡ sets
 sets_of_part-one [] = refl
 sets_of_part-one (set ∷ sets) =
-    let whole : (part_of 1 set == 0) ≡ true = eq-eqb (part_of 1 set) 0 (omega arith) in
+    let below : part_of 1 set < 1 = part_of-below 1 set (omega arith) in
+    let whole : (part_of 1 set == 0) ≡ true = eq-eqb (part_of 1 set) 0 (omega (arith, below)) in
     rw whole (ap (λ (xs : List ℕ). set ∷ xs) (sets_of_part-one sets))

@@ -70,8 +70,8 @@ impl Cube {
         Cube::new_part(alloc, schema, 0, 1)
     }
 
-    /// The cube of no fact over the grouping sets of a part of the schema's: those whose mask is `part` modulo `of` (this
-    /// project's choice). The grand total is in part 0.
+    /// The cube of no fact over the grouping sets of a part of the schema's: those of which the mask and its whole
+    /// quotient by `of`, added, are `part` modulo `of` (this project's choice). The grand total is in part 0.
     pub fn new_part(alloc: Global, schema: &Schema, part: u32, of: u32) -> Result<Cube, AllocError>
         requires parts { of ≤ 8 }
         requires part { part < of }
@@ -205,17 +205,18 @@ fn kept_sets(alloc: Global, schema: &Schema, part: u32, of: u32) -> Result<Vec<u
     let chosen = schema.grouping_sets();
     let mut sets = Vec::with_capacity(alloc, chosen.len())?;
     for set in chosen {
-        push_kept(&mut sets, *set, part_of(u32::from(*set), of) == part)?;
+        push_kept(&mut sets, *set, part_of(*set, of) == part)?;
     }
     Ok(sets)
 }
 
 // The part, of so many, that a grouping set is in.
-fn part_of(set: u32, of: u32) -> u32
+fn part_of(set: u8, of: u32) -> u32
     requires { 0 < of }
     ensures { result ≡ part_of of set }
 {
-    set % of
+    let mask = u32::from(set);
+    (mask + mask / of) % of
 }
 
 fn push_kept(sets: &mut Vec<u8>, set: u8, is_kept: bool) -> Result<(), AllocError>

@@ -33,4 +33,4 @@ range_with_len-more a n = sym (map-id (range_with_len a (n + 1))) ∙ map-range_
 
 -- each set is in one of the parts
 pub part_of-below : (parts set : ℕ) → 1 ≤ parts → part_of parts set < parts
-part_of-below parts set some = mod-lt set some
+part_of-below parts set some = mod-lt (set + set / parts) some

@@ -29,9 +29,9 @@ mask_of key = mask_of_coords key.coords
 abbrev pub all_sets : ℕ → List ℕ
 all_sets dimensions = range_with_len 0 (2 ^ dimensions)
 
--- the part, of n, that a grouping set is in: its mask modulo n (this project's choice)
+-- the part, of n, that a grouping set is in: its mask and the whole quotient of it by n, added, modulo n (this project's choice)
 abbrev pub part_of : ℕ → ℕ → ℕ
-part_of n set = set % n
+part_of n set = (set + set / n) % n
 
 -- the grouping sets of part j of n
 abbrev pub sets_of_part : ℕ → ℕ → List ℕ → List ℕ

@@ -89,7 +89,7 @@ impl Parted {
         ensures schema { self.new.schema ≡ self.old.schema }
         ensures err { OnErr result (self.new ≡ self.old) }
     {
-        self.rest_where_many_wait();
+        self.give_up_where_many_wait();
         self.enter(source, item)
     }
 
@@ -157,7 +157,7 @@ impl Parted {
     }
 
     // Gives the cubes up where so many facts wait that filling them anew takes less than following them.
-    fn rest_where_many_wait(&mut self)
+    fn give_up_where_many_wait(&mut self)
         ensures { self.new ≡ self.old }
     {
         let held = self.parts.first().map_or(0, |part| part.cube.facts());

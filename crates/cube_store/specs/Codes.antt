@@ -46,16 +46,16 @@ look_code_of log.NoSuchPage = NotAStore
 look_code_of log.Corrupt = NotAStore
 look_code_of log.Exists = NotAStore
 
--- A call failed, and nothing was refused for what the files hold (this project's choice).
-abbrev pub IsFailedCall : StoreFault → Type 0
-IsFailedCall InUse = ⊥
-IsFailedCall CantOpen = ⊥
-IsFailedCall NotAStore = ⊥
-IsFailedCall (Row number) = ⊥
-IsFailedCall (Feed source) = ⊥
-IsFailedCall Failed = ⊤
-IsFailedCall NoRoom = ⊤
-IsFailedCall Memory = ⊤
+-- What is told is that a call failed, and not that something was refused for what the files hold (this project's choice).
+abbrev pub TellsFailedCall : StoreFault → Type 0
+TellsFailedCall InUse = ⊥
+TellsFailedCall CantOpen = ⊥
+TellsFailedCall NotAStore = ⊥
+TellsFailedCall (Row number) = ⊥
+TellsFailedCall (Feed source) = ⊥
+TellsFailedCall Failed = ⊤
+TellsFailedCall NoRoom = ⊤
+TellsFailedCall Memory = ⊤
 
 -- Why a call on a store is told as failed: want of memory, a fault of the disk or of the file, or one that broke the store before (this project's choice).
 abbrev pub HasReason : Type 0 → Type 0 → StoreFault → Type 0

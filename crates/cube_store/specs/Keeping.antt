@@ -54,5 +54,5 @@ module _ {S : Type 0} (view : S → View) (recovers : S → Trees → Type 0) wh
     pub leaves : IsClean (view now.store) → (db : Trees) → recovers now.store db → LeavesPart (view first.store) changes sure db
 
   -- a journal that kept so much from some first moment on goes on to keep this
-  abbrev pub KeepsOn : (Batch S → Batch S → List Entry → ℕ → Type 0) → Batch S → Batch S → (List Entry → List Entry) → (List Entry → ℕ → ℕ) → Type 0
-  KeepsOn after old new told sure = (first : Batch S) → (changes : List Entry) → (so_many : ℕ) → HasKept first old changes so_many → after first new (told changes) (sure changes so_many)
+  abbrev pub BatchKeepsOn : (Batch S → Batch S → List Entry → ℕ → Type 0) → Batch S → Batch S → (List Entry → List Entry) → (List Entry → ℕ → ℕ) → Type 0
+  BatchKeepsOn after old new told sure = (first : Batch S) → (changes : List Entry) → (so_many : ℕ) → HasKept first old changes so_many → after first new (told changes) (sure changes so_many)

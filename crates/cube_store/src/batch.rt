@@ -3,7 +3,7 @@ ghost use Rattle.std.specs.Prelude.{◌≡◌, ◌<◌, ◌++◌, ◌∷◌, [],
 ghost use Rattle.sqlite_disk.specs.Disk.{MoreFaults};
 ghost use Rattle.sqlite_trees.specs.View.{IsClean};
 ghost use Rattle.cube_journal.specs.State.{held_in, stored_in, GoesOn, IsCause};
-ghost use Rattle.cube_store.specs.Keeping.{HasBroken, HasKept, KeepsOn, CantStore, TakesAsBefore};
+ghost use Rattle.cube_store.specs.Keeping.{HasBroken, HasKept, BatchKeepsOn, CantStore, TakesAsBefore};
 
 use cube_journal::ChangeJournal;
 use sqlite_trees::error::StoreError;
@@ -61,9 +61,9 @@ impl<S: Store> BatchJournal<S> {
     /// After an error nothing more is to be taken: a crash, and the next opening, find a first part of the changes, and of
     /// these all that were certain.
     pub fn append(&mut self, source: u32, content: &[u8]) -> Result<(), StoreError>
-        ensures kept { OnOk result (KeepsOn S.Store.view S.Store.recovers (HasKept S.Store.view S.Store.recovers) self.old self.new
+        ensures kept { OnOk result (BatchKeepsOn S.Store.view S.Store.recovers (HasKept S.Store.view S.Store.recovers) self.old self.new
             (λ changes. changes ++ (source, content.now) ∷ []) (λ _ sure. sure)) }
-        ensures broken { OnErr result (KeepsOn S.Store.view S.Store.recovers (HasBroken S.Store.view S.Store.recovers) self.old self.new
+        ensures broken { OnErr result (BatchKeepsOn S.Store.view S.Store.recovers (HasBroken S.Store.view S.Store.recovers) self.old self.new
             (λ changes. changes ++ (source, content.now) ∷ []) (λ _ sure. sure)) }
         ensures cause { IfErr result (λ e. IsClean (S.Store.view self.new.store) → IsCause (MoreFaults (S.Store.faults self.old.store) (S.Store.faults self.new.store))
             ((S.Store.view self.old.store).is_open ≡ false) (CantStore (S.Store.view self.old.store) (source, content.now)) e) }
@@ -78,9 +78,9 @@ impl<S: Store> BatchJournal<S> {
 
     // Makes all changes certain where as many wait as may.
     fn make_room(&mut self) -> Result<(), StoreError>
-        ensures kept { OnOk result (KeepsOn S.Store.view S.Store.recovers (HasKept S.Store.view S.Store.recovers) self.old self.new
+        ensures kept { OnOk result (BatchKeepsOn S.Store.view S.Store.recovers (HasKept S.Store.view S.Store.recovers) self.old self.new
             (λ changes. changes) (λ _ sure. sure)) }
-        ensures broken { OnErr result (KeepsOn S.Store.view S.Store.recovers (HasBroken S.Store.view S.Store.recovers) self.old self.new
+        ensures broken { OnErr result (BatchKeepsOn S.Store.view S.Store.recovers (HasBroken S.Store.view S.Store.recovers) self.old self.new
             (λ changes. changes) (λ _ sure. sure)) }
         ensures room { OnOk result (self.new.waiting < 10000) }
         ensures same { OnOk result (IsClean (S.Store.view self.new.store) → TakesAsBefore (S.Store.view self.old.store) (S.Store.view self.new.store)) }
@@ -98,9 +98,9 @@ impl<S: Store> BatchJournal<S> {
     ///
     /// After an error nothing more is to be taken, as after one of `append`.
     pub fn settle(&mut self) -> Result<(), StoreError>
-        ensures kept { OnOk result (KeepsOn S.Store.view S.Store.recovers (HasKept S.Store.view S.Store.recovers) self.old self.new
+        ensures kept { OnOk result (BatchKeepsOn S.Store.view S.Store.recovers (HasKept S.Store.view S.Store.recovers) self.old self.new
             (λ changes. changes) (λ changes _. length changes)) }
-        ensures broken { OnErr result (KeepsOn S.Store.view S.Store.recovers (HasBroken S.Store.view S.Store.recovers) self.old self.new
+        ensures broken { OnErr result (BatchKeepsOn S.Store.view S.Store.recovers (HasBroken S.Store.view S.Store.recovers) self.old self.new
             (λ changes. changes) (λ _ sure. sure)) }
         ensures none { OnOk result (self.new.waiting ≡ 0) }
         ensures same { OnOk result (IsClean (S.Store.view self.new.store) → TakesAsBefore (S.Store.view self.old.store) (S.Store.view self.new.store)) }

@@ -9,7 +9,7 @@ ghost use Rattle.sqlite_store.specs.FileStore.{view};
 ghost use Rattle.sqlite_store.specs.Unopened.{state_of, wanted_by, files_of, image, AreUsable};
 ghost use Rattle.sqlite_std_file.specs.File.{file_is_usable, IsFresh};
 ghost use Rattle.cube_journal.specs.State.{HasTables, IsUnmade};
-ghost use Rattle.cube_store.specs.Codes.{file_code_of, IsFailedCall};
+ghost use Rattle.cube_store.specs.Codes.{file_code_of, TellsFailedCall};
 ghost use Rattle.cube_store.specs.Found.{store_schema, StoreIn, ReadsAs, IsFound};
 
 use crate::fault::StoreFault;
@@ -54,7 +54,7 @@ fn hold_none<D: Disk>(alloc: Global, files: &mut Files<D>) -> Result<bool, Store
     requires log { IsTrue (D.Disk.is_usable files.old.log) }
     requires db { IsTrue (D.Disk.is_usable files.old.db) }
     ensures ok { IfOk result (λ none. AreClean D.Disk files.new.log files.new.db → (IsTrue none ↔ IsBlankFile 4096 (seen_image D.Disk files.old.log files.old.db))) }
-    ensures cause { IfErr result (λ e. AreClean D.Disk files.new.log files.new.db → IsFailedCall e) }
+    ensures cause { IfErr result (λ e. AreClean D.Disk files.new.log files.new.db → TellsFailedCall e) }
     ensures log { OnlyReads D.Disk files.old.log files.new.log }
     ensures db { OnlyReads D.Disk files.old.db files.new.db }
 {
@@ -69,7 +69,7 @@ fn begin_well<D: Disk>(alloc: Global, files: &mut Files<D>) -> Result<bool, Stor
     requires log { IsTrue (D.Disk.is_usable files.old.log) }
     requires db { IsTrue (D.Disk.is_usable files.old.db) }
     ensures ok { IfOk result (λ well. AreClean D.Disk files.new.log files.new.db → StoreIn (seen_image D.Disk files.old.log files.old.db) → IsTrue well) }
-    ensures cause { IfErr result (λ e. AreClean D.Disk files.new.log files.new.db → StoreIn (seen_image D.Disk files.old.log files.old.db) → IsFailedCall e) }
+    ensures cause { IfErr result (λ e. AreClean D.Disk files.new.log files.new.db → StoreIn (seen_image D.Disk files.old.log files.old.db) → TellsFailedCall e) }
     ensures log { OnlyReads D.Disk files.old.log files.new.log }
     ensures db { OnlyReads D.Disk files.old.db files.new.db }
 {
@@ -125,7 +125,7 @@ fn attach<D: Disk>(fresh: Unopened<D>) -> Result<FileStore<D>, (OpenError, Files
     ensures reads { IfOk result (λ it. IsClean (view it) → ReadsAs (image fresh) (view it)) }
     ensures honest { IfOk result (λ it. IsClean (view it) → IsTrue (state_of fresh).is_clean) }
     ensures falls { IfErr result (λ e. AreClean D.Disk e.1.log e.1.db → IsTrue (state_of fresh).is_clean) }
-    ensures cause { IfErr result (λ e. AreClean D.Disk e.1.log e.1.db → StoreIn (image fresh) → IsFailedCall (file_code_of e.0)) }
+    ensures cause { IfErr result (λ e. AreClean D.Disk e.1.log e.1.db → StoreIn (image fresh) → TellsFailedCall (file_code_of e.0)) }
 {
     match fresh.open() {
         Ok(store) => Ok(store),
@@ -166,7 +166,7 @@ fn attach_or_finish<D: Disk>(
     ensures found { IfOk result (λ it. IsClean (view it) → IsFound (image fresh) (view it)) }
     ensures honest { IfOk result (λ it. IsClean (view it) → IsTrue (state_of fresh).is_clean) }
     ensures falls { IfErr result (λ e. AreClean D.Disk e.1.log e.1.db → IsTrue (state_of fresh).is_clean) }
-    ensures accepts { IfErr result (λ e. AreClean D.Disk e.1.log e.1.db → StoreIn (image fresh) → IsFailedCall e.0) }
+    ensures accepts { IfErr result (λ e. AreClean D.Disk e.1.log e.1.db → StoreIn (image fresh) → TellsFailedCall e.0) }
 {
     match attach(fresh) {
         Ok(store) => Ok(store),
@@ -190,7 +190,7 @@ fn open_held<D: Disk>(
     requires db { IsTrue (D.Disk.is_usable files.db) }
     ensures found { IfOk result (λ it. IsClean (view it) → IsFound (seen_image D.Disk files.log files.db) (view it)) }
     ensures honest { IfOk result (λ it. IsClean (view it) → AreClean D.Disk files.log files.db) }
-    ensures accepts { IfErr result (λ e. AreClean D.Disk e.1.log e.1.db → StoreIn (seen_image D.Disk files.log files.db) → IsFailedCall e.0) }
+    ensures accepts { IfErr result (λ e. AreClean D.Disk e.1.log e.1.db → StoreIn (seen_image D.Disk files.log files.db) → TellsFailedCall e.0) }
 {
     match begin_well(alloc, &mut files) {
         Ok(true) => {}
@@ -218,7 +218,7 @@ pub fn open_files<D: Disk>(
     requires log { IsTrue (D.Disk.is_usable files.log) }
     requires db { IsTrue (D.Disk.is_usable files.db) }
     ensures found { IfOk result (λ it. IsClean (view it) → IsFound (seen_image D.Disk files.log files.db) (view it)) }
-    ensures accepts { IfErr result (λ e. AreClean D.Disk e.1.log e.1.db → StoreIn (seen_image D.Disk files.log files.db) → IsFailedCall e.0) }
+    ensures accepts { IfErr result (λ e. AreClean D.Disk e.1.log e.1.db → StoreIn (seen_image D.Disk files.log files.db) → TellsFailedCall e.0) }
 {
     let options = Options::new(seed);
     match hold_none(alloc, &mut files) {

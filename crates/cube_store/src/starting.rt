@@ -8,7 +8,7 @@ ghost use Rattle.cube_journal.specs.Rows.{entries_of};
 ghost use Rattle.cube_journal.specs.State.{stored_in, IsStore, IsUnmade, TakesAll, Starts};
 ghost use Rattle.cube_journal.specs.Making.{LeavesNotes};
 ghost use Rattle.cube_store.specs.Closing.{IsCopied, IsEmptied, IsUnharmed, LeavesOneFile, LeavesUnharmed};
-ghost use Rattle.cube_store.specs.Codes.{IsFailedCall};
+ghost use Rattle.cube_store.specs.Codes.{TellsFailedCall};
 ghost use Rattle.cube_store.specs.Found.{StoreIn, IsFound};
 
 use crate::fault::StoreFault;
@@ -34,7 +34,7 @@ pub fn start<D: Disk, K: ChangeSink>(
     ensures taken { IfOk result (λ j. IsClean (view j.store) → TakesAll K.ChangeSink.takes sink.old (stored_in (view j.store)) sink.new) }
     ensures crash { IfOk result (λ j. (db : Trees) → recovers j.store db → LeavesNotes (view store) (entries_of notes.now) db ⊎ recovers store db) }
     ensures unharmed { IfErr result (λ e. (db : Trees) → recovers e.1 db → LeavesNotes (view store) (entries_of notes.now) db ⊎ recovers store db) }
-    ensures accepts { IfErr result (λ e. IsClean (view e.1) → IsStore (view store) (entries_of notes.now) ⊎ IsUnmade (view store) → IsFailedCall e.0) }
+    ensures accepts { IfErr result (λ e. IsClean (view e.1) → IsStore (view store) (entries_of notes.now) ⊎ IsUnmade (view store) → TellsFailedCall e.0) }
 {
     match open_or_make(alloc, store, notes, sink) {
         Ok(journal) => Ok(journal),

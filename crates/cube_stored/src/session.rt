@@ -6,7 +6,7 @@ ghost use Rattle.sqlite_store.specs.FileStore.{view, recovers};
 ghost use Rattle.cube_journal.specs.Making.{LeavesNotes};
 ghost use Rattle.cube_journal.specs.Rows.{entries_of};
 ghost use Rattle.cube_journal.specs.State.{stored_in, noted_in, IsStore, IsUnmade, TakesAll};
-ghost use Rattle.cube_store.specs.Codes.{IsFailedCall};
+ghost use Rattle.cube_store.specs.Codes.{TellsFailedCall};
 ghost use Rattle.cube_store.specs.Keeping.{HasKept};
 ghost use Rattle.cube_stored.specs.Replay.{TakesStored};
 ghost use Rattle.cube_live.specs.Keeping.{KeepsOn, keeping_after, made_sure};
@@ -52,7 +52,7 @@ pub fn resume<'s, D: Disk>(
     ensures noted { IfOk result (λ r. IsClean (view r.1.store) → noted_in (view r.1.store) ≡ entries_of notes.now) }
     ensures kept { IfOk result (λ r. HasKept view recovers r.1 r.1 [] 0) }
     ensures unharmed { IfErr result (λ e. (db : Trees) → recovers e.1 db → LeavesNotes (view store) (entries_of notes.now) db ⊎ recovers store db) }
-    ensures accepts { IfErr result (λ e. IsClean (view e.1) → IsStore (view store) (entries_of notes.now) ⊎ IsUnmade (view store) → IsFailedCall e.0) }
+    ensures accepts { IfErr result (λ e. IsClean (view e.1) → IsStore (view store) (entries_of notes.now) ⊎ IsUnmade (view store) → TellsFailedCall e.0) }
 {
     let mut replay = Replay::new(alloc, live);
     match start(alloc, store, notes, &mut replay) {

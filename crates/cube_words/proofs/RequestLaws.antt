@@ -5,7 +5,7 @@ use Rattle.std.specs.Prelude.{Option, Some, None, Result, Ok, Err, IfOk, IfSome,
 use Rattle.std.specs.Str.{bytes_eq}
 use Rattle.std.specs.Str.Parse.{ParsesBool, ParsesUnsigned}
 use Rattle.clap.specs.Words.{ReadsOne, Row, Text, TriesOne}
-use Rattle.cube_words.specs.CommandLine.{AreRunWords, AreSharedWords, HasRoom, IsNumberOf, IsUpTo, LiveHasRoom, is_given}
+use Rattle.cube_words.specs.CommandLine.{AreLiveWords, AreRunWords, HasRoom, IsNumberOf, IsUpTo, LiveHasRoom, is_given}
 use Rattle.cube_words.specs.declared.request.LiveWords.{LiveWords}
 use Rattle.cube_words.specs.declared.request.RunWords.{RunWords}
 
@@ -52,17 +52,21 @@ is_given-ReadsOne E (Some text) None none value = go (bytes_eq text (codes "true
 
 -- the words of a run that `live` has too
 abbrev pub live_of : RunWords → LiveWords
-live_of run = record { schema = run.schema; feeds = run.feeds; ring = run.ring; threads = run.threads; shard = run.shard; quiet = run.quiet; store = None; wary = false }
+live_of run = record { schema = run.schema; feeds = run.feeds; ring = run.ring; threads = run.threads; shard = run.shard; quiet = run.quiet; store = run.store; wary = run.wary }
 
 -- of the words of a run, those that `live` has too are its own
-pub AreSharedWords-AreRunWords : (rows : List Row) (run : RunWords) → AreRunWords rows run → AreSharedWords rows (live_of run)
-AreSharedWords-AreRunWords rows run are = record {
-  schema = are.schema;
-  feeds = ap (λ (o : Option (List Text)). unwrap_or o []) are.feeds;
-  ring = are.ring;
-  threads = are.threads;
-  shard = are.shard;
-  is_quiet = are.is_quiet;
+pub AreLiveWords-AreRunWords : (rows : List Row) (run : RunWords) → AreRunWords rows run → AreLiveWords rows (live_of run)
+AreLiveWords-AreRunWords rows run are = record {
+  shared = record {
+    schema = are.schema;
+    feeds = are.feeds;
+    ring = are.ring;
+    threads = are.threads;
+    shard = are.shard;
+    is_quiet = are.is_quiet;
+  };
+  store = are.store;
+  is_wary = are.is_wary;
 }
 
 -- and their options are in their bounds

@@ -34,21 +34,17 @@ cell_word = needed_word (codes "CELL")
 abbrev pub dimension_word : Rule
 dimension_word = needed_word (codes "DIM")
 
--- words that have to be there: at least one, and no bound on how many
-abbrev pub needed_words : Text → Rule
-needed_words name = record (needed_word name) { range = Some (record { start_inclusive = 1; end_inclusive = usize_max }) }
+-- words of which there is at least one where they are there, and no bound on how many
+abbrev pub some_words : Text → Rule
+some_words name = record (new_rule name) { range = Some (record { start_inclusive = 1; end_inclusive = usize_max }) }
 
--- the words that name feeds
+-- the words that name feeds, which may be left out
 abbrev pub feed_words : Rule
-feed_words = needed_words (codes "FEED")
+feed_words = some_words (codes "FEED")
 
--- the words that name feeds, where they may be left out
-abbrev pub optional_feed_words : Rule
-optional_feed_words = record feed_words { required = false }
-
--- the words that name printed cubes
+-- the words that name printed cubes, which have to be there
 abbrev pub merged_words : Rule
-merged_words = needed_words (codes "CUBE")
+merged_words = record (some_words (codes "CUBE")) { required = true }
 
 -- the word that names a code; it may be left out
 abbrev pub code_word : Rule
@@ -95,7 +91,7 @@ shard_option = record (new_rule (codes "shard")) { long = Some (codes "shard"); 
 abbrev pub quiet_option : Rule
 quiet_option = flag (codes "quiet")
 
--- `--store`, the file that keeps the changes of a session: any text
+-- `--store`, the file that keeps the changes of sessions: any text
 abbrev pub store_option : Rule
 store_option = record (new_rule (codes "store")) { long = Some (codes "store"); value_names = 1 }
 
@@ -103,9 +99,13 @@ store_option = record (new_rule (codes "store")) { long = Some (codes "store"); 
 abbrev pub wary_option : Rule
 wary_option = flag (codes "wary")
 
+-- a command with the two options of a store behind its words
+abbrev pub with_store : App → App
+with_store line = with_rule (with_rule line store_option) wary_option
+
 -- a command with the feeds and the options of a run behind its words
 abbrev pub with_feeds : App → App
-with_feeds line = with_rule (with_rule (with_rule (with_rule (with_rule (with_rule line feed_words) ring_option) shard_option) builders_option) threads_option) quiet_option
+with_feeds line = with_store (with_rule (with_rule (with_rule (with_rule (with_rule (with_rule line feed_words) ring_option) shard_option) builders_option) threads_option) quiet_option)
 
 -- each command and its words
 abbrev pub check_line : App
@@ -127,7 +127,7 @@ abbrev pub rollup_line : App
 rollup_line = with_feeds (with_rule (with_rule (with_rule (new_app (codes "rollup")) schema_word) cell_word) dimension_word)
 
 abbrev pub live_line : App
-live_line = with_rule (with_rule (with_rule (with_rule (with_rule (with_rule (with_rule (with_rule (new_app (codes "live")) schema_word) optional_feed_words) ring_option) shard_option) threads_option) quiet_option) store_option) wary_option
+live_line = with_store (with_rule (with_rule (with_rule (with_rule (with_rule (with_rule (new_app (codes "live")) schema_word) feed_words) ring_option) shard_option) threads_option) quiet_option)
 
 abbrev pub merge_line : App
 merge_line = with_rule (with_rule (with_rule (with_rule (with_rule (new_app (codes "merge")) schema_word) merged_words) partial_option) check_option) quiet_option
@@ -183,19 +183,21 @@ is_given (Some text) = bytes_eq text (codes "true")
 abbrev pub words_of : Text → List Row → List Text
 words_of name rows = unwrap_or (all_of name rows) []
 
--- the files and the options of a run are those that clap found, each under its name, and the feeds in their order
+-- the files and the options of a run are those that clap found, each under its name, and the feeds, if any, in their order
 pub record AreRunWords (rows : List Row) (run : RunWords) : Type 0 where
   pub schema : first_of (codes "SCHEMA") rows ≡ Some run.schema.now
-  pub feeds : all_of (codes "FEED") rows ≡ Some (map (λ path. path.now) run.feeds.items)
+  pub feeds : words_of (codes "FEED") rows ≡ map (λ path. path.now) run.feeds.items
   pub ring : IsNumberOf (one_of (codes "ring") rows) (Some run.ring)
   pub builders : IsNumberOf (one_of (codes "builders") rows) (Some run.builders)
   pub threads : IsNumberOf (one_of (codes "threads") rows) run.threads
   pub shard : option_map (λ text. text.now) run.shard ≡ first_of (codes "shard") rows
   pub is_quiet : run.quiet ≡ is_given (one_of (codes "quiet") rows)
+  pub store : option_map (λ text. text.now) run.store ≡ first_of (codes "store") rows
+  pub is_wary : run.wary ≡ is_given (one_of (codes "wary") rows)
 
--- a run has at least one feed, and its options, where they are given, are in their bounds
+-- a run has at least one feed, but that over a store it may have none, and its options, where they are given, are in their bounds
 pub record HasRoom (run : RunWords) : Type 0 where
-  pub feeds : 1 ≤ length run.feeds.items
+  pub feeds : run.store ≡ None → 1 ≤ length run.feeds.items
   pub least_ring : 1 ≤ run.ring
   pub most_ring : run.ring ≤ 65536
   pub least_builders : 1 ≤ run.builders
@@ -231,7 +233,7 @@ pub record AreMergeWords (rows : List Row) (merge : MergeWords) : Type 0 where
   pub is_checked : merge.check ≡ is_given (one_of (codes "check") rows)
   pub is_quiet : merge.quiet ≡ is_given (one_of (codes "quiet") rows)
 
--- a request to run has at least one feed and one to merge at least one cube, and the options are in their bounds
+-- a request to run has at least one feed, or a store, and one to merge at least one cube, and the options are in their bounds
 abbrev pub IsInBounds : Request → Type 0
 IsInBounds (Print run partial) = HasRoom run
 IsInBounds (Refusals run) = HasRoom run

@@ -2,7 +2,7 @@
 ghost use Rattle.std.specs.Prelude.{◌≡◌, IfOk, false};
 ghost use Rattle.clap.specs.Words.{app_of, rule_of, shape_of, with_rule, with_subcommand};
 ghost use Rattle.clap.specs.declared.builder.command.Command.TheViews.{out-Command as fields_of};
-ghost use Rattle.cube_words.specs.CommandLine.{builders_option, cell_word, check_line, check_option, code_word, command_line, dimension_word, drill_line, explain_line, feed_words, live_line, merge_line, merged_words, named_line, optional_feed_words, partial_option, print_line, quiet_option, refusals_line, ring_option, rollup_line, schema_word, shard_option, slice_line, store_option, threads_option, wary_option, with_feeds};
+ghost use Rattle.cube_words.specs.CommandLine.{builders_option, cell_word, check_line, check_option, code_word, command_line, dimension_word, drill_line, explain_line, feed_words, live_line, merge_line, merged_words, named_line, partial_option, print_line, quiet_option, refusals_line, ring_option, rollup_line, schema_word, shard_option, slice_line, store_option, threads_option, wary_option, with_feeds, with_store};
 
 use clap::builder::ValueParser;
 use clap::{Arg, ArgAction, Command};
@@ -15,7 +15,7 @@ dimensions. Each feed is a CSV file of inserts, updates and deletes; the cube is
 which are present in the end.";
 
 /// The program's version, by the rules of Semantic Versioning 2.0.0. It stands here alone.
-const VERSION: &str = "1.5.0";
+const VERSION: &str = "1.6.0";
 
 /// The forms of a command line.
 const USAGE: &str = "datacube < FEED
@@ -42,7 +42,7 @@ Exit status:
   2  the command line, CELL, DIM or CODE was refused
   3  the schema couldn't be read, or was refused
   4  done, but at least one line of a feed was refused (`datacube refusals` says which), or,
-     in `live`, a change
+     in `live` or with --store, a change
 
 A failure prints one line on standard error, `datacube: CODE`, and `datacube explain CODE`
 says what the code means and how to mend it. Each command has its own `--help`.
@@ -54,12 +54,18 @@ Each FEED is a source of its own, numbered from 1: the same id in two feeds name
 With --partial each mean has its sum and count beside it: `datacube merge` makes one cube of
 several that were printed so, each of other facts.
 
+With --store the changes that FILE keeps of `datacube live` come after the feeds, of which there
+may be none then; FILE stays as it is.
+
 Exit status: 0 done, 1 a run failed, 2 wrong words, 3 wrong schema, 4 done, with lines refused.
 `datacube explain CODE` explains what a failure prints.";
 
 /// What the help of a command with feeds says of them.
 const AFTER_FEEDS: &str = "\
 Each FEED is a source of its own, numbered from 1: the same id in two feeds names two facts.
+With --store the changes that FILE keeps of `datacube live` come after the feeds, of which there
+may be none then; FILE stays as it is.
+
 Exit status: 0 done, 1 a run failed, 2 wrong words, 3 wrong schema, 4 done, with lines refused.
 `datacube explain CODE` explains what a failure prints.";
 
@@ -76,6 +82,10 @@ For the dimensions region and kind:
   datacube slice shop.toml '?,\\A' feed.csv       every line that aggregates over kind
 
 Put CELL in single quotes, so that the shell leaves it as it is.
+
+With --store the changes that FILE keeps of `datacube live` come after the feeds, of which there
+may be none then; FILE stays as it is.
+
 Exit status: 0 done, 1 a run failed, 2 wrong words, 3 wrong schema, 4 done, with lines refused.
 `datacube explain CODE` explains what a failure prints.";
 
@@ -92,6 +102,10 @@ For the dimensions region and kind:
   datacube drill shop.toml '\\A,\\A' region feed.csv     the grand total, region by region
 
 Put CELL in single quotes, so that the shell leaves it as it is.
+
+With --store the changes that FILE keeps of `datacube live` come after the feeds, of which there
+may be none then; FILE stays as it is.
+
 Exit status: 0 done, 1 a run failed, 2 wrong words, 3 wrong schema, 4 done, with lines refused.
 `datacube explain CODE` explains what a failure prints.";
 
@@ -109,6 +123,10 @@ For the dimensions region and kind:
   datacube rollup shop.toml '=west,\\A' region feed.csv    the grand total
 
 Put CELL in single quotes, so that the shell leaves it as it is.
+
+With --store the changes that FILE keeps of `datacube live` come after the feeds, of which there
+may be none then; FILE stays as it is.
+
 Exit status: 0 done, 1 a run failed, 2 wrong words, 3 wrong schema, 4 done, with lines refused.
 `datacube explain CODE` explains what a failure prints.";
 
@@ -303,8 +321,16 @@ fn live_command<'a>(alloc: Global) -> Result<Command<'a>, AllocError>
     let command = Command::new(alloc, "live")
         .about("Keeps the cube right change by change, and answers questions in between")
         .after_help(AFTER_LIVE);
-    let fed = with_word(with_word(command, schema(alloc))?, optional_feeds(alloc))?;
-    with_store(alloc, with_threads(alloc, with_ring(alloc, fed)?)?)
+    let feeds = feeds(
+        alloc,
+        "The feeds that are read first: CSV files, none to 64",
+    );
+    let fed = with_word(with_word(command, schema(alloc))?, feeds)?;
+    let store = store(
+        alloc,
+        "Keeps each change in this file before an answer shows it, and begins with those it has",
+    );
+    with_store(alloc, with_threads(alloc, with_ring(alloc, fed)?)?, store)
 }
 
 // The command `merge` with its words.
@@ -341,9 +367,19 @@ fn with_all_feeds<'a>(alloc: Global, command: Command<'a>) -> Result<Command<'a>
     ensures line { IfOk result (λ all. app_of all ≡ with_feeds (app_of command.entry)) }
     ensures local { IfOk result (λ all. (fields_of all).has_globals ≡ false) }
 {
-    let fed = with_word(command, feeds(alloc))?;
-    let shared = with_ring(alloc, fed)?;
-    with_threads(alloc, with_word(shared, builders(alloc))?)
+    let fed = with_word(
+        command,
+        feeds(
+            alloc,
+            "The feeds: CSV files, 1 to 64; with --store none to 64",
+        ),
+    )?;
+    let shared = with_word(with_ring(alloc, fed)?, builders(alloc))?;
+    let store = store(
+        alloc,
+        "Takes the changes that this file keeps of `datacube live` after the feeds, and changes none",
+    );
+    with_store(alloc, with_threads(alloc, shared)?, store)
 }
 
 // A command with the options for the capacity of the rings and for the share of the feeds behind its words.
@@ -367,13 +403,18 @@ fn with_threads<'a>(alloc: Global, command: Command<'a>) -> Result<Command<'a>, 
 }
 
 // A command with the options for a store and for what a torn write may leave of it behind its words.
-fn with_store<'a>(alloc: Global, command: Command<'a>) -> Result<Command<'a>, AllocError>
-    requires { (fields_of command).has_globals ≡ false }
-    ensures line { IfOk result (λ all.
-        app_of all ≡ with_rule (with_rule (app_of command.entry) store_option) wary_option) }
+fn with_store<'a>(
+    alloc: Global,
+    command: Command<'a>,
+    store: Arg<'a>,
+) -> Result<Command<'a>, AllocError>
+    requires local { (fields_of command).has_globals ≡ false }
+    requires rule { rule_of store ≡ store_option }
+    requires own { store.global ≡ false }
+    ensures line { IfOk result (λ all. app_of all ≡ with_store (app_of command.entry)) }
     ensures local { IfOk result (λ all. (fields_of all).has_globals ≡ false) }
 {
-    with_word(with_word(command, store(alloc))?, wary(alloc))
+    with_word(with_word(command, store)?, wary(alloc))
 }
 
 // A command with the options to read all cubes first and for no progress behind its words.
@@ -412,25 +453,12 @@ fn dimension<'a>(alloc: Global, help: &'a str) -> Arg<'a>
     Arg::new(alloc, "DIM").help(help).required(true)
 }
 
-// The words that name the feeds.
-fn feeds<'a>(alloc: Global) -> Arg<'a>
+// The words that name the feeds, which may be left out.
+fn feeds<'a>(alloc: Global, help: &'a str) -> Arg<'a>
     ensures rule { rule_of result ≡ feed_words }
     ensures own { result.global ≡ false }
 {
-    Arg::new(alloc, "FEED")
-        .help("The feeds: CSV files, 1 to 64")
-        .num_args(1..)
-        .required(true)
-}
-
-// The words that name the feeds, where they may be left out.
-fn optional_feeds<'a>(alloc: Global) -> Arg<'a>
-    ensures rule { rule_of result ≡ optional_feed_words }
-    ensures own { result.global ≡ false }
-{
-    feeds(alloc)
-        .help("The feeds that are read first: CSV files, none to 64")
-        .required(false)
+    Arg::new(alloc, "FEED").help(help).num_args(1..)
 }
 
 // The words that name the cubes to be merged.
@@ -480,7 +508,7 @@ fn threads<'a>(alloc: Global) -> Arg<'a>
         .value_name("N")
         .value_parser(ValueParser::Unsigned(1, 16))
         .help(
-            "How many threads fill, sort and print the cube, 1 to 16; as many as the machine has, at most 16, where left out",
+            "How many threads fill, sort and print the cube, 1 to 16; where left out as many as the machine has, in live half as many more, and at most 16",
         )
 }
 
@@ -530,17 +558,15 @@ fn quiet<'a>(alloc: Global) -> Arg<'a>
         .help("Shows no progress on standard error, where that is a terminal")
 }
 
-// The option for the file that keeps the changes of a session.
-fn store<'a>(alloc: Global) -> Arg<'a>
+// The option for the file that keeps the changes of sessions.
+fn store<'a>(alloc: Global, help: &'a str) -> Arg<'a>
     ensures rule { rule_of result ≡ store_option }
     ensures own { result.global ≡ false }
 {
     Arg::new(alloc, "store")
         .long("store")
         .value_name("FILE")
-        .help(
-            "Keeps each change in this file before an answer shows it, and begins with those it has",
-        )
+        .help(help)
 }
 
 // The option for a store of which nothing is supposed after a torn write.

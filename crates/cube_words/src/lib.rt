@@ -6,4 +6,4 @@ mod request;
 mod words;
 
 pub use request::{LiveWords, MergeWords, Request, RunWords};
-pub use words::{read_words, unlawful_shard, unreadable_words};
+pub use words::{clashing_words, read_words, unlawful_shard, unreadable_words};

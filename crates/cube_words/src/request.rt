@@ -11,7 +11,7 @@ use std::alloc::{AllocError, Global};
 pub struct RunWords<'a> {
     /// The path of the schema file.
     pub schema: &'a str,
-    /// The paths of the feeds, of which the first is source 1.
+    /// The paths of the feeds, of which the first is source 1. There may be none over a store.
     pub feeds: Vec<&'a str>,
     /// The capacity of each link, 1 to 65536.
     pub ring: usize,
@@ -23,6 +23,10 @@ pub struct RunWords<'a> {
     pub shard: Option<&'a str>,
     /// Whether no progress is shown.
     pub quiet: bool,
+    /// The path of the store whose changes come after the feeds; none where the words leave it out.
+    pub store: Option<&'a str>,
+    /// Whether nothing is supposed of what a torn write left of the store; without effect where there is none.
+    pub wary: bool,
 }
 
 /// The files and the options of `live`.
@@ -239,12 +243,12 @@ fn run_words<'a>(alloc: Global, words: &ArgMatches<'a>) -> Result<Option<RunWord
         IfOk result (λ found. ¬ (found ≡ None)) }
 {
     let (Some(live), Ok(Some(builders))) = (
-        shared_words(alloc, words)?,
+        live_words(alloc, words)?,
         number_of(words, "builders", 8),
     ) else {
         return Ok(None);
     };
-    if live.feeds.is_empty() {
+    if live.feeds.is_empty() && live.store.is_none() {
         return Ok(None);
     }
     Ok(Some(RunWords {
@@ -255,6 +259,8 @@ fn run_words<'a>(alloc: Global, words: &ArgMatches<'a>) -> Result<Option<RunWord
         threads: live.threads,
         shard: live.shard,
         quiet: live.quiet,
+        store: live.store,
+        wary: live.wary,
     }))
 }
 

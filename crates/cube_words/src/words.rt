@@ -58,14 +58,15 @@ fn complete<'a>(alloc: Global, request: Option<Request<'a>>) -> Result<Request<'
     }
 }
 
-/// What there is to say of a command that lacks a word. `clap` itself answers so.
+/// What there is to say of a command that lacks a word. `clap` itself answers so, but for the feeds, which a store may
+/// stand for.
 fn incomplete_words(alloc: Global) -> Result<Error, AllocError>
     ensures { IfOk result (λ error. kind_of error ≡ kind.MissingRequiredArgument) }
 {
     let mut command = program(alloc)?;
     command.error(
         ErrorKind::MissingRequiredArgument,
-        "a required word was not provided",
+        "the following required arguments were not provided: <FEED>..., which only --store lets be left out",
     )
 }
 
@@ -99,6 +100,26 @@ fn shard_not_lawful(alloc: Global) -> Result<Error, AllocError>
     command.error(
         ErrorKind::InvalidValue,
         "invalid value for '--shard <J/N>': J is a number from 1 to N, and N one from 1 to 65536, in digits without leading zeros",
+    )
+}
+
+/// What there is to say of a store with an option that works on the feeds alone.
+pub fn clashing_words(alloc: Global) -> Error
+    ensures { (kind_of result ≡ kind.ArgumentConflict) ⊎ (kind_of result ≡ kind.OutOfMemory) }
+{
+    match words_that_clash(alloc) {
+        Ok(error) => error,
+        Err(error) => Error::from(error),
+    }
+}
+
+fn words_that_clash(alloc: Global) -> Result<Error, AllocError>
+    ensures { IfOk result (λ error. kind_of error ≡ kind.ArgumentConflict) }
+{
+    let mut command = program(alloc)?;
+    command.error(
+        ErrorKind::ArgumentConflict,
+        "the arguments '--partial' and '--builders <N>' cannot be used with '--store <FILE>'",
     )
 }
 

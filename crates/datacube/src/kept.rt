@@ -1,27 +1,27 @@
-//! The session whose changes are kept in a store.
+//! The session whose changes are kept in a store, and the questions over what a store has.
 ghost use Rattle.std.specs.Prelude.{◌≡◌, ◌≤◌, length, vec_len, IfOk};
 ghost use Rattle.cube_core.specs.Shard.{IsShard};
-ghost use Rattle.cube_words.specs.CommandLine.{LiveHasRoom};
+ghost use Rattle.cube_words.specs.CommandLine.{HasRoom, LiveHasRoom};
 
 use crate::watch::Watch;
-use crate::{open_schema, path_of, schema_of, settings_of};
+use crate::{Asked, open_feed, open_schema, question_of, schema_of, session_threads, settings_of};
 use cube_core::Shard;
 use cube_journal::FeedNote;
-use cube_progress::{Counts, FeedReader, Phase, Progress};
+use cube_progress::{Counts, FeedReader, Output, Phase, Progress};
 use cube_store::{NoteFault, StoreFault, Unknown, Wary, close, note_of, open_files, open_path};
 use cube_tool::RunFault;
 use cube_tool::command::{Failure, Status};
-use cube_words::LiveWords;
+use cube_words::{LiveWords, RunWords};
 use sqlite_disk::Start;
 use sqlite_std_file::FileFrom;
 use sqlite_store::FileStore;
-use std::fs::File;
+use std::fs::{self, File};
 use std::hash::{BuildHasher, RandomState};
 use std::io::{Seek, Stderr};
 use std::sync::Wait;
 use std::thread::Threads;
 use std::time::Clock;
-use stored_tool::{StoredFailure, live_stored};
+use stored_tool::{StoredFailure, ask_stored, live_stored};
 
 /// Serves the records of standard input over a cube that is kept right, and keeps their changes in the store at a path.
 pub(crate) fn serve_kept<T: Threads + Wait + Clock + Sync>(
@@ -60,7 +60,8 @@ fn serve_over<T: Threads + Wait + Clock + Sync, S: Start>(
     push_note(rt, &mut notes, 0, &mut open_schema(rt, words.schema)?)?;
     let feeds = noted_feeds(rt, &words.feeds, progress.counts(), &mut notes)?;
     let store = open_store(rt, path, start)?;
-    let settings = settings_of(threads, words.ring, 1, words.threads);
+    let wanted = session_threads(threads, words.threads);
+    let settings = settings_of(threads, words.ring, 1, wanted);
     progress.begin(Phase::Reading { feeds: feeds.len() });
     let watch = Watch { progress };
     let (input, out) = (rt.stdin(), &mut rt.stdout());
@@ -75,6 +76,95 @@ fn serve_over<T: Threads + Wait + Clock + Sync, S: Start>(
             drop(store.close());
             Err(failure)
         }
+    }
+}
+
+/// Answers a command with feeds over these and the changes in the store at a path.
+pub(crate) fn ask_kept<T: Threads + Wait + Clock + Sync>(
+    rt: &HostRuntime,
+    threads: &T,
+    words: &RunWords,
+    path: &str,
+    shard: Shard,
+    asked: Asked,
+    progress: &Progress<'_, T, Stderr>,
+) -> Result<Status, StoredFailure>
+    requires room { HasRoom words.now }
+    requires shard { IsShard shard }
+{
+    if words.wary {
+        return ask_over(rt, threads, words, path, Wary, shard, asked, progress);
+    }
+    ask_over(rt, threads, words, path, Unknown, shard, asked, progress)
+}
+
+/// The same, by what is supposed of a torn write. The log isn't copied into the file, so that both stay as they are.
+fn ask_over<T: Threads + Wait + Clock + Sync, S: Start>(
+    rt: &HostRuntime,
+    threads: &T,
+    words: &RunWords,
+    path: &str,
+    start: S,
+    shard: Shard,
+    asked: Asked,
+    progress: &Progress<'_, T, Stderr>,
+) -> Result<Status, StoredFailure>
+    requires room { HasRoom words.now }
+    requires shard { IsShard shard }
+{
+    let alloc = rt.alloc();
+    let schema = schema_of(rt, words.schema, &words.feeds, 1)?.with_shard(shard);
+    let question = question_of(rt, &schema, asked)?;
+    let mut notes = Vec::new(alloc);
+    push_note(rt, &mut notes, 0, &mut open_schema(rt, words.schema)?)?;
+    let feeds = noted_feeds(rt, &words.feeds, progress.counts(), &mut notes)?;
+    let store = open_made_store(rt, path, start)?;
+    let settings = settings_of(threads, words.ring, 1, words.threads);
+    progress.begin(Phase::Reading { feeds: feeds.len() });
+    let watch = Watch { progress };
+    let out = &mut Output::new(rt.stdout(), progress);
+    match ask_stored(
+        threads, alloc, &schema, feeds, &settings, question, &watch, store, &notes, out,
+    ) {
+        Ok((status, store)) => {
+            drop(store.close());
+            Ok(status)
+        }
+        Err((failure, store)) => {
+            drop(store.close());
+            Err(failure)
+        }
+    }
+}
+
+/// The store at a path, where a session has made one: no file is made, and an empty one isn't filled.
+fn open_made_store<S: Start>(
+    rt: &HostRuntime,
+    path: &str,
+    start: S,
+) -> Result<FileStore<FileFrom<S>>, StoreFault> {
+    if !has_bytes(rt, path)? {
+        return Err(StoreFault::NotAStore);
+    }
+    open_store(rt, path, start)
+}
+
+/// Whether the file of a store, or the log beside it, has a byte. The error is that there is no such file, or want of memory.
+fn has_bytes(rt: &HostRuntime, path: &str) -> Result<bool, StoreFault> {
+    let Ok(real) = fs::canonicalize(rt, path) else {
+        return Err(StoreFault::CantOpen);
+    };
+    let Ok(log) = format!(in rt.alloc(); "{}-wal", real.as_str()) else {
+        return Err(StoreFault::Memory);
+    };
+    Ok(length_of(rt, real.as_str()) > 0 || length_of(rt, log.as_str()) > 0)
+}
+
+/// How many bytes the file at a path has; none where there is no such file.
+fn length_of(rt: &HostRuntime, path: &str) -> u64 {
+    match fs::metadata(rt, path) {
+        Ok(found) => found.len(),
+        Err(_) => 0,
     }
 }
 
@@ -107,9 +197,7 @@ fn noted_feeds<'c>(
     let mut files = Vec::new(rt.alloc());
     for path in paths {
         let source = files.len() as u32 + 1;
-        let Ok(mut file) = File::open(rt, path_of(path)) else {
-            return Err(Failure::FeedUnreadable { source });
-        };
+        let mut file = open_feed(rt, path, source)?;
         push_note(rt, notes, source, &mut file)?;
         if files.push(FeedReader::new(file, counts)).is_err() {
             return Err(Failure::Run(RunFault::Memory));

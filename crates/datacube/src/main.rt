@@ -10,7 +10,7 @@ ghost use Rattle.cube_words.specs.CommandLine.{HasRoom, IsInBounds, IsUpTo, Live
 mod kept;
 mod watch;
 
-use crate::kept::serve_kept;
+use crate::kept::{ask_kept, serve_kept};
 use crate::watch::Watch;
 use cube_core::{Schema, Shard};
 use cube_progress::{Counts, CubeReader, FeedReader, Output, Phase, Progress};
@@ -22,7 +22,8 @@ use cube_tool::command::{
 };
 use cube_tool::{InputFault, MergeFault, RunFault};
 use cube_words::{
-    LiveWords, MergeWords, Request, RunWords, read_words, unlawful_shard, unreadable_words,
+    LiveWords, MergeWords, Request, RunWords, clashing_words, read_words, unlawful_shard,
+    unreadable_words,
 };
 use std::fs::File;
 use std::io::{IsTerminal, Stderr};
@@ -42,7 +43,7 @@ const STANDARD_INPUT: &str = "-";
 /// What a command with feeds asks, as its words say it.
 #[derive(Drop)]
 enum Asked<'w> {
-    Cube,
+    Cube { is_partial: bool },
     Slice { cell: &'w str },
     Drill { cell: &'w str, dimension: &'w str },
     RollUp { cell: &'w str, dimension: &'w str },
@@ -149,31 +150,39 @@ fn obey<T: Threads + Wait + Clock + Sync>(
     let Some(shard) = shard_of(request) else {
         return Ok(refuse_shard(rt)?);
     };
-    if let Request::Live { live } = request
-        && let Some(path) = live.store
-    {
-        return serve_kept(rt, threads, live, path, shard, progress);
+    if has_clash(request) {
+        return Ok(refuse_clash(rt)?);
     }
-    Ok(obey_alone(rt, threads, request, shard, progress)?)
+    obey_words(rt, threads, request, shard, progress)
 }
 
-/// Does what is asked for, where no store is.
-fn obey_alone<T: Threads + Wait + Clock + Sync>(
+/// Does what is asked for, over a share of the feeds.
+fn obey_words<T: Threads + Wait + Clock + Sync>(
     rt: &HostRuntime,
     threads: &T,
     request: &Request,
     shard: Shard,
     progress: &Progress<'_, T, Stderr>,
-) -> Result<Status, Failure>
+) -> Result<Status, StoredFailure>
     requires bounds { IsInBounds request.now }
     requires shard { IsShard shard }
 {
     let alloc = rt.alloc();
     match request {
-        Request::Sample => run_sample(alloc, rt.stdin(), &mut rt.stdout()),
-        Request::Check { schema } => check(alloc, open_schema(rt, schema)?, &mut rt.stdout()),
-        Request::Explain { code } => explain_code(rt, *code),
-        Request::Print { run, partial } => print(rt, threads, run, shard, *partial, progress),
+        Request::Sample => Ok(run_sample(alloc, rt.stdin(), &mut rt.stdout())?),
+        Request::Check { schema } => Ok(check(alloc, open_schema(rt, schema)?, &mut rt.stdout())?),
+        Request::Explain { code } => Ok(explain_code(rt, *code)?),
+        Request::Print { run, partial } => {
+            let is_partial = *partial;
+            answer(
+                rt,
+                threads,
+                run,
+                shard,
+                Asked::Cube { is_partial },
+                progress,
+            )
+        }
         Request::Refusals { run } => answer(rt, threads, run, shard, Asked::Refusals, progress),
         Request::Slice { run, cell } => {
             answer(rt, threads, run, shard, Asked::Slice { cell }, progress)
@@ -195,7 +204,7 @@ fn obey_alone<T: Threads + Wait + Clock + Sync>(
             answer(rt, threads, run, shard, asked, progress)
         }
         Request::Live { live } => serve(rt, threads, live, shard, progress),
-        Request::Merge { merge } => merge_files(rt, merge, progress),
+        Request::Merge { merge } => Ok(merge_files(rt, merge, progress)?),
     }
 }
 
@@ -232,28 +241,26 @@ fn explain_store(rt: &HostRuntime, code: Option<&str>) -> Result<Status, Failure
     explain(rt.alloc(), &STORE_NOTES, code, &mut rt.stdout())
 }
 
-/// Prints the cube of feeds, under the schema or its partial form.
-fn print<T: Threads + Wait + Clock + Sync>(
+/// Answers a command with feeds, over the changes in a store too where the words name one.
+fn answer<T: Threads + Wait + Clock + Sync>(
     rt: &HostRuntime,
     threads: &T,
     words: &RunWords,
     shard: Shard,
-    is_partial: bool,
+    asked: Asked,
     progress: &Progress<'_, T, Stderr>,
-) -> Result<Status, Failure>
+) -> Result<Status, StoredFailure>
     requires room { HasRoom words.now }
     requires shard { IsShard shard }
 {
-    let schema = schema_of(rt, words.schema, &words.feeds, 1)?.with_shard(shard);
-    if is_partial {
-        let partial = schema.partial(rt.alloc())?;
-        return answer_under(rt, threads, words, &partial, Asked::Cube, progress);
+    match words.store {
+        Some(path) => ask_kept(rt, threads, words, path, shard, asked, progress),
+        None => Ok(answer_fed(rt, threads, words, shard, asked, progress)?),
     }
-    answer_under(rt, threads, words, &schema, Asked::Cube, progress)
 }
 
-/// Answers a command with feeds.
-fn answer<T: Threads + Wait + Clock + Sync>(
+/// Answers a command with feeds over these alone, the cube under the schema or its partial form.
+fn answer_fed<T: Threads + Wait + Clock + Sync>(
     rt: &HostRuntime,
     threads: &T,
     words: &RunWords,
@@ -262,9 +269,14 @@ fn answer<T: Threads + Wait + Clock + Sync>(
     progress: &Progress<'_, T, Stderr>,
 ) -> Result<Status, Failure>
     requires room { HasRoom words.now }
+    requires feeds { 1 ≤ length words.now.feeds.items }
     requires shard { IsShard shard }
 {
     let schema = schema_of(rt, words.schema, &words.feeds, 1)?.with_shard(shard);
+    if let Asked::Cube { is_partial: true } = asked {
+        let partial = schema.partial(rt.alloc())?;
+        return answer_under(rt, threads, words, &partial, asked, progress);
+    }
     answer_under(rt, threads, words, &schema, asked, progress)
 }
 
@@ -294,6 +306,25 @@ fn refuse_shard(rt: &HostRuntime) -> Result<Status, Failure> {
     answer_words(alloc, &refusal, &mut rt.stdout(), &mut rt.stderr())
 }
 
+/// Whether the words name a store, and an option that works on the feeds alone: the partial form, or several builders.
+fn has_clash(request: &Request) -> bool {
+    match request {
+        Request::Print { run, partial } => run.store.is_some() && (*partial || run.builders != 1),
+        Request::Refusals { run }
+        | Request::Slice { run, .. }
+        | Request::Drill { run, .. }
+        | Request::RollUp { run, .. } => run.store.is_some() && run.builders != 1,
+        _ => false,
+    }
+}
+
+/// Says that a store and such an option don't go together.
+fn refuse_clash(rt: &HostRuntime) -> Result<Status, Failure> {
+    let alloc = rt.alloc();
+    let refusal = clashing_words(alloc);
+    answer_words(alloc, &refusal, &mut rt.stdout(), &mut rt.stderr())
+}
+
 /// Answers a command with feeds under a schema.
 fn answer_under<T: Threads + Wait + Clock + Sync>(
     rt: &HostRuntime,
@@ -304,7 +335,7 @@ fn answer_under<T: Threads + Wait + Clock + Sync>(
     progress: &Progress<'_, T, Stderr>,
 ) -> Result<Status, Failure>
     requires room { HasRoom words.now }
-    requires feeds { length words.now.feeds.items ≤ 64 }
+    requires feeds { (1 ≤ length words.now.feeds.items) × (length words.now.feeds.items ≤ 64) }
 {
     let alloc = rt.alloc();
     let question = question_of(rt, schema, asked)?;
@@ -327,7 +358,7 @@ fn question_of(rt: &HostRuntime, schema: &Schema, asked: Asked) -> Result<Questi
 {
     let alloc = rt.alloc();
     match asked {
-        Asked::Cube => Ok(Question::Cube),
+        Asked::Cube { is_partial: _ } => Ok(Question::Cube),
         Asked::Refusals => Ok(Question::Refusals),
         Asked::Slice { cell } => {
             let pattern = read_pattern(alloc, schema, cell)?;
@@ -346,8 +377,25 @@ fn question_of(rt: &HostRuntime, schema: &Schema, asked: Asked) -> Result<Questi
     }
 }
 
-/// Serves the records of standard input over a cube that is kept right.
+/// Serves the records of standard input over a cube that is kept right, with a store where the words name one.
 fn serve<T: Threads + Wait + Clock + Sync>(
+    rt: &HostRuntime,
+    threads: &T,
+    words: &LiveWords,
+    shard: Shard,
+    progress: &Progress<'_, T, Stderr>,
+) -> Result<Status, StoredFailure>
+    requires room { LiveHasRoom words.now }
+    requires shard { IsShard shard }
+{
+    match words.store {
+        Some(path) => serve_kept(rt, threads, words, path, shard, progress),
+        None => Ok(serve_fed(rt, threads, words, shard, progress)?),
+    }
+}
+
+/// Serves the records of standard input over a cube that is kept right, without a store.
+fn serve_fed<T: Threads + Wait + Clock + Sync>(
     rt: &HostRuntime,
     threads: &T,
     words: &LiveWords,
@@ -359,7 +407,8 @@ fn serve<T: Threads + Wait + Clock + Sync>(
 {
     let schema = schema_of(rt, words.schema, &words.feeds, 0)?.with_shard(shard);
     let feeds = open_feeds(rt, &words.feeds, progress.counts())?;
-    let settings = settings_of(threads, words.ring, 1, words.threads);
+    let wanted = session_threads(threads, words.threads);
+    let settings = settings_of(threads, words.ring, 1, wanted);
     progress.begin(Phase::Reading { feeds: feeds.len() });
     let watch = Watch { progress };
     let (alloc, input, out) = (rt.alloc(), rt.stdin(), &mut rt.stdout());
@@ -412,6 +461,19 @@ fn settings_of<T: Threads>(rt: &T, ring: usize, builders: u32, threads: Option<u
         unreachable!()
     };
     settings
+}
+
+/// How many threads a session works with: those that the words give, and else half as many more as the machine has, at most
+/// 16. Then its parts are smaller, and none of the processors waits long for the last one.
+fn session_threads<T: Threads>(rt: &T, threads: Option<usize>) -> Option<usize>
+    requires { IfSome threads (IsUpTo 16) }
+    ensures { IfSome result (IsUpTo 16) }
+{
+    if threads.is_some() {
+        return threads;
+    }
+    let count = processors(rt);
+    Some((count + count / 2).min(MOST_THREADS))
 }
 
 /// How many threads the machine runs at once, 1 to 16.
@@ -476,15 +538,20 @@ fn open_feeds<'c>(
 {
     let mut files = Vec::new(rt.alloc());
     for path in paths {
-        let source = files.len() as u32 + 1;
-        let Ok(file) = File::open(rt, path_of(path)) else {
-            return Err(Failure::FeedUnreadable { source });
-        };
+        let file = open_feed(rt, path, files.len() as u32 + 1)?;
         if files.push(FeedReader::new(file, counts)).is_err() {
             return Err(Failure::Run(RunFault::Memory));
         }
     }
     Ok(files)
+}
+
+/// The file of the feed of a source, opened.
+fn open_feed(rt: &HostRuntime, path: &str, source: u32) -> Result<File, Failure> {
+    match File::open(rt, path_of(path)) {
+        Ok(file) => Ok(file),
+        Err(_) => Err(Failure::FeedUnreadable { source }),
+    }
 }
 
 /// The files of the cubes to merge, opened in their order.

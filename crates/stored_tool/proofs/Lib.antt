@@ -1,1 +1,2 @@
+mod AskingLaws
 mod SessionLaws

@@ -15,43 +15,78 @@ Shard = Tuple[int, int]
 
 
 def cube(
-    schema: Given, feeds: Paths, *, threads: Optional[int] = None, shard: Optional[Shard] = None, partial: bool = False
+    schema: Given,
+    feeds: Paths,
+    *,
+    threads: Optional[int] = None,
+    shard: Optional[Shard] = None,
+    partial: bool = False,
+    store: Optional[Path] = None,
+    wary: bool = False,
 ) -> Cube:
     """The whole cube of 1 to 64 feeds, or of one shard of them: the J-th of N, as (J, N). With `partial` each mean has its
-    sum and count beside it, so that `merge` makes one cube of several."""
-    return asked("print", schema, feeds, [], options_of(threads, shard) + ["--partial"] * partial)
+    sum and count beside it, so that `merge` makes one cube of several. With a store, the path of the SQLite file of sessions,
+    the changes that it keeps come after the feeds, of which there may be none then; `partial` doesn't go with it."""
+    options = options_of(threads, shard, store, wary)
+    return asked("print", schema, feeds, [], options + ["--partial"] * partial)
 
 
 def slice(
-    schema: Given, feeds: Paths, pattern: Pattern, *, threads: Optional[int] = None, shard: Optional[Shard] = None
+    schema: Given,
+    feeds: Paths,
+    pattern: Pattern,
+    *,
+    threads: Optional[int] = None,
+    shard: Optional[Shard] = None,
+    store: Optional[Path] = None,
+    wary: bool = False,
 ) -> Cube:
     """The rows that a pattern matches. A dimension that a mapping doesn't name is ALL: `{"city": ANY}` are the totals of
     each city, and of all."""
     schema = schema_of(schema)
-    return asked("slice", schema, feeds, [word_of(fields_of(schema.dimensions, pattern))], options_of(threads, shard))
+    options = options_of(threads, shard, store, wary)
+    return asked("slice", schema, feeds, [word_of(fields_of(schema.dimensions, pattern))], options)
 
 
 def drill(
-    schema: Given, feeds: Paths, cell: Cell, dimension: str, *, threads: Optional[int] = None, shard: Optional[Shard] = None
+    schema: Given,
+    feeds: Paths,
+    cell: Cell,
+    dimension: str,
+    *,
+    threads: Optional[int] = None,
+    shard: Optional[Shard] = None,
+    store: Optional[Path] = None,
+    wary: bool = False,
 ) -> Cube:
     """The rows one step below a cell: those with each value of a dimension that is ALL in it."""
     schema = schema_of(schema)
     words = [word_of(fields_of(schema.dimensions, cell)), dimension.encode("utf-8")]
-    return asked("drill", schema, feeds, words, options_of(threads, shard))
+    return asked("drill", schema, feeds, words, options_of(threads, shard, store, wary))
 
 
 def rollup(
-    schema: Given, feeds: Paths, cell: Cell, dimension: str, *, threads: Optional[int] = None, shard: Optional[Shard] = None
+    schema: Given,
+    feeds: Paths,
+    cell: Cell,
+    dimension: str,
+    *,
+    threads: Optional[int] = None,
+    shard: Optional[Shard] = None,
+    store: Optional[Path] = None,
+    wary: bool = False,
 ) -> Cube:
     """The row one step above a cell: the one with ALL at a dimension, or none where that is no cell of the cube."""
     schema = schema_of(schema)
     words = [word_of(fields_of(schema.dimensions, cell)), dimension.encode("utf-8")]
-    return asked("rollup", schema, feeds, words, options_of(threads, shard))
+    return asked("rollup", schema, feeds, words, options_of(threads, shard, store, wary))
 
 
-def refusals(schema: Given, feeds: Paths, *, shard: Optional[Shard] = None) -> List[Refusal]:
-    """The refused lines of feeds, or of one shard of them."""
-    return refusals_of(answer("refusals", schema, feeds, [], options_of(None, shard))[1])
+def refusals(
+    schema: Given, feeds: Paths, *, shard: Optional[Shard] = None, store: Optional[Path] = None, wary: bool = False
+) -> List[Refusal]:
+    """The refused lines of feeds, or of one shard of them, and the refused changes of a store."""
+    return refusals_of(answer("refusals", schema, feeds, [], options_of(None, shard, store, wary))[1])
 
 
 def merge(schema: Given, cubes: Iterable[Union[Cube, Path]], *, partial: bool = False) -> Cube:
@@ -70,10 +105,11 @@ def written(cube: Union[Cube, Path], path: str) -> str:
     return path
 
 
-def options_of(threads: Optional[int], shard: Optional[Shard]) -> List[str]:
-    """The options of a command with feeds."""
+def options_of(threads: Optional[int], shard: Optional[Shard], store: Optional[Path], wary: bool) -> List[str]:
+    """The options of a command with feeds, spelled so that the path of a store isn't taken for one."""
     options = [] if threads is None else ["--threads", str(threads)]
-    return options if shard is None else [*options, "--shard", f"{shard[0]}/{shard[1]}"]
+    options += [] if shard is None else ["--shard", f"{shard[0]}/{shard[1]}"]
+    return options if store is None else [*options, f"--store={os.fspath(store)}"] + ["--wary"] * wary
 
 
 def asked(command: str, schema: Given, feeds: Paths, words: Sequence[Word], options: Sequence[str]) -> Cube:

@@ -55,7 +55,7 @@ class Live(Questions):
         self._asking, self._writing = threading.Lock(), threading.RLock()
         self._told = tempfile.TemporaryFile()
         with self.schema.file() as path:
-            options = [*options_of(threads, shard), *store_options(store, wary)]
+            options = options_of(threads, shard, store, wary)
             self._process = self._begun(words_of("live", options, [path, *paths_of(feeds)]))
             self._records = csv.writer(self._input)
             self._ready()
@@ -208,11 +208,6 @@ class Live(Questions):
                 self._line = line_of(self._told.read())
                 self._told.close()
         return Ended(self._line, meaning_of(self._line), self.status)
-
-
-def store_options(store: Optional[Path], wary: bool) -> List[str]:
-    """The options of a store, spelled so that its path isn't taken for one."""
-    return [] if store is None else [f"--store={os.fspath(store)}"] + ["--wary"] * wary
 
 
 def mark(what: str, value: Union[None, Mark], can_keep: bool) -> str:

@@ -1,0 +1,41 @@
+use Rattle.std.proofs.Common.{map, inl, inr}
+use Rattle.sqlite_store.specs.FileStore.{view, recovers}
+use Rattle.cube_journal.specs.Rows.{entries_of}
+use Rattle.stored_tool.proofs.AskingLaws as laws
+use Rattle.stored_tool.proofs.asking.ask_stored.Goals as goal
+
+pub returns-in-Err-clause-written : goal.returns-in-Err-clause-written
+returns-in-Err-clause-written g c = rw c.from.ensures
+    (λ clean. laws.LeavesOfText-unopened c.args.question c.args.schema.now (map g.R.Read.remaining c.args.readers.items) (view {D = g.row.D.Denot} {g = g.D.Disk} c.args.store) c.in-Err.fault (g.W.Write.contents c.args.out.now) c.in-Err.ensures.err)
+
+pub returns-in-Err-clause-unharmed : goal.returns-in-Err-clause-unharmed
+returns-in-Err-clause-unharmed g c = λ clean db may. inr may
+
+pub returns-in-Ok-ask_resumed-clause-ok : goal.returns-in-Ok-ask_resumed-clause-ok
+returns-in-Ok-ask_resumed-clause-ok g c =
+    let now = c.in-Ok-resume.journal in
+    let was = view {D = g.row.D.Denot} {g = g.D.Disk} c.args.store in
+    rw c.in-Ok-ask_resumed.ensures.store
+    (λ clean. laws.OfFeeds-answered c.args.schema.now (map g.R.Read.remaining c.args.readers.items) was c.in-Ok.live c.in-Ok-resume.live c.in-Ok.ensures.ok c.in-Ok.ensures.schema (c.in-Ok-resume.ensures.taken clean)
+    c.args.question (entries_of c.args.notes.now) c.in-Ok-ask_resumed.ended.0 (view {D = g.row.D.Denot} {g = g.D.Disk} now.store) (recovers {D = g.row.D.Denot} {g = g.D.Disk} now.store) (g.W.Write.contents c.args.out.now) (g.W.Write.contents c.ask_resumed.new.out)
+    c.in-Ok-ask_resumed.ensures.ok
+    (laws.held-same (view {D = g.row.D.Denot} {g = g.D.Disk}) (recovers {D = g.row.D.Denot} {g = g.D.Disk}) was (entries_of c.args.notes.now) now c.in-Ok-resume.ensures.kept c.in-Ok-resume.ensures.stored c.in-Ok-resume.ensures.noted clean)
+    (laws.leaves-same (view {D = g.row.D.Denot} {g = g.D.Disk}) (recovers {D = g.row.D.Denot} {g = g.D.Disk}) was (entries_of c.args.notes.now) now c.in-Ok-resume.ensures.kept c.in-Ok-resume.ensures.stored c.in-Ok-resume.ensures.noted clean))
+
+pub returns-in-Err-ask_resumed-clause-written : goal.returns-in-Err-ask_resumed-clause-written
+returns-in-Err-ask_resumed-clause-written g c =
+    let was = view {D = g.row.D.Denot} {g = g.D.Disk} c.args.store in
+    rw c.in-Err-ask_resumed.ensures.err_store
+    (λ clean. laws.LeavesOfText-failed c.args.schema.now (map g.R.Read.remaining c.args.readers.items) was c.in-Ok.live c.in-Ok-resume.live c.in-Ok.ensures.ok c.in-Ok.ensures.schema (c.in-Ok-resume.ensures.taken clean)
+    c.args.question c.in-Err-ask_resumed.failure (g.W.Write.contents c.args.out.now) (g.W.Write.contents c.ask_resumed.new.out) c.requires.question c.in-Err-ask_resumed.ensures.err)
+
+pub returns-in-Err-ask_resumed-clause-unharmed : goal.returns-in-Err-ask_resumed-clause-unharmed
+returns-in-Err-ask_resumed-clause-unharmed g c =
+    let now = c.in-Ok-resume.journal in
+    rw c.in-Err-ask_resumed.ensures.err_store
+    (λ clean db may. inl (laws.leaves-same (view {D = g.row.D.Denot} {g = g.D.Disk}) (recovers {D = g.row.D.Denot} {g = g.D.Disk}) (view {D = g.row.D.Denot} {g = g.D.Disk} c.args.store) (entries_of c.args.notes.now) now
+    c.in-Ok-resume.ensures.kept c.in-Ok-resume.ensures.stored c.in-Ok-resume.ensures.noted clean db may))
+
+pub returns-in-Err-resume-clause-unharmed : goal.returns-in-Err-resume-clause-unharmed
+returns-in-Err-resume-clause-unharmed g c = λ clean db may.
+    laws.LeavesSame-refused (view {D = g.row.D.Denot} {g = g.D.Disk} c.args.store) (entries_of c.args.notes.now) (recovers {D = g.row.D.Denot} {g = g.D.Disk} c.args.store) db (c.in-Err-resume.ensures.unharmed db may)
