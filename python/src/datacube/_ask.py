@@ -42,7 +42,7 @@ def slice(
     wary: bool = False,
 ) -> Cube:
     """The rows that a pattern matches. A dimension that a mapping doesn't name is ALL: `{"city": ANY}` are the totals of
-    each city, and of all."""
+    each city, and of all. Feeds, shard and store are those of `cube`, here and below."""
     schema = schema_of(schema)
     options = options_of(threads, shard, store, wary)
     return asked("slice", schema, feeds, [word_of(fields_of(schema.dimensions, pattern))], options)
