@@ -86,16 +86,18 @@ class Multiset(Calls):
                 self.add_twice(100)
             return
         self.add_twice({"empty": 0, "one": 1, "few": 5}.get(name, MANY))
+        if name == "owed":
+            self.remove(7)
+            self.remove(7)
         if name == "ordered":
-            self.remove(7)
-            self.remove(7)
+            self.remove(0)
         if name == "table":
-            self.remove(7)
+            self.remove(0)
             self.add(-7)
             self.remove(-7)
 
 
-FORMS = ["empty", "one", "few", "log", "ordered", "table", "repeated"]
+FORMS = ["empty", "one", "few", "log", "owed", "ordered", "table", "repeated"]
 
 
 def emptied(order):
@@ -134,10 +136,10 @@ def in_turn():
     return made
 
 
-def ends():
+def ends(form):
     least, greatest = oracle.LEAST, oracle.GREATEST
     made = Multiset()
-    made.form("log")
+    made.form(form)
     for value in (greatest, least, 0, least, greatest):
         made.add(value)
         made.show()
@@ -183,7 +185,8 @@ def multisets():
     for form in FORMS:
         yield without_room(form).case(f"numbers go on with no room to spare: {form}")
     yield in_turn().case("adds and removes of numbers come in turn")
-    yield ends().case("a log of numbers takes the least and the greatest of all")
+    for form in FORMS:
+        yield ends(form).case(f"numbers take the least and the greatest of all: {form}")
     for into in FORMS:
         for other in FORMS:
             yield merged(into, other).case(f"numbers are merged: {other} into {into}")

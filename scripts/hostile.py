@@ -1,8 +1,9 @@
 """Hostile use of the built program: memory, reads, writes and threads refused in turn, and feeds that lie.
 
-    scripts/hostile.sh [--program FILE] [--short] [--only WORD] [--cases N] [--seed N]
+    scripts/hostile.sh [--program FILE] [--short | --library] [--only WORD] [--cases N] [--seed N]
 
-The program is the one given, else the one that `./datacube` would run. The short form takes 45 seconds or so.
+The program is the one given, else the one that `./datacube` would run. The short form takes 45 seconds or so. With
+--library only calls of the library are tried, by the driver in crates/cube_calls, which rt ci or rt run builds.
 Each trial is a line; the last line is `N passed, M failed`. A trial fails where the program answers what its formats
 don't allow for the cause, where standard output is neither empty nor whole (or, under G6, the first bytes that the
 number says), where it crashes, or where it runs past its time. Needs python3 and cc.
@@ -19,12 +20,13 @@ import tempfile
 import threading
 
 sys.dont_write_bytecode = True
+import generated_calls
 import oracle
 import programs
 
 HERE = os.path.dirname(os.path.abspath(__file__))
-# (its sub-command `run` is run_plain over a schema and feeds, where rt ci or rt run built it)
-BENCH = os.path.join(HERE, "..", "crates", "bench", "out", "bench")
+# (it makes a call that adds something once more where memory was wanting)
+DRIVER = os.path.join(HERE, "..", "crates", "cube_calls", "out", "cube_calls")
 SAMPLE = oracle.Schema(
     ["region", "kind"], ["amount"], [("count", None), ("sum", 0), ("min", 0), ("max", 0), ("avg", 0)]
 )
@@ -235,25 +237,64 @@ def refusals_in_turn(trials):
                      lambda: trials.in_turn("alloc", words, MEMORY))
 
 
+FOUR_MEASURES = oracle.Schema(["a"], ["m", "n", "o", "p"], [("count", None)])
+AMENDED = oracle.Schema(SAMPLE.dimensions, SAMPLE.measures, SAMPLE.aggregates, version=2)
+# (scripts of calls that grow something, by a name: the schema, and the lines)
+GROWTHS = {
+    "a cube": (SAMPLE, "cube", "add w,a,5", "add e,b,7", "facts", "rows", "remove w,a,5", "add w,b,-1", "facts", "rows"),
+    "a filled cube": (SAMPLE, "cube", "add x,y,1", "gather w,a,5", "gather e,b,7", "gather \\N,a,5", "fill", "facts", "rows"),
+    "a cell": (FOUR_MEASURES, "cell", "add x,1,\\N,-1,7", "add x,2,2,2,2", "add x,3,3,3,3", "add x,1,\\N,\\N,\\N",
+               *(f"answers {it}" for it in range(4))),
+    "a builder": (AMENDED, "builder 2", "apply 1 1 I,1,w,a,5", "apply 2 1 I,1,e,b,7", "apply 1 2 U,1,w,b,6", "apply 1 3 D,9",
+                  "apply 2 2 U,1,\\=,\\N,\\=", "apply 1 4 I,1,w,a,1", "rows", "refusals", "apply 2 3 D,1", "facts", "rows"),
+}
+
+
+def growths():
+    """Scripts of calls that grow something, by a name: the schema, and the lines."""
+    found = dict(GROWTHS)
+    for form in generated_calls.FORMS:
+        found[f"numbers, {form}"] = SAMPLE, *grown(form)
+        found[f"numbers that are merged, {form}"] = SAMPLE, *generated_calls.merged(form, "log").lines
+    return found
+
+
+def grown(form):
+    """Calls that bring numbers to a form, add 300 and take all away again."""
+    made = generated_calls.Multiset()
+    made.form(form)
+    for value in range(generated_calls.MANY):
+        made.add(value)
+    made.drain()
+    return made.lines
+
+
 def growths_in_turn(trials):
-    """Each allocation refused in turn in the library's tests of growths, where their program was built (rt ci, rt test)."""
-    for crate in ("cells_tests", "core_tests", "run_tests"):
-        path = os.path.join(HERE, "..", "crates", crate, "out", f"{crate}_tests")
-        if not os.path.exists(path):
-            continue
-        listed = subprocess.run([path, "--list"], stdout=subprocess.PIPE, text=True, timeout=60).stdout
-        for name in re.findall(r"^([\w:]*growth[\w:]*?)(?=: |$)", listed, re.MULTILINE):
-            tests = Program(os.path.abspath(path), trials.program.shim, trials.program.folder)
-            trials.trial(f"memory refused in turn: test {name}", lambda: test_in_turn(tests, name))
+    """Each allocation refused in turn under calls of the library, where their driver was built."""
+    if not os.path.exists(DRIVER):
+        print("left out, since crates/cube_calls is not built: calls of the library")
+        return
+    driver = Program(os.path.abspath(DRIVER), trials.program.shim, trials.program.folder)
+    for name, (schema, *calls) in growths().items():
+        driver.write("calls.toml", schema.toml())
+        trials.trial(f"memory refused in turn: calls of {name}", lambda: calls_in_turn(driver, "\n".join(calls).encode()))
 
 
-def test_in_turn(tests, name, limit=20000):
+def calls_in_turn(driver, given, limit=20000):
+    """The answers are those with memory, or the first of them with a line that says where it was wanting."""
+    words, whole = ["calls.toml", "calls.toml"], 0
+    wanted = driver.run(words, given)
+    if wanted.status:
+        return f"without a refusal: status {wanted.status}, {wanted.err[:200]!r}"
     for turn in range(1, limit):
-        answer = tests.run([name], refuse=f"alloc {turn}")
-        if answer.status != 0:
-            return f"alloc {turn}: status {answer.status}, {answer.out[-200:]!r}"
+        answer = driver.run(words, given, refuse=f"alloc {turn}")
         if not answer.was_refused:
-            return turn - 1
+            return turn - 1 if whole else "no refused call was made once more"
+        is_whole = (answer.status, answer.out, answer.err) == (0, wanted.out, b"")
+        is_told = answer.status == 1 and re.fullmatch(rb"line \d+: (?!numbers are left)[^\n]+\n", answer.err)
+        if not is_whole and not (is_told and wanted.out.startswith(answer.out)):
+            return f"alloc {turn}: status {answer.status}, {answer.err[:200]!r}, or other answers"
+        whole += is_whole
     return f"more than {limit} calls"
 
 
@@ -559,11 +600,6 @@ def compare(program, rng):
                 return f"{words[0]}: {code} was to come, and {answer.err[:100]!r} came"
         elif (answer.status, answer.out, answer.err) != (run.status, text, b""):
             return f"{words}: status {answer.status}, {answer.err[:200]!r}, or other text"
-    if os.path.exists(BENCH):
-        call = [BENCH, "run", "case.toml", *files]
-        plain = subprocess.run(call, cwd=program.folder, stdout=subprocess.PIPE, stderr=subprocess.DEVNULL, timeout=120)
-        if (plain.returncode == 0, plain.stdout) != (not fault, b"" if fault else run.print()):
-            return f"on one thread: status {plain.returncode}, or other text"
     return None
 
 
@@ -582,6 +618,7 @@ def main():
     asks = argparse.ArgumentParser(description=__doc__, formatter_class=argparse.RawDescriptionHelpFormatter)
     asks.add_argument("--program")
     asks.add_argument("--short", action="store_true", help="the short form")
+    asks.add_argument("--library", action="store_true", help="calls of the library alone")
     asks.add_argument("--only", default="", help="only the trials whose name has this word")
     asks.add_argument("--cases", type=int, help="how many generated cases: 1000, and 50 in the short form, where left out")
     asks.add_argument("--seed", type=int, default=1)
@@ -591,6 +628,9 @@ def main():
         shim = os.path.join(folder, "refuse.so")
         subprocess.run(["cc", "-O2", "-shared", "-fPIC", "-o", shim, os.path.join(HERE, "refuse.c"), "-ldl"], check=True)
         trials = Trials(Program(os.path.abspath(given.program or programs.datacube()), shim, folder), given.only, given.short)
+        if given.library:
+            growths_in_turn(trials)
+            return told(trials)
         refusals_in_turn(trials)
         ends_of_output(trials)
         cut_feeds(trials)
@@ -601,6 +641,10 @@ def main():
             hurtful(trials)
             under_valgrind(trials)
         generated(trials, given.cases or (50 if given.short else 1000), given.seed)
+    return told(trials)
+
+
+def told(trials):
     print(f"{trials.passed} passed, {trials.failed} failed")
     return 1 if trials.failed else 0
 

@@ -1,17 +1,19 @@
-//! Calls of a builder: `apply SOURCE NUMBER RECORD`, `facts`, `sources`, `rows` (of its cube) and `refusals` (the
-//! source, the number and the code of each).
+//! Calls of a builder: `apply SOURCE NUMBER RECORD`, `foreign SOURCE NUMBER RECORD` (the item that the record is under
+//! the foreign schema), `facts`, `sources`, `rows` (of its cube) and `refusals` (the source, the number and the code of
+//! each).
 use crate::facts::item_of;
 use crate::script::{Printout, words_of};
+use crate::text::text_of;
 use anyhow::{Result, bail, ensure};
 use cube_core::{Item, Refusal, Schema};
 use cube_engine::Builder;
-use fixtures::text_of;
 use std::alloc::{AllocError, Global};
 
 /// Does the calls on a builder of so many sources.
 pub fn run(
     alloc: Global,
     schema: &Schema,
+    foreign: &Schema,
     sources: u32,
     calls: &str,
     out: &mut Printout,
@@ -20,7 +22,7 @@ pub fn run(
     let mut builder = Builder::new(alloc, schema, sources)?;
     for call in calls.lines() {
         out.next_line();
-        obey(alloc, schema, &mut builder, call, out)?;
+        obey(alloc, schema, foreign, &mut builder, call, out)?;
     }
     Ok(())
 }
@@ -28,12 +30,14 @@ pub fn run(
 fn obey(
     alloc: Global,
     schema: &Schema,
+    foreign: &Schema,
     builder: &mut Builder,
     call: &str,
     out: &mut Printout,
 ) -> Result<()> {
     match words_of(call) {
         ("apply", words) => apply(alloc, schema, builder, words)?,
+        ("foreign", words) => apply(alloc, foreign, builder, words)?,
         ("facts", "") => out.answer(builder.facts())?,
         ("sources", "") => out.answer(builder.sources())?,
         ("rows", "") => {
@@ -46,15 +50,25 @@ fn obey(
     Ok(())
 }
 
+// Hands a builder the item of a record under a schema, and once more where memory was wanting.
 fn apply(alloc: Global, schema: &Schema, builder: &mut Builder, words: &str) -> Result<()> {
     let (source, words) = words_of(words);
     let (number, record) = words_of(words);
     let (source, number) = (source.parse()?, number.parse()?);
     let what = item_of(alloc, schema, record)?.what;
+    let item = Item { number, what };
+    let again = item.copy(alloc)?;
+    if take(builder, source, item).is_err() {
+        take(builder, source, again)?;
+    }
+    Ok(())
+}
+
+fn take(builder: &mut Builder, source: u32, item: Item) -> Result<()> {
     ensure!(source >= 1, "no such source");
     ensure!(source <= builder.sources(), "no such source");
     ensure!(builder.facts() < u64::MAX, "too many facts");
-    builder.apply(source, Item { number, what })?;
+    builder.apply(source, item)?;
     Ok(())
 }
 

@@ -20,20 +20,35 @@ pub fn run(alloc: Global, calls: &str, out: &mut Printout) -> Result<()> {
 fn obey(values: &mut Counted, other: &mut Counted, call: &str, out: &mut Printout) -> Result<()> {
     match words_of(call) {
         ("add", value) => {
-            ensure!(values.len() < u64::MAX, "too many numbers");
-            values.add(value.parse()?)?;
+            let value = value.parse()?;
+            if add(values, value).is_err() {
+                add(values, value)?;
+            }
         }
         ("remove", value) => out.answer(values.remove(value.parse()?))?,
         ("holds", value) => out.answer(values.holds(value.parse()?))?,
         ("shrink", "") => values.shrink_to_fit(),
         ("show", "") => show(values, out)?,
-        ("merge", "") => {
-            ensure!(values.len() < 1 << 32, "too many numbers");
-            ensure!(other.len() < 1 << 32, "too many numbers");
-            values.merge(other)?;
-        }
+        ("merge", "") => merge(values, other)?,
         ("swap", "") => swap(values, other),
         _ => bail!("no call of a multiset"),
+    }
+    Ok(())
+}
+
+fn add(values: &mut Counted, value: i64) -> Result<()> {
+    ensure!(values.len() < u64::MAX, "too many numbers");
+    values.add(value)?;
+    Ok(())
+}
+
+// Adds the other's numbers; where memory is wanting, none may be left.
+fn merge(values: &mut Counted, other: &Counted) -> Result<()> {
+    ensure!(values.len() < 1 << 32, "too many numbers");
+    ensure!(other.len() < 1 << 32, "too many numbers");
+    if values.merge(other).is_err() {
+        ensure!(values.is_empty(), "numbers are left");
+        bail!("no memory for a merge");
     }
     Ok(())
 }

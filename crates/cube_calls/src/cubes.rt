@@ -42,12 +42,34 @@ fn obey(
     ensures { OnOk result (cube.new.schema ≡ cube.old.schema) }
 {
     match words_of(call) {
-        ("add", fact) => add(schema, cube, &fact_of(alloc, schema, fact)?),
+        ("add", fact) => add_or_again(schema, cube, &fact_of(alloc, schema, fact)?),
         ("remove", fact) => remove(cube, &fact_of(alloc, schema, fact)?, out),
         ("gather", fact) => Ok(gathered.push(fact_of(alloc, schema, fact)?)?),
-        ("fill", "") => fill(schema, cube, gathered),
+        ("fill", "") => fill_or_again(schema, cube, gathered),
         _ => ask(alloc, schema, cube, call, out),
     }
+}
+
+// Adds a fact, and once more where memory was wanting.
+fn add_or_again(schema: &Schema, cube: &mut Cube, fact: &Fact) -> Result<()>
+    requires { cube.old.schema ≡ schema.now }
+    ensures { cube.new.schema ≡ cube.old.schema }
+{
+    if add(schema, cube, fact).is_err() {
+        add(schema, cube, fact)?;
+    }
+    Ok(())
+}
+
+// Fills a cube, and once more where memory was wanting.
+fn fill_or_again(schema: &Schema, cube: &mut Cube, facts: &[Fact]) -> Result<()>
+    requires { cube.old.schema ≡ schema.now }
+    ensures { cube.new.schema ≡ cube.old.schema }
+{
+    if fill(schema, cube, facts).is_err() {
+        fill(schema, cube, facts)?;
+    }
+    Ok(())
 }
 
 fn add(schema: &Schema, cube: &mut Cube, fact: &Fact) -> Result<()>

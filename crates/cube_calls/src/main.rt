@@ -1,12 +1,14 @@
 //! Runs a script of calls of the library, which comes on standard input, and prints what they answer.
 //!
-//! The word is the file of a schema; with none it is the sample schema. The first line of the script says what the
-//! calls are of: `schema`, `cube`, `part J N` (the cube of a part of the sets), `counted` (two multisets, of which one
-//! is asked), `cell`, `book` or `builder N` (of so many sources). Each other line is a call; those that there are stand
-//! in the module of what they are of. A fact is written as the fields of an insert are in a feed, and a fault is
-//! answered as its code.
+//! The first word is the file of a schema, and the second that of a foreign one, whose items no feed of the first has;
+//! without them both are the sample schema. The first line of the script says what the calls are of: `schema`, `cube`,
+//! `part J N` (the cube of a part of the sets), `counted` (two multisets, of which one is asked), `cell`, `book` or
+//! `builder N` (of so many sources). Each other line is a call; those that there are stand in the module of what they
+//! are of. A fact is written as the fields of an insert are in a feed, and a fault is answered as its code.
 //!
-//! A line that is no call ends the program with status 1, and its number goes to standard error.
+//! A call that adds something and finds no memory is made once more, so where one growth is refused in all, the answers
+//! are those of a run with memory, if the call left everything as it was. A line that is no call ends the program with
+//! status 1, and its number goes to standard error; so does any other want of memory.
 #![tactic(auto)]
 
 mod books;
@@ -19,6 +21,7 @@ mod fills;
 mod questions;
 mod schemas;
 mod script;
+mod text;
 
 use anyhow::{Result, bail, ensure};
 use cube_core::Schema;
@@ -41,7 +44,7 @@ fn main(rt: HostRuntime) -> ExitCode {
 
 fn run(rt: &HostRuntime, out: &mut Printout) -> Result<()> {
     let alloc = rt.alloc();
-    let schema = schema_of(rt)?;
+    let (schema, foreign) = schemas_of(rt)?;
     let script = io::read_to_string(alloc, rt.stdin())?;
     let text = script.as_str();
     let (first, calls) = text.split_once('\n').unwrap_or((text, ""));
@@ -56,18 +59,27 @@ fn run(rt: &HostRuntime, out: &mut Printout) -> Result<()> {
         ("counted", "") => counted::run(alloc, calls, out),
         ("cell", "") => cells::run(alloc, &schema, calls, out),
         ("book", "") => books::run(alloc, &schema, calls, out),
-        ("builder", sources) => builders::run(alloc, &schema, sources.parse()?, calls, out),
+        ("builder", sources) => {
+            builders::run(alloc, &schema, &foreign, sources.parse()?, calls, out)
+        }
         _ => bail!("nothing that calls are of"),
     }
 }
 
-fn schema_of(rt: &HostRuntime) -> Result<Schema> {
+// The schema, and the foreign one.
+fn schemas_of(rt: &HostRuntime) -> Result<(Schema, Schema)> {
     let mut words = env::args(rt)?;
     let _program = words.next();
-    let Some(path) = words.next() else {
+    let schema = schema_of(rt, words.next())?;
+    let foreign = schema_of(rt, words.next())?;
+    ensure!(words.next().is_none(), "more than two words");
+    Ok((schema, foreign))
+}
+
+fn schema_of(rt: &HostRuntime, path: Option<String>) -> Result<Schema> {
+    let Some(path) = path else {
         return Ok(Schema::sample(rt.alloc())?);
     };
-    ensure!(words.next().is_none(), "more than one word");
     let document = fs::read(rt, &path)?;
     Ok(Schema::from_toml(rt.alloc(), &document)?)
 }

@@ -4,10 +4,10 @@ ghost use Rattle.std.specs.Prelude.{◌≡◌, ◌<◌, IfOk, length};
 
 use crate::facts::fact_of;
 use crate::script::{Printout, words_of};
+use crate::text::text_of;
 use anyhow::{Result, bail};
 use cube_cells::Cube;
 use cube_core::{Key, Pattern, QueryFault, Schema};
-use fixtures::text_of;
 use std::alloc::Global;
 
 /// Asks a cube.

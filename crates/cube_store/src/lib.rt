@@ -11,8 +11,6 @@ mod files;
 mod noting;
 mod starting;
 mod tables;
-#[cfg(test)]
-mod tests;
 
 pub use batch::BatchJournal;
 pub use fault::StoreFault;

@@ -1,4 +1,0 @@
-mod AnswerLaws
-mod WalkLaws
-mod TotalLaws
-mod RowLaws
