@@ -165,13 +165,13 @@ class Trials:
             self.failed += 1
             print(f"FAILED  {name}: {why}", flush=True)
 
-    def in_turn(self, kind, words, codes, given=b"", ends_of=no_ends, limit=20000):
+    def in_turn(self, kind, words, codes, given=b"", ends_of=no_ends, short=None, limit=20000):
         """Refuses each call of a kind in turn until a run meets no refusal; how many there were, or why it fails."""
         whole = self.program.run(words, given)
         if whole.status not in (0, 4):
             return f"without a refusal: status {whole.status}, {whole.err[:200]!r}"
         for turn in range(1, limit):
-            answer = self.program.run(words, given, refuse=f"{kind} {turn}")
+            answer = self.program.run(words, given, refuse=f"{kind} {turn}", short=short)
             why = why_wrong(answer, whole, codes, ends_of)
             if why:
                 return f"{kind} {turn}: {why}"
@@ -223,6 +223,8 @@ def refusals_in_turn(trials):
         ends_of = ends_of_command(name)
         trials.trial(f"memory refused in turn: {name}", lambda: trials.in_turn("alloc", words, MEMORY, given, ends_of))
         trials.trial(f"reads failing in turn: {name}", lambda: trials.in_turn("read", words, READS, given, ends_of))
+        trials.trial(f"reads of a byte failing in turn: {name}",
+                     lambda: trials.in_turn("read", words, READS, given, ends_of, "read 1"))
         trials.trial(f"writes failing in turn: {name}", lambda: trials.in_turn("write", words, [r"G6 \d+"], given))
         trials.trial(f"writes that take nothing: {name}", lambda: trials.in_turn("none", words, [r"G6 \d+"], given))
         trials.trial(f"threads refused in turn: {name}", lambda: trials.in_turn("thread", words, [r"G2"], given))

@@ -1,5 +1,4 @@
 //! Commands whose readers and writers fail, and the lines of failures that no command can be made to show.
-use crate::feeds::Failing;
 use crate::texts::run_texts;
 use crate::writers::{Full, Narrow};
 use cube_core::{Schema, SchemaFault};
@@ -81,16 +80,33 @@ fn help_that_cannot_be_written_fails(rt: HostRuntime) -> Result<(), Fail> {
     Ok(())
 }
 
-#[test]
-fn a_schema_whose_reading_fails_is_unreadable(rt: HostRuntime) {
-    let mut out = Vec::new(rt.alloc());
-    for start in [b"".as_slice(), SCHEMA] {
-        let file = start.chain(Failing {
-            bytes: b"",
-            reads: 0,
-        });
-        assert_eq!(rt; check(rt.alloc(), file, &mut out), Err(Failure::Unreadable));
+// Fails at each read.
+#[derive(Drop)]
+struct Refusing {
+    kind: io::ErrorKind,
+}
+
+impl Read for Refusing {
+    fn read(&mut self, _buf: &mut [u8]) -> io::Result<usize> {
+        Err(io::Error::from(self.kind))
     }
+}
+
+#[test]
+fn a_schema_whose_reading_wants_memory_is_told_from_one_that_fails(rt: HostRuntime) {
+    let mut out = Vec::new(rt.alloc());
+    let wanting = Refusing {
+        kind: io::ErrorKind::OutOfMemory,
+    };
+    let memory = Failure::Schema(SchemaFault::Memory);
+    assert_eq!(rt; check(rt.alloc(), wanting, &mut out), Err(memory));
+    let denied = Refusing {
+        kind: io::ErrorKind::PermissionDenied,
+    };
+    assert_eq!(rt;
+        check(rt.alloc(), denied, &mut out),
+        Err(Failure::Unreadable)
+    );
     assert_eq!(rt; out.as_slice().len(), 0);
 }
 

@@ -1,4 +1,4 @@
-//! Tests of runs in threads with gates that hold them, of readers and writers that fail, and of growths that are refused.
+//! Tests of runs in threads with gates that hold them, and of readers and writers that fail.
 #![tactic(auto)]
 
 #[cfg(test)]
@@ -10,13 +10,9 @@ mod feeds;
 #[cfg(test)]
 mod gates;
 #[cfg(test)]
-mod growths;
-#[cfg(test)]
 mod held;
 #[cfg(test)]
 mod meetings;
-#[cfg(test)]
-mod readers;
 #[cfg(test)]
 mod texts;
 #[cfg(test)]
