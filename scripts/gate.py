@@ -206,6 +206,8 @@ def main():
         prove(tally, given.anew)
         see_release(tally)
         tally.run("cases of the library", ["scripts/library_cases.py"])
+        if shutil.which("cc"):
+            tally.run("calls of the library with memory refused", ["scripts/hostile.sh", "--library", "--program", program or f"{BUILT}/datacube"])
         bench = ["--folder", "cases/bench", "--program", "crates/bench/out/bench"]
         tally.run("cases of the benchmarks", ["scripts/cases.py", *bench])
         tally.run("the same question in SQL", ["scripts/sql.py", "--program", program or f"{BUILT}/datacube"])

@@ -25,6 +25,8 @@ import oracle
 import programs
 
 HERE = os.path.dirname(os.path.abspath(__file__))
+# (its sub-command `run` is run_plain over a schema and feeds, where rt ci or rt run built it)
+BENCH = os.path.join(HERE, "..", "crates", "bench", "out", "bench")
 # (it makes a call that adds something once more where memory was wanting)
 DRIVER = os.path.join(HERE, "..", "crates", "cube_calls", "out", "cube_calls")
 SAMPLE = oracle.Schema(
@@ -602,6 +604,11 @@ def compare(program, rng):
                 return f"{words[0]}: {code} was to come, and {answer.err[:100]!r} came"
         elif (answer.status, answer.out, answer.err) != (run.status, text, b""):
             return f"{words}: status {answer.status}, {answer.err[:200]!r}, or other text"
+    if os.path.exists(BENCH):
+        call = [BENCH, "run", "case.toml", *files]
+        plain = subprocess.run(call, cwd=program.folder, stdout=subprocess.PIPE, stderr=subprocess.DEVNULL, timeout=120)
+        if (plain.returncode == 0, plain.stdout) != (not fault, b"" if fault else run.print()):
+            return f"on one thread: status {plain.returncode}, or other text"
     return None
 
 

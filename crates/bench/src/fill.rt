@@ -136,8 +136,8 @@ fn take_feed(
     Err(anyhow!("too many items"))
 }
 
-/// Takes an item, where the source is one of the builder's.
-pub fn take(builder: &mut Builder, source: u32, item: Item) -> Result<()> {
+// Takes an item, where the source is one of the builder's.
+fn take(builder: &mut Builder, source: u32, item: Item) -> Result<()> {
     ensure!(1 <= source && source <= builder.sources(), "another source");
     ensure!(builder.facts() < u64::MAX, "too many facts");
     builder.apply(source, item)?;

@@ -1,37 +1,27 @@
 //! The benchmarks of docs/PERFORMANCE.md: a sub-command for each, with words of its own.
 //!
 //! - `bench feed [INSERTS]`: the reader of a feed
-//! - `bench cells [MULTISETS VALUES]`: counted values and cells
-//! - `bench cube [FACTS DIMENSIONS MEASURES VALUES]`: the cube, and a builder that takes changes
 //! - `bench fill [SCHEMA FEED...]`: the building of a cube from feeds
-//! - `bench link [ITEMS]`: a link between two threads
 //! - `bench run [SCHEMA FEED...]`: prints the cube of feeds on one thread, to be timed beside `datacube print`
 //!
 //! Without words of its own a sub-command does a small case, and prints what doesn't depend on the time that it takes.
 #![tactic(auto)]
 
-mod cells;
-mod cube;
 mod feed;
 mod fill;
-mod link;
 mod measure;
-mod random;
 mod run;
 
 use anyhow::Result;
 use std::env;
 use std::process::ExitCode;
 
-const USAGE: &str = "usage: bench feed|cells|cube|fill|link|run [WORD]...";
+const USAGE: &str = "usage: bench feed|fill|run [WORD]...";
 
 // What is measured.
 enum Subcommand {
     Feed,
-    Cells,
-    Cube,
     Fill,
-    Link,
     Run,
 }
 
@@ -39,10 +29,7 @@ impl Subcommand {
     fn named(word: &str) -> Option<Subcommand> {
         match word {
             "feed" => Some(Subcommand::Feed),
-            "cells" => Some(Subcommand::Cells),
-            "cube" => Some(Subcommand::Cube),
             "fill" => Some(Subcommand::Fill),
-            "link" => Some(Subcommand::Link),
             "run" => Some(Subcommand::Run),
             _ => None,
         }
@@ -60,10 +47,7 @@ fn main(rt: HostRuntime) -> Result<ExitCode> {
     };
     match subcommand {
         Subcommand::Feed => feed::run(&rt, &words)?,
-        Subcommand::Cells => cells::run(&rt, &words)?,
-        Subcommand::Cube => cube::run(&rt, &words)?,
         Subcommand::Fill => fill::run(&rt, &words)?,
-        Subcommand::Link => link::run(&rt, &words)?,
         Subcommand::Run => run::run(&rt, &words)?,
     }
     Ok(ExitCode::SUCCESS)
