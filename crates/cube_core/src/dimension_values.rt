@@ -84,6 +84,17 @@ impl DimensionValues {
         Ok(copies)
     }
 
+    /// The values of a slice of texts, which are copied; the only error is want of memory.
+    pub fn of_texts(alloc: Global, values: &[Option<&str>]) -> Result<DimensionValues, AllocError>
+        ensures { IfOk result (λ copies. copies ≡ map (option_map (λ text. text.now)) values.entry.now) }
+    {
+        let mut copies = DimensionValues::new(alloc);
+        for value in values {
+            copies.push(*value)?;
+        }
+        Ok(copies)
+    }
+
     /// Adds a text or null at the end. The only error is want of memory, to which more than 2^32 - 1 bytes of texts count.
     #[inline]
     pub fn push(&mut self, value: Option<&str>) -> Result<(), AllocError>

@@ -1,5 +1,5 @@
 //! A fact: one row of input.
-ghost use Rattle.std.specs.Prelude.{◌≡◌, IfOk};
+ghost use Rattle.std.specs.Prelude.{◌≡◌, IfOk, map, option_map};
 
 use crate::dimension_values::DimensionValues;
 use crate::small_sequence::SmallSequence;
@@ -14,6 +14,22 @@ pub struct Fact {
 }
 
 impl Fact {
+    /// The fact of these values, a text or null for each dimension and a number or null for each measure, which are
+    /// copied. The only error is want of memory, to which more than 2^32 - 1 bytes of texts count.
+    pub fn new(
+        alloc: Global,
+        dims: &[Option<&str>],
+        measures: &[Option<i64>],
+    ) -> Result<Fact, AllocError>
+        ensures dims { IfOk result (λ fact. fact.dims ≡ map (option_map (λ text. text.now)) dims.entry.now) }
+        ensures measures { IfOk result (λ fact. fact.measures ≡ measures.now) }
+    {
+        Ok(Fact {
+            dims: DimensionValues::of_texts(alloc, dims)?,
+            measures: SmallSequence::from_slice(alloc, measures)?,
+        })
+    }
+
     /// A copy; the only error is want of memory.
     pub fn copy(&self, alloc: Global) -> Result<Fact, AllocError>
         ensures { IfOk result (λ copy. copy ≡ self.now) }
