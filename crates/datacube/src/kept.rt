@@ -56,9 +56,7 @@ fn serve_over<T: Threads + Wait + Clock + Sync, S: Start>(
 {
     let alloc = rt.alloc();
     let schema = schema_of(rt, words.schema, &words.feeds, 0)?.with_shard(shard);
-    let mut notes = Vec::new(alloc);
-    push_note(rt, &mut notes, 0, &mut open_schema(rt, words.schema)?)?;
-    let feeds = noted_feeds(rt, &words.feeds, progress.counts(), &mut notes)?;
+    let (feeds, notes) = noted_feeds(rt, words.schema, &words.feeds, progress.counts())?;
     let store = open_store(rt, path, start)?;
     let wanted = session_threads(threads, words.threads);
     let settings = settings_of(threads, words.ring, 1, wanted);
@@ -115,9 +113,7 @@ fn ask_over<T: Threads + Wait + Clock + Sync, S: Start>(
     let alloc = rt.alloc();
     let schema = schema_of(rt, words.schema, &words.feeds, 1)?.with_shard(shard);
     let question = question_of(rt, &schema, asked)?;
-    let mut notes = Vec::new(alloc);
-    push_note(rt, &mut notes, 0, &mut open_schema(rt, words.schema)?)?;
-    let feeds = noted_feeds(rt, &words.feeds, progress.counts(), &mut notes)?;
+    let (feeds, notes) = noted_feeds(rt, words.schema, &words.feeds, progress.counts())?;
     let store = open_made_store(rt, path, start)?;
     let settings = settings_of(threads, words.ring, 1, words.threads);
     progress.begin(Phase::Reading { feeds: feeds.len() });
@@ -184,26 +180,29 @@ fn open_store<S: Start>(
     }
 }
 
-/// The files of the feeds, opened in their order; each is read to its end, noted, and begun again.
+/// The files of the feeds, opened in their order, and what a store notes of the schema's file and of theirs: each is read to
+/// its end, noted, and begun again.
 fn noted_feeds<'c>(
     rt: &HostRuntime,
+    schema: &str,
     paths: &[&str],
     counts: Option<&'c Counts>,
-    notes: &mut Vec<FeedNote>,
-) -> Result<Vec<FeedReader<'c, File>>, Failure>
+) -> Result<(Vec<FeedReader<'c, File>>, Vec<FeedNote>), Failure>
     requires { length paths.now ≤ 64 }
-    ensures { IfOk result (λ files. vec_len files ≡ length paths.now) }
+    ensures { IfOk result (λ noted. vec_len noted.0 ≡ length paths.now) }
 {
+    let mut notes = Vec::new(rt.alloc());
+    push_note(rt, &mut notes, 0, &mut open_schema(rt, schema)?)?;
     let mut files = Vec::new(rt.alloc());
     for path in paths {
         let source = files.len() as u32 + 1;
         let mut file = open_feed(rt, path, source)?;
-        push_note(rt, notes, source, &mut file)?;
+        push_note(rt, &mut notes, source, &mut file)?;
         if files.push(FeedReader::new(file, counts)).is_err() {
             return Err(Failure::Run(RunFault::Memory));
         }
     }
-    Ok(files)
+    Ok((files, notes))
 }
 
 /// Notes what the file of a source has, which is read to its end and begun again; 0 is the schema's.
