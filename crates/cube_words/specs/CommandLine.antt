@@ -83,9 +83,13 @@ partial_option = flag (codes "partial")
 abbrev pub check_option : Rule
 check_option = flag (codes "check")
 
+-- an option that has any text
+abbrev pub text_option : Text → Rule
+text_option name = record (new_rule name) { long = Some name; value_names = 1 }
+
 -- `--shard`, the share of the feeds that is read: any text, which is looked at later
 abbrev pub shard_option : Rule
-shard_option = record (new_rule (codes "shard")) { long = Some (codes "shard"); value_names = 1 }
+shard_option = text_option (codes "shard")
 
 -- `--quiet`, which shows no progress
 abbrev pub quiet_option : Rule
@@ -93,7 +97,7 @@ quiet_option = flag (codes "quiet")
 
 -- `--store`, the file that keeps the changes of sessions: any text
 abbrev pub store_option : Rule
-store_option = record (new_rule (codes "store")) { long = Some (codes "store"); value_names = 1 }
+store_option = text_option (codes "store")
 
 -- `--wary`, which has nothing supposed of what a torn write leaves of the store
 abbrev pub wary_option : Rule

@@ -1,8 +1,8 @@
 //! The command line as clap reads it: the commands, their words and options, and what their help says.
-ghost use Rattle.std.specs.Prelude.{◌≡◌, IfOk, false};
-ghost use Rattle.clap.specs.Words.{app_of, rule_of, shape_of, with_rule, with_subcommand};
+ghost use Rattle.std.specs.Prelude.{◌≡◌, [], IfOk, false};
+ghost use Rattle.clap.specs.Words.{app_of, new_app, rule_of, shape_of, with_rule, with_subcommand};
 ghost use Rattle.clap.specs.declared.builder.command.Command.TheViews.{out-Command as fields_of};
-ghost use Rattle.cube_words.specs.CommandLine.{builders_option, cell_word, check_line, check_option, code_word, command_line, dimension_word, drill_line, explain_line, feed_words, live_line, merge_line, merged_words, named_line, partial_option, print_line, quiet_option, refusals_line, ring_option, rollup_line, schema_word, shard_option, slice_line, store_option, threads_option, wary_option, with_feeds, with_store};
+ghost use Rattle.cube_words.specs.CommandLine.{builders_option, cell_word, check_line, check_option, code_word, command_line, dimension_word, drill_line, explain_line, feed_words, flag, live_line, merge_line, merged_words, named_line, needed_word, number_option, partial_option, print_line, quiet_option, refusals_line, ring_option, rollup_line, schema_word, shard_option, slice_line, some_words, store_option, text_option, threads_option, wary_option, with_feeds, with_store};
 
 use clap::builder::ValueParser;
 use clap::{Arg, ArgAction, Command};
@@ -211,6 +211,14 @@ fn named<'a>(alloc: Global) -> Result<Command<'a>, AllocError>
         .bin_name("datacube")
 }
 
+// A command without words, with what its help says of it and at the end.
+fn described<'a>(alloc: Global, name: &'a str, about: &'a str, after: &'a str) -> Command<'a>
+    ensures line { app_of result ≡ new_app name.now }
+    ensures local { (fields_of result).has_globals ≡ false }
+{
+    Command::new(alloc, name).about(about).after_help(after)
+}
+
 // The command line with one more command.
 fn with_command<'a>(line: Command<'a>, command: Command<'a>) -> Result<Command<'a>, AllocError>
     requires { (fields_of command).has_globals ≡ false }
@@ -245,9 +253,12 @@ fn print_command<'a>(alloc: Global) -> Result<Command<'a>, AllocError>
     ensures line { IfOk result (λ command. app_of command ≡ print_line) }
     ensures local { IfOk result (λ command. (fields_of command).has_globals ≡ false) }
 {
-    let command = Command::new(alloc, "print")
-        .about("Prints the whole cube of all feeds, as CSV")
-        .after_help(AFTER_PRINT);
+    let command = described(
+        alloc,
+        "print",
+        "Prints the whole cube of all feeds, as CSV",
+        AFTER_PRINT,
+    );
     let fed = with_all_feeds(alloc, with_word(command, schema(alloc))?)?;
     let partial = partial(
         alloc,
@@ -261,9 +272,12 @@ fn refusals_command<'a>(alloc: Global) -> Result<Command<'a>, AllocError>
     ensures line { IfOk result (λ command. app_of command ≡ refusals_line) }
     ensures local { IfOk result (λ command. (fields_of command).has_globals ≡ false) }
 {
-    let command = Command::new(alloc, "refusals")
-        .about("Lists the refused lines of all feeds, as CSV: source, record, code")
-        .after_help(AFTER_FEEDS);
+    let command = described(
+        alloc,
+        "refusals",
+        "Lists the refused lines of all feeds, as CSV: source, record, code",
+        AFTER_FEEDS,
+    );
     with_all_feeds(alloc, with_word(command, schema(alloc))?)
 }
 
@@ -272,9 +286,12 @@ fn slice_command<'a>(alloc: Global) -> Result<Command<'a>, AllocError>
     ensures line { IfOk result (λ command. app_of command ≡ slice_line) }
     ensures local { IfOk result (λ command. (fields_of command).has_globals ≡ false) }
 {
-    let command = Command::new(alloc, "slice")
-        .about("Prints the lines of the cube that CELL matches, as CSV")
-        .after_help(AFTER_SLICE);
+    let command = described(
+        alloc,
+        "slice",
+        "Prints the lines of the cube that CELL matches, as CSV",
+        AFTER_SLICE,
+    );
     let cell = cell(
         alloc,
         "What the lines have in each dimension, as '=west,?'; see below",
@@ -288,11 +305,12 @@ fn drill_command<'a>(alloc: Global) -> Result<Command<'a>, AllocError>
     ensures line { IfOk result (λ command. app_of command ≡ drill_line) }
     ensures local { IfOk result (λ command. (fields_of command).has_globals ≡ false) }
 {
-    let command = Command::new(alloc, "drill")
-        .about(
-            "Prints the lines one step below CELL: those with each value of dimension DIM, as CSV",
-        )
-        .after_help(AFTER_DRILL);
+    let command = described(
+        alloc,
+        "drill",
+        "Prints the lines one step below CELL: those with each value of dimension DIM, as CSV",
+        AFTER_DRILL,
+    );
     let cell = cell(alloc, "The line to start from, as '=west,\\A'; see below");
     let named = with_word(with_word(command, schema(alloc))?, cell)?;
     let dimension = dimension(alloc, "The name of the dimension to drill down along");
@@ -304,9 +322,12 @@ fn rollup_command<'a>(alloc: Global) -> Result<Command<'a>, AllocError>
     ensures line { IfOk result (λ command. app_of command ≡ rollup_line) }
     ensures local { IfOk result (λ command. (fields_of command).has_globals ≡ false) }
 {
-    let command = Command::new(alloc, "rollup")
-        .about("Prints the line one step above CELL: the one with ALL in dimension DIM, as CSV")
-        .after_help(AFTER_ROLLUP);
+    let command = described(
+        alloc,
+        "rollup",
+        "Prints the line one step above CELL: the one with ALL in dimension DIM, as CSV",
+        AFTER_ROLLUP,
+    );
     let cell = cell(alloc, "The line to start from, as '=west,=tea'; see below");
     let named = with_word(with_word(command, schema(alloc))?, cell)?;
     let dimension = dimension(alloc, "The name of the dimension to roll up along");
@@ -318,9 +339,12 @@ fn live_command<'a>(alloc: Global) -> Result<Command<'a>, AllocError>
     ensures line { IfOk result (λ command. app_of command ≡ live_line) }
     ensures local { IfOk result (λ command. (fields_of command).has_globals ≡ false) }
 {
-    let command = Command::new(alloc, "live")
-        .about("Keeps the cube right change by change, and answers questions in between")
-        .after_help(AFTER_LIVE);
+    let command = described(
+        alloc,
+        "live",
+        "Keeps the cube right change by change, and answers questions in between",
+        AFTER_LIVE,
+    );
     let feeds = feeds(
         alloc,
         "The feeds that are read first: CSV files, none to 64",
@@ -338,9 +362,12 @@ fn merge_command<'a>(alloc: Global) -> Result<Command<'a>, AllocError>
     ensures line { IfOk result (λ command. app_of command ≡ merge_line) }
     ensures local { IfOk result (λ command. (fields_of command).has_globals ≡ false) }
 {
-    let command = Command::new(alloc, "merge")
-        .about("Prints the cube of all the facts of printed cubes, as CSV")
-        .after_help(AFTER_MERGE);
+    let command = described(
+        alloc,
+        "merge",
+        "Prints the cube of all the facts of printed cubes, as CSV",
+        AFTER_MERGE,
+    );
     let named = with_word(with_word(command, schema(alloc))?, cubes(alloc))?;
     let partial = partial(
         alloc,
@@ -354,9 +381,12 @@ fn explain_command<'a>(alloc: Global) -> Result<Command<'a>, AllocError>
     ensures line { IfOk result (λ command. app_of command ≡ explain_line) }
     ensures local { IfOk result (λ command. (fields_of command).has_globals ≡ false) }
 {
-    let command = Command::new(alloc, "explain")
-        .about("Says what a code means, what causes it, and how to mend it")
-        .after_help(AFTER_EXPLAIN);
+    let command = described(
+        alloc,
+        "explain",
+        "Says what a code means, what causes it, and how to mend it",
+        AFTER_EXPLAIN,
+    );
     let code = Arg::new(alloc, "CODE").help("The code, as S4; all codes where it is left out");
     with_word(command, code)
 }
@@ -432,9 +462,11 @@ fn schema<'a>(alloc: Global) -> Arg<'a>
     ensures rule { rule_of result ≡ schema_word }
     ensures own { result.global ≡ false }
 {
-    Arg::new(alloc, "SCHEMA")
-        .help("The schema file: TOML, at most 1048576 bytes")
-        .required(true)
+    needed(
+        alloc,
+        "SCHEMA",
+        "The schema file: TOML, at most 1048576 bytes",
+    )
 }
 
 // The word that is a pattern or a cell.
@@ -442,7 +474,7 @@ fn cell<'a>(alloc: Global, help: &'a str) -> Arg<'a>
     ensures rule { rule_of result ≡ cell_word }
     ensures own { result.global ≡ false }
 {
-    Arg::new(alloc, "CELL").help(help).required(true)
+    needed(alloc, "CELL", help)
 }
 
 // The word that names a dimension.
@@ -450,7 +482,7 @@ fn dimension<'a>(alloc: Global, help: &'a str) -> Arg<'a>
     ensures rule { rule_of result ≡ dimension_word }
     ensures own { result.global ≡ false }
 {
-    Arg::new(alloc, "DIM").help(help).required(true)
+    needed(alloc, "DIM", help)
 }
 
 // The words that name the feeds, which may be left out.
@@ -458,7 +490,7 @@ fn feeds<'a>(alloc: Global, help: &'a str) -> Arg<'a>
     ensures rule { rule_of result ≡ feed_words }
     ensures own { result.global ≡ false }
 {
-    Arg::new(alloc, "FEED").help(help).num_args(1..)
+    several(alloc, "FEED", help)
 }
 
 // The words that name the cubes to be merged.
@@ -466,10 +498,12 @@ fn cubes<'a>(alloc: Global) -> Arg<'a>
     ensures rule { rule_of result ≡ merged_words }
     ensures own { result.global ≡ false }
 {
-    Arg::new(alloc, "CUBE")
-        .help("The cubes: files that were printed with --partial, 1 to 64")
-        .num_args(1..)
-        .required(true)
+    let cubes = several(
+        alloc,
+        "CUBE",
+        "The cubes: files that were printed with --partial, 1 to 64",
+    );
+    cubes.required(true)
 }
 
 // The option for the room of the links.
@@ -477,12 +511,13 @@ fn ring<'a>(alloc: Global) -> Arg<'a>
     ensures rule { rule_of result ≡ ring_option }
     ensures own { result.global ≡ false }
 {
-    Arg::new(alloc, "ring")
-        .long("ring")
-        .value_name("N")
-        .value_parser(ValueParser::Unsigned(1, 65536))
-        .default_value("64")
-        .help("How many records may wait between a feed and a builder, 1 to 65536")
+    let ring = number(
+        alloc,
+        "ring",
+        65536,
+        "How many records may wait between a feed and a builder, 1 to 65536",
+    );
+    ring.default_value("64")
 }
 
 // The option for the number of builders.
@@ -490,12 +525,13 @@ fn builders<'a>(alloc: Global) -> Arg<'a>
     ensures rule { rule_of result ≡ builders_option }
     ensures own { result.global ≡ false }
 {
-    Arg::new(alloc, "builders")
-        .long("builders")
-        .value_name("N")
-        .value_parser(ValueParser::Unsigned(1, 8))
-        .default_value("1")
-        .help("How many threads build the cube, 1 to 8; what is printed is the same")
+    let builders = number(
+        alloc,
+        "builders",
+        8,
+        "How many threads build the cube, 1 to 8; what is printed is the same",
+    );
+    builders.default_value("1")
 }
 
 // The option for the number of threads.
@@ -503,13 +539,12 @@ fn threads<'a>(alloc: Global) -> Arg<'a>
     ensures rule { rule_of result ≡ threads_option }
     ensures own { result.global ≡ false }
 {
-    Arg::new(alloc, "threads")
-        .long("threads")
-        .value_name("N")
-        .value_parser(ValueParser::Unsigned(1, 16))
-        .help(
-            "How many threads fill, sort and print the cube, 1 to 16; where left out as many as the machine has, in live half as many more, and at most 16",
-        )
+    number(
+        alloc,
+        "threads",
+        16,
+        "How many threads fill, sort and print the cube, 1 to 16; where left out as many as the machine has, in live half as many more, and at most 16",
+    )
 }
 
 // The option for the share of the feeds that is read.
@@ -517,12 +552,12 @@ fn shard<'a>(alloc: Global) -> Arg<'a>
     ensures rule { rule_of result ≡ shard_option }
     ensures own { result.global ≡ false }
 {
-    Arg::new(alloc, "shard")
-        .long("shard")
-        .value_name("J/N")
-        .help(
-            "Reads only the lines whose id is in share J of N, N up to 65536; the prints of all shares, made with --partial, merge to the whole",
-        )
+    text(
+        alloc,
+        "shard",
+        "J/N",
+        "Reads only the lines whose id is in share J of N, N up to 65536; the prints of all shares, made with --partial, merge to the whole",
+    )
 }
 
 // The option for the partial form.
@@ -530,10 +565,7 @@ fn partial<'a>(alloc: Global, help: &'a str) -> Arg<'a>
     ensures rule { rule_of result ≡ partial_option }
     ensures own { result.global ≡ false }
 {
-    Arg::new(alloc, "partial")
-        .long("partial")
-        .action(ArgAction::SetTrue)
-        .help(help)
+    flag(alloc, "partial", help)
 }
 
 // The option to read all cubes before the first line is written.
@@ -541,10 +573,11 @@ fn check<'a>(alloc: Global) -> Arg<'a>
     ensures rule { rule_of result ≡ check_option }
     ensures own { result.global ≡ false }
 {
-    Arg::new(alloc, "check")
-        .long("check")
-        .action(ArgAction::SetTrue)
-        .help("Reads all cubes to their ends before it writes")
+    flag(
+        alloc,
+        "check",
+        "Reads all cubes to their ends before it writes",
+    )
 }
 
 // The option for no progress.
@@ -552,10 +585,11 @@ fn quiet<'a>(alloc: Global) -> Arg<'a>
     ensures rule { rule_of result ≡ quiet_option }
     ensures own { result.global ≡ false }
 {
-    Arg::new(alloc, "quiet")
-        .long("quiet")
-        .action(ArgAction::SetTrue)
-        .help("Shows no progress on standard error, where that is a terminal")
+    flag(
+        alloc,
+        "quiet",
+        "Shows no progress on standard error, where that is a terminal",
+    )
 }
 
 // The option for the file that keeps the changes of sessions.
@@ -563,10 +597,7 @@ fn store<'a>(alloc: Global, help: &'a str) -> Arg<'a>
     ensures rule { rule_of result ≡ store_option }
     ensures own { result.global ≡ false }
 {
-    Arg::new(alloc, "store")
-        .long("store")
-        .value_name("FILE")
-        .help(help)
+    text(alloc, "store", "FILE", help)
 }
 
 // The option for a store of which nothing is supposed after a torn write.
@@ -574,10 +605,55 @@ fn wary<'a>(alloc: Global) -> Arg<'a>
     ensures rule { rule_of result ≡ wary_option }
     ensures own { result.global ≡ false }
 {
-    Arg::new(alloc, "wary")
-        .long("wary")
+    flag(
+        alloc,
+        "wary",
+        "Supposes nothing of what a torn write leaves of the store, and syncs twice a commit; does nothing without --store",
+    )
+}
+
+// A word that has to be there.
+fn needed<'a>(alloc: Global, name: &'a str, help: &'a str) -> Arg<'a>
+    ensures rule { rule_of result ≡ needed_word name.now }
+    ensures own { result.global ≡ false }
+{
+    Arg::new(alloc, name).help(help).required(true)
+}
+
+// Words of which there is at least one where they are there.
+fn several<'a>(alloc: Global, name: &'a str, help: &'a str) -> Arg<'a>
+    ensures rule { rule_of result ≡ some_words name.now }
+    ensures own { result.global ≡ false }
+{
+    Arg::new(alloc, name).help(help).num_args(1..)
+}
+
+// An option without a value.
+fn flag<'a>(alloc: Global, name: &'a str, help: &'a str) -> Arg<'a>
+    ensures rule { rule_of result ≡ flag name.now }
+    ensures own { result.global ≡ false }
+{
+    Arg::new(alloc, name)
+        .long(name)
         .action(ArgAction::SetTrue)
-        .help(
-            "Supposes nothing of what a torn write leaves of the store, and syncs twice a commit; does nothing without --store",
-        )
+        .help(help)
+}
+
+// An option whose value may be any text.
+fn text<'a>(alloc: Global, name: &'a str, value: &'a str, help: &'a str) -> Arg<'a>
+    ensures rule { rule_of result ≡ text_option name.now }
+    ensures own { result.global ≡ false }
+{
+    Arg::new(alloc, name)
+        .long(name)
+        .value_name(value)
+        .help(help)
+}
+
+// An option whose value is a number from 1 to a bound.
+fn number<'a>(alloc: Global, name: &'a str, most: u64, help: &'a str) -> Arg<'a>
+    ensures rule { rule_of result ≡ number_option name.now most [] }
+    ensures own { result.global ≡ false }
+{
+    text(alloc, name, "N", help).value_parser(ValueParser::Unsigned(1, most))
 }

@@ -1,0 +1,6 @@
+use Rattle.std.proofs.Common.{ap, true}
+use Rattle.clap.specs.Walk.{Rule}
+use Rattle.cube_words.proofs.command_line.cubes.Goals as goal
+
+pub returns-clause-rule : goal.returns-clause-rule
+returns-clause-rule c = rw c.required.ensures (ap (λ (rule : Rule). record rule { required = true }) c.several-cubes.ensures.rule)
