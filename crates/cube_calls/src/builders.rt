@@ -5,7 +5,7 @@ use crate::facts::item_of;
 use crate::script::{Printout, words_of};
 use crate::text::text_of;
 use anyhow::{Result, bail, ensure};
-use cube_core::{Item, Refusal, Schema};
+use cube_core::{Refusal, Schema};
 use cube_engine::Builder;
 use std::alloc::{AllocError, Global};
 
@@ -55,19 +55,25 @@ fn apply(alloc: Global, schema: &Schema, builder: &mut Builder, words: &str) -> 
     let (source, words) = words_of(words);
     let (number, record) = words_of(words);
     let (source, number) = (source.parse()?, number.parse()?);
-    let what = item_of(alloc, schema, record)?.what;
-    let item = Item { number, what };
-    let again = item.copy(alloc)?;
-    if take(builder, source, item).is_err() {
-        take(builder, source, again)?;
+    if hand_over(alloc, schema, builder, source, number, record).is_err() {
+        hand_over(alloc, schema, builder, source, number, record)?;
     }
     Ok(())
 }
 
-fn take(builder: &mut Builder, source: u32, item: Item) -> Result<()> {
+fn hand_over(
+    alloc: Global,
+    schema: &Schema,
+    builder: &mut Builder,
+    source: u32,
+    number: u32,
+    record: &str,
+) -> Result<()> {
     ensure!(source >= 1, "no such source");
     ensure!(source <= builder.sources(), "no such source");
     ensure!(builder.facts() < u64::MAX, "too many facts");
+    let mut item = item_of(alloc, schema, record)?;
+    item.number = number;
     builder.apply(source, item)?;
     Ok(())
 }

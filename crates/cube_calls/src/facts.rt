@@ -1,7 +1,7 @@
 //! Items and facts, read as those of a feed.
 use anyhow::{Result, bail};
 use cube_core::{Change, Fact, Item, Schema, Text};
-use cube_feed::Feed;
+use cube_feed::{Feed, FeedFault};
 use std::alloc::{AllocError, Global};
 
 /// The item of a record.
@@ -10,11 +10,16 @@ pub fn item_of(alloc: Global, schema: &Schema, record: &str) -> Result<Item> {
     push_names(&mut text, schema.dimensions())?;
     push_names(&mut text, schema.measures())?;
     write!(text, "\n{record}\n")?;
-    let mut feed = Feed::new(alloc, schema, text.as_bytes());
-    match feed.next()? {
+    match first_of(alloc, schema, text.as_bytes())? {
         Some(item) => Ok(item),
         None => bail!("no record"),
     }
+}
+
+// The first item of a feed.
+fn first_of(alloc: Global, schema: &Schema, bytes: &[u8]) -> Result<Option<Item>, FeedFault> {
+    let mut feed = Feed::new(alloc, schema, bytes);
+    feed.next()
 }
 
 fn push_names(text: &mut String, names: &[Text]) -> Result<(), AllocError> {
