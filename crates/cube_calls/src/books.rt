@@ -24,14 +24,36 @@ fn obey(
     out: &mut Printout,
 ) -> Result<()> {
     match words_of(call) {
-        ("apply", record) => match item_of(alloc, schema, record)?.what {
-            Ok(change) => answer_delta(apply(book, change)?, out)?,
-            Err(fault) => out.answer(fault)?,
-        },
-        ("get", id) => answer_fact("", book.get(&Text::from_str(alloc, id)?), out)?,
-        ("len", "") => out.answer(book.len())?,
+        ("apply", record) => apply_record(alloc, schema, book, record, out),
+        ("get", id) => answer_found(book, &Text::from_str(alloc, id)?, out),
+        ("len", "") => Ok(out.answer(book.len())?),
         _ => bail!("no call of a book"),
     }
+}
+
+fn apply_record(
+    alloc: Global,
+    schema: &Schema,
+    book: &mut Book,
+    record: &str,
+    out: &mut Printout,
+) -> Result<()> {
+    let item = item_of(alloc, schema, record)?;
+    match item.what {
+        Ok(change) => apply_change(book, change, out),
+        Err(fault) => Ok(out.answer(fault)?),
+    }
+}
+
+fn apply_change(book: &mut Book, change: Change, out: &mut Printout) -> Result<()> {
+    match apply(book, change)? {
+        Ok(delta) => Ok(answer_delta(&delta, out)?),
+        Err(fault) => Ok(out.answer(fault)?),
+    }
+}
+
+fn answer_found(book: &Book, id: &Text, out: &mut Printout) -> Result<()> {
+    answer_fact("", book.get(id), out)?;
     Ok(())
 }
 
@@ -44,14 +66,9 @@ fn apply(book: &mut Book, change: Change) -> Result<Result<Delta, BookFault>> {
     }
 }
 
-fn answer_delta(answer: Result<Delta, BookFault>, out: &mut Printout) -> Result<(), AllocError> {
-    match answer {
-        Ok(delta) => {
-            answer_fact("gone ", delta.gone.as_ref(), out)?;
-            answer_fact("come ", delta.come.as_ref(), out)
-        }
-        Err(fault) => out.answer(fault),
-    }
+fn answer_delta(delta: &Delta, out: &mut Printout) -> Result<(), AllocError> {
+    answer_fact("gone ", delta.gone.as_ref(), out)?;
+    answer_fact("come ", delta.come.as_ref(), out)
 }
 
 // A line of a fact's values behind a name.

@@ -40,10 +40,7 @@ fn obey(
         ("foreign", words) => apply(alloc, foreign, builder, words)?,
         ("facts", "") => out.answer(builder.facts())?,
         ("sources", "") => out.answer(builder.sources())?,
-        ("rows", "") => {
-            let rows = builder.cube().rows()?;
-            out.text.push_str(text_of(alloc, &rows)?.as_str())?;
-        }
+        ("rows", "") => answer_rows(alloc, builder, out)?,
         ("refusals", "") => answer_refusals(builder, out)?,
         _ => bail!("no call of a builder"),
     }
@@ -76,6 +73,12 @@ fn hand_over(
     item.number = number;
     builder.apply(source, item)?;
     Ok(())
+}
+
+fn answer_rows(alloc: Global, builder: &Builder, out: &mut Printout) -> Result<(), AllocError> {
+    let rows = builder.cube().rows()?;
+    let text = text_of(alloc, &rows)?;
+    out.text.push_str(text.as_str())
 }
 
 fn answer_refusals(builder: &Builder, out: &mut Printout) -> Result<(), AllocError> {

@@ -31,26 +31,13 @@ fn obey(
     ensures { OnOk result (length cell.new.bags ≡ length cell.old.bags) }
 {
     match words_of(call) {
-        ("add", fields) => {
-            let fact = measured(alloc, schema, fields)?;
-            if add(cell, &fact).is_err() {
-                add(cell, &fact)?;
-            }
-        }
-        ("remove", fields) => remove(cell, &measured(alloc, schema, fields)?, out)?,
-        ("holds", fields) => {
-            let fact = measured(alloc, schema, fields)?;
-            out.answer(cell.holds(fact.measures.as_slice()))?;
-        }
-        ("count", "") => out.answer(cell.count())?,
-        ("answers", place) => {
-            let place = place.parse()?;
-            ensure!(place < schema.measures().len(), "no such measure");
-            answers(cell, place, out)?;
-        }
+        ("add", fields) => add_or_again(cell, &measured(alloc, schema, fields)?),
+        ("remove", fields) => remove(cell, &measured(alloc, schema, fields)?, out),
+        ("holds", fields) => answer_held(cell, &measured(alloc, schema, fields)?, out),
+        ("count", "") => Ok(out.answer(cell.count())?),
+        ("answers", place) => answers(schema, cell, place.parse()?, out),
         _ => bail!("no call of a cell"),
     }
-    Ok(())
 }
 
 // A fact with a value for each measure.
@@ -65,6 +52,17 @@ fn measured(alloc: Global, schema: &Schema, fields: &str) -> Result<Fact>
     Ok(fact)
 }
 
+// Adds a fact, and once more where memory was wanting.
+fn add_or_again(cell: &mut Cell, fact: &Fact) -> Result<()>
+    requires { length fact.now.measures ≡ length cell.old.bags }
+    ensures { length cell.new.bags ≡ length cell.old.bags }
+{
+    match add(cell, fact) {
+        Ok(()) => Ok(()),
+        Err(_) => add(cell, fact),
+    }
+}
+
 fn add(cell: &mut Cell, fact: &Fact) -> Result<()>
     requires { length fact.now.measures ≡ length cell.old.bags }
     ensures { length cell.new.bags ≡ length cell.old.bags }
@@ -74,7 +72,7 @@ fn add(cell: &mut Cell, fact: &Fact) -> Result<()>
     Ok(())
 }
 
-fn remove(cell: &mut Cell, fact: &Fact, out: &mut Printout) -> Result<(), AllocError>
+fn remove(cell: &mut Cell, fact: &Fact, out: &mut Printout) -> Result<()>
     ensures { length cell.new.bags ≡ length cell.old.bags }
 {
     if cell.holds(fact.measures.as_slice()) {
@@ -85,7 +83,22 @@ fn remove(cell: &mut Cell, fact: &Fact, out: &mut Printout) -> Result<(), AllocE
     Ok(())
 }
 
-fn answers(cell: &Cell, place: usize, out: &mut Printout) -> Result<(), AllocError>
+fn answer_held(cell: &Cell, fact: &Fact, out: &mut Printout) -> Result<()>
+    requires { length fact.now.measures ≡ length cell.now.bags }
+{
+    out.answer(cell.holds(fact.measures.as_slice()))?;
+    Ok(())
+}
+
+fn answers(schema: &Schema, cell: &Cell, place: usize, out: &mut Printout) -> Result<()>
+    requires { length cell.now.bags ≡ length schema.now.measures }
+{
+    ensure!(place < schema.measures().len(), "no such measure");
+    answers_at(cell, place, out)?;
+    Ok(())
+}
+
+fn answers_at(cell: &Cell, place: usize, out: &mut Printout) -> Result<(), AllocError>
     requires { place < length cell.now.bags }
 {
     write!(out.text, "{}", cell.count())?;

@@ -19,12 +19,7 @@ pub fn run(alloc: Global, calls: &str, out: &mut Printout) -> Result<()> {
 
 fn obey(values: &mut Counted, other: &mut Counted, call: &str, out: &mut Printout) -> Result<()> {
     match words_of(call) {
-        ("add", value) => {
-            let value = value.parse()?;
-            if add(values, value).is_err() {
-                add(values, value)?;
-            }
-        }
+        ("add", value) => add_or_again(values, value.parse()?)?,
         ("remove", value) => out.answer(values.remove(value.parse()?))?,
         ("holds", value) => out.answer(values.holds(value.parse()?))?,
         ("shrink", "") => values.shrink_to_fit(),
@@ -34,6 +29,14 @@ fn obey(values: &mut Counted, other: &mut Counted, call: &str, out: &mut Printou
         _ => bail!("no call of a multiset"),
     }
     Ok(())
+}
+
+// Adds a number, and once more where memory was wanting.
+fn add_or_again(values: &mut Counted, value: i64) -> Result<()> {
+    match add(values, value) {
+        Ok(()) => Ok(()),
+        Err(_) => add(values, value),
+    }
 }
 
 fn add(values: &mut Counted, value: i64) -> Result<()> {
@@ -56,11 +59,11 @@ fn merge(values: &mut Counted, other: &Counted) -> Result<()> {
 // A line with how many numbers there are, the least and the greatest, and whether there is none.
 fn show(values: &Counted, out: &mut Printout) -> Result<(), AllocError> {
     write!(out.text, "{}", values.len())?;
-    match (values.least(), values.greatest()) {
-        (Some(least), Some(greatest)) => write!(out.text, " from {least} to {greatest}")?,
-        (Some(least), None) => write!(out.text, " from {least}")?,
-        (None, Some(greatest)) => write!(out.text, " to {greatest}")?,
-        (None, None) => {}
+    if let Some(least) = values.least() {
+        write!(out.text, " from {least}")?;
+    }
+    if let Some(greatest) = values.greatest() {
+        write!(out.text, " to {greatest}")?;
     }
     out.answer(if values.is_empty() { ", empty" } else { "" })
 }

@@ -32,9 +32,16 @@ fn push_names(text: &mut String, names: &[Text]) -> Result<(), AllocError> {
 /// The fact of the fields of an insert, which stand behind its id.
 pub fn fact_of(alloc: Global, schema: &Schema, fields: &str) -> Result<Fact> {
     let record = format!(in alloc; "I,1,{fields}")?;
-    match item_of(alloc, schema, record.as_str())?.what {
-        Ok(Change::Insert { id: _, fact }) => Ok(fact),
-        Ok(_) => bail!("no insert"),
-        Err(fault) => Err(fault.into()),
+    let item = item_of(alloc, schema, record.as_str())?;
+    match item.what {
+        Ok(change) => inserted(change),
+        Err(fault) => bail!("{fault}"),
+    }
+}
+
+fn inserted(change: Change) -> Result<Fact> {
+    match change {
+        Change::Insert { fact, .. } => Ok(fact),
+        _ => bail!("no insert"),
     }
 }
