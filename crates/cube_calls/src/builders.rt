@@ -2,8 +2,8 @@
 //! the foreign schema), `facts`, `sources`, `rows` (of its cube) and `refusals` (the source, the number and the code of
 //! each).
 use crate::facts::item_of;
+use crate::questions::answer_rows;
 use crate::script::{Printout, words_of};
-use crate::text::text_of;
 use anyhow::{Result, bail, ensure};
 use cube_core::{Refusal, Schema};
 use cube_engine::Builder;
@@ -40,7 +40,7 @@ fn obey(
         ("foreign", words) => apply(alloc, foreign, builder, words)?,
         ("facts", "") => out.answer(builder.facts())?,
         ("sources", "") => out.answer(builder.sources())?,
-        ("rows", "") => answer_rows(alloc, builder, out)?,
+        ("rows", "") => answer_rows(alloc, builder.cube(), out)?,
         ("refusals", "") => answer_refusals(builder, out)?,
         _ => bail!("no call of a builder"),
     }
@@ -73,12 +73,6 @@ fn hand_over(
     item.number = number;
     builder.apply(source, item)?;
     Ok(())
-}
-
-fn answer_rows(alloc: Global, builder: &Builder, out: &mut Printout) -> Result<(), AllocError> {
-    let rows = builder.cube().rows()?;
-    let text = text_of(alloc, &rows)?;
-    out.text.push_str(text.as_str())
 }
 
 fn answer_refusals(builder: &Builder, out: &mut Printout) -> Result<(), AllocError> {

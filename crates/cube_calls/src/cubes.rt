@@ -23,9 +23,22 @@ pub fn run(
     ensure!(of <= 8, "more than eight parts");
     let mut cube = Cube::new_part(alloc, schema, part, of)?;
     let mut gathered = Vec::new(alloc);
+    obey_all(alloc, schema, &mut cube, &mut gathered, calls, out)
+}
+
+fn obey_all(
+    alloc: Global,
+    schema: &Schema,
+    cube: &mut Cube,
+    gathered: &mut Vec<Fact>,
+    calls: &str,
+    out: &mut Printout,
+) -> Result<()>
+    requires { cube.old.schema ≡ schema.now }
+{
     for call in calls.lines() {
         out.next_line();
-        obey(alloc, schema, &mut cube, &mut gathered, call, out)?;
+        obey(alloc, schema, cube, gathered, call, out)?;
     }
     Ok(())
 }

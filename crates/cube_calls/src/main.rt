@@ -26,6 +26,7 @@ mod text;
 use anyhow::{Result, bail, ensure};
 use cube_core::Schema;
 use script::{Printout, words_of};
+use std::alloc::Global;
 use std::io::Write;
 use std::process::ExitCode;
 use std::{env, fs, io};
@@ -46,24 +47,36 @@ fn run(rt: &HostRuntime, out: &mut Printout) -> Result<()> {
     let alloc = rt.alloc();
     let (schema, foreign) = schemas_of(rt)?;
     let script = io::read_to_string(alloc, rt.stdin())?;
-    let text = script.as_str();
-    let (first, calls) = text.split_once('\n').unwrap_or((text, ""));
+    run_script(alloc, &schema, &foreign, script.as_str(), out)
+}
+
+fn run_script(
+    alloc: Global,
+    schema: &Schema,
+    foreign: &Schema,
+    script: &str,
+    out: &mut Printout,
+) -> Result<()> {
+    let (first, calls) = script.split_once('\n').unwrap_or((script, ""));
     out.next_line();
     match words_of(first) {
-        ("schema", "") => schemas::run(alloc, &schema, calls, out),
-        ("cube", "") => cubes::run(alloc, &schema, (0, 1), calls, out),
-        ("part", words) => {
-            let (part, of) = words_of(words);
-            cubes::run(alloc, &schema, (part.parse()?, of.parse()?), calls, out)
-        }
+        ("schema", "") => schemas::run(alloc, schema, calls, out),
+        ("cube", "") => cubes::run(alloc, schema, (0, 1), calls, out),
+        ("part", words) => cubes::run(alloc, schema, part_of(words)?, calls, out),
         ("counted", "") => counted::run(alloc, calls, out),
-        ("cell", "") => cells::run(alloc, &schema, calls, out),
-        ("book", "") => books::run(alloc, &schema, calls, out),
+        ("cell", "") => cells::run(alloc, schema, calls, out),
+        ("book", "") => books::run(alloc, schema, calls, out),
         ("builder", sources) => {
-            builders::run(alloc, &schema, &foreign, sources.parse()?, calls, out)
+            builders::run(alloc, schema, foreign, sources.parse()?, calls, out)
         }
         _ => bail!("nothing that calls are of"),
     }
+}
+
+// The number of a part and how many there are.
+fn part_of(words: &str) -> Result<(u32, u32)> {
+    let (part, of) = words_of(words);
+    Ok((part.parse()?, of.parse()?))
 }
 
 // The schema, and the foreign one.

@@ -7,8 +7,8 @@ use crate::script::{Printout, words_of};
 use crate::text::text_of;
 use anyhow::{Result, bail};
 use cube_cells::Cube;
-use cube_core::{Key, Pattern, QueryFault, Schema};
-use std::alloc::Global;
+use cube_core::{Fact, Key, Pattern, QueryFault, Schema};
+use std::alloc::{AllocError, Global};
 
 /// Asks a cube.
 pub fn ask(
@@ -22,8 +22,8 @@ pub fn ask(
 {
     match words_of(call) {
         ("facts", "") => out.answer(cube.facts())?,
-        ("rows", "") => out.text.push_str(text_of(alloc, &cube.rows()?)?.as_str())?,
-        ("holds", fact) => out.answer(cube.holds(&fact_of(alloc, schema, fact)?))?,
+        ("rows", "") => answer_rows(alloc, cube, out)?,
+        ("holds", fact) => answer_held(cube, &fact_of(alloc, schema, fact)?, out)?,
         ("get", word) => out.answer_lines(found(alloc, schema, cube, word))?,
         ("slice", word) => out.answer_lines(sliced(alloc, schema, cube, word))?,
         ("rollup", words) => out.answer_lines(rolled_up(alloc, schema, cube, words))?,
@@ -32,6 +32,17 @@ pub fn ask(
         _ => bail!("no call of a cube"),
     }
     Ok(())
+}
+
+/// Prints the rows of a cube.
+pub fn answer_rows(alloc: Global, cube: &Cube, out: &mut Printout) -> Result<(), AllocError> {
+    let rows = cube.rows()?;
+    let text = text_of(alloc, &rows)?;
+    out.text.push_str(text.as_str())
+}
+
+fn answer_held(cube: &Cube, fact: &Fact, out: &mut Printout) -> Result<(), AllocError> {
+    out.answer(cube.holds(fact))
 }
 
 fn found(alloc: Global, schema: &Schema, cube: &Cube, word: &str) -> Result<String, QueryFault> {

@@ -35,14 +35,20 @@ fn matches(alloc: Global, schema: &Schema, words: &str) -> Result<bool, QueryFau
 // A line for each coordinate of the cell.
 fn cell(alloc: Global, schema: &Schema, word: &str) -> Result<String, QueryFault> {
     let mut text = String::new(alloc);
-    for coord in key_of(alloc, schema, word)?.coords.as_slice() {
+    let key = key_of(alloc, schema, word)?;
+    push_coords(&mut text, key.coords.as_slice())?;
+    Ok(text)
+}
+
+fn push_coords(text: &mut String, coords: &[Coord]) -> Result<(), AllocError> {
+    for coord in coords {
         match coord {
             Coord::Text(name) => write!(text, "={}\n", name.as_str())?,
             Coord::Null => text.push_str("\\N\n")?,
             Coord::All => text.push_str("\\A\n")?,
         }
     }
-    Ok(text)
+    Ok(())
 }
 
 fn show(schema: &Schema, text: &mut String) -> Result<(), AllocError> {
