@@ -28,7 +28,7 @@ use codes::{ALL, Codes};
 use cube_core::{Coord, DimensionValues, Fact, Key, Schema};
 use dictionary::Dictionary;
 pub use keyed::{CoordRef, KeyedCell};
-pub use ordered::OrderedCells;
+pub use ordered::{OrderedCells, row_of};
 use std::alloc::{AllocError, Global};
 use std::collections::HashMap;
 use std::marker::Model;

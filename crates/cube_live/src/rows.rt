@@ -1,22 +1,20 @@
 //! The texts of rows that questions are answered by.
-ghost use Rattle.std.specs.Prelude.{◌≡◌, ◌<◌, [], ◌∷◌, List, length, take, All, IfOk, IfSome, IfErr, true};
-ghost use Rattle.std.specs.List.{list_all};
+ghost use Rattle.std.specs.Prelude.{◌≡◌, ◌<◌, [], ◌∷◌, List, length, take, All, IfOk, IfSome, IfErr};
 ghost use Rattle.cube_core.specs.Cube.{AreRows};
-ghost use Rattle.cube_core.specs.Layout.{is_aggregate_of};
 ghost use Rattle.cube_core.specs.Printed.{IsPrinted};
 ghost use Rattle.cube_core.specs.Query.{AreRowsWhere, drills_down, matches, rolled_up};
 ghost use Rattle.cube_core.specs.declared.fact.Fact.{Fact};
 ghost use Rattle.cube_core.specs.declared.key.Row.{Row as TheRow};
 ghost use Rattle.cube_cells.specs.Cube.{IsCubeOf};
-ghost use Rattle.cube_cells.specs.Rows.{AreRowsInOrder, IsRowOf, IsRowOver};
+ghost use Rattle.cube_cells.specs.Rows.{AreRowsInOrder, IsRowOver};
 ghost use Rattle.cube_engine.specs.Ledger.{LedgerView, all_facts};
 ghost use Rattle.cube_engine.specs.Parted.{ArePartsWith};
 ghost use Rattle.cube_live.specs.Live.{CanAsk};
 ghost use Rattle.cube_live.specs.Shows.{AsksRows, IsTextWhere, asks_for, is_key};
 
 use crate::request::Question;
-use cube_cells::{Cell, Cube, OrderedCells};
-use cube_core::{Agg, Key, Pattern, QueryFault, Row, Schema, Sequence};
+use cube_cells::{Cube, OrderedCells, row_of};
+use cube_core::{Key, Pattern, QueryFault, Row, Schema};
 use cube_engine::{Part, Parted};
 use cube_text::{print_cells, print_rows};
 use std::alloc::{AllocError, Global};
@@ -170,21 +168,6 @@ fn one_row(alloc: Global, row: Row) -> Result<Vec<Row>, AllocError>
     let mut rows = Vec::with_capacity(alloc, 1)?;
     rows.push(row)?;
     Ok(rows)
-}
-
-// The row of a key with a cell.
-fn row_of(alloc: Global, aggregates: &[Agg], key: Key, cell: &Cell) -> Result<Row, AllocError>
-    requires { list_all (is_aggregate_of (length cell.now.bags)) aggregates.now ≡ true }
-    ensures { IfOk result (IsRowOf aggregates.now (key, cell.now)) }
-{
-    let mut answers = Vec::with_capacity(alloc, aggregates.len())?;
-    for aggregate in aggregates {
-        answers.push(cell.answer(aggregate))?;
-    }
-    Ok(Row {
-        key,
-        answers: Sequence::from_vec(answers),
-    })
 }
 
 // The row of a key with ALL in a dimension, if that is a cell.

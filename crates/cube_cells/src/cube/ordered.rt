@@ -154,7 +154,7 @@ impl<'c> OrderedCells<'c> {
     {
         let coded = &self.cells[place];
         let key = key_in(self.alloc, coded.dictionaries, &coded.codes)?;
-        row_in(self.alloc, self.aggregates, key, coded.cell)
+        row_of(self.alloc, self.aggregates, key, coded.cell)
     }
 
     /// The rows of the cells, in their order. The only error is want of memory.
@@ -205,8 +205,8 @@ fn key_in(alloc: Global, dictionaries: &[Dictionary], codes: &Codes) -> Result<K
     })
 }
 
-/// The row of a key with a cell.
-pub fn row_in(alloc: Global, aggregates: &[Agg], key: Key, cell: &Cell) -> Result<Row, AllocError>
+/// The row of a key with a cell. The only error is want of memory.
+pub fn row_of(alloc: Global, aggregates: &[Agg], key: Key, cell: &Cell) -> Result<Row, AllocError>
     requires { list_all (is_aggregate_of (length cell.now.bags)) aggregates.now ≡ true }
     ensures { IfOk result (IsRowOf aggregates.now (key, cell.now)) }
 {

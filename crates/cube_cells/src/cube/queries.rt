@@ -9,7 +9,7 @@ ghost use Rattle.cube_cells.specs.Rows.{IsRowAt, IsRowOver, AreRowsOf, GivesUnle
 use super::Cube;
 use super::codes::ALL;
 use super::dictionary::Dictionary;
-use super::ordered::row_in;
+use super::ordered::row_of;
 use super::rows::Want;
 use cube_core::{Coord, Key, Pattern, QueryFault, Row, Sequence};
 use std::alloc::{AllocError, Global};
@@ -46,7 +46,7 @@ impl Cube {
         let Some(cell) = self.get(&above) else {
             return Ok(None);
         };
-        let row = row_in(self.alloc, self.schema.aggregates(), above, cell)?;
+        let row = row_of(self.alloc, self.schema.aggregates(), above, cell)?;
         Ok(Some(row))
     }
 

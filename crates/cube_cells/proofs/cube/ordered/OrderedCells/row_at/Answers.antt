@@ -16,8 +16,8 @@ key_in-requires c =
     let inside : c.args.place < length cells = omega (arith, long, ap (λ (o : CellsInOrder). length o.cells) c.self.view_is, c.requires) in
     rw (get_or_read cells c.args.place coded inside c.index-coded.ensures coded) (c.self.invariant c.args.place coded inside).0
 
-pub row_in-requires : goal.row_in-requires
-row_in-requires c =
+pub row_of-requires : goal.row_of-requires
+row_of-requires c =
     let cells = c.self.inside.cells.items in
     let coded = c.index-coded.result.now in
     let cell_of : Coded → Key × Tally = λ p. (key_at p.dictionaries.now p.codes.codes, p.cell.now) in

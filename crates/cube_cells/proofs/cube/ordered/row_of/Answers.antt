@@ -3,7 +3,7 @@ use Rattle.std.proofs.lemmas.List.{take_more}
 use Rattle.cube_core.specs.Answer.{IsAnswer}
 use Rattle.cube_core.specs.declared.aggregate.Agg.TheVariants.{CountAll}
 use Rattle.cube_core.proofs.ListLaws.{AllZip-push}
-use Rattle.cube_cells.proofs.cube.ordered.row_in.Goals as goal
+use Rattle.cube_cells.proofs.cube.ordered.row_of.Goals as goal
 
 pub loop-aggregate-preserved : goal.loop-aggregate-preserved
 loop-aggregate-preserved c =
