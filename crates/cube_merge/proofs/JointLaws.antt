@@ -26,6 +26,14 @@ IsUse-by key input row false is above e = IsUse-other key input row is above (sy
 one-row : (inputs : List InputView) (place : ℕ) → rows_of inputs (place ∷ []) ≡ option_to_list (get_or inputs place nothing_left).row
 one-row inputs place = append-nil (option_to_list (get_or inputs place nothing_left).row)
 
+-- the answers of the row of one more input
+pub column-more : (at : ℕ) (inputs : List InputView) (places : List ℕ) (i : ℕ) → i < length places
+    → column at (rows_of inputs (take (i + 1) places)) ≡ column at (rows_of inputs (take i places)) ++ column at (option_to_list (get_or inputs (get_or places i 0) nothing_left).row)
+column-more at inputs places i inside =
+    ap (λ ps. column at (rows_of inputs ps)) (take_more places i 0 inside)
+    ∙ ap (column at) (flat_map-append (λ p. option_to_list (get_or inputs p nothing_left).row) (take i places) (get_or places i 0 ∷ []) ∙ ap (λ t. rows_of inputs (take i places) ++ t) (one-row inputs (get_or places i 0)))
+    ∙ map-append (λ (r : Row). get_or r.answers at answer.Null) (rows_of inputs (take i places)) (option_to_list (get_or inputs (get_or places i 0) nothing_left).row)
+
 -- the rows of one more input, where it is used
 pub rows_of-more : (inputs : List InputView) (places : List ℕ) (us : List Bool) (place : ℕ) (x : InputView) (u : Bool) → length us ≡ place → place < length inputs → x ≡ get_or inputs place x
     → rows_of inputs places ≡ used_rows us (take place inputs) → rows_of inputs (places ++ place_where place u) ≡ used_rows (us ++ u ∷ []) (take (place + 1) inputs)
@@ -51,12 +59,10 @@ HaveRows-more key inputs places place x true inside is is_use have = pushed plac
   pushed (p ∷ ps) all = (all.0, pushed ps all.1)
 
 -- one of the places
-pub HaveRows-at : (inputs : List InputView) (places : List ℕ) (k place : ℕ) → HaveRows inputs places → slice_get places k ≡ Some place → (place < length inputs) × HasRow (get_or inputs place nothing_left)
-HaveRows-at inputs [] k place have is = let clash : None ≡ Some place = is in absurd (cc)
-HaveRows-at inputs (p ∷ ps) zero place have is =
-    let same : p ≡ place = cc in
-    subst (λ q. (q < length inputs) × HasRow (get_or inputs q nothing_left)) same have.0
-HaveRows-at inputs (p ∷ ps) (suc k) place have is = HaveRows-at inputs ps k place have.1 is
+pub HaveRows-in : (inputs : List InputView) (places : List ℕ) (k : ℕ) → HaveRows inputs places → k < length places → (get_or places k 0 < length inputs) × HasRow (get_or inputs (get_or places k 0) nothing_left)
+HaveRows-in inputs [] k have inside = absurd (omega (arith, inside))
+HaveRows-in inputs (p ∷ ps) zero have inside = have.0
+HaveRows-in inputs (p ∷ ps) (suc k) have inside = HaveRows-in inputs ps k have.1 (omega (arith, inside))
 
 -- the answers of one more row
 pub column-next : (at : ℕ) (inputs : List InputView) (places : List ℕ) (i place : ℕ) → i < length places → place ≡ get_or places i place

@@ -1,0 +1,16 @@
+use Rattle.std.proofs.Common.{◌∙◌, ◌<◌, ap, get_or, length, subst, sym}
+use Rattle.cube_merge.specs.Joint.{HasRow}
+use Rattle.cube_merge.specs.Merging.{nothing_left}
+use Rattle.cube_merge.proofs.FaultLaws.{TellsOverflow-told}
+use Rattle.cube_merge.proofs.JointLaws.{HaveRows-in}
+use Rattle.cube_merge.proofs.LeastLaws.{at_place}
+use Rattle.cube_merge.proofs.step.overflow_of.Goals as goal
+
+pub returns-in-Some : goal.returns-in-Some
+returns-in-Some g c =
+    let inputs = c.args.inputs.now in
+    let place = c.in-Some.place.now in
+    let found = (c.in-Some.ensures {u = tt}).lookup in
+    let has = subst (λ p. (p < length inputs) × HasRow (get_or inputs p nothing_left)) (sym (found.3.1 0)) (HaveRows-in inputs c.args.places.now c.args.which c.requires found.3.0) in
+    TellsOverflow-told inputs place c.lines.result c.fault_of.result c.fault_of.ensures has.0 has.1
+    (c.lines.ensures ∙ ap (λ i. i.lines) (sym (at_place inputs place c.index-inputs-place.result has.0 c.index-inputs-place.is)))
