@@ -128,14 +128,34 @@ impl<R: Read> Input<R> {
         ensures ok { OnOk result (Advances schema.now self.old self.new) }
         ensures err { IfErr result (λ fault. FailsToMove schema.now self.old fault self.new.lines) }
     {
+        let before = self.row.take();
+        let taken = self.take_line(alloc, schema, &before);
+        if let Some(before) = before {
+            self.spare = before;
+        }
+        taken
+    }
+
+    // Takes the next line behind that of this row.
+    fn take_line(
+        &mut self,
+        alloc: Global,
+        schema: &Schema,
+        before: &Option<Row>,
+    ) -> Result<(), InputFault>
+        requires { self.old.row ≡ None }
+        ensures ok { OnOk result (Advances schema.now
+            (record { left = self.old.left; row = before.now; lines = self.old.lines }) self.new) }
+        ensures err { IfErr result (λ fault. FailsToMove schema.now
+            (record { left = self.old.left; row = before.now; lines = self.old.lines }) fault self.new.lines) }
+    {
         let Some(lines) = self.lines.checked_add(1) else {
             return Err(InputFault::Memory);
         };
         self.lines = lines;
-        let before = self.row.take();
         read_line(&mut self.reader, &mut self.line)?;
         if self.line.is_empty() {
-            if !is_complete(schema, &before) {
+            if !is_complete(schema, before) {
                 return Err(InputFault::Incomplete);
             }
             return Ok(());
@@ -145,14 +165,11 @@ impl<R: Read> Input<R> {
         else {
             return Err(InputFault::Line);
         };
-        if !is_above(&before, &row) {
+        if !is_above(before, &row) {
             return Err(InputFault::Order);
         }
         self.key_len = key_len;
         self.row = Some(row);
-        if let Some(before) = before {
-            self.spare = before;
-        }
         Ok(())
     }
 }

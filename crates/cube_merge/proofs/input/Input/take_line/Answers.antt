@@ -2,9 +2,9 @@ use Rattle.std.proofs.Common.{◌≡◌, ◌<◌, rules, arith, sym, subst, leng
 use Rattle.std.specs.Io.KnownBytes.{Consumes}
 use Rattle.cube_core.specs.Text.{row_line}
 use Rattle.cube_merge.specs.Faults.{HasMore, HasRowBelow}
-use Rattle.cube_merge.specs.Merging.{InputView, IsAbove}
+use Rattle.cube_merge.specs.Merging.{InputView}
 use Rattle.cube_merge.proofs.ReadLaws.{more-taken}
-use Rattle.cube_merge.proofs.input.Input.advance.Goals as goal
+use Rattle.cube_merge.proofs.input.Input.take_line.Goals as goal
 
 pub returns-in_default-2-clause-err : goal.returns-in_default-2-clause-err
 returns-in_default-2-clause-err g c =
@@ -17,5 +17,5 @@ pub returns-then-not-is_above-clause-err : goal.returns-then-not-is_above-clause
 returns-then-not-is_above-clause-err g c =
     let is : row_line c.in-Some-2.row ≡ c.read_line.new.line.items = search rules in (
       search rules,
-      subst (λ (i : InputView). HasRowBelow c.args.schema.now i) c.self.view_is (record { row = c.in-Some-2.row; left = _; taken = subst (Consumes _ _) (sym is) c.in_ok-read_line.ensures.taken; of_schema = search rules; below = subst (λ o. IsAbove o c.in-Some-2.row → ⊥) c.take-before.ensures.value (c.is_above.ensures.below c.if-not-is_above.true) }),
+      subst (λ (i : InputView). HasRowBelow c.args.schema.now (record { left = i.left; row = c.args.before.now; lines = i.lines })) c.self.view_is (record { row = c.in-Some-2.row; left = _; taken = subst (Consumes _ _) (sym is) c.in_ok-read_line.ensures.taken; of_schema = search rules; below = c.is_above.ensures.below c.if-not-is_above.true }),
     )
