@@ -130,9 +130,7 @@ impl<R: Read> Input<R> {
     {
         let before = self.row.take();
         let taken = self.take_line(alloc, schema, &before);
-        if let Some(before) = before {
-            self.spare = before;
-        }
+        put_spare(&mut self.spare, before);
         taken
     }
 
@@ -171,6 +169,15 @@ impl<R: Read> Input<R> {
         self.key_len = key_len;
         self.row = Some(row);
         Ok(())
+    }
+}
+
+// Puts a row, where there is one, in place of a spare one.
+fn put_spare(spare: &mut Row, row: Option<Row>)
+    ensures { IfSome row (λ row. spare.new ≡ row) }
+{
+    if let Some(row) = row {
+        *spare = row;
     }
 }
 
