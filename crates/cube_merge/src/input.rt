@@ -163,11 +163,11 @@ impl<R: Read> Input<R> {
         else {
             return Err(InputFault::Line);
         };
-        if !is_above(before, &row) {
-            return Err(InputFault::Order);
-        }
         self.key_len = key_len;
         self.row = Some(row);
+        if !is_after(before, &self.row) {
+            return Err(InputFault::Order);
+        }
         Ok(())
     }
 }
@@ -190,6 +190,17 @@ fn is_complete(schema: &Schema, row: &Option<Row>) -> bool
     match row {
         Some(row) => !keeps_total || is_total(row),
         None => !keeps_total,
+    }
+}
+
+// Whether a row, where there is one, is above the one before.
+fn is_after(before: &Option<Row>, row: &Option<Row>) -> bool
+    ensures above { result ≡ true → IfSome row.now (IsAbove before.now) }
+    ensures below { result ≡ false → IfSome row.now (λ row. IsAbove before.now row → ⊥) }
+{
+    match row {
+        Some(row) => is_above(before, row),
+        None => true,
     }
 }
 
