@@ -158,34 +158,10 @@ fn merge_rows<R: Read, W: Write>(
         text: Vec::new(alloc),
     };
     let mut front = Front::new(alloc);
-    merge_at_desk(
-        alloc, given, wanted, sources, inputs, &mut front, &mut desk, w,
-    )
-}
-
-// The same, at a desk with an empty text, where no input stands behind.
-fn merge_at_desk<R: Read, W: Write>(
-    alloc: Global,
-    given: &Schema,
-    wanted: &Schema,
-    sources: &[Source],
-    inputs: &mut [Input<R>],
-    front: &mut Front,
-    desk: &mut Desk,
-    w: &mut W,
-) -> Result<(), MergeFault>
-    requires sources { AllZip (IsSourceOf given.now.aggregates) wanted.now.aggregates sources.now }
-    requires behind { front.old.behind.items ≡ [] }
-    requires text { desk.old.text.items ≡ [] }
-    ensures ok { OnOk result (MergesRest given.now wanted.now inputs.old
-        (W.contents w.old) (W.contents w.new)) }
-    ensures err { IfErr result (λ fault. RestFails given.now wanted.now inputs.old
-        fault (W.contents w.old) (W.contents w.new)) }
-{
     push_header(alloc, &mut desk.text, wanted)?;
     let mut sent = 0;
     for _ in 0..u64::MAX {
-        if !put_next(alloc, given, sources, inputs, front, desk)? {
+        if !put_next(alloc, given, sources, inputs, &mut front, &mut desk)? {
             send(w, desk.text.as_slice(), sent)?;
             return Ok(());
         }

@@ -8,7 +8,7 @@ use Rattle.cube_merge.specs.declared.fault.MergeFault.TheVariants.{Memory}
 use Rattle.cube_merge.proofs.CubesLaws.{text_of_rows-more, text_of_rows-push}
 use Rattle.cube_merge.proofs.LeastLaws.{AreAbove-none}
 use Rattle.cube_merge.proofs.FaultLaws.{Stops-sending, Stops-waiting}
-use Rattle.cube_merge.proofs.cubes.merge_at_desk.Goals as goal
+use Rattle.cube_merge.proofs.cubes.merge_rows.Goals as goal
 
 pub returns-in_err-push_header-clause-err : goal.returns-in_err-push_header-clause-err
 returns-in_err-push_header-clause-err g c =
@@ -50,7 +50,7 @@ returns-then-not-branch-clause-ok g c starts m =
 pub returns-in-Err-clause-err : goal.returns-in-Err-clause-err
 returns-in-Err-clause-err g c starts m =
     let on : c.in_ok-put_next.field-0 ≡ true = search rules in
-    let put = subst (λ b. PutsNext c.args.given.now c.args.sources.now c.loop.inputs c.put_next.new.inputs c.loop.desk.text.items c.put_next.new.desk.text.items b) on (c.in_ok-put_next.ensures.ok) c.args.wanted.now.aggregates c.requires.sources in
+    let put = subst (λ b. PutsNext c.args.given.now c.args.sources.now c.loop.inputs c.put_next.new.inputs c.loop.desk.text.items c.put_next.new.desk.text.items b) on (c.in_ok-put_next.ensures.ok) c.args.wanted.now.aggregates c.requires in
     let so_far = c.loop.invariant.merging starts m in
     Stops-sending c.args.given.now c.args.wanted.now starts (length c.args.inputs.now) c.put_next.new.inputs (so_far.0 ++ put.0 ∷ []) so_far.1 c.put_next.new.desk.text.items
     (c.put_next.auto.inputs ∙ so_far.2) (put.2 starts so_far.0 so_far.3) (text_of_rows-more c.args.wanted.now so_far.0 put.0 so_far.1 c.loop.desk.text.items c.put_next.new.desk.text.items so_far.5 put.1)
@@ -62,7 +62,7 @@ loop-preserved g c =
     record {
       above = c.in_ok-put_next.ensures.above;
       merging = λ starts m.
-          let put = subst (λ b. PutsNext c.args.given.now c.args.sources.now c.loop.inputs c.put_next.new.inputs c.loop.desk.text.items c.put_next.new.desk.text.items b) on (c.in_ok-put_next.ensures.ok) c.args.wanted.now.aggregates c.requires.sources in
+          let put = subst (λ b. PutsNext c.args.given.now c.args.sources.now c.loop.inputs c.put_next.new.inputs c.loop.desk.text.items c.put_next.new.desk.text.items b) on (c.in_ok-put_next.ensures.ok) c.args.wanted.now.aggregates c.requires in
           let so_far = c.loop.invariant.merging starts m in
           let sent = c.in-Ok.ensures.ok in (
             so_far.0 ++ put.0 ∷ [],
@@ -84,6 +84,6 @@ pub loop-init : goal.loop-init
 loop-init g c =
     let header : c.push_header.new.text.items ++ [] ≡ text_of_rows c.args.wanted.now [] = search rules in
     record {
-      above = AreAbove-none c.args.front.now.bound c.args.front.now.behind.items c.args.inputs.now c.requires.behind;
+      above = AreAbove-none c.new-front.result.bound c.new-front.result.behind.items c.args.inputs.now c.new-front.ensures;
       merging = λ starts m. ([], [], refl, m, Appends-nil (g.W.Write.contents c.args.w.now), search rules, refl);
     }

@@ -4,7 +4,7 @@ use Rattle.cube_core.specs.Text.{text_of_rows}
 use Rattle.cube_core.specs.declared.key.Row.{Row}
 use Rattle.cube_merge.specs.Front.{AreAbove}
 use Rattle.cube_merge.specs.Merging.{IsMerging}
-use Rattle.cube_merge.proofs.cubes.merge_at_desk.Given as goal
+use Rattle.cube_merge.proofs.cubes.merge_rows.Given as goal
 
 abbrev pub invariant-loop : goal.invariant-loop
 invariant-loop g l = record {
