@@ -18,6 +18,25 @@ pub struct Setup<'e, R: Read + Drop, B: TakesItems> {
     pub roster: Roster<B>,
 }
 
+// A roster with room and posts for so many sources and builders.
+fn roster_of<B: TakesItems>(
+    alloc: Global,
+    sources: usize,
+    count: usize,
+) -> Result<Roster<B>, AllocError>
+    requires sources { sources ≤ 64 }
+    requires builders { (1 ≤ count) × (count ≤ 8) }
+    ensures { IfOk result (MayStart count sources) }
+{
+    let (words, posts) = words_for(alloc, sources + count)?;
+    Ok(Roster {
+        words,
+        posts,
+        ends: Vec::with_capacity(alloc, sources)?,
+        gatherers: Vec::with_capacity(alloc, count)?,
+    })
+}
+
 /// Links a feeder of each reader to every builder. The only error is want of memory.
 pub fn set_up<'e, R: Read + Drop, B: TakesItems>(
     alloc: Global,
@@ -43,13 +62,7 @@ pub fn set_up<'e, R: Read + Drop, B: TakesItems>(
     let count = builders.len();
     let mut gatherers = gatherers_of(alloc, builders, sources)?;
     let feeders = feeders_of(alloc, schema, readers, capacity, gatherers.as_mut_slice())?;
-    let (words, posts) = words_for(alloc, sources + count)?;
-    let roster = Roster {
-        words,
-        posts,
-        ends: Vec::with_capacity(alloc, sources)?,
-        gatherers: Vec::with_capacity(alloc, count)?,
-    };
+    let roster = roster_of(alloc, sources, count)?;
     Ok(Setup {
         gatherers,
         feeders,

@@ -1,4 +1,4 @@
-use Rattle.std.proofs.Common.{arith, ◌≡◌, ◌∙◌, ap, length, map}
+use Rattle.std.proofs.Common.{arith, ◌≡◌, ◌∙◌, ap, length, map, drop}
 use Rattle.std.proofs.lemmas.List.{length-map}
 use Rattle.cube_feeders.specs.Wiring.{coming_of}
 use Rattle.cube_feeders.specs.declared.roster.Feeder.{Feeder}
@@ -6,12 +6,24 @@ use Rattle.cube_feeders.specs.declared.roster.Gatherer.{Gatherer}
 use Rattle.cube_feeders.proofs.PlaceLaws.{take-written_back}
 use Rattle.cube_feeders.proofs.setup.set_up.Goals as goal
 
+pub feeders_of-requires-clause-none : goal.feeders_of-requires-clause-none
+feeders_of-requires-clause-none g c = rw c.as_mut_slice.ensures.value c.in_ok-gatherers.ensures.none
+
+pub returns-clause-linked : goal.returns-clause-linked
+returns-clause-linked g c =
+    let new = c.feeders_of.new.gatherers in
+    let count : length new ≡ c.in_ok-gatherers.gatherers.len = omega (arith, c.feeders_of.auto.gatherers, c.as_mut_slice.ensures.len) in
+    rw (take-written_back new (drop (length new) c.in_ok-gatherers.gatherers.items) c.in_ok-gatherers.gatherers.len count) c.in_ok-feeders.ensures.linked
+
+pub returns-clause-feeds : goal.returns-clause-feeds
+returns-clause-feeds g c = c.in_ok-feeders.ensures.feeds
+
 pub returns-clause-builders : goal.returns-clause-builders
 returns-clause-builders g c =
     let f = λ (gatherer : Gatherer g.row.B.Denot). gatherer.builder in
     let new = c.feeders_of.new.gatherers in
     let count : length new ≡ c.in_ok-gatherers.gatherers.len = omega (arith, c.feeders_of.auto.gatherers, c.as_mut_slice.ensures.len) in
-    ap (map f) (take-written_back new _ c.in_ok-gatherers.gatherers.len count)
+    ap (map f) (take-written_back new (drop (length new) c.in_ok-gatherers.gatherers.items) c.in_ok-gatherers.gatherers.len count)
     ∙ c.in_ok-feeders.ensures.builders
     ∙ ap (map f) c.as_mut_slice.ensures.value
     ∙ c.in_ok-gatherers.ensures.builders
@@ -40,18 +52,16 @@ returns-clause-start g c =
     let builders = c.len-count.ensures in
     let most = c.requires.readers in
     let few = c.requires.builders in
-    let posts = c.in_ok-words.ensures in
-    let ends = c.in_ok-with_capacity.ensures in
-    let kept = c.in_ok-with_capacity-2.ensures in
+    let start = c.in_ok-roster.ensures in
     record {
       one = omega (arith, count, few);
       few = omega (arith, count, few);
-      none = kept.len;
-      room = omega (arith, count, kept.exact, builders);
+      none = start.none;
+      room = omega (arith, count, start.room, builders);
       for_feeders = record {
         most = omega (arith, feeds, most);
-        none = ends.len;
-        room = omega (arith, feeds, ends.exact, sources);
-        posts = omega (arith, feeds, count, posts, sources, builders);
+        none = start.for_feeders.none;
+        room = omega (arith, feeds, start.for_feeders.room, sources);
+        posts = omega (arith, feeds, count, start.for_feeders.posts, sources, builders);
       };
     }
