@@ -139,19 +139,21 @@ merge_line = with_rule (with_rule (with_rule (with_rule (with_rule (new_app (cod
 abbrev pub explain_line : App
 explain_line = with_rule (new_app (codes "explain")) code_word
 
+-- a command line with the commands that say whether a schema is right, what its cube is and what is refused
+abbrev pub with_prints : App → App
+with_prints line = with_subcommand (with_subcommand (with_subcommand line check_line.top) print_line.top) refusals_line.top
+
+-- a command line with the commands for parts of a cube
+abbrev pub with_views : App → App
+with_views line = with_subcommand (with_subcommand (with_subcommand line slice_line.top) drill_line.top) rollup_line.top
+
+-- a command line with the commands for sessions, for printed cubes and for codes
+abbrev pub with_sessions : App → App
+with_sessions line = with_subcommand (with_subcommand (with_subcommand line live_line.top) merge_line.top) explain_line.top
+
 -- no words, or one of the commands
 abbrev pub command_line : App
-command_line =
-    with_subcommand
-    (with_subcommand
-    (with_subcommand
-    (with_subcommand
-    (with_subcommand
-    (with_subcommand
-    (with_subcommand
-    (with_subcommand
-    (with_subcommand named_line check_line.top) print_line.top) refusals_line.top) slice_line.top) drill_line.top) rollup_line.top) live_line.top) merge_line.top)
-    explain_line.top
+command_line = with_sessions (with_views (with_prints named_line))
 
 -- a word begins with a hyphen, as a flag does
 abbrev pub begins_as_flag : Text → Bool

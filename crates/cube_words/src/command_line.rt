@@ -2,7 +2,7 @@
 ghost use Rattle.std.specs.Prelude.{◌≡◌, [], IfOk, false};
 ghost use Rattle.clap.specs.Words.{app_of, new_app, rule_of, shape_of, with_rule, with_subcommand};
 ghost use Rattle.clap.specs.declared.builder.command.Command.TheViews.{out-Command as fields_of};
-ghost use Rattle.cube_words.specs.CommandLine.{builders_option, cell_word, check_line, check_option, code_word, command_line, dimension_word, drill_line, explain_line, feed_words, flag, live_line, merge_line, merged_words, named_line, needed_word, number_option, partial_option, print_line, quiet_option, refusals_line, ring_option, rollup_line, schema_word, shard_option, slice_line, some_words, store_option, text_option, threads_option, wary_option, with_feeds, with_store};
+ghost use Rattle.cube_words.specs.CommandLine.{builders_option, cell_word, check_line, check_option, code_word, command_line, dimension_word, drill_line, explain_line, feed_words, flag, live_line, merge_line, merged_words, named_line, needed_word, number_option, partial_option, print_line, quiet_option, refusals_line, ring_option, rollup_line, schema_word, shard_option, slice_line, some_words, store_option, text_option, threads_option, wary_option, with_feeds, with_prints, with_sessions, with_store, with_views};
 
 use clap::builder::ValueParser;
 use clap::{Arg, ArgAction, Command};
@@ -187,13 +187,33 @@ Exit status: 0 done, 2 there is no such code.";
 pub(crate) fn program<'a>(alloc: Global) -> Result<Command<'a>, AllocError>
     ensures { IfOk result (λ command. app_of command ≡ command_line) }
 {
-    let plain = with_command(named(alloc)?, check_command(alloc)?)?;
-    let printing = with_command(plain, print_command(alloc)?)?;
-    let noting = with_command(printing, refusals_command(alloc)?)?;
-    let slicing = with_command(noting, slice_command(alloc)?)?;
+    let printing = with_prints(alloc, named(alloc)?)?;
+    with_sessions(alloc, with_views(alloc, printing)?)
+}
+
+// The command line with the commands that say whether a schema is right, what its cube is and what is refused.
+fn with_prints<'a>(alloc: Global, line: Command<'a>) -> Result<Command<'a>, AllocError>
+    ensures { IfOk result (λ all. app_of all ≡ with_prints (app_of line.entry)) }
+{
+    let checking = with_command(line, check_command(alloc)?)?;
+    let printing = with_command(checking, print_command(alloc)?)?;
+    with_command(printing, refusals_command(alloc)?)
+}
+
+// The command line with the commands for parts of a cube.
+fn with_views<'a>(alloc: Global, line: Command<'a>) -> Result<Command<'a>, AllocError>
+    ensures { IfOk result (λ all. app_of all ≡ with_views (app_of line.entry)) }
+{
+    let slicing = with_command(line, slice_command(alloc)?)?;
     let drilling = with_command(slicing, drill_command(alloc)?)?;
-    let rolling = with_command(drilling, rollup_command(alloc)?)?;
-    let living = with_command(rolling, live_command(alloc)?)?;
+    with_command(drilling, rollup_command(alloc)?)
+}
+
+// The command line with the commands for sessions, for printed cubes and for codes.
+fn with_sessions<'a>(alloc: Global, line: Command<'a>) -> Result<Command<'a>, AllocError>
+    ensures { IfOk result (λ all. app_of all ≡ with_sessions (app_of line.entry)) }
+{
+    let living = with_command(line, live_command(alloc)?)?;
     let merging = with_command(living, merge_command(alloc)?)?;
     with_command(merging, explain_command(alloc)?)
 }
@@ -217,6 +237,19 @@ fn described<'a>(alloc: Global, name: &'a str, about: &'a str, after: &'a str) -
     ensures local { (fields_of result).has_globals ≡ false }
 {
     Command::new(alloc, name).about(about).after_help(after)
+}
+
+// A command whose first word is a schema, with what its help says of it and at the end.
+fn over_schema<'a>(
+    alloc: Global,
+    name: &'a str,
+    about: &'a str,
+    after: &'a str,
+) -> Result<Command<'a>, AllocError>
+    ensures line { IfOk result (λ command. app_of command ≡ with_rule (new_app name.now) schema_word) }
+    ensures local { IfOk result (λ command. (fields_of command).has_globals ≡ false) }
+{
+    with_word(described(alloc, name, about, after), schema(alloc))
 }
 
 // The command line with one more command.
@@ -253,13 +286,13 @@ fn print_command<'a>(alloc: Global) -> Result<Command<'a>, AllocError>
     ensures line { IfOk result (λ command. app_of command ≡ print_line) }
     ensures local { IfOk result (λ command. (fields_of command).has_globals ≡ false) }
 {
-    let command = described(
+    let command = over_schema(
         alloc,
         "print",
         "Prints the whole cube of all feeds, as CSV",
         AFTER_PRINT,
-    );
-    let fed = with_all_feeds(alloc, with_word(command, schema(alloc))?)?;
+    )?;
+    let fed = with_all_feeds(alloc, command)?;
     let partial = partial(
         alloc,
         "With each mean its sum and count too, so that cubes can be merged",
@@ -272,13 +305,13 @@ fn refusals_command<'a>(alloc: Global) -> Result<Command<'a>, AllocError>
     ensures line { IfOk result (λ command. app_of command ≡ refusals_line) }
     ensures local { IfOk result (λ command. (fields_of command).has_globals ≡ false) }
 {
-    let command = described(
+    let command = over_schema(
         alloc,
         "refusals",
         "Lists the refused lines of all feeds, as CSV: source, record, code",
         AFTER_FEEDS,
-    );
-    with_all_feeds(alloc, with_word(command, schema(alloc))?)
+    )?;
+    with_all_feeds(alloc, command)
 }
 
 // The command `slice` with its words.
@@ -286,18 +319,17 @@ fn slice_command<'a>(alloc: Global) -> Result<Command<'a>, AllocError>
     ensures line { IfOk result (λ command. app_of command ≡ slice_line) }
     ensures local { IfOk result (λ command. (fields_of command).has_globals ≡ false) }
 {
-    let command = described(
+    let command = over_schema(
         alloc,
         "slice",
         "Prints the lines of the cube that CELL matches, as CSV",
         AFTER_SLICE,
-    );
+    )?;
     let cell = cell(
         alloc,
         "What the lines have in each dimension, as '=west,?'; see below",
     );
-    let sliced = with_word(with_word(command, schema(alloc))?, cell)?;
-    with_all_feeds(alloc, sliced)
+    with_all_feeds(alloc, with_word(command, cell)?)
 }
 
 // The command `drill` with its words.
@@ -305,14 +337,14 @@ fn drill_command<'a>(alloc: Global) -> Result<Command<'a>, AllocError>
     ensures line { IfOk result (λ command. app_of command ≡ drill_line) }
     ensures local { IfOk result (λ command. (fields_of command).has_globals ≡ false) }
 {
-    let command = described(
+    let command = over_schema(
         alloc,
         "drill",
         "Prints the lines one step below CELL: those with each value of dimension DIM, as CSV",
         AFTER_DRILL,
-    );
+    )?;
     let cell = cell(alloc, "The line to start from, as '=west,\\A'; see below");
-    let named = with_word(with_word(command, schema(alloc))?, cell)?;
+    let named = with_word(command, cell)?;
     let dimension = dimension(alloc, "The name of the dimension to drill down along");
     with_all_feeds(alloc, with_word(named, dimension)?)
 }
@@ -322,14 +354,14 @@ fn rollup_command<'a>(alloc: Global) -> Result<Command<'a>, AllocError>
     ensures line { IfOk result (λ command. app_of command ≡ rollup_line) }
     ensures local { IfOk result (λ command. (fields_of command).has_globals ≡ false) }
 {
-    let command = described(
+    let command = over_schema(
         alloc,
         "rollup",
         "Prints the line one step above CELL: the one with ALL in dimension DIM, as CSV",
         AFTER_ROLLUP,
-    );
+    )?;
     let cell = cell(alloc, "The line to start from, as '=west,=tea'; see below");
-    let named = with_word(with_word(command, schema(alloc))?, cell)?;
+    let named = with_word(command, cell)?;
     let dimension = dimension(alloc, "The name of the dimension to roll up along");
     with_all_feeds(alloc, with_word(named, dimension)?)
 }
@@ -339,22 +371,22 @@ fn live_command<'a>(alloc: Global) -> Result<Command<'a>, AllocError>
     ensures line { IfOk result (λ command. app_of command ≡ live_line) }
     ensures local { IfOk result (λ command. (fields_of command).has_globals ≡ false) }
 {
-    let command = described(
+    let command = over_schema(
         alloc,
         "live",
         "Keeps the cube right change by change, and answers questions in between",
         AFTER_LIVE,
-    );
-    let feeds = feeds(
+    )?;
+    let fed = with_feeds(
         alloc,
+        command,
         "The feeds that are read first: CSV files, none to 64",
-    );
-    let fed = with_word(with_word(command, schema(alloc))?, feeds)?;
-    let store = store(
+    )?;
+    with_store(
         alloc,
+        with_threads(alloc, fed)?,
         "Keeps each change in this file before an answer shows it, and begins with those it has",
-    );
-    with_store(alloc, with_threads(alloc, with_ring(alloc, fed)?)?, store)
+    )
 }
 
 // The command `merge` with its words.
@@ -362,13 +394,13 @@ fn merge_command<'a>(alloc: Global) -> Result<Command<'a>, AllocError>
     ensures line { IfOk result (λ command. app_of command ≡ merge_line) }
     ensures local { IfOk result (λ command. (fields_of command).has_globals ≡ false) }
 {
-    let command = described(
+    let command = over_schema(
         alloc,
         "merge",
         "Prints the cube of all the facts of printed cubes, as CSV",
         AFTER_MERGE,
-    );
-    let named = with_word(with_word(command, schema(alloc))?, cubes(alloc))?;
+    )?;
+    let named = with_word(command, cubes(alloc))?;
     let partial = partial(
         alloc,
         "Writes the partial form again, so that what is printed can be merged too",
@@ -397,19 +429,31 @@ fn with_all_feeds<'a>(alloc: Global, command: Command<'a>) -> Result<Command<'a>
     ensures line { IfOk result (λ all. app_of all ≡ with_feeds (app_of command.entry)) }
     ensures local { IfOk result (λ all. (fields_of all).has_globals ≡ false) }
 {
-    let fed = with_word(
-        command,
-        feeds(
-            alloc,
-            "The feeds: CSV files, 1 to 64; with --store none to 64",
-        ),
-    )?;
-    let shared = with_word(with_ring(alloc, fed)?, builders(alloc))?;
-    let store = store(
+    let fed = with_feeds(
         alloc,
+        command,
+        "The feeds: CSV files, 1 to 64; with --store none to 64",
+    )?;
+    let shared = with_threads(alloc, with_word(fed, builders(alloc))?)?;
+    with_store(
+        alloc,
+        shared,
         "Takes the changes that this file keeps of `datacube live` after the feeds, and changes none",
-    );
-    with_store(alloc, with_threads(alloc, shared)?, store)
+    )
+}
+
+// A command with the feeds and the options for how they are read behind its words.
+fn with_feeds<'a>(
+    alloc: Global,
+    command: Command<'a>,
+    help: &'a str,
+) -> Result<Command<'a>, AllocError>
+    requires { (fields_of command).has_globals ≡ false }
+    ensures line { IfOk result (λ all. app_of all
+        ≡ with_rule (with_rule (with_rule (app_of command.entry) feed_words) ring_option) shard_option) }
+    ensures local { IfOk result (λ all. (fields_of all).has_globals ≡ false) }
+{
+    with_ring(alloc, with_word(command, feeds(alloc, help))?)
 }
 
 // A command with the options for the capacity of the rings and for the share of the feeds behind its words.
@@ -436,15 +480,13 @@ fn with_threads<'a>(alloc: Global, command: Command<'a>) -> Result<Command<'a>, 
 fn with_store<'a>(
     alloc: Global,
     command: Command<'a>,
-    store: Arg<'a>,
+    help: &'a str,
 ) -> Result<Command<'a>, AllocError>
-    requires local { (fields_of command).has_globals ≡ false }
-    requires rule { rule_of store ≡ store_option }
-    requires own { store.global ≡ false }
+    requires { (fields_of command).has_globals ≡ false }
     ensures line { IfOk result (λ all. app_of all ≡ with_store (app_of command.entry)) }
     ensures local { IfOk result (λ all. (fields_of all).has_globals ≡ false) }
 {
-    with_word(with_word(command, store)?, wary(alloc))
+    with_word(with_word(command, store(alloc, help))?, wary(alloc))
 }
 
 // A command with the options to read all cubes first and for no progress behind its words.

@@ -6,6 +6,5 @@ use Rattle.cube_words.proofs.command_line.print_command.Goals as goal
 
 pub returns-clause-line : goal.returns-clause-line
 returns-clause-line c =
-    let named = c.in_ok-with_word.ensures.line ∙ ap₂ with_rule c.described-command.ensures.line c.schema.ensures.rule in
-    let fed = c.in_ok-fed.ensures.line ∙ ap with_feeds named in
-    IfOk-weaker c.with_word-2.result _ _ (λ command made. made ∙ ap₂ with_rule fed c.partial-partial.ensures.rule) c.with_word-2.ensures.line
+    let fed = c.in_ok-fed.ensures.line ∙ ap with_feeds c.in_ok-command.ensures.line in
+    IfOk-weaker c.with_word.result _ _ (λ command made. made ∙ ap₂ with_rule fed c.partial-partial.ensures.rule) c.with_word.ensures.line

@@ -6,7 +6,6 @@ use Rattle.cube_words.proofs.command_line.rollup_command.Goals as goal
 
 pub returns-clause-line : goal.returns-clause-line
 returns-clause-line c =
-    let schema = c.in_ok-with_word.ensures.line ∙ ap₂ with_rule c.described-command.ensures.line c.schema.ensures.rule in
-    let named = c.in_ok-named.ensures.line ∙ ap₂ with_rule schema c.cell-cell.ensures.rule in
-    let along = c.in_ok-with_word-2.ensures.line ∙ ap₂ with_rule named c.dimension-dimension.ensures.rule in
+    let named = c.in_ok-named.ensures.line ∙ ap₂ with_rule c.in_ok-command.ensures.line c.cell-cell.ensures.rule in
+    let along = c.in_ok-with_word.ensures.line ∙ ap₂ with_rule named c.dimension-dimension.ensures.rule in
     IfOk-weaker c.with_all_feeds.result _ _ (λ command made. made ∙ ap with_feeds along) c.with_all_feeds.ensures.line
