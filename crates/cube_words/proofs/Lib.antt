@@ -1,2 +1,3 @@
 mod CommandLineLaws
+mod CommandLineSteps
 mod RequestLaws

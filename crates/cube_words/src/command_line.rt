@@ -1,5 +1,5 @@
 //! The command line as clap reads it: the commands, their words and options, and what their help says.
-ghost use Rattle.std.specs.Prelude.{◌≡◌, [], IfOk, false};
+ghost use Rattle.std.specs.Prelude.{◌≡◌, [], IfOk, IsOkAnd, false};
 ghost use Rattle.clap.specs.Words.{app_of, new_app, rule_of, shape_of, with_rule, with_subcommand};
 ghost use Rattle.clap.specs.declared.builder.command.Command.TheViews.{out-Command as fields_of};
 ghost use Rattle.cube_words.specs.CommandLine.{builders_option, cell_word, check_line, check_option, code_word, command_line, dimension_word, drill_line, explain_line, feed_words, flag, live_line, merge_line, merged_words, named_line, needed_word, number_option, partial_option, print_line, quiet_option, refusals_line, ring_option, rollup_line, schema_word, shard_option, slice_line, some_words, store_option, text_option, threads_option, wary_option, with_feeds, with_prints, with_sessions, with_store, with_views};
@@ -195,27 +195,27 @@ pub(crate) fn program<'a>(alloc: Global) -> Result<Command<'a>, AllocError>
 fn with_prints<'a>(alloc: Global, line: Command<'a>) -> Result<Command<'a>, AllocError>
     ensures { IfOk result (λ all. app_of all ≡ with_prints (app_of line.entry)) }
 {
-    let checking = with_command(line, check_command(alloc)?)?;
-    let printing = with_command(checking, print_command(alloc)?)?;
-    with_command(printing, refusals_command(alloc)?)
+    let checking = with_command(line, check_command(alloc))?;
+    let printing = with_command(checking, print_command(alloc))?;
+    with_command(printing, refusals_command(alloc))
 }
 
 // The command line with the commands for parts of a cube.
 fn with_views<'a>(alloc: Global, line: Command<'a>) -> Result<Command<'a>, AllocError>
     ensures { IfOk result (λ all. app_of all ≡ with_views (app_of line.entry)) }
 {
-    let slicing = with_command(line, slice_command(alloc)?)?;
-    let drilling = with_command(slicing, drill_command(alloc)?)?;
-    with_command(drilling, rollup_command(alloc)?)
+    let slicing = with_command(line, slice_command(alloc))?;
+    let drilling = with_command(slicing, drill_command(alloc))?;
+    with_command(drilling, rollup_command(alloc))
 }
 
 // The command line with the commands for sessions, for printed cubes and for codes.
 fn with_sessions<'a>(alloc: Global, line: Command<'a>) -> Result<Command<'a>, AllocError>
     ensures { IfOk result (λ all. app_of all ≡ with_sessions (app_of line.entry)) }
 {
-    let living = with_command(line, live_command(alloc)?)?;
-    let merging = with_command(living, merge_command(alloc)?)?;
-    with_command(merging, explain_command(alloc)?)
+    let living = with_command(line, live_command(alloc))?;
+    let merging = with_command(living, merge_command(alloc))?;
+    with_command(merging, explain_command(alloc))
 }
 
 // The program's own settings.
@@ -252,12 +252,16 @@ fn over_schema<'a>(
     with_word(described(alloc, name, about, after), schema(alloc))
 }
 
-// The command line with one more command.
-fn with_command<'a>(line: Command<'a>, command: Command<'a>) -> Result<Command<'a>, AllocError>
-    requires { (fields_of command).has_globals ≡ false }
-    ensures { IfOk result (λ all. app_of all ≡ with_subcommand (app_of line.entry) (shape_of command.entry)) }
+// The command line with one more command, where that could be made.
+fn with_command<'a>(
+    line: Command<'a>,
+    command: Result<Command<'a>, AllocError>,
+) -> Result<Command<'a>, AllocError>
+    requires { IfOk command (λ made. (fields_of made).has_globals ≡ false) }
+    ensures { IfOk result (λ all. IsOkAnd command.entry
+        (λ made. app_of all ≡ with_subcommand (app_of line.entry) (shape_of made))) }
 {
-    line.subcommand(command)
+    line.subcommand(command?)
 }
 
 // A command with one more word or option.
