@@ -9,9 +9,9 @@ use cube_core::{Item, Schema};
 use cube_engine::{Builder, build_ledger, build_plain};
 use cube_feed::Feed;
 use std::alloc::{AllocError, Global};
-use std::fs;
 use std::rt::Files;
 use std::time::CpuClock;
+use std::{fs, mem};
 
 const SCHEMA: &str =
     "dimensions = ['a', 'b']\nmeasures = ['m']\naggregates = ['count(*)', 'sum(m)', 'max(m)']\n";
@@ -39,13 +39,23 @@ fn check<R: Print + AllocGlobal>(rt: &R) -> Result<()> {
     let schema = Schema::from_toml(rt.alloc(), SCHEMA.as_bytes())?;
     let mut readers = Vec::new(rt.alloc());
     readers.push(FEED.as_bytes())?;
-    let Ok(builder) = build_plain(rt.alloc(), &schema, readers) else {
-        return Err(anyhow!("a feed at fault"));
-    };
-    let facts = builder.facts();
-    let rows = builder.cube().rows()?.len();
+    let (facts, rows) = counts_of(rt.alloc(), &schema, readers)?;
     println!(rt; "{facts} facts, {rows} rows")?;
     Ok(())
+}
+
+// How many facts the feeds have, and how many rows the cube of these.
+fn counts_of(alloc: Global, schema: &Schema, readers: Vec<&[u8]>) -> Result<(u64, usize)> {
+    ensure!(readers.len() <= 64, "at most 64 feeds");
+    match build_plain(alloc, schema, readers) {
+        Ok(builder) => Ok((builder.facts(), rows_of(&builder)?)),
+        Err(_) => Err(anyhow!("a feed at fault")),
+    }
+}
+
+fn rows_of(builder: &Builder) -> Result<usize, AllocError> {
+    let rows = builder.cube().rows()?;
+    Ok(rows.len())
 }
 
 // Times the ledger of feeds alone, then the builder of the same feeds, whose cube is filled in the end, and then a
@@ -89,15 +99,24 @@ fn time_builder<R: Print + AllocGlobal + CpuClock>(
     schema: &Schema,
     readers: Vec<&[u8]>,
 ) -> Result<u128> {
-    ensure!(readers.len() <= 64, "at most 64 feeds");
     let start = cpu_nanos(rt)?;
-    let Ok(builder) = build_plain(rt.alloc(), schema, readers) else {
-        return Err(anyhow!("a feed at fault"));
-    };
+    let facts = facts_of(rt.alloc(), schema, readers)?;
     let nanos = nanos_since(rt, start)?;
-    let facts = builder.facts();
     println!(rt; "{facts} facts")?;
     Ok(nanos / NANOS_IN_MILLISECOND)
+}
+
+// How many facts the feeds have, by a builder that isn't taken apart, so that no time goes into that.
+fn facts_of(alloc: Global, schema: &Schema, readers: Vec<&[u8]>) -> Result<u64> {
+    ensure!(readers.len() <= 64, "at most 64 feeds");
+    match build_plain(alloc, schema, readers) {
+        Ok(builder) => {
+            let facts = builder.facts();
+            mem::forget(builder);
+            Ok(facts)
+        }
+        Err(_) => Err(anyhow!("a feed at fault")),
+    }
 }
 
 fn time_changes<R: AllocGlobal + CpuClock>(
