@@ -230,6 +230,7 @@ def refusals_in_turn(trials):
         trials.trial(f"writes failing in turn: {name}", lambda: trials.in_turn("write", words, [r"G6 \d+"], given))
         trials.trial(f"writes that take nothing: {name}", lambda: trials.in_turn("none", words, [r"G6 \d+"], given))
         trials.trial(f"threads refused in turn: {name}", lambda: trials.in_turn("thread", words, [r"G2"], given))
+        trials.trial(f"random bytes refused: {name}", lambda: trials.in_turn("chance", words, [r"no random key"], given))
         trials.trial(f"one byte a read: {name}", lambda: short(program, words, given, "read 1"))
         trials.trial(f"one byte a write: {name}", lambda: short(program, words, given, "write 1"))
     many = ["print", "--ring", "1", "--builders", "8", "schema.toml", *files]

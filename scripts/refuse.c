@@ -6,6 +6,7 @@
      write   a write to standard output fails
      none    a write to standard output takes nothing
      thread  no thread is started
+     chance  no random bytes are given
    SHORT="KIND N": each read, or each write to standard output, moves at most N bytes.
    TOLD: the number of a file that gets one byte when a call was refused. */
 #define _GNU_SOURCE
@@ -24,7 +25,7 @@ extern void *__libc_calloc(size_t, size_t);
 extern void *__libc_realloc(void *, size_t);
 extern void *__libc_memalign(size_t, size_t);
 
-enum kind { NOTHING, ALLOC, READ, WRITE, NONE, THREAD };
+enum kind { NOTHING, ALLOC, READ, WRITE, NONE, THREAD, CHANCE };
 
 static enum kind refused, shortened;
 static long at, most;
@@ -32,8 +33,8 @@ static int told = -1, is_ready;
 static atomic_long seen;
 
 static enum kind kind_of(const char *word) {
-    static const char *names[] = {"", "alloc", "read", "write", "none", "thread"};
-    for (int i = ALLOC; i <= THREAD; i++) {
+    static const char *names[] = {"", "alloc", "read", "write", "none", "thread", "chance"};
+    for (int i = ALLOC; i <= CHANCE; i++) {
         size_t length = strlen(names[i]);
         if (!strncmp(word, names[i], length) && word[length] == ' ')
             return i;
@@ -106,6 +107,12 @@ ssize_t write(int file, const void *from, size_t size) {
             size = most;
     }
     return syscall(SYS_write, file, from, size);
+}
+
+int getentropy(void *to, size_t size) {
+    if (is_it(CHANCE))
+        return (int)refusal(ENOSYS);
+    return syscall(SYS_getrandom, to, size, 0) == (long)size ? 0 : -1;
 }
 
 int pthread_create(pthread_t *thread, const pthread_attr_t *how, void *(*call)(void *), void *given) {

@@ -2,13 +2,13 @@
 use crate::facts::item_of;
 use crate::script::{Printout, words_of};
 use anyhow::{Result, bail};
-use cube_core::{Change, Fact, Schema, Text};
+use cube_core::{Change, Fact, HashKey, Schema, Text};
 use cube_engine::{Book, BookFault, Delta};
 use std::alloc::{AllocError, Global};
 
 /// Does the calls on a book.
 pub fn run(alloc: Global, schema: &Schema, calls: &str, out: &mut Printout) -> Result<()> {
-    let mut book = Book::new(alloc);
+    let mut book = Book::new(alloc, HashKey::Known);
     for call in calls.lines() {
         out.next_line();
         obey(alloc, schema, &mut book, call, out)?;

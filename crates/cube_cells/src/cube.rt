@@ -25,7 +25,7 @@ mod workers;
 
 use crate::cell::Cell;
 use codes::{ALL, Codes};
-use cube_core::{Coord, DimensionValues, Fact, Key, Schema};
+use cube_core::{Coord, DimensionValues, Fact, HashKey, Key, Schema};
 use dictionary::Dictionary;
 pub use keyed::{CoordRef, KeyedCell};
 pub use ordered::{OrderedCells, row_of};
@@ -91,7 +91,7 @@ impl Cube {
         ensures new { IfOk result (IsNewLattice schema sets.items) }
         ensures cube { IfOk result (λ cube. IsCubeOf cube []) }
     {
-        let dictionaries = new_dictionaries(alloc, schema.dimensions().len())?;
+        let dictionaries = new_dictionaries(alloc, schema.hash_key(), schema.dimensions().len())?;
         let cells = new_cells(alloc, schema.measures().len(), has_total(&sets))?;
         Ok(Cube {
             schema,
@@ -236,12 +236,16 @@ fn has_total(sets: &[u8]) -> bool
     sets.iter().any(|set| *set == 0)
 }
 
-fn new_dictionaries(alloc: Global, dimensions: usize) -> Result<Vec<Dictionary>, AllocError>
+fn new_dictionaries(
+    alloc: Global,
+    key: HashKey,
+    dimensions: usize,
+) -> Result<Vec<Dictionary>, AllocError>
     ensures { IfOk result (λ dictionaries. dictionaries.items ≡ replicate dimensions []) }
 {
     let mut dictionaries = Vec::with_capacity(alloc, dimensions)?;
     for place in 0..dimensions {
-        dictionaries.push(Dictionary::new(alloc))?;
+        dictionaries.push(Dictionary::new(alloc, key))?;
     }
     Ok(dictionaries)
 }

@@ -1,6 +1,7 @@
 pub mod Stored
 pub mod Values
 pub mod Shard
+pub mod HashKey
 pub mod Layout
 pub mod PartialForm
 pub mod SchemaDocument

@@ -35,6 +35,7 @@ impl Schema {
             grouping_sets: Vec::from_slice(alloc, &self.grouping_sets)?,
             version: self.version,
             shard: self.shard,
+            hash_key: self.hash_key,
         })
     }
 }

@@ -10,6 +10,7 @@ use crate::aggregate::Agg;
 use crate::change::Change;
 use crate::dimension_values::{DimensionValues, text_of};
 use crate::fact::Fact;
+use crate::hash_key::HashKey;
 use crate::key::{Coord, Key};
 use crate::partial::{Field, Partial};
 use crate::shard::Shard;
@@ -31,6 +32,7 @@ pub struct Schema {
     pub(crate) grouping_sets: Vec<u8>,
     pub(crate) version: u32,
     pub(crate) shard: Shard,
+    pub(crate) hash_key: HashKey,
 }
 
 impl Model for Schema {
@@ -81,6 +83,7 @@ impl Schema {
             grouping_sets: sample_sets(alloc)?,
             version: 1,
             shard: Shard::whole(),
+            hash_key: HashKey::Known,
         })
     }
 
@@ -97,6 +100,7 @@ impl Schema {
             grouping_sets: Vec::from_slice(alloc, &self.grouping_sets)?,
             version: self.version,
             shard: self.shard,
+            hash_key: self.hash_key,
         })
     }
 
@@ -173,6 +177,21 @@ impl Schema {
     {
         let mut schema = self;
         schema.shard = shard;
+        schema
+    }
+
+    /// The key under which books and dictionaries over this schema hash ids and texts. It is no part of what the schema
+    /// says: schemas that differ in it alone are the same.
+    pub fn hash_key(&self) -> HashKey {
+        self.hash_key
+    }
+
+    /// The same schema, with another key to hash by. A schema that was read has the known one.
+    pub fn with_hash_key(self, key: HashKey) -> Schema
+        ensures { result ≡ self }
+    {
+        let mut schema = self;
+        schema.hash_key = key;
         schema
     }
 

@@ -10,6 +10,7 @@ ghost use Rattle.cube_core.specs.SchemaDocument.{AnswersBytes, AnswersDocument, 
 mod grouping;
 
 use crate::aggregate::Agg;
+use crate::hash_key::HashKey;
 use crate::schema::Schema;
 use crate::schema_fault::SchemaFault;
 use crate::shard::Shard;
@@ -80,6 +81,7 @@ fn schema_of(alloc: Global, document: &Table) -> Result<Schema, SchemaFault>
         grouping_sets,
         version,
         shard: Shard::whole(),
+        hash_key: HashKey::Known,
     })
 }
 

@@ -1,6 +1,6 @@
 -- Cubes of parts that follow the books by the facts that came and those that are gone.
 use Rattle.std.proofs.Common.{◌≡◌, ◌<◌, ◌≤◌, ◌+◌, ◌∙◌, ℕ, true, false, List, [], ◌∷◌, ◌++◌, length, get_or, drop, append_assoc, sym, ap, subst, refl, arith, inl, inr, length-append}
-use Rattle.std.specs.Prelude.{◌||◌, not, Bool, Option, Some, None, Ok, Err, Result, IfSome, IsSome, OnOk, OnErr, All}
+use Rattle.std.specs.Prelude.{◌||◌, not, Bool, Option, Some, None, Ok, Err, Result, IfSome, IsSome, OnOk, OnErr}
 use Rattle.std.specs.Option.{option_to_list}
 use Rattle.std.specs.List.Sorted.{IsPermutation}
 use Rattle.std.proofs.lemmas.List.{append-nil, drop_more, drop_all, get_or_append_left}
@@ -15,7 +15,7 @@ use Rattle.cube_core.specs.declared.fact.Fact.{Fact}
 use Rattle.cube_cells.specs.Cube.{HoldsFact, IsCubeOf, Lattice, SameSets, TakesFact}
 use Rattle.cube_engine.specs.Builder.{GainsFacts, HasFacts}
 use Rattle.cube_engine.specs.Ledger.{AllFit, AtSource, Exchanges, LedgerView, all_facts, with_refusal}
-use Rattle.cube_engine.specs.Parted.{AllFill, AllSettle, AreBehind, ArePartsOver, ArePartsWith, IsPartBehind, IsPartOver, LosesFacts, MaySettle, Settles}
+use Rattle.cube_engine.specs.Parted.{AllFill, AllSettle, AreBehind, ArePartsOver, ArePartsWith, IsPartOver, LosesFacts, MaySettle, Settles}
 use Rattle.cube_engine.specs.declared.parted.Part.{Part}
 use Rattle.cube_engine.proofs.BuilderLaws.{AllFit-exchange, HasFacts-permutation, HasFacts-remove, HoldsFact-HasFacts, SameSets-trans, all_facts-exchange, all_facts-refuse}
 use Rattle.cube_engine.proofs.LedgerLaws.{AllFit-come, All-append_left, All-append_right, swap-front}

@@ -1,5 +1,5 @@
 -- The books of all sources, and the cubes of the parts of the grouping sets, which are behind the books by the facts that wait (this project's choice).
-use Rattle.std.specs.Prelude.{◌≡◌, ◌≤◌, ◌<◌, ◌++◌, ℕ, Bool, false, List, length, get_or, Option}
+use Rattle.std.specs.Prelude.{◌≡◌, ◌≤◌, ◌<◌, ◌++◌, ℕ, false, List, length, get_or, Option}
 use Rattle.std.specs.Option.{option_to_list}
 use Rattle.std.specs.List.Sorted.{IsPermutation}
 use Rattle.cube_core.specs.GroupingSet.{sets_of_part}

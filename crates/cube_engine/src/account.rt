@@ -7,7 +7,7 @@ ghost use Rattle.cube_engine.specs.Ledger.{AllFit, Enters, Exchanges, IsRuling, 
 use crate::book::{Book, BookFault};
 use crate::code::{absent_code, code_by_presence, code_of_fault, id_of, present_code};
 use crate::ruling::Ruling;
-use cube_core::{Change, Fact, Item, LineFault, Refusal, Schema, Text};
+use cube_core::{Change, Fact, HashKey, Item, LineFault, Refusal, Schema, Text};
 use std::alloc::{AllocError, Global};
 use std::marker::Model;
 
@@ -28,11 +28,11 @@ impl Model for Account {
 
 impl Account {
     /// The account of a source of which no item came; it takes no memory.
-    pub fn new(alloc: Global) -> Account
+    pub fn new(alloc: Global, key: HashKey) -> Account
         ensures { result ≡ new_account }
     {
         Account {
-            book: Book::new(alloc),
+            book: Book::new(alloc, key),
             refusals: Vec::new(alloc),
         }
     }

@@ -4,16 +4,15 @@ ghost use Rattle.std.specs.Option.{option_map};
 ghost use Rattle.cube_core.specs.Life.{id_of};
 ghost use Rattle.cube_engine.specs.Book.{AmendsAlike, GainsEntry, IsBook, Makes, Replaces, Takes, Explains, fact_at, fact_put, facts_of};
 
-use cube_core::{Change, Fact, Partial, Text};
+use cube_core::{Change, Fact, HashKey, Partial, Text};
 use std::alloc::{AllocError, Global};
 use std::collections::HashMap;
 use std::collections::hash_map::{Entry, Values};
-use std::hash::{BuildHasherDefault, DefaultHasher};
 use std::marker::Model;
 use std::mem::replace;
 use thiserror::Error;
 
-type Facts = HashMap<Text, Fact, BuildHasherDefault<DefaultHasher>>;
+type Facts = HashMap<Text, Fact, HashKey>;
 
 /// What a change took out of a book, and a copy of what it put in.
 #[derive(Debug, Drop)]
@@ -38,7 +37,7 @@ pub enum BookFault {
 
 /// The facts of one source, each under its id.
 ///
-/// The ids are hashed by SipHash, since whoever writes a feed chooses them: ids that collide can't be made up readily.
+/// The ids are hashed by SipHash under a key that is given, since whoever writes a feed chooses them.
 #[derive(Drop)]
 pub struct Book {
     alloc: Global,
@@ -57,12 +56,12 @@ impl Model for Book {
 
 impl Book {
     /// A book without facts; it takes no memory.
-    pub fn new(alloc: Global) -> Book
+    pub fn new(alloc: Global, key: HashKey) -> Book
         ensures { result ≡ [] }
     {
         Book {
             alloc,
-            facts: HashMap::with_hasher(alloc, BuildHasherDefault::new()),
+            facts: HashMap::with_hasher(alloc, key),
         }
     }
 

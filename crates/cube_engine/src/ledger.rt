@@ -8,7 +8,7 @@ ghost use Rattle.cube_engine.specs.Ledger.{AllFit, AtSource, Enters, Exchanges, 
 use crate::account::Account;
 use crate::code::{says_taken, shape_code};
 use crate::ruling::Ruling;
-use cube_core::{Change, Fact, Item, LineFault, Refusal, Schema, Text};
+use cube_core::{Change, Fact, HashKey, Item, LineFault, Refusal, Schema, Text};
 use std::alloc::{AllocError, Global};
 use std::marker::Model;
 
@@ -41,7 +41,7 @@ impl Ledger {
         Ok(Ledger {
             alloc,
             schema: schema.copy(alloc)?,
-            accounts: new_accounts(alloc, sources)?,
+            accounts: new_accounts(alloc, schema.hash_key(), sources)?,
         })
     }
 
@@ -196,12 +196,12 @@ impl Ledger {
 }
 
 // An account for each of so many sources.
-fn new_accounts(alloc: Global, sources: u32) -> Result<Vec<Account>, AllocError>
+fn new_accounts(alloc: Global, key: HashKey, sources: u32) -> Result<Vec<Account>, AllocError>
     ensures { IfOk result (λ accounts. accounts.items ≡ replicate sources new_account) }
 {
     let mut accounts = Vec::new(alloc);
     for _ in 0..sources {
-        accounts.push(Account::new(alloc))?;
+        accounts.push(Account::new(alloc, key))?;
     }
     Ok(accounts)
 }

@@ -13,7 +13,7 @@ use Rattle.cube_tool.specs.declared.fault.RunFault.TheVariants as run_fault
 use Rattle.cube_tool.specs.declared.command.status.Status.{Status}
 use Rattle.cube_tool.specs.declared.command.status.Status.TheVariants.{Done, Failed, WrongWords, WrongSchema, LinesRefused}
 use Rattle.cube_tool.specs.declared.command.failure.Failure.{Failure}
-use Rattle.cube_tool.specs.declared.command.failure.Failure.TheVariants.{Unreadable, Schema, TooManyFeeds, InputTaken, FeedUnreadable, Query, UnknownCode, Run, Session, TooManyCubes, SamePath, Merge}
+use Rattle.cube_tool.specs.declared.command.failure.Failure.TheVariants.{Unreadable, Schema, TooManyFeeds, InputTaken, NoRandomKey, FeedUnreadable, Query, UnknownCode, Run, Session, TooManyCubes, SamePath, Merge}
 
 -- the number of a status
 abbrev pub status_code : Status → ℕ
@@ -29,6 +29,7 @@ status_of Unreadable = WrongSchema
 status_of (Schema fault) = WrongSchema
 status_of TooManyFeeds = WrongWords
 status_of InputTaken = WrongWords
+status_of NoRandomKey = Failed
 status_of (FeedUnreadable source) = Failed
 status_of (Query fault) = WrongWords
 status_of UnknownCode = WrongWords

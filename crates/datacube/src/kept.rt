@@ -4,7 +4,9 @@ ghost use Rattle.cube_core.specs.Shard.{IsShard};
 ghost use Rattle.cube_words.specs.CommandLine.{HasRoom, LiveHasRoom};
 
 use crate::watch::Watch;
-use crate::{Asked, open_feed, open_schema, question_of, schema_of, session_threads, settings_of};
+use crate::{
+    Asked, drawn_key, open_feed, open_schema, question_of, schema_of, session_threads, settings_of,
+};
 use cube_core::Shard;
 use cube_journal::FeedNote;
 use cube_progress::{Counts, FeedReader, Output, Phase, Progress};
@@ -56,6 +58,7 @@ fn serve_over<T: Threads + Wait + Clock + Sync, S: Start>(
 {
     let alloc = rt.alloc();
     let schema = schema_of(rt, words.schema, &words.feeds, 0)?.with_shard(shard);
+    let schema = schema.with_hash_key(drawn_key(rt)?);
     let (feeds, notes) = noted_feeds(rt, words.schema, &words.feeds, progress.counts())?;
     let store = open_store(rt, path, start)?;
     let wanted = session_threads(threads, words.threads);
@@ -112,6 +115,7 @@ fn ask_over<T: Threads + Wait + Clock + Sync, S: Start>(
 {
     let alloc = rt.alloc();
     let schema = schema_of(rt, words.schema, &words.feeds, 1)?.with_shard(shard);
+    let schema = schema.with_hash_key(drawn_key(rt)?);
     let question = question_of(rt, &schema, asked)?;
     let (feeds, notes) = noted_feeds(rt, words.schema, &words.feeds, progress.counts())?;
     let store = open_made_store(rt, path, start)?;

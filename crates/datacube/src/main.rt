@@ -12,7 +12,7 @@ mod watch;
 
 use crate::kept::{ask_kept, serve_kept};
 use crate::watch::Watch;
-use cube_core::{Schema, Shard};
+use cube_core::{HashKey, Schema, Shard};
 use cube_progress::{Counts, CubeReader, FeedReader, Output, Phase, Progress};
 use cube_threads::Settings;
 use cube_tool::command::{
@@ -169,7 +169,7 @@ fn obey_words<T: Threads + Wait + Clock + Sync>(
 {
     let alloc = rt.alloc();
     match request {
-        Request::Sample => Ok(run_sample(alloc, rt.stdin(), &mut rt.stdout())?),
+        Request::Sample => Ok(print_sample(rt)?),
         Request::Check { schema } => Ok(check(alloc, open_schema(rt, schema)?, &mut rt.stdout())?),
         Request::Explain { code } => Ok(explain_code(rt, *code)?),
         Request::Print { run, partial } => {
@@ -205,6 +205,19 @@ fn obey_words<T: Threads + Wait + Clock + Sync>(
         }
         Request::Live { live } => serve(rt, threads, live, shard, progress),
         Request::Merge { merge } => Ok(merge_files(rt, merge, progress)?),
+    }
+}
+
+/// Prints the cube of standard input under the sample schema.
+fn print_sample(rt: &HostRuntime) -> Result<Status, Failure> {
+    run_sample(rt.alloc(), drawn_key(rt)?, rt.stdin(), &mut rt.stdout())
+}
+
+/// A key of the run's own, under which ids and texts are hashed.
+fn drawn_key(rt: &HostRuntime) -> Result<HashKey, Failure> {
+    match HashKey::drawn(rt) {
+        Ok(key) => Ok(key),
+        Err(_) => Err(Failure::NoRandomKey),
     }
 }
 
@@ -273,6 +286,7 @@ fn answer_fed<T: Threads + Wait + Clock + Sync>(
     requires shard { IsShard shard }
 {
     let schema = schema_of(rt, words.schema, &words.feeds, 1)?.with_shard(shard);
+    let schema = schema.with_hash_key(drawn_key(rt)?);
     if let Asked::Cube { is_partial: true } = asked {
         let partial = schema.partial(rt.alloc())?;
         return answer_under(rt, threads, words, &partial, asked, progress);
@@ -406,6 +420,7 @@ fn serve_fed<T: Threads + Wait + Clock + Sync>(
     requires shard { IsShard shard }
 {
     let schema = schema_of(rt, words.schema, &words.feeds, 0)?.with_shard(shard);
+    let schema = schema.with_hash_key(drawn_key(rt)?);
     let feeds = open_feeds(rt, &words.feeds, progress.counts())?;
     let wanted = session_threads(threads, words.threads);
     let settings = settings_of(threads, words.ring, 1, wanted);

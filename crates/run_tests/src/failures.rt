@@ -1,7 +1,7 @@
 //! Commands whose readers and writers fail, and the lines of failures that no command can be made to show.
 use crate::texts::run_texts;
 use crate::writers::{Full, Narrow};
-use cube_core::{Schema, SchemaFault};
+use cube_core::{HashKey, Schema, SchemaFault};
 use cube_threads::OpenGate;
 use cube_tool::command::{Failure, answer_words, check, run_sample};
 use cube_tool::{RunFault, WriteFault};
@@ -37,7 +37,7 @@ fn a_failed_write_tells_how_much_went_out(rt: HostRuntime) -> Result<(), Fail> {
     let ten = RunFault::Write { sent: 10 };
     let mut out = writer_of(alloc, 10);
     assert_eq!(rt;
-        run_sample(alloc, FEED.as_bytes(), &mut out),
+        run_sample(alloc, HashKey::Known, FEED.as_bytes(), &mut out),
         Err(Failure::Run(ten))
     );
     assert_eq!(rt; out.taken.as_slice(), b"region,kin".as_slice());

@@ -11,19 +11,18 @@ ghost use Rattle.cube_cells.specs.Keyed.{referred_coord};
 
 use super::codes::{ALL, NONE, NULL};
 use super::keyed::CoordRef;
-use cube_core::{Coord, Text};
+use cube_core::{Coord, HashKey, Text};
 use indexmap::IndexSet;
 use std::alloc::{AllocError, Global};
 use std::cmp::Ordering;
-use std::hash::{BuildHasherDefault, DefaultHasher};
 use std::marker::Model;
 
 /// The different texts of a dimension, in the order in which they came.
 ///
-/// They are hashed by SipHash, since whoever writes a feed chooses them: texts that collide can't be made up readily.
+/// They are hashed by SipHash under a key that the schema brings, since whoever writes a feed chooses them.
 #[derive(Drop)]
 pub struct Dictionary {
-    texts: IndexSet<String, BuildHasherDefault<DefaultHasher>>,
+    texts: IndexSet<String, HashKey>,
 }
 
 impl Model for Dictionary {
@@ -40,11 +39,11 @@ impl Model for Dictionary {
 
 impl Dictionary {
     /// No text; it takes no memory.
-    pub fn new(alloc: Global) -> Dictionary
+    pub fn new(alloc: Global, key: HashKey) -> Dictionary
         ensures { result ≡ [] }
     {
         Dictionary {
-            texts: IndexSet::with_hasher(alloc, BuildHasherDefault::new()),
+            texts: IndexSet::with_hasher(alloc, key),
         }
     }
 

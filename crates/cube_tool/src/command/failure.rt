@@ -22,6 +22,8 @@ pub enum Failure {
     TooManyFeeds,
     /// Standard input, `-`, was asked for more often than it can be read.
     InputTaken,
+    /// The system had no random bytes to draw a key by, under which ids and texts are hashed.
+    NoRandomKey,
     /// The file of a feed couldn't be opened; its source is counted from 1.
     FeedUnreadable { source: u32 },
     /// The cell, the pattern or the dimension that was asked for is refused.
@@ -53,7 +55,8 @@ impl Failure {
             | Failure::UnknownCode
             | Failure::TooManyCubes
             | Failure::SamePath { input: _ } => Status::WrongWords,
-            Failure::FeedUnreadable { source: _ }
+            Failure::NoRandomKey
+            | Failure::FeedUnreadable { source: _ }
             | Failure::Run(_)
             | Failure::Session(_)
             | Failure::Merge(_) => Status::Failed,
@@ -149,6 +152,7 @@ impl fmt::Display for Failure {
             Failure::Schema(fault) => write!(f, "{fault}"),
             Failure::TooManyFeeds => f.write_str("too many feeds"),
             Failure::InputTaken => f.write_str("standard input is taken"),
+            Failure::NoRandomKey => f.write_str("no random key"),
             Failure::FeedUnreadable { source } => write!(f, "feed {source} unreadable"),
             Failure::Query(fault) => write!(f, "{fault}"),
             Failure::UnknownCode => f.write_str("unknown code"),

@@ -364,7 +364,14 @@ pub const NOTES: [Note; 49] = [
 ];
 
 /// The codes of sessions, of cubes to merge, and of what their words may lack.
-pub const LATER_NOTES: [Note; 13] = [
+pub const LATER_NOTES: [Note; 14] = [
+    Note {
+        code: "no random key",
+        about: "program",
+        means: "The system gave no random bytes, so that no key could be drawn under which ids and texts are hashed. No feed was read.",
+        mend: "Let the program call `getentropy`.",
+        example: "",
+    },
     Note {
         code: "Q1",
         about: "session",

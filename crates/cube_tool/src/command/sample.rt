@@ -9,16 +9,17 @@ use crate::command::status::{Status, status_after};
 use crate::fault::RunFault;
 use crate::question::Question;
 use crate::runs::run_plain;
-use cube_core::{Schema, SchemaFault};
+use cube_core::{HashKey, Schema, SchemaFault};
 use std::alloc::{AllocError, Global};
 use std::io::{Read, Write};
 
-/// Writes the printed cube of a feed under the sample schema, on the caller's thread.
+/// Writes the printed cube of a feed under the sample schema, on the caller's thread; ids and texts are hashed under the key.
 ///
 /// The status tells whether a line of the feed was refused. Nothing was written on a failure, but where the writing
 /// failed: then the first bytes went out, as many as the failure says.
 pub fn run_sample<R: Read + Drop, W: Write>(
     alloc: Global,
+    key: HashKey,
     feed: R,
     out: &mut W,
 ) -> Result<Status, Failure>
@@ -34,6 +35,7 @@ pub fn run_sample<R: Read + Drop, W: Write>(
     let Ok(readers) = only(alloc, feed) else {
         return Err(Failure::Run(RunFault::Memory));
     };
+    let schema = schema.with_hash_key(key);
     let builder = run_plain(alloc, &schema, readers, out)?;
     Ok(status_after(builder.ledger()))
 }

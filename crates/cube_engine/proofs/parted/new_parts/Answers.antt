@@ -1,5 +1,5 @@
-use Rattle.std.proofs.Common.{◌≡◌, ◌∷◌, [], length, sym, subst, ap, ◌∙◌, false, rules}
-use Rattle.cube_engine.specs.Parted.{ArePartsOver, IsPartOver}
+use Rattle.std.proofs.Common.{length, ap, ◌∙◌, false, rules}
+use Rattle.cube_engine.specs.Parted.{IsPartOver}
 use Rattle.cube_engine.specs.declared.parted.Part.{Part}
 use Rattle.cube_engine.proofs.PartedLaws.{ArePartsOver-more}
 use Rattle.cube_engine.proofs.parted.new_parts.Goals as goal

@@ -1,4 +1,4 @@
-use Rattle.std.proofs.lemmas.Result.{on_ok_weaker, on_err_weaker}
+use Rattle.std.proofs.lemmas.Result.{on_err_weaker}
 use Rattle.cube_cells.proofs.WalkLaws.{OnOk-both}
 use Rattle.cube_engine.proofs.TakingLaws.{ledger-further, ledger-same}
 use Rattle.cube_engine.proofs.taking.LedgerTakesItems.take_item.Goals as goal
