@@ -157,6 +157,7 @@ FailsToAnswer-Answers question failure.Unreadable old new some builds answers = 
 FailsToAnswer-Answers question (failure.Schema fault) old new some builds answers = absurd answers
 FailsToAnswer-Answers question failure.TooManyFeeds old new some builds answers = absurd answers
 FailsToAnswer-Answers question failure.InputTaken old new some builds answers = absurd answers
+FailsToAnswer-Answers question failure.NoRandomKey old new some builds answers = absurd answers
 FailsToAnswer-Answers question (failure.FeedUnreadable source) old new some builds answers = absurd answers
 FailsToAnswer-Answers question failure.UnknownCode old new some builds answers = absurd answers
 FailsToAnswer-Answers question (failure.Session fault) old new some builds answers = absurd answers

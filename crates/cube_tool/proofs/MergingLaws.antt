@@ -7,7 +7,7 @@ use Rattle.cube_merge.specs.Merging.{IsMergeOf}
 use Rattle.cube_merge.specs.declared.fault.MergeFault.TheVariants as fault
 use Rattle.cube_tool.specs.MergingCubes.{CanBeMerged, CheckFails, MergeLeaves}
 use Rattle.cube_tool.specs.declared.command.failure.Failure.{Failure}
-use Rattle.cube_tool.specs.declared.command.failure.Failure.TheVariants.{Unreadable, Schema, TooManyFeeds, InputTaken, FeedUnreadable, Query, UnknownCode, Run, Session, TooManyCubes, SamePath, Merge}
+use Rattle.cube_tool.specs.declared.command.failure.Failure.TheVariants.{Unreadable, Schema, TooManyFeeds, InputTaken, NoRandomKey, FeedUnreadable, Query, UnknownCode, Run, Session, TooManyCubes, SamePath, Merge}
 
 -- what was merged can be
 pub CanBeMerged-merged : (given wanted : Layout) (texts : List (Option (List ℕ))) (old new : Option (List ℕ)) → IsMergeOf given wanted texts old new → CanBeMerged given wanted texts
@@ -38,6 +38,7 @@ CheckFails-leaves given wanted texts Unreadable old new leaves = absurd leaves
 CheckFails-leaves given wanted texts (Schema why) old new leaves = absurd leaves
 CheckFails-leaves given wanted texts TooManyFeeds old new leaves = absurd leaves
 CheckFails-leaves given wanted texts InputTaken old new leaves = absurd leaves
+CheckFails-leaves given wanted texts NoRandomKey old new leaves = absurd leaves
 CheckFails-leaves given wanted texts (FeedUnreadable source) old new leaves = absurd leaves
 CheckFails-leaves given wanted texts (Query why) old new leaves = absurd leaves
 CheckFails-leaves given wanted texts UnknownCode old new leaves = absurd leaves

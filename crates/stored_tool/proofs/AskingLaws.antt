@@ -25,7 +25,7 @@ use Rattle.cube_tool.specs.Command.{status_after}
 use Rattle.cube_tool.specs.Faults.{fault_of_feeding, fault_of_text}
 use Rattle.cube_tool.specs.Run.{OfFeeds, WroteFirst}
 use Rattle.cube_tool.specs.declared.command.failure.Failure.{Failure}
-use Rattle.cube_tool.specs.declared.command.failure.Failure.TheVariants.{Unreadable, Schema, TooManyFeeds, InputTaken, FeedUnreadable, Query, UnknownCode, Run, Session, TooManyCubes, SamePath, Merge}
+use Rattle.cube_tool.specs.declared.command.failure.Failure.TheVariants.{Unreadable, Schema, TooManyFeeds, InputTaken, NoRandomKey, FeedUnreadable, Query, UnknownCode, Run, Session, TooManyCubes, SamePath, Merge}
 use Rattle.cube_tool.specs.declared.command.status.Status.{Status}
 use Rattle.cube_tool.specs.declared.fault.RunFault.TheVariants as run_fault
 use Rattle.cube_tool.specs.declared.fault.TextFault.{TextFault}
@@ -136,6 +136,7 @@ module _ (s : Layout) (sources : Told) (was : View) (before after : LiveView) (o
   leaves-of question (Schema fault) old new fails = absurd fails
   leaves-of question TooManyFeeds old new fails = absurd fails
   leaves-of question InputTaken old new fails = absurd fails
+  leaves-of question NoRandomKey old new fails = absurd fails
   leaves-of question (FeedUnreadable source) old new fails = absurd fails
   leaves-of question (Query fault) old new fails = (fails.0, opens.good, fails.1)
   leaves-of question UnknownCode old new fails = absurd fails
