@@ -45,6 +45,7 @@ schema unreadable
 feed unreadable
 too many feeds
 unknown code
+no random key
 Q1
 Q2
 Q3
