@@ -18,7 +18,7 @@ use Rattle.cube_cells.specs.Fill.{AreMadeFrom, AreMadeLevels, ArePushed, FillsSe
 use Rattle.cube_cells.specs.Tally.{Tally, PlusTally, SameTally}
 use Rattle.cube_cells.specs.Walk.{AreApart, key_in, weight_of_cells}
 use Rattle.cube_cells.specs.declared.cube.codes.Codes.{Codes}
-use Rattle.cube_cells.specs.declared.cube.fill.Level.{Level}
+use Rattle.cube_cells.specs.declared.cube.levels.Level.{Level}
 use Rattle.cube_cells.proofs.KeptLaws.{All-coded_at}
 use Rattle.cube_cells.proofs.WalkLaws.{same_codes-exact, same_codes-IsEquivalence, coded_at-set, weight-set, weigh, bag_at-replicate}
 

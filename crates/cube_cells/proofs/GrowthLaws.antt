@@ -206,7 +206,7 @@ set_weight-key_in dictionaries fact codes set other all has valid below =
     ap (λ (cs : List Coord). if mask_of_coords cs == set then 1 else 0) coords ∙ ap (λ (m : ℕ). if m == set then 1 else 0) (mask_of_coords-ancestor_of fact.dims other below)
 
 -- ---- sets have codes of their own
-coord_of_value-all_code : (texts : List (List ℕ)) (value : Option (List ℕ)) (code : ℕ) → IsCodeOf texts (coord_of_value value) code → code ≡ all_code → ⊥
+pub coord_of_value-all_code : (texts : List (List ℕ)) (value : Option (List ℕ)) (code : ℕ) → IsCodeOf texts (coord_of_value value) code → code ≡ all_code → ⊥
 coord_of_value-all_code texts None code of same = cc ((of.alone all_code refl).1 (sym same))
 coord_of_value-all_code texts (Some text) code of same = cc ((of.alone all_code refl).1 (sym same))
 

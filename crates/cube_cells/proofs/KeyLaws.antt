@@ -242,7 +242,7 @@ is_in-is_kept_for dictionaries sets fact codes key other all has valid below of 
     both_ways (is_kept_for sets fact key) unkept (ap (is_kept_for sets fact) is ∙ kept))
 
 -- ---- the grand total
-is_all_coord-coord_at : (texts : List (List ℕ)) (code : ℕ) → is_code texts code ≡ true → IsDictionary texts → is_all_coord (coord_at texts code) ≡ (code == all_code)
+pub is_all_coord-coord_at : (texts : List (List ℕ)) (code : ℕ) → is_code texts code ≡ true → IsDictionary texts → is_all_coord (coord_at texts code) ≡ (code == all_code)
 is_all_coord-coord_at texts code valid is = elim (is_code-cases texts code valid) [
   | inl all ↦ rw all refl
   | inr rest ↦ elim rest [

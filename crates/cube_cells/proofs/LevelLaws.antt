@@ -1,17 +1,17 @@
 -- Laws of levels: each that is made has all facts, and so have the cells of all of them together.
-use Rattle.std.proofs.Common.{◌≡◌, ℕ, ◌+◌, ◌*◌, ◌^◌, ◌<◌, ◌≤◌, ◌==◌, ◌⊎◌, List, [], ◌∷◌, ◌++◌, Bool, true, false, ◌&&◌, ◌||◌, refl, sym, ap, ◌∙◌, subst, arith, inl, inr, length, map, append_assoc, Option, Some, None, if◌then◌else◌}
+use Rattle.std.proofs.Common.{◌≡◌, ℕ, ◌+◌, ◌*◌, ◌^◌, ◌<◌, ◌≤◌, ◌==◌, ◌⊎◌, List, [], ◌∷◌, ◌++◌, Bool, true, false, ◌&&◌, ◌||◌, refl, sym, ap, ◌∙◌, subst, arith, inl, inr, length, map, get_or, append_assoc, Option, Some, None, if◌then◌else◌}
 use Rattle.std.specs.Prelude.{All, IfSome, IsSome, is_some, bit_and}
 use Rattle.std.specs.List.{AllByRecursion, IsDistinct, list_any}
-use Rattle.std.specs.List.Sorted.{IsPermutation, IsStrictlySortedBy}
+use Rattle.std.specs.List.Sorted.{IsNonDecreasingBy, IsPermutation, IsStrictlySortedBy}
 use Rattle.std.specs.Map.{keys_of}
 use Rattle.std.specs.Ordering.{nat_cmp, eq_by_cmp}
-use Rattle.std.proofs.lemmas.Bool.{cases_Bool, cases_eq, cases_lt, and_parts, or_cases, both_ways, eqb-true, ne_eqb, false_from_ne_true}
-use Rattle.std.proofs.lemmas.List.{append-nil, map-append}
+use Rattle.std.proofs.lemmas.Bool.{cases_Bool, cases_lt, cases_order, and_parts, or_cases, both_ways, eqb-true, eq-eqb, ne_eqb, false_from_ne_true}
+use Rattle.std.proofs.lemmas.List.{append-nil, get_or-map, length-map, map-append}
 use Rattle.std.proofs.lemmas.List.Elements.{All-head, All-tail, All-nil, All-cons, All-append, All-contains, All-push, All-weaker, Contains-push, recursion_from_All}
-use Rattle.std.proofs.lemmas.List.Sorted.{All-permutation, Contains-permutation, IsPermutation-sym, IsPermutation-append_left, list_any-IsPermutation, sum_by-IsPermutation}
+use Rattle.std.proofs.lemmas.List.Sorted.{All-permutation, IsPermutation-append_left, IsPermutation-map, IsPermutation-trans, list_any-IsPermutation}
 use Rattle.std.proofs.lemmas.List.Sums.{sum_by-append, sum_by-cons}
-use Rattle.std.proofs.lemmas.Cmp.{nat_eq_equiv}
-use Rattle.std.proofs.lemmas.Map.Keys.{IsDistinct-IsPermutation, IsDistinct-cons, IsDistinct-head, IsDistinct-tail}
+use Rattle.std.proofs.lemmas.Cmp.{nat_cmp_total, nat_eq_equiv}
+use Rattle.std.proofs.lemmas.Map.Keys.{IsDistinct-IsPermutation, apart_from_distinct, sorted_from_all_adjacent, sorted_from_strictly_increasing}
 use Rattle.std.proofs.lemmas.Map.Views.{Contains-from_lookup, lookup-from_Contains}
 use Rattle.std.proofs.lemmas.Nat.{and_comm, and_le_l, and_mask}
 use Rattle.std.proofs.Math.Nat.{mod-eq_of_lt}
@@ -26,62 +26,21 @@ use Rattle.cube_core.specs.declared.key.Key.{Key}
 use Rattle.cube_cells.specs.Codes.{Dictionaries, key_at}
 use Rattle.cube_cells.specs.Coded.{CodedCells, IsCoded, IsCodedCell, same_codes, coded_at, decoded, lattice_of, total_codes}
 use Rattle.cube_cells.specs.Cube.{IsCubeOf, cell_at, count_in}
-use Rattle.cube_cells.specs.Fill.{AreFilled, IsCubeOfAll, IsFiner, MakesLevels, finest_set, joined_cells}
+use Rattle.cube_cells.specs.Fill.{AreFilled, IsCubeOfAll, IsFiner, MakesLevels, MakesLevelsOf, finest_set}
+use Rattle.cube_cells.specs.Levels.{IsLeveled, IsOfOneSet, cells_of, mask_of_codes, sets_of}
 use Rattle.cube_cells.specs.Tally.{Tally, IsTallyOf}
 use Rattle.cube_cells.specs.Walk.{AreApart, weight_of_cells}
 use Rattle.cube_cells.specs.declared.cube.codes.Codes.{Codes}
-use Rattle.cube_cells.specs.declared.cube.fill.Level.{Level}
+use Rattle.cube_cells.specs.declared.cube.levels.Level.{Level}
 use Rattle.cube_cells.proofs.CodedLaws.{IsCoded-width}
 use Rattle.cube_cells.proofs.FilledLaws.{HaveAll, IsBase, cell_at-key_at, HaveAll-AreMadeFrom}
-use Rattle.cube_cells.proofs.GrowthLaws.{IsStrictlySortedBy-head, IsStrictlySortedBy-tail, count_in-weight_of_cells, set_weight}
-use Rattle.cube_cells.proofs.JoinLaws.{AreApart-IsPermutation}
+use Rattle.cube_cells.proofs.GrowthLaws.{is_among-below, IsStrictlySortedBy-head, IsStrictlySortedBy-tail, count_in-weight_of_cells, set_weight}
+use Rattle.cube_cells.proofs.JoinLaws.{AreApart-append, AreApart-nil, cell_at-append, coded_at-append, either, is_some-either}
 use Rattle.cube_cells.proofs.KeptLaws.{All-coded_at}
-use Rattle.cube_cells.proofs.KeyLaws.{look_up-coded, no_cell-width, key-HasCodes}
+use Rattle.cube_cells.proofs.KeyLaws.{IsCodedCell-coded_at}
+use Rattle.cube_cells.proofs.RankLaws.{nat_cmp-Less}
+use Rattle.cube_cells.proofs.TableLaws.{mask_of_coords-mask_of_codes}
 use Rattle.cube_cells.proofs.WalkLaws.{same_codes-IsEquivalence, same_codes-exact}
-
--- ---- cells of two lists
--- the first that is there
-abbrev either : Option Tally → Option Tally → Option Tally
-either None b = b
-either (Some t) b = Some t
-
-pub coded_at-append : (a b : CodedCells) (k : Codes) → coded_at (a ++ b) k ≡ either (coded_at a k) (coded_at b k)
-coded_at-append [] b k = refl
-coded_at-append (e ∷ a) b k = elim (cases_Bool (same_codes k e.0)) [
-  | inl same ↦ rw same refl
-  | inr other ↦ rw other (coded_at-append a b k)
-]
-
-cell_at-append : (dictionaries : Dictionaries) (a b : CodedCells) (key : Key) → cell_at (decoded dictionaries (a ++ b)) key ≡ either (cell_at (decoded dictionaries a) key) (cell_at (decoded dictionaries b) key)
-cell_at-append dictionaries [] b key = refl
-cell_at-append dictionaries (e ∷ a) b key = elim (cases_Bool (eq_by_cmp key_cmp key (key_at dictionaries e.0.codes))) [
-  | inl same ↦ rw same refl
-  | inr other ↦ rw other (cell_at-append dictionaries a b key)
-]
-
-is_some-either : (a b : Option Tally) → is_some (either a b) ≡ (is_some a || is_some b)
-is_some-either None b = refl
-is_some-either (Some t) b = refl
-
--- codes that no cell has differ from those of each
-keys_of-coded_at : (k : Codes) (cells : CodedCells) → coded_at cells k ≡ None → AllByRecursion (λ y. same_codes k y ≡ false) (keys_of cells)
-keys_of-coded_at k [] none = tt
-keys_of-coded_at k (e ∷ cells) none = elim (cases_Bool (same_codes k e.0)) [
-  | inl same ↦ cc (sym (rw same at none))
-  | inr other ↦ (other, keys_of-coded_at k cells (rw other at none))
-]
-
-AllByRecursion-keys_of_append : (k : Codes) (a b : CodedCells) → AllByRecursion (λ y. same_codes k y ≡ false) (keys_of a) → AllByRecursion (λ y. same_codes k y ≡ false) (keys_of b) → AllByRecursion (λ y. same_codes k y ≡ false) (keys_of (a ++ b))
-AllByRecursion-keys_of_append k [] b in_a in_b = in_b
-AllByRecursion-keys_of_append k (e ∷ a) b in_a in_b = (in_a.0, AllByRecursion-keys_of_append k a b in_a.1 in_b)
-
-AreApart-append : (a b : CodedCells) → AreApart a → AreApart b → All (λ cell. coded_at b cell.0 ≡ None) a → AreApart (a ++ b)
-AreApart-append [] b of_a of_b none = of_b
-AreApart-append (e ∷ a) b of_a of_b none =
-    let P : Codes × Tally → Type 0 = λ cell. coded_at b cell.0 ≡ None in
-    IsDistinct-cons same_codes e.0 (keys_of (a ++ b))
-    (AllByRecursion-keys_of_append e.0 a b (IsDistinct-head same_codes e.0 (keys_of a) of_a) (keys_of-coded_at e.0 b (All-head P e a none)))
-    (AreApart-append a b (IsDistinct-tail same_codes e.0 (keys_of a) of_a) of_b (All-tail P e a none))
 
 -- ---- cells of other sets
 -- the set of a cell that is found is one of the sets
@@ -175,58 +134,6 @@ HaveAll-append schema dictionaries facts set sets a b base other of_a of_b = rec
     both : (s : ℕ) → weight_of_cells (set_weight dictionaries s) (a ++ b) ≡ weight_of_cells (set_weight dictionaries s) a + weight_of_cells (set_weight dictionaries s) b
     both s = sum_by-append (λ (cell : Codes × Tally). set_weight dictionaries s cell.0 * cell.1.facts) a b
 
--- ---- in another order
-coded_at-IsPermutation : (a b : CodedCells) (k : Codes) → IsPermutation a b → AreApart a → coded_at b k ≡ coded_at a k
-coded_at-IsPermutation a b k moved apart = by_found (coded_at a k) refl (coded_at b k) refl where
-  in_b : (t : Tally) → coded_at a k ≡ Some t → coded_at b k ≡ Some t
-  in_b t found = lookup-from_Contains same_codes-IsEquivalence k t b (AreApart-IsPermutation a b moved apart) (Contains-permutation a b (k, t) moved (Contains-from_lookup same_codes-exact k t a found))
-
-  in_a : (t : Tally) → coded_at b k ≡ Some t → coded_at a k ≡ Some t
-  in_a t found = lookup-from_Contains same_codes-IsEquivalence k t a apart (Contains-permutation b a (k, t) (IsPermutation-sym a b moved) (Contains-from_lookup same_codes-exact k t b found))
-
-  by_found : (o : Option Tally) → coded_at a k ≡ o → (p : Option Tally) → coded_at b k ≡ p → coded_at b k ≡ coded_at a k
-  by_found (Some t) of_a p of_b = in_b t of_a ∙ sym of_a
-  by_found None of_a None of_b = of_b ∙ sym of_a
-  by_found None of_a (Some t) of_b = cc (sym of_a ∙ in_a t of_b)
-
-cell_at-IsPermutation : (schema : Layout) (dictionaries : Dictionaries) (facts : List Fact) (a b : CodedCells) (key : Key) → IsBase schema dictionaries facts → IsPermutation a b → AreApart a → All (IsCodedCell dictionaries (length schema.measures)) a → cell_at (decoded dictionaries b) key ≡ cell_at (decoded dictionaries a) key
-cell_at-IsPermutation schema dictionaries facts a b key base moved apart each = elim (cases_eq (length key.coords) (length dictionaries)) [
-  | inl same ↦
-      let found = key-HasCodes dictionaries key base.texts same (omega (arith, base.width, base.is_schema.dimensions_at_most)) in
-      look_up-coded dictionaries (length schema.measures) b key found.0 found.1 (All-permutation (IsCodedCell dictionaries (length schema.measures)) a b moved each)
-      ∙ coded_at-IsPermutation a b found.0 moved apart
-      ∙ sym (look_up-coded dictionaries (length schema.measures) a key found.0 found.1 each)
-  | inr other ↦ no_cell-width dictionaries b key other ∙ sym (no_cell-width dictionaries a key other)
-]
-
-HaveAll-IsPermutation : (schema : Layout) (dictionaries : Dictionaries) (facts : List Fact) (sets : List ℕ) (a b : CodedCells) → IsBase schema dictionaries facts → IsPermutation a b → HaveAll schema dictionaries facts sets a → HaveAll schema dictionaries facts sets b
-HaveAll-IsPermutation schema dictionaries facts sets a b base moved of_a = record {
-  distinct = AreApart-IsPermutation a b moved of_a.distinct;
-  each = All-permutation (IsCodedCell dictionaries (length schema.measures)) a b moved of_a.each;
-  total = λ among. rw (coded_at-IsPermutation a b total_codes moved of_a.distinct) (of_a.total among);
-  counts = λ set among.
-      omega (arith, count_in-weight_of_cells dictionaries set b, count_in-weight_of_cells dictionaries set a, of_a.counts set among, sum_by-IsPermutation (λ (cell : Codes × Tally). set_weight dictionaries set cell.0 * cell.1.facts) a b moved);
-  keys = λ key. ap is_some (same key) ∙ of_a.keys key;
-  tallies = λ key. rw (same key) (of_a.tallies key);
-} where
-  same : (key : Key) → cell_at (decoded dictionaries b) key ≡ cell_at (decoded dictionaries a) key
-  same key = cell_at-IsPermutation schema dictionaries facts a b key base moved of_a.distinct of_a.each
-
--- the same sets in another order
-HaveAll-IsPermutation_sets : (schema : Layout) (dictionaries : Dictionaries) (facts : List Fact) (sets others : List ℕ) (cells : CodedCells) → IsPermutation sets others → HaveAll schema dictionaries facts sets cells → HaveAll schema dictionaries facts others cells
-HaveAll-IsPermutation_sets schema dictionaries facts sets others cells moved of_sets = record {
-  distinct = of_sets.distinct;
-  each = of_sets.each;
-  total = λ among. of_sets.total (sym (same 0) ∙ among);
-  counts = λ set among. of_sets.counts set (sym (same set) ∙ among);
-  keys = λ key.
-      let n : ℕ = length schema.dimensions in
-      of_sets.keys key ∙ ap (λ (b : Bool). b && (is_total n key || list_any (covers key) facts)) (sym (same (mask_of key)));
-  tallies = of_sets.tallies;
-} where
-  same : (set : ℕ) → is_among set others ≡ is_among set sets
-  same set = sym (list_any-IsPermutation (λ (other : ℕ). other == set) sets others moved)
-
 -- ---- one level after another
 -- a level has all facts in its set
 pub record IsLevel (schema : Layout) (dictionaries : Dictionaries) (facts : List Fact) (level : Level) : Type 0 where
@@ -247,9 +154,6 @@ IsLevel-MakesLevels schema dictionaries facts finest (set ∷ sets) old new base
     IsLevel-MakesLevels schema dictionaries facts finest sets (old ++ makes.1 ∷ []) new base first makes.6 (All-push P old makes.1 all level)
 
 -- the sets of the levels that are made
-abbrev sets_of : List Level → List ℕ
-sets_of levels = map (λ level. level.set) levels
-
 sets_of-MakesLevels : (measures : ℕ) (finest : Level) (sets : List ℕ) (old new : List Level) → MakesLevels measures finest sets old new → sets_of new ≡ sets_of old ++ sets
 sets_of-MakesLevels measures finest [] old new makes = ap sets_of makes ∙ sym (append-nil (sets_of old))
 sets_of-MakesLevels measures finest (set ∷ sets) old new makes =
@@ -277,20 +181,84 @@ is_same_set-IsDistinct (set ∷ sets) ascending = (
 is_same_set-sym : (a b : ℕ) → is_same_set a b ≡ is_same_set b a
 is_same_set-sym a b = nat_eq_equiv.symm b a
 
--- ---- all levels together
-HaveAll-joined_cells : (schema : Layout) (dictionaries : Dictionaries) (facts : List Fact) (levels : List Level) (sets : List ℕ) (others : CodedCells) → IsBase schema dictionaries facts → All (IsLevel schema dictionaries facts) levels → HaveAll schema dictionaries facts sets others → IsDistinct is_same_set (sets_of levels ++ sets) → HaveAll schema dictionaries facts (sets_of levels ++ sets) (joined_cells levels others)
-HaveAll-joined_cells schema dictionaries facts [] sets others base all of_others once = of_others
-HaveAll-joined_cells schema dictionaries facts (level ∷ levels) sets others base all of_others once =
-    let P : Level → Type 0 = IsLevel schema dictionaries facts in
-    HaveAll-append schema dictionaries facts level.set (sets_of levels ++ sets) level.cells.entries (joined_cells levels others) base
-    (is_among-is_same_set level.set (sets_of levels ++ sets) (IsDistinct-head is_same_set level.set (sets_of levels ++ sets) once))
-    (All-head P level levels all).all
-    (HaveAll-joined_cells schema dictionaries facts levels sets others base (All-tail P level levels all) of_others (IsDistinct-tail is_same_set level.set (sets_of levels ++ sets) once))
+-- what is in order of all of them is these sets
+same_sets : (xs ys : List ℕ) → IsStrictlySortedBy nat_cmp xs → IsStrictlySortedBy nat_cmp ys → ((set : ℕ) → is_among set xs ≡ is_among set ys) → xs ≡ ys
+same_sets [] [] up_x up_y same = refl
+same_sets [] (y ∷ ys) up_x up_y same = cc (same y ∙ ap (λ (b : Bool). b || is_among y ys) (eq-eqb y y refl))
+same_sets (x ∷ xs) [] up_x up_y same = cc (sym (same x) ∙ ap (λ (b : Bool). b || is_among x xs) (eq-eqb x x refl))
+same_sets (x ∷ xs) (y ∷ ys) up_x up_y same = elim (cases_order x y) [
+  | inl is ↦
+      let none_x : is_among x xs ≡ false = is_among-below x xs (IsStrictlySortedBy-head x xs up_x) in
+      let none_y : is_among x ys ≡ false = subst (λ (s : ℕ). is_among s ys ≡ false) (sym is) (is_among-below y ys (IsStrictlySortedBy-head y ys up_y)) in
+      let rest : xs ≡ ys = same_sets xs ys (IsStrictlySortedBy-tail x xs up_x) (IsStrictlySortedBy-tail y ys up_y) (λ set. elim (cases_Bool (x == set)) [
+        | inl here ↦
+            let at : x ≡ set = eqb-true x set here in
+            rw (← at, none_x, none_y) refl
+        | inr other ↦ rw (other, rw is at other) at (same set)
+      ]) in
+      rw (is, rest) refl
+  | inr rest ↦ elim rest [
+    | inl less ↦ cc (sym (apart x y ys less up_y) ∙ sym (same x) ∙ ap (λ (b : Bool). b || is_among x xs) (eq-eqb x x refl))
+    | inr more ↦ cc (sym (apart y x xs more up_x) ∙ same y ∙ ap (λ (b : Bool). b || is_among y ys) (eq-eqb y y refl))
+  ]
+] where
+  apart : (s t : ℕ) (ts : List ℕ) → s < t → IsStrictlySortedBy nat_cmp (t ∷ ts) → is_among s (t ∷ ts) ≡ false
+  apart s t ts less up = is_among-below s (t ∷ ts) (All-cons (λ other. s < other) t ts less (All-weaker (λ other. t < other) (λ other. s < other) (λ other more. omega (arith, less, more)) ts (IsStrictlySortedBy-head t ts up)))
 
+-- levels in the order of their sets
+IsStrictlySortedBy-sets_of : (levels : List Level) → IsDistinct is_same_set (sets_of levels) → IsNonDecreasingBy (λ level. level.set) levels → IsStrictlySortedBy nat_cmp (sets_of levels)
+IsStrictlySortedBy-sets_of [] distinct up = sorted_from_strictly_increasing [] (λ k inside. absurd (omega (arith, inside)))
+IsStrictlySortedBy-sets_of (first ∷ levels) distinct up = sorted_from_all_adjacent nat_cmp_total sets 0 (λ k inside.
+    let more : k + 1 < length all = omega (arith, inside, length-map all (λ (l : Level). l.set)) in
+    let least : (get_or all k first).set ≤ (get_or all (k + 1) first).set = up k (k + 1) first (omega arith) more in
+    let here : get_or sets k 0 ≡ (get_or all k first).set = get_or-map (λ (l : Level). l.set) all k first 0 (omega (arith, more)) in
+    let next : get_or sets (k + 1) 0 ≡ (get_or all (k + 1) first).set = get_or-map (λ (l : Level). l.set) all (k + 1) first 0 more in
+    let apart : is_same_set (get_or sets k 0) (get_or sets (k + 1) 0) ≡ false = apart_from_distinct is_same_set sets k (k + 1) 0 distinct (omega arith) inside in
+    let other : get_or sets (k + 1) 0 ≡ get_or sets k 0 → ⊥ = λ same. both_ways (is_same_set (get_or sets k 0) (get_or sets (k + 1) 0)) apart (eq-eqb (get_or sets (k + 1) 0) (get_or sets k 0) same) in
+    nat_cmp-Less (get_or sets k 0) (get_or sets (k + 1) 0) (below (cases_lt (get_or sets k 0) (get_or sets (k + 1) 0)) other (omega (arith, least, here, next)))) where
+  all : List Level
+  all = first ∷ levels
+
+  sets : List ℕ
+  sets = sets_of (first ∷ levels)
+
+  below : {x y : ℕ} → (x < y) ⊎ (y ≤ x) → (y ≡ x → ⊥) → x ≤ y → x < y
+  below (inl less) other least = less
+  below (inr past) other least = absurd (other (omega (arith, past, least)))
+
+-- levels that are made, put in order
+pub AreFilled-in_order : (finest : Level) (sets coarser : List ℕ) (measures : ℕ) (keeps_finest : Bool) (made levels : List Level) → IsStrictlySortedBy nat_cmp sets → sets ≡ coarser ++ (if keeps_finest then finest.set ∷ [] else []) → MakesLevelsOf measures finest coarser made → IsPermutation (made ++ (if keeps_finest then finest ∷ [] else [])) levels → IsNonDecreasingBy (λ level. level.set) levels → AreFilled finest sets measures levels
+AreFilled-in_order finest sets coarser measures keeps_finest made levels ascending are makes moved up = record {
+  keeps_finest = keeps_finest;
+  coarser = coarser;
+  made = made;
+  coarser_are = are;
+  makes = makes;
+  moved = moved;
+  sets_are = same_sets (sets_of levels) sets (IsStrictlySortedBy-sets_of levels distinct up) ascending (λ set. sym (list_any-IsPermutation (λ (other : ℕ). other == set) sets (sets_of levels) turned));
+} where
+  kept : (b : Bool) → sets_of (if b then finest ∷ [] else []) ≡ (if b then finest.set ∷ [] else [])
+  kept true = refl
+  kept false = refl
+
+  names : sets_of (made ++ (if keeps_finest then finest ∷ [] else [])) ≡ makes.order ++ (if keeps_finest then finest.set ∷ [] else [])
+  names =
+      map-append (λ (level : Level). level.set) made (if keeps_finest then finest ∷ [] else [])
+      ∙ ap (λ (xs : List ℕ). xs ++ sets_of (if keeps_finest then finest ∷ [] else [])) (sets_of-MakesLevels measures finest makes.order [] made makes.makes)
+      ∙ ap (λ (xs : List ℕ). makes.order ++ xs) (kept keeps_finest)
+
+  turned : IsPermutation sets (sets_of levels)
+  turned =
+      let first : IsPermutation sets (sets_of (made ++ (if keeps_finest then finest ∷ [] else []))) = rw (names, are) (IsPermutation-append_left (if keeps_finest then finest.set ∷ [] else []) coarser makes.order makes.moved) in
+      IsPermutation-trans _ _ _ first (IsPermutation-map (λ (level : Level). level.set) (made ++ (if keeps_finest then finest ∷ [] else [])) levels moved)
+
+  distinct : IsDistinct is_same_set (sets_of levels)
+  distinct = IsDistinct-IsPermutation is_same_set is_same_set-sym sets (sets_of levels) turned (is_same_set-IsDistinct sets ascending)
+
+-- ---- all levels together
 HaveAll-nil : (schema : Layout) (dictionaries : Dictionaries) (facts : List Fact) → HaveAll schema dictionaries facts [] []
-unfolding IsDistinct
 HaveAll-nil schema dictionaries facts = record {
-  distinct = tt;
+  distinct = AreApart-nil;
   each = All-nil (IsCodedCell dictionaries (length schema.measures));
   total = λ among. cc among;
   counts = λ set among. cc among;
@@ -298,47 +266,57 @@ HaveAll-nil schema dictionaries facts = record {
   tallies = λ key. tt;
 }
 
+HaveAll-cells_of : (schema : Layout) (dictionaries : Dictionaries) (facts : List Fact) (levels : List Level) → IsBase schema dictionaries facts → All (IsLevel schema dictionaries facts) levels → IsStrictlySortedBy nat_cmp (sets_of levels) → HaveAll schema dictionaries facts (sets_of levels) (cells_of levels)
+HaveAll-cells_of schema dictionaries facts [] base all ascending = HaveAll-nil schema dictionaries facts
+HaveAll-cells_of schema dictionaries facts (level ∷ levels) base all ascending =
+    let P : Level → Type 0 = IsLevel schema dictionaries facts in
+    HaveAll-append schema dictionaries facts level.set (sets_of levels) level.cells.entries (cells_of levels) base
+    (is_among-below level.set (sets_of levels) (IsStrictlySortedBy-head level.set (sets_of levels) ascending))
+    (All-head P level levels all).all
+    (HaveAll-cells_of schema dictionaries facts levels base (All-tail P level levels all) (IsStrictlySortedBy-tail level.set (sets_of levels) ascending))
+
+-- the codes of a level are of its set
+IsOfOneSet-IsLevel : (schema : Layout) (dictionaries : Dictionaries) (facts : List Fact) (level : Level) → IsBase schema dictionaries facts → IsLevel schema dictionaries facts level → IsOfOneSet level
+IsOfOneSet-IsLevel schema dictionaries facts level base is = All-coded_at (λ cell. mask_of_codes cell.0.codes ≡ level.set) level.cells.entries is.all.distinct (λ codes t found.
+    let mask : ℕ = mask_of (key_at dictionaries codes.codes) in
+    let among : is_among mask (level.set ∷ []) ≡ true = is_among-coded_at schema dictionaries facts (level.set ∷ []) level.cells.entries codes t base is.all found in
+    let same : level.set ≡ mask = elim (or_cases (level.set == mask) false among) [
+      | inl here ↦ eqb-true level.set mask here
+      | inr never ↦ cc never
+    ] in
+    let valid = (IsCodedCell-coded_at dictionaries (length schema.measures) level.cells.entries codes t is.all.each found).codes in
+    sym (same ∙ mask_of_coords-mask_of_codes dictionaries codes.codes base.texts valid))
+
 -- the cells of all sets are the cube of the facts
-IsCubeOf-AreFilled : (schema : Layout) (sets : List ℕ) (number : ℕ) (dictionaries : Dictionaries) (finest : Level) (cells : CodedCells) (facts : List Fact) → All (λ set. set < 2 ^ length schema.dimensions) sets → IsStrictlySortedBy nat_cmp sets → IsBase schema dictionaries facts → IsLevel schema dictionaries facts finest → number ≡ length facts → AreFilled finest sets (length schema.measures) cells → IsCoded schema sets number dictionaries cells × IsCubeOf (lattice_of schema sets number dictionaries cells) facts
-IsCubeOf-AreFilled schema sets number dictionaries finest cells facts within ascending base first count filled = (
-  coded,
+IsCubeOf-AreFilled : (schema : Layout) (sets : List ℕ) (number : ℕ) (dictionaries : Dictionaries) (finest : Level) (levels : List Level) (facts : List Fact) → All (λ set. set < 2 ^ length schema.dimensions) sets → IsStrictlySortedBy nat_cmp sets → IsBase schema dictionaries facts → IsLevel schema dictionaries facts finest → number ≡ length facts → AreFilled finest sets (length schema.measures) levels → IsLeveled schema sets number dictionaries levels × IsCubeOf (lattice_of schema sets number dictionaries (cells_of levels)) facts
+IsCubeOf-AreFilled schema sets number dictionaries finest levels facts within ascending base first count filled = (
+  record { coded = coded; tables = record { sets_are = filled.sets_are; each = each } },
   record {
     keys = all.keys;
     tallies = all.tallies;
-    widths = IsCoded-width schema sets number dictionaries cells coded;
+    widths = IsCoded-width schema sets number dictionaries (cells_of levels) coded;
   },
 ) where
-  kept : List ℕ
-  kept = if filled.keeps_finest then finest.set ∷ [] else []
+  P : Level → Type 0
+  P = IsLevel schema dictionaries facts
 
-  start : CodedCells
-  start = if filled.keeps_finest then finest.cells.entries else []
+  kept : (b : Bool) → All P (if b then finest ∷ [] else [])
+  kept true = All-cons P finest [] first (All-nil P)
+  kept false = All-nil P
 
-  of_start : HaveAll schema dictionaries facts kept start
-  of_start = by_kept filled.keeps_finest where
-    by_kept : (b : Bool) → HaveAll schema dictionaries facts (if b then finest.set ∷ [] else []) (if b then finest.cells.entries else [])
-    by_kept true = first.all
-    by_kept false = HaveAll-nil schema dictionaries facts
+  made : All P filled.made
+  made = IsLevel-MakesLevels schema dictionaries facts finest filled.makes.order [] filled.made base first filled.makes.makes (All-nil P)
 
-  names : sets_of filled.levels ≡ filled.made.order
-  names = sets_of-MakesLevels (length schema.measures) finest filled.made.order [] filled.levels filled.made.makes
+  are : All P levels
+  are = All-permutation P (filled.made ++ (if filled.keeps_finest then finest ∷ [] else [])) levels filled.moved (All-append P filled.made (if filled.keeps_finest then finest ∷ [] else []) made (kept filled.keeps_finest))
 
-  moved : IsPermutation (sets_of filled.levels ++ kept) sets
-  moved = rw (names, filled.sets_are) (IsPermutation-append_left kept filled.made.order filled.coarser (IsPermutation-sym filled.coarser filled.made.order filled.made.moved))
+  each : All IsOfOneSet levels
+  each = All-weaker P IsOfOneSet (λ level is. IsOfOneSet-IsLevel schema dictionaries facts level base is) levels are
 
-  once : IsDistinct is_same_set (sets_of filled.levels ++ kept)
-  once = IsDistinct-IsPermutation is_same_set is_same_set-sym sets (sets_of filled.levels ++ kept) (IsPermutation-sym (sets_of filled.levels ++ kept) sets moved) (is_same_set-IsDistinct sets ascending)
+  all : HaveAll schema dictionaries facts sets (cells_of levels)
+  all = rw filled.sets_are at (HaveAll-cells_of schema dictionaries facts levels base are (rw filled.sets_are ascending))
 
-  levels : All (IsLevel schema dictionaries facts) filled.levels
-  levels = IsLevel-MakesLevels schema dictionaries facts finest filled.made.order [] filled.levels base first filled.made.makes (All-nil (IsLevel schema dictionaries facts))
-
-  together : HaveAll schema dictionaries facts sets (joined_cells filled.levels start)
-  together = HaveAll-IsPermutation_sets schema dictionaries facts (sets_of filled.levels ++ kept) sets (joined_cells filled.levels start) moved (HaveAll-joined_cells schema dictionaries facts filled.levels kept start base levels of_start once)
-
-  all : HaveAll schema dictionaries facts sets cells
-  all = HaveAll-IsPermutation schema dictionaries facts sets (joined_cells filled.levels start) cells base (filled.joined together.distinct) together
-
-  coded : IsCoded schema sets number dictionaries cells
+  coded : IsCoded schema sets number dictionaries (cells_of levels)
   coded = record {
     lattice = record { schema = base.is_schema; sets = within; ascending = ascending; dictionaries = base.width };
     texts = base.texts;
@@ -349,8 +327,8 @@ IsCubeOf-AreFilled schema sets number dictionaries finest cells facts within asc
   }
 
 -- a cube is filled from one over the finest set
-pub IsCubeOfAll-AreFilled : (schema : Layout) (sets : List ℕ) (own number : ℕ) (texts dictionaries : Dictionaries) (old cells : CodedCells) (finest : Level) (facts : List Fact) → IsCoded schema sets own texts old → finest.set ≡ finest_set (length schema.dimensions) → IsCoded schema (finest.set ∷ []) number dictionaries finest.cells.entries → IsCubeOfAll facts (lattice_of schema (finest.set ∷ []) number dictionaries finest.cells.entries) → AreFilled finest sets (length schema.measures) cells → IsCoded schema sets number dictionaries cells × IsCubeOfAll facts (lattice_of schema sets number dictionaries cells)
-IsCubeOfAll-AreFilled schema sets own number texts dictionaries old cells finest facts mine is_finest is all filled =
+pub IsCubeOfAll-AreFilled : (schema : Layout) (sets : List ℕ) (own number : ℕ) (texts dictionaries : Dictionaries) (old : CodedCells) (finest : Level) (levels : List Level) (facts : List Fact) → IsCoded schema sets own texts old → finest.set ≡ finest_set (length schema.dimensions) → IsCoded schema (finest.set ∷ []) number dictionaries finest.cells.entries → IsCubeOfAll facts (lattice_of schema (finest.set ∷ []) number dictionaries finest.cells.entries) → AreFilled finest sets (length schema.measures) levels → IsLeveled schema sets number dictionaries levels × IsCubeOfAll facts (lattice_of schema sets number dictionaries (cells_of levels))
+IsCubeOfAll-AreFilled schema sets own number texts dictionaries old finest levels facts mine is_finest is all filled =
     let base : IsBase schema dictionaries facts = record { is_schema = is.lattice.schema; width = is.lattice.dictionaries; texts = is.texts; fit = all.fit } in
     let first : IsLevel schema dictionaries facts finest = record {
       below = All-head (λ (s : ℕ). s < 2 ^ length schema.dimensions) finest.set [] is.lattice.sets;
@@ -363,7 +341,7 @@ IsCubeOfAll-AreFilled schema sets own number texts dictionaries old cells finest
         tallies = all.cells.tallies;
       };
     } in
-    let whole = IsCubeOf-AreFilled schema sets number dictionaries finest cells facts mine.lattice.sets mine.lattice.ascending base first all.facts_are filled in
+    let whole = IsCubeOf-AreFilled schema sets number dictionaries finest levels facts mine.lattice.sets mine.lattice.ascending base first all.facts_are filled in
     (whole.0, record { fit = all.fit; cells = whole.1; facts_are = all.facts_are })
 
 -- ---- sets that are coarser than the finest

@@ -21,6 +21,8 @@ pub mod NewLaws
 pub mod FillLaws
 pub mod GroupLaws
 pub mod JoinLaws
+pub mod TableLaws
+pub mod LeveledLaws
 pub mod FinerLaws
 pub mod FilledLaws
 pub mod LevelLaws

@@ -44,10 +44,6 @@ is_in-one k q inside = elim (or_cases (same_codes q k) false inside) [
 pub is_in-other : (k q : Codes) → is_in (k ∷ []) q ≡ false → same_codes k q ≡ false
 is_in-other k q outside = same_codes-IsEquivalence.symm k q ∙ (or_parts (same_codes q k) false outside).0
 
--- codes that are apart from those of a list aren't the one that is among them
-is_in-apart : (keys : List Codes) (k q : Codes) → is_in keys k ≡ false → is_in keys q ≡ true → is_in (k ∷ []) q ≡ false
-is_in-apart keys k q outside inside = false_from_ne_true (is_in (k ∷ []) q) (λ one. both_ways (is_in keys k) outside (ap (is_in keys) (sym (is_in-one k q one)) ∙ inside))
-
 -- ---- one cell
 -- the cells with another tally at codes that are there
 pub coded_at-set : (k q : Codes) (t : Tally) (cells : CodedCells) → IsSome (coded_at cells k) → coded_at (set_value (same_codes k) cells t) q ≡ cond (same_codes k q) (Some t) (coded_at cells q)
@@ -170,49 +166,6 @@ TakesIn-remove_entry k values old mid new count loses none other gone moved =
 
 -- ---- many cells
 
-pub TakesIn-nil : (values : List (Option ℤ)) (cells : CodedCells) → TakesIn [] values cells cells
-TakesIn-nil values cells = record { taken = λ q inside. cc inside; others = λ q outside. refl; weight = λ weight. omega arith }
-
--- one more
-pub AddsIn-push : (keys : List Codes) (k : Codes) (values : List (Option ℤ)) (old mid new : CodedCells) → is_in keys k ≡ false → AddsIn keys values old mid → AddsIn (k ∷ []) values mid new → AddsIn (keys ++ k ∷ []) values old new
-AddsIn-push keys k values old mid new apart first second = record {
-  added = λ q inside. elim (cases_Bool (is_in keys q)) [
-    | inl before ↦ rw (second.others q (is_in-apart keys k q apart before)) (first.added q before)
-    | inr after ↦ rw (← first.others q after) (second.added q (now q inside after))
-  ];
-  held = λ q inside. elim (cases_Bool (is_in keys q)) [
-    | inl before ↦ rw (second.others q (is_in-apart keys k q apart before)) (first.held q before)
-    | inr after ↦ second.held q (now q inside after)
-  ];
-  others = λ q outside.
-      let parts = or_parts (is_in keys q) (is_in (k ∷ []) q) (sym (list_any-append (same_codes q) keys (k ∷ [])) ∙ outside) in
-      second.others q parts.1 ∙ first.others q parts.0;
-  weight = λ weight. omega (arith, first.weight weight, second.weight weight, sum_by-append weight keys (k ∷ []));
-} where
-  now : (q : Codes) → is_in (keys ++ k ∷ []) q ≡ true → is_in keys q ≡ false → is_in (k ∷ []) q ≡ true
-  now q inside after = elim (or_cases (is_in keys q) (is_in (k ∷ []) q) (sym (list_any-append (same_codes q) keys (k ∷ [])) ∙ inside)) [
-    | inl before ↦ absurd (both_ways (is_in keys q) after before)
-    | inr here ↦ here
-  ]
-
--- one more, whose codes stand before the others
-pub TakesIn-cons : (keys : List Codes) (k : Codes) (values : List (Option ℤ)) (old mid new : CodedCells) → is_in keys k ≡ false → TakesIn keys values old mid → TakesIn (k ∷ []) values mid new → TakesIn (k ∷ keys) values old new
-TakesIn-cons keys k values old mid new apart first second = record {
-  taken = λ q inside. elim (cases_Bool (is_in keys q)) [
-    | inl before ↦ rw (second.others q (is_in-apart keys k q apart before)) (first.taken q before)
-    | inr after ↦ rw (← first.others q after) (second.taken q (now q inside after))
-  ];
-  others = λ q outside.
-      let parts = or_parts (same_codes q k) (is_in keys q) outside in
-      second.others q (or_from (same_codes q k) false parts.0 refl) ∙ first.others q parts.1;
-  weight = λ weight. omega (arith, first.weight weight, second.weight weight, sum_by-cons weight k keys, sum_by-cons weight k []);
-} where
-  now : (q : Codes) → is_in (k ∷ keys) q ≡ true → is_in keys q ≡ false → is_in (k ∷ []) q ≡ true
-  now q inside after = elim (or_cases (same_codes q k) (is_in keys q) inside) [
-    | inl here ↦ or_left (same_codes q k) false here
-    | inr before ↦ absurd (both_ways (is_in keys q) after before)
-  ]
-
 -- ---- what was added and taken
 -- a cell counts what it counted
 AddsAt-TakesAt : (k : Codes) (values : List (Option ℤ)) (old mid new : Option Tally) → HasRoom values k old → AddsAt values old mid → TakesAt (is_total_code k) values mid new → SameCell old new
@@ -230,29 +183,20 @@ AddsAt-TakesAt k values (Some t) mid new room adds takes =
     let stays : new ≡ Some takes.left = takes.is_left ∙ cond-true (is_total_code k || nat_lt 0 takes.left.facts) (Some takes.left) None some in
     rw stays (record { facts = sym count; bags = AddsValues-SameBags t.bags adds.tally.bags takes.left.bags values adds.plus.bags minus.bags })
 
--- facts that were added at some codes, one that was refused at another, and all taken again
-pub AddsIn-TakesIn : (keys all : List Codes) (k : Codes) (values : List (Option ℤ)) (old mid then_ new : CodedCells) → ((q : Codes) → is_in keys q ≡ true → HasRoom values q (coded_at old q)) → is_in keys k ≡ false → ((q : Codes) → is_in all q ≡ false → (is_in keys q ≡ false) × (is_in (k ∷ []) q ≡ false)) → AddsIn keys values old mid → SameCoded (k ∷ []) mid then_ → TakesIn keys values then_ new → SameCoded all old new
-AddsIn-TakesIn keys all k values old mid then_ new room apart among adds refused takes = record {
-  cells = λ q. elim (cases_Bool (is_in keys q)) [
-    | inl before ↦
-        let kept = refused.others q (is_in-apart keys k q apart before) in
-        AddsAt-TakesAt q values (coded_at old q) (coded_at mid q) (coded_at new q) (room q before) (adds.added q before) (rw kept at (takes.taken q before))
-    | inr after ↦ rw (takes.others q after, ← adds.others q after) (refused.cells q)
+-- a fact that was added at codes and taken again
+pub AddsIn-TakesIn : (k : Codes) (values : List (Option ℤ)) (old mid new : CodedCells) → HasRoom values k (coded_at old k) → AddsIn (k ∷ []) values old mid → TakesIn (k ∷ []) values mid new → SameCoded (k ∷ []) old new
+AddsIn-TakesIn k values old mid new room adds takes = record {
+  cells = λ q. elim (cases_Bool (is_in (k ∷ []) q)) [
+    | inl here ↦
+        let P : Codes → Type 0 = λ z. HasRoom values z (coded_at old z) in
+        AddsAt-TakesAt q values (coded_at old q) (coded_at mid q) (coded_at new q) (subst P (sym (is_in-one k q here)) room) (adds.added q here) (takes.taken q here)
+    | inr apart ↦ rw (takes.others q apart, adds.others q apart) (SameCell-refl (coded_at old q))
   ];
-  others = λ q outside. takes.others q (among q outside).0 ∙ refused.others q (among q outside).1 ∙ adds.others q (among q outside).0;
-  weight = λ weight. omega (arith, adds.weight weight, refused.weight weight, takes.weight weight);
+  others = λ q outside. takes.others q outside ∙ adds.others q outside;
+  weight = λ weight. omega (arith, adds.weight weight, takes.weight weight);
 }
 
 -- ---- codes that differ
--- codes of a list are apart from those before them
-pub is_in-take : (keys : List Codes) (i : ℕ) (d : Codes) → IsDistinct same_codes keys → i < length keys → is_in (take i keys) (get_or keys i d) ≡ false
-unfolding IsDistinct
-is_in-take [] i d distinct inside = absurd (omega arith)
-is_in-take (k ∷ keys) zero d distinct inside = refl
-is_in-take (k ∷ keys) (suc i) d distinct inside =
-    let below : i < length keys = omega (arith, inside) in
-    let first : same_codes k (get_or keys i d) ≡ false = All-get_or (λ y. same_codes k y ≡ false) keys i d below (All-from_recursion (λ y. same_codes k y ≡ false) keys distinct.0) in
-    or_from (same_codes (get_or keys i d) k) (is_in (take i keys) (get_or keys i d)) (same_codes-IsEquivalence.symm (get_or keys i d) k ∙ first) (is_in-take keys i d distinct.1 below)
 
 -- what follows from two facts of a success
 pub OnOk-both : {T E P Q R : Type 0} (r : Result T E) → (P → Q → R) → OnOk r P → OnOk r Q → OnOk r R
@@ -283,118 +227,7 @@ PlusFact-empty_tally values n cell t is width plus = record {
   };
 }
 
--- what is between others is among them
-pub is_in-middle : (as' bs : List Codes) (k : Codes) → is_in (as' ++ k ∷ bs) k ≡ true
-is_in-middle as' bs k = list_any-append (same_codes k) as' (k ∷ bs) ∙ or_right (is_in as' k) (is_in (k ∷ bs) k) (or_left (same_codes k k) (is_in bs k) (same_codes-IsEquivalence.refl k))
-
--- where all differ it isn't among those after it
-pub is_in-drop : (as' bs : List Codes) (k : Codes) → IsDistinct same_codes (as' ++ k ∷ bs) → is_in bs k ≡ false
-unfolding IsDistinct
-is_in-drop [] bs k distinct = list_any_none (same_codes k) bs (All-from_recursion (λ y. same_codes k y ≡ false) bs distinct.0)
-is_in-drop (a ∷ as') bs k distinct = is_in-drop as' bs k distinct.1
-
--- the last of these sets were taken back
-pub record TakenBack (sets left : List ℕ) (codes : Codes) (values : List (Option ℤ)) (old new : CodedCells) : Type 0 where
-  pub done : List ℕ
-  pub split : sets ≡ left ++ done
-  pub taken : TakesIn (codes_in done codes) values old new
-
-pub TakenBack-none : (sets : List ℕ) (codes : Codes) (values : List (Option ℤ)) (cells : CodedCells) → TakenBack sets sets codes values cells cells
-TakenBack-none sets codes values cells = record { done = []; split = sym (append-nil sets); taken = TakesIn-nil values cells }
-
--- the keys of sets that are split before one of them
-codes_in-split : (sets left others done : List ℕ) (set : ℕ) (codes : Codes) → sets ≡ left ++ done → left ≡ others ++ set ∷ [] → codes_in sets codes ≡ codes_in others codes ++ key_in codes set ∷ codes_in done codes
-codes_in-split sets left others done set codes split last =
-    ap (λ (xs : List ℕ). codes_in xs codes) (split ∙ ap (λ (xs : List ℕ). xs ++ done) last ∙ append_assoc others (set ∷ []) done) ∙ map-append (key_in codes) others (set ∷ done)
-
--- the next of them is apart from those taken back, and is one of all
-pub TakenBack-is_in : (sets left others : List ℕ) (set : ℕ) (codes : Codes) (values : List (Option ℤ)) (old new : CodedCells) → IsDistinct same_codes (codes_in sets codes) → left ≡ others ++ set ∷ [] → (back : TakenBack sets left codes values old new) → (is_in (codes_in back.done codes) (key_in codes set) ≡ false) × (is_in (codes_in sets codes) (key_in codes set) ≡ true)
-TakenBack-is_in sets left others set codes values old new distinct last back =
-    let keys = codes_in-split sets left others back.done set codes back.split last in (
-      is_in-drop (codes_in others codes) (codes_in back.done codes) (key_in codes set) (subst (IsDistinct same_codes) keys distinct),
-      ap (λ (ks : List Codes). is_in ks (key_in codes set)) keys ∙ is_in-middle (codes_in others codes) (codes_in back.done codes) (key_in codes set),
-    )
-
--- its cell is as it was
-pub cell_holds-TakenBack : (sets left others : List ℕ) (set : ℕ) (codes : Codes) (values : List (Option ℤ)) (old new : CodedCells) → IsDistinct same_codes (codes_in sets codes) → ((key : Codes) → is_in (codes_in sets codes) key ≡ true → cell_holds values (coded_at old key) ≡ true) → left ≡ others ++ set ∷ [] → TakenBack sets left codes values old new → cell_holds values (coded_at new (key_in codes set)) ≡ true
-cell_holds-TakenBack sets left others set codes values old new distinct held last back =
-    let at = TakenBack-is_in sets left others set codes values old new distinct last back in
-    rw (back.taken.others (key_in codes set) at.0) (held (key_in codes set) at.1)
-
-pub TakenBack-more : (sets left others : List ℕ) (set : ℕ) (codes : Codes) (values : List (Option ℤ)) (old mid new : CodedCells) → IsDistinct same_codes (codes_in sets codes) → left ≡ others ++ set ∷ [] → TakenBack sets left codes values old mid → TakesIn (key_in codes set ∷ []) values mid new → TakenBack sets others codes values old new
-TakenBack-more sets left others set codes values old mid new distinct last back takes = record {
-  done = set ∷ back.done;
-  split = back.split ∙ ap (λ (xs : List ℕ). xs ++ back.done) last ∙ append_assoc others (set ∷ []) back.done;
-  taken = TakesIn-cons (codes_in back.done codes) (key_in codes set) values old mid new (TakenBack-is_in sets left others set codes values old mid distinct last back).0 back.taken takes;
-}
-
-pub TakesIn-TakenBack : (sets left : List ℕ) (codes : Codes) (values : List (Option ℤ)) (old new : CodedCells) → length left ≡ 0 → TakenBack sets left codes values old new → TakesIn (codes_in sets codes) values old new
-TakesIn-TakenBack sets [] codes values old new none back = let P : List ℕ → Type 0 = λ xs. TakesIn (codes_in xs codes) values old new in subst P (sym back.split) back.taken
-TakesIn-TakenBack sets (set ∷ left) codes values old new none back = absurd (omega (arith, none))
-
 -- ---- sets below a place
--- the key at a place is apart from those before it, and is one of all
-pub key_in-take : (sets : List ℕ) (i : ℕ) (codes : Codes) → IsDistinct same_codes (codes_in sets codes) → i < length sets → is_in (codes_in (take i sets) codes) (key_in codes (get_or sets i 0)) ≡ false
-key_in-take sets i codes distinct inside =
-    let below : i < length (codes_in sets codes) = omega (arith, length-map sets (key_in codes), inside) in
-    let first = is_in-take (codes_in sets codes) i (key_in codes (get_or sets i 0)) distinct below in
-    let place = get_or-map (key_in codes) sets i 0 (key_in codes (get_or sets i 0)) inside in
-    rw (take-map (key_in codes) i sets, place) at first
-
-pub key_in-codes_in : (sets : List ℕ) (i : ℕ) (codes : Codes) → i < length sets → is_in (codes_in sets codes) (key_in codes (get_or sets i 0)) ≡ true
-key_in-codes_in [] i codes inside = absurd (omega arith)
-key_in-codes_in (set ∷ sets) zero codes inside = or_left (same_codes (key_in codes set) (key_in codes set)) (is_in (codes_in sets codes) (key_in codes set)) (same_codes-IsEquivalence.refl (key_in codes set))
-key_in-codes_in (set ∷ sets) (suc i) codes inside = or_right (same_codes (key_in codes (get_or sets i 0)) (key_in codes set)) (is_in (codes_in sets codes) (key_in codes (get_or sets i 0))) (key_in-codes_in sets i codes (omega (arith, inside)))
-
--- what is among those before a place is among all
-pub codes_in-take : (sets : List ℕ) (i : ℕ) (codes q : Codes) → is_in (codes_in (take i sets) codes) q ≡ true → is_in (codes_in sets codes) q ≡ true
-codes_in-take [] zero codes q inside = inside
-codes_in-take [] (suc i) codes q inside = inside
-codes_in-take (set ∷ sets) zero codes q inside = cc inside
-codes_in-take (set ∷ sets) (suc i) codes q inside = elim (or_cases (same_codes q (key_in codes set)) (is_in (codes_in (take i sets) codes) q) inside) [
-  | inl here ↦ or_left (same_codes q (key_in codes set)) (is_in (codes_in sets codes) q) here
-  | inr later ↦ or_right (same_codes q (key_in codes set)) (is_in (codes_in sets codes) q) (codes_in-take sets i codes q later)
-]
-
--- those before a place differ
-pub IsDistinct-codes_in_take : (sets : List ℕ) (i : ℕ) (codes : Codes) → IsDistinct same_codes (codes_in sets codes) → IsDistinct same_codes (codes_in (take i sets) codes)
-unfolding IsDistinct
-IsDistinct-codes_in_take [] zero codes distinct = distinct
-IsDistinct-codes_in_take [] (suc i) codes distinct = distinct
-IsDistinct-codes_in_take (set ∷ sets) zero codes distinct = tt
-IsDistinct-codes_in_take (set ∷ sets) (suc i) codes distinct = (
-  recursion_from_All (λ y. same_codes (key_in codes set) y ≡ false) (codes_in (take i sets) codes) (subst (λ (ks : List Codes). All (λ y. same_codes (key_in codes set) y ≡ false) ks) (take-map (key_in codes) i sets) (All-take (λ y. same_codes (key_in codes set) y ≡ false) i (codes_in sets codes) (All-from_recursion (λ y. same_codes (key_in codes set) y ≡ false) (codes_in sets codes) distinct.0))),
-  IsDistinct-codes_in_take sets i codes distinct.1,
-)
-
--- the keys up to a place and at it
-pub codes_in-take_more : (sets : List ℕ) (i : ℕ) (codes : Codes) → i < length sets → codes_in (take (i + 1) sets) codes ≡ codes_in (take i sets) codes ++ key_in codes (get_or sets i 0) ∷ []
-codes_in-take_more sets i codes inside = map_more (key_in codes) sets i 0 inside
-
--- a cell that wasn't reached has room as before
-pub HasRoom-AddsIn : (sets : List ℕ) (i : ℕ) (codes : Codes) (values : List (Option ℤ)) (old new : CodedCells) → IsDistinct same_codes (codes_in sets codes) → i < length sets → ((key : Codes) → is_in (codes_in sets codes) key ≡ true → HasRoom values key (coded_at old key)) → AddsIn (codes_in (take i sets) codes) values old new → HasRoom values (key_in codes (get_or sets i 0)) (coded_at new (key_in codes (get_or sets i 0)))
-HasRoom-AddsIn sets i codes values old new distinct inside room adds =
-    let key = key_in codes (get_or sets i 0) in
-    rw (adds.others key (key_in-take sets i codes distinct inside)) (room key (key_in-codes_in sets i codes inside))
-
--- what was added before a refusal is held
-pub cell_holds-AddsIn : (sets : List ℕ) (i : ℕ) (codes : Codes) (values : List (Option ℤ)) (old mid new : CodedCells) → IsDistinct same_codes (codes_in sets codes) → i < length sets → AddsIn (codes_in (take i sets) codes) values old mid → SameCoded (key_in codes (get_or sets i 0) ∷ []) mid new → (key : Codes) → is_in (codes_in (take i sets) codes) key ≡ true → cell_holds values (coded_at new key) ≡ true
-cell_holds-AddsIn sets i codes values old mid new distinct inside adds refused key before =
-    rw (refused.others key (is_in-apart (codes_in (take i sets) codes) (key_in codes (get_or sets i 0)) key (key_in-take sets i codes distinct inside) before)) (adds.held key before)
-
--- a refusal that was undone
-pub AddsIn-TakesIn_take : (sets : List ℕ) (i : ℕ) (codes : Codes) (values : List (Option ℤ)) (old mid then_ new : CodedCells) → IsDistinct same_codes (codes_in sets codes) → i < length sets → ((key : Codes) → is_in (codes_in sets codes) key ≡ true → HasRoom values key (coded_at old key)) → AddsIn (codes_in (take i sets) codes) values old mid → SameCoded (key_in codes (get_or sets i 0) ∷ []) mid then_ → TakesIn (codes_in (take i sets) codes) values then_ new → SameCoded (codes_in sets codes) old new
-AddsIn-TakesIn_take sets i codes values old mid then_ new distinct inside room adds refused takes =
-    let keys = codes_in (take i sets) codes in
-    let key = key_in codes (get_or sets i 0) in
-    AddsIn-TakesIn keys (codes_in sets codes) key values old mid then_ new
-    (λ q before. room q (codes_in-take sets i codes q before))
-    (key_in-take sets i codes distinct inside)
-    (λ q outside. (
-      false_from_ne_true (is_in keys q) (λ before. both_ways (is_in (codes_in sets codes) q) outside (codes_in-take sets i codes q before)),
-      false_from_ne_true (is_in (key ∷ []) q) (λ here. both_ways (is_in (codes_in sets codes) q) outside (ap (is_in (codes_in sets codes)) (is_in-one key q here) ∙ key_in-codes_in sets i codes inside)),
-    ))
-    adds refused takes
 
 -- what holds whatever a call answers
 pub OnErr-always : {T E P : Type 0} (r : Result T E) → P → OnErr r P

@@ -6,10 +6,11 @@ use Rattle.cube_core.specs.Takes.{fits}
 use Rattle.cube_core.specs.declared.fact.Fact.{Fact}
 use Rattle.cube_cells.specs.Coded.{CodedCells, AreNewCells, same_codes, coded_at}
 use Rattle.cube_cells.specs.Cube.{Lattice, IsCubeOf, tally_or_empty}
+use Rattle.cube_cells.specs.Levels.{sets_of}
 use Rattle.cube_cells.specs.Tally.{Tally, PlusTally}
 use Rattle.cube_cells.specs.Walk.{AreApart, key_in, weight_of_cells}
 use Rattle.cube_cells.specs.declared.cube.codes.Codes.{Codes}
-use Rattle.cube_cells.specs.declared.cube.fill.Level.{Level}
+use Rattle.cube_cells.specs.declared.cube.levels.Level.{Level}
 
 -- the grouping set of all of so many dimensions
 abbrev pub finest_set : ℕ → ℕ
@@ -88,24 +89,12 @@ pub record ArePushed (results : List (Result Level AllocError)) (old new : List 
   pub are : map Ok levels ≡ results
   pub pushed : new ≡ old ++ levels
 
--- the cells of levels, one level before another, and then others
-abbrev pub joined_cells : List Level → CodedCells → CodedCells
-joined_cells [] others = others
-joined_cells (level ∷ levels) others = level.cells.entries ++ joined_cells levels others
-
--- cells of other codes are put to these
-abbrev pub Joins : CodedCells → CodedCells → CodedCells → Type 0
-Joins more old new = AreApart (more ++ old) → IsPermutation (more ++ old) new
-
--- these are the cells of levels and others, where their codes differ
-abbrev pub AreJoined : List Level → CodedCells → CodedCells → Type 0
-AreJoined levels others cells = AreApart (joined_cells levels others) → IsPermutation (joined_cells levels others) cells
-
--- these are the cells of the sets: those of the finest one where it is kept, and those of levels made from it
-pub record AreFilled (finest : Level) (sets : List ℕ) (measures : ℕ) (cells : CodedCells) : Type 0 where
+-- these are the levels of the sets, in their order: the finest one where it is kept, and those made from it
+pub record AreFilled (finest : Level) (sets : List ℕ) (measures : ℕ) (levels : List Level) : Type 0 where
   pub keeps_finest : Bool
   pub coarser : List ℕ
-  pub levels : List Level
-  pub sets_are : sets ≡ coarser ++ (if keeps_finest then finest.set ∷ [] else [])
-  pub made : MakesLevelsOf measures finest coarser levels
-  pub joined : AreJoined levels (if keeps_finest then finest.cells.entries else []) cells
+  pub made : List Level
+  pub coarser_are : sets ≡ coarser ++ (if keeps_finest then finest.set ∷ [] else [])
+  pub makes : MakesLevelsOf measures finest coarser made
+  pub moved : IsPermutation (made ++ (if keeps_finest then finest ∷ [] else [])) levels
+  pub sets_are : sets_of levels ≡ sets

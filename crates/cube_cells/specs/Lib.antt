@@ -7,5 +7,6 @@ pub mod Coded
 pub mod Walk
 pub mod Ranks
 pub mod Rows
+pub mod Levels
 pub mod Fill
 pub mod Keyed

@@ -9,13 +9,13 @@ ghost use Rattle.cube_core.specs.Takes.{fits};
 ghost use Rattle.cube_core.specs.declared.fact.Fact.{Fact};
 ghost use Rattle.cube_core.specs.declared.key.Key.{Key};
 ghost use Rattle.cube_cells.specs.Codes.{IsDictionary, AreCodesOf, are_codes, coord_of_value};
-ghost use Rattle.cube_cells.specs.Coded.{AreNewCells};
 ghost use Rattle.cube_cells.specs.Cube.{Lattice, IsLattice, IsCubeOf, HoldsFact, AddsFact, TakesFact, AddsTexts, MayAddTexts, SameCells, cell_at, count_in, IsNewLattice};
 
 mod codes;
 mod dictionary;
 mod fill;
 mod keyed;
+mod levels;
 mod ordered;
 mod queries;
 mod ranks;
@@ -28,36 +28,38 @@ use codes::{ALL, Codes};
 use cube_core::{Coord, DimensionValues, Fact, HashKey, Key, Schema};
 use dictionary::Dictionary;
 pub use keyed::{CoordRef, KeyedCell};
+use levels::{Level, new_levels};
 pub use ordered::{OrderedCells, row_of};
 use std::alloc::{AllocError, Global};
-use std::collections::HashMap;
 use std::marker::Model;
-use walk::{add_to_sets, hold_in_sets, take_from_sets};
+use walk::{add_to_sets, find_cell, hold_in_sets, take_from_sets};
 
 /// A cube over facts: for each kept grouping set, the cells of its keys that cover a fact (Gray et al. 1997), and
 /// the grand total where its set is kept.
 ///
-/// Each cell is found in one hashed look-up. A text gets a code at the first `add` of a fact that has it, and
-/// keeps it. Where an `add` finds no memory, the cells count what they counted.
+/// Each kept set has a table of its own, in which each of its cells is found in one hashed look-up. A text gets a code
+/// at the first `add` of a fact that has it, and keeps it. Where an `add` finds no memory, the cells count what they
+/// counted.
 #[derive(Drop)]
 pub struct Cube {
     schema: Schema,
     sets: Vec<u8>,
     facts: u64,
     dictionaries: Vec<Dictionary>,
-    cells: HashMap<Codes, Cell>,
+    levels: Vec<Level>,
     alloc: Global,
 }
 
 impl Model for Cube {
     ghost use Rattle.cube_cells.specs.Cube.{Lattice};
-    ghost use Rattle.cube_cells.specs.Coded.{IsCoded, decoded, lattice_of};
+    ghost use Rattle.cube_cells.specs.Coded.{lattice_of};
+    ghost use Rattle.cube_cells.specs.Levels.{IsLeveled, cells_of};
 
     ghost Value = { Lattice };
 
-    ghost view = { λ c. lattice_of c.schema c.sets.items c.facts c.dictionaries.items c.cells.entries };
+    ghost view = { λ c. lattice_of c.schema c.sets.items c.facts c.dictionaries.items (cells_of c.levels.items) };
 
-    ghost invariant = { λ c. IsCoded c.schema c.sets.items c.facts c.dictionaries.items c.cells.entries };
+    ghost invariant = { λ c. IsLeveled c.schema c.sets.items c.facts c.dictionaries.items c.levels.items };
 }
 
 impl Cube {
@@ -92,13 +94,13 @@ impl Cube {
         ensures cube { IfOk result (λ cube. IsCubeOf cube []) }
     {
         let dictionaries = new_dictionaries(alloc, schema.hash_key(), schema.dimensions().len())?;
-        let cells = new_cells(alloc, schema.measures().len(), has_total(&sets))?;
+        let levels = new_levels(alloc, schema.measures().len(), &sets)?;
         Ok(Cube {
             schema,
             sets,
             facts: 0,
             dictionaries,
-            cells,
+            levels,
             alloc,
         })
     }
@@ -122,7 +124,7 @@ impl Cube {
     {
         let codes = add_codes(self.alloc, &mut self.dictionaries, fact)?;
         let values = fact.measures.as_slice();
-        add_to_sets(self.alloc, &mut self.cells, &codes, &self.sets, values)?;
+        add_to_sets(self.alloc, &mut self.levels, &codes, values)?;
         self.facts += 1;
         Ok(())
     }
@@ -138,7 +140,7 @@ impl Cube {
             return false;
         }
         let codes = codes_of_values(&self.dictionaries, &fact.dims);
-        hold_in_sets(&self.cells, &codes, &self.sets, fact.measures.as_slice())
+        hold_in_sets(&self.levels, &codes, fact.measures.as_slice())
     }
 
     /// Takes a fact away that the cube holds: its measures from each cell of a kept set that covers it. A cell left
@@ -149,12 +151,8 @@ impl Cube {
         ensures cube { (facts : List Fact) → IsCubeOf self.old (fact.now ∷ facts) → IsCubeOf self.new facts }
     {
         let codes = codes_of_values(&self.dictionaries, &fact.dims);
-        take_from_sets(
-            &mut self.cells,
-            &codes,
-            &self.sets,
-            fact.measures.as_slice(),
-        );
+        let number = self.levels.len();
+        take_from_sets(&mut self.levels, number, &codes, fact.measures.as_slice());
         self.facts -= 1;
     }
 
@@ -184,7 +182,7 @@ impl Cube {
             return None;
         }
         let codes = codes_of_coords(&self.dictionaries, key.coords.as_slice());
-        self.cells.get(&codes)
+        find_cell(&self.levels, &codes)
     }
 
     /// The code of a text in a dimension, counted from 0 in the order in which the texts came; `None` for a text
@@ -229,13 +227,6 @@ fn push_kept(sets: &mut Vec<u8>, set: u8, is_kept: bool) -> Result<(), AllocErro
     Ok(())
 }
 
-// Whether the grand total's set is among these.
-fn has_total(sets: &[u8]) -> bool
-    ensures { result ≡ is_among 0 sets.now }
-{
-    sets.iter().any(|set| *set == 0)
-}
-
 fn new_dictionaries(
     alloc: Global,
     key: HashKey,
@@ -248,30 +239,6 @@ fn new_dictionaries(
         dictionaries.push(Dictionary::new(alloc, key))?;
     }
     Ok(dictionaries)
-}
-
-// The cells of no fact: the grand total, where its set is kept.
-fn new_cells(
-    alloc: Global,
-    measures: usize,
-    has_total: bool,
-) -> Result<HashMap<Codes, Cell>, AllocError>
-    ensures { IfOk result (λ cells. AreNewCells has_total measures cells.entries) }
-{
-    if has_total {
-        total_cells(alloc, measures)
-    } else {
-        Ok(HashMap::new(alloc))
-    }
-}
-
-// The cell of the grand total over no facts.
-fn total_cells(alloc: Global, measures: usize) -> Result<HashMap<Codes, Cell>, AllocError>
-    ensures { IfOk result (λ cells. AreNewCells true measures cells.entries) }
-{
-    let mut cells = HashMap::new(alloc);
-    cells.insert(Codes::total(), Cell::new(alloc, measures)?)?;
-    Ok(cells)
 }
 
 // The codes of the values of a fact, each new text with a code of its own.

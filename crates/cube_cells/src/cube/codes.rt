@@ -1,10 +1,11 @@
 //! The codes of a key: what the cells of a cube are found by.
-ghost use Rattle.std.specs.Prelude.{◌≡◌, ◌+◌, ◌*◌, ◌++◌, ◌%◌, ◌==◌, slice_index_or, if◌then◌else◌};
+ghost use Rattle.std.specs.Prelude.{◌≡◌, ◌≤◌, ◌+◌, ◌*◌, ◌++◌, ◌%◌, ◌==◌, length, slice_index_or, if◌then◌else◌};
 ghost use Rattle.cube_cells.specs.Coded.{is_total_code, total_codes};
 ghost use Rattle.std.specs.Hash as fed;
 ghost use Rattle.std.specs.Cmp.Rules.{comparing, hashing};
 ghost use Rattle.std.proofs.Common.{rules};
 ghost use Rattle.cube_cells.specs.Codes.{all_code};
+ghost use Rattle.cube_cells.specs.Levels.{mask_of_codes};
 ghost use Rattle.cube_cells.specs.Walk.{key_in};
 
 use std::hash::{Hash, Hasher};
@@ -39,6 +40,13 @@ impl Codes {
         self.codes.iter().all(|code| *code == ALL)
     }
 
+    /// The mask of their grouping set: the dimensions that aren't ALL.
+    pub fn mask(&self) -> u8
+        ensures { result ≡ mask_of_codes self.now.codes }
+    {
+        mask_of(&self.codes)
+    }
+
     /// These codes in the dimensions of a grouping set, and ALL in the others.
     pub fn kept(&self, set: u8) -> Codes
         ensures { result ≡ key_in self.now set }
@@ -51,6 +59,24 @@ impl Codes {
         }
         Codes { codes }
     }
+}
+
+// The mask of codes.
+fn mask_of(codes: &[u32]) -> u8
+    requires { length codes.now ≤ 8 }
+    ensures { result ≡ mask_of_codes codes.now }
+{
+    let Some((code, others)) = codes.split_first() else {
+        return 0;
+    };
+    mask_bit(*code) + 2 * mask_of(others)
+}
+
+// 0 for the code of ALL, else 1.
+fn mask_bit(code: u32) -> u8
+    ensures { result ≡ (if code == all_code then 0 else 1) }
+{
+    if code == ALL { 0 } else { 1 }
 }
 
 // The code where the lowest bit of the set is there, else ALL.

@@ -1,29 +1,23 @@
 //! Filling a cube at once: facts go into the cells of the finest grouping set alone, and the cells of each other kept
 //! set are then made from those of a finer one (Gray et al. 1997).
 ghost use Rattle.std.specs.Prelude.{◌≡◌, ◌+◌, ◌-◌, ◌≤◌, ◌^◌, ◌↔◌, ◌∷◌, [], None, ◌<◌, List, length, bit_and, All, Contains, IsTrue, IfOk, IfSome, OnOk, OnErr};
-ghost use Rattle.std.specs.List.Sorted.{IsPermutation, IsStrictlySortedBy};
+ghost use Rattle.std.specs.List.Sorted.{IsNonDecreasingBy, IsPermutation, IsStrictlySortedBy};
 ghost use Rattle.std.specs.Ordering.{nat_cmp};
 ghost use Rattle.cube_core.specs.declared.fact.Fact.{Fact};
 ghost use Rattle.cube_cells.specs.Coded.{coded_at};
 ghost use Rattle.cube_cells.specs.Cube.{IsCubeOf, IsNewLattice, SameSets};
-ghost use Rattle.cube_cells.specs.Fill.{AreFilled, AreJoined, AreMadeFrom, ArePushed, FillsSet, HaveOneWidth, IsCubeOfAll, IsFiner, IsMadeLevel, Joins, MakesLevelsOf, MergesIn, finest_set};
+ghost use Rattle.cube_cells.specs.Fill.{AreFilled, AreMadeFrom, ArePushed, FillsSet, HaveOneWidth, IsCubeOfAll, IsFiner, IsMadeLevel, MakesLevelsOf, MergesIn, finest_set};
 ghost use Rattle.cube_cells.specs.Tally.{PlusTally};
 ghost use Rattle.cube_cells.specs.Walk.{AreApart};
 
 use super::codes::Codes;
+use super::levels::{Level, new_cells};
 use super::workers::{Alone, Several, Workers};
-use super::{Cube, new_cells};
+use super::Cube;
 use crate::cell::Cell;
 use std::alloc::{AllocError, Global};
 use std::collections::HashMap;
 use std::thread::Threads;
-
-/// A grouping set with its cells.
-#[derive(Drop)]
-pub struct Level {
-    pub set: u8,
-    pub cells: HashMap<Codes, Cell>,
-}
 
 impl Cube {
     /// The cube of no fact over the finest grouping set alone, that of all dimensions, with the same schema. The
@@ -92,24 +86,17 @@ impl Cube {
         ensures err { OnErr result (self.new ≡ self.old) }
     {
         let measures = self.schema.measures().len();
-        let set = finest_of(self.schema.dimensions().len());
         let Cube {
             facts,
             dictionaries,
-            mut cells,
+            mut levels,
             ..
         } = finest;
-        shrink_cells(&mut cells);
-        let cells = filled_cells(
-            workers,
-            self.alloc,
-            Level { set, cells },
-            &self.sets,
-            measures,
-        )?;
+        let mut finest = levels.remove(0);
+        shrink_cells(&mut finest.cells);
+        self.levels = filled_levels(workers, self.alloc, finest, &self.sets, measures)?;
         self.facts = facts;
         self.dictionaries = dictionaries;
-        self.cells = cells;
         Ok(())
     }
 }
@@ -122,30 +109,41 @@ fn finest_of(dimensions: usize) -> u8
     ((1u16 << dimensions) - 1) as u8
 }
 
-// The cells of the sets, made from those of the finest one.
-fn filled_cells<W: Workers>(
+// The levels of the sets, made from the finest one.
+fn filled_levels<W: Workers>(
     workers: &W,
     alloc: Global,
     finest: Level,
     sets: &[u8],
     measures: usize,
-) -> Result<HashMap<Codes, Cell>, AllocError>
+) -> Result<Vec<Level>, AllocError>
     requires shared { W.is_shared workers.now }
     requires width { All (λ cell. length cell.1.bags ≡ measures) finest.cells.entries }
     requires within { All (λ set. bit_and finest.set set ≡ set) sets.now }
     requires ascending { IsStrictlySortedBy nat_cmp sets.now }
-    ensures { IfOk result (λ cells. AreFilled finest sets.now measures cells.entries) }
+    ensures { IfOk result (λ levels. AreFilled finest sets.now measures levels.items) }
 {
     match sets.split_last() {
         Some((last, coarser)) if *last == finest.set => {
-            let levels = levels_from(workers, alloc, &finest, coarser, measures)?;
-            joined(finest.cells, levels)
+            let mut levels = levels_from(workers, alloc, &finest, coarser, measures)?;
+            levels.push(finest)?;
+            Ok(in_order(levels))
         }
         _ => {
             let levels = levels_from(workers, alloc, &finest, sets, measures)?;
-            joined(HashMap::new(alloc), levels)
+            Ok(in_order(levels))
         }
     }
+}
+
+// The levels in the order of their sets.
+fn in_order(levels: Vec<Level>) -> Vec<Level>
+    ensures same { IsPermutation levels.items result.items }
+    ensures order { IsNonDecreasingBy (λ level. level.set) result.items }
+{
+    let mut levels = levels;
+    levels.sort_unstable_by_key(|level| level.set);
+    levels
 }
 
 // The levels of grouping sets that the finest one is finer than, layer after layer: those of a layer have the same
@@ -279,42 +277,6 @@ fn shrink_cells(cells: &mut HashMap<Codes, Cell>)
         cell.shrink_to_fit();
         true
     });
-}
-
-// The cells of all levels besides others, which have room for all of them at once.
-fn joined(
-    mut cells: HashMap<Codes, Cell>,
-    levels: Vec<Level>,
-) -> Result<HashMap<Codes, Cell>, AllocError>
-    ensures { IfOk result (λ all. AreJoined levels.items cells.entries all.entries) }
-{
-    cells.reserve(number_of_cells(&levels))?;
-    for level in levels {
-        move_cells(&mut cells, level.cells)?;
-    }
-    Ok(cells)
-}
-
-// How many cells the levels have, or as many as the type can say.
-fn number_of_cells(levels: &[Level]) -> usize {
-    let mut number: usize = 0;
-    for level in levels {
-        number = number.saturating_add(level.cells.len());
-    }
-    number
-}
-
-// Moves cells to others of other codes.
-fn move_cells(
-    cells: &mut HashMap<Codes, Cell>,
-    more: HashMap<Codes, Cell>,
-) -> Result<(), AllocError>
-    ensures { OnOk result (Joins more.entries cells.old.entries cells.new.entries) }
-{
-    for (codes, cell) in more {
-        cells.insert(codes, cell)?;
-    }
-    Ok(())
 }
 
 // Merges the cells of a finer set into those of a set.

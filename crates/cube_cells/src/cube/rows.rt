@@ -1,5 +1,5 @@
 //! The rows of a cube, in key order.
-ghost use Rattle.std.specs.Prelude.{◌≡◌, ◌≤◌, Bool, true, false, List, IfOk, IsTrue, length, map, filter, All};
+ghost use Rattle.std.specs.Prelude.{◌≡◌, ◌≤◌, ◌++◌, Bool, true, false, List, IfOk, OnOk, IsTrue, length, map, filter, All};
 ghost use Rattle.std.specs.Cmp.Lexicographic.{slice_cmp};
 ghost use Rattle.std.specs.List.Sorted.{IsPermutation, IsSortedBy};
 ghost use Rattle.std.specs.Ordering.{nat_cmp, is_lt};
@@ -11,12 +11,14 @@ ghost use Rattle.cube_core.specs.declared.key.Row.{Row};
 ghost use Rattle.cube_cells.specs.Codes.{are_codes, key_at, IsDictionary};
 ghost use Rattle.cube_cells.specs.Coded.{decoded};
 ghost use Rattle.cube_cells.specs.Cube.{IsCubeOf};
+ghost use Rattle.cube_cells.specs.Levels.{cells_of};
 ghost use Rattle.cube_cells.specs.Ranks.{ranks_of};
 ghost use Rattle.cube_cells.specs.Rows.{AreRowsInOrder, AreRowsOf, AreWantsOf, is_wanted_code, are_wanted_codes};
 
 use super::Cube;
 use super::codes::Codes;
 use super::dictionary::{Dictionary, compare_keys};
+use super::levels::Level;
 use super::ordered::{OrderedCells, Place};
 use super::ranks::{Ranks, ranks_of, ranks_of_all};
 use super::workers::{Alone, Several, Workers};
@@ -102,7 +104,7 @@ impl Cube {
             AreWantsOf self.now.dictionaries test wants.now →
             AreRowsOf test self.now.schema.aggregates self.now.cells rows.items) }
     {
-        let places = few_places_in_order(self.alloc, &self.dictionaries, &self.cells, wants)?;
+        let places = few_places_in_order(self.alloc, &self.dictionaries, &self.levels, wants)?;
         let aggregates = self.schema.aggregates();
         OrderedCells::of(self.alloc, aggregates, &self.dictionaries, &places)?.rows()
     }
@@ -131,7 +133,7 @@ impl Cube {
             ordered.aggregates ≡ self.now.schema.aggregates) }
     {
         let ranks = ranks_of_all(self.alloc, &self.dictionaries)?;
-        let places = places_in_order(workers, self.alloc, &ranks, &self.cells, wants)?;
+        let places = places_in_order(workers, self.alloc, &ranks, &self.levels, wants)?;
         OrderedCells::of(
             self.alloc,
             self.schema.aggregates(),
@@ -145,17 +147,17 @@ impl Cube {
 fn few_places_in_order<'c>(
     alloc: Global,
     dictionaries: &[Dictionary],
-    cells: &'c HashMap<Codes, Cell>,
+    levels: &'c [Level],
     wants: &[Want],
 ) -> Result<Vec<Place<'c>>, AllocError>
     ensures cells { IfOk result (λ places. IsPermutation
-        (filter (λ cell. are_wanted_codes wants.now cell.0.codes) cells.now.entries)
+        (filter (λ cell. are_wanted_codes wants.now cell.0.codes) (cells_of levels.now))
         (map (λ place. (place.codes.now, place.cell.now)) places.items)) }
     ensures order { IfOk result (λ places. IsSortedBy (λ a b. is_lt (key_cmp
         (key_at dictionaries.now a.codes.now.codes)
         (key_at dictionaries.now b.codes.now.codes))) places.items) }
 {
-    let mut places = places_of(alloc, &[], cells, wants)?;
+    let mut places = places_of(alloc, &[], levels, wants)?;
     places.sort_unstable_by(|a, b| {
         compare_keys(dictionaries, &a.codes.codes, dictionaries, &b.codes.codes)
     });
@@ -167,20 +169,20 @@ fn places_in_order<'c, W: Workers>(
     workers: &W,
     alloc: Global,
     ranks: &[Ranks],
-    cells: &'c HashMap<Codes, Cell>,
+    levels: &'c [Level],
     wants: &[Want],
 ) -> Result<Vec<Place<'c>>, AllocError>
     requires shared { W.is_shared workers.now }
     requires ranks { length ranks.now ≤ 8 }
     ensures cells { IfOk result (λ places. IsPermutation
-        (filter (λ cell. are_wanted_codes wants.now cell.0.codes) cells.now.entries)
+        (filter (λ cell. are_wanted_codes wants.now cell.0.codes) (cells_of levels.now))
         (map (λ place. (place.codes.now, place.cell.now)) places.items)) }
     ensures ranks { IfOk result (λ places.
         All (λ place. place.ranks ≡ ranks_of ranks.now place.codes.now.codes) places.items) }
     ensures order { IfOk result (λ places.
         IsSortedBy (λ a b. is_lt (slice_cmp nat_cmp a.ranks b.ranks)) places.items) }
 {
-    let mut places = places_of(alloc, ranks, cells, wants)?;
+    let mut places = places_of(alloc, ranks, levels, wants)?;
     workers.sort_places(alloc, &mut places)?;
     Ok(places)
 }
@@ -189,24 +191,46 @@ fn places_in_order<'c, W: Workers>(
 fn places_of<'c>(
     alloc: Global,
     ranks: &[Ranks],
-    cells: &'c HashMap<Codes, Cell>,
+    levels: &'c [Level],
     wants: &[Want],
 ) -> Result<Vec<Place<'c>>, AllocError>
     requires { length ranks.now ≤ 8 }
     ensures cells { IfOk result (λ places.
         map (λ place. (place.codes.now, place.cell.now)) places.items
-        ≡ filter (λ cell. are_wanted_codes wants.now cell.0.codes) cells.now.entries) }
+        ≡ filter (λ cell. are_wanted_codes wants.now cell.0.codes) (cells_of levels.now)) }
     ensures ranks { IfOk result (λ places.
         All (λ place. place.ranks ≡ ranks_of ranks.now place.codes.now.codes) places.items) }
 {
     let mut places = Vec::new(alloc);
+    for level in levels {
+        push_places(&mut places, ranks, &level.cells, wants)?;
+    }
+    Ok(places)
+}
+
+// Puts the cells of a table whose codes are wanted at the end.
+fn push_places<'c>(
+    places: &mut Vec<Place<'c>>,
+    ranks: &[Ranks],
+    cells: &'c HashMap<Codes, Cell>,
+    wants: &[Want],
+) -> Result<(), AllocError>
+    requires { length ranks.now ≤ 8 }
+    ensures cells { OnOk result
+        (map (λ place. (place.codes.now, place.cell.now)) places.new.items
+        ≡ map (λ place. (place.codes.now, place.cell.now)) places.old.items
+        ++ filter (λ cell. are_wanted_codes wants.now cell.0.codes) cells.now.entries) }
+    ensures ranks { OnOk result
+        (All (λ place. place.ranks ≡ ranks_of ranks.now place.codes.now.codes) places.old.items →
+        All (λ place. place.ranks ≡ ranks_of ranks.now place.codes.now.codes) places.new.items) }
+{
     for (codes, cell) in cells {
         if are_wanted(wants, &codes.codes) {
             let ranks = ranks_of(ranks, codes);
             places.push(Place { ranks, codes, cell })?;
         }
     }
-    Ok(places)
+    Ok(())
 }
 
 // Whether each code is wanted, as far as both lists go.

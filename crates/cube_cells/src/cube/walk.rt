@@ -1,75 +1,95 @@
-//! The walk over the kept grouping sets: the one key in each that covers a fact.
-ghost use Rattle.std.specs.Prelude.{◌≡◌, ◌<◌, ◌+◌, ◌^◌, [], ◌∷◌, true, IsTrue, OnOk, OnErr, IfSome, None, length};
-ghost use Rattle.std.specs.List.{list_all, IsDistinct};
-ghost use Rattle.std.specs.Option.{ForSome};
-ghost use Rattle.cube_cells.specs.Coded.{coded_at, same_codes};
+//! The walk over the levels of the kept grouping sets: the one key in each that covers a fact.
+ghost use Rattle.std.specs.Prelude.{◌≡◌, ◌≤◌, ◌<◌, [], ◌∷◌, ℕ, All, IsTrue, OnOk, OnErr, None, length, get_or};
+ghost use Rattle.std.specs.List.{list_all, AllZip};
+ghost use Rattle.std.specs.Option.{option_map};
+ghost use Rattle.cube_cells.specs.Coded.{coded_at};
 ghost use Rattle.cube_cells.specs.Cube.{cell_holds};
-ghost use Rattle.cube_cells.specs.Walk.{key_in, codes_in, is_in, LosesFact, HasRoom, AddsIn, TakesIn, SameCoded, AreApart};
-ghost use Rattle.cube_cells.specs.declared.cube.codes.Codes.{Codes};
+ghost use Rattle.cube_cells.specs.Levels.{HasRoomInLevel, level_holds, table_at, AddsInLevel, TakesInLevel, SameInLevel, ChangesFirst};
+ghost use Rattle.cube_cells.specs.declared.cube.levels.Level.{Level};
+ghost use Rattle.cube_cells.specs.Walk.{LosesFact, HasRoom, AddsIn, TakesIn, SameCoded, AreApart};
 
 use super::codes::Codes;
+use super::levels::Level;
 use crate::cell::Cell;
 use std::alloc::{AllocError, Global};
 use std::collections::HashMap;
 
-/// Adds a fact with these codes and measures to its cell of each set, or to none.
+/// Adds a fact with these codes and measures to its cell of each level, or to none.
 pub fn add_to_sets(
     alloc: Global,
-    cells: &mut HashMap<Codes, Cell>,
+    levels: &mut [Level],
     codes: &Codes,
-    sets: &[u8],
     values: &[Option<i64>],
 ) -> Result<(), AllocError>
-    requires apart { IsDistinct same_codes (codes_in sets.now codes.now) }
-    requires room { (key : Codes) → is_in (codes_in sets.now codes.now) key ≡ true →
-        HasRoom values.now key (coded_at cells.old.entries key) }
-    ensures added { OnOk result
-        (AddsIn (codes_in sets.now codes.now) values.now cells.old.entries cells.new.entries) }
-    ensures err { OnErr result
-        (SameCoded (codes_in sets.now codes.now) cells.old.entries cells.new.entries) }
-    ensures apart { AreApart cells.old.entries → AreApart cells.new.entries }
+    requires { All (HasRoomInLevel codes.now values.now) levels.old }
+    ensures added { OnOk result (AllZip (AddsInLevel codes.now values.now) levels.old levels.new) }
+    ensures err { OnErr result (AllZip (SameInLevel codes.now) levels.old levels.new) }
 {
-    for (place, set) in sets.iter().enumerate() {
-        if let Err(error) = add_to_cell(alloc, cells, codes.kept(*set), values) {
-            take_from_sets(cells, codes, &sets[..place], values);
+    for place in 0..levels.len() {
+        if let Err(error) = add_to_level(alloc, &mut levels[place], codes, values) {
+            take_from_sets(levels, place, codes, values);
             return Err(error);
         }
     }
     Ok(())
 }
 
-/// Takes a fact with these codes and measures from its cell of each set, the last set first.
-pub fn take_from_sets(
-    cells: &mut HashMap<Codes, Cell>,
-    codes: &Codes,
-    sets: &[u8],
-    values: &[Option<i64>],
-)
-    requires apart { IsDistinct same_codes (codes_in sets.now codes.now) }
-    requires held { (key : Codes) → is_in (codes_in sets.now codes.now) key ≡ true →
-        cell_holds values.now (coded_at cells.old.entries key) ≡ true }
-    ensures taken { TakesIn (codes_in sets.now codes.now) values.now cells.old.entries cells.new.entries }
-    ensures apart { AreApart cells.old.entries → AreApart cells.new.entries }
+/// Takes a fact with these codes and measures from its cell of each of the first levels.
+pub fn take_from_sets(levels: &mut [Level], number: usize, codes: &Codes, values: &[Option<i64>])
+    requires within { number ≤ length levels.old }
+    requires held { (i : ℕ) (unused : Level) → i < number →
+        IsTrue (level_holds codes.now values.now (get_or levels.old i unused)) }
+    ensures { ChangesFirst (TakesInLevel codes.now values.now) number levels.old levels.new }
 {
-    let mut left = sets;
-    while let Some((set, others)) = left.split_last() {
-        take_from_cell(cells, codes.kept(*set), values);
-        left = others;
+    for place in 0..number {
+        take_from_level(&mut levels[place], codes, values);
     }
 }
 
-/// Whether in each set the key with these codes is a cell that holds the measures.
-pub fn hold_in_sets(
-    cells: &HashMap<Codes, Cell>,
-    codes: &Codes,
-    sets: &[u8],
-    values: &[Option<i64>],
-) -> bool
-    ensures { result ≡ list_all
-        (λ set. cell_holds values.now (coded_at cells.now.entries (key_in codes.now set))) sets.now }
+/// Whether in each level the key with these codes is a cell that holds the measures.
+pub fn hold_in_sets(levels: &[Level], codes: &Codes, values: &[Option<i64>]) -> bool
+    ensures { result ≡ list_all (level_holds codes.now values.now) levels.now }
 {
-    sets.iter()
-        .all(|set| holds_at(cells, &codes.kept(*set), values))
+    levels
+        .iter()
+        .all(|level| holds_at(&level.cells, &codes.kept(level.set), values))
+}
+
+/// The cell with these codes: it is in the level of their set.
+pub fn find_cell<'c>(levels: &'c [Level], codes: &Codes) -> Option<&'c Cell>
+    ensures { option_map (λ cell. cell.now) result ≡ coded_at (table_at levels.now codes.now) codes.now }
+{
+    let set = codes.mask();
+    for level in levels {
+        if level.set == set {
+            return level.cells.get(codes);
+        }
+    }
+    None
+}
+
+// Adds to the cell of a level.
+fn add_to_level(
+    alloc: Global,
+    level: &mut Level,
+    codes: &Codes,
+    values: &[Option<i64>],
+) -> Result<(), AllocError>
+    requires { HasRoomInLevel codes.now values.now level.old }
+    ensures added { OnOk result (AddsInLevel codes.now values.now level.old level.new) }
+    ensures err { OnErr result (SameInLevel codes.now level.old level.new) }
+{
+    let key = codes.kept(level.set);
+    add_to_cell(alloc, &mut level.cells, key, values)
+}
+
+// Takes from the cell of a level.
+fn take_from_level(level: &mut Level, codes: &Codes, values: &[Option<i64>])
+    requires { IsTrue (level_holds codes.now values.now level.old) }
+    ensures { TakesInLevel codes.now values.now level.old level.new }
+{
+    let key = codes.kept(level.set);
+    take_from_cell(&mut level.cells, key, values);
 }
 
 fn holds_at(cells: &HashMap<Codes, Cell>, codes: &Codes, values: &[Option<i64>]) -> bool

@@ -6,7 +6,8 @@ ghost use Rattle.std.specs.Ordering.{nat_cmp, is_lt};
 ghost use Rattle.std.specs.Thread.{IsSync};
 ghost use Rattle.cube_cells.specs.Fill.{AreMadeLevels, IsFiner};
 
-use super::fill::{Level, level_from};
+use super::fill::level_from;
+use super::levels::Level;
 use super::ordered::Place;
 use rayon::prelude::*;
 use std::alloc::{AllocError, Global};

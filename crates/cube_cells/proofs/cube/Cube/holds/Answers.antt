@@ -2,7 +2,9 @@ use Rattle.std.proofs.Common.{arith, refl, sym, ◌≡◌, true}
 use Rattle.cube_core.specs.Takes.{fits}
 use Rattle.cube_cells.proofs.CubeLaws.{HoldsFact-IsCubeOf}
 use Rattle.cube_cells.proofs.KeyLaws.{HasFactCodes}
+use Rattle.cube_cells.proofs.LeveledLaws.{list_all-level_holds}
 use Rattle.cube_cells.proofs.CodedLaws.{IsCodedFact-IsCoded, cell_holds-HoldsFact}
+use Rattle.cube_cells.specs.Levels.{cells_of}
 use Rattle.cube_cells.proofs.cube.Cube.holds.Goals as goal
 
 pub returns-clause-held : goal.returns-clause-held
@@ -11,14 +13,15 @@ returns-clause-held c =
     let sets = c.self.inside.sets.items in
     let facts = c.self.inside.facts in
     let dictionaries = c.self.inside.dictionaries.items in
-    let cells = c.self.inside.cells.entries in
+    let cells = (cells_of c.self.inside.levels.items) in
     let codes = c.codes_of_values-codes.result in
     let fit : fits schema c.args.fact.now ≡ true = sym c.if-not-fits.ensures in
     let has : HasFactCodes dictionaries c.args.fact.now codes = record { are = rw c.deref.ensures.value at c.codes_of_values-codes.ensures.codes; eight = c.codes_of_values-codes.ensures.eight } in
-    let of = IsCodedFact-IsCoded schema sets facts dictionaries dictionaries cells c.args.fact.now codes c.self.invariant fit refl c.self.invariant.texts has in
-    let is = cell_holds-HoldsFact schema sets facts dictionaries cells c.args.fact.now codes c.self.invariant fit (omega arith) of in
+    let of = IsCodedFact-IsCoded schema sets facts dictionaries dictionaries cells c.args.fact.now codes c.self.invariant.coded fit refl c.self.invariant.coded.texts has in
+    let is = cell_holds-HoldsFact schema sets facts dictionaries cells c.args.fact.now codes c.self.invariant.coded fit (omega arith) of in
     let result = rw (c.as_slice.ensures, c.deref-2.ensures.value) at c.hold_in_sets.ensures in
-    rw (← c.self.view_is, result) is
+    let each = list_all-level_holds c.self.invariant fit has in
+    rw (← c.self.view_is, result, each) is
 
 pub returns-clause-cube : goal.returns-clause-cube
 returns-clause-cube c = λ facts fit cube some. (returns-clause-held c).1 (HoldsFact-IsCubeOf c.args.fact.now c.args.self.now facts fit some cube)

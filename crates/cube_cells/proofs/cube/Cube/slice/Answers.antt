@@ -10,7 +10,7 @@ use Rattle.cube_cells.proofs.cube.Cube.slice.Goals as goal
 pub returns-then-wanted-len-clause-rows : goal.returns-then-wanted-len-clause-rows
 returns-then-wanted-len-clause-rows c =
     let pattern = c.args.pattern.now in
-    rw (← c.self.view_is, c.new.ensures.items) (AreRowsOf-nil (matches pattern) c.self.invariant
+    rw (← c.self.view_is, c.new.ensures.items) (AreRowsOf-nil (matches pattern) c.self.invariant.coded
     (λ codes. matches-length c.self.inside.dictionaries.items pattern codes (λ same. c.if-wanted-len.true (omega (arith, ap (λ ws. length ws) c.wanted-wanted.ensures, same, c.len.ensures)))))
 
 pub returns-then-wanted-len-clause-cube : goal.returns-then-wanted-len-clause-cube

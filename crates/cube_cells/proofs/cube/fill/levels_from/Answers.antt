@@ -4,7 +4,7 @@ use Rattle.std.specs.Prelude.{Ok, Result, IfOk}
 use Rattle.std.specs.declared.alloc.AllocError.{AllocError}
 use Rattle.std.proofs.lemmas.List.{length-map, get_or-map}
 use Rattle.cube_cells.specs.Fill.{IsMadeLevel}
-use Rattle.cube_cells.specs.declared.cube.fill.Level.{Level}
+use Rattle.cube_cells.specs.declared.cube.levels.Level.{Level}
 use Rattle.cube_cells.proofs.FillLaws.{IsMakingLevels, IsMakingLevels-next}
 use Rattle.cube_cells.proofs.cube.fill.levels_from.Goals as goal
 

@@ -1,6 +1,6 @@
 use Rattle.std.proofs.Common.{◌∷◌, Contains, sym, subst, arith, ap, suc}
 use Rattle.cube_cells.specs.Fill.{IsFiner}
-use Rattle.cube_cells.specs.declared.cube.fill.Level.{Level}
+use Rattle.cube_cells.specs.declared.cube.levels.Level.{Level}
 use Rattle.cube_cells.proofs.cube.fill.smallest_finer.Goals as goal
 use Rattle.cube_cells.proofs.cube.fill.smallest_finer.Goals.{then-is_finer+then-len, else-is_finer}
 

@@ -1,7 +1,7 @@
 use Rattle.std.proofs.Common.{◌≡◌, ◌∙◌, ap, arith, None}
 use Rattle.cube_cells.specs.Coded.{CodedCells, coded_at}
 use Rattle.cube_cells.proofs.NewLaws.{AreNewCells-one}
-use Rattle.cube_cells.proofs.cube.total_cells.Goals as goal
+use Rattle.cube_cells.proofs.cube.levels.total_cells.Goals as goal
 
 pub returns : goal.returns
 returns c =

@@ -2,7 +2,7 @@ use Rattle.std.proofs.Common.{Bool, sym, subst}
 use Rattle.std.specs.Prelude.{IfOk}
 use Rattle.cube_cells.specs.Coded.{AreNewCells}
 use Rattle.cube_cells.proofs.NewLaws.{AreNewCells-nil}
-use Rattle.cube_cells.proofs.cube.new_cells.Goals as goal
+use Rattle.cube_cells.proofs.cube.levels.new_cells.Goals as goal
 
 pub returns-then-has_total : goal.returns-then-has_total
 returns-then-has_total c = subst (λ (b : Bool). IfOk c.total_cells.result (λ cells. AreNewCells b c.args.measures cells.entries)) (sym c.if-has_total.true) c.total_cells.ensures
