@@ -1,10 +1,9 @@
 -- Laws of levels: each that is made has all facts, and so have the cells of all of them together.
-use Rattle.std.proofs.Common.{◌≡◌, ℕ, ◌+◌, ◌*◌, ◌^◌, ◌<◌, ◌≤◌, ◌==◌, ◌⊎◌, List, [], ◌∷◌, ◌++◌, Bool, true, false, ◌&&◌, ◌||◌, refl, sym, ap, ◌∙◌, subst, arith, inl, inr, length, map, get_or, append_assoc, Option, Some, None, if◌then◌else◌}
+use Rattle.std.proofs.Common.{◌≡◌, ℕ, ◌+◌, ◌*◌, ◌^◌, ◌<◌, ◌≤◌, ◌==◌, ◌⊎◌, List, [], ◌∷◌, ◌++◌, Bool, true, false, ◌&&◌, ◌||◌, refl, sym, ap, ◌∙◌, subst, arith, inl, inr, length, get_or, append_assoc, Option, Some, None, if◌then◌else◌}
 use Rattle.std.specs.Prelude.{All, IfSome, IsSome, is_some, bit_and}
 use Rattle.std.specs.List.{AllByRecursion, IsDistinct, list_any}
 use Rattle.std.specs.List.Sorted.{IsNonDecreasingBy, IsPermutation, IsStrictlySortedBy}
-use Rattle.std.specs.Map.{keys_of}
-use Rattle.std.specs.Ordering.{nat_cmp, eq_by_cmp}
+use Rattle.std.specs.Ordering.{nat_cmp}
 use Rattle.std.proofs.lemmas.Bool.{cases_Bool, cases_lt, cases_order, and_parts, or_cases, both_ways, eqb-true, eq-eqb, ne_eqb, false_from_ne_true}
 use Rattle.std.proofs.lemmas.List.{append-nil, get_or-map, length-map, map-append}
 use Rattle.std.proofs.lemmas.List.Elements.{All-head, All-tail, All-nil, All-cons, All-append, All-contains, All-push, All-weaker, Contains-push, recursion_from_All}
@@ -12,7 +11,6 @@ use Rattle.std.proofs.lemmas.List.Sorted.{All-permutation, IsPermutation-append_
 use Rattle.std.proofs.lemmas.List.Sums.{sum_by-append, sum_by-cons}
 use Rattle.std.proofs.lemmas.Cmp.{nat_cmp_total, nat_eq_equiv}
 use Rattle.std.proofs.lemmas.Map.Keys.{IsDistinct-IsPermutation, apart_from_distinct, sorted_from_all_adjacent, sorted_from_strictly_increasing}
-use Rattle.std.proofs.lemmas.Map.Views.{Contains-from_lookup, lookup-from_Contains}
 use Rattle.std.proofs.lemmas.Nat.{and_comm, and_le_l, and_mask}
 use Rattle.std.proofs.Math.Nat.{mod-eq_of_lt}
 use Rattle.cube_core.specs.Cube.{is_cell, is_total}
@@ -20,16 +18,15 @@ use Rattle.cube_core.specs.Covers.{covers}
 use Rattle.cube_core.specs.Group.{group_of}
 use Rattle.cube_core.specs.GroupingSet.{mask_of, is_among}
 use Rattle.cube_core.specs.Layout.{Layout}
-use Rattle.cube_core.specs.Order.{key_cmp}
 use Rattle.cube_core.specs.declared.fact.Fact.{Fact}
 use Rattle.cube_core.specs.declared.key.Key.{Key}
 use Rattle.cube_cells.specs.Codes.{Dictionaries, key_at}
-use Rattle.cube_cells.specs.Coded.{CodedCells, IsCoded, IsCodedCell, same_codes, coded_at, decoded, lattice_of, total_codes}
+use Rattle.cube_cells.specs.Coded.{CodedCells, IsCoded, IsCodedCell, coded_at, decoded, lattice_of, total_codes}
 use Rattle.cube_cells.specs.Cube.{IsCubeOf, cell_at, count_in}
 use Rattle.cube_cells.specs.Fill.{AreFilled, IsCubeOfAll, IsFiner, MakesLevels, MakesLevelsOf, finest_set}
 use Rattle.cube_cells.specs.Levels.{IsLeveled, IsOfOneSet, cells_of, mask_of_codes, sets_of}
 use Rattle.cube_cells.specs.Tally.{Tally, IsTallyOf}
-use Rattle.cube_cells.specs.Walk.{AreApart, weight_of_cells}
+use Rattle.cube_cells.specs.Walk.{weight_of_cells}
 use Rattle.cube_cells.specs.declared.cube.codes.Codes.{Codes}
 use Rattle.cube_cells.specs.declared.cube.levels.Level.{Level}
 use Rattle.cube_cells.proofs.CodedLaws.{IsCoded-width}
@@ -40,7 +37,6 @@ use Rattle.cube_cells.proofs.KeptLaws.{All-coded_at}
 use Rattle.cube_cells.proofs.KeyLaws.{IsCodedCell-coded_at}
 use Rattle.cube_cells.proofs.RankLaws.{nat_cmp-Less}
 use Rattle.cube_cells.proofs.TableLaws.{mask_of_coords-mask_of_codes}
-use Rattle.cube_cells.proofs.WalkLaws.{same_codes-IsEquivalence, same_codes-exact}
 
 -- ---- cells of other sets
 -- the set of a cell that is found is one of the sets
@@ -216,15 +212,15 @@ IsStrictlySortedBy-sets_of (first ∷ levels) distinct up = sorted_from_all_adja
     let apart : is_same_set (get_or sets k 0) (get_or sets (k + 1) 0) ≡ false = apart_from_distinct is_same_set sets k (k + 1) 0 distinct (omega arith) inside in
     let other : get_or sets (k + 1) 0 ≡ get_or sets k 0 → ⊥ = λ same. both_ways (is_same_set (get_or sets k 0) (get_or sets (k + 1) 0)) apart (eq-eqb (get_or sets (k + 1) 0) (get_or sets k 0) same) in
     nat_cmp-Less (get_or sets k 0) (get_or sets (k + 1) 0) (below (cases_lt (get_or sets k 0) (get_or sets (k + 1) 0)) other (omega (arith, least, here, next)))) where
-  all : List Level
-  all = first ∷ levels
+      all : List Level
+      all = first ∷ levels
 
-  sets : List ℕ
-  sets = sets_of (first ∷ levels)
+      sets : List ℕ
+      sets = sets_of (first ∷ levels)
 
-  below : {x y : ℕ} → (x < y) ⊎ (y ≤ x) → (y ≡ x → ⊥) → x ≤ y → x < y
-  below (inl less) other least = less
-  below (inr past) other least = absurd (other (omega (arith, past, least)))
+      below : {x y : ℕ} → (x < y) ⊎ (y ≤ x) → (y ≡ x → ⊥) → x ≤ y → x < y
+      below (inl less) other least = less
+      below (inr past) other least = absurd (other (omega (arith, past, least)))
 
 -- levels that are made, put in order
 pub AreFilled-in_order : (finest : Level) (sets coarser : List ℕ) (measures : ℕ) (keeps_finest : Bool) (made levels : List Level) → IsStrictlySortedBy nat_cmp sets → sets ≡ coarser ++ (if keeps_finest then finest.set ∷ [] else []) → MakesLevelsOf measures finest coarser made → IsPermutation (made ++ (if keeps_finest then finest ∷ [] else [])) levels → IsNonDecreasingBy (λ level. level.set) levels → AreFilled finest sets measures levels
@@ -326,23 +322,37 @@ IsCubeOf-AreFilled schema sets number dictionaries finest levels facts within as
     counts = λ set among. all.counts set among ∙ sym count;
   }
 
+-- a cube over one set is its level
+IsLevel-IsCubeOfAll : (schema : Layout) (number : ℕ) (dictionaries : Dictionaries) (level : Level) (facts : List Fact) → IsCoded schema (level.set ∷ []) number dictionaries level.cells.entries → IsCubeOfAll facts (lattice_of schema (level.set ∷ []) number dictionaries level.cells.entries) → IsLevel schema dictionaries facts level
+IsLevel-IsCubeOfAll schema number dictionaries level facts is all = record {
+  below = All-head (λ (s : ℕ). s < 2 ^ length schema.dimensions) level.set [] is.lattice.sets;
+  all = record {
+    distinct = is.distinct;
+    each = is.each;
+    total = is.total;
+    counts = λ set among. is.counts set among ∙ all.facts_are;
+    keys = all.cells.keys;
+    tallies = all.cells.tallies;
+  };
+}
+
 -- a cube is filled from one over the finest set
 pub IsCubeOfAll-AreFilled : (schema : Layout) (sets : List ℕ) (own number : ℕ) (texts dictionaries : Dictionaries) (old : CodedCells) (finest : Level) (levels : List Level) (facts : List Fact) → IsCoded schema sets own texts old → finest.set ≡ finest_set (length schema.dimensions) → IsCoded schema (finest.set ∷ []) number dictionaries finest.cells.entries → IsCubeOfAll facts (lattice_of schema (finest.set ∷ []) number dictionaries finest.cells.entries) → AreFilled finest sets (length schema.measures) levels → IsLeveled schema sets number dictionaries levels × IsCubeOfAll facts (lattice_of schema sets number dictionaries (cells_of levels))
 IsCubeOfAll-AreFilled schema sets own number texts dictionaries old finest levels facts mine is_finest is all filled =
     let base : IsBase schema dictionaries facts = record { is_schema = is.lattice.schema; width = is.lattice.dictionaries; texts = is.texts; fit = all.fit } in
-    let first : IsLevel schema dictionaries facts finest = record {
-      below = All-head (λ (s : ℕ). s < 2 ^ length schema.dimensions) finest.set [] is.lattice.sets;
-      all = record {
-        distinct = is.distinct;
-        each = is.each;
-        total = is.total;
-        counts = λ set among. is.counts set among ∙ all.facts_are;
-        keys = all.cells.keys;
-        tallies = all.cells.tallies;
-      };
-    } in
+    let first : IsLevel schema dictionaries facts finest = IsLevel-IsCubeOfAll schema number dictionaries finest facts is all in
     let whole = IsCubeOf-AreFilled schema sets number dictionaries finest levels facts mine.lattice.sets mine.lattice.ascending base first all.facts_are filled in
     (whole.0, record { fit = all.fit; cells = whole.1; facts_are = all.facts_are })
+
+-- the table of one set alone, with the cells of all facts, is a cube
+pub IsLeveled-alone : (schema : Layout) (number : ℕ) (dictionaries : Dictionaries) (level : Level) (facts : List Fact) → IsCoded schema (level.set ∷ []) number dictionaries level.cells.entries → IsCubeOfAll facts (lattice_of schema (level.set ∷ []) number dictionaries level.cells.entries) → IsLeveled schema (level.set ∷ []) number dictionaries (level ∷ [])
+IsLeveled-alone schema number dictionaries level facts is all =
+    let base : IsBase schema dictionaries facts = record { is_schema = is.lattice.schema; width = is.lattice.dictionaries; texts = is.texts; fit = all.fit } in
+    let own : IsLevel schema dictionaries facts level = IsLevel-IsCubeOfAll schema number dictionaries level facts is all in
+    record {
+      coded = subst (IsCoded schema (level.set ∷ []) number dictionaries) (sym (append-nil level.cells.entries)) is;
+      tables = record { sets_are = refl; each = All-cons IsOfOneSet level [] (IsOfOneSet-IsLevel schema dictionaries facts level base own) (All-nil IsOfOneSet) };
+    }
 
 -- ---- sets that are coarser than the finest
 -- each set of so many dimensions has only dimensions of the finest one

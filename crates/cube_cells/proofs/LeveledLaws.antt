@@ -1,6 +1,6 @@
 -- What each step of the cube needs of the walk over its levels, and what it then promises.
-use Rattle.std.proofs.Common.{◌≡◌, ℕ, ◌+◌, ◌-◌, ◌^◌, ◌<◌, List, ◌∷◌, [], Bool, true, refl, sym, ap, ◌∙◌, subst, length, get_or, Option}
-use Rattle.std.specs.Prelude.{ℤ, All, IsTrue}
+use Rattle.std.proofs.Common.{◌≡◌, ℕ, ◌+◌, ◌-◌, ◌^◌, ◌<◌, List, ◌∷◌, [], true, refl, sym, ap, ◌∙◌, subst, length, get_or}
+use Rattle.std.specs.Prelude.{All, IsTrue}
 use Rattle.std.specs.List.{AllZip, list_all}
 use Rattle.std.proofs.lemmas.List.{append-nil}
 use Rattle.cube_core.specs.Layout.{Layout}
@@ -11,7 +11,6 @@ use Rattle.cube_cells.specs.Codes.{Dictionaries, IsDictionary}
 use Rattle.cube_cells.specs.Coded.{coded_at, lattice_of}
 use Rattle.cube_cells.specs.Cube.{HoldsFact, AddsFact, TakesFact, SameCells, cell_holds}
 use Rattle.cube_cells.specs.Levels.{AddsInLevel, HasRoomInLevel, IsLeveled, SameInLevel, TakesInLevel, cells_of, level_holds, sets_of, table_at}
-use Rattle.cube_cells.specs.Tally.{Tally}
 use Rattle.cube_cells.specs.Walk.{HasRoom, key_in}
 use Rattle.cube_cells.specs.declared.cube.codes.Codes.{Codes}
 use Rattle.cube_cells.specs.declared.cube.levels.Level.{Level}
@@ -21,7 +20,7 @@ use Rattle.cube_cells.proofs.StepLaws.{HasNewCodes, codes_in-HasRoom, codes_in-c
 use Rattle.cube_cells.proofs.TableLaws.{AddsIn-AddsInLevel, All-key_of_level, HasKeysIn, SameCoded-SameInLevel, TakesIn-TakesInLevel, coded_at-table_at, list_all-key_of_level, mask_of_codes-kept_codes}
 
 -- the codes of a fact that fits have keys of the kept sets
-pub HasKeysIn-fits : {schema : Layout} {sets : List ℕ} {facts : ℕ} {old new : Dictionaries} {levels : List Level} {fact : Fact} {codes : Codes} → IsLeveled schema sets facts old levels → fits schema fact ≡ true → HasFactCodes new fact codes → HasKeysIn codes sets
+HasKeysIn-fits : {schema : Layout} {sets : List ℕ} {facts : ℕ} {old new : Dictionaries} {levels : List Level} {fact : Fact} {codes : Codes} → IsLeveled schema sets facts old levels → fits schema fact ≡ true → HasFactCodes new fact codes → HasKeysIn codes sets
 HasKeysIn-fits {schema = schema} {sets = sets} {new = new} {fact = fact} {codes = codes} is fit has =
     let below : All (λ set. set < 2 ^ length fact.dims) sets = subst (λ (n : ℕ). All (λ set. set < 2 ^ n) sets) (sym (fits-length schema fact fit)) is.coded.lattice.sets in
     λ k d inside. mask_of_codes-kept_codes new fact.dims codes.codes _ has.are (below k d inside)

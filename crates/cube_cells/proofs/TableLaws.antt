@@ -1,18 +1,17 @@
 -- Laws of the tables of a cube: what is found in the cells of all levels is found in the level of its set, and what is done in each level is done in all of them.
-use Rattle.std.proofs.Common.{◌≡◌, ℕ, zero, suc, ◌+◌, ◌*◌, ◌^◌, ◌<◌, ◌≤◌, ◌==◌, ◌%◌, ◌/◌, List, [], ◌∷◌, ◌++◌, Bool, true, false, ◌&&◌, refl, sym, ap, ◌∙◌, subst, arith, inl, inr, ◌⊎◌, length, map, get_or, set, take, append_assoc, Option, Some, None, if◌then◌else◌}
+use Rattle.std.proofs.Common.{◌≡◌, ℕ, zero, suc, ◌+◌, ◌*◌, ◌^◌, ◌<◌, ◌≤◌, ◌==◌, ◌%◌, ◌/◌, List, [], ◌∷◌, ◌++◌, Bool, true, false, refl, sym, ap, ◌∙◌, subst, arith, inl, inr, ◌⊎◌, length, map, get_or, set, take, append_assoc, Option, Some, None, if◌then◌else◌}
 use Rattle.std.specs.Prelude.{ℤ, All, sum_by}
 use Rattle.std.specs.List.{AllZip, list_all}
 use Rattle.std.specs.List.Sorted.{IsStrictlySortedBy}
 use Rattle.std.specs.Ordering.{nat_cmp}
-use Rattle.std.proofs.lemmas.Bool.{cases_Bool, cases_eq, cases_order, and_parts, or_cases, or_left, or_right, both_ways, eqb-true, eq-eqb, ne_eqb, false_from_ne_true}
+use Rattle.std.proofs.lemmas.Bool.{cases_Bool, cases_order, and_parts, or_left, or_right, both_ways, eqb-true, eq-eqb, ne_eqb, false_from_ne_true}
 use Rattle.std.proofs.lemmas.List.{append-nil, get_or-set_other, get_or-set_same, length-set, take_more}
 use Rattle.std.proofs.lemmas.List.Elements.{All-head, All-tail, All-nil, All-cons, All-weaker, All-contains}
 use Rattle.std.proofs.lemmas.List.Sums.{sum_by-cons, sum_by-append}
 use Rattle.std.proofs.lemmas.Map.Views.{Contains-from_lookup}
 use Rattle.std.proofs.Math.Nat.{pow-succ'}
-use Rattle.cube_core.specs.GroupingSet.{mask_of_coords, is_all_coord, is_among}
-use Rattle.cube_core.specs.declared.key.Coord.{Coord}
-use Rattle.cube_cells.specs.Codes.{Dictionaries, IsDictionary, AreCodesOf, is_code, are_codes, coord_at, coords_at, kept_codes, all_code, coord_of_value}
+use Rattle.cube_core.specs.GroupingSet.{mask_of_coords, is_among}
+use Rattle.cube_cells.specs.Codes.{Dictionaries, IsDictionary, AreCodesOf, is_code, are_codes, coords_at, kept_codes, all_code, coord_of_value}
 use Rattle.cube_cells.specs.Coded.{CodedCells, AreNewCells, coded_at, is_total_code, total_codes}
 use Rattle.cube_cells.specs.Cube.{AddsAt, SameCell, TakesAt, cell_holds}
 use Rattle.cube_cells.specs.Levels.{AreLevelsOf, AddsInLevel, ChangesFirst, HasRoomInLevel, IsNewLevel, IsOfOneSet, SameInLevel, TakesInLevel, cells_of, key_of_level, mask_of_codes, sets_of, table_at}
@@ -143,7 +142,7 @@ abbrev pub HasKeysIn : Codes → List ℕ → Type 0
 HasKeysIn codes sets = All (λ set. mask_of_codes (key_in codes set).codes ≡ set) sets
 
 -- the key in the set of a level is found there
-pub coded_at-key_of_level : (codes : Codes) (levels : List Level) → All IsOfOneSet levels → IsStrictlySortedBy nat_cmp (sets_of levels) → HasKeysIn codes (sets_of levels) → All (λ level. coded_at (cells_of levels) (key_of_level codes level) ≡ coded_at level.cells.entries (key_of_level codes level)) levels
+coded_at-key_of_level : (codes : Codes) (levels : List Level) → All IsOfOneSet levels → IsStrictlySortedBy nat_cmp (sets_of levels) → HasKeysIn codes (sets_of levels) → All (λ level. coded_at (cells_of levels) (key_of_level codes level) ≡ coded_at level.cells.entries (key_of_level codes level)) levels
 coded_at-key_of_level codes [] each ascending keys = All-nil (λ (l : Level). coded_at [] (key_of_level codes l) ≡ coded_at l.cells.entries (key_of_level codes l))
 coded_at-key_of_level codes (level ∷ levels) each ascending keys =
     let K : ℕ → Type 0 = λ set. mask_of_codes (key_in codes set).codes ≡ set in
@@ -185,18 +184,18 @@ list_all-key_of_level f codes levels each ascending keys = by_each (cells_of lev
 
 -- ---- levels that change
 -- each level keeps its set, and changes at the key of codes alone
-pub record Steps (codes : Codes) (old new : Level) : Type 0 where
+record Steps (codes : Codes) (old new : Level) : Type 0 where
   pub same_set : new.set ≡ old.set
   pub others : (q : Codes) → is_in (key_of_level codes old ∷ []) q ≡ false → coded_at new.cells.entries q ≡ coded_at old.cells.entries q
   pub apart : AreApart old.cells.entries → AreApart new.cells.entries
 
-pub AllZip-weaker : (R S : Level → Level → Type 0) (xs ys : List Level) → ((x y : Level) → R x y → S x y) → AllZip R xs ys → AllZip S xs ys
+AllZip-weaker : (R S : Level → Level → Type 0) (xs ys : List Level) → ((x y : Level) → R x y → S x y) → AllZip R xs ys → AllZip S xs ys
 AllZip-weaker R S [] [] each all = tt
 AllZip-weaker R S [] (y ∷ ys) each all = absurd all
 AllZip-weaker R S (x ∷ xs) [] each all = absurd all
 AllZip-weaker R S (x ∷ xs) (y ∷ ys) each all = (each x y all.0, AllZip-weaker R S xs ys each all.1)
 
-pub sets_of-Steps : (codes : Codes) (old new : List Level) → AllZip (Steps codes) old new → sets_of new ≡ sets_of old
+sets_of-Steps : (codes : Codes) (old new : List Level) → AllZip (Steps codes) old new → sets_of new ≡ sets_of old
 sets_of-Steps codes [] [] steps = refl
 sets_of-Steps codes [] (b ∷ new) steps = absurd steps
 sets_of-Steps codes (a ∷ old) [] steps = absurd steps
@@ -225,7 +224,7 @@ All-IsOfOneSet-Steps codes (a ∷ old) (b ∷ new) keys steps each apart =
     (All-IsOfOneSet-Steps codes old new (All-tail K a.set (sets_of old) keys) steps.1 (All-tail IsOfOneSet a old each) (AreApart-append_right a.cells.entries (cells_of old) apart))
 
 -- the codes of all cells differ where those of each level do
-pub AreApart-cells_of : (levels : List Level) → All IsOfOneSet levels → IsStrictlySortedBy nat_cmp (sets_of levels) → All (λ level. AreApart level.cells.entries) levels → AreApart (cells_of levels)
+AreApart-cells_of : (levels : List Level) → All IsOfOneSet levels → IsStrictlySortedBy nat_cmp (sets_of levels) → All (λ level. AreApart level.cells.entries) levels → AreApart (cells_of levels)
 AreApart-cells_of [] each ascending all = AreApart-nil
 AreApart-cells_of (level ∷ levels) each ascending all =
     let A : Level → Type 0 = λ l. AreApart l.cells.entries in
@@ -243,7 +242,7 @@ AreApart-Steps codes (a ∷ old) (b ∷ new) steps apart =
     (AreApart-Steps codes old new steps.1 (AreApart-append_right a.cells.entries (cells_of old) apart))
 
 -- the levels stay levels of the sets, and all codes differ
-pub AreLevelsOf-Steps : (codes : Codes) (sets : List ℕ) (old new : List Level) → IsStrictlySortedBy nat_cmp sets → HasKeysIn codes sets → AreLevelsOf sets old → AreApart (cells_of old) → AllZip (Steps codes) old new → AreLevelsOf sets new × AreApart (cells_of new)
+AreLevelsOf-Steps : (codes : Codes) (sets : List ℕ) (old new : List Level) → IsStrictlySortedBy nat_cmp sets → HasKeysIn codes sets → AreLevelsOf sets old → AreApart (cells_of old) → AllZip (Steps codes) old new → AreLevelsOf sets new × AreApart (cells_of new)
 AreLevelsOf-Steps codes sets old new ascending keys are apart steps =
     let each : All IsOfOneSet new = All-IsOfOneSet-Steps codes old new (rw are.sets_are keys) steps are.each apart in
     let same : sets_of new ≡ sets = sets_of-Steps codes old new steps ∙ are.sets_are in
@@ -283,7 +282,7 @@ no_key codes sets q keys none inside =
     both_ways (is_among (mask_of_codes q.codes) sets) none (ap (λ (s : ℕ). is_among s sets) set ∙ found.1)
 
 -- levels before and after a change, each of one set
-pub record AreStepped (codes : Codes) (sets : List ℕ) (old new : List Level) : Type 0 where
+record AreStepped (codes : Codes) (sets : List ℕ) (old new : List Level) : Type 0 where
   pub ascending : IsStrictlySortedBy nat_cmp sets
   pub keys : HasKeysIn codes sets
   pub before : AreLevelsOf sets old
@@ -328,13 +327,16 @@ pub AddsIn-AddsInLevel : (codes : Codes) (values : List (Option ℤ)) (sets : Li
 AddsIn-AddsInLevel codes values sets old new ascending keys are apart all =
     let R : Level → Level → Type 0 = AddsInLevel codes values in
     let after = AreLevelsOf-Steps codes sets old new ascending keys are apart (AllZip-weaker R (Steps codes) old new (Steps-AddsInLevel codes values) all) in
-    let stepped : AreStepped codes sets old new = record { ascending = ascending; keys = keys; before = are; after = after.0 } in
-    (after.0, after.1, record {
-      added = lift-at (λ q o n. AddsAt values o n) R codes sets old new stepped (λ a b adds. adds.same_set) (λ a b adds. adds.adds.added) all;
-      held = lift-at (λ q o n. cell_holds values n ≡ true) R codes sets old new stepped (λ a b adds. adds.same_set) (λ a b adds. adds.adds.held) all;
-      others = lift-others R codes sets old new stepped (λ a b adds. adds.same_set) (λ a b adds. adds.adds.others) all;
-      weight = λ weight. rw are.sets_are at (weight-AddsInLevel codes values weight old new all);
-    })
+    let stepped : AreStepped codes sets old new = record { ascending = ascending; keys = keys; before = are; after = after.0 } in (
+      after.0,
+      after.1,
+      record {
+        added = lift-at (λ q o n. AddsAt values o n) R codes sets old new stepped (λ a b adds. adds.same_set) (λ a b adds. adds.adds.added) all;
+        held = lift-at (λ q o n. cell_holds values n ≡ true) R codes sets old new stepped (λ a b adds. adds.same_set) (λ a b adds. adds.adds.held) all;
+        others = lift-others R codes sets old new stepped (λ a b adds. adds.same_set) (λ a b adds. adds.adds.others) all;
+        weight = λ weight. rw are.sets_are at (weight-AddsInLevel codes values weight old new all);
+      },
+    )
 
 -- ---- a fact less
 Steps-TakesInLevel : (codes : Codes) (values : List (Option ℤ)) (a b : Level) → TakesInLevel codes values a b → Steps codes a b
@@ -352,12 +354,15 @@ pub TakesIn-TakesInLevel : (codes : Codes) (values : List (Option ℤ)) (sets : 
 TakesIn-TakesInLevel codes values sets old new ascending keys are apart all =
     let R : Level → Level → Type 0 = TakesInLevel codes values in
     let after = AreLevelsOf-Steps codes sets old new ascending keys are apart (AllZip-weaker R (Steps codes) old new (Steps-TakesInLevel codes values) all) in
-    let stepped : AreStepped codes sets old new = record { ascending = ascending; keys = keys; before = are; after = after.0 } in
-    (after.0, after.1, record {
-      taken = lift-at (λ q o n. TakesAt (is_total_code q) values o n) R codes sets old new stepped (λ a b takes. takes.same_set) (λ a b takes. takes.takes.taken) all;
-      others = lift-others R codes sets old new stepped (λ a b takes. takes.same_set) (λ a b takes. takes.takes.others) all;
-      weight = λ weight. rw are.sets_are at (weight-TakesInLevel codes values weight old new all);
-    })
+    let stepped : AreStepped codes sets old new = record { ascending = ascending; keys = keys; before = are; after = after.0 } in (
+      after.0,
+      after.1,
+      record {
+        taken = lift-at (λ q o n. TakesAt (is_total_code q) values o n) R codes sets old new stepped (λ a b takes. takes.same_set) (λ a b takes. takes.takes.taken) all;
+        others = lift-others R codes sets old new stepped (λ a b takes. takes.same_set) (λ a b takes. takes.takes.others) all;
+        weight = λ weight. rw are.sets_are at (weight-TakesInLevel codes values weight old new all);
+      },
+    )
 
 -- ---- the same counts
 Steps-SameInLevel : (codes : Codes) (a b : Level) → SameInLevel codes a b → Steps codes a b
@@ -375,43 +380,21 @@ SameCoded-SameInLevel codes sets old new ascending keys are apart all =
     let R : Level → Level → Type 0 = SameInLevel codes in
     let after = AreLevelsOf-Steps codes sets old new ascending keys are apart (AllZip-weaker R (Steps codes) old new (Steps-SameInLevel codes) all) in
     let stepped : AreStepped codes sets old new = record { ascending = ascending; keys = keys; before = are; after = after.0 } in
-    let others = lift-others R codes sets old new stepped (λ a b same. same.same_set) (λ a b same. same.same.others) all in
-    (after.0, after.1, record {
-      cells = λ q. elim (cases_Bool (is_in (codes_in sets codes) q)) [
-        | inl inside ↦ lift-at (λ q o n. SameCell o n) R codes sets old new stepped (λ a b same. same.same_set) (λ a b same key inside. same.same.cells key) all q inside
-        | inr outside ↦ rw (others q outside) (SameCell-refl (coded_at (cells_of old) q))
-      ];
-      others = others;
-      weight = λ weight. weight-SameInLevel codes weight old new all;
-    })
+    let others = lift-others R codes sets old new stepped (λ a b same. same.same_set) (λ a b same. same.same.others) all in (
+      after.0,
+      after.1,
+      record {
+        cells = λ q. elim (cases_Bool (is_in (codes_in sets codes) q)) [
+          | inl inside ↦ lift-at (λ q o n. SameCell o n) R codes sets old new stepped (λ a b same. same.same_set) (λ a b same key inside. same.same.cells key) all q inside
+          | inr outside ↦ rw (others q outside) (SameCell-refl (coded_at (cells_of old) q))
+        ];
+        others = others;
+        weight = λ weight. weight-SameInLevel codes weight old new all;
+      },
+    )
 
 -- ---- the first levels
-pub ChangesFirst-none : (R : Level → Level → Type 0) (levels : List Level) → ChangesFirst R 0 levels levels
-ChangesFirst-none R levels = record { same_length = refl; changed = λ i d none. absurd (omega (arith, none)); others = λ i d past. refl }
-
--- one more
-pub ChangesFirst-more : (R : Level → Level → Type 0) (number : ℕ) (old now : List Level) (next : Level) → number < length old → ((d : Level) → R (get_or now number d) next) → ChangesFirst R number old now → ChangesFirst R (number + 1) old (set now number next)
-ChangesFirst-more R number old now next inside changes first = record {
-  same_length = length-set now number next ∙ first.same_length;
-  changed = λ i d below. elim (cases_eq i number) [
-    | inl here ↦
-        let at : get_or (set now number next) i d ≡ next = ap (λ (k : ℕ). get_or (set now number next) k d) here ∙ get_or-set_same now number next d (omega (arith, inside, first.same_length)) in
-        let was : get_or old i d ≡ get_or now number d = ap (λ (k : ℕ). get_or old k d) here ∙ sym (first.others number d (omega arith)) in
-        rw (at, was) (changes d)
-    | inr other ↦ rw (get_or-set_other now number i next d other) (first.changed i d (before below other))
-  ];
-  others = λ i d past. get_or-set_other now number i next d (λ same. absurd (omega (arith, same, past))) ∙ first.others i d (omega (arith, past));
-} where
-  before : {i : ℕ} → i < number + 1 → (i ≡ number → ⊥) → i < number
-  before {i = i} below other = elim (cases_order i number) [
-    | inl same ↦ absurd (other same)
-    | inr rest ↦ elim rest [
-      | inl less ↦ less
-      | inr more ↦ absurd (omega (arith, below, more))
-    ]
-  ]
-
-pub AllZip-from_get_or : (R : Level → Level → Type 0) (old new : List Level) → length new ≡ length old → ((i : ℕ) (d : Level) → i < length old → R (get_or old i d) (get_or new i d)) → AllZip R old new
+AllZip-from_get_or : (R : Level → Level → Type 0) (old new : List Level) → length new ≡ length old → ((i : ℕ) (d : Level) → i < length old → R (get_or old i d) (get_or new i d)) → AllZip R old new
 AllZip-from_get_or R [] [] long each = tt
 AllZip-from_get_or R [] (b ∷ new) long each = absurd (omega (arith, long))
 AllZip-from_get_or R (a ∷ old) [] long each = absurd (omega (arith, long))

@@ -1,24 +1,21 @@
 -- Laws of cells kept by codes: what one cell's change says of each look-up and of each weight, and what many changes say.
-use Rattle.std.proofs.Common.{◌≡◌, ℕ, zero, suc, ◌+◌, ◌*◌, ◌<◌, List, [], ◌∷◌, ◌++◌, Bool, true, false, cond, ◌||◌, refl, sym, ap, ◌∙◌, subst, arith, inl, inr, length, take, get_or, replicate, Option, Some, None, nat_lt}
-use Rattle.std.specs.Prelude.{ℤ, All, IsSome, Result, Ok, Err, OnOk, OnErr}
+use Rattle.std.proofs.Common.{◌≡◌, ℕ, ◌+◌, ◌*◌, List, [], ◌∷◌, Bool, true, false, cond, ◌||◌, refl, sym, ap, ◌∙◌, subst, arith, inl, inr, length, replicate, Option, Some, None, nat_lt}
+use Rattle.std.specs.Prelude.{ℤ, IsSome, Result, Ok, Err, OnOk, OnErr}
 use Rattle.std.specs.Cmp.{IsEquivalence}
-use Rattle.std.specs.List.{IsDistinct}
 use Rattle.std.specs.List.Sorted.{IsPermutation}
 use Rattle.std.specs.Map.{set_value, remove_entry}
-use Rattle.std.proofs.lemmas.Bool.{cases_Bool, or_cases, or_right, or_left, or_from, cases_lt, or_parts, both_ways, false_from_ne_true, cond-true, cond-false, le-ltb}
+use Rattle.std.proofs.lemmas.Bool.{cases_Bool, or_cases, or_from, cases_lt, or_parts, false_from_ne_true, cond-true, cond-false, le-ltb}
 use Rattle.std.proofs.lemmas.Cmp.{nat_list_eq_equiv}
-use Rattle.std.proofs.lemmas.List.Elements.{All-from_recursion, All-get_or, All-take, recursion_from_All}
-use Rattle.std.proofs.lemmas.List.Folds.{list_any-append, list_any_none}
 use Rattle.std.proofs.lemmas.List.Sorted.{sum_by-IsPermutation}
-use Rattle.std.proofs.lemmas.List.Sums.{sum_by-cons, sum_by-append}
+use Rattle.std.proofs.lemmas.List.Sums.{sum_by-cons}
 use Rattle.std.proofs.lemmas.Map.{lookup-set_value}
 use Rattle.std.proofs.lemmas.Slice.Eq.{bytes_eq-Decides}
-use Rattle.std.proofs.lemmas.List.{get_or-replicate, get_or_past, length-replicate, append_assoc, append-nil, map-append, map_more, length-map, take-map, get_or-map}
+use Rattle.std.proofs.lemmas.List.{get_or-replicate, get_or_past, length-replicate}
 use Rattle.cube_counts.specs.Bag.{Bag, held_of}
 use Rattle.cube_cells.specs.Coded.{CodedCells, same_codes, coded_at, is_total_code}
 use Rattle.cube_cells.specs.Cube.{AddsAt, TakesAt, SameCell, cell_holds, tally_or_empty, empty_tally}
 use Rattle.cube_cells.specs.Tally.{Tally, IsTallyOf, PlusFact, SameTally, bag_at, holds_fact}
-use Rattle.cube_cells.specs.Walk.{key_in, codes_in, is_in, weight_of_cells, HasRoom, AddsIn, TakesIn, SameCoded, LosesFact}
+use Rattle.cube_cells.specs.Walk.{is_in, weight_of_cells, HasRoom, AddsIn, TakesIn, SameCoded, LosesFact}
 use Rattle.cube_cells.specs.declared.cube.codes.Codes.{Codes}
 use Rattle.cube_cells.proofs.ValueLaws.{AddsValues-SameBags}
 
@@ -107,7 +104,7 @@ AddsIn-new k values old new t none look moved plus holds =
     (λ weight. omega (arith, sum_by-cons (weigh weight) (k, t) old, sum_by-IsPermutation (weigh weight) ((k, t) ∷ old) new moved, ap (λ (n : ℕ). weight k * n) plus.facts))
 
 -- a tally counts the same as itself
-pub SameTally-refl : (t : Tally) → SameTally t t
+SameTally-refl : (t : Tally) → SameTally t t
 SameTally-refl t = record { facts = refl; bags = record { same_length = refl; bags = λ m. record { held = λ x. refl } } }
 
 pub SameCell-refl : (cell : Option Tally) → SameCell cell cell
@@ -164,8 +161,6 @@ TakesIn-remove_entry k values old mid new count loses none other gone moved =
       weight = λ weight. omega (arith, ap (weight_of_cells weight) loses.is_left, weight-set weight k loses.tally loses.left old loses.was_cell, ap (λ (n : ℕ). weight k * n) loses.minus.facts, sum_by-cons weight k [], weight-remove weight k loses.left mid there, ap (λ (n : ℕ). weight k * n) empty, sum_by-IsPermutation (weigh weight) (remove_entry (same_codes k) mid) new moved);
     }
 
--- ---- many cells
-
 -- ---- what was added and taken
 -- a cell counts what it counted
 AddsAt-TakesAt : (k : Codes) (values : List (Option ℤ)) (old mid new : Option Tally) → HasRoom values k old → AddsAt values old mid → TakesAt (is_total_code k) values mid new → SameCell old new
@@ -196,13 +191,12 @@ AddsIn-TakesIn k values old mid new room adds takes = record {
   weight = λ weight. omega (arith, adds.weight weight, takes.weight weight);
 }
 
--- ---- codes that differ
-
 -- what follows from two facts of a success
 pub OnOk-both : {T E P Q R : Type 0} (r : Result T E) → (P → Q → R) → OnOk r P → OnOk r Q → OnOk r R
 OnOk-both (Ok x) both p q = both p q
 OnOk-both (Err e) both p q = tt
 
+-- ---- what is empty
 -- an empty bag, however it is reached
 pub bag_at-replicate : (n m : ℕ) → bag_at (replicate n []) m ≡ []
 bag_at-replicate n m = elim (cases_lt m n) [
@@ -226,8 +220,6 @@ PlusFact-empty_tally values n cell t is width plus = record {
     each = λ m. record { held = λ x. omega (arith, (plus.bags.each m).held x, held_of-nil cell m x is, ap (λ (bag : Bag). held_of bag x) (bag_at-replicate n m)) };
   };
 }
-
--- ---- sets below a place
 
 -- what holds whatever a call answers
 pub OnErr-always : {T E P : Type 0} (r : Result T E) → P → OnErr r P

@@ -1,5 +1,5 @@
 -- The cells of a cube as they are kept: a table for each kept grouping set (this project's choice).
-use Rattle.std.specs.Prelude.{◌≡◌, ◌==◌, ◌+◌, ◌*◌, ◌<◌, ◌++◌, ◌≤◌, ℕ, ℤ, Bool, true, List, [], ◌∷◌, length, map, get_or, take, Option, All, if◌then◌else◌}
+use Rattle.std.specs.Prelude.{◌≡◌, ◌==◌, ◌+◌, ◌*◌, ◌<◌, ◌++◌, ◌≤◌, ℕ, ℤ, Bool, List, [], ◌∷◌, length, map, get_or, Option, All, if◌then◌else◌}
 use Rattle.cube_core.specs.Layout.{Layout}
 use Rattle.cube_cells.specs.Codes.{Dictionaries, all_code}
 use Rattle.cube_cells.specs.Coded.{CodedCells, AreNewCells, IsCoded, coded_at}

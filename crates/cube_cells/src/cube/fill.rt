@@ -10,10 +10,10 @@ ghost use Rattle.cube_cells.specs.Fill.{AreFilled, AreMadeFrom, ArePushed, Fills
 ghost use Rattle.cube_cells.specs.Tally.{PlusTally};
 ghost use Rattle.cube_cells.specs.Walk.{AreApart};
 
+use super::Cube;
 use super::codes::Codes;
 use super::levels::{Level, new_cells};
 use super::workers::{Alone, Several, Workers};
-use super::Cube;
 use crate::cell::Cell;
 use std::alloc::{AllocError, Global};
 use std::collections::HashMap;

@@ -1,5 +1,5 @@
 //! The tables of a cube: one for each kept grouping set.
-ghost use Rattle.std.specs.Prelude.{◌≡◌, [], ◌==◌, ◌∷◌, true, IfOk, List, length};
+ghost use Rattle.std.specs.Prelude.{◌≡◌, [], ◌∷◌, true, IfOk};
 ghost use Rattle.std.specs.List.{AllZip};
 ghost use Rattle.cube_cells.specs.Coded.{AreNewCells};
 ghost use Rattle.cube_cells.specs.Levels.{IsNewLevel};
@@ -25,6 +25,15 @@ pub fn new_levels(alloc: Global, measures: usize, sets: &[u8]) -> Result<Vec<Lev
         let cells = new_cells(alloc, measures, *set == 0)?;
         levels.push(Level { set: *set, cells })?;
     }
+    Ok(levels)
+}
+
+/// The level of one set alone.
+pub fn one_level(alloc: Global, level: Level) -> Result<Vec<Level>, AllocError>
+    ensures { IfOk result (λ levels. levels.items ≡ level ∷ []) }
+{
+    let mut levels = Vec::with_capacity(alloc, 1)?;
+    levels.push(level)?;
     Ok(levels)
 }
 

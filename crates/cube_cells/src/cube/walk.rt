@@ -50,9 +50,7 @@ pub fn take_from_sets(levels: &mut [Level], number: usize, codes: &Codes, values
 pub fn hold_in_sets(levels: &[Level], codes: &Codes, values: &[Option<i64>]) -> bool
     ensures { result ≡ list_all (level_holds codes.now values.now) levels.now }
 {
-    levels
-        .iter()
-        .all(|level| holds_at(&level.cells, &codes.kept(level.set), values))
+    levels.iter().all(|level| holds_at(&level.cells, &codes.kept(level.set), values))
 }
 
 /// The cell with these codes: it is in the level of their set.

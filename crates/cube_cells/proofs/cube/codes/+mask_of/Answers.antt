@@ -1,9 +1,6 @@
-use Rattle.std.proofs.Common.{◌≡◌, ◌≤◌, ◌<◌, ◌∷◌, ◌==◌, ◌∙◌, ap, arith, rules, length, Bool, true, false, if◌then◌else◌, ℕ, List}
+use Rattle.std.proofs.Common.{◌≡◌, ◌≤◌, ◌∷◌, ◌==◌, ap, arith, rules, length, ℕ, List}
 use Rattle.cube_cells.specs.Codes.{all_code}
-use Rattle.cube_cells.specs.Levels.{mask_of_codes}
 use Rattle.cube_cells.proofs.TableLaws.{mask_of_codes-below, if_bit}
-use Rattle.cube_cells.proofs.LevelLaws.{AreFilled-in_order}
-use Rattle.cube_cells.proofs.LeveledLaws.{coded_at-IsLeveled}
 use Rattle.cube_cells.proofs.cube.codes.+mask_of.Goals as goal
 
 pub overflow_mul-result : goal.overflow_mul-result
