@@ -8,4 +8,3 @@ pub mod Walk
 pub mod Ranks
 pub mod Rows
 pub mod Fill
-pub mod Keyed
