@@ -1,5 +1,5 @@
 -- A document that has no fault writes a schema.
-use Rattle.std.proofs.Common.{◌≡◌, ℕ, ◌+◌, ◌<◌, ◌≤◌, ◌^◌, pos, zero, suc, Bool, true, false, ◌&&◌, is_some, nat_le, nat_lt, codes, List, [], ◌∷◌, ◌++◌, length, map, find, Option, Some, None, Result, Ok, Err, IfSome, IsUtf8, refl, ap, ◌∙◌, sym, subst, inl, inr, arith}
+use Rattle.std.proofs.Common.{◌≡◌, ℕ, ◌+◌, ◌<◌, ◌≤◌, ◌^◌, pos, zero, suc, Bool, true, false, ◌&&◌, is_some, nat_le, nat_lt, codes, List, [], ◌∷◌, ◌++◌, length, map, find, Option, Some, None, Result, Ok, Err, IfOk, IfSome, IsUtf8, refl, ap, ◌∙◌, sym, subst, inl, inr, arith}
 use Rattle.std.specs.Str.{bytes_eq}
 use Rattle.std.specs.List.{list_all, range_with_len, filter_map, cons_option}
 use Rattle.std.specs.Option.{option_map_or}
@@ -17,7 +17,7 @@ use Rattle.cube_core.specs.declared.schema_fault.SchemaFault.TheVariants.{Memory
 use Rattle.cube_core.specs.Shard.{IsShard}
 use Rattle.cube_core.specs.declared.shard.Shard.{Shard}
 use Rattle.cube_core.specs.Layout.{Layout, IsSchema, spelling_of, is_aggregate_of, is_lawful_name, are_distinct}
-use Rattle.cube_core.specs.SchemaDocument.{is_some_up_to, are_lawful_names, aggregates_over, aggregate_spelled, are_spellings, record_limit, max_records_in, default_max_records, sets_of_grouping, feed_version, version_in, dimensions_in, measures_in, spellings_in, has_known_keys, SchemaParts, parts_in, named_parts, document_faults, has_fault, first_fault, layout_of, AnswersParts, AnswersDocument, AnswersBytes}
+use Rattle.cube_core.specs.SchemaDocument.{is_some_up_to, are_lawful_names, aggregates_over, aggregate_spelled, are_spellings, record_limit, max_records_in, default_max_records, sets_of_grouping, feed_version, version_in, dimensions_in, measures_in, spellings_in, has_known_keys, SchemaParts, parts_in, named_parts, parts_faults, is_fault_of_parts, layout_of_parts, document_faults, has_fault, first_fault, layout_of, AnswersParts, AnswersDocument, AnswersBytes}
 use Rattle.cube_core.specs.declared.aggregate.Agg.{Agg}
 use Rattle.cube_core.specs.declared.aggregate.Agg.TheVariants.{Count, Sum, Min, Max, Avg}
 
@@ -200,6 +200,21 @@ named_parts-answered dimensions measures spellings ds ms ts answer d m t answers
     let sets : sets_of_grouping ds None ≡ Some (all_sets (length dimensions)) = ap (λ names. sets_of_grouping names None) d ∙ ap Some (kept_sets-all_sets (length dimensions)) in
     subst (λ (parts : SchemaParts). AnswersParts parts answer)
     (λ i. record { dimensions = d i; measures = m i; spellings = t i; max_records = Some default_max_records; grouping_sets = sets i; version = Some 1 }) answers
+
+-- a schema that is answered to parts is theirs
+option_map_or-Ok : (found : Option SchemaFault) (layout s : Layout) → Ok s ≡ option_map_or Err found (Ok layout) → s ≡ layout
+option_map_or-Ok None layout s is = cc
+option_map_or-Ok (Some fault) layout s is = cc
+
+AnswersParts-Ok : (parts : SchemaParts) (answer : Result Layout SchemaFault) → AnswersParts parts answer → IfOk answer (λ layout. layout ≡ layout_of_parts parts)
+AnswersParts-Ok parts (Ok layout) answers = option_map_or-Ok (find (is_fault_of_parts parts) parts_faults) (layout_of_parts parts) layout answers
+AnswersParts-Ok parts (Err fault) answers = tt
+
+pub named_parts-layout : (dimensions measures spellings ds ms ts : List (List ℕ)) (answer : Result Layout SchemaFault) → ds ≡ dimensions → ms ≡ measures → ts ≡ spellings
+    → AnswersParts (record { dimensions = ds; measures = ms; spellings = ts; max_records = Some default_max_records; grouping_sets = sets_of_grouping ds None; version = Some 1 }) answer
+    → IfOk answer (λ layout. layout ≡ layout_of_parts (named_parts dimensions measures spellings))
+named_parts-layout dimensions measures spellings ds ms ts answer d m t answers =
+    AnswersParts-Ok (named_parts dimensions measures spellings) answer (named_parts-answered dimensions measures spellings ds ms ts answer d m t answers)
 
 -- no document is answered that it is none
 first_fault-Toml : (document : Members) (found : Option SchemaFault) → first_fault document ≡ found → Err Toml ≡ option_map_or Err found (Ok (layout_of document)) → false ≡ true

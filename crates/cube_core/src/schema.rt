@@ -2,7 +2,7 @@
 ghost use Rattle.std.specs.Prelude.{◌≡◌, ◌≤◌, ◌<◌, ◌+◌, ◌^◌, IfOk, length, map, option_map};
 ghost use Rattle.std.specs.List.{list_all};
 ghost use Rattle.cube_core.specs.Layout.{IsSchema, sample_layout, keeps};
-ghost use Rattle.cube_core.specs.SchemaDocument.{AnswersParts, named_parts};
+ghost use Rattle.cube_core.specs.SchemaDocument.{AnswersParts, layout_of_parts, named_parts};
 ghost use Rattle.cube_core.specs.Shard.{IsShard};
 ghost use Rattle.cube_core.specs.Takes.{fits, fits_part, takes, is_id, is_dimension_value, puts_dimension_value};
 ghost use Rattle.cube_core.specs.GroupingSet.{is_among, mask_of, mask_of_coords};
@@ -80,9 +80,13 @@ impl Schema {
         measures: &[&str],
         aggregates: &[&str],
     ) -> Result<Schema, SchemaFault>
-        ensures { AnswersParts (named_parts (map (λ name. name.now) dimensions.entry.now)
+        ensures answer { AnswersParts (named_parts (map (λ name. name.now) dimensions.entry.now)
             (map (λ name. name.now) measures.entry.now)
             (map (λ text. text.now) aggregates.entry.now)) result }
+        ensures schema { IfOk result (λ schema. schema
+            ≡ layout_of_parts (named_parts (map (λ name. name.now) dimensions.entry.now)
+            (map (λ name. name.now) measures.entry.now)
+            (map (λ text. text.now) aggregates.entry.now))) }
     {
         let dimensions = texts_from_strs(alloc, dimensions)?;
         let measures = texts_from_strs(alloc, measures)?;
