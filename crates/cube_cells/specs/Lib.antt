@@ -9,4 +9,3 @@ pub mod Ranks
 pub mod Rows
 pub mod Levels
 pub mod Fill
-pub mod Keyed

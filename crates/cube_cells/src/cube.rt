@@ -27,7 +27,7 @@ use crate::cell::Cell;
 use codes::{ALL, Codes};
 use cube_core::{Coord, DimensionValues, Fact, HashKey, Key, Schema};
 use dictionary::Dictionary;
-pub use keyed::{CoordRef, KeyedCell};
+pub use keyed::KeyedCell;
 use levels::{Level, new_levels};
 pub use ordered::{OrderedCells, row_of};
 use std::alloc::{AllocError, Global};

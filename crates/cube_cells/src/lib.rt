@@ -12,6 +12,6 @@ pub mod laws;
 mod measure;
 
 pub use cell::Cell;
-pub use cube::{CoordRef, Cube, KeyedCell, OrderedCells, row_of};
-pub use cube_core::reduced;
+pub use cube::{Cube, KeyedCell, OrderedCells, row_of};
+pub use cube_core::{CoordRef, reduced};
 pub use cube_counts::Counted;

@@ -14,6 +14,7 @@ use Rattle.toml.specs.Data.{Data, string, integer, float, boolean, datetime, arr
 use Rattle.cube_core.specs.GroupingSet.{all_sets, is_among}
 use Rattle.cube_core.specs.SchemaDocument.{texts_of, set_of_names, set_of_item, sets_of_items, is_set_of, mask_of_names, are_lawful_sets, rollup_sets, sets_of_word, named_sets, kept_sets, sets_of_grouping}
 use Rattle.cube_core.proofs.GroupingReadingLaws.{mask_of_names-below}
+use Rattle.cube_core.proofs.ListLaws.{Contains-AllByRecursion, Contains-list_any, filter-all}
 use Rattle.cube_core.proofs.SetLaws.{all_sets-IsStrictlyIncreasing, all_sets-All}
 
 -- these have a set of so many dimensions
@@ -122,3 +123,9 @@ mapped-AreKept dimensions (Some named) sets has is =
 pub grouping-AreKept : (dimensions : List (List ℕ)) (grouping : Option Data) (sets : List ℕ) → sets_of_grouping dimensions grouping ≡ Some sets → AreKept (length dimensions) sets
 grouping-AreKept dimensions grouping sets is =
     mapped-AreKept (length dimensions) (named_sets dimensions grouping) sets (named-HasSet dimensions grouping) is
+
+-- where all sets are named, all are kept
+pub kept_sets-all_sets : (dimensions : ℕ) → kept_sets dimensions (all_sets dimensions) ≡ all_sets dimensions
+kept_sets-all_sets dimensions =
+    let sets = all_sets dimensions in
+    filter-all (λ set. is_among set sets) sets (Contains-AllByRecursion (λ set. is_among set sets ≡ true) sets (λ set among. Contains-list_any (λ other. other == set) sets set among (eq-eqb set set refl)))

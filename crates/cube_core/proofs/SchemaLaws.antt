@@ -1,5 +1,5 @@
 -- A document that has no fault writes a schema.
-use Rattle.std.proofs.Common.{◌≡◌, ℕ, ◌+◌, ◌<◌, ◌≤◌, ◌^◌, pos, zero, suc, Bool, true, false, ◌&&◌, is_some, nat_le, nat_lt, codes, List, [], ◌∷◌, ◌++◌, length, map, find, Option, Some, None, Result, Ok, Err, IsUtf8, refl, ap, ◌∙◌, sym, inl, inr, arith}
+use Rattle.std.proofs.Common.{◌≡◌, ℕ, ◌+◌, ◌<◌, ◌≤◌, ◌^◌, pos, zero, suc, Bool, true, false, ◌&&◌, is_some, nat_le, nat_lt, codes, List, [], ◌∷◌, ◌++◌, length, map, find, Option, Some, None, Result, Ok, Err, IfOk, IfSome, IsUtf8, refl, ap, ◌∙◌, sym, subst, inl, inr, arith}
 use Rattle.std.specs.Str.{bytes_eq}
 use Rattle.std.specs.List.{list_all, range_with_len, filter_map, cons_option}
 use Rattle.std.specs.Option.{option_map_or}
@@ -9,14 +9,15 @@ use Rattle.std.proofs.lemmas.Bool.Decides.{nat_tests}
 use Rattle.std.proofs.lemmas.List.Folds.{list_all-append, list_all-map}
 use Rattle.std.proofs.lemmas.Option.{same_Some, cond_some}
 use Rattle.toml.specs.Data.{Data, integer, get_member, Members}
-use Rattle.cube_core.proofs.GroupingLaws.{grouping-AreKept}
+use Rattle.cube_core.proofs.GroupingLaws.{grouping-AreKept, kept_sets-all_sets}
+use Rattle.cube_core.specs.GroupingSet.{all_sets}
 use Rattle.toml.specs.Parse.{parse_document}
 use Rattle.cube_core.specs.declared.schema_fault.SchemaFault.{SchemaFault}
 use Rattle.cube_core.specs.declared.schema_fault.SchemaFault.TheVariants.{Memory, Toml, UnknownKey, Dimensions, Measures, Name, Aggregates, MaxRecords, Grouping, Version}
 use Rattle.cube_core.specs.Shard.{IsShard}
 use Rattle.cube_core.specs.declared.shard.Shard.{Shard}
 use Rattle.cube_core.specs.Layout.{Layout, IsSchema, spelling_of, is_aggregate_of, is_lawful_name, are_distinct}
-use Rattle.cube_core.specs.SchemaDocument.{is_some_up_to, are_lawful_names, aggregates_over, aggregate_spelled, are_spellings, record_limit, max_records_in, default_max_records, sets_of_grouping, feed_version, version_in, dimensions_in, measures_in, spellings_in, document_faults, has_fault, first_fault, layout_of, AnswersDocument, AnswersBytes}
+use Rattle.cube_core.specs.SchemaDocument.{is_some_up_to, are_lawful_names, aggregates_over, aggregate_spelled, are_spellings, record_limit, max_records_in, default_max_records, sets_of_grouping, feed_version, version_in, dimensions_in, measures_in, spellings_in, has_known_keys, SchemaParts, parts_in, named_parts, parts_faults, is_fault_of_parts, layout_of_parts, document_faults, has_fault, first_fault, layout_of, AnswersParts, AnswersDocument, AnswersBytes}
 use Rattle.cube_core.specs.declared.aggregate.Agg.{Agg}
 use Rattle.cube_core.specs.declared.aggregate.Agg.TheVariants.{Count, Sum, Min, Max, Avg}
 
@@ -106,8 +107,9 @@ max_records_in-at : (value : Option Data) (n : ℕ) → option_map_or record_lim
 max_records_in-at None n is = let same : default_max_records ≡ n = same_Some _ _ is in (omega arith, omega arith)
 max_records_in-at (Some value) n is = record_limit-bounds value n is
 
-pub max_records_in-bounds : (document : Members) (n : ℕ) → max_records_in document ≡ Some n → (1 ≤ n) × (n < 2 ^ 32)
-max_records_in-bounds document n is = max_records_in-at (get_member (codes "max_records") document) n is
+pub max_records_in-bounds : (document : Members) (found : Option ℕ) → found ≡ max_records_in document → IfSome found (λ limit. 1 ≤ limit)
+max_records_in-bounds document None is = tt
+max_records_in-bounds document (Some n) is = (max_records_in-at (get_member (codes "max_records") document) n (sym is)).0
 
 -- a number of texts in its bounds
 is_some_up_to-length : (most : ℕ) (texts : List (List ℕ)) → is_some_up_to most texts ≡ true → (1 ≤ length texts) × (length texts ≤ most)
@@ -127,25 +129,22 @@ version_in-at : (value : Option Data) (n : ℕ) → option_map_or feed_version v
 version_in-at None n is = let same : 1 ≡ n = same_Some _ _ is in (omega arith, omega arith)
 version_in-at (Some value) n is = feed_version-bounds value n is
 
-version_in-bounds : (document : Members) (n : ℕ) → version_in document ≡ Some n → (1 ≤ n) × (n ≤ 2)
-version_in-bounds document n is = version_in-at (get_member (codes "version") document) n is
+pub version_in-bounds : (document : Members) (found : Option ℕ) → found ≡ version_in document → IfSome found (λ number. (1 ≤ number) × (number ≤ 2))
+version_in-bounds document None is = tt
+version_in-bounds document (Some n) is = version_in-at (get_member (codes "version") document) n (sym is)
 
--- parts read off a document that has none of the faults make a schema
-pub layout_of-document : (document : Members) (dimensions measures texts : List (List ℕ)) (aggregates : List Agg) (limit : ℕ) (sets : List ℕ) (version : ℕ) (shard : Shard)
-    → IsShard shard → (dimensions ≡ dimensions_in document) × (is_some_up_to 8 (dimensions_in document) ≡ true)
-    → (measures ≡ measures_in document) × (is_some_up_to 4 (measures_in document) ≡ true)
-    → are_lawful_names (dimensions ++ measures) ≡ true
-    → (texts ≡ spellings_in document) × (is_some_up_to 16 (spellings_in document) ≡ true)
+-- parts that have none of the faults make a schema
+pub layout_of_parts-IsSchema : (dimensions measures texts : List (List ℕ)) (aggregates : List Agg) (limit : ℕ) (grouping : Option Data) (sets : List ℕ) (version : ℕ) (shard : Shard)
+    → IsShard shard → is_some_up_to 8 dimensions ≡ true → is_some_up_to 4 measures ≡ true
+    → are_lawful_names (dimensions ++ measures) ≡ true → is_some_up_to 16 texts ≡ true
     → (aggregates ≡ filter_map (aggregate_spelled measures) texts) × (are_spellings measures texts ≡ true)
-    → Some limit ≡ max_records_in document → Some sets ≡ sets_of_grouping dimensions (get_member (codes "grouping") document) → Some version ≡ version_in document
+    → (1 ≤ limit) × (limit < 2 ^ 32) → Some sets ≡ sets_of_grouping dimensions grouping → (1 ≤ version) × (version ≤ 2)
     → IsSchema (record { dimensions = dimensions; measures = measures; aggregates = aggregates; aggregate_texts = texts; max_records = limit; grouping_sets = sets; version = version; shard = shard })
-layout_of-document document dimensions measures texts aggregates limit sets version shard lawful_shard d m names t spellings limit_is sets_are version_is =
-    let ds = is_some_up_to-length 8 dimensions (rw d.0 d.1) in
-    let ms = is_some_up_to-length 4 measures (rw m.0 m.1) in
-    let ts = is_some_up_to-length 16 texts (rw t.0 t.1) in
-    let range = max_records_in-bounds document limit (sym limit_is) in
-    let kept = grouping-AreKept dimensions (get_member (codes "grouping") document) sets (sym sets_are) in
-    let versions = version_in-bounds document version (sym version_is) in
+layout_of_parts-IsSchema dimensions measures texts aggregates limit grouping sets version shard lawful_shard d m names t spellings range sets_are versions =
+    let ds = is_some_up_to-length 8 dimensions d in
+    let ms = is_some_up_to-length 4 measures m in
+    let ts = is_some_up_to-length 16 texts t in
+    let kept = grouping-AreKept dimensions grouping sets (sym sets_are) in
     let (lawful, distinct) = and_parts (list_all is_lawful_name (dimensions ++ measures)) (are_distinct (dimensions ++ measures)) names in
     let all = AreSpelled-filter_map measures texts spellings.1 in
     rw spellings.0 (record {
@@ -168,6 +167,54 @@ layout_of-document document dimensions measures texts aggregates limit sets vers
       version_at_most = versions.1;
       lawful_shard = lawful_shard;
     })
+
+-- what is answered to the parts of a document with known keys alone is answered to the document
+document-answered : (document : Members) (answer : Result Layout SchemaFault) → has_known_keys document ≡ true → AnswersParts (parts_in document) answer → AnswersDocument document answer
+document-answered document (Ok layout) known answers = rw known answers
+document-answered document (Err Memory) known answers = tt
+document-answered document (Err Toml) known answers = rw known answers
+document-answered document (Err UnknownKey) known answers = rw known answers
+document-answered document (Err Dimensions) known answers = rw known answers
+document-answered document (Err Measures) known answers = rw known answers
+document-answered document (Err Name) known answers = rw known answers
+document-answered document (Err Aggregates) known answers = rw known answers
+document-answered document (Err MaxRecords) known answers = rw known answers
+document-answered document (Err Grouping) known answers = rw known answers
+document-answered document (Err Version) known answers = rw known answers
+
+-- the same, of parts that were read one by one
+pub document-answered_by : (document : Members) (dimensions measures spellings : List (List ℕ)) (limit : Option ℕ) (grouping : Option Data) (version : Option ℕ) (answer : Result Layout SchemaFault)
+    → has_known_keys document ≡ true → dimensions ≡ dimensions_in document → measures ≡ measures_in document → spellings ≡ spellings_in document
+    → limit ≡ max_records_in document → grouping ≡ get_member (codes "grouping") document → version ≡ version_in document
+    → AnswersParts (record { dimensions = dimensions; measures = measures; spellings = spellings; max_records = limit; grouping_sets = sets_of_grouping dimensions grouping; version = version }) answer
+    → AnswersDocument document answer
+document-answered_by document dimensions measures spellings limit grouping version answer known d m t l g v answers =
+    document-answered document answer known (subst (λ (parts : SchemaParts). AnswersParts parts answer)
+    (λ i. record { dimensions = d i; measures = m i; spellings = t i; max_records = l i; grouping_sets = sets_of_grouping (d i) (g i); version = v i }) answers)
+
+-- what is answered to names, where nothing else is said, is answered to their parts
+pub named_parts-answered : (dimensions measures spellings ds ms ts : List (List ℕ)) (answer : Result Layout SchemaFault) → ds ≡ dimensions → ms ≡ measures → ts ≡ spellings
+    → AnswersParts (record { dimensions = ds; measures = ms; spellings = ts; max_records = Some default_max_records; grouping_sets = sets_of_grouping ds None; version = Some 1 }) answer
+    → AnswersParts (named_parts dimensions measures spellings) answer
+named_parts-answered dimensions measures spellings ds ms ts answer d m t answers =
+    let sets : sets_of_grouping ds None ≡ Some (all_sets (length dimensions)) = ap (λ names. sets_of_grouping names None) d ∙ ap Some (kept_sets-all_sets (length dimensions)) in
+    subst (λ (parts : SchemaParts). AnswersParts parts answer)
+    (λ i. record { dimensions = d i; measures = m i; spellings = t i; max_records = Some default_max_records; grouping_sets = sets i; version = Some 1 }) answers
+
+-- a schema that is answered to parts is theirs
+option_map_or-Ok : (found : Option SchemaFault) (layout s : Layout) → Ok s ≡ option_map_or Err found (Ok layout) → s ≡ layout
+option_map_or-Ok None layout s is = cc
+option_map_or-Ok (Some fault) layout s is = cc
+
+AnswersParts-Ok : (parts : SchemaParts) (answer : Result Layout SchemaFault) → AnswersParts parts answer → IfOk answer (λ layout. layout ≡ layout_of_parts parts)
+AnswersParts-Ok parts (Ok layout) answers = option_map_or-Ok (find (is_fault_of_parts parts) parts_faults) (layout_of_parts parts) layout answers
+AnswersParts-Ok parts (Err fault) answers = tt
+
+pub named_parts-layout : (dimensions measures spellings ds ms ts : List (List ℕ)) (answer : Result Layout SchemaFault) → ds ≡ dimensions → ms ≡ measures → ts ≡ spellings
+    → AnswersParts (record { dimensions = ds; measures = ms; spellings = ts; max_records = Some default_max_records; grouping_sets = sets_of_grouping ds None; version = Some 1 }) answer
+    → IfOk answer (λ layout. layout ≡ layout_of_parts (named_parts dimensions measures spellings))
+named_parts-layout dimensions measures spellings ds ms ts answer d m t answers =
+    AnswersParts-Ok (named_parts dimensions measures spellings) answer (named_parts-answered dimensions measures spellings ds ms ts answer d m t answers)
 
 -- no document is answered that it is none
 first_fault-Toml : (document : Members) (found : Option SchemaFault) → first_fault document ≡ found → Err Toml ≡ option_map_or Err found (Ok (layout_of document)) → false ≡ true

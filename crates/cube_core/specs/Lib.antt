@@ -17,6 +17,7 @@ pub mod Group
 pub mod Fraction
 pub mod Answer
 pub mod Order
+pub mod Referred
 pub mod GroupingSet
 pub mod Cube
 pub mod Merged

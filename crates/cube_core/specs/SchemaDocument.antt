@@ -1,4 +1,4 @@
--- The schema that a TOML document writes, and the faults of one that writes none (TOML 1.1; the keys, the limits and the order of the faults are this project's choice).
+-- The schema that a TOML document writes, or that its parts make, and the faults of those that make none (TOML 1.1; the keys, the limits and the order of the faults are this project's choice).
 use Rattle.std.specs.Prelude.{◌≡◌, ◌&&◌, ◌+◌, ◌*◌, ◌^◌, ℕ, pos, Bool, false, true, not, nat_lt, nat_le, is_some, if◌then◌else◌, List, [], ◌∷◌, ◌++◌, length, map, take, filter, find, codes, Option, Some, None, option_and_then, option_map, unwrap_or, Result, Ok, Err, IsUtf8, ⊤}
 use Rattle.std.specs.Str.{bytes_eq}
 use Rattle.std.specs.Option.{option_map_or}
@@ -154,22 +154,84 @@ feed_version _ = None
 abbrev pub version_in : Members → Option ℕ
 version_in document = option_map_or feed_version (get_member (codes "version") document) (Some 1)
 
+-- what a schema is made of, as a document or a caller gives it: the names, the spellings of the aggregates, and how many data records a feed may have, the grouping sets that are kept and the version of the feeds, each of the last three where what is said of it is right
+pub record SchemaParts : Type 0 where
+  pub dimensions : List (List ℕ)
+  pub measures : List (List ℕ)
+  pub spellings : List (List ℕ)
+  pub max_records : Option ℕ
+  pub grouping_sets : Option (List ℕ)
+  pub version : Option ℕ
+
+-- the parts that a document gives
+abbrev pub parts_in : Members → SchemaParts
+parts_in document = record {
+  dimensions = dimensions_in document;
+  measures = measures_in document;
+  spellings = spellings_in document;
+  max_records = max_records_in document;
+  grouping_sets = grouping_sets_in document;
+  version = version_in document;
+}
+
+-- the parts of a schema of which no more is said than its names and the spellings of its aggregates: the most data records, all grouping sets, and version 1
+abbrev pub named_parts : List (List ℕ) → List (List ℕ) → List (List ℕ) → SchemaParts
+named_parts dimensions measures spellings = record {
+  dimensions = dimensions;
+  measures = measures;
+  spellings = spellings;
+  max_records = Some default_max_records;
+  grouping_sets = Some (all_sets (length dimensions));
+  version = Some 1;
+}
+
+-- the faults of parts, in the order in which they are looked for
+abbrev pub parts_faults : List SchemaFault
+parts_faults = Dimensions ∷ Measures ∷ Name ∷ Aggregates ∷ MaxRecords ∷ Grouping ∷ Version ∷ []
+
+-- whether parts have this fault
+abbrev pub is_fault_of_parts : SchemaParts → SchemaFault → Bool
+is_fault_of_parts parts Memory = false
+is_fault_of_parts parts Toml = false
+is_fault_of_parts parts UnknownKey = false
+is_fault_of_parts parts Dimensions = not (is_some_up_to 8 parts.dimensions)
+is_fault_of_parts parts Measures = not (is_some_up_to 4 parts.measures)
+is_fault_of_parts parts Name = not (are_lawful_names (parts.dimensions ++ parts.measures))
+is_fault_of_parts parts Aggregates = not (is_some_up_to 16 parts.spellings && are_spellings parts.measures parts.spellings)
+is_fault_of_parts parts MaxRecords = not (is_some parts.max_records)
+is_fault_of_parts parts Grouping = not (is_some parts.grouping_sets)
+is_fault_of_parts parts Version = not (is_some parts.version)
+
+-- the schema of parts that have no fault
+abbrev pub layout_of_parts : SchemaParts → Layout
+layout_of_parts parts = record {
+  dimensions = parts.dimensions;
+  measures = parts.measures;
+  aggregates = filter_map (aggregate_spelled parts.measures) parts.spellings;
+  aggregate_texts = parts.spellings;
+  max_records = unwrap_or parts.max_records default_max_records;
+  grouping_sets = unwrap_or parts.grouping_sets [];
+  version = unwrap_or parts.version 1;
+  shard = whole_feed;
+}
+
+-- what parts say: their first fault, or their schema
+abbrev pub schema_of_parts : SchemaParts → Result Layout SchemaFault
+schema_of_parts parts = option_map_or Err (find (is_fault_of_parts parts) parts_faults) (Ok (layout_of_parts parts))
+
+-- what may be answered to parts: what they say, or that memory ran out
+abbrev pub AnswersParts : SchemaParts → Result Layout SchemaFault → Type 0
+AnswersParts parts (Err Memory) = ⊤
+AnswersParts parts answer = answer ≡ schema_of_parts parts
+
 -- the faults of a document, in the order in which they are looked for
 abbrev pub document_faults : List SchemaFault
-document_faults = UnknownKey ∷ Dimensions ∷ Measures ∷ Name ∷ Aggregates ∷ MaxRecords ∷ Grouping ∷ Version ∷ []
+document_faults = UnknownKey ∷ parts_faults
 
 -- whether a document has this fault
 abbrev pub has_fault : Members → SchemaFault → Bool
-has_fault document Memory = false
-has_fault document Toml = false
 has_fault document UnknownKey = not (has_known_keys document)
-has_fault document Dimensions = not (is_some_up_to 8 (dimensions_in document))
-has_fault document Measures = not (is_some_up_to 4 (measures_in document))
-has_fault document Name = not (are_lawful_names (dimensions_in document ++ measures_in document))
-has_fault document Aggregates = not (is_some_up_to 16 (spellings_in document) && are_spellings (measures_in document) (spellings_in document))
-has_fault document MaxRecords = not (is_some (max_records_in document))
-has_fault document Grouping = not (is_some (grouping_sets_in document))
-has_fault document Version = not (is_some (version_in document))
+has_fault document fault = is_fault_of_parts (parts_in document) fault
 
 -- the first fault of a document
 abbrev pub first_fault : Members → Option SchemaFault
@@ -177,16 +239,7 @@ first_fault document = find (has_fault document) document_faults
 
 -- the schema of a document that has no fault
 abbrev pub layout_of : Members → Layout
-layout_of document = record {
-  dimensions = dimensions_in document;
-  measures = measures_in document;
-  aggregates = filter_map (aggregate_spelled (measures_in document)) (spellings_in document);
-  aggregate_texts = spellings_in document;
-  max_records = unwrap_or (max_records_in document) default_max_records;
-  grouping_sets = unwrap_or (grouping_sets_in document) [];
-  version = unwrap_or (version_in document) 1;
-  shard = whole_feed;
-}
+layout_of document = layout_of_parts (parts_in document)
 
 -- what a document says: its first fault, or its schema
 abbrev pub schema_of : Members → Result Layout SchemaFault

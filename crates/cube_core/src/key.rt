@@ -1,9 +1,10 @@
 //! Keys of cells, their order, and the rows of a cube.
-ghost use Rattle.std.specs.Prelude.{◌≡◌, ◌≤◌, IfOk, slice_get, Some, length, drop, option_map};
+ghost use Rattle.std.specs.Prelude.{◌≡◌, ◌≤◌, IfOk, slice_get, Some, length, drop, map, option_map};
 ghost use Rattle.std.specs.declared.cmp.Ordering.{Ordering};
 ghost use Rattle.cube_core.specs.Covers.{covers, all_stand_for, stands_for};
 ghost use Rattle.cube_core.specs.GroupingSet.{is_all_at};
 ghost use Rattle.cube_core.specs.Order.{key_cmp};
+ghost use Rattle.cube_core.specs.Referred.{referred_coord};
 
 use crate::aggregate::Answer;
 use crate::dimension_values::DimensionValues;
@@ -24,6 +25,30 @@ pub enum Coord {
     All,
 }
 
+/// A coordinate of a key, whose text stays where it lies: a text, null or ALL.
+#[derive(Clone, Copy)]
+pub enum CoordRef<'t> {
+    /// A value of the dimension.
+    Text(&'t str),
+    /// The dimension's null, a group of its own.
+    Null,
+    /// The dimension was aggregated over.
+    All,
+}
+
+impl<'t> CoordRef<'t> {
+    /// A coordinate, its text where it lies.
+    pub fn of(coord: &'t Coord) -> CoordRef<'t>
+        ensures { referred_coord result ≡ coord.now }
+    {
+        match coord {
+            Coord::Text(text) => CoordRef::Text(text.as_str()),
+            Coord::Null => CoordRef::Null,
+            Coord::All => CoordRef::All,
+        }
+    }
+}
+
 /// The key of a cell: a coordinate for each dimension, ordered dimension by dimension.
 #[derive(Debug, Drop, PartialEq, Eq, PartialOrd, Ord)]
 pub struct Key {
@@ -38,6 +63,20 @@ pub struct Row {
 }
 
 impl Key {
+    /// The key of these coordinates, one for each dimension in their order, whose texts are copied. The only error is
+    /// want of memory.
+    pub fn new(alloc: Global, coords: &[CoordRef<'_>]) -> Result<Key, AllocError>
+        ensures { IfOk result (λ key. key.coords ≡ map referred_coord coords.entry.now) }
+    {
+        let mut copies = Vec::with_capacity(alloc, coords.len())?;
+        for coord in coords {
+            copies.push(referred_coord(alloc, *coord)?)?;
+        }
+        Ok(Key {
+            coords: Sequence::from_vec(copies),
+        })
+    }
+
     /// A copy; the only error is want of memory.
     pub fn copy(&self, alloc: Global) -> Result<Key, AllocError>
         ensures { IfOk result (λ copy. copy ≡ self.now) }
@@ -93,6 +132,20 @@ fn stands_for(coord: &Coord, value: Option<&str>) -> bool
         (Coord::Null, value) => value.is_none(),
         (Coord::Text(_), None) => false,
         (Coord::Text(name), Some(text)) => name.as_str() == text,
+    }
+}
+
+// The coordinate that is referred to, its text copied.
+fn referred_coord(alloc: Global, coord: CoordRef<'_>) -> Result<Coord, AllocError>
+    ensures { IfOk result (λ copy. copy ≡ referred_coord coord.entry) }
+{
+    match coord {
+        CoordRef::Text(text) => {
+            let copy = Text::from_str(alloc, text)?;
+            Ok(Coord::Text(copy))
+        }
+        CoordRef::Null => Ok(Coord::Null),
+        CoordRef::All => Ok(Coord::All),
     }
 }
 

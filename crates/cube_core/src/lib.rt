@@ -29,7 +29,7 @@ pub use dimension_values::{DimensionValues, VALUES_IN_PLACE};
 pub use fact::Fact;
 pub use fraction::reduced;
 pub use hash_key::HashKey;
-pub use key::{Coord, Key, Row, covers};
+pub use key::{Coord, CoordRef, Key, Row, covers};
 pub use partial::{Field, Partial};
 pub use pattern::Pattern;
 pub use query::QueryFault;

@@ -1,7 +1,8 @@
 //! Why a query is refused, and the dimension that a name means.
-ghost use Rattle.std.specs.Prelude.{◌≡◌};
-ghost use Rattle.cube_core.specs.Query.{place_of};
+ghost use Rattle.std.specs.Prelude.{◌≡◌, ◌<◌, length};
+ghost use Rattle.cube_core.specs.Query.{place_of, drill_fault};
 
+use crate::key::Key;
 use crate::schema::Schema;
 use crate::schema_toml::position_of;
 use std::alloc::{AllocError, AllocFailed};
@@ -63,5 +64,22 @@ impl Schema {
         ensures { result ≡ place_of self.now name.now }
     {
         position_of(self.dimensions(), name).ok_or(QueryFault::UnknownDimension)
+    }
+
+    /// Why there is no drill-down from a key along a dimension, counted from 0: `NotRolled` where the key isn't ALL in
+    /// the dimension, else `NotGrouped` where the key's grouping set with the dimension isn't one of the schema's;
+    /// `None` where there is one. The key has a coordinate for each dimension.
+    pub fn drill_fault(&self, key: &Key, dim: usize) -> Option<QueryFault>
+        requires width { length key.now.coords ≡ length self.now.dimensions }
+        requires dim { dim < length self.now.dimensions }
+        ensures { result ≡ drill_fault self.now.grouping_sets dim key.now }
+    {
+        if !key.is_all(dim) {
+            Some(QueryFault::NotRolled)
+        } else if !self.keeps_below(key, dim) {
+            Some(QueryFault::NotGrouped)
+        } else {
+            None
+        }
     }
 }

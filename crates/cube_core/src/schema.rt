@@ -1,7 +1,8 @@
 //! The schema of a cube.
-ghost use Rattle.std.specs.Prelude.{◌≡◌, ◌≤◌, ◌<◌, ◌+◌, ◌^◌, IfOk, length, option_map};
+ghost use Rattle.std.specs.Prelude.{◌≡◌, ◌≤◌, ◌<◌, ◌+◌, ◌^◌, IfOk, length, map, option_map};
 ghost use Rattle.std.specs.List.{list_all};
 ghost use Rattle.cube_core.specs.Layout.{IsSchema, sample_layout, keeps};
+ghost use Rattle.cube_core.specs.SchemaDocument.{AnswersParts, layout_of_parts, named_parts};
 ghost use Rattle.cube_core.specs.Shard.{IsShard};
 ghost use Rattle.cube_core.specs.Takes.{fits, fits_part, takes, is_id, is_dimension_value, puts_dimension_value};
 ghost use Rattle.cube_core.specs.GroupingSet.{is_among, mask_of, mask_of_coords};
@@ -13,8 +14,10 @@ use crate::fact::Fact;
 use crate::hash_key::HashKey;
 use crate::key::{Coord, Key};
 use crate::partial::{Field, Partial};
+use crate::schema_fault::SchemaFault;
+use crate::schema_toml::schema_of_parts;
 use crate::shard::Shard;
-use crate::text::{Text, copy_texts};
+use crate::text::{Text, copy_texts, texts_from_strs};
 use std::alloc::{AllocError, Global};
 use std::marker::Model;
 
@@ -64,6 +67,42 @@ impl Model for Schema {
 }
 
 impl Schema {
+    /// The schema of these dimensions and measures, by their names, and of the aggregates that these texts spell, such as
+    /// `count(*)` and `sum(amount)`. It keeps all grouping sets, its feeds are of version 1 and have up to 4294967295 data
+    /// records: it is the schema of a TOML document that has these three arrays and nothing else.
+    ///
+    /// The error is the first fault of such a document: `Dimensions` where there aren't 1 to 8 of them, `Measures` where
+    /// there aren't 1 to 4, `Name` where a name is empty, `op`, `id` or `*`, or stands twice, `Aggregates` where there
+    /// aren't 1 to 16, or one isn't spelled with the name of a measure. Or it is `Memory`, which says nothing of them.
+    pub fn new(
+        alloc: Global,
+        dimensions: &[&str],
+        measures: &[&str],
+        aggregates: &[&str],
+    ) -> Result<Schema, SchemaFault>
+        ensures answer { AnswersParts (named_parts (map (λ name. name.now) dimensions.entry.now)
+            (map (λ name. name.now) measures.entry.now)
+            (map (λ text. text.now) aggregates.entry.now)) result }
+        ensures schema { IfOk result (λ schema. schema
+            ≡ layout_of_parts (named_parts (map (λ name. name.now) dimensions.entry.now)
+            (map (λ name. name.now) measures.entry.now)
+            (map (λ text. text.now) aggregates.entry.now))) }
+    {
+        let dimensions = texts_from_strs(alloc, dimensions)?;
+        let measures = texts_from_strs(alloc, measures)?;
+        let aggregates = texts_from_strs(alloc, aggregates)?;
+        let limit = Some(u32::MAX);
+        schema_of_parts(
+            alloc,
+            dimensions,
+            measures,
+            aggregates,
+            limit,
+            None,
+            Some(1),
+        )
+    }
+
     /// The sample schema: the dimensions `region` and `kind`, the measure `amount`, and `count(*)` with the sum,
     /// the least, the greatest and the mean amount. The only error is want of memory.
     pub fn sample(alloc: Global) -> Result<Schema, AllocError>

@@ -2,7 +2,8 @@
 use std::alloc::{AllocError, AllocFailed};
 use thiserror::Error;
 
-/// Why a schema file is refused; where several faults hold, the first. The text of each is its code.
+/// Why a schema is refused, that of a file or one that is told by its names; where several faults hold, the first. The
+/// text of each is its code.
 #[derive(Clone, Copy, Debug, PartialEq, Eq, Error)]
 pub enum SchemaFault {
     /// Memory ran out, which says nothing of the file.

@@ -1,11 +1,11 @@
-//! Reads a schema from a TOML document.
-ghost use Rattle.std.specs.Prelude.{◌≡◌, ◌≢◌, ℕ, List, ◌++◌, codes, false, true, IfOk, MatchOption, option_map, position};
+//! Reads a schema from a TOML document, and makes one of its parts.
+ghost use Rattle.std.specs.Prelude.{◌≡◌, ◌≢◌, ◌≤◌, ℕ, List, ◌++◌, codes, false, true, IfOk, IfSome, MatchOption, option_map, position};
 ghost use Rattle.std.specs.Str.{bytes_eq};
 ghost use Rattle.std.specs.List.{list_all, filter_map};
 ghost use Rattle.toml.specs.Data.{get_member};
 ghost use Rattle.toml.specs.View.{view, table_view, items_view};
 ghost use Rattle.cube_core.specs.Layout.{is_listed, are_distinct, is_lawful_name};
-ghost use Rattle.cube_core.specs.SchemaDocument.{AnswersBytes, AnswersDocument, known_keys, has_known_keys, texts_of, texts_at, texts_in, is_some_up_to, are_lawful_names, aggregate_spelled, are_spellings, record_limit, max_records_in, feed_version, version_in};
+ghost use Rattle.cube_core.specs.SchemaDocument.{AnswersBytes, AnswersDocument, AnswersParts, known_keys, has_known_keys, texts_of, texts_at, texts_in, is_some_up_to, are_lawful_names, aggregate_spelled, are_spellings, record_limit, max_records_in, feed_version, version_in, sets_of_grouping};
 
 mod grouping;
 
@@ -47,29 +47,64 @@ fn schema_of(alloc: Global, document: &Table) -> Result<Schema, SchemaFault>
     if !has_known_keys(document) {
         return Err(SchemaFault::UnknownKey);
     }
-    let Some(dimensions) = some_texts_at(alloc, document, "dimensions", 8)? else {
+    let dimensions = texts_in(alloc, document, "dimensions")?;
+    let measures = texts_in(alloc, document, "measures")?;
+    let aggregate_texts = texts_in(alloc, document, "aggregates")?;
+    schema_of_parts(
+        alloc,
+        dimensions,
+        measures,
+        aggregate_texts,
+        max_records_in(document),
+        value_at(document, "grouping"),
+        version_in(document),
+    )
+}
+
+/// The schema of its parts, or their first fault: names, spellings of aggregates, the number of data records, the
+/// grouping, which is of all sets where there is none, and the version of the feeds. What is None is wrong.
+pub(crate) fn schema_of_parts(
+    alloc: Global,
+    dimensions: Vec<Text>,
+    measures: Vec<Text>,
+    aggregate_texts: Vec<Text>,
+    max_records: Option<u32>,
+    grouping: Option<&Value>,
+    version: Option<u32>,
+) -> Result<Schema, SchemaFault>
+    requires records { IfSome max_records (λ limit. 1 ≤ limit) }
+    requires versions { IfSome version (λ number. (1 ≤ number) × (number ≤ 2)) }
+    ensures { AnswersParts (record {
+      dimensions = dimensions.items;
+      measures = measures.items;
+      spellings = aggregate_texts.items;
+      max_records = max_records;
+      grouping_sets = sets_of_grouping dimensions.items (option_map (λ value. view value.now) grouping.entry);
+      version = version;
+    }) result }
+{
+    if !is_some_up_to(&dimensions, 8) {
         return Err(SchemaFault::Dimensions);
-    };
-    let Some(measures) = some_texts_at(alloc, document, "measures", 4)? else {
+    }
+    if !is_some_up_to(&measures, 4) {
         return Err(SchemaFault::Measures);
-    };
+    }
     if !are_lawful_names(&dimensions, &measures) {
         return Err(SchemaFault::Name);
     }
-    let Some(aggregate_texts) = some_texts_at(alloc, document, "aggregates", 16)? else {
+    if !is_some_up_to(&aggregate_texts, 16) {
         return Err(SchemaFault::Aggregates);
-    };
+    }
     let Some(aggregates) = aggregates_of(alloc, &measures, &aggregate_texts)? else {
         return Err(SchemaFault::Aggregates);
     };
-    let Some(max_records) = max_records_in(document) else {
+    let Some(max_records) = max_records else {
         return Err(SchemaFault::MaxRecords);
     };
-    let grouping = value_at(document, "grouping");
     let Some(grouping_sets) = sets_of_grouping(alloc, &dimensions, grouping)? else {
         return Err(SchemaFault::Grouping);
     };
-    let Some(version) = version_in(document) else {
+    let Some(version) = version else {
         return Err(SchemaFault::Version);
     };
     Ok(Schema {
@@ -108,24 +143,14 @@ fn is_known_key(key: &str) -> bool
         || key == "version"
 }
 
-/// The texts of the array at a key, where there is at least one and at most `most`.
-fn some_texts_at(
-    alloc: Global,
-    document: &Table,
-    key: &str,
-    most: usize,
-) -> Result<Option<Vec<Text>>, AllocError>
-    ensures { IfOk result (λ found. let texts = texts_in key.now (table_view document.now) in
-        MatchOption found (is_some_up_to most texts ≡ false)
-        (λ read. (read.items ≡ texts) × (is_some_up_to most texts ≡ true))) }
+/// The texts of the array at a key; none where there is no array of texts.
+fn texts_in(alloc: Global, document: &Table, key: &str) -> Result<Vec<Text>, AllocError>
+    ensures { IfOk result (λ texts. texts.items ≡ texts_in key.now (table_view document.now)) }
 {
-    let Some(texts) = texts_at(alloc, document, key)? else {
-        return Ok(None);
-    };
-    if texts.is_empty() || most < texts.len() {
-        return Ok(None);
+    match texts_at(alloc, document, key)? {
+        Some(texts) => Ok(texts),
+        None => Ok(Vec::new(alloc)),
     }
-    Ok(Some(texts))
 }
 
 /// The texts of the array at a key, where there is an array of texts.
@@ -159,6 +184,13 @@ fn texts_of(alloc: Global, values: &[Value]) -> Result<Option<Vec<Text>>, AllocE
         texts.push(Text::from_str(alloc, text)?)?;
     }
     Ok(Some(texts))
+}
+
+/// Whether there are at least one text and at most `most`.
+fn is_some_up_to(texts: &[Text], most: usize) -> bool
+    ensures { result ≡ is_some_up_to most texts.now }
+{
+    1 <= texts.len() && texts.len() <= most
 }
 
 /// Whether the names of dimensions and of measures may stand in one schema.

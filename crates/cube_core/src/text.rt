@@ -1,5 +1,5 @@
 //! A text that contracts see as the list of its UTF-8 bytes.
-ghost use Rattle.std.specs.Prelude.{◌≡◌, IfOk, IsUtf8, nat_eq};
+ghost use Rattle.std.specs.Prelude.{◌≡◌, IfOk, IsUtf8, map, nat_eq};
 ghost use Rattle.std.specs.String.{string_bytes};
 ghost use Rattle.std.specs.Cmp.Rules.{comparing, hashing};
 ghost use Rattle.std.specs.Cmp.Lexicographic.{slice_cmp, pointwise};
@@ -137,6 +137,17 @@ pub(crate) fn copy_texts(alloc: Global, texts: &[Text]) -> Result<Vec<Text>, All
     let mut copies = Vec::with_capacity(alloc, texts.len())?;
     for text in texts {
         copies.push(text.copy(alloc)?)?;
+    }
+    Ok(copies)
+}
+
+/// Texts, which are copied, in order.
+pub(crate) fn texts_from_strs(alloc: Global, texts: &[&str]) -> Result<Vec<Text>, AllocError>
+    ensures { IfOk result (λ copies. copies.items ≡ map (λ text. text.now) texts.entry.now) }
+{
+    let mut copies = Vec::with_capacity(alloc, texts.len())?;
+    for text in texts {
+        copies.push(Text::from_str(alloc, *text)?)?;
     }
     Ok(copies)
 }

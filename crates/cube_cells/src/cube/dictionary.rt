@@ -6,12 +6,11 @@ ghost use Rattle.cube_core.specs.declared.key.Coord.TheVariants as coord;
 ghost use Rattle.std.specs.String.{string_bytes};
 ghost use Rattle.cube_core.specs.Layout.{is_listed};
 ghost use Rattle.cube_core.specs.Order.{coord_cmp};
+ghost use Rattle.cube_core.specs.Referred.{referred_coord};
 ghost use Rattle.cube_cells.specs.Codes.{IsDictionary, texts_with, all_code, is_code, no_code, IsCodeOf, coord_at, coords_at, coord_of_value};
-ghost use Rattle.cube_cells.specs.Keyed.{referred_coord};
 
 use super::codes::{ALL, NONE, NULL};
-use super::keyed::CoordRef;
-use cube_core::{Coord, HashKey, Text};
+use cube_core::{Coord, CoordRef, HashKey, Text};
 use indexmap::IndexSet;
 use std::alloc::{AllocError, Global};
 use std::cmp::Ordering;

@@ -2,38 +2,17 @@
 ghost use Rattle.std.specs.Prelude.{◌≡◌, ◌<◌, ◌≤◌, [], List, length, get_or, IsTrue};
 ghost use Rattle.cube_core.specs.Answer.{IsAnswer};
 ghost use Rattle.cube_core.specs.Layout.{is_aggregate_of};
+ghost use Rattle.cube_core.specs.Referred.{referred_coord};
 ghost use Rattle.cube_core.specs.declared.fact.Fact.{Fact};
 ghost use Rattle.cube_core.specs.declared.key.Coord.TheVariants as coord;
 ghost use Rattle.cube_cells.specs.Codes.{coord_at};
-ghost use Rattle.cube_cells.specs.Keyed.{referred_coord};
 ghost use Rattle.cube_cells.specs.Tally.{IsTallyOf};
 
 use super::codes::Codes;
 use super::dictionary::Dictionary;
 use crate::cell::Cell;
-use cube_core::{Agg, Answer, Coord};
+use cube_core::{Agg, Answer, CoordRef};
 use std::marker::Model;
-
-/// A coordinate of a key: a text where it lies, null or ALL.
-#[derive(Clone, Copy)]
-pub enum CoordRef<'t> {
-    Text(&'t str),
-    Null,
-    All,
-}
-
-impl<'t> CoordRef<'t> {
-    /// A coordinate, its text where it lies.
-    pub fn of(coord: &'t Coord) -> CoordRef<'t>
-        ensures { referred_coord result ≡ coord.now }
-    {
-        match coord {
-            Coord::Text(text) => CoordRef::Text(text.as_str()),
-            Coord::Null => CoordRef::Null,
-            Coord::All => CoordRef::All,
-        }
-    }
-}
 
 /// A cell and its key. No text is copied, and no answer is kept.
 #[derive(Drop)]

@@ -66,11 +66,8 @@ impl Cube {
             AreRowsWhere (drills_down dim key.now) self.now.sets (length self.now.schema.dimensions)
             self.now.schema.aggregates facts rows.items) }
     {
-        if !key.is_all(dim) {
-            return Err(QueryFault::NotRolled);
-        }
-        if !self.schema.keeps_below(key, dim) {
-            return Err(QueryFault::NotGrouped);
+        if let Some(fault) = self.schema.drill_fault(key, dim) {
+            return Err(fault);
         }
         let rows = self.rows_below(key, dim)?;
         Ok(rows)

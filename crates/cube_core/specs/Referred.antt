@@ -1,8 +1,8 @@
 -- A coordinate whose text is read where it lies (this project's choice).
 use Rattle.cube_core.specs.declared.key.Coord.{Coord}
 use Rattle.cube_core.specs.declared.key.Coord.TheVariants as coord
-use Rattle.cube_cells.specs.declared.cube.keyed.CoordRef.{CoordRef}
-use Rattle.cube_cells.specs.declared.cube.keyed.CoordRef.TheVariants as reference
+use Rattle.cube_core.specs.declared.key.CoordRef.{CoordRef}
+use Rattle.cube_core.specs.declared.key.CoordRef.TheVariants as reference
 
 -- the coordinate that this refers to
 abbrev pub referred_coord : CoordRef → Coord
