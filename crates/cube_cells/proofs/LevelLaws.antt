@@ -41,7 +41,7 @@ use Rattle.cube_cells.proofs.WalkLaws.{same_codes-IsEquivalence, same_codes-exac
 
 -- ---- cells of two lists
 -- the first that is there
-abbrev either : Option Tally → Option Tally → Option Tally
+abbrev pub either : Option Tally → Option Tally → Option Tally
 either None b = b
 either (Some t) b = Some t
 
@@ -52,14 +52,14 @@ coded_at-append (e ∷ a) b k = elim (cases_Bool (same_codes k e.0)) [
   | inr other ↦ rw other (coded_at-append a b k)
 ]
 
-cell_at-append : (dictionaries : Dictionaries) (a b : CodedCells) (key : Key) → cell_at (decoded dictionaries (a ++ b)) key ≡ either (cell_at (decoded dictionaries a) key) (cell_at (decoded dictionaries b) key)
+pub cell_at-append : (dictionaries : Dictionaries) (a b : CodedCells) (key : Key) → cell_at (decoded dictionaries (a ++ b)) key ≡ either (cell_at (decoded dictionaries a) key) (cell_at (decoded dictionaries b) key)
 cell_at-append dictionaries [] b key = refl
 cell_at-append dictionaries (e ∷ a) b key = elim (cases_Bool (eq_by_cmp key_cmp key (key_at dictionaries e.0.codes))) [
   | inl same ↦ rw same refl
   | inr other ↦ rw other (cell_at-append dictionaries a b key)
 ]
 
-is_some-either : (a b : Option Tally) → is_some (either a b) ≡ (is_some a || is_some b)
+pub is_some-either : (a b : Option Tally) → is_some (either a b) ≡ (is_some a || is_some b)
 is_some-either None b = refl
 is_some-either (Some t) b = refl
 
@@ -75,7 +75,7 @@ AllByRecursion-keys_of_append : (k : Codes) (a b : CodedCells) → AllByRecursio
 AllByRecursion-keys_of_append k [] b in_a in_b = in_b
 AllByRecursion-keys_of_append k (e ∷ a) b in_a in_b = (in_a.0, AllByRecursion-keys_of_append k a b in_a.1 in_b)
 
-AreApart-append : (a b : CodedCells) → AreApart a → AreApart b → All (λ cell. coded_at b cell.0 ≡ None) a → AreApart (a ++ b)
+pub AreApart-append : (a b : CodedCells) → AreApart a → AreApart b → All (λ cell. coded_at b cell.0 ≡ None) a → AreApart (a ++ b)
 AreApart-append [] b of_a of_b none = of_b
 AreApart-append (e ∷ a) b of_a of_b none =
     let P : Codes × Tally → Type 0 = λ cell. coded_at b cell.0 ≡ None in
@@ -199,7 +199,7 @@ cell_at-IsPermutation schema dictionaries facts a b key base moved apart each = 
   | inr other ↦ no_cell-width dictionaries b key other ∙ sym (no_cell-width dictionaries a key other)
 ]
 
-HaveAll-IsPermutation : (schema : Layout) (dictionaries : Dictionaries) (facts : List Fact) (sets : List ℕ) (a b : CodedCells) → IsBase schema dictionaries facts → IsPermutation a b → HaveAll schema dictionaries facts sets a → HaveAll schema dictionaries facts sets b
+pub HaveAll-IsPermutation : (schema : Layout) (dictionaries : Dictionaries) (facts : List Fact) (sets : List ℕ) (a b : CodedCells) → IsBase schema dictionaries facts → IsPermutation a b → HaveAll schema dictionaries facts sets a → HaveAll schema dictionaries facts sets b
 HaveAll-IsPermutation schema dictionaries facts sets a b base moved of_a = record {
   distinct = AreApart-IsPermutation a b moved of_a.distinct;
   each = All-permutation (IsCodedCell dictionaries (length schema.measures)) a b moved of_a.each;

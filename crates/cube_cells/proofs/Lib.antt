@@ -24,3 +24,4 @@ pub mod JoinLaws
 pub mod FinerLaws
 pub mod FilledLaws
 pub mod LevelLaws
+pub mod ShareLaws

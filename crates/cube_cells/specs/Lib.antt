@@ -9,3 +9,4 @@ pub mod Ranks
 pub mod Rows
 pub mod Fill
 pub mod Keyed
+pub mod Shares

@@ -115,7 +115,7 @@ impl Cube {
 }
 
 // The grouping set of all of so many dimensions.
-fn finest_of(dimensions: usize) -> u8
+pub(super) fn finest_of(dimensions: usize) -> u8
     requires { dimensions ≤ 8 }
     ensures { result ≡ finest_set dimensions }
 {
@@ -218,7 +218,7 @@ pub fn level_from(
 }
 
 // Puts the levels at the end, if each of them was made.
-fn push_levels(
+pub(super) fn push_levels(
     levels: &mut Vec<Level>,
     made: Vec<Result<Level, AllocError>>,
 ) -> Result<(), AllocError>
@@ -282,7 +282,7 @@ fn shrink_cells(cells: &mut HashMap<Codes, Cell>)
 }
 
 // The cells of all levels besides others, which have room for all of them at once.
-fn joined(
+pub(super) fn joined(
     mut cells: HashMap<Codes, Cell>,
     levels: Vec<Level>,
 ) -> Result<HashMap<Codes, Cell>, AllocError>

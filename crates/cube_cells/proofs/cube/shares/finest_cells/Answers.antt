@@ -1,0 +1,20 @@
+use Rattle.std.proofs.Common.{rules, ◌≡◌, ◌++◌, [], ℕ, List, sym, ap, ◌∙◌, subst, length}
+use Rattle.std.proofs.lemmas.Result.{IfOk-weaker}
+use Rattle.cube_cells.specs.Coded.{CodedCells}
+use Rattle.cube_cells.specs.Fill.{AreJoined}
+use Rattle.cube_cells.specs.Shares.{AreFinestCells, IsShare, facts_of}
+use Rattle.cube_cells.specs.declared.cube.fill.Level.{Level}
+use Rattle.cube_cells.proofs.ShareLaws.{AreFinestCells-AreJoined, made_each}
+use Rattle.cube_cells.proofs.cube.shares.finest_cells.Goals as goal
+
+pub returns : goal.returns
+returns g c =
+    let coded = c.args.coded.now in
+    let made = c.in_ok-made.ensures in
+    let pushed = c.in_ok-push_levels.ensures in
+    let empty : c.in_ok-levels.levels.items ≡ [] = c.in_ok-levels.ensures.items in
+    let levels : c.push_levels.new.levels.items ≡ pushed.levels = pushed.pushed ∙ ap (λ (ls : List Level). ls ++ pushed.levels) empty in
+    let each = made_each (IsShare coded c.args.threads) pushed.levels c.in_ok-made.made.items c.args.threads pushed.are made.long made.each in
+    let none : c.new.result.entries ≡ [] = search rules in
+    IfOk-weaker c.joined.result _ (λ cells. AreFinestCells coded (facts_of coded) cells.entries)
+    (λ cells joins. AreFinestCells-AreJoined coded c.args.threads pushed.levels cells.entries c.requires.threads c.requires.coded each.0 each.1 (subst (λ (ls : List Level). AreJoined ls [] cells.entries) levels (subst (λ (others : CodedCells). AreJoined c.push_levels.new.levels.items others cells.entries) none joins))) c.joined.ensures
