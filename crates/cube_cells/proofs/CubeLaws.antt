@@ -27,7 +27,7 @@ group_of-passed key fact facts stands = filter-passed (covers key) fact facts st
 group_of-failed : (key : Key) (fact : Fact) (facts : List Fact) → covers key fact ≡ false → group_of key (fact ∷ facts) ≡ group_of key facts
 group_of-failed key fact facts stands = filter-failed (covers key) fact facts stands
 
-group_of-list_any : (key : Key) (facts : List Fact) → list_any (covers key) facts ≡ false → group_of key facts ≡ []
+pub group_of-list_any : (key : Key) (facts : List Fact) → list_any (covers key) facts ≡ false → group_of key facts ≡ []
 group_of-list_any key [] none = refl
 group_of-list_any key (fact ∷ facts) none =
     let parts = or_parts (covers key fact) (list_any (covers key) facts) none in

@@ -300,7 +300,7 @@ AreGrown-replicate [] = tt
 AreGrown-replicate (texts ∷ dictionaries) = ((texts, refl), AreGrown-replicate dictionaries)
 
 -- the cells of no fact
-IsFilled-AreNewCells : (schema : Layout) (sets : List ℕ) (dictionaries : Dictionaries) (start : CodedCells) → IsFrame schema sets dictionaries → IsStrictlySortedBy nat_cmp sets → AreNewCells (is_among 0 sets) (length schema.measures) start → IsFilled schema sets dictionaries (λ _. []) start
+pub IsFilled-AreNewCells : (schema : Layout) (sets : List ℕ) (dictionaries : Dictionaries) (start : CodedCells) → IsFrame schema sets dictionaries → IsStrictlySortedBy nat_cmp sets → AreNewCells (is_among 0 sets) (length schema.measures) start → IsFilled schema sets dictionaries (λ _. []) start
 IsFilled-AreNewCells schema sets dictionaries start frame ascending new =
     let n : ℕ = length schema.dimensions in
     let grown : AreGrown (replicate n []) dictionaries = subst (λ (k : ℕ). AreGrown (replicate k []) dictionaries) frame.width (AreGrown-replicate dictionaries) in

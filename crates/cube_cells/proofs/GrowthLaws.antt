@@ -37,7 +37,7 @@ AreGrown (t ∷ old) [] = ⊥
 AreGrown (t ∷ old) (u ∷ new) = ((more : List (List ℕ)) × (u ≡ t ++ more)) × AreGrown old new
 
 -- the texts with one more have the old ones first
-texts_with-append : (value : Option (List ℕ)) (texts : List (List ℕ)) → (more : List (List ℕ)) × (texts_with value texts ≡ texts ++ more)
+pub texts_with-append : (value : Option (List ℕ)) (texts : List (List ℕ)) → (more : List (List ℕ)) × (texts_with value texts ≡ texts ++ more)
 texts_with-append None texts = ([], sym (append-nil texts))
 texts_with-append (Some text) texts = elim (cases_Bool (is_listed text texts)) [
   | inl listed ↦ ([], rw listed (sym (append-nil texts)))
@@ -68,7 +68,7 @@ AreGrown-refl [] = tt
 AreGrown-refl (t ∷ dictionaries) = (([], sym (append-nil t)), AreGrown-refl dictionaries)
 
 -- a code stays a code, of the same coordinate
-is_code-append : (t more u : List (List ℕ)) (code : ℕ) → u ≡ t ++ more → IsDictionary u → is_code t code ≡ true → (is_code u code ≡ true) × (coord_at u code ≡ coord_at t code)
+pub is_code-append : (t more u : List (List ℕ)) (code : ℕ) → u ≡ t ++ more → IsDictionary u → is_code t code ≡ true → (is_code u code ≡ true) × (coord_at u code ≡ coord_at t code)
 is_code-append t more u code is dictionary valid = elim (is_code-cases t code valid) [
   | inl all ↦ (rw all refl, rw all refl)
   | inr rest ↦ elim rest [

@@ -26,3 +26,4 @@ pub mod LeveledLaws
 pub mod FinerLaws
 pub mod FilledLaws
 pub mod LevelLaws
+pub mod ShareLaws

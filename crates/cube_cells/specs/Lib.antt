@@ -9,3 +9,4 @@ pub mod Ranks
 pub mod Rows
 pub mod Levels
 pub mod Fill
+pub mod Shares

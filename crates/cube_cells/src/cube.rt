@@ -20,6 +20,7 @@ mod ordered;
 mod queries;
 mod ranks;
 mod rows;
+mod shares;
 mod walk;
 mod workers;
 

@@ -102,7 +102,7 @@ impl Cube {
 }
 
 // The grouping set of all of so many dimensions.
-fn finest_of(dimensions: usize) -> u8
+pub(super) fn finest_of(dimensions: usize) -> u8
     requires { dimensions ≤ 8 }
     ensures { result ≡ finest_set dimensions }
 {
@@ -216,7 +216,7 @@ pub fn level_from(
 }
 
 // Puts the levels at the end, if each of them was made.
-fn push_levels(
+pub(super) fn push_levels(
     levels: &mut Vec<Level>,
     made: Vec<Result<Level, AllocError>>,
 ) -> Result<(), AllocError>

@@ -99,8 +99,8 @@ fn holds_at(cells: &HashMap<Codes, Cell>, codes: &Codes, values: &[Option<i64>])
     }
 }
 
-// Adds to the cell of a key, which is filled before it is put in where it is new.
-fn add_to_cell(
+/// Adds to the cell of a key, which is filled before it is put in where it is new.
+pub fn add_to_cell(
     alloc: Global,
     cells: &mut HashMap<Codes, Cell>,
     codes: Codes,

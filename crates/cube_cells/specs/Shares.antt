@@ -1,0 +1,100 @@
+-- Filling the cells of the finest grouping set in shares: each dimension is coded by itself, and each share has the facts whose codes are its own (this project's choice).
+use Rattle.std.specs.Prelude.{◌≡◌, ◌<◌, ◌+◌, ◌-◌, ◌%◌, ◌==◌, ◌++◌, ℕ, suc, Bool, true, List, [], ◌∷◌, length, map, get_or, replicate, Option, None, Result, All, IfOk, if◌then◌else◌}
+use Rattle.std.specs.List.Sorted.{IsPermutation}
+use Rattle.std.specs.declared.alloc.AllocError.{AllocError}
+use Rattle.cube_core.specs.Layout.{IsSchema}
+use Rattle.cube_core.specs.Takes.{fits}
+use Rattle.cube_core.specs.declared.fact.Fact.{Fact}
+use Rattle.cube_cells.specs.Codes.{Dictionaries, IsDictionary, all_code, coord_at, coord_of_value, is_code}
+use Rattle.cube_cells.specs.Coded.{CodedCells, IsCoded, lattice_of}
+use Rattle.cube_cells.specs.Fill.{IsCubeOfAll, finest_set}
+use Rattle.cube_cells.specs.Walk.{AreApart, key_in}
+use Rattle.cube_cells.specs.declared.cube.codes.Codes.{Codes}
+use Rattle.cube_cells.specs.declared.cube.levels.Level.{Level}
+use Rattle.cube_cells.specs.declared.cube.shares.CodedFacts.{CodedFacts}
+use Rattle.cube_cells.specs.declared.cube.shares.Column.{Column}
+
+-- this is the code of a value, or of null, in a dimension with these texts
+pub record IsCodeIn (texts : List (List ℕ)) (value : Option (List ℕ)) (code : ℕ) : Type 0 where
+  pub valid : is_code texts code ≡ true
+  pub stands : coord_at texts code ≡ coord_of_value value
+
+-- the first of some facts, so many of them, have these codes in a dimension
+pub record AreCodedIn (dimension : ℕ) (facts : List Fact) (number : ℕ) (texts : List (List ℕ)) (codes : List ℕ) : Type 0 where
+  pub dictionary : IsDictionary texts
+  pub long : length codes ≡ number
+  pub each : (place : ℕ) (unused : Fact) → place < number
+      → IsCodeIn texts (get_or (get_or facts place unused).dims dimension None) (get_or codes place 0)
+
+-- a column has the codes of all facts in a dimension
+abbrev pub IsColumnOf : ℕ → List Fact → Column → Type 0
+IsColumnOf dimension facts column = AreCodedIn dimension facts (length facts) column.dictionary column.codes.items
+
+-- for each dimension a result: its column, unless memory was wanting
+pub record AreMadeColumns (dimensions : ℕ) (facts : List Fact) (made : List (Result Column AllocError)) : Type 0 where
+  pub long : length made ≡ dimensions
+  pub each : (d : ℕ) (unused : Result Column AllocError) → d < dimensions → IfOk (get_or made d unused) (IsColumnOf d facts)
+
+-- there is a column for each dimension
+pub record AreColumnsOf (dimensions : ℕ) (facts : List Fact) (columns : List Column) : Type 0 where
+  pub long : length columns ≡ dimensions
+  pub each : (d : ℕ) (unused : Column) → d < dimensions → IsColumnOf d facts (get_or columns d unused)
+
+-- the facts that coded facts are
+abbrev pub facts_of : CodedFacts → List Fact
+facts_of coded = map (λ fact. fact.now) coded.facts.now
+
+-- the facts fit the schema, and there is a column of their codes for each dimension
+pub record AreCoded (coded : CodedFacts) : Type 0 where
+  pub is_schema : IsSchema coded.schema
+  pub fit : All (λ fact. fits coded.schema fact ≡ true) (facts_of coded)
+  pub columns : AreColumnsOf (length coded.schema.dimensions) (facts_of coded) coded.columns.items
+
+-- the texts of each dimension
+abbrev pub dictionaries_of : List Column → Dictionaries
+dictionaries_of columns = map (λ column. column.dictionary) columns
+
+-- the codes of the fact at a place, and ALL past the last dimension
+abbrev pub codes_at : List Column → ℕ → Codes
+codes_at columns place = record { codes = map (λ column. get_or column.codes.items place 0) columns ++ replicate (8 - length columns) all_code }
+
+-- the share of codes, of so many: the sum of the eight modulo their number
+abbrev pub share_of : ℕ → Codes → ℕ
+share_of of codes = (get_or codes.codes 0 0 + get_or codes.codes 1 0 + get_or codes.codes 2 0 + get_or codes.codes 3 0
+    + get_or codes.codes 4 0 + get_or codes.codes 5 0 + get_or codes.codes 6 0 + get_or codes.codes 7 0) % of
+
+-- the finest grouping set of coded facts
+abbrev pub set_of : CodedFacts → ℕ
+set_of coded = finest_set (length coded.schema.dimensions)
+
+-- the share that the fact at a place is in
+abbrev pub share_at : CodedFacts → ℕ → ℕ → ℕ
+share_at coded of place = share_of of (key_in (codes_at coded.columns.items place) (set_of coded))
+
+-- the facts whose share is wanted, where the fact at each place has one
+abbrev pub chosen : (ℕ → Bool) → (ℕ → ℕ) → List Fact → List Fact
+chosen is_wanted share [] = []
+chosen is_wanted share (fact ∷ facts) = (if is_wanted (share 0) then fact ∷ [] else []) ++ chosen is_wanted (λ place. share (suc place)) facts
+
+-- these are the cells of some facts over the finest grouping set
+pub record AreFinestCells (coded : CodedFacts) (facts : List Fact) (cells : CodedCells) : Type 0 where
+  pub are : IsCoded coded.schema (set_of coded ∷ []) (length facts) (dictionaries_of coded.columns.items) cells
+  pub cube : IsCubeOfAll facts (lattice_of coded.schema (set_of coded ∷ []) (length facts) (dictionaries_of coded.columns.items) cells)
+
+-- the cells of the first facts of a share, so many facts looked at, and of no other share
+pub record HasShare (coded : CodedFacts) (of share : ℕ) (facts : List Fact) (cells : CodedCells) : Type 0 where
+  pub finest : AreFinestCells coded (chosen (λ other. other == share) (share_at coded of) facts) cells
+  pub own : All (λ cell. share_of of cell.0 ≡ share) cells
+
+-- a level has the cells of a share
+abbrev pub IsShare : CodedFacts → ℕ → ℕ → Level → Type 0
+IsShare coded of share level = HasShare coded of share (facts_of coded) level.cells.entries
+
+-- for each share a result: its cells, unless memory was wanting
+pub record AreMadeShares (coded : CodedFacts) (of : ℕ) (made : List (Result Level AllocError)) : Type 0 where
+  pub long : length made ≡ of
+  pub each : (share : ℕ) (unused : Result Level AllocError) → share < of → IfOk (get_or made share unused) (IsShare coded of share)
+
+-- cells of other codes are put to these
+abbrev pub Joins : CodedCells → CodedCells → CodedCells → Type 0
+Joins more old new = AreApart (more ++ old) → IsPermutation (more ++ old) new

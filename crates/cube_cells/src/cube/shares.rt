@@ -1,0 +1,262 @@
+//! The finest cells of many facts at once: each dimension is coded by itself, and the cells are filled in shares.
+ghost use Rattle.std.specs.Prelude.{◌≡◌, ◌<◌, ◌≤◌, ◌∷◌, [], true, length, map, All, IfOk, OnOk, Ok};
+ghost use Rattle.cube_core.specs.Layout.{IsSchema};
+ghost use Rattle.cube_core.specs.Takes.{fits};
+ghost use Rattle.cube_cells.specs.Fill.{IsCubeOfAll, finest_set};
+ghost use Rattle.cube_cells.specs.Levels.{cells_of};
+ghost use Rattle.cube_cells.specs.Shares.{AreCoded, AreFinestCells, AreMadeColumns, AreMadeShares, IsColumnOf, IsShare, Joins, codes_at, dictionaries_of, facts_of};
+
+use super::Cube;
+use super::codes::{ALL, Codes};
+use super::dictionary::Dictionary;
+use super::fill::{finest_of, push_levels};
+use super::levels::{Level, one_level};
+use super::walk::add_to_cell;
+use crate::cell::Cell;
+use cube_core::{Fact, Schema};
+use std::alloc::{AllocError, Global};
+use std::collections::HashMap;
+use std::thread::{Threads, map_indices};
+
+/// The codes of the values of facts in a dimension, in the order of the facts, and the texts that have codes.
+#[derive(Drop)]
+pub struct Column {
+    pub dictionary: Dictionary,
+    pub codes: Vec<u32>,
+}
+
+/// Facts that fit a schema, with the codes of their values in each dimension.
+#[derive(Drop)]
+pub struct CodedFacts<'f> {
+    pub schema: Schema,
+    pub facts: &'f [&'f Fact],
+    pub columns: Vec<Column>,
+}
+
+impl Cube {
+    /// The cube of these facts over the finest grouping set alone, with the same schema, made by as many threads as
+    /// this says. Each text has the code that it would have if the facts were added one by one.
+    ///
+    /// The dimensions are coded side by side; then each thread fills a share of the cells. The only error is want of
+    /// memory.
+    pub fn finest_of<T: Threads + Sync>(
+        &self,
+        rt: &T,
+        threads: usize,
+        facts: &[&Fact],
+    ) -> Result<Cube, AllocError>
+        requires threads { 0 < threads }
+        requires fit { All (λ fact. fits self.now.schema fact ≡ true) (map (λ fact. fact.now) facts.now) }
+        ensures schema { IfOk result (λ cube. cube.schema ≡ self.now.schema) }
+        ensures sets { IfOk result (λ cube.
+            cube.sets ≡ finest_set (length cube.schema.dimensions) ∷ []) }
+        ensures facts { IfOk result (IsCubeOfAll (map (λ fact. fact.now) facts.now)) }
+    {
+        let coded = coded_facts(rt, self.alloc, &self.schema, facts)?;
+        let cells = finest_cells(rt, threads, self.alloc, &coded)?;
+        let set = finest_of(self.schema.dimensions().len());
+        let mut sets = Vec::with_capacity(self.alloc, 1)?;
+        sets.push(set)?;
+        let CodedFacts {
+            schema, columns, ..
+        } = coded;
+        Ok(Cube {
+            schema,
+            sets,
+            facts: facts.len() as u64,
+            dictionaries: dictionaries_of(self.alloc, columns)?,
+            levels: one_level(self.alloc, Level { set, cells })?,
+            alloc: self.alloc,
+        })
+    }
+}
+
+// The facts with their codes; the dimensions are coded side by side. The only error is want of memory.
+fn coded_facts<'f, T: Threads + Sync>(
+    rt: &T,
+    alloc: Global,
+    schema: &Schema,
+    facts: &'f [&'f Fact],
+) -> Result<CodedFacts<'f>, AllocError>
+    requires { All (λ fact. fits schema.now fact ≡ true) (map (λ fact. fact.now) facts.now) }
+    ensures schema { IfOk result (λ coded. coded.schema ≡ schema.now) }
+    ensures facts { IfOk result (λ coded. coded.facts.now ≡ facts.now) }
+    ensures coded { IfOk result AreCoded }
+{
+    let made = made_columns(rt, alloc, schema, facts)?;
+    let columns = columns_of(alloc, made)?;
+    Ok(CodedFacts {
+        schema: schema.copy(alloc)?,
+        facts,
+        columns,
+    })
+}
+
+// For each dimension the codes of the facts, unless memory is wanting.
+fn made_columns<T: Threads + Sync>(
+    rt: &T,
+    alloc: Global,
+    schema: &Schema,
+    facts: &[&Fact],
+) -> Result<Vec<Result<Column, AllocError>>, AllocError>
+    requires { All (λ fact. fits schema.now fact ≡ true) (map (λ fact. fact.now) facts.now) }
+    ensures schema { IsSchema schema.now }
+    ensures made { IfOk result (λ made.
+        AreMadeColumns (length schema.now.dimensions) (map (λ fact. fact.now) facts.now) made.items) }
+{
+    map_indices(
+        rt,
+        alloc,
+        schema.dimensions().len(),
+        &|dimension| column_of(alloc, schema, facts, dimension),
+    )
+}
+
+// The columns, if each of them was made.
+fn columns_of(
+    alloc: Global,
+    made: Vec<Result<Column, AllocError>>,
+) -> Result<Vec<Column>, AllocError>
+    ensures { IfOk result (λ columns. map Ok columns.items ≡ made.items) }
+{
+    let mut columns = Vec::with_capacity(alloc, made.len())?;
+    for column in made {
+        columns.push(column?)?;
+    }
+    Ok(columns)
+}
+
+// The codes of facts in a dimension.
+fn column_of(
+    alloc: Global,
+    schema: &Schema,
+    facts: &[&Fact],
+    dimension: usize,
+) -> Result<Column, AllocError>
+    requires inside { dimension < length schema.now.dimensions }
+    requires fit { All (λ fact. fits schema.now fact ≡ true) (map (λ fact. fact.now) facts.now) }
+    ensures { IfOk result (IsColumnOf dimension (map (λ fact. fact.now) facts.now)) }
+{
+    let mut dictionary = Dictionary::new(alloc, schema.hash_key());
+    let mut codes = Vec::with_capacity(alloc, facts.len())?;
+    for fact in facts {
+        codes.push(dictionary.code_with(alloc, fact.dims.get(dimension))?)?;
+    }
+    Ok(Column { dictionary, codes })
+}
+
+// The texts of each dimension.
+fn dictionaries_of(alloc: Global, columns: Vec<Column>) -> Result<Vec<Dictionary>, AllocError>
+    ensures { IfOk result (λ dictionaries. dictionaries.items ≡ dictionaries_of columns.items) }
+{
+    let mut dictionaries = Vec::with_capacity(alloc, columns.len())?;
+    for column in columns {
+        dictionaries.push(column.dictionary)?;
+    }
+    Ok(dictionaries)
+}
+
+// The cells of coded facts over the finest grouping set, filled by as many threads as this says, each its share.
+fn finest_cells<T: Threads + Sync>(
+    rt: &T,
+    threads: usize,
+    alloc: Global,
+    coded: &CodedFacts<'_>,
+) -> Result<HashMap<Codes, Cell>, AllocError>
+    requires threads { 0 < threads }
+    requires coded { AreCoded coded.now }
+    ensures { IfOk result (λ cells. AreFinestCells coded.now (facts_of coded.now) cells.entries) }
+{
+    let made = made_shares(rt, alloc, coded, threads)?;
+    let mut levels = Vec::with_capacity(alloc, threads)?;
+    push_levels(&mut levels, made)?;
+    joined(alloc, levels)
+}
+
+// The cells of all shares in one table, which has room for all of them at once.
+fn joined(alloc: Global, shares: Vec<Level>) -> Result<HashMap<Codes, Cell>, AllocError>
+    ensures { IfOk result (λ cells. Joins (cells_of shares.items) [] cells.entries) }
+{
+    let mut cells = HashMap::new(alloc);
+    cells.reserve(number_of_cells(&shares))?;
+    for share in shares {
+        move_cells(&mut cells, share.cells)?;
+    }
+    Ok(cells)
+}
+
+// How many cells the levels have, or as many as the type can say.
+fn number_of_cells(levels: &[Level]) -> usize {
+    let mut number: usize = 0;
+    for level in levels {
+        number = number.saturating_add(level.cells.len());
+    }
+    number
+}
+
+// Moves cells to others of other codes.
+fn move_cells(
+    cells: &mut HashMap<Codes, Cell>,
+    more: HashMap<Codes, Cell>,
+) -> Result<(), AllocError>
+    ensures { OnOk result (Joins more.entries cells.old.entries cells.new.entries) }
+{
+    for (codes, cell) in more {
+        cells.insert(codes, cell)?;
+    }
+    Ok(())
+}
+
+// For each share, of so many, its cells, unless memory is wanting.
+fn made_shares<T: Threads + Sync>(
+    rt: &T,
+    alloc: Global,
+    coded: &CodedFacts<'_>,
+    shares: usize,
+) -> Result<Vec<Result<Level, AllocError>>, AllocError>
+    requires shares { 0 < shares }
+    requires coded { AreCoded coded.now }
+    ensures { IfOk result (λ made. AreMadeShares coded.now shares made.items) }
+{
+    map_indices(
+        rt,
+        alloc,
+        shares,
+        &|share| share_cells(alloc, coded, share as u64, shares as u64),
+    )
+}
+
+// The cells of a share, of so many.
+fn share_cells(
+    alloc: Global,
+    coded: &CodedFacts<'_>,
+    share: u64,
+    of: u64,
+) -> Result<Level, AllocError>
+    requires some { 0 < of }
+    requires coded { AreCoded coded.now }
+    ensures { IfOk result (IsShare coded.now of share) }
+{
+    let set = finest_of(coded.columns.len());
+    let mut cells = HashMap::new(alloc);
+    for (place, fact) in coded.facts.iter().enumerate() {
+        let codes = codes_at(&coded.columns, place).kept(set);
+        if codes.share(of) == share {
+            add_to_cell(alloc, &mut cells, codes, fact.measures.as_slice())?;
+        }
+    }
+    Ok(Level { set, cells })
+}
+
+// The codes of the fact at a place.
+fn codes_at(columns: &[Column], place: usize) -> Codes
+    requires few { length columns.now ≤ 8 }
+    requires inside { All (λ column. place < length column.codes.items) columns.now }
+    ensures { result ≡ codes_at columns.now place }
+{
+    let mut codes = [ALL; 8];
+    for (dimension, column) in columns.iter().enumerate() {
+        codes[dimension] = column.codes[place];
+    }
+    Codes { codes }
+}
