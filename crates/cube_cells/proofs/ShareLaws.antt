@@ -31,7 +31,7 @@ use Rattle.cube_cells.specs.Coded.{AreNewCells, CodedCells, IsCoded, IsCodedCell
 use Rattle.cube_cells.specs.Cube.{IsCubeOf, cell_at, count_in}
 use Rattle.cube_cells.specs.Fill.{IsCubeOfAll}
 use Rattle.cube_cells.specs.Levels.{IsLeveled, cells_of}
-use Rattle.cube_cells.specs.Shares.{AreCoded, AreCodedIn, AreFinestCells, HasShare, IsCodeIn, IsShare, Joins, chosen, codes_at, dictionaries_of, facts_of, set_of, share_at, share_of}
+use Rattle.cube_cells.specs.Shares.{AreCoded, AreCodedIn, AreFinestCells, HasShare, IsCodeIn, IsShare, AreJoined, Joins, chosen, codes_at, dictionaries_of, facts_of, set_of, share_at, share_of}
 use Rattle.cube_cells.specs.Tally.{Tally, IsTallyOf}
 use Rattle.cube_cells.specs.Walk.{AddsIn, AreApart, HasRoom, key_in, weight_of_cells}
 use Rattle.cube_cells.specs.declared.cube.codes.Codes.{Codes}
@@ -494,8 +494,10 @@ IsMoving-more more left old now new cell moving put apart =
 abbrev pub IsJoining : List Level → List Level → CodedCells → Type 0
 IsJoining shares left now = AreApart (cells_of shares) → IsPermutation (cells_of shares) (cells_of left ++ now)
 
-pub IsJoining-none : (shares left : List Level) (now : CodedCells) → left ≡ shares → now ≡ [] → IsJoining shares left now
-IsJoining-none shares left now all none apart = rw (all, none, append-nil (cells_of shares)) (IsPermutation-refl (cells_of shares))
+pub IsJoining-none : (shares left : List Level) (now : CodedCells) → left ≡ shares → IsPermutation [] now → IsJoining shares left now
+IsJoining-none shares left now all moved apart =
+    let behind : IsPermutation (cells_of shares ++ []) (cells_of shares ++ now) = IsPermutation-append_right (cells_of shares) [] now moved in
+    rw all (rw (append-nil (cells_of shares)) at behind)
 
 pub IsJoining-more : (shares left : List Level) (now new : CodedCells) (share : Level) → IsJoining shares (share ∷ left) now → Joins share.cells.entries now new → IsJoining shares left new
 IsJoining-more shares left now new share joining joins apart =
@@ -505,11 +507,6 @@ IsJoining-more shares left now new share joining joins apart =
     let turned : IsPermutation (cells_of shares) (behind ++ (entries ++ now)) = IsPermutation-trans _ _ _ (joining apart) (rw (append_assoc behind entries now) at swapped) in
     let differ : AreApart (entries ++ now) = AreApart-append_right behind (entries ++ now) (AreApart-IsPermutation (cells_of shares) (behind ++ (entries ++ now)) turned apart) in
     IsPermutation-trans _ _ _ turned (IsPermutation-append_right behind (entries ++ now) new (joins differ))
-
-pub IsJoining-all : (shares left : List Level) (now : CodedCells) → left ≡ [] → IsJoining shares left now → Joins (cells_of shares) [] now
-IsJoining-all shares left now none joining apart =
-    let whole : cells_of shares ++ [] ≡ cells_of shares = append-nil (cells_of shares) in
-    rw whole (subst (λ (ls : List Level). IsPermutation (cells_of shares) (cells_of ls ++ now)) none (joining (rw whole at apart)))
 
 -- ---- in another order
 coded_at-IsPermutation : (a b : CodedCells) (k : Codes) → IsPermutation a b → AreApart a → coded_at b k ≡ coded_at a k
@@ -623,13 +620,12 @@ HasSharesFrom-cells_of coded of k (level ∷ levels) some are long each =
         (HasSharesFrom-cells_of coded of (suc k) levels some are (omega (arith, long)) (λ i unused inside. subst (λ (j : ℕ). IsShare coded of j (get_or levels i unused)) (omega arith) (each (suc i) unused (omega (arith, inside)))))
 
 -- the cells of all shares are those of all facts
-pub AreFinestCells-Joins : (coded : CodedFacts) (of : ℕ) (levels : List Level) (cells : CodedCells) → 0 < of → AreCoded coded → length levels ≡ of → ((i : ℕ) (unused : Level) → i < of → IsShare coded of i (get_or levels i unused)) → Joins (cells_of levels) [] cells → AreFinestCells coded (facts_of coded) cells
+pub AreFinestCells-Joins : (coded : CodedFacts) (of : ℕ) (levels : List Level) (cells : CodedCells) → 0 < of → AreCoded coded → length levels ≡ of → ((i : ℕ) (unused : Level) → i < of → IsShare coded of i (get_or levels i unused)) → AreJoined levels cells → AreFinestCells coded (facts_of coded) cells
 AreFinestCells-Joins coded of levels cells some are long each joins =
     let whole : HasSharesFrom coded of 0 (cells_of levels) = HasSharesFrom-cells_of coded of 0 levels some are (omega (arith, long)) (λ i unused inside. subst (λ (j : ℕ). IsShare coded of j (get_or levels i unused)) (omega arith) (each i unused (omega (arith, inside, long)))) in
     let all : AreFinestCells coded (facts_of coded) (cells_of levels) = subst (λ (facts : List Fact). AreFinestCells coded facts (cells_of levels)) (chosen-all (is_from 0) (share_at coded of) (facts_of coded) (λ place. rw (le-ltb (share_at coded of place) 0 (omega arith)) refl)) whole.finest in
-    let moved : Joins (cells_of levels) [] cells → AreApart (cells_of levels) → IsPermutation (cells_of levels) cells = λ joins. rw (append-nil (cells_of levels)) at joins in
     AreFinestCells-HaveAll coded (facts_of coded) cells are are.fit
-        (HaveAll-IsPermutation coded.schema (dictionaries_of coded.columns.items) (facts_of coded) (set_of coded ∷ []) (cells_of levels) cells (IsBase-AreCoded coded (facts_of coded) are are.fit) (moved joins all.are.distinct) (HaveAll-AreFinestCells coded (facts_of coded) (cells_of levels) all))
+        (HaveAll-IsPermutation coded.schema (dictionaries_of coded.columns.items) (facts_of coded) (set_of coded ∷ []) (cells_of levels) cells (IsBase-AreCoded coded (facts_of coded) are are.fit) (joins all.are.distinct) (HaveAll-AreFinestCells coded (facts_of coded) (cells_of levels) all))
 
 -- they are a cube of one level
 pub IsLeveled-AreFinestCells : (coded : CodedFacts) (facts : List Fact) (levels : List Level) (level : Level) → levels ≡ level ∷ [] → level.set ≡ set_of coded → AreFinestCells coded facts level.cells.entries
@@ -640,4 +636,4 @@ IsLeveled-AreFinestCells coded facts levels level alone is finest =
     let are : IsCoded schema (level.set ∷ []) (length facts) texts level.cells.entries = rw is finest.are in
     let cube : IsCubeOfAll facts (lattice_of schema (level.set ∷ []) (length facts) texts level.cells.entries) = rw is finest.cube in
     let leveled : IsLeveled schema (level.set ∷ []) (length facts) texts (level ∷ []) = IsLeveled-alone schema (length facts) texts level facts are cube in
-    rw alone (rw is at leveled, rw (append-nil level.cells.entries) finest.cube)
+    rw alone (subst (λ (set : ℕ). IsLeveled schema (set ∷ []) (length facts) texts (level ∷ [])) is leveled, rw (append-nil level.cells.entries) finest.cube)

@@ -8,6 +8,7 @@ use Rattle.cube_core.specs.declared.fact.Fact.{Fact}
 use Rattle.cube_cells.specs.Codes.{Dictionaries, IsDictionary, all_code, coord_at, coord_of_value, is_code}
 use Rattle.cube_cells.specs.Coded.{CodedCells, IsCoded, lattice_of}
 use Rattle.cube_cells.specs.Fill.{IsCubeOfAll, finest_set}
+use Rattle.cube_cells.specs.Levels.{cells_of}
 use Rattle.cube_cells.specs.Walk.{AreApart, key_in}
 use Rattle.cube_cells.specs.declared.cube.codes.Codes.{Codes}
 use Rattle.cube_cells.specs.declared.cube.levels.Level.{Level}
@@ -98,3 +99,7 @@ pub record AreMadeShares (coded : CodedFacts) (of : ℕ) (made : List (Result Le
 -- cells of other codes are put to these
 abbrev pub Joins : CodedCells → CodedCells → CodedCells → Type 0
 Joins more old new = AreApart (more ++ old) → IsPermutation (more ++ old) new
+
+-- these are the cells of levels, where their codes differ
+abbrev pub AreJoined : List Level → CodedCells → Type 0
+AreJoined levels cells = AreApart (cells_of levels) → IsPermutation (cells_of levels) cells

@@ -8,7 +8,7 @@ ghost use Rattle.cube_cells.specs.Cube.{SameSets};
 ghost use Rattle.cube_engine.specs.Builder.{HasFacts, SameBuilder, StandsAt};
 ghost use Rattle.cube_engine.specs.Ledger.{AllFit, AtSource, Enters, Exchanges, IsRemoval, account_of, all_facts};
 
-use crate::fill::fill;
+use crate::fill::{fill, finest_with};
 use crate::ledger::Ledger;
 use crate::ruling::Ruling;
 use cube_cells::Cube;
@@ -101,8 +101,10 @@ impl Builder {
         ensures same { IfOk result (λ builder. SameSets cube builder.cube) }
         ensures has { IfOk result (λ builder. HasFacts (all_facts ledger.accounts) builder.cube) }
     {
-        let mut finest = cube.finest()?;
-        fill(&mut finest, &ledger)?;
+        if threads < 2 {
+            return Builder::of(ledger, cube);
+        }
+        let finest = finest_with(rt, threads, &cube, &ledger)?;
         let mut cube = cube;
         cube.fill_with(rt, threads, finest)?;
         Ok(Builder { ledger, cube })

@@ -1,5 +1,6 @@
 //! Filling a cube with the facts of a ledger's books.
-ghost use Rattle.std.specs.Prelude.{◌≡◌, ◌∷◌, [], true, OnOk};
+ghost use Rattle.std.specs.Prelude.{◌≡◌, ◌<◌, ◌++◌, ◌∷◌, [], true, length, map, IfOk, OnOk};
+ghost use Rattle.cube_cells.specs.Fill.{IsCubeOfAll, finest_set};
 ghost use Rattle.cube_core.specs.Takes.{fits};
 ghost use Rattle.cube_engine.specs.Book.{facts_of};
 ghost use Rattle.cube_engine.specs.Builder.{GainsFacts};
@@ -10,6 +11,7 @@ use crate::ledger::Ledger;
 use cube_cells::Cube;
 use cube_core::Fact;
 use std::alloc::AllocError;
+use std::thread::Threads;
 
 /// Adds the facts of all books of a ledger to a cube of the same schema. The only error is want of memory, or of
 /// numbers to count the facts with.
@@ -43,4 +45,34 @@ pub fn add_counted(cube: &mut Cube, fact: &Fact) -> Result<(), AllocError>
         return Err(AllocError);
     }
     cube.add(fact)
+}
+
+/// The cube of the facts of all books of a ledger over the finest grouping set, with the schema of a cube, made by as
+/// many threads as this says. The only error is want of memory.
+pub fn finest_with<T: Threads + Sync>(
+    rt: &T,
+    threads: usize,
+    cube: &Cube,
+    ledger: &Ledger,
+) -> Result<Cube, AllocError>
+    requires threads { 0 < threads }
+    requires schema { cube.now.schema ≡ ledger.now.schema }
+    ensures schema { IfOk result (λ finest. finest.schema ≡ cube.now.schema) }
+    ensures sets { IfOk result (λ finest.
+        finest.sets ≡ finest_set (length finest.schema.dimensions) ∷ []) }
+    ensures facts { IfOk result (IsCubeOfAll (all_facts ledger.now.accounts)) }
+{
+    let facts = ledger.facts()?;
+    cube.finest_of(rt, threads, &facts)
+}
+
+/// Puts the facts of a book behind others. The only error is want of memory.
+pub fn push_facts<'b>(facts: &mut Vec<&'b Fact>, book: &'b Book) -> Result<(), AllocError>
+    ensures { OnOk result (map (λ fact. fact.now) facts.new.items
+        ≡ map (λ fact. fact.now) facts.old.items ++ facts_of book.now) }
+{
+    for fact in book.facts() {
+        facts.push(fact)?;
+    }
+    Ok(())
 }

@@ -1,5 +1,5 @@
 //! The books and the refusals of all sources.
-ghost use Rattle.std.specs.Prelude.{◌≡◌, ◌≤◌, ◌++◌, ◌∷◌, [], None, Some, true, length, IfOk, IfErr, OnOk, OnErr, IfSome, replicate};
+ghost use Rattle.std.specs.Prelude.{◌≡◌, ◌≤◌, ◌++◌, ◌∷◌, [], None, Some, true, length, map, IfOk, IfErr, OnOk, OnErr, IfSome, replicate};
 ghost use Rattle.std.specs.Option.{option_map};
 ghost use Rattle.cube_core.specs.Arrival.{Arrivals};
 ghost use Rattle.cube_core.specs.Takes.{fits};
@@ -7,6 +7,7 @@ ghost use Rattle.cube_engine.specs.Ledger.{AllFit, AtSource, Enters, Exchanges, 
 
 use crate::account::Account;
 use crate::code::{says_taken, shape_code};
+use crate::fill::push_facts;
 use crate::ruling::Ruling;
 use cube_core::{Change, Fact, HashKey, Item, LineFault, Refusal, Schema, Text};
 use std::alloc::{AllocError, Global};
@@ -184,6 +185,19 @@ impl Ledger {
     {
         let account = &mut self.accounts[source as usize - 1];
         account.enter(&self.schema, item)
+    }
+
+    /// The facts of all books, source after source. The only error is want of memory.
+    pub(crate) fn facts(&self) -> Result<Vec<&Fact>, AllocError>
+        ensures facts { IfOk result (λ facts.
+            map (λ fact. fact.now) facts.items ≡ all_facts self.now.accounts) }
+        ensures fit { AllFit self.now.schema (all_facts self.now.accounts) }
+    {
+        let mut facts = Vec::new(self.alloc);
+        for account in self.accounts.iter() {
+            push_facts(&mut facts, account.book())?;
+        }
+        Ok(facts)
     }
 
     /// The accounts of the sources, from the first.

@@ -3,8 +3,7 @@ ghost use Rattle.std.specs.Prelude.{◌≡◌, ◌<◌, ◌≤◌, ◌∷◌, []
 ghost use Rattle.cube_core.specs.Layout.{IsSchema};
 ghost use Rattle.cube_core.specs.Takes.{fits};
 ghost use Rattle.cube_cells.specs.Fill.{IsCubeOfAll, finest_set};
-ghost use Rattle.cube_cells.specs.Levels.{cells_of};
-ghost use Rattle.cube_cells.specs.Shares.{AreCoded, AreFinestCells, AreMadeColumns, AreMadeShares, IsColumnOf, IsShare, Joins, codes_at, dictionaries_of, facts_of};
+ghost use Rattle.cube_cells.specs.Shares.{AreCoded, AreFinestCells, AreJoined, AreMadeColumns, AreMadeShares, IsColumnOf, IsShare, Joins, codes_at, dictionaries_of, facts_of};
 
 use super::Cube;
 use super::codes::{ALL, Codes};
@@ -175,7 +174,7 @@ fn finest_cells<T: Threads + Sync>(
 
 // The cells of all shares in one table, which has room for all of them at once.
 fn joined(alloc: Global, shares: Vec<Level>) -> Result<HashMap<Codes, Cell>, AllocError>
-    ensures { IfOk result (λ cells. Joins (cells_of shares.items) [] cells.entries) }
+    ensures { IfOk result (λ cells. AreJoined shares.items cells.entries) }
 {
     let mut cells = HashMap::new(alloc);
     cells.reserve(number_of_cells(&shares))?;

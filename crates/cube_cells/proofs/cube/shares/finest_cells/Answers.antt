@@ -1,7 +1,6 @@
 use Rattle.std.proofs.Common.{rules, ◌≡◌, ◌++◌, [], ℕ, List, sym, ap, ◌∙◌, subst, length}
 use Rattle.std.proofs.lemmas.Result.{IfOk-weaker}
-use Rattle.cube_cells.specs.Levels.{cells_of}
-use Rattle.cube_cells.specs.Shares.{AreFinestCells, IsShare, Joins, facts_of}
+use Rattle.cube_cells.specs.Shares.{AreFinestCells, AreJoined, IsShare, facts_of}
 use Rattle.cube_cells.specs.declared.cube.levels.Level.{Level}
 use Rattle.cube_cells.proofs.ShareLaws.{AreFinestCells-Joins, made_each}
 use Rattle.cube_cells.proofs.cube.shares.finest_cells.Goals as goal
@@ -15,4 +14,4 @@ returns g c =
     let levels : c.push_levels.new.levels.items ≡ pushed.levels = pushed.pushed ∙ ap (λ (ls : List Level). ls ++ pushed.levels) empty in
     let each = made_each (IsShare coded c.args.threads) pushed.levels c.in_ok-made.made.items c.args.threads pushed.are made.long made.each in
     IfOk-weaker c.joined.result _ (λ cells. AreFinestCells coded (facts_of coded) cells.entries)
-    (λ cells joins. AreFinestCells-Joins coded c.args.threads pushed.levels cells.entries c.requires.threads c.requires.coded each.0 each.1 (subst (λ (ls : List Level). Joins (cells_of ls) [] cells.entries) levels joins)) c.joined.ensures
+    (λ cells joins. AreFinestCells-Joins coded c.args.threads pushed.levels cells.entries c.requires.threads c.requires.coded each.0 each.1 (subst (λ (ls : List Level). AreJoined ls cells.entries) levels joins)) c.joined.ensures
