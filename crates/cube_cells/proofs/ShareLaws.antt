@@ -84,7 +84,7 @@ chosen-both one other all share (fact ∷ facts) is apart =
       by_first rest true false is_one is_other = rw (is (share 0), is_one, is_other) (IsPermutation-cons fact (chosen one later facts ++ chosen other later facts) (chosen all later facts) rest)
       by_first rest false true is_one is_other = rw (is (share 0), is_one, is_other) (
           IsPermutation-trans _ _ _ (IsPermutation-middle (chosen one later facts) fact (chosen other later facts))
-              (IsPermutation-cons fact (chosen one later facts ++ chosen other later facts) (chosen all later facts) rest))
+          (IsPermutation-cons fact (chosen one later facts ++ chosen other later facts) (chosen all later facts) rest))
       by_first rest false false is_one is_other = rw (is (share 0), is_one, is_other) rest
 
 length-chosen : (is_wanted : ℕ → Bool) (share : ℕ → ℕ) (number : ℕ) (facts : List Fact) → length (chosen is_wanted share (take number facts)) ≤ number
@@ -347,8 +347,8 @@ AreFinestCells-more coded facts fact place cells more are fit fits_here at fines
       tallies = cube.tallies;
     }) in
     AreFinestCells-permutation coded (fact ∷ facts) (facts ++ fact ∷ []) more are
-        (All-append (λ (f : Fact). fits coded.schema f ≡ true) facts (fact ∷ []) fit (All-cons (λ (f : Fact). fits coded.schema f ≡ true) fact [] fits_here (All-nil (λ (f : Fact). fits coded.schema f ≡ true))))
-        (IsPermutation-sym (facts ++ fact ∷ []) (fact ∷ facts) (IsPermutation-to_front facts fact)) first
+    (All-append (λ (f : Fact). fits coded.schema f ≡ true) facts (fact ∷ []) fit (All-cons (λ (f : Fact). fits coded.schema f ≡ true) fact [] fits_here (All-nil (λ (f : Fact). fits coded.schema f ≡ true))))
+    (IsPermutation-sym (facts ++ fact ∷ []) (fact ∷ facts) (IsPermutation-to_front facts fact)) first
 
 -- ---- one share
 pub HasShare-none : (coded : CodedFacts) (of share : ℕ) → AreCoded coded → HasShare coded of share [] []
@@ -575,8 +575,8 @@ HasSharesFrom-cons : (coded : CodedFacts) (of k : ℕ) (level : Level) (cells : 
 HasSharesFrom-cons coded of k level cells are first rest = record {
   finest = AreFinestCells-permutation coded (mine ++ later) (from_share coded of k) (level.cells.entries ++ cells) are (fit_chosen coded (is_from k) of are) moved
       (AreFinestCells-HaveAll coded (mine ++ later) (level.cells.entries ++ cells) are fit
-          (HaveAll-both coded.schema (dictionaries_of coded.columns.items) mine later (set_of coded) level.cells.entries cells (IsBase-AreCoded coded (mine ++ later) are fit) (set_of-below coded are).0
-              (HaveAll-AreFinestCells coded mine level.cells.entries first.finest) (HaveAll-AreFinestCells coded later cells rest.finest) apart));
+      (HaveAll-both coded.schema (dictionaries_of coded.columns.items) mine later (set_of coded) level.cells.entries cells (IsBase-AreCoded coded (mine ++ later) are fit) (set_of-below coded are).0
+      (HaveAll-AreFinestCells coded mine level.cells.entries first.finest) (HaveAll-AreFinestCells coded later cells rest.finest) apart));
   own = All-append (λ cell. k ≤ share_of of cell.0) level.cells.entries cells
       (All-weaker (λ cell. share_of of cell.0 ≡ k) (λ cell. k ≤ share_of of cell.0) (λ cell is. omega (arith, is)) level.cells.entries first.own)
       (All-weaker (λ cell. suc k ≤ share_of of cell.0) (λ cell. k ≤ share_of of cell.0) (λ cell is. omega (arith, is)) cells rest.own);
@@ -617,7 +617,7 @@ HasSharesFrom-cells_of : (coded : CodedFacts) (of k : ℕ) (levels : List Level)
 HasSharesFrom-cells_of coded of k [] some are long each = subst (λ (j : ℕ). HasSharesFrom coded of j []) (omega (arith, long)) (HasSharesFrom-none coded of some are)
 HasSharesFrom-cells_of coded of k (level ∷ levels) some are long each =
     HasSharesFrom-cons coded of k level (cells_of levels) are (subst (λ (j : ℕ). IsShare coded of j level) (omega arith) (each 0 level (omega arith)))
-        (HasSharesFrom-cells_of coded of (suc k) levels some are (omega (arith, long)) (λ i unused inside. subst (λ (j : ℕ). IsShare coded of j (get_or levels i unused)) (omega arith) (each (suc i) unused (omega (arith, inside)))))
+    (HasSharesFrom-cells_of coded of (suc k) levels some are (omega (arith, long)) (λ i unused inside. subst (λ (j : ℕ). IsShare coded of j (get_or levels i unused)) (omega arith) (each (suc i) unused (omega (arith, inside)))))
 
 -- the cells of all shares are those of all facts
 pub AreFinestCells-Joins : (coded : CodedFacts) (of : ℕ) (levels : List Level) (cells : CodedCells) → 0 < of → AreCoded coded → length levels ≡ of → ((i : ℕ) (unused : Level) → i < of → IsShare coded of i (get_or levels i unused)) → AreJoined levels cells → AreFinestCells coded (facts_of coded) cells
@@ -625,7 +625,7 @@ AreFinestCells-Joins coded of levels cells some are long each joins =
     let whole : HasSharesFrom coded of 0 (cells_of levels) = HasSharesFrom-cells_of coded of 0 levels some are (omega (arith, long)) (λ i unused inside. subst (λ (j : ℕ). IsShare coded of j (get_or levels i unused)) (omega arith) (each i unused (omega (arith, inside, long)))) in
     let all : AreFinestCells coded (facts_of coded) (cells_of levels) = subst (λ (facts : List Fact). AreFinestCells coded facts (cells_of levels)) (chosen-all (is_from 0) (share_at coded of) (facts_of coded) (λ place. rw (le-ltb (share_at coded of place) 0 (omega arith)) refl)) whole.finest in
     AreFinestCells-HaveAll coded (facts_of coded) cells are are.fit
-        (HaveAll-IsPermutation coded.schema (dictionaries_of coded.columns.items) (facts_of coded) (set_of coded ∷ []) (cells_of levels) cells (IsBase-AreCoded coded (facts_of coded) are are.fit) (joins all.are.distinct) (HaveAll-AreFinestCells coded (facts_of coded) (cells_of levels) all))
+    (HaveAll-IsPermutation coded.schema (dictionaries_of coded.columns.items) (facts_of coded) (set_of coded ∷ []) (cells_of levels) cells (IsBase-AreCoded coded (facts_of coded) are are.fit) (joins all.are.distinct) (HaveAll-AreFinestCells coded (facts_of coded) (cells_of levels) all))
 
 -- they are a cube of one level
 pub IsLeveled-AreFinestCells : (coded : CodedFacts) (facts : List Fact) (levels : List Level) (level : Level) → levels ≡ level ∷ [] → level.set ≡ set_of coded → AreFinestCells coded facts level.cells.entries

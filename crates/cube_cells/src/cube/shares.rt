@@ -57,7 +57,9 @@ impl Cube {
         let mut sets = Vec::with_capacity(self.alloc, 1)?;
         sets.push(set)?;
         let CodedFacts {
-            schema, columns, ..
+            schema,
+            columns,
+            ..
         } = coded;
         Ok(Cube {
             schema,
