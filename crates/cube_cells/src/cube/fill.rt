@@ -174,13 +174,14 @@ fn levels_from<W: Workers>(
     Ok(levels)
 }
 
-// The sets, those of more dimensions first.
+// The sets, those of more dimensions first. Those of a layer are mixed, since each thread takes some that stand together,
+// and those of the last dimensions may all be large.
 fn in_layers(alloc: Global, sets: &[u8]) -> Result<Vec<u8>, AllocError>
     ensures { IfOk result (λ order. IsPermutation sets.now order.items) }
 {
     let mut order = Vec::with_capacity(alloc, sets.len())?;
     order.extend_from_slice(sets)?;
-    order.sort_by_key(|set| 8 - set.count_ones().min(8))?;
+    order.sort_by_key(|set| (8 - set.count_ones().min(8), set.wrapping_mul(151)))?;
     Ok(order)
 }
 
