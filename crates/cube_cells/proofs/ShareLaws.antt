@@ -20,7 +20,7 @@ use Rattle.cube_core.specs.Covers.{covers}
 use Rattle.cube_core.specs.Cube.{is_cell, is_total}
 use Rattle.cube_core.specs.Group.{group_of}
 use Rattle.cube_core.specs.GroupingSet.{mask_of, is_among}
-use Rattle.cube_core.specs.Layout.{Layout, IsSchema}
+use Rattle.cube_core.specs.Layout.{Layout}
 use Rattle.cube_core.specs.Takes.{fits}
 use Rattle.cube_core.specs.declared.fact.Fact.{Fact}
 use Rattle.cube_core.specs.declared.key.Coord.{Coord}
@@ -28,12 +28,12 @@ use Rattle.cube_core.specs.declared.key.Key.{Key}
 use Rattle.cube_core.proofs.CellKeyLaws.{fits-length}
 use Rattle.cube_cells.specs.Codes.{AreCodesOf, Dictionaries, IsCodeOf, IsDictionary, all_code, are_codes, coord_of_value, coords_at, is_code, texts_with}
 use Rattle.cube_cells.specs.Coded.{AreNewCells, CodedCells, IsCoded, IsCodedCell, coded_at, decoded, lattice_of, same_codes, total_codes}
-use Rattle.cube_cells.specs.Cube.{IsCubeOf, cell_at, count_in}
+use Rattle.cube_cells.specs.Cube.{IsCubeOf, cell_at}
 use Rattle.cube_cells.specs.Fill.{IsCubeOfAll}
 use Rattle.cube_cells.specs.Levels.{IsLeveled, cells_of}
 use Rattle.cube_cells.specs.Shares.{AreCoded, AreCodedIn, AreFinestCells, HasShare, IsCodeIn, IsShare, AreJoined, Joins, chosen, codes_at, dictionaries_of, facts_of, set_of, share_at, share_of}
 use Rattle.cube_cells.specs.Tally.{Tally, IsTallyOf}
-use Rattle.cube_cells.specs.Walk.{AddsIn, AreApart, HasRoom, key_in, weight_of_cells}
+use Rattle.cube_cells.specs.Walk.{AddsIn, AreApart, HasRoom, key_in}
 use Rattle.cube_cells.specs.declared.cube.codes.Codes.{Codes}
 use Rattle.cube_cells.specs.declared.cube.levels.Level.{Level}
 use Rattle.cube_cells.specs.declared.cube.shares.CodedFacts.{CodedFacts}

@@ -1,5 +1,4 @@
-use Rattle.std.proofs.Common.{◌≡◌, length, map}
-use Rattle.cube_core.specs.Layout.{Layout}
+use Rattle.std.proofs.Common.{length, map}
 use Rattle.cube_cells.specs.Shares.{IsColumnOf}
 use Rattle.cube_cells.proofs.ShareLaws.{made_each}
 use Rattle.cube_cells.proofs.cube.shares.coded_facts.Goals as goal

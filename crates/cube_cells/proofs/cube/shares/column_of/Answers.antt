@@ -1,8 +1,7 @@
-use Rattle.std.proofs.Common.{rules, arith, ◌≡◌, ◌<◌, ◌+◌, ℕ, List, Option, None, ap, ◌∙◌, sym, subst, length, get_or, map}
+use Rattle.std.proofs.Common.{arith, ◌≡◌, ◌<◌, ℕ, List, Option, None, ap, ◌∙◌, sym, subst, length, get_or, map}
 use Rattle.std.specs.Prelude.{option_map}
 use Rattle.std.proofs.lemmas.List.{get_or_read, get_or-map, length-map}
 use Rattle.cube_core.specs.declared.fact.Fact.{Fact}
-use Rattle.cube_core.proofs.CellKeyLaws.{fits-length}
 use Rattle.cube_cells.specs.Shares.{AreCodedIn}
 use Rattle.cube_cells.proofs.ShareLaws.{AreCodedIn-more}
 use Rattle.cube_cells.proofs.cube.shares.column_of.Goals as goal

@@ -1,10 +1,8 @@
-use Rattle.std.proofs.Common.{rules, arith, ◌≡◌, ◌<◌, ◌+◌, ◌^◌, [], ◌∷◌, ℕ, List, ap, ◌∙◌, sym, length, get_or, map, take}
+use Rattle.std.proofs.Common.{rules, arith, ◌≡◌, ◌<◌, [], ap, ◌∙◌, sym, length, get_or}
 use Rattle.std.proofs.lemmas.List.{get_or_read, get_or-map, length-map}
-use Rattle.cube_core.specs.declared.fact.Fact.{Fact}
 use Rattle.cube_cells.specs.Fill.{finest_set}
 use Rattle.cube_cells.specs.Shares.{codes_at, facts_of, set_of, share_at, share_of}
 use Rattle.cube_cells.specs.Walk.{key_in}
-use Rattle.cube_cells.specs.declared.cube.codes.Codes.{Codes}
 use Rattle.cube_cells.proofs.ShareLaws.{HasRoom-HasShare, HasShare-all, HasShare-more, HasShare-none, HasShare-other}
 use Rattle.cube_cells.proofs.cube.shares.share_cells.Goals.{then-share+in_ok-add_to_cell, else-share}
 use Rattle.cube_cells.proofs.cube.shares.share_cells.Goals as goal
