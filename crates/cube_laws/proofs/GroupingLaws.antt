@@ -11,18 +11,16 @@ use Rattle.std.proofs.lemmas.Nat.{pow_pos}
 use Rattle.std.proofs.lemmas.Slice.Eq.{bytes_eq-Decides}
 use Rattle.std.specs.Option.{option_map_or}
 use Rattle.std.proofs.lemmas.List.Folds.{list_any-append}
-use Rattle.std.proofs.lemmas.List.Elements.{recursion_from_All}
 use Rattle.toml.specs.Data.{Members, string, get_member}
 use Rattle.cube_core.specs.Cube.{AreRows, AreRowsOver}
 use Rattle.cube_core.specs.GroupingSet.{all_sets, is_among}
 use Rattle.cube_core.specs.Layout.{Layout, IsSchema, is_listed, are_distinct}
-use Rattle.cube_core.specs.SchemaDocument.{dimensions_in, mask_of_names, rollup_sets, kept_sets, sets_of_grouping, first_fault, layout_of, schema_of}
+use Rattle.cube_core.specs.SchemaDocument.{dimensions_in, measures_in, spellings_in, max_records_in, default_max_records, record_limit, mask_of_names, rollup_sets, kept_sets, sets_of_grouping, grouping_sets_in, feed_version, version_in, parts_in, named_parts, schema_of_parts, first_fault, layout_of, schema_of}
 use Rattle.cube_core.specs.declared.fact.Fact.{Fact}
 use Rattle.cube_core.specs.declared.key.Row.{Row}
 use Rattle.cube_core.specs.declared.schema_fault.SchemaFault.{SchemaFault}
-use Rattle.cube_core.proofs.SetLaws.{all_sets-All}
-use Rattle.cube_core.proofs.ListLaws.{filter-all}
-use Rattle.cube_laws.proofs.SetLaws.{AreAmong-all_sets}
+use Rattle.cube_core.proofs.GroupingLaws.{kept_sets-all_sets}
+use Rattle.cube_laws.specs.Written.{GivesNames}
 
 -- the schema that is answered is the document's
 option_map_or-Ok : (found : Option SchemaFault) (layout s : Layout) → option_map_or Err found (Ok layout) ≡ Ok s → layout ≡ s
@@ -32,18 +30,25 @@ option_map_or-Ok (Some fault) layout s is = cc
 pub schema_of-layout_of : (document : Members) (s : Layout) → schema_of document ≡ Ok s → layout_of document ≡ s
 schema_of-layout_of document s is = option_map_or-Ok (first_fault document) (layout_of document) s is
 
--- where all sets are named, all are kept
-kept_sets-all_sets : (dimensions : ℕ) → kept_sets dimensions (all_sets dimensions) ≡ all_sets dimensions
-kept_sets-all_sets dimensions =
-    filter-all (λ set. is_among set (all_sets dimensions)) (all_sets dimensions)
-    (AreAmong-all_sets dimensions (all_sets dimensions) (recursion_from_All _ (all_sets dimensions) (all_sets-All dimensions)))
-
 -- without a grouping all are kept
 pub grouping_sets-all_sets : (document : Members) (s : Layout) → schema_of document ≡ Ok s → get_member (codes "grouping") document ≡ None → s.grouping_sets ≡ all_sets (length s.dimensions)
 grouping_sets-all_sets document s is none =
     subst (λ (t : Layout). t.grouping_sets ≡ all_sets (length t.dimensions)) (schema_of-layout_of document s is)
     (ap (λ grouping. unwrap_or (sets_of_grouping (dimensions_in document) grouping) []) none
     ∙ kept_sets-all_sets (length (dimensions_in document)))
+
+-- a document of names alone has the parts of a schema that is told by them
+pub GivesNames-schema_of : (document : Members) (dimensions measures spellings : List (List ℕ)) → GivesNames document dimensions measures spellings
+    → schema_of document ≡ schema_of_parts (named_parts dimensions measures spellings)
+GivesNames-schema_of document dimensions measures spellings gives =
+    let ds : dimensions_in document ≡ dimensions = ap (λ o. unwrap_or o []) gives.dimensions in
+    let ms : measures_in document ≡ measures = ap (λ o. unwrap_or o []) gives.measures in
+    let texts : spellings_in document ≡ spellings = ap (λ o. unwrap_or o []) gives.aggregates in
+    let limit : max_records_in document ≡ Some default_max_records = ap (λ o. option_map_or record_limit o (Some default_max_records)) gives.max_records in
+    let sets : grouping_sets_in document ≡ Some (all_sets (length dimensions)) = ap₂ sets_of_grouping ds gives.grouping ∙ ap Some (kept_sets-all_sets (length dimensions)) in
+    let version : version_in document ≡ Some 1 = ap (λ o. option_map_or feed_version o (Some 1)) gives.version in
+    let parts : parts_in document ≡ named_parts dimensions measures spellings = λ i. record { dimensions = ds i; measures = ms i; spellings = texts i; max_records = limit i; grouping_sets = sets i; version = version i } in
+    rw gives.known_keys (ap schema_of_parts parts)
 
 pub AreRows-all_sets : (document : Members) (s : Layout) (facts : List Fact) (rows : List Row) → schema_of document ≡ Ok s → get_member (codes "grouping") document ≡ None → AreRows s facts rows
     → AreRowsOver (all_sets (length s.dimensions)) (length s.dimensions) s.aggregates facts rows

@@ -1,6 +1,6 @@
 -- What the laws of the schema document speak of (this project's choice).
-use Rattle.std.specs.Prelude.{◌≡◌, true, codes, Some}
-use Rattle.toml.specs.Data.{Members}
+use Rattle.std.specs.Prelude.{◌≡◌, ℕ, List, true, codes, Some, None}
+use Rattle.toml.specs.Data.{Members, get_member}
 use Rattle.cube_core.specs.Layout.{Layout}
 use Rattle.cube_core.specs.SchemaDocument.{has_known_keys, texts_at, max_records_in, grouping_sets_in, version_in}
 
@@ -13,3 +13,13 @@ pub record Writes (document : Members) (s : Layout) : Type 0 where
   pub max_records : max_records_in document ≡ Some s.max_records
   pub grouping_sets : grouping_sets_in document ≡ Some s.grouping_sets
   pub version : version_in document ≡ Some s.version
+
+-- the document has these arrays of texts, and no other key
+pub record GivesNames (document : Members) (dimensions measures spellings : List (List ℕ)) : Type 0 where
+  pub known_keys : has_known_keys document ≡ true
+  pub dimensions : texts_at (codes "dimensions") document ≡ Some dimensions
+  pub measures : texts_at (codes "measures") document ≡ Some measures
+  pub aggregates : texts_at (codes "aggregates") document ≡ Some spellings
+  pub max_records : get_member (codes "max_records") document ≡ None
+  pub grouping : get_member (codes "grouping") document ≡ None
+  pub version : get_member (codes "version") document ≡ None

@@ -1,5 +1,5 @@
 //! What a schema file writes: each schema can be written, and each spelling is of one aggregate.
-ghost use Rattle.std.specs.Prelude.{◌≡◌, ◌≤◌, ◌+◌, ◌-◌, ◌^◌, Some, None, Ok, List, length, map, codes, true};
+ghost use Rattle.std.specs.Prelude.{◌≡◌, ◌≤◌, ◌+◌, ◌-◌, ◌^◌, Some, None, Ok, ℕ, List, length, map, codes, true};
 ghost use Rattle.std.specs.List.{range_with_len};
 ghost use Rattle.toml.specs.Data.{Members, string, get_member};
 ghost use Rattle.cube_core.specs.Cube.{AreRows, AreRowsOver};
@@ -7,8 +7,8 @@ ghost use Rattle.cube_core.specs.GroupingSet.{all_sets};
 ghost use Rattle.cube_core.specs.Layout.{Layout, IsSchema, spelling_of, is_aggregate_of};
 ghost use Rattle.cube_core.specs.PartialForm.{partial_form};
 ghost use Rattle.cube_core.specs.Shard.{whole_feed};
-ghost use Rattle.cube_core.specs.SchemaDocument.{schema_of, aggregate_spelled};
-ghost use Rattle.cube_laws.specs.Written.{Writes};
+ghost use Rattle.cube_core.specs.SchemaDocument.{schema_of, schema_of_parts, named_parts, aggregate_spelled};
+ghost use Rattle.cube_laws.specs.Written.{GivesNames, Writes};
 ghost use Rattle.cube_core.specs.declared.aggregate.Agg.{Agg};
 ghost use Rattle.cube_core.specs.declared.fact.Fact.{Fact};
 ghost use Rattle.cube_core.specs.declared.key.Row.{Row};
@@ -53,6 +53,14 @@ pub fn rollup_keeps_first_dimensions()
         get_member (codes "grouping") document ≡ Some (string (codes "rollup")) →
         s.grouping_sets
         ≡ map (λ first. 2 ^ first - 1) (range_with_len 0 (length s.dimensions + 1)) }
+{}
+
+/// A document that has arrays of names and of spellings, and no other key, is read as what `Schema::new` makes of these:
+/// that schema, or its first fault.
+pub fn names_make_the_schema_of_their_document()
+    ensures { (document : Members) (dimensions measures spellings : List (List ℕ)) →
+        GivesNames document dimensions measures spellings →
+        schema_of document ≡ schema_of_parts (named_parts dimensions measures spellings) }
 {}
 
 /// The partial form of a partial form is itself: it has what each of its means is made of (this project's choice).

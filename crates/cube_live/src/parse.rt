@@ -166,12 +166,9 @@ fn drill_by(schema: &Schema, key: Key, dimension: usize) -> Request
     requires width { length key.coords ≡ length schema.now.dimensions }
     ensures { result ≡ drill_by schema.now (key, dimension) }
 {
-    if !key.is_all(dimension) {
-        Request::Wrong(RequestFault::Query(QueryFault::NotRolled))
-    } else if !schema.keeps_below(&key, dimension) {
-        Request::Wrong(RequestFault::Query(QueryFault::NotGrouped))
-    } else {
-        Request::Ask(Question::Drill(key, dimension))
+    match schema.drill_fault(&key, dimension) {
+        Some(fault) => Request::Wrong(RequestFault::Query(fault)),
+        None => Request::Ask(Question::Drill(key, dimension)),
     }
 }
 

@@ -4,8 +4,8 @@ ghost use Rattle.std.specs.Prelude.{◌≡◌, ℕ, ◌<◌, ◌≤◌, ◌+◌,
 ghost use Rattle.std.specs.List.{flat_map};
 ghost use Rattle.std.specs.Fmt.{signed_decimal};
 ghost use Rattle.cube_core.specs.Text.{line, header_fields, grouping_name, coord_text, grouping_text, answer_text, row_line, text_of_rows};
+ghost use Rattle.cube_core.specs.Referred.{referred_coord};
 ghost use Rattle.cube_text.specs.Lines.{AddsFields, AddsText};
-ghost use Rattle.cube_cells.specs.Keyed.{referred_coord};
 ghost use Rattle.cube_text.specs.Rows.{AddsRow, AreColumns, GoesOn, IsColumn, IsTextOfCells, IsTextOfPart, answers_at};
 ghost use Rattle.cube_core.specs.declared.key.Key.{Key};
 ghost use Rattle.cube_cells.specs.Rows.{AreAnswersOf};

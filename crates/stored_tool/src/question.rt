@@ -93,13 +93,7 @@ fn refused_for(schema: &Schema, question: &Question) -> Option<QueryFault>
     let Question::Drill { key, dimension } = question else {
         return None;
     };
-    if !key.is_all(*dimension) {
-        Some(QueryFault::NotRolled)
-    } else if !schema.keeps_below(key, *dimension) {
-        Some(QueryFault::NotGrouped)
-    } else {
-        None
-    }
+    schema.drill_fault(key, *dimension)
 }
 
 // A command's question as a session's.
