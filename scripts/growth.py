@@ -1,29 +1,39 @@
 #!/usr/bin/env python3
-"""Times `datacube print` over a tenth to ten times as many records, prints a table, and draws docs/growth.svg.
+"""Measures `datacube print` over more and more records and over 2 to 8 dimensions, prints two tables, and draws docs/growth.svg.
 
     scripts/growth.py [--runs N] [--most F] [WORKLOAD...]
 
-Each figure is the processor seconds of all threads, the lowest of N runs, with one builder and one feed. The plot has a
-line for each workload, seconds against records, both by powers of ten: where time grows with the records, the line rises
-by one power for each.
+A cell has wall seconds, processor seconds of all threads and the largest memory in MiB, each the best of N runs, with the
+defaults over one feed. The first table has each workload with 1, 2, 4 and 8 times its records, the second 100,000 inserts
+with 2 to 8 dimensions of 4 values each, so 4 to 256 grouping sets. The plot has a line for each workload, processor
+seconds against records, both by powers of ten: where time grows with the records, the line rises by one power for each.
 """
 import argparse
 import math
 import os
 import tempfile
 
-from measure import DATACUBE, ROOT, need, run
-from workloads import WORKLOADS, make
+from measure import DATACUBE, ROOT, best_of, need
+from workloads import WORKLOADS, make_of
 
-SCALES = (0.1, 0.3, 1.0, 3.0, 10.0)
+SCALES = (1, 2, 4, 8)
+DIMENSIONS = range(2, 9)
 COLOURS = {"wide": "#1b6ca8", "tall": "#c0392b", "churn": "#1e8449", "many": "#7d3c98", "sparse": "#b9770e"}
 WIDE, HIGH, LEFT, BELOW, ABOVE, RIGHT = 640, 400, 60, 44, 14, 90
 
 
-def measure(name, scale, runs):
+def measure(name, shape, scale, runs):
     with tempfile.TemporaryDirectory() as folder:
-        files = make(folder, name, 1, scale)
-        return min(run([DATACUBE, "print", *files])[0].processor for _ in range(runs))
+        files = make_of(folder, name, shape, 1, scale)
+        return best_of([[DATACUBE, "print", *files]], runs)[0]
+
+
+def cell(use):
+    return f"{use.wall:.2f} s, {use.processor:.2f} s, {use.memory:.0f} MiB"
+
+
+def head(first, names):
+    print(f"| {first} | " + " | ".join(names) + " |\n|" + "---|" * (len(names) + 1))
 
 
 def place(value, ends, low, high):
@@ -76,11 +86,17 @@ def main():
     words = parser.parse_args()
     need(DATACUBE)
     scales = [scale for scale in SCALES if scale <= words.most]
-    print("| workload | " + " | ".join(f"× {scale:g}" for scale in scales) + " |\n|" + "---|" * (len(scales) + 1))
+    head("", [f"× {scale}" for scale in scales])
     lines = {}
     for name in words.workloads or WORKLOADS:
-        lines[name] = [(int(WORKLOADS[name][0] * scale), measure(name, scale, words.runs)) for scale in scales]
-        print(f"| `{name}` | " + " | ".join(f"{records:,}: {seconds:.2f} s" for records, seconds in lines[name]) + " |", flush=True)
+        uses = [measure(name, WORKLOADS[name], scale, words.runs) for scale in scales]
+        lines[name] = [(WORKLOADS[name][0] * scale, use.processor) for scale, use in zip(scales, uses)]
+        print(f"| `{name}` | " + " | ".join(map(cell, uses)) + " |", flush=True)
+    print()
+    head("dimensions", ["grouping sets", "print"])
+    for count in DIMENSIONS:
+        shape = 100_000, (4,) * count, {"amount": (1, 100_000)}, 0, 0
+        print(f"| {count} | {2**count} | {cell(measure(f'{count} dimensions', shape, 1, words.runs))} |", flush=True)
     with open(os.path.join(ROOT, "docs", "growth.svg"), "w") as out:
         out.write(plot(lines))
 

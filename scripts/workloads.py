@@ -52,7 +52,12 @@ class Source:
 
 def make(folder, name, sources, scale):
     """Writes the schema and the feeds of a workload; answers their paths."""
-    records, cards, measures, updates, deletes = WORKLOADS[name]
+    return make_of(folder, name, WORKLOADS[name], sources, scale)
+
+
+def make_of(folder, name, shape, sources, scale):
+    """Writes the schema and the feeds of a workload of this shape, whose name chooses its values; answers their paths."""
+    records, cards, measures, updates, deletes = shape
     pick = random.Random(f"{name} {sources}")
     dimensions = [f"d{at + 1}" for at in range(len(cards))]
     schema = f"{folder}/schema.toml"
