@@ -41,9 +41,9 @@ grouping_sets-all_sets document s is none =
 pub GivesNames-schema_of : (document : Members) (dimensions measures spellings : List (List ℕ)) → GivesNames document dimensions measures spellings
     → schema_of document ≡ schema_of_parts (named_parts dimensions measures spellings)
 GivesNames-schema_of document dimensions measures spellings gives =
-    let ds : dimensions_in document ≡ dimensions = ap (λ o. unwrap_or o []) gives.dimensions in
-    let ms : measures_in document ≡ measures = ap (λ o. unwrap_or o []) gives.measures in
-    let texts : spellings_in document ≡ spellings = ap (λ o. unwrap_or o []) gives.aggregates in
+    let ds : dimensions_in document ≡ dimensions = ap (λ o. unwrap_or o []) gives.at_dimensions in
+    let ms : measures_in document ≡ measures = ap (λ o. unwrap_or o []) gives.at_measures in
+    let texts : spellings_in document ≡ spellings = ap (λ o. unwrap_or o []) gives.at_aggregates in
     let limit : max_records_in document ≡ Some default_max_records = ap (λ o. option_map_or record_limit o (Some default_max_records)) gives.max_records in
     let sets : grouping_sets_in document ≡ Some (all_sets (length dimensions)) = ap₂ sets_of_grouping ds gives.grouping ∙ ap Some (kept_sets-all_sets (length dimensions)) in
     let version : version_in document ≡ Some 1 = ap (λ o. option_map_or feed_version o (Some 1)) gives.version in

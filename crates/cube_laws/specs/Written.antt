@@ -17,9 +17,9 @@ pub record Writes (document : Members) (s : Layout) : Type 0 where
 -- the document has these arrays of texts, and no other key
 pub record GivesNames (document : Members) (dimensions measures spellings : List (List ℕ)) : Type 0 where
   pub known_keys : has_known_keys document ≡ true
-  pub dimensions : texts_at (codes "dimensions") document ≡ Some dimensions
-  pub measures : texts_at (codes "measures") document ≡ Some measures
-  pub aggregates : texts_at (codes "aggregates") document ≡ Some spellings
+  pub at_dimensions : texts_at (codes "dimensions") document ≡ Some dimensions
+  pub at_measures : texts_at (codes "measures") document ≡ Some measures
+  pub at_aggregates : texts_at (codes "aggregates") document ≡ Some spellings
   pub max_records : get_member (codes "max_records") document ≡ None
   pub grouping : get_member (codes "grouping") document ≡ None
   pub version : get_member (codes "version") document ≡ None
