@@ -12,6 +12,7 @@ import argparse
 import math
 import os
 import tempfile
+from concurrent.futures import ProcessPoolExecutor
 
 from measure import DATACUBE, ROOT, best_of, need
 from workloads import WORKLOADS, make_of
@@ -23,8 +24,9 @@ WIDE, HIGH, LEFT, BELOW, ABOVE, RIGHT = 640, 400, 60, 44, 14, 90
 
 
 def measure(name, shape, scale, runs):
-    with tempfile.TemporaryDirectory() as folder:
-        files = make_of(folder, name, shape, 1, scale)
+    # (the feed is made by another process, since a program's largest memory is at least that of the one that began it)
+    with tempfile.TemporaryDirectory() as folder, ProcessPoolExecutor(1) as maker:
+        files = maker.submit(make_of, folder, name, shape, 1, scale).result()
         return best_of([[DATACUBE, "print", *files]], runs)[0]
 
 
