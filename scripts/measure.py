@@ -13,7 +13,6 @@ import programs
 
 ROOT = os.path.dirname(os.path.dirname(os.path.realpath(__file__)))
 DATACUBE = programs.datacube()
-BENCH = f"{ROOT}/crates/bench/out/bench"
 
 # processor seconds of all threads, wall seconds, the largest memory in MiB
 Use = collections.namedtuple("Use", "processor wall memory")
