@@ -31,7 +31,7 @@ pub struct Place<'c> {
 #[derive(Drop)]
 struct Coded<'c> {
     dictionaries: &'c [Dictionary],
-    codes: Codes,
+    codes: &'c Codes,
     cell: &'c Cell,
 }
 
@@ -57,7 +57,7 @@ impl<'c> Model for OrderedCells<'c> {
     ghost view = { λ o. record {
       aggregates = o.aggregates.now;
       cells = map (λ coded.
-          (key_at coded.dictionaries.now coded.codes.codes, coded.cell.now)) o.cells.items;
+          (key_at coded.dictionaries.now coded.codes.now.codes, coded.cell.now)) o.cells.items;
     } };
 
     ghost invariant = { λ o. All (λ coded. (length coded.dictionaries.now ≤ 8)
@@ -141,7 +141,7 @@ impl<'c> OrderedCells<'c> {
         let found = &self.cells[place];
         KeyedCell {
             dictionaries: found.dictionaries,
-            codes: &found.codes,
+            codes: found.codes,
             cell: found.cell,
         }
     }
@@ -153,7 +153,7 @@ impl<'c> OrderedCells<'c> {
             IsRowOf self.now.aggregates (get_or self.now.cells place unused) row) }
     {
         let coded = &self.cells[place];
-        let key = key_in(self.alloc, coded.dictionaries, &coded.codes)?;
+        let key = key_in(self.alloc, coded.dictionaries, coded.codes)?;
         row_of(self.alloc, self.aggregates, key, coded.cell)
     }
 
@@ -169,22 +169,22 @@ impl<'c> OrderedCells<'c> {
     }
 }
 
-// The cells of places, with copies of their codes: one short pass, in which the codes of many cells are fetched at a
-// time.
+// The cells of places. Neither a cell nor its codes are read, which lie in memory that no cache holds: who prints reads both
+// at once, and several print.
 fn coded_cells<'c>(
     alloc: Global,
     dictionaries: &'c [Dictionary],
     places: &[Place<'c>],
 ) -> Result<Vec<Coded<'c>>, AllocError>
     ensures { IfOk result (λ cells. map {B = Dictionaries × (Codes × Tally)}
-        (λ coded. (coded.dictionaries.now, (coded.codes, coded.cell.now))) cells.items
+        (λ coded. (coded.dictionaries.now, (coded.codes.now, coded.cell.now))) cells.items
         ≡ map (λ place. (dictionaries.now, (place.codes.now, place.cell.now))) places.now) }
 {
     let mut cells = Vec::with_capacity(alloc, places.len())?;
     for place in places {
         cells.push(Coded {
             dictionaries,
-            codes: *place.codes,
+            codes: place.codes,
             cell: place.cell,
         })?;
     }

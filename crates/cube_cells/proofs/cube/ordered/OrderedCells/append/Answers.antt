@@ -13,7 +13,7 @@ use Rattle.cube_cells.specs.declared.cube.ordered.Coded.{Coded}
 use Rattle.cube_cells.proofs.cube.ordered.OrderedCells.append.Goals as goal
 
 abbrev cell_of : Coded → Key × Tally
-cell_of p = (key_at p.dictionaries.now p.codes.codes, p.cell.now)
+cell_of p = (key_at p.dictionaries.now p.codes.now.codes, p.cell.now)
 
 -- what the invariant says of a cell
 abbrev Fits : List Agg → Coded → Type 0

@@ -14,7 +14,7 @@ use Rattle.cube_cells.proofs.RowLaws.{IsSortedBy-map}
 use Rattle.cube_cells.proofs.cube.ordered.OrderedCells.sort.Goals as goal
 
 abbrev cell_of : Coded → Key × Tally
-cell_of p = (key_at p.dictionaries.now p.codes.codes, p.cell.now)
+cell_of p = (key_at p.dictionaries.now p.codes.now.codes, p.cell.now)
 
 pub invariant_of-self : goal.invariant_of-self
 invariant_of-self c =
