@@ -1,6 +1,6 @@
 -- Laws of shares: facts that are coded dimension by dimension, and the cells of all shares together.
-use Rattle.std.proofs.Common.{◌≡◌, ℕ, zero, suc, ◌+◌, ◌-◌, ◌*◌, ◌^◌, ◌<◌, ◌≤◌, ◌==◌, List, [], ◌∷◌, ◌++◌, Bool, true, false, ◌&&◌, ◌||◌, refl, sym, ap, ◌∙◌, subst, arith, inl, inr, length, map, get_or, take, replicate, set, append_assoc, Option, Some, None, if◌then◌else◌, nat_lt, not}
-use Rattle.std.specs.Prelude.{All, IfOk, IfSome, Result, Ok, is_some}
+use Rattle.std.proofs.Common.{◌≡◌, ℕ, zero, suc, ◌+◌, ◌-◌, ◌*◌, ◌^◌, ◌<◌, ◌≤◌, ◌==◌, ◌%◌, ◌/◌, List, [], ◌∷◌, ◌++◌, Bool, true, false, ◌&&◌, ◌||◌, refl, sym, ap, ◌∙◌, subst, arith, inl, inr, length, map, get_or, take, replicate, set, append_assoc, Option, Some, None, if◌then◌else◌, nat_lt, not}
+use Rattle.std.specs.Prelude.{All, sum_by, IfOk, IfSome, Result, Ok, is_some}
 use Rattle.std.specs.declared.alloc.AllocError.{AllocError}
 use Rattle.std.specs.List.{AllByRecursion, list_all, list_any}
 use Rattle.std.specs.Map.{keys_of}
@@ -8,7 +8,7 @@ use Rattle.std.specs.List.Sorted.{IsPermutation}
 use Rattle.std.proofs.lemmas.Bool.{cases_Bool, cases_lt, cases_eq, and_from, or_left, both_ways, eq-eqb, eqb-true, ne_eqb, lt-ltb, le-ltb}
 use Rattle.std.proofs.lemmas.List.{append-nil, length-append, length-map, length-replicate, get_or-map, get_or_append_left, take_all}
 use Rattle.std.proofs.lemmas.List.Elements.{All-append, All-cons, All-contains, All-head, All-nil, All-tail, All-take, All-weaker, filter-append}
-use Rattle.std.proofs.lemmas.List.Folds.{list_any-append}
+use Rattle.std.proofs.lemmas.List.Folds.{list_any-append, sum_by-replicate}
 use Rattle.std.proofs.lemmas.List.Sorted.{All-permutation, Contains-permutation, IsPermutation-append_comm, IsPermutation-append_left, IsPermutation-append_right, IsPermutation-cons, IsPermutation-map, IsPermutation-middle, IsPermutation-refl, IsPermutation-sym, IsPermutation-to_front, IsPermutation-trans, length_permutation, sum_by-IsPermutation}
 use Rattle.std.proofs.lemmas.List.Sums.{sum_by-append}
 use Rattle.std.proofs.lemmas.Map.Keys.{IsDistinct-IsPermutation, IsDistinct-head}
@@ -26,10 +26,11 @@ use Rattle.cube_core.specs.declared.fact.Fact.{Fact}
 use Rattle.cube_core.specs.declared.key.Coord.{Coord}
 use Rattle.cube_core.specs.declared.key.Key.{Key}
 use Rattle.cube_core.proofs.CellKeyLaws.{fits-length}
-use Rattle.cube_cells.specs.Codes.{AreCodesOf, Dictionaries, IsCodeOf, IsDictionary, all_code, are_codes, coord_of_value, coords_at, is_code, texts_with}
+use Rattle.cube_core.proofs.ListLaws.{sum_by-map}
+use Rattle.cube_cells.specs.Codes.{AreCodesOf, Dictionaries, IsCodeOf, IsDictionary, all_code, are_codes, coord_of_value, coords_at, is_code, kept_codes, texts_with}
 use Rattle.cube_cells.specs.Coded.{AreNewCells, CodedCells, IsCoded, IsCodedCell, coded_at, decoded, lattice_of, same_codes, total_codes}
 use Rattle.cube_cells.specs.Cube.{IsCubeOf, cell_at}
-use Rattle.cube_cells.specs.Fill.{IsCubeOfAll}
+use Rattle.cube_cells.specs.Fill.{IsCubeOfAll, finest_set}
 use Rattle.cube_cells.specs.Levels.{IsLeveled, cells_of}
 use Rattle.cube_cells.specs.Shares.{AreCoded, AreCodedIn, AreFinestCells, HasShare, IsCodeIn, IsShare, AreJoined, Joins, chosen, codes_at, dictionaries_of, facts_of, set_of, share_at, share_of}
 use Rattle.cube_cells.specs.Tally.{Tally, IsTallyOf}
@@ -160,6 +161,40 @@ codes-set xs d code long inside =
     ∙ ap (λ (k : ℕ). set (xs ++ all_code ∷ rest) k code) (sym long)
     ∙ set-append_seam xs all_code rest code
     ∙ sym (append_assoc xs (code ∷ []) rest)
+
+-- the codes of a place added up
+pub sum-codes_at : (columns : List Column) (place : ℕ) → sum_by (λ code. code) (codes_at columns place).codes
+    ≡ sum_by (λ column. get_or column.codes.items place 0) columns + (8 - length columns) * all_code
+sum-codes_at columns place =
+    let code_in : Column → ℕ = λ column. get_or column.codes.items place 0 in
+    let rest : List ℕ = replicate (8 - length columns) all_code in
+    sum_by-append (λ code. code) (map code_in columns) rest
+    ∙ ap (λ (n : ℕ). n + sum_by (λ code. code) rest) (sum_by-map code_in (λ code. code) columns)
+    ∙ ap (λ (n : ℕ). sum_by code_in columns + n) (sum_by-replicate (λ code. code) (8 - length columns) all_code)
+
+kept_codes-none : (n : ℕ) → kept_codes 0 (replicate n all_code) ≡ replicate n all_code
+kept_codes-none zero = refl
+kept_codes-none (suc n) = ap (λ (codes : List ℕ). all_code ∷ codes) (kept_codes-none n)
+
+-- the finest set keeps the code of each dimension
+kept_codes-finest : (codes : List ℕ) (n : ℕ) → kept_codes (finest_set (length codes)) (codes ++ replicate n all_code) ≡ codes ++ replicate n all_code
+kept_codes-finest [] n = kept_codes-none n
+kept_codes-finest (code ∷ codes) n =
+    let all : ℕ = 2 ^ length codes - 1 in
+    let whole : 2 ^ suc (length codes) - 1 ≡ 2 * all + 1 = omega (arith, pow-succ' 2 (length codes), pow_pos (length codes)) in
+    let odd : ((2 ^ suc (length codes) - 1) % 2 == 1) ≡ true = eq-eqb ((2 ^ suc (length codes) - 1) % 2) 1 (omega (arith, whole)) in
+    let half : (2 ^ suc (length codes) - 1) / 2 ≡ all = omega (arith, whole) in
+    rw (odd, half) (ap (λ (others : List ℕ). code ∷ others) (kept_codes-finest codes n))
+
+-- the codes of a place are those of its cell
+pub key_in-codes_at : (coded : CodedFacts) (place : ℕ) → AreCoded coded → key_in (codes_at coded.columns.items place) (set_of coded) ≡ codes_at coded.columns.items place
+key_in-codes_at coded place are =
+    let code_in : Column → ℕ = λ column. get_or column.codes.items place 0 in
+    let columns = coded.columns.items in
+    let wide : length (map code_in columns) ≡ length coded.schema.dimensions = length-map columns code_in ∙ are.columns.long in
+    let make : List ℕ → Codes = λ codes. record { codes = codes } in
+    ap make (subst (λ (n : ℕ). kept_codes (finest_set n) (map code_in columns ++ replicate (8 - length columns) all_code) ≡ map code_in columns ++ replicate (8 - length columns) all_code) wide
+    (kept_codes-finest (map code_in columns) (8 - length columns)))
 
 -- ---- the codes of a fact
 -- codes that stand for values, dimension by dimension
@@ -390,7 +425,7 @@ HasShare-more coded of share place cells more unused are inside mine has apart a
 
   own : (codes : Codes) (t : Tally) → coded_at more codes ≡ Some t → share_of of codes ≡ share
   own codes t found = elim (cases_Bool (same_codes codes key)) [
-    | inl same ↦ ap (share_of of) (same_codes-exact codes key same) ∙ mine
+    | inl same ↦ ap (share_of of) (same_codes-exact codes key same ∙ key_in-codes_at coded place are) ∙ mine
     | inr other ↦ All-contains (λ (cell : Codes × Tally). share_of of cell.0 ≡ share) cells (codes, t) has.own (Contains-from_lookup same_codes-exact codes t cells (sym (adds.others codes (rw other refl)) ∙ found))
   ]
 

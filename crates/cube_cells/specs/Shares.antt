@@ -1,5 +1,5 @@
 -- Filling the cells of the finest grouping set in shares: each dimension is coded by itself, and each share has the facts whose codes are its own (this project's choice).
-use Rattle.std.specs.Prelude.{◌≡◌, ◌<◌, ◌+◌, ◌-◌, ◌%◌, ◌==◌, ◌++◌, ℕ, suc, Bool, true, List, [], ◌∷◌, length, map, get_or, replicate, Option, None, Result, All, IfOk, if◌then◌else◌}
+use Rattle.std.specs.Prelude.{◌≡◌, ◌<◌, ◌+◌, ◌-◌, ◌%◌, ◌==◌, ◌++◌, ℕ, suc, Bool, true, List, [], ◌∷◌, length, map, get_or, replicate, sum_by, Option, None, Result, All, IfOk, if◌then◌else◌}
 use Rattle.std.specs.List.Sorted.{IsPermutation}
 use Rattle.std.specs.declared.alloc.AllocError.{AllocError}
 use Rattle.cube_core.specs.Layout.{IsSchema}
@@ -9,7 +9,7 @@ use Rattle.cube_cells.specs.Codes.{Dictionaries, IsDictionary, all_code, coord_a
 use Rattle.cube_cells.specs.Coded.{CodedCells, IsCoded, lattice_of}
 use Rattle.cube_cells.specs.Fill.{IsCubeOfAll, finest_set}
 use Rattle.cube_cells.specs.Levels.{cells_of}
-use Rattle.cube_cells.specs.Walk.{AreApart, key_in}
+use Rattle.cube_cells.specs.Walk.{AreApart}
 use Rattle.cube_cells.specs.declared.cube.codes.Codes.{Codes}
 use Rattle.cube_cells.specs.declared.cube.levels.Level.{Level}
 use Rattle.cube_cells.specs.declared.cube.shares.CodedFacts.{CodedFacts}
@@ -61,8 +61,7 @@ codes_at columns place = record { codes = map (λ column. get_or column.codes.it
 
 -- the share of codes, of so many: the sum of the eight modulo their number
 abbrev pub share_of : ℕ → Codes → ℕ
-share_of of codes = (get_or codes.codes 0 0 + get_or codes.codes 1 0 + get_or codes.codes 2 0 + get_or codes.codes 3 0
-    + get_or codes.codes 4 0 + get_or codes.codes 5 0 + get_or codes.codes 6 0 + get_or codes.codes 7 0) % of
+share_of of codes = sum_by (λ code. code) codes.codes % of
 
 -- the finest grouping set of coded facts
 abbrev pub set_of : CodedFacts → ℕ
@@ -70,7 +69,7 @@ set_of coded = finest_set (length coded.schema.dimensions)
 
 -- the share that the fact at a place is in
 abbrev pub share_at : CodedFacts → ℕ → ℕ → ℕ
-share_at coded of place = share_of of (key_in (codes_at coded.columns.items place) (set_of coded))
+share_at coded of place = share_of of (codes_at coded.columns.items place)
 
 -- the facts whose share is wanted, where the fact at each place has one
 abbrev pub chosen : (ℕ → Bool) → (ℕ → ℕ) → List Fact → List Fact

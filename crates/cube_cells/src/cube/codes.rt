@@ -6,7 +6,6 @@ ghost use Rattle.std.specs.Cmp.Rules.{comparing, hashing};
 ghost use Rattle.std.proofs.Common.{rules};
 ghost use Rattle.cube_cells.specs.Codes.{all_code};
 ghost use Rattle.cube_cells.specs.Levels.{mask_of_codes};
-ghost use Rattle.cube_cells.specs.Shares.{share_of};
 ghost use Rattle.cube_cells.specs.Walk.{key_in};
 
 use std::hash::{Hash, Hasher};
@@ -46,16 +45,6 @@ impl Codes {
         ensures { result ≡ mask_of_codes self.now.codes }
     {
         mask_of(&self.codes)
-    }
-
-    /// The share that a cell of these codes is in, of so many.
-    pub fn share(&self, of: u64) -> u64
-        requires { 0 < of }
-        ensures { result ≡ share_of of self.now }
-    {
-        let [a, b, c, d, e, f, g, h] = self.codes;
-        let low = a as u64 + b as u64 + c as u64 + d as u64;
-        (low + e as u64 + f as u64 + g as u64 + h as u64) % of
     }
 
     /// These codes in the dimensions of a grouping set, and ALL in the others.

@@ -3,7 +3,7 @@ ghost use Rattle.std.specs.Prelude.{◌≡◌, ◌<◌, ◌≤◌, ◌∷◌, []
 ghost use Rattle.cube_core.specs.Layout.{IsSchema};
 ghost use Rattle.cube_core.specs.Takes.{fits};
 ghost use Rattle.cube_cells.specs.Fill.{IsCubeOfAll, finest_set};
-ghost use Rattle.cube_cells.specs.Shares.{AreCoded, AreFinestCells, AreJoined, AreMadeColumns, AreMadeShares, IsColumnOf, IsShare, Joins, codes_at, dictionaries_of, facts_of};
+ghost use Rattle.cube_cells.specs.Shares.{AreCoded, AreFinestCells, AreJoined, AreMadeColumns, AreMadeShares, IsColumnOf, IsShare, Joins, codes_at, dictionaries_of, facts_of, share_of};
 
 use super::Cube;
 use super::codes::{ALL, Codes};
@@ -238,15 +238,32 @@ fn share_cells(
     requires coded { AreCoded coded.now }
     ensures { IfOk result (IsShare coded.now of share) }
 {
-    let set = finest_of(coded.columns.len());
+    let columns = coded.columns.as_slice();
+    let set = finest_of(columns.len());
     let mut cells = HashMap::new(alloc);
     for (place, fact) in coded.facts.iter().enumerate() {
-        let codes = codes_at(&coded.columns, place).kept(set);
-        if codes.share(of) == share {
+        if share_at(columns, place, of) == share {
+            let codes = codes_at(columns, place);
             add_to_cell(alloc, &mut cells, codes, fact.measures.as_slice())?;
         }
     }
     Ok(Level { set, cells })
+}
+
+// The share, of so many, that the fact at a place is in. Every thread asks this of each fact, and makes the codes of its own
+// facts alone.
+fn share_at(columns: &[Column], place: usize, of: u64) -> u64
+    requires some { 0 < of }
+    requires few { length columns.now ≤ 8 }
+    requires inside { All (λ column. place < length column.codes.items) columns.now }
+    ensures { result ≡ share_of of (codes_at columns.now place) }
+{
+    let mut sum = 0u64;
+    for column in columns {
+        sum += u64::from(column.codes[place]);
+    }
+    let others = 8 - columns.len() as u64;
+    (sum + others * u64::from(ALL)) % of
 }
 
 // The codes of the fact at a place.

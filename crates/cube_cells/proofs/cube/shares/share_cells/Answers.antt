@@ -1,10 +1,9 @@
 use Rattle.std.proofs.Common.{rules, arith, ◌≡◌, ◌<◌, [], ap, ◌∙◌, sym, length, get_or}
 use Rattle.std.proofs.lemmas.List.{get_or_read, get_or-map, length-map}
-use Rattle.cube_cells.specs.Fill.{finest_set}
 use Rattle.cube_cells.specs.Shares.{codes_at, facts_of, set_of, share_at, share_of}
 use Rattle.cube_cells.specs.Walk.{key_in}
-use Rattle.cube_cells.proofs.ShareLaws.{HasRoom-HasShare, HasShare-all, HasShare-more, HasShare-none, HasShare-other}
-use Rattle.cube_cells.proofs.cube.shares.share_cells.Goals.{then-share+in_ok-add_to_cell, else-share}
+use Rattle.cube_cells.proofs.ShareLaws.{key_in-codes_at, HasRoom-HasShare, HasShare-all, HasShare-more, HasShare-none, HasShare-other}
+use Rattle.cube_cells.proofs.cube.shares.share_cells.Goals.{then-share_at-share+in_ok-add_to_cell, else-share_at-share}
 use Rattle.cube_cells.proofs.cube.shares.share_cells.Goals as goal
 
 pub loop-place-init : goal.loop-place-init
@@ -20,11 +19,11 @@ add_to_cell-requires c =
     let inside : place < length coded.facts.now = omega arith in
     let long : length (facts_of coded) ≡ length coded.facts.now = length-map coded.facts.now (λ fact. fact.now) in
     let at : get_or (facts_of coded) place fact.now ≡ fact.now = get_or-map (λ fact. fact.now) coded.facts.now place fact fact.now inside ∙ ap (λ fact. fact.now) (sym (get_or_read coded.facts.now place fact inside c.fact-item.is fact)) in
-    let wide : c.len.result ≡ length coded.schema.dimensions = omega (arith, c.requires.coded.columns.long) in
-    let set : c.finest_of-set.result ≡ set_of coded = c.finest_of-set.ensures ∙ ap finest_set wide in
-    let key : c.kept-codes.result ≡ key_in (codes_at coded.columns.items place) (set_of coded) = search rules in
+    let columns : c.as_slice-columns.result.now ≡ coded.columns.items = c.as_slice-columns.ensures.value in
+    let key : codes_at c.as_slice-columns.result.now place ≡ key_in (codes_at coded.columns.items place) (set_of coded) =
+    rw columns (sym (key_in-codes_at coded place c.requires.coded)) in
     let room = HasRoom-HasShare coded c.args.of c.args.share place c.loop-place.cells.entries fact.now c.requires.coded (omega (arith, inside, long)) (omega (arith, inside)) c.loop-place.invariant in
-    rw (key, c.as_slice.ensures) (rw at at room)
+    rw (c.codes_at-codes.ensures ∙ key, c.as_slice.ensures) (rw at at room)
 
 pub loop-place-preserved : goal.loop-place-preserved
 loop-place-preserved c =
@@ -34,15 +33,15 @@ loop-place-preserved c =
     let inside : place < length coded.facts.now = omega arith in
     let within : place < length (facts_of coded) = omega (arith, inside, length-map coded.facts.now (λ fact. fact.now)) in
     let at : get_or (facts_of coded) place fact.now ≡ fact.now = get_or-map (λ fact. fact.now) coded.facts.now place fact fact.now inside ∙ ap (λ fact. fact.now) (sym (get_or_read coded.facts.now place fact inside c.fact-item.is fact)) in
-    let wide : c.len.result ≡ length coded.schema.dimensions = omega (arith, c.requires.coded.columns.long) in
-    let set : c.finest_of-set.result ≡ set_of coded = c.finest_of-set.ensures ∙ ap finest_set wide in
-    let key : c.kept-codes.result ≡ key_in (codes_at coded.columns.items place) (set_of coded) = search rules in
-    let share : c.share.result ≡ share_at coded c.args.of place = c.share.ensures ∙ ap (share_of c.args.of) key in
-    elim c.if-share.branch [
-      | then-share+in_ok-add_to_cell w ↦
-          let adds = rw (key, w.as_slice.ensures) at w.in_ok-add_to_cell.ensures.added in
-          rw w.cells-is (HasShare-more coded c.args.of c.args.share place c.loop-place.cells.entries w.add_to_cell.new.cells.entries fact.now c.requires.coded within (sym share ∙ w.if-share.true) c.loop-place.invariant w.in_ok-add_to_cell.ensures.apart (rw at adds))
-      | else-share w ↦ rw w.cells-is (HasShare-other coded c.args.of c.args.share place c.loop-place.cells.entries fact.now within (λ same. w.if-share.false (share ∙ same)) c.loop-place.invariant)
+    let columns : c.as_slice-columns.result.now ≡ coded.columns.items = c.as_slice-columns.ensures.value in
+    let key : codes_at c.as_slice-columns.result.now place ≡ key_in (codes_at coded.columns.items place) (set_of coded) =
+    rw columns (sym (key_in-codes_at coded place c.requires.coded)) in
+    let share : c.share_at.result ≡ share_at coded c.args.of place = c.share_at.ensures ∙ ap (λ columns. share_of c.args.of (codes_at columns place)) columns in
+    elim c.if-share_at-share.branch [
+      | then-share_at-share+in_ok-add_to_cell w ↦
+          let adds = rw (w.codes_at-codes.ensures ∙ key, w.as_slice.ensures) at w.in_ok-add_to_cell.ensures.added in
+          rw w.cells-is (HasShare-more coded c.args.of c.args.share place c.loop-place.cells.entries w.add_to_cell.new.cells.entries fact.now c.requires.coded within (sym share ∙ w.if-share_at-share.true) c.loop-place.invariant w.in_ok-add_to_cell.ensures.apart (rw at adds))
+      | else-share_at-share w ↦ rw w.cells-is (HasShare-other coded c.args.of c.args.share place c.loop-place.cells.entries fact.now within (λ same. w.if-share_at-share.false (share ∙ same)) c.loop-place.invariant)
     ]
 
 pub returns : goal.returns
