@@ -30,9 +30,9 @@ use Rattle.cube_core.proofs.ListLaws.{sum_by-map}
 use Rattle.cube_cells.specs.Codes.{AreCodesOf, Dictionaries, IsCodeOf, IsDictionary, all_code, are_codes, coord_of_value, coords_at, is_code, kept_codes, texts_with}
 use Rattle.cube_cells.specs.Coded.{AreNewCells, CodedCells, IsCoded, IsCodedCell, coded_at, decoded, lattice_of, same_codes, total_codes}
 use Rattle.cube_cells.specs.Cube.{IsCubeOf, cell_at}
-use Rattle.cube_cells.specs.Fill.{IsCubeOfAll, finest_set}
+use Rattle.cube_cells.specs.Fill.{AreMade, IsCubeOfAll, finest_set}
 use Rattle.cube_cells.specs.Levels.{IsLeveled, cells_of}
-use Rattle.cube_cells.specs.Shares.{AreCoded, AreCodedIn, AreFinestCells, HasShare, IsCodeIn, IsShare, AreJoined, Joins, chosen, codes_at, dictionaries_of, facts_of, set_of, share_at, share_of}
+use Rattle.cube_cells.specs.Shares.{AreCoded, AreCodedIn, AreFinestCells, HasShare, IsCodeIn, IsShare, AreJoined, Joins, chosen, codes_at, dictionaries_of, facts_coded, set_of, share_at, share_of}
 use Rattle.cube_cells.specs.Tally.{Tally, IsTallyOf}
 use Rattle.cube_cells.specs.Walk.{AddsIn, AreApart, HasRoom, key_in}
 use Rattle.cube_cells.specs.declared.cube.codes.Codes.{Codes}
@@ -107,13 +107,13 @@ All-chosen P is_wanted share (fact ∷ facts) all =
       first false = All-nil P
 
 -- ---- results of which each was made
-pub made_each : {X : Type 0} (P : ℕ → X → Type 0) (xs : List X) (made : List (Result X AllocError)) (number : ℕ) → map Ok xs ≡ made → length made ≡ number → ((i : ℕ) (unused : Result X AllocError) → i < number → IfOk (get_or made i unused) (P i))
-    → (length xs ≡ number) × ((i : ℕ) (unused : X) → i < number → P i (get_or xs i unused))
-made_each P xs made number are long each = (as_many, λ i unused inside. at i unused inside (each i (Ok unused) inside)) where
+pub made_each : {X : Type 0} (is : ℕ → X → Type 0) (xs : List X) (made : List (Result X AllocError)) (number : ℕ) → map Ok xs ≡ made → AreMade is number made
+    → (length xs ≡ number) × ((i : ℕ) (unused : X) → i < number → is i (get_or xs i unused))
+made_each is xs made number are results = (as_many, λ i unused inside. at i unused inside (results.each i (Ok unused) inside)) where
   as_many : length xs ≡ number
-  as_many = sym (length-map xs Ok) ∙ ap length are ∙ long
+  as_many = sym (length-map xs Ok) ∙ ap length are ∙ results.long
 
-  at : (i : ℕ) (unused : _) → i < number → IfOk (get_or made i (Ok unused)) (P i) → P i (get_or xs i unused)
+  at : (i : ℕ) (unused : _) → i < number → IfOk (get_or made i (Ok unused)) (is i) → is i (get_or xs i unused)
   at i unused inside holds =
       let here : get_or made i (Ok unused) ≡ Ok (get_or xs i unused) = ap (λ ms. get_or ms i (Ok unused)) (sym are) ∙ get_or-map Ok xs i unused (Ok unused) (omega (arith, inside, as_many)) in
       rw here at holds
@@ -129,26 +129,27 @@ IsCodeIn-more old new more value code is dictionary before =
     let same = is_code-append old more new code is dictionary before.valid in
     record { valid = same.0; stands = same.1 ∙ before.stands }
 
-pub AreCodedIn-none : (dimension : ℕ) (facts : List Fact) → IsDictionary [] → AreCodedIn dimension facts 0 [] []
-AreCodedIn-none dimension facts dictionary = record { dictionary = dictionary; long = refl; each = λ place unused inside. absurd (omega (arith, inside)) }
+pub AreCodedIn-none : (dimension : ℕ) → IsDictionary [] → AreCodedIn dimension [] [] []
+AreCodedIn-none dimension dictionary = record { dictionary = dictionary; long = refl; each = λ place unused inside. absurd (omega (arith, inside)) }
 
 -- a fact more is coded
-pub AreCodedIn-more : (dimension : ℕ) (facts : List Fact) (number : ℕ) (old new : List (List ℕ)) (codes : List ℕ) (value : Option (List ℕ)) (code : ℕ) → AreCodedIn dimension facts number old codes
-    → ((unused : Fact) → get_or (get_or facts number unused).dims dimension None ≡ value) → new ≡ texts_with value old → IsDictionary new → IsCodeOf new (coord_of_value value) code → is_code new code ≡ true
-    → AreCodedIn dimension facts (number + 1) new (codes ++ code ∷ [])
-AreCodedIn-more dimension facts number old new codes value code before is_value texts dictionary of valid = record {
+pub AreCodedIn-more : (dimension : ℕ) (facts : List Fact) (fact : Fact) (old new : List (List ℕ)) (codes : List ℕ) (code : ℕ) → AreCodedIn dimension facts old codes
+    → new ≡ texts_with (get_or fact.dims dimension None) old → IsDictionary new → IsCodeOf new (coord_of_value (get_or fact.dims dimension None)) code → is_code new code ≡ true
+    → AreCodedIn dimension (facts ++ fact ∷ []) new (codes ++ code ∷ [])
+AreCodedIn-more dimension facts fact old new codes code before texts dictionary of valid = record {
   dictionary = dictionary;
-  long = omega (arith, length-append codes (code ∷ []), before.long);
-  each = λ place unused inside. elim (cases_lt place number) [
+  long = omega (arith, length-append codes (code ∷ []), length-append facts (fact ∷ []), before.long);
+  each = λ place unused inside. elim (cases_lt place (length facts)) [
     | inl below ↦
-        let more = texts_with-append value old in
+        let more = texts_with-append (get_or fact.dims dimension None) old in
         let here : get_or (codes ++ code ∷ []) place 0 ≡ get_or codes place 0 = get_or_append_left codes (code ∷ []) 0 place (omega (arith, below, before.long)) in
-        rw here (IsCodeIn-more old new more.0 (get_or (get_or facts place unused).dims dimension None) (get_or codes place 0) (texts ∙ more.1) dictionary (before.each place unused below))
+        rw (here, get_or_append_left facts (fact ∷ []) unused place below)
+        (IsCodeIn-more old new more.0 (get_or (get_or facts place unused).dims dimension None) (get_or codes place 0) (texts ∙ more.1) dictionary (before.each place unused below))
     | inr past ↦
-        let last : place ≡ length codes = omega (arith, past, inside, before.long) in
-        let here : get_or (codes ++ code ∷ []) place 0 ≡ code = ap (λ (k : ℕ). get_or (codes ++ code ∷ []) k 0) last ∙ get_or-append_seam codes code [] 0 in
-        let put : get_or (get_or facts place unused).dims dimension None ≡ value = ap (λ (k : ℕ). get_or (get_or facts k unused).dims dimension None) (last ∙ before.long) ∙ is_value unused in
-        rw (here, put) (IsCodeIn-IsCodeOf new value code of valid)
+        let last : place ≡ length facts = omega (arith, past, inside, length-append facts (fact ∷ [])) in
+        let here : get_or (codes ++ code ∷ []) place 0 ≡ code = ap (λ (k : ℕ). get_or (codes ++ code ∷ []) k 0) (last ∙ sym before.long) ∙ get_or-append_seam codes code [] 0 in
+        let there : get_or (facts ++ fact ∷ []) place unused ≡ fact = ap (λ (k : ℕ). get_or (facts ++ fact ∷ []) k unused) last ∙ get_or-append_seam facts fact [] unused in
+        rw (here, there) (IsCodeIn-IsCodeOf new (get_or fact.dims dimension None) code of valid)
   ];
 }
 
@@ -237,7 +238,7 @@ pub record HasPlace (coded : CodedFacts) (fact : Fact) (place : ℕ) : Type 0 wh
   pub valid : are_codes (dictionaries_of coded.columns.items) (codes_at coded.columns.items place).codes ≡ true
 
 -- the fact at a place has the codes of that place
-pub HasPlace-AreCoded : (coded : CodedFacts) (place : ℕ) (unused : Fact) → AreCoded coded → place < length (facts_of coded) → HasPlace coded (get_or (facts_of coded) place unused) place
+pub HasPlace-AreCoded : (coded : CodedFacts) (place : ℕ) (unused : Fact) → AreCoded coded → place < length (facts_coded coded) → HasPlace coded (get_or (facts_coded coded) place unused) place
 HasPlace-AreCoded coded place unused are inside = record {
   has = record {
     are = subst (λ (cs : List Coord). AreCodesOf' cs) row.1 (AreCodesOf-coords_at (dictionaries_of columns) codes (All-dictionaries_of coded are) row.0);
@@ -249,7 +250,7 @@ HasPlace-AreCoded coded place unused are inside = record {
   columns = coded.columns.items
 
   fact : Fact
-  fact = get_or (facts_of coded) place unused
+  fact = get_or (facts_coded coded) place unused
 
   codes : List ℕ
   codes = (codes_at columns place).codes
@@ -390,38 +391,38 @@ pub HasShare-none : (coded : CodedFacts) (of share : ℕ) → AreCoded coded →
 HasShare-none coded of share are = record { finest = AreFinestCells-none coded are; own = All-nil (λ cell. share_of of cell.0 ≡ share) }
 
 -- a fact of the share has room in its cell
-pub HasRoom-HasShare : (coded : CodedFacts) (of share place : ℕ) (cells : CodedCells) (unused : Fact) → AreCoded coded → place < length (facts_of coded) → place + 1 < 2 ^ 64 → HasShare coded of share (take place (facts_of coded)) cells
-    → HasRoom (get_or (facts_of coded) place unused).measures (key_in (codes_at coded.columns.items place) (set_of coded)) (coded_at cells (key_in (codes_at coded.columns.items place) (set_of coded)))
+pub HasRoom-HasShare : (coded : CodedFacts) (of share place : ℕ) (cells : CodedCells) (unused : Fact) → AreCoded coded → place < length (facts_coded coded) → place + 1 < 2 ^ 64 → HasShare coded of share (take place (facts_coded coded)) cells
+    → HasRoom (get_or (facts_coded coded) place unused).measures (key_in (codes_at coded.columns.items place) (set_of coded)) (coded_at cells (key_in (codes_at coded.columns.items place) (set_of coded)))
 HasRoom-HasShare coded of share place cells unused are inside few has =
-    let fact : Fact = get_or (facts_of coded) place unused in
+    let fact : Fact = get_or (facts_coded coded) place unused in
     let key : Codes = key_in (codes_at coded.columns.items place) (set_of coded) in
-    let number : length (chosen (λ other. other == share) (share_at coded of) (take place (facts_of coded))) ≤ place = length-chosen (λ other. other == share) (share_at coded of) place (facts_of coded) in
+    let number : length (chosen (λ other. other == share) (share_at coded of) (take place (facts_coded coded))) ≤ place = length-chosen (λ other. other == share) (share_at coded of) place (facts_coded coded) in
     (codes_in-HasRoom has.finest.are (are.fit place unused inside) (omega (arith, number, few)) (HasNewCodes-HasPlace coded fact place are (HasPlace-AreCoded coded place unused are inside))).1 key (or_left (same_codes key key) false (same_codes-IsEquivalence.refl key))
 
 -- and is added
-pub HasShare-more : (coded : CodedFacts) (of share place : ℕ) (cells more : CodedCells) (unused : Fact) → AreCoded coded → place < length (facts_of coded) → share_at coded of place ≡ share
-    → HasShare coded of share (take place (facts_of coded)) cells → (AreApart cells → AreApart more) → AddsIn (key_in (codes_at coded.columns.items place) (set_of coded) ∷ []) (get_or (facts_of coded) place unused).measures cells more
-    → HasShare coded of share (take (place + 1) (facts_of coded)) more
+pub HasShare-more : (coded : CodedFacts) (of share place : ℕ) (cells more : CodedCells) (unused : Fact) → AreCoded coded → place < length (facts_coded coded) → share_at coded of place ≡ share
+    → HasShare coded of share (take place (facts_coded coded)) cells → (AreApart cells → AreApart more) → AddsIn (key_in (codes_at coded.columns.items place) (set_of coded) ∷ []) (get_or (facts_coded coded) place unused).measures cells more
+    → HasShare coded of share (take (place + 1) (facts_coded coded)) more
 HasShare-more coded of share place cells more unused are inside mine has apart adds = record {
-  finest = rw grown (AreFinestCells-more coded taken fact place cells more are (All-chosen (λ (f : Fact). fits coded.schema f ≡ true) is_mine (share_at coded of) (take place (facts_of coded)) (All-take (λ (f : Fact). fits coded.schema f ≡ true) place (facts_of coded) are.fit)) (are.fit place unused inside) (HasPlace-AreCoded coded place unused are inside) has.finest (apart has.finest.are.distinct) adds);
+  finest = rw grown (AreFinestCells-more coded taken fact place cells more are (All-chosen (λ (f : Fact). fits coded.schema f ≡ true) is_mine (share_at coded of) (take place (facts_coded coded)) (All-take (λ (f : Fact). fits coded.schema f ≡ true) place (facts_coded coded) are.fit)) (are.fit place unused inside) (HasPlace-AreCoded coded place unused are inside) has.finest (apart has.finest.are.distinct) adds);
   own = All-coded_at (λ cell. share_of of cell.0 ≡ share) more (apart has.finest.are.distinct) own;
 } where
   is_mine : ℕ → Bool
   is_mine other = other == share
 
   fact : Fact
-  fact = get_or (facts_of coded) place unused
+  fact = get_or (facts_coded coded) place unused
 
   taken : List Fact
-  taken = chosen is_mine (share_at coded of) (take place (facts_of coded))
+  taken = chosen is_mine (share_at coded of) (take place (facts_coded coded))
 
   key : Codes
   key = key_in (codes_at coded.columns.items place) (set_of coded)
 
-  grown : chosen is_mine (share_at coded of) (take (place + 1) (facts_of coded)) ≡ taken ++ fact ∷ []
+  grown : chosen is_mine (share_at coded of) (take (place + 1) (facts_coded coded)) ≡ taken ++ fact ∷ []
   grown =
       let next : place + 1 ≡ suc place = omega arith in
-      ap (λ (n : ℕ). chosen is_mine (share_at coded of) (take n (facts_of coded))) next ∙ chosen-take is_mine (share_at coded of) (facts_of coded) place unused inside ∙ ap (λ (b : Bool). taken ++ (if b then fact ∷ [] else [])) (eq-eqb (share_at coded of place) share mine)
+      ap (λ (n : ℕ). chosen is_mine (share_at coded of) (take n (facts_coded coded))) next ∙ chosen-take is_mine (share_at coded of) (facts_coded coded) place unused inside ∙ ap (λ (b : Bool). taken ++ (if b then fact ∷ [] else [])) (eq-eqb (share_at coded of place) share mine)
 
   own : (codes : Codes) (t : Tally) → coded_at more codes ≡ Some t → share_of of codes ≡ share
   own codes t found = elim (cases_Bool (same_codes codes key)) [
@@ -430,18 +431,18 @@ HasShare-more coded of share place cells more unused are inside mine has apart a
   ]
 
 -- a fact of another share leaves it
-pub HasShare-other : (coded : CodedFacts) (of share place : ℕ) (cells : CodedCells) (unused : Fact) → place < length (facts_of coded) → (share_at coded of place ≡ share → ⊥) → HasShare coded of share (take place (facts_of coded)) cells → HasShare coded of share (take (place + 1) (facts_of coded)) cells
+pub HasShare-other : (coded : CodedFacts) (of share place : ℕ) (cells : CodedCells) (unused : Fact) → place < length (facts_coded coded) → (share_at coded of place ≡ share → ⊥) → HasShare coded of share (take place (facts_coded coded)) cells → HasShare coded of share (take (place + 1) (facts_coded coded)) cells
 HasShare-other coded of share place cells unused inside other has =
     let next : place + 1 ≡ suc place = omega arith in
-    let same : chosen (λ other. other == share) (share_at coded of) (take (place + 1) (facts_of coded)) ≡ chosen (λ other. other == share) (share_at coded of) (take place (facts_of coded)) =
-    ap (λ (n : ℕ). chosen (λ other. other == share) (share_at coded of) (take n (facts_of coded))) next ∙ chosen-take (λ other. other == share) (share_at coded of) (facts_of coded) place unused inside
-    ∙ ap (λ (b : Bool). chosen (λ other. other == share) (share_at coded of) (take place (facts_of coded)) ++ (if b then get_or (facts_of coded) place unused ∷ [] else [])) (ne_eqb (share_at coded of place) share other)
-    ∙ append-nil (chosen (λ other. other == share) (share_at coded of) (take place (facts_of coded))) in
+    let same : chosen (λ other. other == share) (share_at coded of) (take (place + 1) (facts_coded coded)) ≡ chosen (λ other. other == share) (share_at coded of) (take place (facts_coded coded)) =
+    ap (λ (n : ℕ). chosen (λ other. other == share) (share_at coded of) (take n (facts_coded coded))) next ∙ chosen-take (λ other. other == share) (share_at coded of) (facts_coded coded) place unused inside
+    ∙ ap (λ (b : Bool). chosen (λ other. other == share) (share_at coded of) (take place (facts_coded coded)) ++ (if b then get_or (facts_coded coded) place unused ∷ [] else [])) (ne_eqb (share_at coded of place) share other)
+    ∙ append-nil (chosen (λ other. other == share) (share_at coded of) (take place (facts_coded coded))) in
     record { finest = subst (λ (facts : List Fact). AreFinestCells coded facts cells) (sym same) has.finest; own = has.own }
 
 -- all facts were looked at
-pub HasShare-all : (coded : CodedFacts) (of share place : ℕ) (cells : CodedCells) → length (facts_of coded) ≤ place → HasShare coded of share (take place (facts_of coded)) cells → HasShare coded of share (facts_of coded) cells
-HasShare-all coded of share place cells past has = subst (λ (facts : List Fact). HasShare coded of share facts cells) (take_all place (facts_of coded) past) has
+pub HasShare-all : (coded : CodedFacts) (of share place : ℕ) (cells : CodedCells) → length (facts_coded coded) ≤ place → HasShare coded of share (take place (facts_coded coded)) cells → HasShare coded of share (facts_coded coded) cells
+HasShare-all coded of share place cells past has = subst (λ (facts : List Fact). HasShare coded of share facts cells) (take_all place (facts_coded coded) past) has
 
 -- ---- two kinds of facts, of cells that differ
 and-both : (m t x y : Bool) → ((m && (t || x)) || (m && (t || y))) ≡ (m && (t || (x || y)))
@@ -586,20 +587,20 @@ abbrev is_from : ℕ → ℕ → Bool
 is_from k share = not (nat_lt share k)
 
 abbrev from_share : CodedFacts → ℕ → ℕ → List Fact
-from_share coded of k = chosen (is_from k) (share_at coded of) (facts_of coded)
+from_share coded of k = chosen (is_from k) (share_at coded of) (facts_coded coded)
 
 -- the cells of the shares from one on
 record HasSharesFrom (coded : CodedFacts) (of k : ℕ) (cells : CodedCells) : Type 0 where
   pub finest : AreFinestCells coded (from_share coded of k) cells
   pub own : All (λ cell. k ≤ share_of of cell.0) cells
 
-fit_chosen : (coded : CodedFacts) (is_wanted : ℕ → Bool) (of : ℕ) → AreCoded coded → All (λ fact. fits coded.schema fact ≡ true) (chosen is_wanted (share_at coded of) (facts_of coded))
-fit_chosen coded is_wanted of are = All-chosen (λ (f : Fact). fits coded.schema f ≡ true) is_wanted (share_at coded of) (facts_of coded) are.fit
+fit_chosen : (coded : CodedFacts) (is_wanted : ℕ → Bool) (of : ℕ) → AreCoded coded → All (λ fact. fits coded.schema fact ≡ true) (chosen is_wanted (share_at coded of) (facts_coded coded))
+fit_chosen coded is_wanted of are = All-chosen (λ (f : Fact). fits coded.schema f ≡ true) is_wanted (share_at coded of) (facts_coded coded) are.fit
 
 -- none is past the last
 HasSharesFrom-none : (coded : CodedFacts) (of : ℕ) → 0 < of → AreCoded coded → HasSharesFrom coded of of []
 HasSharesFrom-none coded of some are = record {
-  finest = subst (λ (facts : List Fact). AreFinestCells coded facts []) (sym (chosen-none (is_from of) (share_at coded of) (facts_of coded) below)) (AreFinestCells-none coded are);
+  finest = subst (λ (facts : List Fact). AreFinestCells coded facts []) (sym (chosen-none (is_from of) (share_at coded of) (facts_coded coded) below)) (AreFinestCells-none coded are);
   own = All-nil (λ cell. of ≤ share_of of cell.0);
 } where
   below : (place : ℕ) → is_from of (share_at coded of place) ≡ false
@@ -617,7 +618,7 @@ HasSharesFrom-cons coded of k level cells are first rest = record {
       (All-weaker (λ cell. suc k ≤ share_of of cell.0) (λ cell. k ≤ share_of of cell.0) (λ cell is. omega (arith, is)) cells rest.own);
 } where
   mine : List Fact
-  mine = chosen (λ other. other == k) (share_at coded of) (facts_of coded)
+  mine = chosen (λ other. other == k) (share_at coded of) (facts_coded coded)
 
   later : List Fact
   later = from_share coded of (suc k)
@@ -640,7 +641,7 @@ HasSharesFrom-cons coded of k level cells are first rest = record {
   not_both x same = rw (lt-ltb x (suc k) (omega (arith, eqb-true x k same))) refl
 
   moved : IsPermutation (mine ++ later) (from_share coded of k)
-  moved = chosen-both (λ other. other == k) (is_from (suc k)) (is_from k) (share_at coded of) (facts_of coded) either_is not_both
+  moved = chosen-both (λ other. other == k) (is_from (suc k)) (is_from k) (share_at coded of) (facts_coded coded) either_is not_both
 
   apart : All (λ cell. coded_at cells cell.0 ≡ None) level.cells.entries
   apart = All-weaker (λ cell. share_of of cell.0 ≡ k) (λ cell. coded_at cells cell.0 ≡ None) (λ cell is. absent cell.0 is (coded_at cells cell.0) refl) level.cells.entries first.own where
@@ -655,12 +656,12 @@ HasSharesFrom-cells_of coded of k (level ∷ levels) some are long each =
     (HasSharesFrom-cells_of coded of (suc k) levels some are (omega (arith, long)) (λ i unused inside. subst (λ (j : ℕ). IsShare coded of j (get_or levels i unused)) (omega arith) (each (suc i) unused (omega (arith, inside)))))
 
 -- the cells of all shares are those of all facts
-pub AreFinestCells-Joins : (coded : CodedFacts) (of : ℕ) (levels : List Level) (cells : CodedCells) → 0 < of → AreCoded coded → length levels ≡ of → ((i : ℕ) (unused : Level) → i < of → IsShare coded of i (get_or levels i unused)) → AreJoined levels cells → AreFinestCells coded (facts_of coded) cells
+pub AreFinestCells-Joins : (coded : CodedFacts) (of : ℕ) (levels : List Level) (cells : CodedCells) → 0 < of → AreCoded coded → length levels ≡ of → ((i : ℕ) (unused : Level) → i < of → IsShare coded of i (get_or levels i unused)) → AreJoined levels cells → AreFinestCells coded (facts_coded coded) cells
 AreFinestCells-Joins coded of levels cells some are long each joins =
     let whole : HasSharesFrom coded of 0 (cells_of levels) = HasSharesFrom-cells_of coded of 0 levels some are (omega (arith, long)) (λ i unused inside. subst (λ (j : ℕ). IsShare coded of j (get_or levels i unused)) (omega arith) (each i unused (omega (arith, inside, long)))) in
-    let all : AreFinestCells coded (facts_of coded) (cells_of levels) = subst (λ (facts : List Fact). AreFinestCells coded facts (cells_of levels)) (chosen-all (is_from 0) (share_at coded of) (facts_of coded) (λ place. rw (le-ltb (share_at coded of place) 0 (omega arith)) refl)) whole.finest in
-    AreFinestCells-HaveAll coded (facts_of coded) cells are are.fit
-    (HaveAll-IsPermutation coded.schema (dictionaries_of coded.columns.items) (facts_of coded) (set_of coded ∷ []) (cells_of levels) cells (IsBase-AreCoded coded (facts_of coded) are are.fit) (joins all.are.distinct) (HaveAll-AreFinestCells coded (facts_of coded) (cells_of levels) all))
+    let all : AreFinestCells coded (facts_coded coded) (cells_of levels) = subst (λ (facts : List Fact). AreFinestCells coded facts (cells_of levels)) (chosen-all (is_from 0) (share_at coded of) (facts_coded coded) (λ place. rw (le-ltb (share_at coded of place) 0 (omega arith)) refl)) whole.finest in
+    AreFinestCells-HaveAll coded (facts_coded coded) cells are are.fit
+    (HaveAll-IsPermutation coded.schema (dictionaries_of coded.columns.items) (facts_coded coded) (set_of coded ∷ []) (cells_of levels) cells (IsBase-AreCoded coded (facts_coded coded) are are.fit) (joins all.are.distinct) (HaveAll-AreFinestCells coded (facts_coded coded) (cells_of levels) all))
 
 -- they are a cube of one level
 pub IsLeveled-AreFinestCells : (coded : CodedFacts) (facts : List Fact) (levels : List Level) (level : Level) → levels ≡ level ∷ [] → level.set ≡ set_of coded → AreFinestCells coded facts level.cells.entries

@@ -78,10 +78,14 @@ pub record IsMadeLevel (measures : ℕ) (finest : Level) (levels : List Level) (
   pub made : AreMadeFrom finer.cells.entries set measures level.cells.entries
   pub width : All (λ cell. length cell.1.bags ≡ measures) level.cells.entries
 
--- for each set of a layer a result: its level, unless memory was wanting
-pub record AreMadeLevels (measures : ℕ) (finest : Level) (levels : List Level) (layer : List ℕ) (made : List (Result Level AllocError)) : Type 0 where
-  pub long : length made ≡ length layer
-  pub each : (i : ℕ) (unused : Result Level AllocError) → i < length layer → IfOk (get_or made i unused) (IsMadeLevel measures finest levels (get_or layer i 0))
+-- for each of so many things a result: what is to be made of it, unless memory was wanting
+pub record AreMade {X : Type 0} (is : ℕ → X → Type 0) (number : ℕ) (made : List (Result X AllocError)) : Type 0 where
+  pub long : length made ≡ number
+  pub each : (i : ℕ) (unused : Result X AllocError) → i < number → IfOk (get_or made i unused) (is i)
+
+-- for each set of a layer a result: its level
+abbrev pub AreMadeLevels : ℕ → Level → List Level → List ℕ → List (Result Level AllocError) → Type 0
+AreMadeLevels measures finest levels layer = AreMade (λ i. IsMadeLevel measures finest levels (get_or layer i 0)) (length layer)
 
 -- each of these results is a level, and they were put behind others
 pub record ArePushed (results : List (Result Level AllocError)) (old new : List Level) : Type 0 where

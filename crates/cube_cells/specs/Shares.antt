@@ -20,21 +20,16 @@ pub record IsCodeIn (texts : List (List ℕ)) (value : Option (List ℕ)) (code 
   pub valid : is_code texts code ≡ true
   pub stands : coord_at texts code ≡ coord_of_value value
 
--- the first of some facts, so many of them, have these codes in a dimension
-pub record AreCodedIn (dimension : ℕ) (facts : List Fact) (number : ℕ) (texts : List (List ℕ)) (codes : List ℕ) : Type 0 where
+-- facts have these codes in a dimension
+pub record AreCodedIn (dimension : ℕ) (facts : List Fact) (texts : List (List ℕ)) (codes : List ℕ) : Type 0 where
   pub dictionary : IsDictionary texts
-  pub long : length codes ≡ number
-  pub each : (place : ℕ) (unused : Fact) → place < number
+  pub long : length codes ≡ length facts
+  pub each : (place : ℕ) (unused : Fact) → place < length facts
       → IsCodeIn texts (get_or (get_or facts place unused).dims dimension None) (get_or codes place 0)
 
 -- a column has the codes of all facts in a dimension
 abbrev pub IsColumnOf : ℕ → List Fact → Column → Type 0
-IsColumnOf dimension facts column = AreCodedIn dimension facts (length facts) column.dictionary column.codes.items
-
--- for each dimension a result: its column, unless memory was wanting
-pub record AreMadeColumns (dimensions : ℕ) (facts : List Fact) (made : List (Result Column AllocError)) : Type 0 where
-  pub long : length made ≡ dimensions
-  pub each : (d : ℕ) (unused : Result Column AllocError) → d < dimensions → IfOk (get_or made d unused) (IsColumnOf d facts)
+IsColumnOf dimension facts column = AreCodedIn dimension facts column.dictionary column.codes.items
 
 -- there is a column for each dimension
 pub record AreColumnsOf (dimensions : ℕ) (facts : List Fact) (columns : List Column) : Type 0 where
@@ -42,14 +37,14 @@ pub record AreColumnsOf (dimensions : ℕ) (facts : List Fact) (columns : List C
   pub each : (d : ℕ) (unused : Column) → d < dimensions → IsColumnOf d facts (get_or columns d unused)
 
 -- the facts that coded facts are
-abbrev pub facts_of : CodedFacts → List Fact
-facts_of coded = map (λ fact. fact.now) coded.facts.now
+abbrev pub facts_coded : CodedFacts → List Fact
+facts_coded coded = map (λ fact. fact.now) coded.facts.now
 
 -- the facts fit the schema, and there is a column of their codes for each dimension
 pub record AreCoded (coded : CodedFacts) : Type 0 where
   pub is_schema : IsSchema coded.schema
-  pub fit : All (λ fact. fits coded.schema fact ≡ true) (facts_of coded)
-  pub columns : AreColumnsOf (length coded.schema.dimensions) (facts_of coded) coded.columns.items
+  pub fit : All (λ fact. fits coded.schema fact ≡ true) (facts_coded coded)
+  pub columns : AreColumnsOf (length coded.schema.dimensions) (facts_coded coded) coded.columns.items
 
 -- the texts of each dimension
 abbrev pub dictionaries_of : List Column → Dictionaries
@@ -88,12 +83,7 @@ pub record HasShare (coded : CodedFacts) (of share : ℕ) (facts : List Fact) (c
 
 -- a level has the cells of a share
 abbrev pub IsShare : CodedFacts → ℕ → ℕ → Level → Type 0
-IsShare coded of share level = HasShare coded of share (facts_of coded) level.cells.entries
-
--- for each share a result: its cells, unless memory was wanting
-pub record AreMadeShares (coded : CodedFacts) (of : ℕ) (made : List (Result Level AllocError)) : Type 0 where
-  pub long : length made ≡ of
-  pub each : (share : ℕ) (unused : Result Level AllocError) → share < of → IfOk (get_or made share unused) (IsShare coded of share)
+IsShare coded of share level = HasShare coded of share (facts_coded coded) level.cells.entries
 
 -- cells of other codes are put to these
 abbrev pub Joins : CodedCells → CodedCells → CodedCells → Type 0

@@ -2,8 +2,8 @@
 ghost use Rattle.std.specs.Prelude.{◌≡◌, ◌<◌, ◌≤◌, ◌∷◌, [], true, length, map, All, IfOk, OnOk, Ok};
 ghost use Rattle.cube_core.specs.Layout.{IsSchema};
 ghost use Rattle.cube_core.specs.Takes.{fits};
-ghost use Rattle.cube_cells.specs.Fill.{IsCubeOfAll, finest_set};
-ghost use Rattle.cube_cells.specs.Shares.{AreCoded, AreFinestCells, AreJoined, AreMadeColumns, AreMadeShares, IsColumnOf, IsShare, Joins, codes_at, dictionaries_of, facts_of, share_of};
+ghost use Rattle.cube_cells.specs.Fill.{AreMade, IsCubeOfAll, finest_set};
+ghost use Rattle.cube_cells.specs.Shares.{AreCoded, AreFinestCells, AreJoined, IsColumnOf, IsShare, Joins, codes_at, dictionaries_of, facts_coded, share_of};
 
 use super::Cube;
 use super::codes::{ALL, Codes};
@@ -103,7 +103,8 @@ fn made_columns<T: Threads + Sync>(
     requires { All (λ fact. fits schema.now fact ≡ true) (map (λ fact. fact.now) facts.now) }
     ensures schema { IsSchema schema.now }
     ensures made { IfOk result (λ made.
-        AreMadeColumns (length schema.now.dimensions) (map (λ fact. fact.now) facts.now) made.items) }
+        AreMade (λ dimension. IsColumnOf dimension (map (λ fact. fact.now) facts.now))
+        (length schema.now.dimensions) made.items) }
 {
     map_indices(
         rt,
@@ -166,7 +167,7 @@ fn finest_cells<T: Threads + Sync>(
 ) -> Result<HashMap<Codes, Cell>, AllocError>
     requires threads { 0 < threads }
     requires coded { AreCoded coded.now }
-    ensures { IfOk result (λ cells. AreFinestCells coded.now (facts_of coded.now) cells.entries) }
+    ensures { IfOk result (λ cells. AreFinestCells coded.now (facts_coded coded.now) cells.entries) }
 {
     let made = made_shares(rt, alloc, coded, threads)?;
     let mut levels = Vec::with_capacity(alloc, threads)?;
@@ -217,7 +218,7 @@ fn made_shares<T: Threads + Sync>(
 ) -> Result<Vec<Result<Level, AllocError>>, AllocError>
     requires shares { 0 < shares }
     requires coded { AreCoded coded.now }
-    ensures { IfOk result (λ made. AreMadeShares coded.now shares made.items) }
+    ensures { IfOk result (λ made. AreMade (IsShare coded.now shares) shares made.items) }
 {
     map_indices(
         rt,

@@ -1,6 +1,6 @@
 use Rattle.std.proofs.Common.{◌≡◌, ◌++◌, [], List, ap, ◌∙◌, subst}
 use Rattle.std.proofs.lemmas.Result.{IfOk-weaker}
-use Rattle.cube_cells.specs.Shares.{AreFinestCells, AreJoined, IsShare, facts_of}
+use Rattle.cube_cells.specs.Shares.{AreFinestCells, AreJoined, IsShare, facts_coded}
 use Rattle.cube_cells.specs.declared.cube.levels.Level.{Level}
 use Rattle.cube_cells.proofs.ShareLaws.{AreFinestCells-Joins, made_each}
 use Rattle.cube_cells.proofs.cube.shares.finest_cells.Goals as goal
@@ -12,6 +12,6 @@ returns g c =
     let pushed = c.in_ok-push_levels.ensures in
     let empty : c.in_ok-levels.levels.items ≡ [] = c.in_ok-levels.ensures.items in
     let levels : c.push_levels.new.levels.items ≡ pushed.levels = pushed.pushed ∙ ap (λ (ls : List Level). ls ++ pushed.levels) empty in
-    let each = made_each (IsShare coded c.args.threads) pushed.levels c.in_ok-made.made.items c.args.threads pushed.are made.long made.each in
-    IfOk-weaker c.joined.result _ (λ cells. AreFinestCells coded (facts_of coded) cells.entries)
+    let each = made_each (IsShare coded c.args.threads) pushed.levels c.in_ok-made.made.items c.args.threads pushed.are made in
+    IfOk-weaker c.joined.result _ (λ cells. AreFinestCells coded (facts_coded coded) cells.entries)
     (λ cells joins. AreFinestCells-Joins coded c.args.threads pushed.levels cells.entries c.requires.threads c.requires.coded each.0 each.1 (subst (λ (ls : List Level). AreJoined ls cells.entries) levels joins)) c.joined.ensures

@@ -1,6 +1,6 @@
 use Rattle.std.proofs.Common.{rules, arith, ◌≡◌, ◌<◌, [], ap, ◌∙◌, sym, length, get_or}
 use Rattle.std.proofs.lemmas.List.{get_or_read, get_or-map, length-map}
-use Rattle.cube_cells.specs.Shares.{codes_at, facts_of, set_of, share_at, share_of}
+use Rattle.cube_cells.specs.Shares.{codes_at, facts_coded, set_of, share_at, share_of}
 use Rattle.cube_cells.specs.Walk.{key_in}
 use Rattle.cube_cells.proofs.ShareLaws.{key_in-codes_at, HasRoom-HasShare, HasShare-all, HasShare-more, HasShare-none, HasShare-other}
 use Rattle.cube_cells.proofs.cube.shares.share_cells.Goals.{then-share_at-share+in_ok-add_to_cell, else-share_at-share}
@@ -17,8 +17,8 @@ add_to_cell-requires c =
     let place = c.loop-place.place in
     let fact = c.fact-item.result in
     let inside : place < length coded.facts.now = omega arith in
-    let long : length (facts_of coded) ≡ length coded.facts.now = length-map coded.facts.now (λ fact. fact.now) in
-    let at : get_or (facts_of coded) place fact.now ≡ fact.now = get_or-map (λ fact. fact.now) coded.facts.now place fact fact.now inside ∙ ap (λ fact. fact.now) (sym (get_or_read coded.facts.now place fact inside c.fact-item.is fact)) in
+    let long : length (facts_coded coded) ≡ length coded.facts.now = length-map coded.facts.now (λ fact. fact.now) in
+    let at : get_or (facts_coded coded) place fact.now ≡ fact.now = get_or-map (λ fact. fact.now) coded.facts.now place fact fact.now inside ∙ ap (λ fact. fact.now) (sym (get_or_read coded.facts.now place fact inside c.fact-item.is fact)) in
     let columns : c.as_slice-columns.result.now ≡ coded.columns.items = c.as_slice-columns.ensures.value in
     let key : codes_at c.as_slice-columns.result.now place ≡ key_in (codes_at coded.columns.items place) (set_of coded) =
     rw columns (sym (key_in-codes_at coded place c.requires.coded)) in
@@ -31,8 +31,8 @@ loop-place-preserved c =
     let place = c.loop-place.place in
     let fact = c.fact-item.result in
     let inside : place < length coded.facts.now = omega arith in
-    let within : place < length (facts_of coded) = omega (arith, inside, length-map coded.facts.now (λ fact. fact.now)) in
-    let at : get_or (facts_of coded) place fact.now ≡ fact.now = get_or-map (λ fact. fact.now) coded.facts.now place fact fact.now inside ∙ ap (λ fact. fact.now) (sym (get_or_read coded.facts.now place fact inside c.fact-item.is fact)) in
+    let within : place < length (facts_coded coded) = omega (arith, inside, length-map coded.facts.now (λ fact. fact.now)) in
+    let at : get_or (facts_coded coded) place fact.now ≡ fact.now = get_or-map (λ fact. fact.now) coded.facts.now place fact fact.now inside ∙ ap (λ fact. fact.now) (sym (get_or_read coded.facts.now place fact inside c.fact-item.is fact)) in
     let columns : c.as_slice-columns.result.now ≡ coded.columns.items = c.as_slice-columns.ensures.value in
     let key : codes_at c.as_slice-columns.result.now place ≡ key_in (codes_at coded.columns.items place) (set_of coded) =
     rw columns (sym (key_in-codes_at coded place c.requires.coded)) in

@@ -1,6 +1,6 @@
 use Rattle.std.proofs.Common.{take}
-use Rattle.cube_cells.specs.Shares.{HasShare, facts_of}
+use Rattle.cube_cells.specs.Shares.{HasShare, facts_coded}
 use Rattle.cube_cells.proofs.cube.shares.share_cells.Given as goal
 
 abbrev pub invariant-loop-place : goal.invariant-loop-place
-invariant-loop-place l = HasShare l.coded l.of l.share (take l.place (facts_of l.coded)) l.cells.entries
+invariant-loop-place l = HasShare l.coded l.of l.share (take l.place (facts_coded l.coded)) l.cells.entries
