@@ -18,6 +18,7 @@ pub mod CodedLaws
 pub mod KeptLaws
 pub mod StepLaws
 pub mod NewLaws
+pub mod PlaceLaws
 pub mod FillLaws
 pub mod GroupLaws
 pub mod JoinLaws

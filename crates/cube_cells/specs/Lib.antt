@@ -9,4 +9,5 @@ pub mod Ranks
 pub mod Rows
 pub mod Levels
 pub mod Fill
+pub mod Places
 pub mod Shares

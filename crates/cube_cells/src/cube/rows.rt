@@ -12,6 +12,7 @@ ghost use Rattle.cube_cells.specs.Codes.{are_codes, key_at, IsDictionary};
 ghost use Rattle.cube_cells.specs.Coded.{decoded};
 ghost use Rattle.cube_cells.specs.Cube.{IsCubeOf};
 ghost use Rattle.cube_cells.specs.Levels.{cells_of};
+ghost use Rattle.cube_cells.specs.Places.{ArePlacesOf};
 ghost use Rattle.cube_cells.specs.Ranks.{ranks_of};
 ghost use Rattle.cube_cells.specs.Rows.{AreRowsInOrder, AreRowsOf, AreWantsOf, is_wanted_code, are_wanted_codes};
 
@@ -182,29 +183,40 @@ fn places_in_order<'c, W: Workers>(
     ensures order { IfOk result (λ places.
         IsSortedBy (λ a b. is_lt (slice_cmp nat_cmp a.ranks b.ranks)) places.items) }
 {
-    let mut places = places_of(alloc, ranks, levels, wants)?;
+    let mut places = workers.places(alloc, ranks, levels, wants)?;
     workers.sort_places(alloc, &mut places)?;
     Ok(places)
 }
 
-// The cells whose codes are wanted.
-fn places_of<'c>(
+/// The cells whose codes are wanted.
+pub fn places_of<'c>(
     alloc: Global,
     ranks: &[Ranks],
     levels: &'c [Level],
     wants: &[Want],
 ) -> Result<Vec<Place<'c>>, AllocError>
     requires { length ranks.now ≤ 8 }
-    ensures cells { IfOk result (λ places.
-        map (λ place. (place.codes.now, place.cell.now)) places.items
-        ≡ filter (λ cell. are_wanted_codes wants.now cell.0.codes) (cells_of levels.now)) }
-    ensures ranks { IfOk result (λ places.
-        All (λ place. place.ranks ≡ ranks_of ranks.now place.codes.now.codes) places.items) }
+    ensures { IfOk result (λ places. ArePlacesOf ranks.now wants.now (cells_of levels.now) places.items) }
 {
     let mut places = Vec::new(alloc);
     for level in levels {
         push_places(&mut places, ranks, &level.cells, wants)?;
     }
+    Ok(places)
+}
+
+/// The cells of a level whose codes are wanted.
+pub fn places_of_level<'c>(
+    alloc: Global,
+    ranks: &[Ranks],
+    level: &'c Level,
+    wants: &[Want],
+) -> Result<Vec<Place<'c>>, AllocError>
+    requires { length ranks.now ≤ 8 }
+    ensures { IfOk result (λ places. ArePlacesOf ranks.now wants.now level.now.cells.entries places.items) }
+{
+    let mut places = Vec::new(alloc);
+    push_places(&mut places, ranks, &level.cells, wants)?;
     Ok(places)
 }
 

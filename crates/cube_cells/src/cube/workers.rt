@@ -1,19 +1,23 @@
 //! Who does work that can be cut into parts: this thread alone, or several.
-ghost use Rattle.std.specs.Prelude.{◌≡◌, All, IfOk, OnOk, length};
+ghost use Rattle.std.specs.Prelude.{◌≡◌, ◌≤◌, All, IfOk, OnOk, length};
 ghost use Rattle.std.specs.Cmp.Lexicographic.{slice_cmp};
 ghost use Rattle.std.specs.List.Sorted.{IsPermutation, IsSortedBy};
 ghost use Rattle.std.specs.Ordering.{nat_cmp, is_lt};
 ghost use Rattle.std.specs.Thread.{IsSync};
-ghost use Rattle.cube_cells.specs.Fill.{AreMadeLevels, IsFiner};
+ghost use Rattle.cube_cells.specs.Fill.{AreMade, AreMadeLevels, IsFiner};
+ghost use Rattle.cube_cells.specs.Levels.{cells_of};
+ghost use Rattle.cube_cells.specs.Places.{ArePlacesAt, ArePlacesOf, ArePutTogether};
 
 use super::fill::level_from;
 use super::levels::Level;
 use super::ordered::Place;
+use super::ranks::Ranks;
+use super::rows::{Want, places_of, places_of_level};
 use rayon::prelude::*;
 use std::alloc::{AllocError, Global};
 use std::thread::{Threads, for_each_mut};
 
-/// Who sorts places and makes levels.
+/// Who finds places, sorts them, and makes levels.
 pub trait Workers {
     // Threads may share what they need.
     ghost is_shared: { Self → Type 0 };
@@ -24,6 +28,18 @@ pub trait Workers {
         ensures same { IsPermutation places.old.items places.new.items }
         ensures order { OnOk result (IsSortedBy
             (λ a b. is_lt (slice_cmp nat_cmp a.ranks b.ranks)) places.new.items) };
+
+    /// The places of the cells of levels whose codes are wanted, in no order of their keys.
+    fn places<'c>(
+        &self,
+        alloc: Global,
+        ranks: &[Ranks],
+        levels: &'c [Level],
+        wants: &[Want],
+    ) -> Result<Vec<Place<'c>>, AllocError>
+        requires shared { is_shared self.now }
+        requires ranks { length ranks.now ≤ 8 }
+        ensures { IfOk result (λ places. ArePlacesOf ranks.now wants.now (cells_of levels.now) places.items) };
 
     /// Makes the levels of the sets of a layer, none of which is finer than another.
     fn levels_of_layer(
@@ -61,6 +77,16 @@ impl Workers for Alone {
         Ok(())
     }
 
+    fn places<'c>(
+        &self,
+        alloc: Global,
+        ranks: &[Ranks],
+        levels: &'c [Level],
+        wants: &[Want],
+    ) -> Result<Vec<Place<'c>>, AllocError> {
+        places_of(alloc, ranks, levels, wants)
+    }
+
     fn levels_of_layer(
         &self,
         alloc: Global,
@@ -82,6 +108,17 @@ impl<'r, T: Threads + Sync> Workers for Several<'r, T> {
 
     fn sort_places(&self, alloc: Global, places: &mut Vec<Place<'_>>) -> Result<(), AllocError> {
         sort_by_several(self.rt, alloc, places)
+    }
+
+    fn places<'c>(
+        &self,
+        alloc: Global,
+        ranks: &[Ranks],
+        levels: &'c [Level],
+        wants: &[Want],
+    ) -> Result<Vec<Place<'c>>, AllocError> {
+        let made = places_by_several(self.rt, self.threads, alloc, ranks, levels, wants)?;
+        put_together(alloc, made)
     }
 
     fn levels_of_layer(
@@ -122,6 +159,46 @@ fn sort_by_several<T: Threads + Sync>(
     )
 }
 
+// For each level the places of its cells whose codes are wanted, found by one of several threads.
+fn places_by_several<'c, T: Threads + Sync>(
+    rt: &T,
+    threads: usize,
+    alloc: Global,
+    ranks: &[Ranks],
+    levels: &'c [Level],
+    wants: &[Want],
+) -> Result<Vec<Result<Vec<Place<'c>>, AllocError>>, AllocError>
+    requires { length ranks.now ≤ 8 }
+    ensures { IfOk result (λ made.
+        AreMade (ArePlacesAt ranks.now wants.now levels.now) (length levels.now) made.items) }
+{
+    let mut made = unmade(alloc, levels.len())?;
+    for_each_mut(
+        rt,
+        made.as_mut_slice(),
+        threads.max(1),
+        &|which, slot| {
+            *slot = places_of_level(alloc, ranks, &levels[which], wants);
+        },
+    );
+    Ok(made)
+}
+
+// The places of all levels, those of each behind those of the one before it.
+fn put_together<'c>(
+    alloc: Global,
+    made: Vec<Result<Vec<Place<'c>>, AllocError>>,
+) -> Result<Vec<Place<'c>>, AllocError>
+    ensures { IfOk result (λ places. ArePutTogether made.entry.items places.items) }
+{
+    let mut places = Vec::new(alloc);
+    for own in made {
+        let mut own = own?;
+        places.append(&mut own)?;
+    }
+    Ok(places)
+}
+
 // The levels of the sets of a layer, each made by one of several threads.
 fn levels_by_several<T: Threads + Sync>(
     rt: &T,
@@ -150,8 +227,8 @@ fn levels_by_several<T: Threads + Sync>(
     Ok(made)
 }
 
-// Places for so many levels.
-fn unmade(alloc: Global, number: usize) -> Result<Vec<Result<Level, AllocError>>, AllocError>
+// So many results, none of which was made yet.
+fn unmade<X: Drop>(alloc: Global, number: usize) -> Result<Vec<Result<X, AllocError>>, AllocError>
     ensures { IfOk result (λ made. length made.items ≡ number) }
 {
     let mut made = Vec::with_capacity(alloc, number)?;

@@ -20,9 +20,9 @@ loop-level-preserved c =
     let more : cells_of (take (i + 1) levels) ≡ cells_of (take i levels) ++ level.cells.entries =
     cells_of-take_more levels i level inside ∙ ap (λ (l : Level). cells_of (take i levels) ++ l.cells.entries) (sym c.level-item.is) in
     record {
-      cells = c.in_ok-push_places.ensures.cells
-          ∙ ap (λ (cells : CodedCells). cells ++ wanted level.cells.entries) c.loop-level.invariant.cells
+      cells_are = c.in_ok-push_places.ensures.cells
+          ∙ ap (λ (cells : CodedCells). cells ++ wanted level.cells.entries) c.loop-level.invariant.cells_are
           ∙ sym (filter-append (λ (cell : Codes × Tally). are_wanted_codes c.args.wants.now cell.0.codes) (cells_of (take i levels)) level.cells.entries)
           ∙ ap wanted (sym more);
-      ranks = c.in_ok-push_places.ensures.ranks c.loop-level.invariant.ranks;
+      ranks_are = c.in_ok-push_places.ensures.ranks c.loop-level.invariant.ranks_are;
     }
