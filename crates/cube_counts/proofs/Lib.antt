@@ -1,3 +1,4 @@
 pub mod BagLaws
 pub mod LogLaws
+pub mod NarrowLaws
 pub mod OwedLaws

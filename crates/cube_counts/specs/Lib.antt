@@ -1,3 +1,4 @@
 pub mod Bag
 pub mod Log
+pub mod Narrow
 pub mod Values

@@ -1,11 +1,12 @@
 -- The bag that the values of a `Counted` hold.
 use Rattle.cube_counts.specs.Bag.{Bag}
 use Rattle.cube_counts.specs.declared.counted.Values.{Values}
-use Rattle.cube_counts.specs.declared.counted.Values.TheVariants.{One, Few, Logged, Many}
+use Rattle.cube_counts.specs.declared.counted.Values.TheVariants.{One, Few, Narrow, Logged, Many}
 
 -- the bag of each representation
 abbrev pub bag_of : Values → Bag
 bag_of (One single) = single
 bag_of (Few short) = short
+bag_of (Narrow narrow) = narrow.value
 bag_of (Logged log) = log.value
 bag_of (Many table) = table.value

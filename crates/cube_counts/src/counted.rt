@@ -1,10 +1,12 @@
 //! A multiset of numbers.
-ghost use Rattle.std.specs.Prelude.{nat_lt, ◌==◌, ℤ, ◌≡◌, ◌<◌, ◌≤◌, ◌+◌, ◌^◌, ◌↔◌, All, IsTrue, IsNone, IfSome, IfOk, OnOk, OnErr};
+ghost use Rattle.std.specs.Prelude.{nat_lt, ◌==◌, ℤ, ◌≡◌, ◌<◌, ◌≤◌, ◌+◌, ◌^◌, ◌↔◌, All, IsTrue, IsNone, IfNone, IfSome, IfOk, OnOk, OnErr};
 ghost use Rattle.std.specs.Bool.{OnTrue, OnFalse};
 ghost use Rattle.cube_counts.specs.Bag.{Bag, AddsBag, AddsOne, AddsTimes, SameHeld, held_of, size_of, HasLeast, HasGreatest};
+ghost use Rattle.cube_counts.specs.Narrow.{once_each};
 ghost use Rattle.cube_counts.specs.Values.{bag_of};
 
 use crate::log::Log;
+use crate::narrow::Narrow;
 use crate::short::{FEW, Short};
 use crate::single::Single;
 use crate::table::Table;
@@ -12,14 +14,22 @@ use std::alloc::{AllocError, Global};
 use std::collections::HashMap;
 use std::marker::Model;
 
+/// The most numbers of a narrow list that are searched for one to take away.
+const SEARCHED: usize = 64;
+
 /// A multiset of numbers: how often each is held.
 ///
-/// A number that is held alone, however often, takes no memory of its own, and few numbers stand in a short list. More
-/// are a log of what was added, with a list of what was taken away since; it answers its least and greatest number at
-/// once, and looks at each of its pairs for `holds`. When one of its ends is taken, or very much is, the log is sorted and
-/// what was taken leaves it. If that was little, as with a client that always takes the least number, the pairs stay
-/// sorted, and the next add makes a hash table of them. Where the numbers of a log repeat, a table takes its place too.
-/// `least` and `greatest` of a table look at each of the different numbers.
+/// A number that is held alone, however often, takes no memory of its own. Numbers of 32 bits that come one at a time
+/// stand in a narrow list, of 4 bytes a number, which keeps its least and greatest number and looks at each for
+/// `holds`. It gives way to a form that counts how often each number is held where a wider number comes, or one
+/// several times at once, where the numbers repeat, and where one is taken from many.
+///
+/// Of these forms, a short list takes few numbers. More are a log of what was added, with a list of what was taken
+/// away since; it answers its least and greatest number at once, and looks at each of its pairs for `holds`. When one
+/// of its ends is taken, or very much is, the log is sorted and what was taken leaves it. If that was little, as with
+/// a client that always takes the least number, the pairs stay sorted, and the next add makes a hash table of them.
+/// Where the numbers of a log repeat, a table takes its place too. `least` and `greatest` of a table look at each of
+/// the different numbers.
 #[derive(Drop)]
 pub struct Counted {
     len: u64,
@@ -31,6 +41,7 @@ pub struct Counted {
 enum Values {
     One(Single),
     Few(Short),
+    Narrow(Box<Narrow>),
     Logged(Box<Log>),
     Many(Box<Table>),
 }
@@ -95,6 +106,7 @@ impl Counted {
     {
         match &mut self.values {
             Values::Few(short) => short.shrink_to_fit(),
+            Values::Narrow(narrow) => narrow.shrink_to_fit(),
             Values::Logged(log) => log.shrink_to_fit(),
             Values::One(_) | Values::Many(_) => {}
         }
@@ -108,7 +120,7 @@ impl Counted {
         ensures taken { AddsOne self.new self.old value }
         ensures size { size_of self.old < 2 ^ 64 }
     {
-        take_value(&mut self.values, value);
+        take_value(self.alloc, &mut self.values, value);
         self.len -= 1;
     }
 
@@ -120,7 +132,7 @@ impl Counted {
         ensures unchanged { OnFalse result (self.new ≡ self.old) }
         ensures size { size_of self.old < 2 ^ 64 }
     {
-        let was_held = remove_value(&mut self.values, value);
+        let was_held = remove_value(self.alloc, &mut self.values, value);
         if was_held {
             self.len -= 1;
         }
@@ -142,6 +154,7 @@ impl Counted {
         match &self.values {
             Values::One(single) => single.number(),
             Values::Few(short) => short.least(),
+            Values::Narrow(narrow) => narrow.least(),
             Values::Logged(log) => log.least(),
             Values::Many(table) => table.least(),
         }
@@ -155,6 +168,7 @@ impl Counted {
         match &self.values {
             Values::One(single) => single.number(),
             Values::Few(short) => short.greatest(),
+            Values::Narrow(narrow) => narrow.greatest(),
             Values::Logged(log) => log.greatest(),
             Values::Many(table) => table.greatest(),
         }
@@ -185,6 +199,7 @@ fn merge_values(alloc: Global, values: &mut Values, more: &Values) -> Result<(),
     match more {
         Values::One(single) => merge_pair(alloc, values, single.pair()),
         Values::Few(short) => merge_short(alloc, values, short),
+        Values::Narrow(narrow) => merge_narrow(alloc, values, narrow),
         Values::Logged(log) => merge_log(alloc, values, log),
         Values::Many(table) => merge_counts(alloc, values, table.counts()),
     }
@@ -229,7 +244,9 @@ fn merge_short(alloc: Global, values: &mut Values, more: &Short) -> Result<(), A
             }
             return merge_pairs(alloc, values, more.pairs());
         }
-        Values::Few(_) | Values::Many(_) => return merge_pairs(alloc, values, more.pairs()),
+        Values::Few(_) | Values::Narrow(_) | Values::Many(_) => {
+            return merge_pairs(alloc, values, more.pairs());
+        }
     };
     *values = grown;
     Ok(())
@@ -245,6 +262,51 @@ fn single_and_short(alloc: Global, single: &Single, short: &Short) -> Result<Val
     Ok(values)
 }
 
+// Adds the numbers of a narrow list: behind those of another at once, and to a copy of it where there is one number at
+// most.
+fn merge_narrow(alloc: Global, values: &mut Values, more: &Narrow) -> Result<(), AllocError>
+    requires { size_of (bag_of values.old) + size_of more.now < 2 ^ 64 }
+    ensures { OnOk result (AddsBag (bag_of values.old) (bag_of values.new) more.now) }
+{
+    let grown = match values {
+        Values::One(single) => single_and_narrow(alloc, single, more)?,
+        Values::Narrow(narrow) => {
+            if narrow.append(more)? {
+                return Ok(());
+            }
+            return merge_numbers(alloc, values, more.numbers());
+        }
+        Values::Few(_) | Values::Logged(_) | Values::Many(_) => {
+            return merge_numbers(alloc, values, more.numbers());
+        }
+    };
+    *values = grown;
+    Ok(())
+}
+
+// Adds numbers, each once.
+fn merge_numbers(alloc: Global, values: &mut Values, numbers: &[i32]) -> Result<(), AllocError>
+    requires { size_of (bag_of values.old) + size_of (once_each numbers.now) < 2 ^ 64 }
+    ensures { OnOk result (AddsBag (bag_of values.old) (bag_of values.new) (once_each numbers.now)) }
+{
+    for number in numbers {
+        add_value(alloc, values, i64::from(*number), 1)?;
+    }
+    Ok(())
+}
+
+// A copy of a narrow list, with the number that is held alone.
+fn single_and_narrow(alloc: Global, single: &Single, narrow: &Narrow) -> Result<Values, AllocError>
+    requires { size_of single.now + size_of narrow.now < 2 ^ 64 }
+    ensures { IfOk result (λ values. AddsBag single.now (bag_of values) narrow.now) }
+{
+    let pair = single.pair();
+    let copied = narrow.copy(alloc, usize::from(pair.1 > 0))?;
+    let mut values = Values::Narrow(Box::new(alloc, copied)?);
+    merge_pair(alloc, &mut values, pair)?;
+    Ok(values)
+}
+
 // Adds the numbers of a log: behind those of a log at once, and to a copy of it where there are few.
 fn merge_log(alloc: Global, values: &mut Values, more: &Log) -> Result<(), AllocError>
     requires { size_of (bag_of values.old) + size_of more.now < 2 ^ 64 }
@@ -253,6 +315,7 @@ fn merge_log(alloc: Global, values: &mut Values, more: &Log) -> Result<(), Alloc
     let grown = match values {
         Values::One(single) => single_and_log(alloc, single, more)?,
         Values::Few(short) => short_and_log(alloc, short, more)?,
+        Values::Narrow(narrow) => narrow_and_log(alloc, narrow, more)?,
         Values::Logged(log) => {
             if log.append(more)? {
                 return Ok(());
@@ -299,6 +362,17 @@ fn short_and_log(alloc: Global, short: &Short, log: &Log) -> Result<Values, Allo
     Ok(values)
 }
 
+// A copy of a log, with the numbers of a narrow list.
+fn narrow_and_log(alloc: Global, narrow: &Narrow, log: &Log) -> Result<Values, AllocError>
+    requires { size_of narrow.now + size_of log.now < 2 ^ 64 }
+    ensures { IfOk result (λ values. AddsBag narrow.now (bag_of values) log.now) }
+{
+    let copied = log.copy(alloc)?;
+    let mut values = Values::Logged(Box::new(alloc, copied)?);
+    merge_narrow(alloc, &mut values, narrow)?;
+    Ok(values)
+}
+
 // Adds the numbers of a table.
 fn merge_counts(
     alloc: Global,
@@ -327,13 +401,19 @@ fn add_value(alloc: Global, values: &mut Values, value: i64, times: u64) -> Resu
             if single.add(value, times) {
                 return Ok(());
             }
-            Values::Few(short_of(alloc, single, (value, times))?)
+            two_of(alloc, single, (value, times))?
         }
         Values::Few(short) => {
             if short.add(value, times)? {
                 return Ok(());
             }
             Values::Logged(log_of(alloc, short.pairs(), &[(value, times)])?)
+        }
+        Values::Narrow(narrow) => {
+            if narrow.add(value, times)? {
+                return Ok(());
+            }
+            widened(alloc, narrow, (value, times))?
         }
         Values::Logged(log) => {
             if log.add(value, times)? {
@@ -347,13 +427,64 @@ fn add_value(alloc: Global, values: &mut Values, value: i64, times: u64) -> Resu
     Ok(())
 }
 
-// A list of the number that is held alone and another, so many times.
-fn short_of(alloc: Global, single: &Single, more: (i64, u64)) -> Result<Short, AllocError>
+// The number that is held alone and another, so many times: a narrow list where each is of 32 bits and is held once.
+fn two_of(alloc: Global, single: &Single, more: (i64, u64)) -> Result<Values, AllocError>
     requires held { 0 < size_of single.now }
     requires some { 0 < more.1 }
-    ensures { IfOk result (λ short. AddsTimes single.now short more.0 more.1) }
+    ensures { IfOk result (λ values. AddsTimes single.now (bag_of values) more.0 more.1) }
 {
-    Short::of_two(alloc, single.pair(), more)
+    if let Some(narrow) = Narrow::of_two(alloc, single.pair(), more)? {
+        let narrow = Box::new(alloc, narrow)?;
+        return Ok(Values::Narrow(narrow));
+    }
+    let short = Short::of_two(alloc, single.pair(), more)?;
+    Ok(Values::Few(short))
+}
+
+// The numbers of a narrow list and another, so many times, in a form that counts how often each is held: a short list
+// where it has place for all, a table where the numbers repeat, and else a log.
+fn widened(alloc: Global, narrow: &Narrow, more: (i64, u64)) -> Result<Values, AllocError>
+    requires some { 0 < more.1 }
+    requires fits { size_of narrow.now + more.1 < 2 ^ 64 }
+    ensures { IfOk result (λ values. AddsTimes narrow.now (bag_of values) more.0 more.1) }
+{
+    let numbers = narrow.numbers();
+    if let Some(short) = Short::of_numbers(alloc, numbers, more)? {
+        return Ok(Values::Few(short));
+    }
+    if narrow.repeats() {
+        let table = table_of_numbers(alloc, numbers, more)?;
+        return Ok(Values::Many(table));
+    }
+    let log = log_of_numbers(alloc, numbers, more)?;
+    Ok(Values::Logged(log))
+}
+
+// A table of numbers that are each held once and another, so many times.
+#[tactic(auto, using(crate::proofs::BagLaws::size_of_same, crate::proofs::BagLaws::adds_to_same))]
+fn table_of_numbers(
+    alloc: Global,
+    numbers: &[i32],
+    more: (i64, u64),
+) -> Result<Box<Table>, AllocError>
+    requires some { 0 < more.1 }
+    requires fits { size_of (once_each numbers.now) + more.1 < 2 ^ 64 }
+    ensures { IfOk result (λ table. AddsTimes (once_each numbers.now) table.value more.0 more.1) }
+{
+    let mut table = Table::of_numbers(alloc, numbers)?;
+    table.add(more.0, more.1)?;
+    let table = Box::new(alloc, table)?;
+    Ok(table)
+}
+
+// A log of numbers that are each held once and another, so many times.
+fn log_of_numbers(alloc: Global, numbers: &[i32], more: (i64, u64)) -> Result<Box<Log>, AllocError>
+    requires { 0 < more.1 }
+    ensures { IfOk result (λ log. AddsTimes (once_each numbers.now) log.value more.0 more.1) }
+{
+    let log = Log::of_numbers(alloc, numbers, &[more])?;
+    let log = Box::new(alloc, log)?;
+    Ok(log)
 }
 
 // A log of the numbers of few pairs and others.
@@ -398,13 +529,14 @@ fn holds_value(values: &Values, value: i64) -> bool
     match values {
         Values::One(single) => single.holds(value),
         Values::Few(short) => short.holds(value),
+        Values::Narrow(narrow) => narrow.holds(value),
         Values::Logged(log) => log.holds(value),
         Values::Many(table) => table.holds(value),
     }
 }
 
 // Takes one `value` away where it is held; answers whether it was.
-fn remove_value(values: &mut Values, value: i64) -> bool
+fn remove_value(alloc: Global, values: &mut Values, value: i64) -> bool
     requires { size_of (bag_of values.old) < 2 ^ 64 }
     ensures taken { OnTrue result (AddsOne (bag_of values.new) (bag_of values.old) value) }
     ensures absent { OnFalse result (held_of (bag_of values.old) value ≡ 0) }
@@ -413,27 +545,70 @@ fn remove_value(values: &mut Values, value: i64) -> bool
     if !holds_value(values, value) {
         return false;
     }
-    take_value(values, value);
+    take_value(alloc, values, value);
     true
 }
 
 // Takes one `value` away, which is held.
 #[tactic(auto, using(crate::proofs::OwedLaws::AddsOne_held))]
-fn take_value(values: &mut Values, value: i64)
+fn take_value(alloc: Global, values: &mut Values, value: i64)
     requires held { 0 < held_of (bag_of values.old) value }
     requires fits { size_of (bag_of values.old) < 2 ^ 64 }
     ensures { AddsOne (bag_of values.new) (bag_of values.old) value }
 {
-    match values {
+    let left = match values {
         Values::One(single) => {
             let _ = single.remove(value);
+            return;
         }
         Values::Few(short) => {
             let _ = short.remove(value);
+            return;
         }
-        Values::Logged(log) => log.take(value),
+        Values::Narrow(narrow) => match take_narrow(alloc, narrow, value) {
+            Some(left) => left,
+            None => return,
+        },
+        Values::Logged(log) => {
+            log.take(value);
+            return;
+        }
         Values::Many(table) => {
             let _ = table.remove(value);
+            return;
         }
+    };
+    *values = left;
+}
+
+// Takes one `value` away, which is held; answers what is left where that is of another form.
+fn take_narrow(alloc: Global, narrow: &mut Narrow, value: i64) -> Option<Values>
+    requires held { 0 < held_of narrow.old value }
+    requires fits { size_of narrow.old < 2 ^ 64 }
+    ensures other { IfSome result (λ left. AddsOne (bag_of left) narrow.old value) }
+    ensures same_form { IfNone result (AddsOne narrow.new narrow.old value) }
+{
+    let count = narrow.numbers().len();
+    if count <= 1 {
+        return Some(Values::One(Single::none()));
     }
+    if count > SEARCHED
+        && let Ok(log) = log_without(alloc, narrow.numbers(), value)
+    {
+        return Some(Values::Logged(log));
+    }
+    narrow.take(value);
+    None
+}
+
+// A log of numbers that are each held once, without one `value`, which is held.
+fn log_without(alloc: Global, numbers: &[i32], value: i64) -> Result<Box<Log>, AllocError>
+    requires held { 0 < held_of (once_each numbers.now) value }
+    requires fits { size_of (once_each numbers.now) < 2 ^ 64 }
+    ensures { IfOk result (λ log. AddsOne log.value (once_each numbers.now) value) }
+{
+    let mut log = Log::of_numbers(alloc, numbers, &[])?;
+    log.take(value);
+    let log = Box::new(alloc, log)?;
+    Ok(log)
 }

@@ -4,6 +4,8 @@
 
 mod counted;
 mod log;
+mod narrow;
+mod repeats;
 mod short;
 mod single;
 mod table;

@@ -5,19 +5,15 @@ ghost use Rattle.std.specs.Int.{int_min, int_max};
 ghost use Rattle.std.specs.List.{HoldsAt, AllWithin};
 ghost use Rattle.cube_counts.specs.Bag.{Bag, AddsBag, AddsOne, AddsTimes, SameHeld, held_of, size_of, HasLeast, HasGreatest};
 ghost use Rattle.cube_counts.specs.Log.{HasEnds, Rises, IsJoined, IsOrdered, IsLastOf, IsCut, times_in, without, Covers, TakesAll};
+ghost use Rattle.cube_counts.specs.Narrow.{once_each};
 
+use crate::repeats::is_repetitive;
 use crate::short::{greatest_number, least_number};
 use std::alloc::{AllocError, Global};
 use std::marker::Model;
 
 /// How many pairs the first block of a log has room for.
 const ROOM: usize = 32;
-
-/// How many pairs of a log are looked at before it grows.
-const LOOKS: usize = 8;
-
-/// In how many pairs a number stands that is called frequent.
-const OFTEN: usize = 8;
 
 /// How many pairs a log has at least for each number that it owes.
 const SHARE: usize = 4;
@@ -96,14 +92,32 @@ impl Log {
         let mut pairs = Vec::with_capacity(alloc, ROOM)?;
         pairs.extend_from_slice(few)?;
         pairs.extend_from_slice(others)?;
+        Ok(Log::of_pairs(alloc, pairs))
+    }
+
+    /// A log of numbers that are each held once, and of few pairs.
+    pub fn of_numbers(alloc: Global, numbers: &[i32], few: &[(i64, u64)]) -> Result<Log, AllocError>
+        requires { All (λ e. 0 < e.1) few.now }
+        ensures { IfOk result (λ log. AddsBag (once_each numbers.now) log few.now) }
+    {
+        let mut pairs = pairs_of(alloc, numbers)?;
+        pairs.extend_from_slice(few)?;
+        Ok(Log::of_pairs(alloc, pairs))
+    }
+
+    // A log of these pairs.
+    fn of_pairs(alloc: Global, pairs: Vec<(i64, u64)>) -> Log
+        requires { All (λ e. 0 < e.1) pairs.items }
+        ensures { result ≡ pairs.items }
+    {
         let total = total_of(&pairs);
         let ends = ends_of(&pairs);
-        Ok(Log {
+        Log {
             pairs,
             taken: Vec::new(alloc),
             total,
             ends,
-        })
+        }
     }
 
     /// A log of the same pairs, which owes the same.
@@ -158,7 +172,7 @@ impl Log {
         let Some(total) = total.checked_add(times) else {
             return Ok(false);
         };
-        if self.pairs.len() == self.pairs.capacity() && is_repetitive(&self.pairs) {
+        if self.pairs.len() == self.pairs.capacity() && repeat(&self.pairs) {
             return Ok(false);
         }
         self.pairs.push((value, times))?;
@@ -221,7 +235,7 @@ impl Log {
             return Ok(false);
         };
         let room = self.pairs.capacity() - self.pairs.len();
-        if more.len() > room && is_repetitive(&self.pairs) {
+        if more.len() > room && repeat(&self.pairs) {
             return Ok(false);
         }
         self.pairs.extend_from_slice(more)?;
@@ -304,6 +318,17 @@ impl Log {
     }
 }
 
+// The pairs of numbers that are each held once, with room for more.
+fn pairs_of(alloc: Global, numbers: &[i32]) -> Result<Vec<(i64, u64)>, AllocError>
+    ensures { IfOk result (λ pairs. pairs.items ≡ once_each numbers.now) }
+{
+    let mut pairs = Vec::with_capacity(alloc, numbers.len().saturating_add(ROOM))?;
+    for number in numbers {
+        pairs.push((i64::from(*number), 1))?;
+    }
+    Ok(pairs)
+}
+
 // The ends of pairs that hold a number; None where there is no pair.
 fn ends_of(pairs: &[(i64, u64)]) -> Option<Ends>
     requires { All (λ e. 0 < e.1) pairs.now }
@@ -354,22 +379,9 @@ fn last_counted(pairs: &[(i64, u64)]) -> Option<usize>
     pairs.iter().rposition(|pair| pair.1 > 0)
 }
 
-// Whether the pairs seem to be of few numbers: each number that is looked at stands in many pairs.
-fn is_repetitive(pairs: &[(i64, u64)]) -> bool {
-    let step = pairs.len() / LOOKS + 1;
-    pairs
-        .iter()
-        .skip(step / 2)
-        .step_by(step)
-        .all(|pair| is_frequent(pairs, pair.0))
-}
-
-fn is_frequent(pairs: &[(i64, u64)], value: i64) -> bool {
-    pairs
-        .iter()
-        .filter(|pair| pair.0 == value)
-        .nth(OFTEN - 1)
-        .is_some()
+// Whether the pairs seem to be of few numbers.
+fn repeat(pairs: &[(i64, u64)]) -> bool {
+    is_repetitive(pairs, |pair| pair.0)
 }
 
 // How many numbers the pairs hold; None where that is too many to say.

@@ -4,6 +4,7 @@ ghost use Rattle.std.specs.Ordering.{int_eq};
 ghost use Rattle.std.specs.Bool.{OnTrue, OnFalse};
 ghost use Rattle.std.specs.List.{HoldsAt};
 ghost use Rattle.cube_counts.specs.Bag.{Bag, AddsOne, AddsTimes, held_of, size_of, HasLeast, HasGreatest};
+ghost use Rattle.cube_counts.specs.Narrow.{once_each};
 
 use std::alloc::{AllocError, Global};
 use std::marker::Model;
@@ -29,6 +30,30 @@ impl Model for Short {
 }
 
 impl Short {
+    /// Numbers that are each held once, and a number that is held so often; None where there is no place for all.
+    pub fn of_numbers(
+        alloc: Global,
+        numbers: &[i32],
+        more: (i64, u64),
+    ) -> Result<Option<Short>, AllocError>
+        requires some { 0 < more.1 }
+        requires fits { size_of (once_each numbers.now) + more.1 < 2 ^ 64 }
+        ensures { IfOk result (λ made. IfSome made (λ short. AddsTimes (once_each numbers.now) short more.0 more.1)) }
+    {
+        let mut short = Short {
+            pairs: Vec::with_capacity(alloc, ROOM)?,
+        };
+        for number in numbers {
+            if !short.add(i64::from(*number), 1)? {
+                return Ok(None);
+            }
+        }
+        if !short.add(more.0, more.1)? {
+            return Ok(None);
+        }
+        Ok(Some(short))
+    }
+
     /// Two numbers, each with how often it is held.
     #[tactic(auto, using(crate::proofs::BagLaws::adds_pair))]
     pub fn of_two(alloc: Global, first: (i64, u64), second: (i64, u64)) -> Result<Short, AllocError>

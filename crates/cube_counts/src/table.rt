@@ -6,6 +6,7 @@ ghost use Rattle.std.specs.Map.{values_of, keys_of, lookup, set_value, remove_en
 ghost use Rattle.std.specs.List.Sorted.{IsPermutation};
 ghost use Rattle.std.specs.Ordering.{int_eq};
 ghost use Rattle.cube_counts.specs.Bag.{Bag, AddsOne, AddsTimes, SameHeld, held_of, size_of, HasLeast, HasGreatest};
+ghost use Rattle.cube_counts.specs.Narrow.{once_each};
 
 use std::alloc::{AllocError, Global};
 use std::collections::HashMap;
@@ -43,6 +44,18 @@ impl Table {
         let mut table = Table::new(alloc);
         for pair in pairs {
             table.add_pair(*pair)?;
+        }
+        Ok(table)
+    }
+
+    /// A table of numbers that are each held once.
+    pub fn of_numbers(alloc: Global, numbers: &[i32]) -> Result<Table, AllocError>
+        requires { size_of (once_each numbers.now) < 2 ^ 64 }
+        ensures { IfOk result (SameHeld (once_each numbers.now)) }
+    {
+        let mut table = Table::new(alloc);
+        for number in numbers {
+            table.add(i64::from(*number), 1)?;
         }
         Ok(table)
     }

@@ -1,0 +1,29 @@
+//! Whether the numbers of a list repeat.
+
+/// How many items of a list are looked at.
+const LOOKS: usize = 8;
+
+/// Of how many items a number is that is called frequent.
+const OFTEN: usize = 8;
+
+/// Whether the items seem to be of few numbers: each number that is looked at is that of many items.
+pub fn is_repetitive<T, F: Fn(&T) -> i64>(items: &[T], number_of: F) -> bool
+    requires { F.IsAlwaysCallable number_of }
+{
+    let step = items.len() / LOOKS + 1;
+    items
+        .iter()
+        .skip(step / 2)
+        .step_by(step)
+        .all(|item| is_frequent(items, &number_of, number_of(item)))
+}
+
+fn is_frequent<T, F: Fn(&T) -> i64>(items: &[T], number_of: &F, value: i64) -> bool
+    requires { F.IsAlwaysCallable number_of.now }
+{
+    items
+        .iter()
+        .filter(|item| number_of(item) == value)
+        .nth(OFTEN - 1)
+        .is_some()
+}
