@@ -1,12 +1,13 @@
 -- What was gathered grows look by look.
 use Rattle.std.proofs.Common.{append-nil, ◌≡◌, ◌≢◌, ◌<◌, ◌≤◌, ◌+◌, ◌==◌, ℕ, suc, Bool, true, false, List, [], ◌∷◌, ◌++◌, length, get_or, set, replicate, map, refl, ap, sym, ◌∙◌, ◌⊎◌, inl, inr, arith, rules, eq-eqb, append_assoc, length-set, get_or-set_same, get_or-set_other}
-use Rattle.std.proofs.lemmas.List.{map-append, length-map, get_or-map, get_or_default, get_or-replicate, ext_get_or}
+use Rattle.std.proofs.lemmas.List.{map-append, map-set, length-map, length-replicate, get_or-map, get_or_default, get_or-replicate, ext_get_or}
 use Rattle.std.proofs.lemmas.List.FromFn.{get_or-map-range_with_len, length-map-range_with_len}
 use Rattle.cube_core.specs.declared.change.Item.{Item}
 use Rattle.cube_link.specs.Link.{Receiving}
 use Rattle.cube_core.specs.Arrival.{Arrivals, of_source, of_sources}
 use Rattle.cube_feeders.specs.Parcels.{lines_of, parcels_of}
-use Rattle.cube_feeders.specs.Gathering.{AreFresh, StandsAtFirst, Looks, Gathering, Gathers, from, taken_of}
+use Rattle.cube_feeders.specs.Gathering.{AreFresh, StandsAtFirst, Looks, Gathering, Gathers, from, taken_of, ended_of}
+use Rattle.cube_feeders.specs.declared.gathering.Taken.{Taken}
 use Rattle.cube_feeders.specs.declared.parcel.Parcel.{Parcel}
 use Rattle.cube_feeders.specs.declared.parcel.Parcel.TheVariants.{Line, End}
 use Rattle.cube_core.proofs.ArrivalLaws.{of_source-append}
@@ -60,10 +61,13 @@ looks-look stands source old now new ended last first before after was wanting w
 }
 
 -- one look more
-pub gathering-look : {B : Type 0} (stands : B → B → Arrivals → Type 0) (first : B) (start now : List (Receiving Parcel)) (ended : List Bool) (before after : B) (wanting wanting' : Bool) (i : ℕ) (d new : Receiving Parcel) (last : Bool) →
-    i < length now → i < length ended → get_or ended i false ≡ false → Looks stands (i + 1) (get_or now i d) new last before after wanting wanting' →
-    Gathering (stands first) start now ended before wanting → Gathering (stands first) start (set now i new) (set ended i last) after wanting'
-gathering-look stands first start now ended before after wanting wanting' i d new last below within running looks was =
+pub gathering-look : {B : Type 0} (stands : B → B → Arrivals → Type 0) (first : B) (start now : List (Receiving Parcel)) (taken : List Taken) (before after : B) (wanting wanting' : Bool) (i : ℕ) (d new : Receiving Parcel) (t last : Taken) →
+    i < length now → i < length taken → (get_or taken i t).ended ≡ false → Looks stands (i + 1) (get_or now i d) new last.ended before after wanting wanting' →
+    Gathering (stands first) start now (ended_of taken) before wanting → Gathering (stands first) start (set now i new) (ended_of (set taken i last)) after wanting'
+gathering-look stands first start now taken before after wanting wanting' i d new t last below there still looks was =
+    let ended = ended_of taken in
+    let within : i < length ended = omega (arith, length-map taken (λ (t : Taken). t.ended)) in
+    let running : get_or ended i false ≡ false = get_or-map (λ (t : Taken). t.ended) taken i t false there ∙ still in
     let same = was.same_length in
     let low : i < length start = omega arith in
     let items = looks.items in
@@ -80,23 +84,28 @@ gathering-look stands first start now ended before after wanting wanting' i d ne
         | inl is ↦
             let before : (get_or now i d).received ≡ lines_of (of_source was.arrivals (i + 1)) =
             ap (λ (inlet : Receiving Parcel). inlet.received) (get_or_default now i d e below) ∙ (rw running at (was.received i e low)) in
-            rw (is, get_or-set_same now i new e below, get_or-set_same ended i last false within, of_source-append was.arrivals more (i + 1), of_source-same (i + 1) items)
-            (looks.received ∙ ap (λ (xs : List Parcel). xs ++ taken_of last items) before ∙ taken_of-append last (of_source was.arrivals (i + 1)) items)
+            rw (is, get_or-set_same now i new e below, map-set (λ (t : Taken). t.ended) taken i last, get_or-set_same ended i last.ended false within, of_source-append was.arrivals more (i + 1), of_source-same (i + 1) items)
+            (looks.received ∙ ap (λ (xs : List Parcel). xs ++ taken_of last.ended items) before ∙ taken_of-append last.ended (of_source was.arrivals (i + 1)) items)
         | inr ne ↦
             let apart : i + 1 ≢ j + 1 = omega (arith, ne) in
-            rw (get_or-set_other now i j new e ne, get_or-set_other ended i j last false ne, of_source-append was.arrivals more (j + 1), of_source-other (j + 1) (i + 1) items apart, append-nil (of_source was.arrivals (j + 1)))
+            rw (get_or-set_other now i j new e ne, map-set (λ (t : Taken). t.ended) taken i last, get_or-set_other ended i j last.ended false ne, of_source-append was.arrivals more (j + 1), of_source-other (j + 1) (i + 1) items apart, append-nil (of_source was.arrivals (j + 1)))
             (was.received j e inside)
       ];
       stands_at = looks.stands_on first was.arrivals was.stands_at;
     }
 
 -- before the first look
-pub gathering-start : {B : Type 0} (stands : B → Arrivals → Type 0) (inlets : List (Receiving Parcel)) (builder : B) → length inlets ≤ 64 → AreFresh inlets → stands builder [] → Gathering stands inlets inlets (replicate 64 false) builder false
-gathering-start stands inlets builder most fresh at = record {
+pub gathering-start : {B : Type 0} (stands : B → Arrivals → Type 0) (inlets : List (Receiving Parcel)) (t : Taken) (builder : B) → t.ended ≡ false → length inlets ≤ 64 → AreFresh inlets → stands builder [] →
+    Gathering stands inlets inlets (ended_of (replicate 64 t)) builder false
+gathering-start stands inlets t builder still most fresh at = record {
   arrivals = [];
   same_length = refl;
   links = λ i d below. refl;
-  received = λ i d below. let within : i < 64 = omega arith in rw (get_or-replicate 64 i false false within) (fresh i d below);
+  received = λ i d below.
+      let within : i < 64 = omega arith in
+      let there : i < length (replicate 64 t) = omega (arith, length-replicate 64 t) in
+      let running : get_or (ended_of (replicate 64 t)) i false ≡ false = get_or-map (λ (t : Taken). t.ended) (replicate 64 t) i t false there ∙ ap (λ (t : Taken). t.ended) (get_or-replicate 64 i t t within) ∙ still in
+      rw running (fresh i d below);
   stands_at = record { first = []; rest = []; split = refl; stands_at = at; at_all = λ _. refl };
 }
 

@@ -1,6 +1,7 @@
 -- What a feeder has sent grows item by item.
 use Rattle.std.proofs.Common.{append-nil, ◌≡◌, List, [], ◌∷◌, ◌++◌, map, refl, ap, sym, ◌∙◌, subst, append_assoc, Option, Some, None, Ok, Err}
 use Rattle.std.proofs.lemmas.List.{map-append}
+use Rattle.std.specs.Prelude.{⊤}
 use Rattle.cube_core.specs.Items.{Coming}
 use Rattle.cube_core.specs.declared.change.Item.{Item}
 use Rattle.cube_feed.specs.Feed.{Ahead, Gives, nothing_but}
@@ -8,10 +9,21 @@ use Rattle.cube_feed.specs.declared.fault.FeedFault.{FeedFault}
 use Rattle.cube_feed.specs.declared.fault.FeedFault.TheVariants.{Memory, Read, Header, TooMany}
 use Rattle.cube_link.specs.Link.{Sending}
 use Rattle.cube_feeders.specs.Parcels.{lines_of, sends}
-use Rattle.cube_feeders.specs.Feeding.{AreAll, Stops, SoFar, HasSent, SendsAll, AreReceipts, Feeds}
+use Rattle.cube_feeders.specs.Feeding.{AreAll, Stops, SendsAll, AreReceipts, Feeds}
 use Rattle.cube_feeders.specs.declared.parcel.Parcel.{Parcel}
 use Rattle.cube_feeders.specs.declared.parcel.Parcel.TheVariants.{Line, End}
 use Rattle.cube_feeders.specs.declared.parcel.FeederEnd.{FeederEnd}
+
+-- these items came of a feed, and this is still to come
+abbrev pub SoFar : Ahead → List Item → Ahead → Type 0
+SoFar None items now = ⊤
+SoFar (Some coming) items now = (rest : Coming (Option FeedFault)) × (now ≡ Some rest) × (coming ≡ record { items = items ++ rest.items; end = rest.end })
+
+-- what came of a feed was sent on each link
+pub record HasSent (coming now : Ahead) (old new : List (Sending Parcel)) : Type 0 where
+  pub items : List Item
+  pub so_far : SoFar coming items now
+  pub sent : new ≡ map (sends (lines_of items)) old
 
 sends-nothing : (sendings : List (Sending Parcel)) → map (sends []) sendings ≡ sendings
 sends-nothing [] = refl

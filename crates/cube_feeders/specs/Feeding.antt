@@ -6,7 +6,7 @@ use Rattle.cube_feed.specs.Feed.{Ahead}
 use Rattle.cube_feed.specs.declared.fault.FeedFault.{FeedFault}
 use Rattle.cube_feed.specs.declared.fault.FeedFault.TheVariants.{Memory, Read, Header, TooMany}
 use Rattle.cube_link.specs.Link.{Sending}
-use Rattle.cube_feeders.specs.Parcels.{lines_of, parcels_of, sends}
+use Rattle.cube_feeders.specs.Parcels.{parcels_of, sends}
 use Rattle.cube_feeders.specs.declared.parcel.Parcel.{Parcel}
 use Rattle.cube_feeders.specs.declared.parcel.FeederEnd.{FeederEnd}
 
@@ -27,17 +27,6 @@ Stops (Some coming) items (Some Memory) = AreFirst coming items
 Stops (Some coming) items (Some Read) = AreFirst coming items
 Stops (Some coming) items (Some Header) = AreAll coming items (Some Header)
 Stops (Some coming) items (Some TooMany) = AreAll coming items (Some TooMany)
-
--- these items came of a feed, and this is still to come
-abbrev pub SoFar : Ahead → List Item → Ahead → Type 0
-SoFar None items now = ⊤
-SoFar (Some coming) items now = (rest : Coming (Option FeedFault)) × (now ≡ Some rest) × (coming ≡ record { items = items ++ rest.items; end = rest.end })
-
--- what came of a feed was sent on each link
-pub record HasSent (coming now : Ahead) (old new : List (Sending Parcel)) : Type 0 where
-  pub items : List Item
-  pub so_far : SoFar coming items now
-  pub sent : new ≡ map (sends (lines_of items)) old
 
 -- the items that came of a feed until it stopped were sent on each link, and then the end
 pub record SendsAll (coming : Ahead) (old new : List (Sending Parcel)) (stop : Option FeedFault) : Type 0 where

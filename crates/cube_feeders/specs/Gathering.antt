@@ -4,6 +4,7 @@ use Rattle.cube_core.specs.declared.change.Item.{Item}
 use Rattle.cube_link.specs.Link.{Receiving}
 use Rattle.cube_core.specs.Arrival.{Arrivals, of_source, of_sources}
 use Rattle.cube_feeders.specs.Parcels.{lines_of, parcels_of}
+use Rattle.cube_feeders.specs.declared.gathering.Taken.{Taken}
 use Rattle.cube_feeders.specs.declared.parcel.Parcel.{Parcel}
 
 -- nothing was received from any of the links
@@ -33,6 +34,10 @@ pub record Looks {B : Type 0} (stands : B → B → Arrivals → Type 0) (source
   pub link : new.link ≡ old.link
   pub received : new.received ≡ old.received ++ taken_of ended items
   pub stands_on : (first : B) (arrivals : Arrivals) → StandsAtFirst (stands first) before wanting arrivals → StandsAtFirst (stands first) after wanting' (arrivals ++ from source items)
+
+-- which of the links have ended, by what was taken from each
+abbrev pub ended_of : List Taken → List Bool
+ended_of taken = map (λ link. link.ended) taken
 
 -- while a builder gathers: some of the links have ended, each has given the lines of its source's arrivals, and the builder stands at these
 pub record Gathering {B : Type 0} (stands : B → Arrivals → Type 0) (old now : List (Receiving Parcel)) (ended : List Bool) (builder : B) (wanting : Bool) : Type 0 where

@@ -4,9 +4,8 @@ ghost use Rattle.cube_feeders.specs.Feeding.{SendsAll, AreReceipts, Feeds};
 
 use crate::copies::next_copies;
 use crate::gate::Gate;
-use crate::offering::{offer_copies, offer_end};
+use crate::offering::{Offering, offer_copies, offer_end};
 use crate::parcel::{FeederEnd, Parcel};
-use crate::patience::Patience;
 use cube_feed::{Feed, FeedFault};
 use cube_link::{Outlet, Receipt};
 use std::alloc::Global;
@@ -27,28 +26,17 @@ fn send_all<W: Wait, R: Read + Drop, G: Gate>(
 {
     let mut feed = feed;
     let mut copies = Vec::new(alloc);
-    let mut patience = Patience::new();
-    let mut k = 0u64;
+    let mut offering = Offering::new(source, gate);
     for _ in rt.forever() {
-        k = k.saturating_add(1);
         let stop = match next_copies(alloc, &mut feed, outlets.len(), &mut copies) {
             Ok(Some(item)) => {
-                offer_copies(
-                    rt,
-                    source,
-                    k,
-                    outlets,
-                    item,
-                    &mut copies,
-                    &mut patience,
-                    gate,
-                );
+                offer_copies(rt, &mut offering, outlets, item, &mut copies);
                 continue;
             }
             Ok(None) => None,
             Err(fault) => Some(fault),
         };
-        offer_end(rt, source, k, outlets, &mut patience, gate);
+        offer_end(rt, &mut offering, outlets);
         return stop;
     }
     unreachable!()

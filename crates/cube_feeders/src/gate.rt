@@ -21,3 +21,11 @@ impl Gate for OpenGate {
 
     fn after_take(&self, _source: u32, _builder: u32, _k: u64) {}
 }
+
+/// A link, by its source and its builder, with the gate that is called around its parcels.
+#[derive(Drop)]
+pub(crate) struct GatedLink<'g, G: Gate> {
+    pub source: u32,
+    pub builder: u32,
+    pub gate: &'g G,
+}

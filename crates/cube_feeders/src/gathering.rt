@@ -2,10 +2,10 @@
 ghost use Rattle.std.specs.Prelude.{◌≡◌, ◌≤◌, ◌<◌, ◌++◌, ◌∷◌, [], ℕ, List, length, true, false, IsTrue, is_err, slice_index_or};
 ghost use Rattle.cube_link.specs.Link.{Receiving};
 ghost use Rattle.cube_core.specs.Arrival.{Arrivals};
-ghost use Rattle.cube_feeders.specs.Gathering.{AreFresh, StandsAtFirst, Looks, Gathering, Gathers};
+ghost use Rattle.cube_feeders.specs.Gathering.{AreFresh, StandsAtFirst, Looks, Gathering, Gathers, ended_of};
 ghost use Rattle.cube_feeders.specs.declared.parcel.Parcel.{Parcel as TheParcel};
 
-use crate::gate::Gate;
+use crate::gate::{Gate, GatedLink};
 use crate::parcel::Parcel;
 use crate::patience::wait_for_parcels;
 use cube_core::Item;
@@ -20,6 +20,13 @@ const MOST_SOURCES: usize = 64;
 
 /// The most parcels that are taken from a link before the next link is looked at.
 const MOST_AT_A_VISIT: u32 = 32;
+
+/// What was taken from a link: so many parcels, and whether its end was among them.
+#[derive(Clone, Copy, Debug)]
+struct Taken {
+    parcels: u64,
+    ended: bool,
+}
 
 // Applies an item, or drops it where memory was wanting before; waits for good where the builder is full.
 fn accept<W: Wait, B: TakesItems>(
@@ -50,29 +57,27 @@ fn accept<W: Wait, B: TakesItems>(
 // Looks once at a link that hasn't ended. Whether a parcel was there.
 fn look<W: Wait, B: TakesItems, G: Gate>(
     rt: &W,
-    number: u32,
-    source: u32,
+    link: &GatedLink<'_, G>,
     builder: &mut B,
     inlet: &mut Inlet<Parcel>,
-    ended: &mut bool,
-    taken: &mut u64,
+    taken: &mut Taken,
     wanting: &mut bool,
-    gate: &G,
 ) -> bool
-    requires source { (1 ≤ source) × (source ≤ B.sources builder.old) }
-    requires open { ended.old ≡ false }
+    requires source { (1 ≤ link.now.source) × (link.now.source ≤ B.sources builder.old) }
+    requires open { taken.old.ended ≡ false }
     ensures sources { B.sources builder.new ≡ B.sources builder.old }
-    ensures looks { Looks B.stands source inlet.old inlet.new ended.new
+    ensures looks { Looks B.stands link.now.source inlet.old inlet.new taken.new.ended
         builder.old builder.new wanting.old wanting.new }
 {
     let Some(parcel) = inlet.take() else {
         return false;
     };
-    *taken = taken.saturating_add(1);
-    gate.after_take(source, number, *taken);
+    taken.parcels = taken.parcels.saturating_add(1);
+    link.gate
+        .after_take(link.source, link.builder, taken.parcels);
     match parcel {
-        Parcel::Line(item) => accept(rt, builder, source, item, wanting),
-        Parcel::End => *ended = true,
+        Parcel::Line(item) => accept(rt, builder, link.source, item, wanting),
+        Parcel::End => taken.ended = true,
     }
     true
 }
@@ -80,28 +85,21 @@ fn look<W: Wait, B: TakesItems, G: Gate>(
 // Looks at a link that hasn't ended, and again while parcels are there. Whether one was there.
 fn visit<W: Wait, B: TakesItems, G: Gate>(
     rt: &W,
-    number: u32,
-    source: u32,
+    link: &GatedLink<'_, G>,
     builder: &mut B,
     inlet: &mut Inlet<Parcel>,
-    ended: &mut bool,
-    taken: &mut u64,
+    taken: &mut Taken,
     wanting: &mut bool,
-    gate: &G,
 ) -> bool
-    requires source { (1 ≤ source) × (source ≤ B.sources builder.old) }
-    requires open { ended.old ≡ false }
+    requires source { (1 ≤ link.now.source) × (link.now.source ≤ B.sources builder.old) }
+    requires open { taken.old.ended ≡ false }
     ensures sources { B.sources builder.new ≡ B.sources builder.old }
-    ensures looks { Looks B.stands source inlet.old inlet.new ended.new
+    ensures looks { Looks B.stands link.now.source inlet.old inlet.new taken.new.ended
         builder.old builder.new wanting.old wanting.new }
 {
     let mut found = false;
     for _ in 0..MOST_AT_A_VISIT {
-        if *ended
-            || !look(
-                rt, number, source, builder, inlet, ended, taken, wanting, gate,
-            )
-        {
+        if taken.ended || !look(rt, link, builder, inlet, taken, wanting) {
             return found;
         }
         found = true;
@@ -115,8 +113,7 @@ fn look_round<W: Wait, B: TakesItems, G: Gate>(
     number: u32,
     builder: &mut B,
     inlets: &mut [Inlet<Parcel>],
-    ended: &mut [bool; MOST_SOURCES],
-    taken: &mut [u64; MOST_SOURCES],
+    taken: &mut [Taken; MOST_SOURCES],
     wanting: &mut bool,
     gate: &G,
 ) -> bool
@@ -124,36 +121,31 @@ fn look_round<W: Wait, B: TakesItems, G: Gate>(
     requires most { length inlets.old ≤ 64 }
     ensures sources { B.sources builder.new ≡ B.sources builder.old }
     ensures gathering { (first : B) (start : List (Receiving TheParcel)) →
-        Gathering (B.stands first) start inlets.old ended.old builder.old wanting.old →
-        Gathering (B.stands first) start inlets.new ended.new builder.new wanting.new }
+        Gathering (B.stands first) start inlets.old (ended_of taken.old) builder.old wanting.old →
+        Gathering (B.stands first) start inlets.new (ended_of taken.new) builder.new wanting.new }
 {
     let mut found = false;
     for i in 0..inlets.len() {
-        if !ended[i] {
-            let source = i as u32 + 1;
-            found |= visit(
-                rt,
-                number,
-                source,
-                builder,
-                &mut inlets[i],
-                &mut ended[i],
-                &mut taken[i],
-                wanting,
+        if !taken[i].ended {
+            let link = GatedLink {
+                source: i as u32 + 1,
+                builder: number,
                 gate,
-            );
+            };
+            found |= visit(rt, &link, builder, &mut inlets[i], &mut taken[i], wanting);
         }
     }
     found
 }
 
 // Whether the first so many links have ended.
-fn have_ended(ended: &[bool; MOST_SOURCES], count: usize) -> bool
+fn have_ended(taken: &[Taken; MOST_SOURCES], count: usize) -> bool
     requires { count ≤ 64 }
-    ensures { IsTrue result → (i : ℕ) → i < count → slice_index_or ended.now i false ≡ true }
+    ensures { IsTrue result →
+        (i : ℕ) → i < count → slice_index_or (ended_of taken.now) i false ≡ true }
 {
     for i in 0..count {
-        if !ended[i] {
+        if !taken[i].ended {
             return false;
         }
     }
@@ -181,23 +173,16 @@ pub fn gather<W: Wait, B: TakesItems, G: Gate>(
     ensures gathers { Gathers (B.stands builder.old) inlets.old inlets.new
         builder.new (is_err result) }
 {
-    let mut ended = [false; MOST_SOURCES];
-    let mut taken = [0u64; MOST_SOURCES];
+    let mut taken = [Taken {
+        parcels: 0,
+        ended: false,
+    }; MOST_SOURCES];
     let mut wanting = false;
     for _ in rt.forever() {
-        if have_ended(&ended, inlets.len()) {
+        if have_ended(&taken, inlets.len()) {
             return if wanting { Err(AllocError) } else { Ok(()) };
         }
-        if !look_round(
-            rt,
-            number,
-            builder,
-            inlets,
-            &mut ended,
-            &mut taken,
-            &mut wanting,
-            gate,
-        ) {
+        if !look_round(rt, number, builder, inlets, &mut taken, &mut wanting, gate) {
             wait_for_parcels(rt, inlets);
         }
     }

@@ -13,6 +13,38 @@ use cube_core::Item;
 use cube_link::Outlet;
 use std::sync::Wait;
 
+/// How far a source has come with its offers to the builders.
+#[derive(Drop)]
+pub(crate) struct Offering<'g, G: Gate> {
+    source: u32,
+    gate: &'g G,
+    // How many parcels of each link were begun.
+    parcels: u64,
+    patience: Patience,
+}
+
+impl<'g, G: Gate> Offering<'g, G> {
+    /// A source that has offered nothing yet.
+    pub(crate) fn new(source: u32, gate: &'g G) -> Offering<'g, G> {
+        Offering {
+            source,
+            gate,
+            parcels: 0,
+            patience: Patience::new(),
+        }
+    }
+
+    // Goes on to the next parcel of each link.
+    fn begin_parcel(&mut self) {
+        self.parcels = self.parcels.saturating_add(1);
+    }
+
+    // Calls the gate before the parcel is offered to a builder.
+    fn pass_gate(&self, builder: u32) {
+        self.gate.before_offer(self.source, builder, self.parcels);
+    }
+}
+
 // Offers a parcel again until the link has room for it.
 fn offer_until_taken<W: Wait>(
     rt: &W,
@@ -35,65 +67,63 @@ fn offer_until_taken<W: Wait>(
     unreachable!()
 }
 
-// Sends an item to a builder, as the `k`-th parcel of its link.
+// Sends an item to a builder, as the next parcel of its link.
 fn offer_item<W: Wait, G: Gate>(
     rt: &W,
-    source: u32,
+    offering: &mut Offering<'_, G>,
     builder: usize,
-    k: u64,
     outlets: &mut [Outlet<Parcel>],
     item: Item,
-    patience: &mut Patience,
-    gate: &G,
 )
     requires { (builder < length outlets.old) × (length outlets.old ≤ 8) }
     ensures { (d : Sending TheParcel) → outlets.new ≡
         set outlets.old builder (sends (Line item ∷ []) (get_or outlets.old builder d)) }
 {
-    gate.before_offer(source, builder as u32, k);
-    offer_until_taken(rt, &mut outlets[builder], Parcel::Line(item), patience);
+    offering.pass_gate(builder as u32);
+    offer_until_taken(
+        rt,
+        &mut outlets[builder],
+        Parcel::Line(item),
+        &mut offering.patience,
+    );
 }
 
-/// Sends an item to each builder, in their order, as the `k`-th parcel of each link: its copies, and itself to the last.
+/// Sends an item to each builder, in their order, as the next parcel of each link: its copies, and itself to the last.
 pub(crate) fn offer_copies<W: Wait, G: Gate>(
     rt: &W,
-    source: u32,
-    k: u64,
+    offering: &mut Offering<'_, G>,
     outlets: &mut [Outlet<Parcel>],
     item: Item,
     copies: &mut Vec<Item>,
-    patience: &mut Patience,
-    gate: &G,
 )
     requires count { vec_len copies.old + 1 ≡ length outlets.old }
     requires few { length outlets.old ≤ 8 }
     requires equal { All (λ copy. copy ≡ item) copies.old.items }
     ensures { outlets.new ≡ map (sends (Line item ∷ [])) outlets.old }
 {
+    offering.begin_parcel();
     let mut builder = 0usize;
     while let Some(copy) = copies.pop() {
-        offer_item(rt, source, builder, k, outlets, copy, patience, gate);
+        offer_item(rt, offering, builder, outlets, copy);
         builder += 1;
     }
-    offer_item(rt, source, builder, k, outlets, item, patience, gate);
+    offer_item(rt, offering, builder, outlets, item);
 }
 
-/// Sends the end to each builder, in their order, as the `k`-th parcel of each link.
+/// Sends the end to each builder, in their order, as the next parcel of each link.
 pub(crate) fn offer_end<W: Wait, G: Gate>(
     rt: &W,
-    source: u32,
-    k: u64,
+    offering: &mut Offering<'_, G>,
     outlets: &mut [Outlet<Parcel>],
-    patience: &mut Patience,
-    gate: &G,
 )
     requires { length outlets.old ≤ 8 }
     ensures { outlets.new ≡ map (sends (End ∷ [])) outlets.old }
 {
+    offering.begin_parcel();
     let mut builder = 0u32;
     for outlet in outlets.iter_mut() {
-        gate.before_offer(source, builder, k);
-        offer_until_taken(rt, outlet, Parcel::End, patience);
+        offering.pass_gate(builder);
+        offer_until_taken(rt, outlet, Parcel::End, &mut offering.patience);
         builder += 1;
     }
 }

@@ -1,5 +1,5 @@
 use Rattle.std.proofs.Common.{◌≡◌, length}
-use Rattle.cube_feeders.specs.Feeding.{HasSent}
+use Rattle.cube_feeders.proofs.SendLaws.{HasSent}
 use Rattle.cube_feeders.proofs.feeding.send_all.Given as goal
 
 abbrev pub invariant-loop : goal.invariant-loop

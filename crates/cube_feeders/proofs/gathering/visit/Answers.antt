@@ -1,26 +1,26 @@
 use Rattle.std.proofs.Common.{refl, ◌∙◌}
 use Rattle.cube_feeders.proofs.GatherLaws.{looks-nothing, looks-look}
 use Rattle.cube_feeders.proofs.gathering.visit.Goals as goal
-use Rattle.cube_feeders.proofs.gathering.visit.Goals.{then-ended-via-then-ended, then-ended-via-else-ended+then-not-look}
+use Rattle.cube_feeders.proofs.gathering.visit.Goals.{then-taken-via-then-taken, then-taken-via-else-taken+then-not-look}
 
 pub loop-init : goal.loop-init
-loop-init g c = (refl, looks-nothing g.B.TakesItems.stands c.args.source c.args.inlet.now c.args.ended.now c.args.builder.now c.args.wanting.now c.requires.open)
+loop-init g c = (refl, looks-nothing g.B.TakesItems.stands c.args.link.now.source c.args.inlet.now c.args.taken.now.ended c.args.builder.now c.args.wanting.now c.requires.open)
 
-pub returns-then-ended-clause-looks : goal.returns-then-ended-clause-looks
-returns-then-ended-clause-looks g c =
+pub returns-then-taken-clause-looks : goal.returns-then-taken-clause-looks
+returns-then-taken-clause-looks g c =
     let loop = c.loop in
-    elim c.then-ended.branch [
-      | then-ended-via-then-ended w ↦ rw (w.builder-is, w.inlet-is, w.ended-is, w.wanting-is) loop.invariant.1
-      | then-ended-via-else-ended+then-not-look w ↦
-          rw (w.builder-is, w.inlet-is, w.ended-is, w.wanting-is)
-          (looks-look g.B.TakesItems.stands c.args.source c.args.inlet.now loop.inlet w.look.new.inlet loop.ended w.look.new.ended c.args.builder.now loop.builder w.look.new.builder c.args.wanting.now loop.wanting w.look.new.wanting
-          w.if-ended.false loop.invariant.1 w.look.ensures.looks)
+    elim c.then-taken.branch [
+      | then-taken-via-then-taken w ↦ rw (w.builder-is, w.inlet-is, w.taken-is, w.wanting-is) loop.invariant.1
+      | then-taken-via-else-taken+then-not-look w ↦
+          rw (w.builder-is, w.inlet-is, w.taken-is, w.wanting-is)
+          (looks-look g.B.TakesItems.stands c.args.link.now.source c.args.inlet.now loop.inlet w.look.new.inlet loop.taken.ended w.look.new.taken.ended c.args.builder.now loop.builder w.look.new.builder c.args.wanting.now loop.wanting w.look.new.wanting
+          w.if-taken.false loop.invariant.1 w.look.ensures.looks)
     ]
 
 pub loop-preserved : goal.loop-preserved
 loop-preserved g c =
     let loop = c.loop in (
       c.look.ensures.sources ∙ loop.invariant.0,
-      looks-look g.B.TakesItems.stands c.args.source c.args.inlet.now loop.inlet c.look.new.inlet loop.ended c.look.new.ended c.args.builder.now loop.builder c.look.new.builder c.args.wanting.now loop.wanting c.look.new.wanting
-          c.if-ended.false loop.invariant.1 c.look.ensures.looks,
+      looks-look g.B.TakesItems.stands c.args.link.now.source c.args.inlet.now loop.inlet c.look.new.inlet loop.taken.ended c.look.new.taken.ended c.args.builder.now loop.builder c.look.new.builder c.args.wanting.now loop.wanting c.look.new.wanting
+          c.if-taken.false loop.invariant.1 c.look.ensures.looks,
     )
