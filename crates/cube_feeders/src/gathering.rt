@@ -7,7 +7,7 @@ ghost use Rattle.cube_feeders.specs.declared.parcel.Parcel.{Parcel as TheParcel}
 
 use crate::gate::{Gate, GatedLink};
 use crate::parcel::Parcel;
-use crate::patience::wait_for_parcels;
+use crate::patience::EmptyRounds;
 use cube_core::Item;
 use cube_feed::TakesItems;
 use cube_link::Inlet;
@@ -155,9 +155,10 @@ fn have_ended(taken: &[Taken; MOST_SOURCES], count: usize) -> bool
 /// Takes from the links of all sources, inlet s - 1 from source s, until each has given its end, and applies each item to
 /// the builder as it comes; `number` is the builder's, handed to the gate.
 ///
-/// It goes round the links, takes up to 32 parcels from each, and after a round in which nothing was found it naps as
-/// briefly as the system lets it, or yields where the links have room for less than 64 parcels. The only error is want of memory: from the item on that finds none it goes on taking, and drops what comes. Where the
-/// builder is full it waits for good.
+/// It goes round the links and takes up to 32 parcels from each. After rounds in which nothing was found it yields, 200 times
+/// at most, and then naps, for a microsecond at first and twice as long each time, up to half a millisecond; where the links
+/// have room for less than 64 parcels, it only yields. The only error is want of memory: from the item on that finds none it
+/// goes on taking, and drops what comes. Where the builder is full it waits for good.
 pub fn gather<W: Wait, B: TakesItems, G: Gate>(
     rt: &W,
     number: u32,
@@ -178,12 +179,15 @@ pub fn gather<W: Wait, B: TakesItems, G: Gate>(
         ended: false,
     }; MOST_SOURCES];
     let mut wanting = false;
+    let mut empty = EmptyRounds::none();
     for _ in rt.forever() {
         if have_ended(&taken, inlets.len()) {
             return if wanting { Err(AllocError) } else { Ok(()) };
         }
-        if !look_round(rt, number, builder, inlets, &mut taken, &mut wanting, gate) {
-            wait_for_parcels(rt, inlets);
+        if look_round(rt, number, builder, inlets, &mut taken, &mut wanting, gate) {
+            empty = EmptyRounds::none();
+        } else {
+            empty.wait(rt, inlets);
         }
     }
     unreachable!()

@@ -55,14 +55,12 @@ fn offer_until_taken<W: Wait>(
     ensures { outlet.new ≡ sends (parcel ∷ []) outlet.old }
 {
     let mut parcel = parcel;
-    let mut tries = 0u32;
     for _ in rt.forever() {
         match outlet.offer(parcel) {
             Ok(()) => return,
             Err(back) => parcel = back,
         }
-        patience.wait(rt, outlet, tries);
-        tries = tries.saturating_add(1);
+        patience.wait(rt, outlet);
     }
     unreachable!()
 }

@@ -8,19 +8,20 @@ use std::thread;
 use std::thread::Parker;
 use std::time::Duration;
 
-/// How often a feeder yields at a full link before it naps.
-const YIELDS: u32 = 20;
+/// How often a feeder yields at a full link, and a builder at empty ones, before it naps: about as long as the shortest nap
+/// takes, in which the other end goes through a ring of a hundred parcels.
+const YIELDS: u32 = 200;
 
 /// The fewest parcels that a link has room for where its ends nap: a smaller one would run empty or full meanwhile.
 const NAPPING_RING: usize = 64;
 
-/// The microseconds of the shortest nap, and of the longest.
+/// The microseconds of a feeder's shortest nap, and of the longest of either end.
 const SHORTEST_NAP: u64 = 50;
 
 const LONGEST_NAP: u64 = 800;
 
-/// The microseconds of a builder's nap, the least: all feeders wait for it.
-const BUILDER_NAP: u64 = 1;
+/// How often the nap of a builder is doubled, the first being of one microsecond.
+const DOUBLINGS: u32 = 9;
 
 /// What a feeder has learned of how long its links stay full. It naps at once where its last nap was no longer than its
 /// builder took to empty the link, and yields first where it was.
@@ -39,13 +40,17 @@ impl Patience {
         }
     }
 
-    /// Waits for room in a link after so many tries that found none.
-    pub(crate) fn wait<W: Wait>(&mut self, rt: &W, outlet: &mut Outlet<Parcel>, tries: u32)
+    /// Waits for room in a link that has none. A feeder that yields does so until half of it is free, so that the two ends
+    /// don't wait for each other at every parcel.
+    pub(crate) fn wait<W: Wait>(&mut self, rt: &W, outlet: &mut Outlet<Parcel>)
         ensures { outlet.new ≡ outlet.old }
     {
         let capacity = outlet.capacity();
-        if capacity < NAPPING_RING || !self.naps && tries < YIELDS {
+        if capacity < NAPPING_RING {
             thread::yield_now();
+            return;
+        }
+        if !self.naps && yield_for_room(outlet, capacity / 2) {
             return;
         }
         Parker::new().park_timeout(rt, Duration::from_micros(self.nap));
@@ -64,14 +69,44 @@ impl Patience {
     }
 }
 
-/// Waits for parcels after a round over the links of a builder in which none was found.
-pub(crate) fn wait_for_parcels<W: Wait>(rt: &W, inlets: &[Inlet<Parcel>]) {
-    let naps = inlets
-        .first()
-        .is_some_and(|inlet| inlet.capacity() >= NAPPING_RING);
-    if naps {
-        Parker::new().park_timeout(rt, Duration::from_micros(BUILDER_NAP));
-    } else {
+// Yields until the link has this much room, or for long; answers whether it has.
+fn yield_for_room(outlet: &mut Outlet<Parcel>, room: usize) -> bool
+    ensures { outlet.new ≡ outlet.old }
+{
+    for _ in 0..YIELDS {
         thread::yield_now();
+        if outlet.room() >= room {
+            return true;
+        }
+    }
+    false
+}
+
+/// How many rounds over the links of a builder found nothing, one after the other.
+#[derive(Clone, Copy, Debug)]
+pub(crate) struct EmptyRounds {
+    rounds: u32,
+}
+
+impl EmptyRounds {
+    /// None yet, or a parcel was found.
+    pub(crate) fn none() -> EmptyRounds {
+        EmptyRounds { rounds: 0 }
+    }
+
+    /// Waits for parcels after one more of them: a builder yields at first, since all feeders wait for it, and then naps, at
+    /// first as briefly as the system lets it.
+    pub(crate) fn wait<W: Wait>(&mut self, rt: &W, inlets: &[Inlet<Parcel>]) {
+        let naps = inlets
+            .first()
+            .is_some_and(|inlet| inlet.capacity() >= NAPPING_RING);
+        if !naps || self.rounds < YIELDS {
+            self.rounds = self.rounds.saturating_add(1);
+            thread::yield_now();
+            return;
+        }
+        let doublings = (self.rounds - YIELDS).min(DOUBLINGS);
+        Parker::new().park_timeout(rt, Duration::from_micros(1 << doublings));
+        self.rounds = self.rounds.saturating_add(1);
     }
 }
