@@ -156,8 +156,9 @@ fn have_ended(taken: &[Taken; MOST_SOURCES], count: usize) -> bool
 /// the builder as it comes; `number` is the builder's, handed to the gate.
 ///
 /// It goes round the links, takes up to 32 parcels from each, and after a round in which nothing was found it naps as
-/// briefly as the system lets it, or yields where the links have room for less than 64 parcels. The only error is want of memory: from the item on that finds none it goes on taking, and drops what comes. Where the
-/// builder is full it waits for good.
+/// briefly as the system lets it, or yields where the links have room for less than 64 parcels. The only error is want
+/// of memory: from the item on that finds none it goes on taking, and drops what comes. Where the builder is full it
+/// waits for good.
 pub fn gather<W: Wait, B: TakesItems, G: Gate>(
     rt: &W,
     number: u32,
