@@ -1,4 +1,4 @@
-use Rattle.std.proofs.Common.{arith, ◌<◌, refl, sym, subst, List, map, length}
+use Rattle.std.proofs.Common.{arith, ◌<◌, sym, subst, List, map, length}
 use Rattle.std.proofs.lemmas.List.{length-map}
 use Rattle.cube_link.specs.Link.{Sending}
 use Rattle.cube_feeders.specs.Settling.{received_by, FitLinks}
@@ -6,9 +6,6 @@ use Rattle.cube_feeders.specs.declared.parcel.Parcel.{Parcel}
 use Rattle.cube_feeders.specs.declared.parcel.FeederEnd.{FeederEnd}
 use Rattle.cube_feeders.proofs.SettleLaws.{row-at, all_held-more, length-all_held}
 use Rattle.cube_feeders.proofs.settling.hold_all.Goals as goal
-
-pub loop-builder-init : goal.loop-builder-init
-loop-builder-init g c = record { ends = refl; kept = refl; begin = λ j below. absurd (omega arith) }
 
 pub hold_builder-requires-clause-fit : goal.hold_builder-requires-clause-fit
 hold_builder-requires-clause-fit g c =
@@ -32,12 +29,3 @@ loop-builder-preserved g c =
     all_held-more loop.builder c.args.ends.items loop.ends.items c.hold_builder.new.ends.items c.args.gatherers.items loop.gatherers.items was
     (record { builder = was.builder; inlets = c.hold_builder.new.inlets; wanting = was.wanting }) held below c.index_mut.ensures.value c.hold_builder.ensures.ends
     (λ i. record { builder = was.builder; wanting = was.wanting; received = same i }) c.hold_builder.ensures.begin
-
-pub returns : goal.returns
-returns g c =
-    let held = c.loop-builder.invariant in
-    let all = length-all_held c.loop-builder.builder c.args.ends.items c.loop-builder.ends.items c.args.gatherers.items c.loop-builder.gatherers.items held in
-    record {
-      kept = held.kept;
-      begin = λ j below. held.begin j (omega (arith, all, c.args.gatherers.ok.0, length-map c.args.gatherers.items received_by));
-    }

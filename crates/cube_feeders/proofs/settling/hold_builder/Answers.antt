@@ -1,11 +1,8 @@
-use Rattle.std.proofs.Common.{arith, ◌≡◌, ◌<◌, refl, sym, ap, ◌∙◌, length}
+use Rattle.std.proofs.Common.{arith, ◌≡◌, ◌<◌, sym, ap, ◌∙◌, length}
 use Rattle.std.proofs.lemmas.List.{length-map}
 use Rattle.cube_feeders.specs.Settling.{received_on}
 use Rattle.cube_feeders.proofs.SettleLaws.{fits-at, held-more, length-held}
 use Rattle.cube_feeders.proofs.settling.hold_builder.Goals as goal
-
-pub loop-source-init : goal.loop-source-init
-loop-source-init c = record { ends = refl; received = refl; begin = λ k e d below. absurd (omega arith) }
 
 pub index_mut-requires-in-loop-source : goal.index_mut-requires-in-loop-source
 index_mut-requires-in-loop-source c =
@@ -35,13 +32,3 @@ loop-source-preserved c =
     let short : loop.source < length loop.inlets.items = omega (arith, below, ends, links, wide) in
     held-more loop.source c.args.builder c.args.ends.now.items loop.ends.items c.args.inlets.now.items loop.inlets.items c.index_mut.result.now c.hold.new.end c.index_mut-in-loop-source.result.now
     c.hold.new.inlet held below short c.index_mut.ensures.value c.index_mut-in-loop-source.ensures.value c.hold.ensures.end c.hold.ensures.received c.hold.ensures.begins
-
-pub returns : goal.returns
-returns c =
-    let held = c.loop-source.invariant in
-    let ends : length c.loop-source.ends.items ≡ length c.args.ends.now.items = ap length held.ends in
-    record {
-      ends = held.ends;
-      received = held.received;
-      begin = λ k e d below. held.begin k e d (omega (arith, c.args.ends.now.ok.0));
-    }

@@ -15,9 +15,6 @@ returns-clause-linked g c =
     let count : length new ≡ c.in_ok-gatherers.gatherers.len = omega (arith, c.feeders_of.auto.gatherers, c.as_mut_slice.ensures.len) in
     rw (take-written_back new (drop (length new) c.in_ok-gatherers.gatherers.items) c.in_ok-gatherers.gatherers.len count) c.in_ok-feeders.ensures.linked
 
-pub returns-clause-feeds : goal.returns-clause-feeds
-returns-clause-feeds g c = c.in_ok-feeders.ensures.feeds
-
 pub returns-clause-builders : goal.returns-clause-builders
 returns-clause-builders g c =
     let f = λ (gatherer : Gatherer g.row.B.Denot). gatherer.builder in

@@ -37,7 +37,7 @@ with_feeders-answer-requires-clause-room g t c κs within =
       most = omega (arith, count, room.most, rest.ok.0, c.args.feeders.ok.0);
       none = room.none;
       room = omega (arith, count, room.room, rest.ok.0, c.args.feeders.ok.0);
-      posts = omega (arith, count, room.posts, c.pop.ensures.rest, ap length c.pop.ensures.items, length-append c.pop.new.self.items (c.unwrap-post.result ∷ []), ap length (rw c.unwrap-post.ensures at c.pop.ensures.items), rest.ok.0, c.args.feeders.ok.0, c.pop.new.self.ok.0, c.args.roster.now.posts.ok.0);
+      posts = omega (arith, count, room.posts, ap length c.pop.ensures.items, length-append c.pop.new.self.items (c.unwrap-post.result ∷ []), ap length (rw c.unwrap-post.ensures at c.pop.ensures.items), rest.ok.0, c.args.feeders.ok.0, c.pop.new.self.ok.0, c.args.roster.now.posts.ok.0);
     }
 
 pub unreachable-requires : goal.unreachable-requires
