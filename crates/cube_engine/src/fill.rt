@@ -71,6 +71,7 @@ pub fn push_facts<'b>(facts: &mut Vec<&'b Fact>, book: &'b Book) -> Result<(), A
     ensures { OnOk result (map (λ fact. fact.now) facts.new.items
         ≡ map (λ fact. fact.now) facts.old.items ++ facts_of book.now) }
 {
+    facts.reserve(book.len())?;
     for fact in book.facts() {
         facts.push(fact)?;
     }
