@@ -103,10 +103,10 @@ class Multiset(Calls):
             self.remove(-7)
 
 
-# The forms that the library keeps numbers in, with how many times the numbers from 0 to below which end are added, up and
-# down again: none, one that is held once or twice; a short list with a number of more than 32 bits; a list of numbers of
-# 32 bits, few, many, and many of which few are different; a log, one that owes, one in order, and the table after that;
-# the table and the short list after a list whose numbers repeat.
+# The forms that the library keeps numbers in, with how many times the numbers from 0 to below which end are added, up
+# and down again: none, one that is held once or twice; a short list with a number of more than 32 bits; a list of
+# numbers of 32 bits, few, many, and many of which few are different; a log, one that owes, one in order, and the table
+# after that; the table and the short list after a list whose numbers repeat.
 FORMS = {
     "empty": (0, 0), "once": (0, 0), "one": (1, 1), "few": (1, 5), "narrow": (1, 5), "long": (1, MANY),
     "repeating": (5, 20), "log": (1, MANY), "owed": (1, MANY), "ordered": (1, MANY), "table": (1, MANY),
