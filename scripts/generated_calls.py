@@ -19,6 +19,7 @@ WITH_TOTAL = oracle.Schema(
     ["a", "b", "c", "d"], ["m"], FIVE[:4], [["a", "c"], [], ["a", "b", "c", "d"], ["d"], ["c"]])
 EIGHT = oracle.Schema([f"d{it}" for it in range(1, 9)], ["m"], FIVE[:4])
 MANY = 300
+MORE_THAN_32_BITS = 1 << 40
 
 
 class Calls:
@@ -58,6 +59,9 @@ class Multiset(Calls):
             del self.values[at]
         self.call(f"remove {value}", "true" if held else "false")
 
+    def holds(self, value):
+        self.call(f"holds {value}", "true" if value in self.values else "false")
+
     def show(self):
         it = self.values
         self.call("show", f"{len(it)} from {it[0]} to {it[-1]}" if it else "0, empty")
@@ -81,11 +85,13 @@ class Multiset(Calls):
 
     def form(self, name):
         """Adds numbers that the library keeps in this form."""
-        if name == "repeated":
-            for _ in range(10):
-                self.add_twice(100)
-            return
-        self.add_twice({"empty": 0, "one": 1, "few": 5}.get(name, MANY))
+        if name in ("few", "log"):
+            self.add(MORE_THAN_32_BITS)
+        if name == "once":
+            self.add(0)
+        times, end = FORMS[name]
+        for _ in range(times):
+            self.add_twice(end)
         if name == "owed":
             self.remove(7)
             self.remove(7)
@@ -97,12 +103,19 @@ class Multiset(Calls):
             self.remove(-7)
 
 
-FORMS = ["empty", "one", "few", "log", "owed", "ordered", "table", "repeated"]
+# The forms that the library keeps numbers in, with how many times the numbers from 0 to below which end are added, up
+# and down again: none, one that is held once or twice; a short list with a number of more than 32 bits; a list of
+# numbers of 32 bits, few, many, and many of which few are different; a log, one that owes, one in order, and the table
+# after that; the table and the short list after a list whose numbers repeat.
+FORMS = {
+    "empty": (0, 0), "once": (0, 0), "one": (1, 1), "few": (1, 5), "narrow": (1, 5), "long": (1, MANY),
+    "repeating": (5, 20), "log": (1, MANY), "owed": (1, MANY), "ordered": (1, MANY), "table": (1, MANY),
+    "repeated": (10, 100), "repeated few": (20, 3)}
 
 
-def emptied(order):
+def emptied(form, order):
     made = Multiset()
-    made.form("log")
+    made.form(form)
     for value in order:
         made.remove(value)
         made.remove(value)
@@ -141,7 +154,9 @@ def ends(form):
     made = Multiset()
     made.form(form)
     for value in (greatest, least, 0, least, greatest):
+        made.holds(value)
         made.add(value)
+        made.holds(value)
         made.show()
     for value in (greatest, least, greatest, least, least, greatest):
         made.remove(value)
@@ -180,8 +195,10 @@ def long_run(seed):
 
 
 def multisets():
-    yield emptied(range(MANY)).case("a log of numbers is emptied from the first to the last")
-    yield emptied(reversed(range(MANY))).case("a log of numbers is emptied from the last to the first")
+    for form in ("narrow", "long", "log"):
+        end = FORMS[form][1]
+        yield emptied(form, range(end)).case(f"numbers are taken from the first to the last: {form}")
+        yield emptied(form, reversed(range(end))).case(f"numbers are taken from the last to the first: {form}")
     for form in FORMS:
         yield without_room(form).case(f"numbers go on with no room to spare: {form}")
     yield in_turn().case("adds and removes of numbers come in turn")

@@ -260,7 +260,8 @@ def growths():
     found = dict(GROWTHS)
     for form in generated_calls.FORMS:
         found[f"numbers, {form}"] = SAMPLE, *grown(form)
-        found[f"numbers that are merged, {form}"] = SAMPLE, *generated_calls.merged(form, "log").lines
+        for other in ("long", "log"):
+            found[f"numbers that are merged, {other} into {form}"] = SAMPLE, *generated_calls.merged(form, other).lines
     return found
 
 

@@ -70,6 +70,13 @@ adds_at bag i e v n within is same = record { held = λ x. omega (arith, weight_
 pub adds_pair : (bag : Bag) (v : ℤ) (n : ℕ) → AddsTimes bag (bag ++ (v, n) ∷ []) v n
 adds_pair bag v n = record { held = λ x. omega (arith, sum_by_push (part (one_at x)) bag (v, n)) }
 
+-- n of v are added one by one
+pub AddsTimes-none : (bag : Bag) (v : ℤ) → AddsTimes bag bag v 0
+AddsTimes-none bag v = record { held = λ x. omega arith }
+
+pub AddsTimes-more : (old now new : Bag) (v : ℤ) (n : ℕ) → AddsTimes old now v n → AddsTimes now new v 1 → AddsTimes old new v (n + 1)
+AddsTimes-more old now new v n before adds = record { held = λ x. omega (arith, before.held x, adds.held x) }
+
 -- once is one
 pub adds_once : (old new : Bag) (v : ℤ) → AddsTimes old new v 1 → AddsOne old new v
 adds_once old new v adds = record { held = λ x. omega (arith, adds.held x) }

@@ -14,6 +14,9 @@ use std::alloc::{AllocError, Global};
 use std::collections::HashMap;
 use std::marker::Model;
 
+/// How often a number comes at most that is merged one by one into a narrow list: so many take the room of a pair.
+const SPLIT: u64 = 4;
+
 /// The most numbers of a narrow list that are searched for one to take away.
 const SEARCHED: usize = 64;
 
@@ -21,8 +24,8 @@ const SEARCHED: usize = 64;
 ///
 /// A number that is held alone, however often, takes no memory of its own. Numbers of 32 bits that come one at a time
 /// stand in a narrow list, of 4 bytes a number, which keeps its least and greatest number and looks at each for
-/// `holds`. It gives way to a form that counts how often each number is held where a wider number comes, or one
-/// several times at once, where the numbers repeat, and where one is taken from many.
+/// `holds`. It gives way to a form that counts how often each number is held where a wider number comes, or one many
+/// times at once, where the numbers repeat, and where one is taken from many.
 ///
 /// Of these forms, a short list takes few numbers. More are a log of what was added, with a list of what was taken
 /// away since; it answers its least and greatest number at once, and looks at each of its pairs for `holds`. When one
@@ -205,7 +208,8 @@ fn merge_values(alloc: Global, values: &mut Values, more: &Values) -> Result<(),
     }
 }
 
-// Adds a number as often as its pair says; a pair of no count changes nothing.
+// Adds a number as often as its pair says; a pair of no count changes nothing. A narrow list stays one where the number
+// takes no more room there than its pair.
 fn merge_pair(alloc: Global, values: &mut Values, pair: (i64, u64)) -> Result<(), AllocError>
     requires { size_of (bag_of values.old) + pair.1 < 2 ^ 64 }
     ensures { OnOk result (AddsTimes (bag_of values.old) (bag_of values.new) pair.0 pair.1) }
@@ -213,7 +217,23 @@ fn merge_pair(alloc: Global, values: &mut Values, pair: (i64, u64)) -> Result<()
     if pair.1 == 0 {
         return Ok(());
     }
+    if pair.1 <= SPLIT
+        && let Values::Narrow(_) = values
+    {
+        return merge_times(alloc, values, pair);
+    }
     add_value(alloc, values, pair.0, pair.1)
+}
+
+// Adds a number as often as its pair says, one by one.
+fn merge_times(alloc: Global, values: &mut Values, pair: (i64, u64)) -> Result<(), AllocError>
+    requires { size_of (bag_of values.old) + pair.1 < 2 ^ 64 }
+    ensures { OnOk result (AddsTimes (bag_of values.old) (bag_of values.new) pair.0 pair.1) }
+{
+    for _time in 0..pair.1 {
+        add_value(alloc, values, pair.0, 1)?;
+    }
+    Ok(())
 }
 
 // Adds the numbers of pairs.

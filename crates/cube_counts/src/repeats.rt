@@ -18,12 +18,15 @@ pub fn is_repetitive<T, F: Fn(&T) -> i64>(items: &[T], number_of: F) -> bool
         .all(|item| is_frequent(items, &number_of, number_of(item)))
 }
 
+// It counts them all: that takes less time than to stop at the last that is needed.
 fn is_frequent<T, F: Fn(&T) -> i64>(items: &[T], number_of: &F, value: i64) -> bool
     requires { F.IsAlwaysCallable number_of.now }
 {
-    items
-        .iter()
-        .filter(|item| number_of(item) == value)
-        .nth(OFTEN - 1)
-        .is_some()
+    let mut count = 0usize;
+    for item in items {
+        if number_of(item) == value {
+            count += 1;
+        }
+    }
+    count >= OFTEN
 }
