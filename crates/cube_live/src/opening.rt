@@ -1,7 +1,6 @@
 //! The opening of a session: all feeds are taken to their ends before its first record.
 ghost use Rattle.std.specs.Prelude.{◌≡◌, ◌≤◌, ◌++◌, ◌∷◌, [], map, replicate, vec_len, IfOk, IfErr, OnOk, OnErr};
 ghost use Rattle.cube_core.specs.Arrival.{Arrivals};
-ghost use Rattle.cube_core.specs.Run.{AreGood};
 ghost use Rattle.cube_feeders.specs.FeedingAll.{ExplainsFeeding};
 ghost use Rattle.cube_live.specs.Live.{LiveStandsAt};
 ghost use Rattle.cube_live.specs.Opening.{OpeningStandsAt, OpeningView, OpensOver};

@@ -6,7 +6,7 @@ ghost use Rattle.std.specs.Prelude.{Result};
 ghost use Rattle.cube_core.specs.Items.{field_at};
 ghost use Rattle.cube_core.specs.Query.{Says, place_of};
 ghost use Rattle.cube_core.specs.declared.query.QueryFault.{QueryFault as TheFault};
-ghost use Rattle.cube_live.specs.Request.{cell_and_dimension, drill_by, drill_request, of_width, question_of, refusals_asked, refusals_by, request_of, roll_up_request, slice_request};
+ghost use Rattle.cube_live.specs.Request.{cell_and_dimension, drill_by, drill_request, of_width, question_of, refusals_asked, request_of, roll_up_request, slice_request};
 
 use crate::number::{count_of, source_of};
 use crate::request::{Question, Request, RequestFault};

@@ -1,12 +1,12 @@
 //! The texts of rows that questions are answered by.
-ghost use Rattle.std.specs.Prelude.{◌≡◌, ◌<◌, [], ◌∷◌, List, length, take, All, IfOk, IfSome, IfErr};
+ghost use Rattle.std.specs.Prelude.{◌≡◌, ◌<◌, [], ◌∷◌, List, length, IfOk};
 ghost use Rattle.cube_core.specs.Cube.{AreRows};
 ghost use Rattle.cube_core.specs.Printed.{IsPrinted};
 ghost use Rattle.cube_core.specs.Query.{AreRowsWhere, drills_down, matches, rolled_up};
 ghost use Rattle.cube_core.specs.declared.fact.Fact.{Fact};
 ghost use Rattle.cube_core.specs.declared.key.Row.{Row as TheRow};
 ghost use Rattle.cube_cells.specs.Cube.{IsCubeOf};
-ghost use Rattle.cube_cells.specs.Rows.{AreRowsInOrder, IsRowOver};
+ghost use Rattle.cube_cells.specs.Rows.{AreRowsInOrder};
 ghost use Rattle.cube_engine.specs.Ledger.{LedgerView, all_facts};
 ghost use Rattle.cube_engine.specs.Parted.{ArePartsWith};
 ghost use Rattle.cube_live.specs.Live.{CanAsk};

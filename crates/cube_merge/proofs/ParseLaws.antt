@@ -1,12 +1,11 @@
 -- How a line with a comma in place of its end is read, field by field.
-use Rattle.std.proofs.Common.{◌≡◌, ◌++◌, ◌+◌, ◌-◌, ◌*◌, ◌/◌, ◌%◌, ◌^◌, ◌<◌, ◌≤◌, ◌∷◌, [], ℕ, ℤ, Bool, true, false, List, Option, Some, None, IfSome, ◌⊎◌, inl, inr, length, map, take, drop, get_or, set, refl, sym, ap, ◌∙◌, append_assoc, length-append, arith, decimal, codes}
-use Rattle.std.specs.List.{list_any}
+use Rattle.std.proofs.Common.{◌≡◌, ◌++◌, ◌+◌, ◌-◌, ◌*◌, ◌/◌, ◌%◌, ◌^◌, ◌<◌, ◌≤◌, ◌∷◌, [], ℕ, true, false, List, Option, Some, None, IfSome, ◌⊎◌, inl, inr, length, map, take, drop, get_or, set, refl, sym, ap, ◌∙◌, append_assoc, length-append, arith, decimal}
 use Rattle.std.proofs.lemmas.Fmt.{decimal_digit, decimal_step_wide}
 use Rattle.std.proofs.lemmas.Grind.{flat_map-append}
 use Rattle.std.proofs.lemmas.List.{append-nil, drop_more, map-append, map-set, take-append-drop, take_more, take_more_set, take_rest, set-get_or}
 use Rattle.std.proofs.lemmas.List.Folds.{list_any-append}
 use Rattle.std.proofs.Math.Seq.{take-append_seam}
-use Rattle.csv.specs.Writing.{default_writer, escaped, field_text, needs_byte, needs_quotes}
+use Rattle.csv.specs.Writing.{default_writer, escaped, needs_byte, needs_quotes}
 use Rattle.csv.proofs.WriteFacts.{escaped-append, escaped-other}
 use Rattle.cube_core.specs.Text.{answer_text, coord_text, grouping_text, row_fields}
 use Rattle.cube_core.specs.declared.key.Coord.{Coord}

@@ -1,7 +1,5 @@
 -- Which of many inputs has the least key, where rows above a bound needn't be looked at (this project's choice).
 use Rattle.std.specs.Prelude.{◌≡◌, ◌<◌, ℕ, Bool, true, false, List, Option, Some, None, get_or, length}
-use Rattle.std.specs.declared.cmp.Ordering.TheVariants.{Less}
-use Rattle.cube_core.specs.Order.{key_cmp}
 use Rattle.cube_core.specs.declared.key.Key.{Key}
 use Rattle.cube_core.specs.declared.key.Row.{Row}
 use Rattle.cube_merge.specs.Merging.{InputView, IsBelow, IsNotBelow, nothing_left}

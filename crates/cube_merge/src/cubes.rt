@@ -1,5 +1,5 @@
 //! The merge of printed cubes from readers into a writer.
-ghost use Rattle.std.specs.Prelude.{◌≡◌, ◌<◌, ◌≤◌, ◌+◌, ◌++◌, [], ℕ, List, Some, true, false, IfErr, IfOk, IfSome, OnOk, length, map, get_or};
+ghost use Rattle.std.specs.Prelude.{◌≡◌, ◌<◌, ◌≤◌, ◌+◌, ◌++◌, ℕ, List, Some, true, false, IfErr, IfOk, IfSome, OnOk, length, map, get_or};
 ghost use Rattle.std.specs.List.{AllZip};
 ghost use Rattle.std.specs.Io.KnownBytes.{Appends};
 ghost use Rattle.cube_merge.specs.Front.{AreAbove, AreUnused, IsInFront};

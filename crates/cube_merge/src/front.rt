@@ -2,11 +2,11 @@
 //!
 //! Where there are many, the rows of most are far from being next. A bound tells them apart: it is the key of some row, and
 //! rows above it stand behind, where nobody looks at them until all those in front of the bound are merged.
-ghost use Rattle.std.specs.Prelude.{◌≡◌, ◌≤◌, ◌<◌, ◌+◌, [], IfOk, IfSome, OnOk, Some, false, get_or, length, true};
+ghost use Rattle.std.specs.Prelude.{◌≡◌, ◌<◌, ◌+◌, [], IfOk, IfSome, OnOk, Some, false, get_or, length, true};
 ghost use Rattle.std.specs.Ordering.{is_lt};
 ghost use Rattle.cube_core.specs.Order.{key_cmp};
 ghost use Rattle.cube_merge.specs.Front.{AreAbove, IsInFront, IsLeastIn};
-ghost use Rattle.cube_merge.specs.Merging.{IsBelow, IsLeastSoFar, nothing_left};
+ghost use Rattle.cube_merge.specs.Merging.{IsBelow, IsLeastSoFar};
 
 use crate::input::Input;
 use cube_core::{Key, Row, Sequence};

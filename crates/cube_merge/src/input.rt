@@ -1,5 +1,5 @@
 //! An input of a merge: a printed cube that is read line by line.
-ghost use Rattle.std.specs.Prelude.{◌≡◌, [], Contains, IfErr, IfOk, IfSome, OnOk, true, false, None, Some, option_map};
+ghost use Rattle.std.specs.Prelude.{◌≡◌, Contains, IfErr, IfOk, IfSome, OnOk, true, false, None, Some, option_map};
 ghost use Rattle.std.specs.List.{list_all};
 ghost use Rattle.std.specs.Io.KnownBytes.{Consumes};
 ghost use Rattle.cube_core.specs.GroupingSet.{is_all_coord};

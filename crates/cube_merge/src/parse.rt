@@ -2,7 +2,7 @@
 //! line.
 //!
 //! A line is read with a comma in place of its end, so that one follows each field.
-ghost use Rattle.std.specs.Prelude.{◌≡◌, ◌<◌, ◌≤◌, ◌^◌, ◌+◌, ◌∷◌, [], ◌++◌, decimal, drop, get_or, length, map, take, true, false, if◌then◌else◌, IfOk, IfSome, FitsSigned};
+ghost use Rattle.std.specs.Prelude.{◌≡◌, ◌<◌, ◌≤◌, ◌+◌, ◌∷◌, [], ◌++◌, decimal, drop, get_or, length, map, take, true, false, if◌then◌else◌, IfOk, IfSome, FitsSigned};
 ghost use Rattle.std.specs.Fmt.{signed_decimal};
 ghost use Rattle.std.specs.Int.{w128};
 ghost use Rattle.csv.specs.Writing.{default_writer, escaped, needs_quotes};

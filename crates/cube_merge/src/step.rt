@@ -1,5 +1,5 @@
 //! One step of a merge: the rows with the least key make one more row.
-ghost use Rattle.std.specs.Prelude.{◌≡◌, ◌<◌, ◌≤◌, ◌+◌, ◌++◌, ℕ, List, IfErr, OnOk, length, get_or, option_map, option_to_list, true};
+ghost use Rattle.std.specs.Prelude.{◌≡◌, ◌<◌, ◌+◌, ◌++◌, ℕ, List, IfErr, OnOk, length, get_or, option_map, option_to_list, true};
 ghost use Rattle.std.specs.List.{AllZip};
 ghost use Rattle.std.specs.Ordering.{is_eq};
 ghost use Rattle.cube_core.specs.Order.{key_cmp};

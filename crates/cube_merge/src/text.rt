@@ -4,7 +4,7 @@
 //! line again and again in the same memory, so this is printing to a plain vector.
 ghost use Rattle.std.specs.Prelude.{◌≡◌, ◌≤◌, ◌∷◌, [], ◌++◌, codes, decimal, length, map, true, false, ℕ, List, OnOk};
 ghost use Rattle.std.specs.Fmt.{signed_decimal};
-ghost use Rattle.csv.specs.Writing.{default_writer, escaped, field_text, needs_byte, needs_quotes};
+ghost use Rattle.csv.specs.Writing.{default_writer, escaped, needs_byte, needs_quotes};
 ghost use Rattle.cube_core.specs.Text.{answer_text, coord_text, grouping_text, header_fields, grouping_name, line};
 ghost use Rattle.cube_core.specs.declared.key.Key.{Key};
 ghost use Rattle.cube_merge.specs.Parts.{AddsParts, key_parts};

@@ -1,5 +1,5 @@
 -- From ledgers that have taken good feeds to what a question over feeds promises.
-use Rattle.std.proofs.Common.{◌≡◌, ◌≤◌, ◌∙◌, ℕ, List, [], ◌∷◌, length, map, get_or, refl, sym, ap, subst, arith}
+use Rattle.std.proofs.Common.{◌≡◌, ◌≤◌, ◌∙◌, ℕ, List, [], ◌∷◌, length, map, get_or, sym, ap, subst, arith}
 use Rattle.std.specs.Prelude.{Option}
 use Rattle.std.specs.List.{AllZip}
 use Rattle.std.proofs.lemmas.List.FromFn.{length-map-range_with_len}
@@ -11,7 +11,6 @@ use Rattle.cube_core.specs.Run.{Told, AreItemsOf}
 use Rattle.cube_core.specs.Sources.{SurviveTogether}
 use Rattle.cube_core.specs.declared.change.Item.{Item}
 use Rattle.cube_core.specs.declared.change.Refusal.{Refusal}
-use Rattle.cube_core.specs.declared.fact.Fact.{Fact}
 use Rattle.cube_engine.specs.Build.{BuildsWhole}
 use Rattle.cube_engine.specs.Builder.{BuilderView, StandsAt}
 use Rattle.cube_engine.specs.Ledger.{AccountStandsAt, LedgerView, LedgerStandsAt, all_facts}

@@ -1,20 +1,18 @@
 //! The session whose changes are kept in a store, and the questions over what a store has.
 ghost use Rattle.std.specs.Prelude.{◌≡◌, ◌≤◌, length, vec_len, IfOk};
-ghost use Rattle.cube_core.specs.Shard.{IsShard};
+ghost use Rattle.cube_tool.specs.Answering.{Fits};
 ghost use Rattle.cube_words.specs.CommandLine.{HasRoom, LiveHasRoom};
 
 use crate::watch::Watch;
-use crate::{
-    Asked, drawn_key, open_feed, open_schema, question_of, schema_of, session_threads, settings_of,
-};
-use cube_core::Shard;
+use crate::{Asked, open_feed, open_schema, question_of, session_threads, settings_of};
+use cube_core::Schema;
 use cube_journal::FeedNote;
 use cube_progress::{Counts, FeedReader, Output, Phase, Progress};
 use cube_store::{NoteFault, StoreFault, Unknown, Wary, close, note_of, open_files, open_path};
 use cube_tool::RunFault;
-use cube_tool::command::{Failure, Status};
+use cube_tool::command::{Failure, Question, Status};
 use cube_words::{LiveWords, RunWords};
-use sqlite_disk::Start;
+use sqlite_disk::{Disk, Start};
 use sqlite_std_file::FileFrom;
 use sqlite_store::FileStore;
 use std::fs::{self, File};
@@ -23,7 +21,7 @@ use std::io::{Seek, Stderr};
 use std::sync::Wait;
 use std::thread::Threads;
 use std::time::Clock;
-use stored_tool::{StoredFailure, ask_stored, live_stored};
+use stored_tool::{StoredFailure, StoredFeeds, ask_stored, live_stored};
 
 /// Serves the records of standard input over a cube that is kept right, and keeps their changes in the store at a path.
 pub(crate) fn serve_kept<T: Threads + Wait + Clock + Sync>(
@@ -31,44 +29,51 @@ pub(crate) fn serve_kept<T: Threads + Wait + Clock + Sync>(
     threads: &T,
     words: &LiveWords,
     path: &str,
-    shard: Shard,
+    schema: &Schema,
     progress: &Progress<'_, T, Stderr>,
 ) -> Result<Status, StoredFailure>
     requires room { LiveHasRoom words.now }
-    requires shard { IsShard shard }
+    requires feeds { length words.now.feeds.items ≤ 64 }
 {
+    let (readers, notes) = noted_feeds(rt, words.schema, &words.feeds, progress.counts())?;
     if words.wary {
-        return serve_over(rt, threads, words, path, Wary, shard, progress);
+        let store = open_store(rt, path, Wary)?;
+        let feeds = StoredFeeds {
+            readers,
+            notes,
+            store,
+        };
+        return serve_over(rt, threads, words, schema, feeds, progress);
     }
-    serve_over(rt, threads, words, path, Unknown, shard, progress)
+    let store = open_store(rt, path, Unknown)?;
+    let feeds = StoredFeeds {
+        readers,
+        notes,
+        store,
+    };
+    serve_over(rt, threads, words, schema, feeds, progress)
 }
 
-/// The same, by what is supposed of a torn write.
-fn serve_over<T: Threads + Wait + Clock + Sync, S: Start>(
+/// The same, over the feeds and the store that were opened.
+fn serve_over<T: Threads + Wait + Clock + Sync, D: Disk + Drop>(
     rt: &HostRuntime,
     threads: &T,
     words: &LiveWords,
-    path: &str,
-    start: S,
-    shard: Shard,
+    schema: &Schema,
+    feeds: StoredFeeds<FeedReader<'_, File>, D>,
     progress: &Progress<'_, T, Stderr>,
 ) -> Result<Status, StoredFailure>
     requires room { LiveHasRoom words.now }
-    requires shard { IsShard shard }
+    requires feeds { vec_len feeds.readers ≤ 64 }
 {
-    let alloc = rt.alloc();
-    let schema = schema_of(rt, words.schema, &words.feeds, 0)?.with_shard(shard);
-    let schema = schema.with_hash_key(drawn_key(rt)?);
-    let (feeds, notes) = noted_feeds(rt, words.schema, &words.feeds, progress.counts())?;
-    let store = open_store(rt, path, start)?;
     let wanted = session_threads(threads, words.threads);
     let settings = settings_of(threads, words.ring, 1, wanted);
-    progress.begin(Phase::Reading { feeds: feeds.len() });
+    progress.begin(Phase::Reading {
+        feeds: feeds.readers.len(),
+    });
     let watch = Watch { progress };
-    let (input, out) = (rt.stdin(), &mut rt.stdout());
-    match live_stored(
-        threads, alloc, &schema, feeds, &settings, &watch, store, &notes, input, out,
-    ) {
+    let (alloc, input, out) = (rt.alloc(), rt.stdin(), &mut rt.stdout());
+    match live_stored(threads, alloc, schema, feeds, &settings, &watch, input, out) {
         Ok((status, journal)) => {
             close(journal.into_journal())?;
             Ok(status)
@@ -80,51 +85,69 @@ fn serve_over<T: Threads + Wait + Clock + Sync, S: Start>(
     }
 }
 
-/// Answers a command with feeds over these and the changes in the store at a path.
+/// Answers a command with feeds over these and the changes in the store at a path. The log isn't copied into the file, so that
+/// both stay as they are.
 pub(crate) fn ask_kept<T: Threads + Wait + Clock + Sync>(
     rt: &HostRuntime,
     threads: &T,
     words: &RunWords,
     path: &str,
-    shard: Shard,
+    schema: &Schema,
     asked: Asked,
     progress: &Progress<'_, T, Stderr>,
 ) -> Result<Status, StoredFailure>
     requires room { HasRoom words.now }
-    requires shard { IsShard shard }
+    requires feeds { length words.now.feeds.items ≤ 64 }
 {
+    let question = question_of(rt, schema, asked)?;
+    let (readers, notes) = noted_feeds(rt, words.schema, &words.feeds, progress.counts())?;
     if words.wary {
-        return ask_over(rt, threads, words, path, Wary, shard, asked, progress);
+        let store = open_made_store(rt, path, Wary)?;
+        let feeds = StoredFeeds {
+            readers,
+            notes,
+            store,
+        };
+        return ask_over(rt, threads, words, schema, feeds, question, progress);
     }
-    ask_over(rt, threads, words, path, Unknown, shard, asked, progress)
+    let store = open_made_store(rt, path, Unknown)?;
+    let feeds = StoredFeeds {
+        readers,
+        notes,
+        store,
+    };
+    ask_over(rt, threads, words, schema, feeds, question, progress)
 }
 
-/// The same, by what is supposed of a torn write. The log isn't copied into the file, so that both stay as they are.
-fn ask_over<T: Threads + Wait + Clock + Sync, S: Start>(
+/// The same, over the feeds and the store that were opened.
+fn ask_over<T: Threads + Wait + Clock + Sync, D: Disk + Drop>(
     rt: &HostRuntime,
     threads: &T,
     words: &RunWords,
-    path: &str,
-    start: S,
-    shard: Shard,
-    asked: Asked,
+    schema: &Schema,
+    feeds: StoredFeeds<FeedReader<'_, File>, D>,
+    question: Question,
     progress: &Progress<'_, T, Stderr>,
 ) -> Result<Status, StoredFailure>
     requires room { HasRoom words.now }
-    requires shard { IsShard shard }
+    requires feeds { vec_len feeds.readers ≤ 64 }
+    requires question { Fits schema.now question }
 {
-    let alloc = rt.alloc();
-    let schema = schema_of(rt, words.schema, &words.feeds, 1)?.with_shard(shard);
-    let schema = schema.with_hash_key(drawn_key(rt)?);
-    let question = question_of(rt, &schema, asked)?;
-    let (feeds, notes) = noted_feeds(rt, words.schema, &words.feeds, progress.counts())?;
-    let store = open_made_store(rt, path, start)?;
     let settings = settings_of(threads, words.ring, 1, words.threads);
-    progress.begin(Phase::Reading { feeds: feeds.len() });
+    progress.begin(Phase::Reading {
+        feeds: feeds.readers.len(),
+    });
     let watch = Watch { progress };
     let out = &mut Output::new(rt.stdout(), progress);
     match ask_stored(
-        threads, alloc, &schema, feeds, &settings, question, &watch, store, &notes, out,
+        threads,
+        rt.alloc(),
+        schema,
+        feeds,
+        &settings,
+        question,
+        &watch,
+        out,
     ) {
         Ok((status, store)) => {
             drop(store.close());

@@ -266,9 +266,10 @@ fn answer<T: Threads + Wait + Clock + Sync>(
     requires room { HasRoom words.now }
     requires shard { IsShard shard }
 {
+    let schema = schema_of(rt, words.schema, &words.feeds, 1, shard)?;
     match words.store {
-        Some(path) => ask_kept(rt, threads, words, path, shard, asked, progress),
-        None => Ok(answer_fed(rt, threads, words, shard, asked, progress)?),
+        Some(path) => ask_kept(rt, threads, words, path, &schema, asked, progress),
+        None => Ok(answer_fed(rt, threads, words, &schema, asked, progress)?),
     }
 }
 
@@ -277,21 +278,18 @@ fn answer_fed<T: Threads + Wait + Clock + Sync>(
     rt: &HostRuntime,
     threads: &T,
     words: &RunWords,
-    shard: Shard,
+    schema: &Schema,
     asked: Asked,
     progress: &Progress<'_, T, Stderr>,
 ) -> Result<Status, Failure>
     requires room { HasRoom words.now }
-    requires feeds { 1 ≤ length words.now.feeds.items }
-    requires shard { IsShard shard }
+    requires feeds { (1 ≤ length words.now.feeds.items) × (length words.now.feeds.items ≤ 64) }
 {
-    let schema = schema_of(rt, words.schema, &words.feeds, 1)?.with_shard(shard);
-    let schema = schema.with_hash_key(drawn_key(rt)?);
     if let Asked::Cube { is_partial: true } = asked {
         let partial = schema.partial(rt.alloc())?;
         return answer_under(rt, threads, words, &partial, asked, progress);
     }
-    answer_under(rt, threads, words, &schema, asked, progress)
+    answer_under(rt, threads, words, schema, asked, progress)
 }
 
 /// The share of the feeds that is read: the whole, where the words leave it out, and none where they name no share.
@@ -402,9 +400,10 @@ fn serve<T: Threads + Wait + Clock + Sync>(
     requires room { LiveHasRoom words.now }
     requires shard { IsShard shard }
 {
+    let schema = schema_of(rt, words.schema, &words.feeds, 0, shard)?;
     match words.store {
-        Some(path) => serve_kept(rt, threads, words, path, shard, progress),
-        None => Ok(serve_fed(rt, threads, words, shard, progress)?),
+        Some(path) => serve_kept(rt, threads, words, path, &schema, progress),
+        None => Ok(serve_fed(rt, threads, words, &schema, progress)?),
     }
 }
 
@@ -413,23 +412,19 @@ fn serve_fed<T: Threads + Wait + Clock + Sync>(
     rt: &HostRuntime,
     threads: &T,
     words: &LiveWords,
-    shard: Shard,
+    schema: &Schema,
     progress: &Progress<'_, T, Stderr>,
 ) -> Result<Status, Failure>
     requires room { LiveHasRoom words.now }
-    requires shard { IsShard shard }
+    requires feeds { length words.now.feeds.items ≤ 64 }
 {
-    let schema = schema_of(rt, words.schema, &words.feeds, 0)?.with_shard(shard);
-    let schema = schema.with_hash_key(drawn_key(rt)?);
     let feeds = open_feeds(rt, &words.feeds, progress.counts())?;
     let wanted = session_threads(threads, words.threads);
     let settings = settings_of(threads, words.ring, 1, wanted);
     progress.begin(Phase::Reading { feeds: feeds.len() });
     let watch = Watch { progress };
     let (alloc, input, out) = (rt.alloc(), rt.stdin(), &mut rt.stdout());
-    live(
-        threads, alloc, &schema, feeds, &settings, &watch, input, out,
-    )
+    live(threads, alloc, schema, feeds, &settings, &watch, input, out)
 }
 
 /// Merges printed cubes.
@@ -501,14 +496,16 @@ fn processors<T: Threads>(rt: &T) -> usize
     }
 }
 
-/// The schema of a command with feeds, once it is seen that there are at most 64 feeds, and that standard input is named
-/// so many times at most.
+/// The schema of a command with feeds, which takes their lines of a shard and hashes under a key of the run's own, once it is
+/// seen that there are at most 64 feeds, and that standard input is named so many times at most.
 fn schema_of(
     rt: &HostRuntime,
     path: &str,
     feeds: &[&str],
     most_inputs: usize,
+    shard: Shard,
 ) -> Result<Schema, Failure>
+    requires { IsShard shard }
     ensures { IfOk result (λ _. length feeds.now ≤ 64) }
 {
     if feeds.len() > 64 {
@@ -517,7 +514,8 @@ fn schema_of(
     if inputs_among(path, feeds) > most_inputs {
         return Err(Failure::InputTaken);
     }
-    read_schema(rt.alloc(), open_schema(rt, path)?)
+    let schema = read_schema(rt.alloc(), open_schema(rt, path)?)?;
+    Ok(schema.with_shard(shard).with_hash_key(drawn_key(rt)?))
 }
 
 /// How many of a schema's path and other paths name standard input.

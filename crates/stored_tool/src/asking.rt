@@ -10,9 +10,9 @@ ghost use Rattle.cube_tool.specs.Run.{OfFeeds};
 ghost use Rattle.stored_tool.specs.Asking.{AnsweredAt, AnswersStored, FailsAt, LeavesOfText, LeavesSame};
 
 use crate::failure::StoredFailure;
+use crate::feeds::StoredFeeds;
 use crate::question::answer_over;
 use cube_core::Schema;
-use cube_journal::FeedNote;
 use cube_live::{Live, open_unsettled};
 use cube_stored::{StoreJournal, resume};
 use cube_threads::{Gate, Settings};
@@ -27,8 +27,7 @@ use std::sync::Wait;
 use std::thread::Threads;
 
 /// Writes the answer to a question over at most 64 feeds, which are taken first, each read on a thread of its own, and the
-/// changes of an open store, which are taken after them in their order. The notes are those on the schema's file and on
-/// each feed, in this order.
+/// changes of an open store, which are taken after them in their order.
 ///
 /// The text is that which a session over the feeds and the store answers before it takes a change, and the status tells
 /// whether a line of a feed or a stored change was refused. The store, which is given back in any case, has the changes
@@ -44,28 +43,32 @@ pub fn ask_stored<
     rt: &T,
     alloc: Global,
     schema: &Schema,
-    readers: Vec<R>,
+    feeds: StoredFeeds<R, D>,
     settings: &Settings,
     question: Question,
     watcher: &G,
-    store: FileStore<D>,
-    notes: &[FeedNote],
     out: &mut W,
 ) -> Result<(Status, FileStore<D>), (StoredFailure, FileStore<D>)>
-    requires readers { vec_len readers ≤ 64 }
+    requires readers { vec_len feeds.readers ≤ 64 }
     requires question { Fits schema.now question }
-    ensures ok { IfOk result (λ r. IsClean (view r.1) → OfFeeds schema.now (map R.Read.remaining readers.items) (λ feeds.
-        AnswersStored question schema.now feeds (view store) (entries_of notes.now) r.0 (view r.1) (recovers r.1)
+    ensures ok { IfOk result (λ r. IsClean (view r.1) → OfFeeds schema.now (map R.Read.remaining feeds.readers.items) (λ items.
+        AnswersStored question schema.now items (view feeds.store) (entries_of feeds.notes.items) r.0 (view r.1) (recovers r.1)
         (W.contents out.old) (W.contents out.new))) }
-    ensures written { IfErr result (λ e. IsClean (view e.1) → LeavesOfText question schema.now (map R.Read.remaining readers.items)
-        (view store) e.0 (W.contents out.old) (W.contents out.new)) }
-    ensures unharmed { IfErr result (λ e. IsClean (view e.1) → LeavesSame (view store) (entries_of notes.now) (recovers store) (recovers e.1)) }
+    ensures written { IfErr result (λ e. IsClean (view e.1) → LeavesOfText question schema.now (map R.Read.remaining feeds.readers.items)
+        (view feeds.store) e.0 (W.contents out.old) (W.contents out.new)) }
+    ensures unharmed { IfErr result (λ e. IsClean (view e.1) → LeavesSame (view feeds.store) (entries_of feeds.notes.items)
+        (recovers feeds.store) (recovers e.1)) }
 {
+    let StoredFeeds {
+        readers,
+        notes,
+        store,
+    } = feeds;
     let live = match open_unsettled(rt, alloc, schema, readers, settings, watcher) {
         Ok(live) => live,
         Err(fault) => return Err((StoredFailure::Failure(Failure::from(fault)), store)),
     };
-    match resume(alloc, live, store, notes) {
+    match resume(alloc, live, store, &notes) {
         Ok((live, journal)) => match ask_resumed(rt, live, journal, question, watcher, out) {
             Ok(ended) => Ok(ended),
             Err((failure, store)) => Err((StoredFailure::Failure(failure), store)),

@@ -7,9 +7,11 @@
 
 mod asking;
 mod failure;
+mod feeds;
 mod question;
 mod session;
 
 pub use asking::ask_stored;
 pub use failure::StoredFailure;
+pub use feeds::StoredFeeds;
 pub use session::live_stored;

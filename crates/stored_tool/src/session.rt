@@ -8,9 +8,9 @@ ghost use Rattle.cube_tool.specs.Run.{OfFeeds};
 ghost use Rattle.stored_tool.specs.Stored.{FailsToServeStored, ServesStoredOver};
 
 use crate::failure::StoredFailure;
+use crate::feeds::StoredFeeds;
 use cube_core::Schema;
 use cube_feed::RecordReader;
-use cube_journal::FeedNote;
 use cube_live::open_unsettled;
 use cube_stored::{StoreJournal, serve_stored};
 use cube_threads::{Gate, Settings};
@@ -24,7 +24,7 @@ use std::sync::Wait;
 use std::thread::Threads;
 
 /// Takes at most 64 feeds as `live` does, then the changes of an open store in their order, numbered on from the records of
-/// the feeds, and then the records of the input. The notes are those on the schema's file and on each feed, in this order.
+/// the feeds, and then the records of the input.
 ///
 /// Each change is in the store before it is applied, and certain before a byte of a later answer goes out. The answers are
 /// those of a session over the feeds in which the stored changes stood before the first record. What is left of the store in
@@ -40,28 +40,31 @@ pub fn live_stored<
     rt: &T,
     alloc: Global,
     schema: &Schema,
-    readers: Vec<R>,
+    feeds: StoredFeeds<R, D>,
     settings: &Settings,
     watcher: &G,
-    store: FileStore<D>,
-    notes: &[FeedNote],
     input: I,
     out: &mut W,
 ) -> Result<(Status, StoreJournal<FileStore<D>>), (StoredFailure, FileStore<D>)>
-    requires { vec_len readers ≤ 64 }
-    ensures ok { IfOk result (λ r. IsClean (view r.1.store) → OfFeeds schema.now (map R.Read.remaining readers.items) (λ feeds.
-        IfSome (option_map records_of (I.remaining input)) (λ records. ServesStoredOver schema.now feeds (view store) (entries_of notes.now) records r.0
+    requires { vec_len feeds.readers ≤ 64 }
+    ensures ok { IfOk result (λ r. IsClean (view r.1.store) → OfFeeds schema.now (map R.Read.remaining feeds.readers.items) (λ items.
+        IfSome (option_map records_of (I.remaining input)) (λ records. ServesStoredOver schema.now items (view feeds.store) (entries_of feeds.notes.items) records r.0
         (view r.1.store) (recovers r.1.store) (W.contents out.old) (W.contents out.new)))) }
-    ensures err { IfErr result (λ e. IsClean (view e.1) → FailsToServeStored schema.now (map R.Read.remaining readers.items)
-        (option_map records_of (I.remaining input)) (view store) (entries_of notes.now) (recovers store) (recovers e.1) e.0 (W.contents out.old) (W.contents out.new)) }
+    ensures err { IfErr result (λ e. IsClean (view e.1) → FailsToServeStored schema.now (map R.Read.remaining feeds.readers.items)
+        (option_map records_of (I.remaining input)) (view feeds.store) (entries_of feeds.notes.items) (recovers feeds.store) (recovers e.1) e.0 (W.contents out.old) (W.contents out.new)) }
 {
+    let StoredFeeds {
+        readers,
+        notes,
+        store,
+    } = feeds;
     let live = match open_unsettled(rt, alloc, schema, readers, settings, watcher) {
         Ok(live) => live,
         Err(fault) => return Err((StoredFailure::Failure(Failure::from(fault)), store)),
     };
     watcher.begins_serving();
     let mut records = RecordReader::new(alloc, input);
-    match serve_stored(rt, alloc, live, store, notes, &mut records, out) {
+    match serve_stored(rt, alloc, live, store, &notes, &mut records, out) {
         Ok((live, journal)) => Ok((status_after(live.ledger()), journal)),
         Err((fault, store)) => Err((StoredFailure::from(fault), store)),
     }

@@ -4,7 +4,7 @@ ghost use Rattle.cube_core.specs.Query.{pattern_of, place_of};
 ghost use Rattle.cube_tool.specs.Command.{AnswersQuery, answer_of, key_of_word};
 
 use crate::command::failure::Failure;
-use cube_core::{Key, Pattern, QueryFault, Schema};
+use cube_core::{Key, Pattern, Schema};
 use std::alloc::Global;
 
 /// The pattern that a word spells; the failure is its fault, or want of memory.

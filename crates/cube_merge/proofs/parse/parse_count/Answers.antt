@@ -1,4 +1,4 @@
-use Rattle.std.proofs.Common.{◌≡◌, ◌∙◌, ◌<◌, ◌∷◌, rules, ap}
+use Rattle.std.proofs.Common.{◌≡◌, ◌∙◌, ◌∷◌, rules}
 use Rattle.cube_merge.proofs.ParseLaws.{digit-begins, if_some-weaker}
 use Rattle.cube_merge.proofs.parse.parse_count.Goals as goal
 

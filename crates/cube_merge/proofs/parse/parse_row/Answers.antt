@@ -1,4 +1,4 @@
-use Rattle.std.proofs.Common.{◌≡◌, ◌++◌, ◌-◌, ◌∙◌, ap, refl, sym, rules, arith, length, map}
+use Rattle.std.proofs.Common.{◌≡◌, ◌++◌, ◌-◌, ◌∙◌, ap, refl, sym, rules, map}
 use Rattle.cube_core.specs.Text.{coord_text, grouping_text}
 use Rattle.cube_core.specs.declared.key.Row.{Row}
 use Rattle.cube_merge.specs.Parts.{parts}

@@ -1,7 +1,7 @@
-use Rattle.std.proofs.Common.{◌≡◌, ◌∙◌, [], Some, rules, ap, get_or, length}
+use Rattle.std.proofs.Common.{◌≡◌, ◌∙◌, Some, rules, ap, get_or, length}
 use Rattle.std.specs.declared.cmp.Ordering.TheVariants.{Less}
 use Rattle.cube_core.specs.Order.{key_cmp}
-use Rattle.cube_merge.specs.Front.{AreAbove, IsLeastIn}
+use Rattle.cube_merge.specs.Front.{IsLeastIn}
 use Rattle.cube_merge.specs.Merging.{nothing_left}
 use Rattle.cube_merge.proofs.LeastLaws.{AreAbove-lower, IsLeastSoFar-front, at_place, is_lt-not}
 use Rattle.cube_merge.proofs.front.Front.least_in_front.Goals as goal
