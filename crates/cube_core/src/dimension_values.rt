@@ -77,11 +77,8 @@ impl DimensionValues {
     pub fn from_slice(alloc: Global, values: &[Option<Text>]) -> Result<DimensionValues, AllocError>
         ensures { IfOk result (λ copies. copies ≡ values.now) }
     {
-        let mut copies = DimensionValues::new(alloc);
-        for value in values {
-            copies.push(text_of(value))?;
-        }
-        Ok(copies)
+        let texts: Vec<Option<&str>> = values.iter().map(|value| text_of(value)).collect(alloc)?;
+        DimensionValues::of_texts(alloc, &texts)
     }
 
     /// The values of a slice of texts, which are copied; the only error is want of memory.
