@@ -247,7 +247,7 @@ impl Schema {
     /// Whether the schema keeps the grouping set of a key with one more dimension, counted from 0, that is ALL in it: the
     /// set that a drill-down along the dimension leads to. The key has a coordinate for each dimension.
     #[tactic(auto, using(crate::proofs::AncestorLaws::mask_of_coords_byte))]
-    pub fn keeps_below(&self, key: &Key, dim: usize) -> bool
+    pub(crate) fn keeps_below(&self, key: &Key, dim: usize) -> bool
         requires width { length key.now.coords ≡ length self.now.dimensions }
         requires dim { dim < length self.now.dimensions }
         ensures { result ≡ is_among (mask_of key.now + 2 ^ dim) self.now.grouping_sets }
