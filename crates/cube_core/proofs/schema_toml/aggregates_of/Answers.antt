@@ -16,7 +16,7 @@ list_all-more test xs i d inside passes = rw (add-one, drop-cons xs i d, passes)
 pub loop-text-preserved : goal.loop-text-preserved
 loop-text-preserved c =
     let spelled : Some c.in-Some.aggregate ≡ aggregate_spelled c.args.measures.now (get_or c.args.texts.now c.loop-text.text-index c.text-item.result) =
-        sym c.in-Some.is ∙ c.aggregate_spelled.ensures ∙ ap (aggregate_spelled c.args.measures.now) (c.as_str.ensures.value ∙ c.text-item.is) in
+    sym c.in-Some.is ∙ c.aggregate_spelled.ensures ∙ ap (aggregate_spelled c.args.measures.now) (c.as_str.ensures.value ∙ c.text-item.is) in
     record {
       found = rw c.in_ok-push.ensures.items
           (filter_map-more _ c.args.texts.now c.loop-text.text-index c.text-item.result c.in-Some.aggregate c.loop-text.aggregates.items c.loop-text-test.true spelled
