@@ -1,6 +1,7 @@
 use Rattle.std.proofs.Common.{◌≡◌, ℕ, ◌+◌, ◌<◌, Bool, true, List, [], ◌∷◌, ◌++◌, length, get_or, drop, drop-cons, add-one, suc, Option, Some, is_some, refl, sym, ap, ◌∙◌, append_assoc}
 use Rattle.std.specs.List.{filter_map, list_all}
-use Rattle.cube_core.specs.SchemaDocument.{aggregate_spelled}
+use Rattle.std.proofs.lemmas.List.{at_drop_all, append-nil}
+use Rattle.cube_core.specs.SchemaDocument.{aggregate_spelled, are_spellings}
 use Rattle.cube_core.proofs.schema_toml.aggregates_of.Goals as goal
 
 -- what is found so far, and what is to come, with one more item
@@ -24,3 +25,14 @@ loop-text-preserved c =
       spelled = list_all-more _ c.args.texts.now c.loop-text.text-index c.text-item.result c.loop-text-test.true (sym (ap is_some spelled))
           ∙ c.loop-text.invariant.spelled;
     }
+
+pub loop-text-init : goal.loop-text-init
+loop-text-init c = record { found = rw c.in_ok-aggregates.ensures.items refl; spelled = refl }
+
+pub returns : goal.returns
+returns c = (
+  sym (append-nil c.loop-text.aggregates.items)
+      ∙ sym (at_drop_all (λ rest. c.loop-text.aggregates.items ++ filter_map (aggregate_spelled c.args.measures.now) rest) c.args.texts.now c.loop-text.text-index c.loop-text-test.false)
+      ∙ c.loop-text.invariant.found,
+  sym c.loop-text.invariant.spelled ∙ at_drop_all (are_spellings c.args.measures.now) c.args.texts.now c.loop-text.text-index c.loop-text-test.false,
+)
