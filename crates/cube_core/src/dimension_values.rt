@@ -77,11 +77,8 @@ impl DimensionValues {
     pub fn from_slice(alloc: Global, values: &[Option<Text>]) -> Result<DimensionValues, AllocError>
         ensures { IfOk result (λ copies. copies ≡ values.now) }
     {
-        let mut copies = DimensionValues::new(alloc);
-        for value in values {
-            copies.push(text_of(value))?;
-        }
-        Ok(copies)
+        let texts: Vec<Option<&str>> = values.iter().map(|value| text_of(value)).collect(alloc)?;
+        DimensionValues::of_texts(alloc, &texts)
     }
 
     /// The values of a slice of texts, which are copied; the only error is want of memory.
@@ -252,13 +249,14 @@ fn span_of(block: &[u8], start: usize, end: usize) -> Span<u8>
     }
 }
 
-// Where a text begins and ends that is put at the end of a block; None past the largest `usize`.
-fn places_after(block: &[u8], text: &str) -> Option<(usize, usize)>
+// Where a text begins and ends that is put at the end of a block; None past the largest `u32`.
+fn places_after(block: &[u8], text: &str) -> Option<(u32, u32)>
     ensures { IfSome result (λ places.
         (places.0 ≡ length block.now) × (places.1 ≡ length block.now + length text.now)) }
 {
-    let end = block.len().checked_add(text.len())?;
-    Some((block.len(), end))
+    let start = u32::try_from(block.len()).ok()?;
+    let len = u32::try_from(text.len()).ok()?;
+    Some((start, start.checked_add(len)?))
 }
 
 // Adds a value on the heap; the only error is want of memory.
@@ -276,9 +274,6 @@ fn add_on_heap(
         return Ok(());
     };
     let Some((start, end)) = places_after(block.as_slice(), text) else {
-        return Err(AllocError);
-    };
-    let (Ok(start), Ok(end)) = (u32::try_from(start), u32::try_from(end)) else {
         return Err(AllocError);
     };
     block.extend_from_slice(text.as_bytes())?;

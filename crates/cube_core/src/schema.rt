@@ -108,14 +108,9 @@ impl Schema {
     pub fn sample(alloc: Global) -> Result<Schema, AllocError>
         ensures { IfOk result (λ schema. schema ≡ sample_layout) }
     {
-        let dimensions = vec![in alloc;
-            Text::from_str(alloc, "region")?,
-            Text::from_str(alloc, "kind")?,
-        ]?;
-        let measures = vec![in alloc; Text::from_str(alloc, "amount")?]?;
         Ok(Schema {
-            dimensions,
-            measures,
+            dimensions: texts_from_strs(alloc, &["region", "kind"])?,
+            measures: texts_from_strs(alloc, &["amount"])?,
             aggregates: sample_aggregates(alloc)?,
             aggregate_texts: sample_aggregate_texts(alloc)?,
             max_records: u32::MAX,
@@ -247,7 +242,7 @@ impl Schema {
     /// Whether the schema keeps the grouping set of a key with one more dimension, counted from 0, that is ALL in it: the
     /// set that a drill-down along the dimension leads to. The key has a coordinate for each dimension.
     #[tactic(auto, using(crate::proofs::AncestorLaws::mask_of_coords_byte))]
-    pub fn keeps_below(&self, key: &Key, dim: usize) -> bool
+    pub(crate) fn keeps_below(&self, key: &Key, dim: usize) -> bool
         requires width { length key.now.coords ≡ length self.now.dimensions }
         requires dim { dim < length self.now.dimensions }
         ensures { result ≡ is_among (mask_of key.now + 2 ^ dim) self.now.grouping_sets }
@@ -374,19 +369,18 @@ fn sample_aggregates(alloc: Global) -> Result<Vec<Agg>, AllocError>
 fn sample_sets(alloc: Global) -> Result<Vec<u8>, AllocError>
     ensures { IfOk result (λ sets. sets.items ≡ sample_layout.grouping_sets) }
 {
-    let sets = vec![in alloc; 0, 1, 2, 3]?;
-    Ok(sets)
+    Vec::from_slice(alloc, &[0, 1, 2, 3])
 }
 
 fn sample_aggregate_texts(alloc: Global) -> Result<Vec<Text>, AllocError>
     ensures { IfOk result (λ texts. texts.items ≡ sample_layout.aggregate_texts) }
 {
-    let texts = vec![in alloc;
-        Text::from_str(alloc, "count(*)")?,
-        Text::from_str(alloc, "sum(amount)")?,
-        Text::from_str(alloc, "min(amount)")?,
-        Text::from_str(alloc, "max(amount)")?,
-        Text::from_str(alloc, "avg(amount)")?,
-    ]?;
-    Ok(texts)
+    let texts = [
+        "count(*)",
+        "sum(amount)",
+        "min(amount)",
+        "max(amount)",
+        "avg(amount)",
+    ];
+    texts_from_strs(alloc, &texts)
 }

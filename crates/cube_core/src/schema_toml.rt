@@ -1,5 +1,5 @@
 //! Reads a schema from a TOML document, and makes one of its parts.
-ghost use Rattle.std.specs.Prelude.{◌≡◌, ◌≢◌, ◌≤◌, ℕ, List, ◌++◌, codes, false, true, IfOk, IfSome, MatchOption, option_map, position};
+ghost use Rattle.std.specs.Prelude.{◌≡◌, ◌≢◌, ◌≤◌, ℕ, List, ◌++◌, codes, false, true, Option, Some, Err, IfOk, IfErr, IfSome, MatchOption, option_map, position};
 ghost use Rattle.std.specs.Str.{bytes_eq};
 ghost use Rattle.std.specs.List.{list_all, filter_map};
 ghost use Rattle.toml.specs.Data.{get_member};
@@ -83,24 +83,13 @@ pub(crate) fn schema_of_parts(
       version = version;
     }) result }
 {
-    if !is_some_up_to(&dimensions, 8) {
-        return Err(SchemaFault::Dimensions);
-    }
-    if !is_some_up_to(&measures, 4) {
-        return Err(SchemaFault::Measures);
-    }
-    if !are_lawful_names(&dimensions, &measures) {
-        return Err(SchemaFault::Name);
-    }
-    if !is_some_up_to(&aggregate_texts, 16) {
-        return Err(SchemaFault::Aggregates);
-    }
-    let Some(aggregates) = aggregates_of(alloc, &measures, &aggregate_texts)? else {
-        return Err(SchemaFault::Aggregates);
-    };
-    let Some(max_records) = max_records else {
-        return Err(SchemaFault::MaxRecords);
-    };
+    let (aggregates, max_records) = lawful_aggregates(
+        alloc,
+        &dimensions,
+        &measures,
+        &aggregate_texts,
+        max_records,
+    )?;
     let Some(grouping_sets) = sets_of_grouping(alloc, &dimensions, grouping)? else {
         return Err(SchemaFault::Grouping);
     };
@@ -118,6 +107,51 @@ pub(crate) fn schema_of_parts(
         shard: Shard::whole(),
         hash_key: HashKey::Known,
     })
+}
+
+/// The aggregates and the number of data records of a schema of such names, or the first fault of these parts.
+fn lawful_aggregates(
+    alloc: Global,
+    dimensions: &[Text],
+    measures: &[Text],
+    aggregate_texts: &[Text],
+    max_records: Option<u32>,
+) -> Result<(Vec<Agg>, u32), SchemaFault>
+    ensures faults { (sets : Option (List ℕ)) (version : Option ℕ) → IfErr result (λ fault. AnswersParts (record {
+      dimensions = dimensions.now;
+      measures = measures.now;
+      spellings = aggregate_texts.now;
+      max_records = max_records;
+      grouping_sets = sets;
+      version = version;
+    }) (Err fault)) }
+    ensures numbers { IfOk result (λ _. (is_some_up_to 8 dimensions.now ≡ true)
+        × (is_some_up_to 4 measures.now ≡ true) × (is_some_up_to 16 aggregate_texts.now ≡ true)) }
+    ensures names { IfOk result (λ _. are_lawful_names (dimensions.now ++ measures.now) ≡ true) }
+    ensures aggregates { IfOk result (λ found.
+        (found.0.items ≡ filter_map (aggregate_spelled measures.now) aggregate_texts.now)
+        × (are_spellings measures.now aggregate_texts.now ≡ true)) }
+    ensures records { IfOk result (λ found. max_records ≡ Some found.1) }
+{
+    if !is_some_up_to(dimensions, 8) {
+        return Err(SchemaFault::Dimensions);
+    }
+    if !is_some_up_to(measures, 4) {
+        return Err(SchemaFault::Measures);
+    }
+    if !are_lawful_names(dimensions, measures) {
+        return Err(SchemaFault::Name);
+    }
+    if !is_some_up_to(aggregate_texts, 16) {
+        return Err(SchemaFault::Aggregates);
+    }
+    let Some(aggregates) = aggregates_of(alloc, measures, aggregate_texts)? else {
+        return Err(SchemaFault::Aggregates);
+    };
+    let Some(max_records) = max_records else {
+        return Err(SchemaFault::MaxRecords);
+    };
+    Ok((aggregates, max_records))
 }
 
 /// Whether a document has only keys that a schema has.
