@@ -29,7 +29,9 @@ coded_at-append (e ∷ a) b k = elim (cases_Bool (same_codes k e.0)) [
   | inr other ↦ rw other (coded_at-append a b k)
 ]
 
-pub cell_at-append : (dictionaries : Dictionaries) (a b : CodedCells) (key : Key) → cell_at (decoded dictionaries (a ++ b)) key ≡ either (cell_at (decoded dictionaries a) key) (cell_at (decoded dictionaries b) key)
+pub cell_at-append : (dictionaries : Dictionaries) (a b : CodedCells) (key : Key)
+    → cell_at (decoded dictionaries (a ++ b)) key
+    ≡ either (cell_at (decoded dictionaries a) key) (cell_at (decoded dictionaries b) key)
 cell_at-append dictionaries [] b key = refl
 cell_at-append dictionaries (e ∷ a) b key = elim (cases_Bool (eq_by_cmp key_cmp key (key_at dictionaries e.0.codes))) [
   | inl same ↦ rw same refl
@@ -41,27 +43,35 @@ is_some-either None b = refl
 is_some-either (Some t) b = refl
 
 -- codes that no cell has differ from those of each
-keys_of-coded_at : (k : Codes) (cells : CodedCells) → coded_at cells k ≡ None → AllByRecursion (λ y. same_codes k y ≡ false) (keys_of cells)
+keys_of-coded_at : (k : Codes) (cells : CodedCells) → coded_at cells k ≡ None
+    → AllByRecursion (λ y. same_codes k y ≡ false) (keys_of cells)
 keys_of-coded_at k [] none = tt
 keys_of-coded_at k (e ∷ cells) none = elim (cases_Bool (same_codes k e.0)) [
   | inl same ↦ cc (sym (rw same at none))
   | inr other ↦ (other, keys_of-coded_at k cells (rw other at none))
 ]
 
-AllByRecursion-keys_of_append : (k : Codes) (a b : CodedCells) → AllByRecursion (λ y. same_codes k y ≡ false) (keys_of a) → AllByRecursion (λ y. same_codes k y ≡ false) (keys_of b) → AllByRecursion (λ y. same_codes k y ≡ false) (keys_of (a ++ b))
+AllByRecursion-keys_of_append : (k : Codes) (a b : CodedCells)
+    → AllByRecursion (λ y. same_codes k y ≡ false) (keys_of a)
+    → AllByRecursion (λ y. same_codes k y ≡ false) (keys_of b)
+    → AllByRecursion (λ y. same_codes k y ≡ false) (keys_of (a ++ b))
 AllByRecursion-keys_of_append k [] b in_a in_b = in_b
 AllByRecursion-keys_of_append k (e ∷ a) b in_a in_b = (in_a.0, AllByRecursion-keys_of_append k a b in_a.1 in_b)
 
-pub AreApart-append : (a b : CodedCells) → AreApart a → AreApart b → All (λ cell. coded_at b cell.0 ≡ None) a → AreApart (a ++ b)
+pub AreApart-append : (a b : CodedCells) → AreApart a → AreApart b → All (λ cell. coded_at b cell.0 ≡ None) a
+    → AreApart (a ++ b)
 AreApart-append [] b of_a of_b none = of_b
 AreApart-append (e ∷ a) b of_a of_b none =
     let P : Codes × Tally → Type 0 = λ cell. coded_at b cell.0 ≡ None in
     IsDistinct-cons same_codes e.0 (keys_of (a ++ b))
-    (AllByRecursion-keys_of_append e.0 a b (IsDistinct-head same_codes e.0 (keys_of a) of_a) (keys_of-coded_at e.0 b (All-head P e a none)))
+    (AllByRecursion-keys_of_append e.0 a b (IsDistinct-head same_codes e.0 (keys_of a) of_a)
+    (keys_of-coded_at e.0 b (All-head P e a none)))
     (AreApart-append a b (IsDistinct-tail same_codes e.0 (keys_of a) of_a) of_b (All-tail P e a none))
 
 -- the codes of the first cells and of the last differ too
-AllByRecursion-keys_of_append_left : (k : Codes) (a b : CodedCells) → AllByRecursion (λ y. same_codes k y ≡ false) (keys_of (a ++ b)) → AllByRecursion (λ y. same_codes k y ≡ false) (keys_of a)
+AllByRecursion-keys_of_append_left : (k : Codes) (a b : CodedCells)
+    → AllByRecursion (λ y. same_codes k y ≡ false) (keys_of (a ++ b))
+    → AllByRecursion (λ y. same_codes k y ≡ false) (keys_of a)
 AllByRecursion-keys_of_append_left k [] b all = tt
 AllByRecursion-keys_of_append_left k (e ∷ a) b all = (all.0, AllByRecursion-keys_of_append_left k a b all.1)
 
@@ -78,4 +88,5 @@ AreApart-append_left (e ∷ a) b apart =
 
 pub AreApart-append_right : (a b : CodedCells) → AreApart (a ++ b) → AreApart b
 AreApart-append_right [] b apart = apart
-AreApart-append_right (e ∷ a) b apart = AreApart-append_right a b (IsDistinct-tail same_codes e.0 (keys_of (a ++ b)) apart)
+AreApart-append_right (e ∷ a) b apart =
+    AreApart-append_right a b (IsDistinct-tail same_codes e.0 (keys_of (a ++ b)) apart)

@@ -1,5 +1,6 @@
 -- Laws of the new cube: its kept sets, its empty dictionaries, and its one cell or none.
-use Rattle.std.proofs.Common.{◌≡◌, ℕ, zero, suc, ◌^◌, ◌<◌, ◌≤◌, ◌==◌, List, [], ◌∷◌, Bool, true, false, cond, ◌||◌, refl, sym, ap, ◌∙◌, subst, arith, inl, inr, length, replicate, Some, None, if◌then◌else◌}
+use Rattle.std.proofs.Common.{◌≡◌, ℕ, zero, suc, ◌^◌, ◌<◌, ◌≤◌, ◌==◌, List, [], ◌∷◌, Bool, true, false, cond, ◌||◌}
+use Rattle.std.proofs.Common.{refl, sym, ap, ◌∙◌, subst, arith, inl, inr, length, replicate, Some, None, if◌then◌else◌}
 use Rattle.std.specs.Prelude.{All, IfSome, is_some}
 use Rattle.std.specs.Cmp.{eq_by_cmp_equiv}
 use Rattle.std.specs.List.{list_all, IsDistinct}
@@ -22,7 +23,8 @@ use Rattle.cube_core.proofs.CellKeyLaws.{key_cmp-is_total}
 use Rattle.cube_core.proofs.KeyOrderLaws.{key_cmp-IsTotalOrder}
 use Rattle.cube_core.proofs.SetLaws.{part_of-below}
 use Rattle.cube_cells.specs.Codes.{Dictionaries, IsDictionary, are_codes, coords_at, key_at, all_code}
-use Rattle.cube_cells.specs.Coded.{CodedCells, IsCodedCell, IsCoded, AreNewCells, same_codes, coded_at, decoded, lattice_of, total_codes}
+use Rattle.cube_cells.specs.Coded.{CodedCells, IsCodedCell, IsCoded, AreNewCells, same_codes, coded_at, decoded}
+use Rattle.cube_cells.specs.Coded.{lattice_of, total_codes}
 use Rattle.cube_cells.specs.Cube.{IsLattice, IsCubeOf, IsNewLattice, cell_at}
 use Rattle.cube_cells.specs.Tally.{Tally, IsTallyOf}
 use Rattle.cube_cells.specs.declared.cube.codes.Codes.{Codes}
@@ -40,49 +42,64 @@ are_codes-replicate zero k room = alls k where
 are_codes-replicate (suc n) zero room = absurd (omega (arith, room))
 are_codes-replicate (suc n) (suc k) room = are_codes-replicate n k (omega (arith, room))
 
-coords_at-replicate : (n k : ℕ) → n ≤ k → (list_all is_all_coord (coords_at (replicate n []) (replicate k all_code)) ≡ true) × (length (coords_at (replicate n []) (replicate k all_code)) ≡ n)
+coords_at-replicate : (n k : ℕ) → n ≤ k
+    → (list_all is_all_coord (coords_at (replicate n []) (replicate k all_code)) ≡ true)
+    × (length (coords_at (replicate n []) (replicate k all_code)) ≡ n)
 coords_at-replicate zero k room = (refl, refl)
 coords_at-replicate (suc n) zero room = absurd (omega (arith, room))
-coords_at-replicate (suc n) (suc k) room = let rest = coords_at-replicate n k (omega (arith, room)) in (rest.0, ap suc rest.1)
+coords_at-replicate (suc n) (suc k) room =
+    let rest = coords_at-replicate n k (omega (arith, room)) in
+    (rest.0, ap suc rest.1)
 
 -- the key of the grand total is in the empty set
 pub mask_of-is_total : (n : ℕ) (key : Key) → is_total n key ≡ true → mask_of key ≡ 0
-mask_of-is_total n key total = mask_of_coords-All key.coords (and_parts (length key.coords == n) (list_all is_all_coord key.coords) total).1
+mask_of-is_total n key total =
+    mask_of_coords-All key.coords (and_parts (length key.coords == n) (list_all is_all_coord key.coords) total).1
 
 -- whether a key is that of the grand total
-key_at-is_total : (n : ℕ) (key : Key) → n ≤ 8 → eq_by_cmp key_cmp key (key_at (replicate n []) (replicate 8 all_code)) ≡ is_total n key
+key_at-is_total : (n : ℕ) (key : Key) → n ≤ 8
+    → eq_by_cmp key_cmp key (key_at (replicate n []) (replicate 8 all_code)) ≡ is_total n key
 key_at-is_total n key room =
     let total = key_at (replicate n []) (replicate 8 all_code) in
     let coords = coords_at-replicate n 8 room in
-    let is : is_total n total ≡ true = and_from (length total.coords == n) (list_all is_all_coord total.coords) (eq-eqb (length total.coords) n coords.1) coords.0 in
+    let is : is_total n total ≡ true = and_from (length total.coords == n) (list_all is_all_coord total.coords)
+    (eq-eqb (length total.coords) n coords.1) coords.0 in
     (eq_by_cmp_equiv key_cmp-IsTotalOrder).symm key total ∙ key_cmp-is_total total key n is
 
 -- ---- the new cube
 -- its cells are those of CUBE of nothing
 is_cell-none : (sets : List ℕ) (n : ℕ) (key : Key) → is_among 0 sets ≡ false → false ≡ is_cell sets n [] key
 is_cell-none sets n key none = elim (cases_Bool (is_total n key)) [
-  | inl total ↦ sym (and_left (is_among (mask_of key) sets) (is_total n key || false) (ap (λ (s : ℕ). is_among s sets) (mask_of-is_total n key total) ∙ none))
-  | inr other ↦ sym (and_right (is_among (mask_of key) sets) (is_total n key || false) (ap (λ (b : Bool). b || false) other))
+  | inl total ↦ sym (and_left (is_among (mask_of key) sets) (is_total n key || false)
+      (ap (λ (s : ℕ). is_among s sets) (mask_of-is_total n key total) ∙ none))
+  | inr other ↦
+      sym (and_right (is_among (mask_of key) sets) (is_total n key || false) (ap (λ (b : Bool). b || false) other))
 ]
 
-is_cell-is_total : (sets : List ℕ) (n : ℕ) (key : Key) (t : Tally) → is_among 0 sets ≡ true → is_some (cond (is_total n key) (Some t) None) ≡ is_cell sets n [] key
+is_cell-is_total : (sets : List ℕ) (n : ℕ) (key : Key) (t : Tally) → is_among 0 sets ≡ true
+    → is_some (cond (is_total n key) (Some t) None) ≡ is_cell sets n [] key
 is_cell-is_total sets n key t kept = elim (cases_Bool (is_total n key)) [
   | inl total ↦ rw (total, mask_of-is_total n key total, kept) refl
   | inr other ↦ rw other (sym (and_right (is_among (mask_of key) sets) false refl))
 ]
 
-pub IsCubeOf-AreNewCells : (schema : Layout) (sets : List ℕ) (cells : CodedCells) → length schema.dimensions ≤ 8 → AreNewCells (is_among 0 sets) (length schema.measures) cells → IsCubeOf (lattice_of schema sets 0 (replicate (length schema.dimensions) []) cells) []
+pub IsCubeOf-AreNewCells : (schema : Layout) (sets : List ℕ) (cells : CodedCells) → length schema.dimensions ≤ 8
+    → AreNewCells (is_among 0 sets) (length schema.measures) cells
+    → IsCubeOf (lattice_of schema sets 0 (replicate (length schema.dimensions) []) cells) []
 IsCubeOf-AreNewCells schema sets cells room new = elim (cases_Bool (is_among 0 sets)) [
   | inl kept ↦
       let one = new.total kept in
-      let at : (key : Key) → cell_at (decoded (replicate n []) cells) key ≡ cond (is_total n key) (Some one.0) None = λ key. ap (λ (cs : CodedCells). cell_at (decoded (replicate n []) cs) key) one.1 ∙ ap (λ (b : Bool). cond b (Some one.0) None) (key_at-is_total n key room) in
+      let at : (key : Key) → cell_at (decoded (replicate n []) cells) key ≡ cond (is_total n key) (Some one.0) None =
+      λ key. ap (λ (cs : CodedCells). cell_at (decoded (replicate n []) cs) key) one.1
+      ∙ ap (λ (b : Bool). cond b (Some one.0) None) (key_at-is_total n key room) in
       record {
         keys = λ key. ap is_some (at key) ∙ is_cell-is_total sets n key one.0 kept;
         tallies = λ key. rw (at key) (if_total (is_total n key) one.0 one.2);
         widths = λ key. rw (at key) (if_width (is_total n key) one.0 one.3);
       }
   | inr none ↦
-      let at : (key : Key) → cell_at (decoded (replicate n []) cells) key ≡ None = λ key. ap (λ (cs : CodedCells). cell_at (decoded (replicate n []) cs) key) (new.none none) in
+      let at : (key : Key) → cell_at (decoded (replicate n []) cells) key ≡ None =
+      λ key. ap (λ (cs : CodedCells). cell_at (decoded (replicate n []) cs) key) (new.none none) in
       record {
         keys = λ key. ap is_some (at key) ∙ is_cell-none sets n key none;
         tallies = λ key. rw (at key) tt;
@@ -96,7 +113,8 @@ IsCubeOf-AreNewCells schema sets cells room new = elim (cases_Bool (is_among 0 s
   if_total true t is = is
   if_total false t is = tt
 
-  if_width : (b : Bool) (t : Tally) → length t.bags ≡ length schema.measures → IfSome (cond b (Some t) None) (λ s. length s.bags ≡ length schema.measures)
+  if_width : (b : Bool) (t : Tally) → length t.bags ≡ length schema.measures
+      → IfSome (cond b (Some t) None) (λ s. length s.bags ≡ length schema.measures)
   if_width true t is = is
   if_width false t is = tt
 
@@ -110,10 +128,15 @@ unfolding IsDistinct
 AreApart-nil = tt
 
 -- it is a cube
-pub IsCoded-AreNewCells : (schema : Layout) (sets : List ℕ) (cells : CodedCells) → IsSchema schema → All (λ set. set < 2 ^ length schema.dimensions) sets → IsStrictlySortedBy nat_cmp sets → AreNewCells (is_among 0 sets) (length schema.measures) cells → IsCoded schema sets 0 (replicate (length schema.dimensions) []) cells
+pub IsCoded-AreNewCells : (schema : Layout) (sets : List ℕ) (cells : CodedCells) → IsSchema schema
+    → All (λ set. set < 2 ^ length schema.dimensions) sets → IsStrictlySortedBy nat_cmp sets
+    → AreNewCells (is_among 0 sets) (length schema.measures) cells
+    → IsCoded schema sets 0 (replicate (length schema.dimensions) []) cells
 IsCoded-AreNewCells schema sets cells is within ascending new = elim (cases_Bool (is_among 0 sets)) [
-  | inl kept ↦ let one = new.total kept in subst (λ (cs : CodedCells). IsCoded schema sets 0 (replicate n []) cs) (sym one.1) (with_total one.0 one.2 one.3)
-  | inr none ↦ subst (λ (cs : CodedCells). IsCoded schema sets 0 (replicate n []) cs) (sym (new.none none)) (without none)
+  | inl kept ↦ let one = new.total kept in
+      subst (λ (cs : CodedCells). IsCoded schema sets 0 (replicate n []) cs) (sym one.1) (with_total one.0 one.2 one.3)
+  | inr none ↦
+      subst (λ (cs : CodedCells). IsCoded schema sets 0 (replicate n []) cs) (sym (new.none none)) (without none)
 ] where
   n : ℕ
   n = length schema.dimensions
@@ -129,14 +152,26 @@ IsCoded-AreNewCells schema sets cells is within ascending new = elim (cases_Bool
   texts : All IsDictionary (replicate n [])
   texts = All-replicate IsDictionary n [] (record { distinct = refl; few = omega arith })
 
-  with_total : (t : Tally) → IsTallyOf [] t → length t.bags ≡ length schema.measures → IsCoded schema sets 0 (replicate n []) ((total_codes, t) ∷ [])
+  with_total : (t : Tally) → IsTallyOf [] t → length t.bags ≡ length schema.measures
+      → IsCoded schema sets 0 (replicate n []) ((total_codes, t) ∷ [])
   with_total t empty width = record {
     lattice = lattice ((total_codes, t) ∷ []);
     texts = texts;
     distinct = AreApart-one t;
-    each = All-cons (IsCodedCell (replicate n []) (length schema.measures)) (total_codes, t) [] (record { codes = are_codes-replicate n 8 is.dimensions_at_most; eight = refl; width = width; some = refl }) (All-nil (IsCodedCell (replicate n []) (length schema.measures)));
+    each = All-cons (IsCodedCell (replicate n []) (length schema.measures)) (total_codes, t) []
+        (record {
+          codes = are_codes-replicate n 8 is.dimensions_at_most;
+          eight = refl;
+          width = width;
+          some = refl;
+        }) (All-nil (IsCodedCell (replicate n []) (length schema.measures)));
     total = λ kept. refl;
-    counts = λ set among. omega (arith, no_count (mask_of (key_at (replicate n []) total_codes.codes) == set) t empty, sum_by-cons (λ (cell : Key × Tally). if mask_of cell.0 == set then cell.1.facts else 0) (key_at (replicate n []) total_codes.codes, t) []);
+    counts = λ set among. omega (
+      arith,
+      no_count (mask_of (key_at (replicate n []) total_codes.codes) == set) t empty,
+      sum_by-cons (λ (cell : Key × Tally). if mask_of cell.0 == set then cell.1.facts else 0)
+          (key_at (replicate n []) total_codes.codes, t) [],
+    );
   } where
     no_count : (b : Bool) (s : Tally) → IsTallyOf [] s → (if b then s.facts else 0) ≡ 0
     no_count true s e = e.count
@@ -153,24 +188,30 @@ IsCoded-AreNewCells schema sets cells is within ascending new = elim (cases_Bool
   }
 
 -- and new
-pub IsNewLattice-lattice_of : (schema : Layout) (sets : List ℕ) (cells : CodedCells) → IsNewLattice schema sets (lattice_of schema sets 0 (replicate (length schema.dimensions) []) cells)
+pub IsNewLattice-lattice_of : (schema : Layout) (sets : List ℕ) (cells : CodedCells)
+    → IsNewLattice schema sets (lattice_of schema sets 0 (replicate (length schema.dimensions) []) cells)
 IsNewLattice-lattice_of schema sets cells = record {
   schema_is = refl;
   sets_are = refl;
   no_facts = refl;
   no_texts = λ d. elim (cases_lt d (length schema.dimensions)) [
     | inl inside ↦ get_or-replicate {A = List (List ℕ)} (length schema.dimensions) d [] [] inside
-    | inr past ↦ get_or_past (replicate (length schema.dimensions) []) d [] (omega (arith, past, length-replicate {A = List (List ℕ)} (length schema.dimensions) []))
+    | inr past ↦ get_or_past (replicate (length schema.dimensions) []) d []
+        (omega (arith, past, length-replicate {A = List (List ℕ)} (length schema.dimensions) []))
   ];
 }
 
 -- ---- the new cells
 -- none where the grand total isn't kept
-pub AreNewCells-nil : (has_total : Bool) (measures : ℕ) (cells : CodedCells) → has_total ≡ false → cells ≡ [] → AreNewCells has_total measures cells
-AreNewCells-nil has_total measures cells none empty = record { none = λ _. empty; total = λ kept. absurd (both_ways has_total none kept) }
+pub AreNewCells-nil : (has_total : Bool) (measures : ℕ) (cells : CodedCells) → has_total ≡ false → cells ≡ []
+    → AreNewCells has_total measures cells
+AreNewCells-nil has_total measures cells none empty =
+    record { none = λ _. empty; total = λ kept. absurd (both_ways has_total none kept) }
 
 -- a cell alone
-pub AreNewCells-one : (measures : ℕ) (cells : CodedCells) (codes : Codes) (t : Tally) → codes ≡ total_codes → length cells ≡ 1 → coded_at cells codes ≡ Some t → IsTallyOf [] t → length t.bags ≡ measures → AreNewCells true measures cells
+pub AreNewCells-one : (measures : ℕ) (cells : CodedCells) (codes : Codes) (t : Tally) → codes ≡ total_codes
+    → length cells ≡ 1 → coded_at cells codes ≡ Some t → IsTallyOf [] t → length t.bags ≡ measures
+    → AreNewCells true measures cells
 AreNewCells-one measures cells codes t total one found empty width = record {
   none = λ never. cc never;
   total = λ _. (t, alone cells one (subst (λ (k : Codes). coded_at cells k ≡ Some t) total found), empty, width);
@@ -193,7 +234,10 @@ pub record IsNewCube (schema : Layout) (sets : List ℕ) (dictionaries : Diction
   pub cube : IsCubeOf (lattice_of schema sets 0 dictionaries cells) []
   pub new : IsNewLattice schema sets (lattice_of schema sets 0 dictionaries cells)
 
-pub IsNewCube-AreNewCells : (schema : Layout) (sets : List ℕ) (dictionaries : Dictionaries) (total : Bool) (cells : CodedCells) → IsSchema schema → All (λ set. set < 2 ^ length schema.dimensions) sets → IsStrictlySortedBy nat_cmp sets → dictionaries ≡ replicate (length schema.dimensions) [] → total ≡ is_among 0 sets → AreNewCells total (length schema.measures) cells → IsNewCube schema sets dictionaries cells
+pub IsNewCube-AreNewCells : (schema : Layout) (sets : List ℕ) (dictionaries : Dictionaries) (total : Bool)
+    (cells : CodedCells) → IsSchema schema → All (λ set. set < 2 ^ length schema.dimensions) sets
+    → IsStrictlySortedBy nat_cmp sets → dictionaries ≡ replicate (length schema.dimensions) [] → total ≡ is_among 0 sets
+    → AreNewCells total (length schema.measures) cells → IsNewCube schema sets dictionaries cells
 IsNewCube-AreNewCells schema sets dictionaries total cells is within ascending texts_are total_is new =
     let as_kept = subst (λ (b : Bool). AreNewCells b (length schema.measures) cells) total_is new in
     record {
@@ -203,11 +247,16 @@ IsNewCube-AreNewCells schema sets dictionaries total cells is within ascending t
     }
 
 -- the sets of a part are grouping sets of the dimensions, in ascending order
-pub sets_of_part-below : (schema : Layout) (part of : ℕ) → IsSchema schema → All (λ set. set < 2 ^ length schema.dimensions) (sets_of_part part of schema.grouping_sets)
-sets_of_part-below schema part of is = All-filter (λ set. part_of of set == part) (λ set. set < 2 ^ length schema.dimensions) schema.grouping_sets is.sets_are_of_dimensions
+pub sets_of_part-below : (schema : Layout) (part of : ℕ) → IsSchema schema
+    → All (λ set. set < 2 ^ length schema.dimensions) (sets_of_part part of schema.grouping_sets)
+sets_of_part-below schema part of is = All-filter (λ set. part_of of set == part)
+    (λ set. set < 2 ^ length schema.dimensions) schema.grouping_sets is.sets_are_of_dimensions
 
-pub sets_of_part-IsStrictlySortedBy : (schema : Layout) (part of : ℕ) → IsSchema schema → IsStrictlySortedBy nat_cmp (sets_of_part part of schema.grouping_sets)
-sets_of_part-IsStrictlySortedBy schema part of is = IsStrictlySortedBy-filter nat_cmp (λ set. part_of of set == part) schema.grouping_sets (sorted_from_strictly_increasing schema.grouping_sets is.sets_are_ascending)
+pub sets_of_part-IsStrictlySortedBy : (schema : Layout) (part of : ℕ) → IsSchema schema
+    → IsStrictlySortedBy nat_cmp (sets_of_part part of schema.grouping_sets)
+sets_of_part-IsStrictlySortedBy schema part of is =
+    IsStrictlySortedBy-filter nat_cmp (λ set. part_of of set == part) schema.grouping_sets
+    (sorted_from_strictly_increasing schema.grouping_sets is.sets_are_ascending)
 
 -- one set is in order
 pub IsStrictlySortedBy-one : (set : ℕ) → IsStrictlySortedBy nat_cmp (set ∷ [])

@@ -1,5 +1,6 @@
 -- Laws of places: those of all levels, put behind each other.
-use Rattle.std.proofs.Common.{◌≡◌, ℕ, zero, suc, ◌+◌, ◌<◌, List, [], ◌∷◌, ◌++◌, refl, sym, ap, ◌∙◌, arith, length, map, get_or, take}
+use Rattle.std.proofs.Common.{◌≡◌, ℕ, zero, suc, ◌+◌, ◌<◌, List, [], ◌∷◌, ◌++◌, refl, sym, ap, ◌∙◌, arith, length, map}
+use Rattle.std.proofs.Common.{get_or, take}
 use Rattle.std.specs.Prelude.{IfOk, Result, Ok, filter}
 use Rattle.std.specs.Global.{Vec}
 use Rattle.std.specs.declared.alloc.AllocError.{AllocError}
@@ -31,17 +32,20 @@ ArePlacesOf-none ranks wants = record {
 }
 
 -- the places of some cells, and then of others
-pub ArePlacesOf-append : (ranks : List (List ℕ)) (wants : List Want) (some others : CodedCells) (first second : List Place)
+pub ArePlacesOf-append : (ranks : List (List ℕ)) (wants : List Want) (some others : CodedCells)
+    (first second : List Place)
     → ArePlacesOf ranks wants some first → ArePlacesOf ranks wants others second
     → ArePlacesOf ranks wants (some ++ others) (first ++ second)
 ArePlacesOf-append ranks wants some others first second of_some of_others =
     let is_wanted = λ (cell : Codes × Tally). are_wanted_codes wants cell.0.codes in
     record {
       cells_are = map-append (λ (place : Place). (place.codes.now, place.cell.now)) first second
-          ∙ ap (λ (cells : CodedCells). cells ++ map (λ (place : Place). (place.codes.now, place.cell.now)) second) of_some.cells_are
+          ∙ ap (λ (cells : CodedCells). cells ++ map (λ (place : Place). (place.codes.now, place.cell.now)) second)
+          of_some.cells_are
           ∙ ap (λ (cells : CodedCells). filter is_wanted some ++ cells) of_others.cells_are
           ∙ sym (filter-append is_wanted some others);
-      ranks_are = All-append (λ place. place.ranks ≡ ranks_of ranks place.codes.now.codes) first second of_some.ranks_are of_others.ranks_are;
+      ranks_are = All-append (λ place. place.ranks ≡ ranks_of ranks place.codes.now.codes)
+          first second of_some.ranks_are of_others.ranks_are;
     }
 
 level_at : (levels : List Level) (i : ℕ) → i < length levels → Level
@@ -57,7 +61,8 @@ ArePutTogether-none = record { of_levels = of_levels } where
   of_levels ranks wants [] are = ArePlacesOf-none ranks wants
   of_levels ranks wants (level ∷ levels) are = absurd (omega (arith, are.long))
 
-next : (made : List (Result (Vec Place) AllocError)) (places : List Place) (own : Vec Place) → ArePutTogether made places
+next : (made : List (Result (Vec Place) AllocError)) (places : List Place) (own : Vec Place)
+    → ArePutTogether made places
     → (ranks : List (List ℕ)) (wants : List Want) (levels : List Level)
     → AreMade (ArePlacesAt ranks wants levels) (length levels) (made ++ Ok own ∷ [])
     → ArePlacesOf ranks wants (cells_of levels) (places ++ own.items)
@@ -67,19 +72,27 @@ next made places own before ranks wants levels are =
     let inside : i < length levels = omega (arith, long) in
     let some : length (take i levels) ≡ i = length-take-le i levels (omega (arith, inside)) in
     let last : Level = level_at levels i inside in
-    let own_is : ArePlacesAt ranks wants levels i own = rw (get_or-append_seam made (Ok own) [] (Ok own)) at (are.each i (Ok own) inside) in
+    let own_is : ArePlacesAt ranks wants levels i own =
+    rw (get_or-append_seam made (Ok own) [] (Ok own)) at (are.each i (Ok own) inside) in
     let whole : cells_of levels ≡ cells_of (take i levels) ++ (get_or levels i last).cells.entries =
     sym (ap cells_of (take_all (i + 1) levels (omega (arith, long)))) ∙ cells_of-take_more levels i last inside in
-    rw whole (ArePlacesOf-append ranks wants (cells_of (take i levels)) (get_or levels i last).cells.entries places own.items
-    (before.of_levels ranks wants (take i levels) (record { long = sym some; each = λ k unused within. earlier k unused (omega (arith, within, some)) }))
+    rw whole (ArePlacesOf-append ranks wants (cells_of (take i levels))
+    (get_or levels i last).cells.entries places own.items
+    (before.of_levels ranks wants (take i levels)
+    (record { long = sym some; each = λ k unused within. earlier k unused (omega (arith, within, some)) }))
     (own_is last)) where
-      earlier : (k : ℕ) (unused : Result (Vec Place) AllocError) → k < length made → IfOk (get_or made k unused) (ArePlacesAt ranks wants (take (length made) levels) k)
+      earlier : (k : ℕ) (unused : Result (Vec Place) AllocError) → k < length made
+          → IfOk (get_or made k unused) (ArePlacesAt ranks wants (take (length made) levels) k)
       earlier k unused below =
-          IfOk-weaker (get_or made k unused) (ArePlacesAt ranks wants levels k) (ArePlacesAt ranks wants (take (length made) levels) k)
+          IfOk-weaker (get_or made k unused) (ArePlacesAt ranks wants levels k)
+          (ArePlacesAt ranks wants (take (length made) levels) k)
           (λ places at spare. rw (get_or-take (length made) levels k spare below) (at spare))
-          (rw (get_or_append_left made (Ok own ∷ []) unused k below) at (are.each k unused (omega (arith, below, are.long, length-append made (Ok own ∷ [])))))
+          (rw (get_or_append_left made (Ok own ∷ []) unused k below) at
+          (are.each k unused (omega (arith, below, are.long, length-append made (Ok own ∷ [])))))
 
 -- the places of a level more
-pub ArePutTogether-more : (made : List (Result (Vec Place) AllocError)) (places : List Place) (own : Vec Place) → ArePutTogether made places
+pub ArePutTogether-more : (made : List (Result (Vec Place) AllocError)) (places : List Place) (own : Vec Place)
+    → ArePutTogether made places
     → ArePutTogether (made ++ Ok own ∷ []) (places ++ own.items)
-ArePutTogether-more made places own before = record { of_levels = λ ranks wants levels are. next made places own before ranks wants levels are }
+ArePutTogether-more made places own before =
+    record { of_levels = λ ranks wants levels are. next made places own before ranks wants levels are }

@@ -1,6 +1,7 @@
 -- Laws of the sum of a bag.
 use Rattle.std.proofs.lemmas.Bool.{cases_lt}
-use Rattle.std.proofs.Common.{inl, inr, ◌≡◌, ℕ, suc, zero, ◌*◌, ◌^◌, ◌<◌, ◌≤◌, [], ◌∷◌, true, false, refl, arith, ap, sym, subst, FitsSigned}
+use Rattle.std.proofs.Common.{inl, inr, ◌≡◌, ℕ, suc, zero, ◌*◌, ◌^◌, ◌<◌, ◌≤◌, [], ◌∷◌, true, false, refl, arith, ap}
+use Rattle.std.proofs.Common.{sym, subst, FitsSigned}
 use Rattle.std.specs.Int.{w64, w128}
 use Rattle.std.proofs.Math.Nat.{mul-le-mul_left}
 use Rattle.std.specs.Ordering.{int_eq}
@@ -9,14 +10,24 @@ use Rattle.std.proofs.lemmas.Int.{ints}
 use borrow.Author.Differences.{up, down}
 use Rattle.cube_counts.specs.Bag.{Bag, weight_of, held_of, size_of, one_at, AddsBag, AddsOne}
 use Rattle.cube_cells.specs.Sum.{IsSumOf}
-use Rattle.cube_counts.proofs.BagLaws.{weight_of-bag, weight_of-cons, weight_of-one, weight_of-nothing, one_at-refl, one_at-distinct, int_eq-same}
+use Rattle.cube_counts.proofs.BagLaws.{weight_of-bag, weight_of-cons, weight_of-one, weight_of-nothing, one_at-refl}
+use Rattle.cube_counts.proofs.BagLaws.{one_at-distinct, int_eq-same}
 
 -- where each number that is held counts m at most
-weight_of-bound : (f : ℤ → ℕ) (m : ℕ) (bag : Bag) → ((x : ℤ) → 0 < held_of bag x → f x ≤ m) → weight_of f bag ≤ size_of bag * m
+weight_of-bound : (f : ℤ → ℕ) (m : ℕ) (bag : Bag) → ((x : ℤ) → 0 < held_of bag x → f x ≤ m)
+    → weight_of f bag ≤ size_of bag * m
 weight_of-bound f m [] h = omega arith
 weight_of-bound f m (e ∷ bag) h =
-    let rest : weight_of f bag ≤ size_of bag * m = weight_of-bound f m bag (λ x held. h x (omega (arith, weight_of-cons (one_at x) e bag))) in
-    omega (arith, weight_of-cons f e bag, ap (λ n. n * m) (weight_of-cons (λ _. 1) e bag), rest, counted e.1 (λ some. h e.0 (omega (arith, weight_of-cons (one_at e.0) e bag, ap (λ n. n * e.1) (one_at-refl e.0))))) where
+    let rest : weight_of f bag ≤ size_of bag * m =
+    weight_of-bound f m bag (λ x held. h x (omega (arith, weight_of-cons (one_at x) e bag))) in
+    omega (
+      arith,
+      weight_of-cons f e bag,
+      ap (λ n. n * m) (weight_of-cons (λ _. 1) e bag),
+      rest,
+      counted e.1
+          (λ some. h e.0 (omega (arith, weight_of-cons (one_at e.0) e bag, ap (λ n. n * e.1) (one_at-refl e.0)))),
+    ) where
       counted : (c : ℕ) → (0 < c → f e.0 ≤ m) → f e.0 * c ≤ m * c
       counted zero k = omega arith
       counted (suc c) k = omega (arith, mul-le-mul_left (suc c) (k (omega arith)))
@@ -24,12 +35,15 @@ weight_of-bound f m (e ∷ bag) h =
 -- a kept sum fits 128 bits
 pub IsSumOf-FitsSigned : (bag : Bag) (sum : ℤ) → IsSumOf bag sum → size_of bag < 2 ^ 64 → FitsSigned w128 sum
 IsSumOf-FitsSigned bag sum s few =
-    let over : weight_of up bag ≤ size_of bag * 2 ^ 63 = weight_of-bound up (2 ^ 63) bag (λ x held. let fits = s.fits x held in omega (arith, ints)) in
-    let under : weight_of down bag ≤ size_of bag * 2 ^ 63 = weight_of-bound down (2 ^ 63) bag (λ x held. let fits = s.fits x held in omega (arith, ints)) in
+    let over : weight_of up bag ≤ size_of bag * 2 ^ 63 =
+    weight_of-bound up (2 ^ 63) bag (λ x held. let fits = s.fits x held in omega (arith, ints)) in
+    let under : weight_of down bag ≤ size_of bag * 2 ^ 63 =
+    weight_of-bound down (2 ^ 63) bag (λ x held. let fits = s.fits x held in omega (arith, ints)) in
     omega (arith, ints, s.is_sum)
 
 -- one number more
-pub IsSumOf-add : (old new : Bag) (sum v : ℤ) → IsSumOf old sum → FitsSigned w64 v → AddsOne old new v → IsSumOf new (sum +ℤ v)
+pub IsSumOf-add : (old new : Bag) (sum v : ℤ) → IsSumOf old sum → FitsSigned w64 v → AddsOne old new v
+    → IsSumOf new (sum +ℤ v)
 IsSumOf-add old new sum v s fits adds = record {
   is_sum = omega (arith, ints, s.is_sum, weight_of-one up old new v adds, weight_of-one down old new v adds);
   fits = λ x held. elim (int_eq x v) as (λ b. int_eq x v ≡ b → FitsSigned w64 x) [
@@ -46,9 +60,11 @@ IsSumOf-take old new sum v s adds = record {
 }
 
 -- the numbers of both
-pub IsSumOf-join : (old new more : Bag) (sum other : ℤ) → IsSumOf old sum → IsSumOf more other → AddsBag old new more → IsSumOf new (sum +ℤ other)
+pub IsSumOf-join : (old new more : Bag) (sum other : ℤ) → IsSumOf old sum → IsSumOf more other → AddsBag old new more
+    → IsSumOf new (sum +ℤ other)
 IsSumOf-join old new more sum other s o adds = record {
-  is_sum = omega (arith, ints, s.is_sum, o.is_sum, weight_of-bag up old new more adds, weight_of-bag down old new more adds);
+  is_sum =
+      omega (arith, ints, s.is_sum, o.is_sum, weight_of-bag up old new more adds, weight_of-bag down old new more adds);
   fits = λ x held. elim (cases_lt 0 (held_of old x)) [
     | inl here ↦ s.fits x here
     | inr none ↦ o.fits x (omega (arith, held, none, adds.held x))

@@ -1,5 +1,6 @@
 -- The cells as they are kept: by codes in place of keys (this project's choice).
-use Rattle.std.specs.Prelude.{◌≡◌, ◌||◌, ◌==◌, ℕ, Bool, true, false, nat_lt, nat_eq, List, [], ◌∷◌, length, map, replicate, Option, IsTrue, IsSome, All}
+use Rattle.std.specs.Prelude.{◌≡◌, ◌||◌, ◌==◌, ℕ, Bool, true, false, nat_lt, nat_eq, List, [], ◌∷◌, length, map}
+use Rattle.std.specs.Prelude.{replicate, Option, IsTrue, IsSome, All}
 use Rattle.std.specs.List.{IsDistinct, list_all}
 use Rattle.std.specs.Cmp.Lexicographic.{pointwise}
 use Rattle.std.specs.Map.{lookup, keys_of}
@@ -30,7 +31,8 @@ decoded dictionaries cells = map (λ cell. (key_at dictionaries cell.0.codes, ce
 abbrev pub is_total_code : Codes → Bool
 is_total_code codes = list_all (λ code. code == all_code) codes.codes
 
--- what is true of a cell: its codes are of the dimensions, it has a bag for each measure, and a fact unless it is the grand total
+-- what is true of a cell: its codes are of the dimensions, it has a bag for each measure,
+-- and a fact unless it is the grand total
 pub record IsCodedCell (dictionaries : Dictionaries) (measures : ℕ) (cell : Codes × Tally) : Type 0 where
   pub codes : are_codes dictionaries cell.0.codes ≡ true
   pub eight : length cell.0.codes ≡ 8
@@ -52,7 +54,8 @@ lattice_of schema sets facts dictionaries cells = record {
 }
 
 -- what is true of the cells as they are kept
-pub record IsCoded (schema : Layout) (sets : List ℕ) (facts : ℕ) (dictionaries : Dictionaries) (cells : CodedCells) : Type 0 where
+pub record IsCoded (schema : Layout) (sets : List ℕ) (facts : ℕ) (dictionaries : Dictionaries) (cells : CodedCells)
+    : Type 0 where
   pub lattice : IsLattice (lattice_of schema sets facts dictionaries cells)
   pub texts : All IsDictionary dictionaries
   pub distinct : IsDistinct same_codes (keys_of cells)
@@ -63,4 +66,5 @@ pub record IsCoded (schema : Layout) (sets : List ℕ) (facts : ℕ) (dictionari
 -- the cells of no fact: the grand total where it is kept, and no other
 pub record AreNewCells (has_total : Bool) (measures : ℕ) (cells : CodedCells) : Type 0 where
   pub none : has_total ≡ false → cells ≡ []
-  pub total : has_total ≡ true → (t : Tally) × (cells ≡ (total_codes, t) ∷ []) × IsTallyOf [] t × (length t.bags ≡ measures)
+  pub total : has_total ≡ true
+      → (t : Tally) × (cells ≡ (total_codes, t) ∷ []) × IsTallyOf [] t × (length t.bags ≡ measures)

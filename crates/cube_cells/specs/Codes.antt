@@ -1,5 +1,7 @@
--- Codes for the coordinates of a key: ALL, null, or the place of a text in the dictionary of its dimension (this project's choice).
-use Rattle.std.specs.Prelude.{◌≡◌, ◌≤◌, ◌==◌, ◌&&◌, ◌||◌, ◌%◌, ◌/◌, ◌↔◌, ◌++◌, ℕ, Bool, true, false, nat_lt, List, [], ◌∷◌, length, get_or, Option, Some, None, if◌then◌else◌, IsTrue}
+-- Codes for the coordinates of a key:
+-- ALL, null, or the place of a text in the dictionary of its dimension (this project's choice).
+use Rattle.std.specs.Prelude.{◌≡◌, ◌≤◌, ◌==◌, ◌&&◌, ◌||◌, ◌%◌, ◌/◌, ◌↔◌, ◌++◌, ℕ, Bool, true, false, nat_lt, List, []}
+use Rattle.std.specs.Prelude.{◌∷◌, length, get_or, Option, Some, None, if◌then◌else◌, IsTrue}
 use Rattle.std.specs.List.{list_all}
 use Rattle.cube_core.specs.Layout.{is_listed, are_distinct}
 use Rattle.cube_core.specs.declared.key.Coord.{Coord}
@@ -40,7 +42,8 @@ are_codes (texts ∷ dictionaries) (code ∷ codes) = is_code texts code && are_
 -- the coordinate of a code
 abbrev pub coord_at : List (List ℕ) → ℕ → Coord
 coord_at texts code =
-    if code == all_code then coord.All else (if code == null_code then coord.Null else coord.Text (get_or texts code []))
+    if code == all_code then coord.All
+    else (if code == null_code then coord.Null else coord.Text (get_or texts code []))
 
 -- the coordinates of codes, one for each dimension
 abbrev pub coords_at : Dictionaries → List ℕ → List Coord
@@ -67,7 +70,8 @@ AreCodesOf [] [] codes = list_all (λ code. code == all_code) codes ≡ true
 AreCodesOf [] (c ∷ coords) codes = ⊥
 AreCodesOf (texts ∷ dictionaries) [] codes = ⊥
 AreCodesOf (texts ∷ dictionaries) (c ∷ coords) [] = ⊥
-AreCodesOf (texts ∷ dictionaries) (c ∷ coords) (code ∷ codes) = IsCodeOf texts c code × AreCodesOf dictionaries coords codes
+AreCodesOf (texts ∷ dictionaries) (c ∷ coords) (code ∷ codes) =
+    IsCodeOf texts c code × AreCodesOf dictionaries coords codes
 
 -- the coordinate of a value or of null
 abbrev pub coord_of_value : Option (List ℕ) → Coord

@@ -1,5 +1,7 @@
--- Filling a cube at once: the cells of each grouping set are made from those of a finer one (Gray et al. 1997; which finer one is this project's choice).
-use Rattle.std.specs.Prelude.{◌≡◌, ◌+◌, ◌-◌, ◌*◌, ◌<◌, ◌==◌, ◌^◌, ◌++◌, ℕ, Bool, true, false, bit_and, List, [], ◌∷◌, length, map, get_or, Result, Ok, Option, Some, IfOk, IfSome, All, Contains, if◌then◌else◌}
+-- Filling a cube at once: the cells of each grouping set are made from those of a finer one (Gray et al. 1997;
+-- which finer one is this project's choice).
+use Rattle.std.specs.Prelude.{◌≡◌, ◌+◌, ◌-◌, ◌*◌, ◌<◌, ◌==◌, ◌^◌, ◌++◌, ℕ, Bool, true, false, bit_and, List, [], ◌∷◌}
+use Rattle.std.specs.Prelude.{length, map, get_or, Result, Ok, Option, Some, IfOk, IfSome, All, Contains, if◌then◌else◌}
 use Rattle.std.specs.List.Sorted.{IsPermutation}
 use Rattle.std.specs.declared.alloc.AllocError.{AllocError}
 use Rattle.cube_core.specs.Takes.{fits}
@@ -32,13 +34,15 @@ pub record MergesAt (old new : Option Tally) (more : Tally) : Type 0 where
 pub record MergesIn (codes : Codes) (old new : CodedCells) (more : Tally) : Type 0 where
   pub merged : MergesAt (coded_at old codes) (coded_at new codes) more
   pub others : (other : Codes) → same_codes codes other ≡ false → coded_at new other ≡ coded_at old other
-  pub weight : (weight : Codes → ℕ) → weight_of_cells weight new ≡ weight_of_cells weight old + weight codes * more.facts
+  pub weight : (weight : Codes → ℕ)
+      → weight_of_cells weight new ≡ weight_of_cells weight old + weight codes * more.facts
 
 -- cells are merged into others, each into the one of its codes in a grouping set
 abbrev pub FillsSet : ℕ → CodedCells → CodedCells → CodedCells → Type 0
 FillsSet set [] old new = new ≡ old
 FillsSet set (cell ∷ cells) old new =
-    (mid : CodedCells) × MergesIn (key_in cell.0 set) old mid cell.1 × (AreApart old → AreApart mid) × FillsSet set cells mid new
+    (mid : CodedCells) × MergesIn (key_in cell.0 set) old mid cell.1 × (AreApart old → AreApart mid)
+    × FillsSet set cells mid new
 
 -- cells have bags for the same measures as others, which are looked up
 pub record HaveOneWidth (cells others : CodedCells) : Type 0 where
@@ -61,7 +65,8 @@ abbrev pub MakesLevels : ℕ → Level → List ℕ → List Level → List Leve
 MakesLevels measures finest [] old new = new ≡ old
 MakesLevels measures finest (set ∷ sets) old new =
     (finer : Level) × (level : Level) × Contains (finest ∷ old) finer × IsFiner finer.set set × (level.set ≡ set)
-    × AreMadeFrom finer.cells.entries set measures level.cells.entries × MakesLevels measures finest sets (old ++ level ∷ []) new
+    × AreMadeFrom finer.cells.entries set measures level.cells.entries
+    × MakesLevels measures finest sets (old ++ level ∷ []) new
 
 -- levels of these sets are made, in some order of them
 pub record MakesLevelsOf (measures : ℕ) (finest : Level) (sets : List ℕ) (levels : List Level) : Type 0 where
@@ -85,7 +90,8 @@ pub record AreMade {X : Type 0} (is : ℕ → X → Type 0) (number : ℕ) (made
 
 -- for each set of a layer a result: its level
 abbrev pub AreMadeLevels : ℕ → Level → List Level → List ℕ → List (Result Level AllocError) → Type 0
-AreMadeLevels measures finest levels layer = AreMade (λ i. IsMadeLevel measures finest levels (get_or layer i 0)) (length layer)
+AreMadeLevels measures finest levels layer =
+    AreMade (λ i. IsMadeLevel measures finest levels (get_or layer i 0)) (length layer)
 
 -- each of these results is a level, and they were put behind others
 pub record ArePushed (results : List (Result Level AllocError)) (old new : List Level) : Type 0 where

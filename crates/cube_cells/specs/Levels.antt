@@ -1,5 +1,6 @@
 -- The cells of a cube as they are kept: a table for each kept grouping set (this project's choice).
-use Rattle.std.specs.Prelude.{◌≡◌, ◌==◌, ◌+◌, ◌*◌, ◌<◌, ◌++◌, ◌≤◌, ℕ, ℤ, Bool, List, [], ◌∷◌, length, map, get_or, Option, All, if◌then◌else◌}
+use Rattle.std.specs.Prelude.{◌≡◌, ◌==◌, ◌+◌, ◌*◌, ◌<◌, ◌++◌, ◌≤◌, ℕ, ℤ, Bool, List, [], ◌∷◌, length, map, get_or}
+use Rattle.std.specs.Prelude.{Option, All, if◌then◌else◌}
 use Rattle.cube_core.specs.Layout.{Layout}
 use Rattle.cube_cells.specs.Codes.{Dictionaries, all_code}
 use Rattle.cube_cells.specs.Coded.{CodedCells, AreNewCells, IsCoded, coded_at}
@@ -32,14 +33,16 @@ pub record AreLevelsOf (sets : List ℕ) (levels : List Level) : Type 0 where
   pub each : All IsOfOneSet levels
 
 -- what is true of a cube as it is kept
-pub record IsLeveled (schema : Layout) (sets : List ℕ) (facts : ℕ) (dictionaries : Dictionaries) (levels : List Level) : Type 0 where
+pub record IsLeveled (schema : Layout) (sets : List ℕ) (facts : ℕ) (dictionaries : Dictionaries) (levels : List Level)
+    : Type 0 where
   pub coded : IsCoded schema sets facts dictionaries (cells_of levels)
   pub tables : AreLevelsOf sets levels
 
 -- the cells of the level that codes are of, or none where there is no such level
 abbrev pub table_at : List Level → Codes → CodedCells
 table_at [] codes = []
-table_at (level ∷ levels) codes = if level.set == mask_of_codes codes.codes then level.cells.entries else table_at levels codes
+table_at (level ∷ levels) codes =
+    if level.set == mask_of_codes codes.codes then level.cells.entries else table_at levels codes
 
 -- a level of this set, with the cells of no fact
 pub record IsNewLevel (measures set : ℕ) (level : Level) : Type 0 where
@@ -52,7 +55,8 @@ key_of_level codes level = key_in codes level.set
 
 -- a fact can be added in a level
 abbrev pub HasRoomInLevel : Codes → List (Option ℤ) → Level → Type 0
-HasRoomInLevel codes values level = HasRoom values (key_of_level codes level) (coded_at level.cells.entries (key_of_level codes level))
+HasRoomInLevel codes values level =
+    HasRoom values (key_of_level codes level) (coded_at level.cells.entries (key_of_level codes level))
 
 -- whether a level holds the values of a fact
 abbrev pub level_holds : Codes → List (Option ℤ) → Level → Bool

@@ -1,5 +1,6 @@
 -- The rows of a cube that is kept up to date: those of the cells whose keys pass a test (Gray et al. 1997).
-use Rattle.std.specs.Prelude.{◌≡◌, ◌==◌, ◌&&◌, ◌↔◌, ℕ, Bool, true, false, not, Option, Some, None, Result, Ok, Err, get_or, ◌<◌, List, [], ◌∷◌, length, map, Contains, All, IsTrue, IsSome, IfSome}
+use Rattle.std.specs.Prelude.{◌≡◌, ◌==◌, ◌&&◌, ◌↔◌, ℕ, Bool, true, false, not, Option, Some, None, Result, Ok, Err}
+use Rattle.std.specs.Prelude.{get_or, ◌<◌, List, [], ◌∷◌, length, map, Contains, All, IsTrue, IsSome, IfSome}
 use Rattle.std.specs.List.{AllZip}
 use Rattle.std.specs.List.Sorted.{IsStrictlySortedBy}
 use Rattle.cube_core.specs.Answer.{AreAnswers}
@@ -53,7 +54,8 @@ IsRowAt aggregates cells key (Some row) = (t : Tally) × (cell_at cells key ≡ 
 -- the row of a key of the cube over these grouping sets, or none where the key is no cell
 abbrev pub IsRowOver : List ℕ → ℕ → List Agg → List Fact → Key → Option Row → Type 0
 IsRowOver sets dimensions aggregates facts key None = is_cell sets dimensions facts key ≡ false
-IsRowOver sets dimensions aggregates facts key (Some row) = (is_cell sets dimensions facts key ≡ true) × (row.key ≡ key) × HasAnswers aggregates facts row
+IsRowOver sets dimensions aggregates facts key (Some row) =
+    (is_cell sets dimensions facts key ≡ true) × (row.key ≡ key) × HasAnswers aggregates facts row
 
 -- a query is refused for this fault, or gives what is said of its value where there is none; else memory ran out
 abbrev pub GivesUnless : {T : Type 0} → Option QueryFault → (T → Type 0) → Result T QueryFault → Type 0
@@ -84,7 +86,8 @@ IsWantBelow texts c true w = w ≡ want.Not all_code
 IsWantBelow texts c false w = (code : ℕ) × (w ≡ want.Code code) × IsCodeOf texts c code
 
 -- what is wanted of the codes of keys that drill down from these coordinates along a dimension
-pub record AreWantsBelow (dictionaries : Dictionaries) (dimension : ℕ) (coords : List Coord) (wants : List Want) : Type 0 where
+pub record AreWantsBelow (dictionaries : Dictionaries) (dimension : ℕ) (coords : List Coord) (wants : List Want)
+    : Type 0 where
   pub each : (i : ℕ) → i < length wants
       → IsWantBelow (get_or dictionaries i []) (get_or coords i coord.All) (i == dimension) (get_or wants i want.Any)
 

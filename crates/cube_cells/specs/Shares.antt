@@ -1,7 +1,8 @@
--- Filling the cells of the finest grouping set in shares: each dimension is coded by itself, and each share has the facts whose codes are its own (this project's choice).
-use Rattle.std.specs.Prelude.{◌≡◌, ◌<◌, ◌+◌, ◌-◌, ◌%◌, ◌==◌, ◌++◌, ℕ, suc, Bool, true, List, [], ◌∷◌, length, map, get_or, replicate, sum_by, Option, None, Result, All, IfOk, if◌then◌else◌}
+-- Filling the cells of the finest grouping set in shares:
+-- each dimension is coded by itself, and each share has the facts whose codes are its own (this project's choice).
+use Rattle.std.specs.Prelude.{◌≡◌, ◌<◌, ◌+◌, ◌-◌, ◌%◌, ◌==◌, ◌++◌, ℕ, suc, Bool, true, List, [], ◌∷◌, length, map}
+use Rattle.std.specs.Prelude.{get_or, replicate, sum_by, Option, None, All, if◌then◌else◌}
 use Rattle.std.specs.List.Sorted.{IsPermutation}
-use Rattle.std.specs.declared.alloc.AllocError.{AllocError}
 use Rattle.cube_core.specs.Layout.{IsSchema}
 use Rattle.cube_core.specs.Takes.{fits}
 use Rattle.cube_core.specs.declared.fact.Fact.{Fact}
@@ -52,7 +53,9 @@ dictionaries_of columns = map (λ column. column.dictionary) columns
 
 -- the codes of the fact at a place, and ALL past the last dimension
 abbrev pub codes_at : List Column → ℕ → Codes
-codes_at columns place = record { codes = map (λ column. get_or column.codes.items place 0) columns ++ replicate (8 - length columns) all_code }
+codes_at columns place = record {
+  codes = map (λ column. get_or column.codes.items place 0) columns ++ replicate (8 - length columns) all_code;
+}
 
 -- the share of codes, of so many: the sum of the eight modulo their number
 abbrev pub share_of : ℕ → Codes → ℕ
@@ -69,12 +72,14 @@ share_at coded of place = share_of of (codes_at coded.columns.items place)
 -- the facts whose share is wanted, where the fact at each place has one
 abbrev pub chosen : (ℕ → Bool) → (ℕ → ℕ) → List Fact → List Fact
 chosen is_wanted share [] = []
-chosen is_wanted share (fact ∷ facts) = (if is_wanted (share 0) then fact ∷ [] else []) ++ chosen is_wanted (λ place. share (suc place)) facts
+chosen is_wanted share (fact ∷ facts) =
+    (if is_wanted (share 0) then fact ∷ [] else []) ++ chosen is_wanted (λ place. share (suc place)) facts
 
 -- these are the cells of some facts over the finest grouping set
 pub record AreFinestCells (coded : CodedFacts) (facts : List Fact) (cells : CodedCells) : Type 0 where
   pub are : IsCoded coded.schema (set_of coded ∷ []) (length facts) (dictionaries_of coded.columns.items) cells
-  pub cube : IsCubeOfAll facts (lattice_of coded.schema (set_of coded ∷ []) (length facts) (dictionaries_of coded.columns.items) cells)
+  pub cube : IsCubeOfAll facts
+      (lattice_of coded.schema (set_of coded ∷ []) (length facts) (dictionaries_of coded.columns.items) cells)
 
 -- the cells of the first facts of a share, so many facts looked at, and of no other share
 pub record HasShare (coded : CodedFacts) (of share : ℕ) (facts : List Fact) (cells : CodedCells) : Type 0 where

@@ -1,5 +1,7 @@
--- The tally of a group of facts: how many they are, and for each measure the bag of its values (SQL:1999: COUNT(*) counts rows, the other aggregates leave nulls out).
-use Rattle.std.specs.Prelude.{◌≡◌, ◌+◌, ◌<◌, ◌&&◌, ℕ, ℤ, Bool, true, false, nat_lt, List, [], ◌∷◌, length, get_or, count_by, Option, Some, None}
+-- The tally of a group of facts: how many they are, and for each measure the bag of its values (SQL:1999:
+-- COUNT(*) counts rows, the other aggregates leave nulls out).
+use Rattle.std.specs.Prelude.{◌≡◌, ◌+◌, ◌<◌, ◌&&◌, ℕ, ℤ, Bool, true, false, nat_lt, List, [], ◌∷◌, length, get_or}
+use Rattle.std.specs.Prelude.{count_by, Option, Some, None}
 use Rattle.std.specs.Ordering.{int_eq}
 use Rattle.cube_core.specs.Group.{values_of}
 use Rattle.cube_core.specs.declared.fact.Fact.{Fact}

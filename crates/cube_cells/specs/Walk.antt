@@ -1,5 +1,6 @@
 -- What adding and taking a fact does to cells that are kept by codes, at the keys of a list (this project's choice).
-use Rattle.std.specs.Prelude.{◌≡◌, ◌+◌, ◌*◌, ◌<◌, ◌||◌, ◌^◌, ℕ, ℤ, Bool, true, false, nat_lt, List, length, map, sum_by, Option, Some, IsTrue, IsSome, IfSome}
+use Rattle.std.specs.Prelude.{◌≡◌, ◌+◌, ◌*◌, ◌<◌, ◌||◌, ◌^◌, ℕ, ℤ, Bool, true, false, nat_lt, List, length, map, sum_by}
+use Rattle.std.specs.Prelude.{Option, Some, IsTrue, IsSome, IfSome}
 use Rattle.std.specs.List.{list_any, IsDistinct}
 use Rattle.std.specs.Map.{keys_of, set_value}
 use Rattle.cube_cells.specs.Codes.{kept_codes}
@@ -24,7 +25,8 @@ is_in keys codes = list_any (same_codes codes) keys
 abbrev pub weight_of_cells : (Codes → ℕ) → CodedCells → ℕ
 weight_of_cells weight cells = sum_by (λ cell. weight cell.0 * cell.1.facts) cells
 
--- a fact can be added at codes: the cell there has a bag for each value, room for a fact, and a fact unless it is the grand total, which is there
+-- a fact can be added at codes: the cell there has a bag for each value, room for a fact,
+-- and a fact unless it is the grand total, which is there
 pub record HasRoom (values : List (Option ℤ)) (codes : Codes) (cell : Option Tally) : Type 0 where
   pub width : IfSome cell (λ t. length t.bags ≡ length values)
   pub room : IfSome cell (λ t. t.facts + 1 < 2 ^ 64)
@@ -40,7 +42,8 @@ pub record AddsIn (keys : List Codes) (values : List (Option ℤ)) (old new : Co
 
 -- at each of the codes a fact is taken, and every other cell stays as it was
 pub record TakesIn (keys : List Codes) (values : List (Option ℤ)) (old new : CodedCells) : Type 0 where
-  pub taken : (codes : Codes) → is_in keys codes ≡ true → TakesAt (is_total_code codes) values (coded_at old codes) (coded_at new codes)
+  pub taken : (codes : Codes) → is_in keys codes ≡ true
+      → TakesAt (is_total_code codes) values (coded_at old codes) (coded_at new codes)
   pub others : (codes : Codes) → is_in keys codes ≡ false → coded_at new codes ≡ coded_at old codes
   pub weight : (weight : Codes → ℕ) → weight_of_cells weight old ≡ weight_of_cells weight new + sum_by weight keys
 

@@ -1,5 +1,6 @@
 -- Lemmas for the keys that cover a fact: each grouping set has exactly one.
-use Rattle.std.proofs.Common.{suc, ◌≡◌, ◌+◌, ◌*◌, ◌^◌, ◌<◌, ◌≤◌, ◌%◌, ◌/◌, ◌==◌, ℕ, Bool, true, false, cond, not, List, [], ◌∷◌, length, Option, Some, None, refl, sym, ap, ◌∙◌, arith}
+use Rattle.std.proofs.Common.{suc, ◌≡◌, ◌+◌, ◌*◌, ◌^◌, ◌<◌, ◌≤◌, ◌%◌, ◌/◌, ◌==◌, ℕ, Bool, true, false, cond, not, List}
+use Rattle.std.proofs.Common.{[], ◌∷◌, length, Option, Some, None, refl, sym, ap, ◌∙◌, arith}
 use Rattle.std.specs.List.{list_all}
 use Rattle.std.proofs.Math.Bool.{not-not}
 use Rattle.std.proofs.lemmas.Slice.Eq.{bytes_eq-Decides}
@@ -22,7 +23,8 @@ unfoldable pub ancestor_of : List (Option (List ℕ)) → ℕ → List Coord
 ancestor_of [] mask = []
 ancestor_of (value ∷ values) mask = coord_of value (mask % 2 == 1) ∷ ancestor_of values (mask / 2)
 
-pub coord_of-stands_for : (c : Coord) (value : Option (List ℕ)) (is_grouped : Bool) → stands_for c value ≡ true → is_all_coord c ≡ not is_grouped → c ≡ coord_of value is_grouped
+pub coord_of-stands_for : (c : Coord) (value : Option (List ℕ)) (is_grouped : Bool) → stands_for c value ≡ true
+    → is_all_coord c ≡ not is_grouped → c ≡ coord_of value is_grouped
 coord_of-stands_for coord.All value false s g = refl
 coord_of-stands_for coord.All value true s g = cc
 coord_of-stands_for coord.Null value false s g = cc
@@ -37,20 +39,23 @@ bit-below true m n below = omega (arith, pow-succ' 2 n)
 bit-below false m n below = omega (arith, pow-succ' 2 n)
 
 -- what stands for a value does
-pub stands_for-coord_of : (value : Option (List ℕ)) (is_grouped : Bool) → stands_for (coord_of value is_grouped) value ≡ true
+pub stands_for-coord_of : (value : Option (List ℕ)) (is_grouped : Bool)
+    → stands_for (coord_of value is_grouped) value ≡ true
 stands_for-coord_of None false = refl
 stands_for-coord_of None true = refl
 stands_for-coord_of (Some text) false = refl
 stands_for-coord_of (Some text) true = (bytes_eq-Decides text text).1 refl
 
 -- and is ALL where its dimension is not grouped by
-pub is_all_coord-coord_of : (value : Option (List ℕ)) (is_grouped : Bool) → is_all_coord (coord_of value is_grouped) ≡ not is_grouped
+pub is_all_coord-coord_of : (value : Option (List ℕ)) (is_grouped : Bool)
+    → is_all_coord (coord_of value is_grouped) ≡ not is_grouped
 is_all_coord-coord_of None false = refl
 is_all_coord-coord_of None true = refl
 is_all_coord-coord_of (Some text) false = refl
 is_all_coord-coord_of (Some text) true = refl
 
-pub all_stand_for-ancestor_of : (values : List (Option (List ℕ))) (mask : ℕ) → all_stand_for (ancestor_of values mask) values ≡ true
+pub all_stand_for-ancestor_of : (values : List (Option (List ℕ))) (mask : ℕ)
+    → all_stand_for (ancestor_of values mask) values ≡ true
 unfolding ancestor_of
 all_stand_for-ancestor_of [] mask = refl
 all_stand_for-ancestor_of (value ∷ values) mask =
@@ -60,16 +65,19 @@ all_stand_for-ancestor_of (value ∷ values) mask =
 bit-half : (mask : ℕ) → cond (not (mask % 2 == 1)) 0 1 + 2 * (mask / 2) ≡ mask
 bit-half mask = grind (arith, nat_tests)
 
-pub mask_of_coords-ancestor_of : (values : List (Option (List ℕ))) (mask : ℕ) → mask < 2 ^ length values → mask_of_coords (ancestor_of values mask) ≡ mask
+pub mask_of_coords-ancestor_of : (values : List (Option (List ℕ))) (mask : ℕ) → mask < 2 ^ length values
+    → mask_of_coords (ancestor_of values mask) ≡ mask
 unfolding ancestor_of
 mask_of_coords-ancestor_of [] mask below = omega arith
 mask_of_coords-ancestor_of (value ∷ values) mask below =
     let half : mask / 2 < 2 ^ length values = omega (arith, pow-succ' 2 (length values)) in
-    let rest : mask_of_coords (ancestor_of values (mask / 2)) ≡ mask / 2 = mask_of_coords-ancestor_of values (mask / 2) half in
+    let rest : mask_of_coords (ancestor_of values (mask / 2)) ≡ mask / 2 =
+    mask_of_coords-ancestor_of values (mask / 2) half in
     rw (rest, is_all_coord-coord_of value (mask % 2 == 1)) (bit-half mask)
 
 -- two coordinates that stand for a value are one, if both or neither are ALL
-stands_for-coord : (a b : Coord) (value : Option (List ℕ)) → stands_for a value ≡ true → stands_for b value ≡ true → is_all_coord a ≡ is_all_coord b → a ≡ b
+stands_for-coord : (a b : Coord) (value : Option (List ℕ)) → stands_for a value ≡ true → stands_for b value ≡ true
+    → is_all_coord a ≡ is_all_coord b → a ≡ b
 stands_for-coord a b value s t e =
     coord_of-stands_for a value (not (is_all_coord a)) s (sym (not-not (is_all_coord a)))
     ∙ sym (coord_of-stands_for b value (not (is_all_coord a)) t (sym e ∙ sym (not-not (is_all_coord a))))
@@ -82,7 +90,8 @@ bit-same true false m n e = absurd (omega arith)
 bit-same false true m n e = absurd (omega arith)
 
 -- coordinates that stand for the same values are the same, if their masks are
-pub all_stand_for-mask_of_coords : (xs ys : List Coord) (values : List (Option (List ℕ))) → all_stand_for xs values ≡ true → all_stand_for ys values ≡ true → mask_of_coords xs ≡ mask_of_coords ys → xs ≡ ys
+pub all_stand_for-mask_of_coords : (xs ys : List Coord) (values : List (Option (List ℕ)))
+    → all_stand_for xs values ≡ true → all_stand_for ys values ≡ true → mask_of_coords xs ≡ mask_of_coords ys → xs ≡ ys
 all_stand_for-mask_of_coords [] [] values s t e = refl
 all_stand_for-mask_of_coords [] (y ∷ ys) [] s t e = cc
 all_stand_for-mask_of_coords [] (y ∷ ys) (value ∷ values) s t e = cc
@@ -106,7 +115,8 @@ mask_of_coords-All (c ∷ coords) all =
 
 pub mask_of_coords-length : (coords : List Coord) → mask_of_coords coords < 2 ^ length coords
 mask_of_coords-length [] = omega arith
-mask_of_coords-length (c ∷ coords) = bit-below (is_all_coord c) (mask_of_coords coords) (length coords) (mask_of_coords-length coords)
+mask_of_coords-length (c ∷ coords) =
+    bit-below (is_all_coord c) (mask_of_coords coords) (length coords) (mask_of_coords-length coords)
 
 -- the mask of at most 8 coordinates has 8 bits
 pub mask_of_coords_byte : (coords : List Coord) → length coords ≤ 8 → mask_of_coords coords < 256
@@ -116,10 +126,12 @@ mask_of_coords_byte coords few =
     omega (arith, mask_of_coords-length coords, bound)
 
 -- coordinates that stand for values are as many
-pub all_stand_for-length : (coords : List Coord) (values : List (Option (List ℕ))) → all_stand_for coords values ≡ true → length coords ≡ length values
+pub all_stand_for-length : (coords : List Coord) (values : List (Option (List ℕ))) → all_stand_for coords values ≡ true
+    → length coords ≡ length values
 all_stand_for-length [] [] s = refl
 all_stand_for-length [] (value ∷ values) s = cc
 all_stand_for-length (c ∷ coords) [] s = cc
 all_stand_for-length (c ∷ coords) (value ∷ values) s =
-    let rest : length coords ≡ length values = all_stand_for-length coords values (and_parts (stands_for c value) (all_stand_for coords values) s).1 in
+    let rest : length coords ≡ length values =
+    all_stand_for-length coords values (and_parts (stands_for c value) (all_stand_for coords values) s).1 in
     cc

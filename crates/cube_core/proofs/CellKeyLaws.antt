@@ -1,5 +1,6 @@
 -- Keys of cells: which are one, and how many coordinates they have.
-use Rattle.std.proofs.Common.{◌≡◌, ◌==◌, ℕ, true, ◌&&◌, ◌||◌, List, [], ◌∷◌, length, Decides, refl, sym, ap, ◌∙◌, subst, inl, inr}
+use Rattle.std.proofs.Common.{◌≡◌, ◌==◌, ℕ, true, ◌&&◌, ◌||◌, List, [], ◌∷◌, length, Decides, refl, sym, ap, ◌∙◌, subst}
+use Rattle.std.proofs.Common.{inl, inr}
 use Rattle.std.specs.List.{list_any, list_all}
 use Rattle.std.specs.Ordering.{eq_by_cmp, is_eq}
 use Rattle.std.proofs.lemmas.Bool.Decides.{same_from_decides}
@@ -28,7 +29,8 @@ Key-coords x y e = ap (λ (coords : List Coord). let key : Key = record { coords
 pub key_cmp-Decides : (x y : Key) → Decides (eq_by_cmp key_cmp x y) (x ≡ y)
 key_cmp-Decides x y = (
   λ e. tells_apart key_cmp-exact x y e,
-  λ e. let P : Key → Type 0 = λ k. eq_by_cmp key_cmp x k ≡ true in subst P e (ap is_eq (tied_itself key_cmp-IsTotalOrder x)),
+  λ e. let P : Key → Type 0 = λ k. eq_by_cmp key_cmp x k ≡ true in
+      subst P e (ap is_eq (tied_itself key_cmp-IsTotalOrder x)),
 )
 
 is_all_coord-All : (c : Coord) → is_all_coord c ≡ true → c ≡ coord.All
@@ -37,7 +39,8 @@ is_all_coord-All coord.Null e = cc
 is_all_coord-All coord.All e = refl
 
 -- the key of the grand total is one
-is_all_coord-length : (xs ys : List Coord) → length xs ≡ length ys → list_all is_all_coord xs ≡ true → list_all is_all_coord ys ≡ true → xs ≡ ys
+is_all_coord-length : (xs ys : List Coord) → length xs ≡ length ys → list_all is_all_coord xs ≡ true
+    → list_all is_all_coord ys ≡ true → xs ≡ ys
 is_all_coord-length [] [] l s t = refl
 is_all_coord-length [] (y ∷ ys) l s t = cc
 is_all_coord-length (x ∷ xs) [] l s t = cc
@@ -49,14 +52,16 @@ is_all_coord-length (x ∷ xs) (y ∷ ys) l s t =
     cc
 
 -- whether a key is that of the grand total
-pub key_cmp-is_total : (total key : Key) (dimensions : ℕ) → is_total dimensions total ≡ true → eq_by_cmp key_cmp total key ≡ is_total dimensions key
+pub key_cmp-is_total : (total key : Key) (dimensions : ℕ) → is_total dimensions total ≡ true
+    → eq_by_cmp key_cmp total key ≡ is_total dimensions key
 key_cmp-is_total total key dimensions t =
     let P : Key → Type 0 = λ k. is_total dimensions k ≡ true in
     let parts = and_parts (length total.coords == dimensions) (list_all is_all_coord total.coords) t in
     let by_total : Decides (is_total dimensions key) (total ≡ key) = (
       λ e.
           let others = and_parts (length key.coords == dimensions) (list_all is_all_coord key.coords) e in
-          Key-coords total key (is_all_coord-length total.coords key.coords (exact_unsigned_eq _ _ parts.0 ∙ sym (exact_unsigned_eq _ _ others.0)) parts.1 others.1),
+          Key-coords total key (is_all_coord-length total.coords key.coords
+          (exact_unsigned_eq _ _ parts.0 ∙ sym (exact_unsigned_eq _ _ others.0)) parts.1 others.1),
       λ e. subst P e t,
     ) in
     same_from_decides _ _ (key_cmp-Decides total key) by_total
@@ -64,18 +69,25 @@ key_cmp-is_total total key dimensions t =
 -- a fact that fits has a value for each dimension
 pub fits-length : (s : Layout) (fact : Fact) → fits s fact ≡ true → length fact.dims ≡ length s.dimensions
 fits-length s fact e =
-    let parts = and_parts ((length fact.dims == length s.dimensions) && (length fact.measures == length s.measures)) (list_all is_dimension_value fact.dims) e in
-    exact_unsigned_eq _ _ (and_parts (length fact.dims == length s.dimensions) (length fact.measures == length s.measures) parts.0).0
+    let parts = and_parts ((length fact.dims == length s.dimensions) && (length fact.measures == length s.measures))
+    (list_all is_dimension_value fact.dims) e in
+    exact_unsigned_eq _ _
+    (and_parts (length fact.dims == length s.dimensions) (length fact.measures == length s.measures) parts.0).0
 
 -- a key that covers one of some facts that fit has a coordinate for each dimension
-pub covers-length : (s : Layout) (key : Key) (facts : List Fact) → list_all (fits s) facts ≡ true → list_any (covers key) facts ≡ true → length key.coords ≡ length s.dimensions
+pub covers-length : (s : Layout) (key : Key) (facts : List Fact) → list_all (fits s) facts ≡ true
+    → list_any (covers key) facts ≡ true → length key.coords ≡ length s.dimensions
 covers-length s key facts all any =
     let found = list_any-Contains (covers key) facts any in
-    all_stand_for-length key.coords found.0.dims found.2 ∙ fits-length s found.0 (list_all-Contains (fits s) facts found.0 all found.1)
+    all_stand_for-length key.coords found.0.dims found.2
+    ∙ fits-length s found.0 (list_all-Contains (fits s) facts found.0 all found.1)
 
 -- a cell has a coordinate for each dimension
-pub is_cell-length : (s : Layout) (facts : List Fact) (key : Key) → list_all (fits s) facts ≡ true → is_total (length s.dimensions) key || list_any (covers key) facts ≡ true → length key.coords ≡ length s.dimensions
-is_cell-length s facts key all cell = elim (or_cases (is_total (length s.dimensions) key) (list_any (covers key) facts) cell) [
-  | inl total ↦ exact_unsigned_eq _ _ (and_parts (length key.coords == length s.dimensions) (list_all is_all_coord key.coords) total).0
-  | inr any ↦ covers-length s key facts all any
-]
+pub is_cell-length : (s : Layout) (facts : List Fact) (key : Key) → list_all (fits s) facts ≡ true
+    → is_total (length s.dimensions) key || list_any (covers key) facts ≡ true → length key.coords ≡ length s.dimensions
+is_cell-length s facts key all cell =
+    elim (or_cases (is_total (length s.dimensions) key) (list_any (covers key) facts) cell) [
+      | inl total ↦ exact_unsigned_eq _ _
+          (and_parts (length key.coords == length s.dimensions) (list_all is_all_coord key.coords) total).0
+      | inr any ↦ covers-length s key facts all any
+    ]

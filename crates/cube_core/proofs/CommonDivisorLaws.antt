@@ -4,7 +4,8 @@ use Prim.Native.Nat.{◌∣◌}
 use Rattle.std.specs.Int.{IsGcd}
 use Rattle.std.proofs.lemmas.Nat.{mod_below, div-add-mod'}
 use Rattle.std.proofs.lemmas.Nat.Gcd.{dvd_refl, dvd-zero, dvd_trans}
-use Rattle.std.proofs.Math.Nat.{one-dvd, one-mul, dvd-mod_iff, dvd-mul_right, dvd-mul_right_of_dvd, dvd-add_iff_right, mul-dvd-mul_right, dvd_of_mul-dvd-mul_right, div-mul_cancel}
+use Rattle.std.proofs.Math.Nat.{one-dvd, one-mul, dvd-mod_iff, dvd-mul_right, dvd-mul_right_of_dvd, dvd-add_iff_right}
+use Rattle.std.proofs.Math.Nat.{mul-dvd-mul_right, dvd_of_mul-dvd-mul_right, div-mul_cancel}
 
 -- Euclid's step, forward
 IsGcd-remainder : (a b g : ℕ) → IsGcd a b g → IsGcd b (a % b) g
@@ -23,7 +24,8 @@ divides-steps (suc n) a zero g c d few h p q =
     dvd_trans d p (mul-dvd-mul_right a (h.2 a (dvd_refl a) (dvd-zero a)) c)
 divides-steps (suc n) a (suc m) g c d few h p q =
     let below : a % suc m < suc m = mod_below a (suc m) (omega arith) in
-    divides-steps n (suc m) (a % suc m) g c d (omega arith) (IsGcd-remainder a (suc m) g h) q (divides-remainder a (suc m) c d p q)
+    divides-steps n (suc m) (a % suc m) g c d (omega arith) (IsGcd-remainder a (suc m) g h) q
+    (divides-remainder a (suc m) c d p q)
 
 pub divides-IsGcd : (a b g c d : ℕ) → IsGcd a b g → d ∣ a * c → d ∣ b * c → d ∣ g * c
 divides-IsGcd a b g c d = divides-steps (suc b) a b g c d (omega arith)
@@ -41,5 +43,6 @@ IsGcd-divided a b g some h =
       one-dvd (a / g),
       one-dvd (b / g),
       λ d p q.
-          dvd_of_mul-dvd-mul_right d some (subst (λ k. d * g ∣ k) (sym (one-mul g)) (h.2 (d * g) (up a d h.0 p) (up b d h.1 q))),
+          dvd_of_mul-dvd-mul_right d some
+          (subst (λ k. d * g ∣ k) (sym (one-mul g)) (h.2 (d * g) (up a d h.0 p) (up b d h.1 q))),
     )

@@ -47,8 +47,11 @@ coords-exact (x ∷ xs) (y ∷ ys) e =
 
 -- keys that compare equal are the same
 pub key_cmp-exact : CmpEqualImpliesEq key_cmp
-key_cmp-exact x y e = ap (λ (coords : List Coord). let key : Key = record { coords = coords } in key) (coords-exact x.coords y.coords e)
+key_cmp-exact x y e =
+    ap (λ (coords : List Coord). let key : Key = record { coords = coords } in key) (coords-exact x.coords y.coords e)
 
 -- key order is a total order
 pub key_cmp-IsTotalOrder : IsTotalOrder key_cmp
-key_cmp-IsTotalOrder = let P : (Key → Key → Ordering) → Type 0 = λ R. IsTotalOrder R in subst P cmp-key_cmp (KeyOrd.Laws.total-law)
+key_cmp-IsTotalOrder =
+    let P : (Key → Key → Ordering) → Type 0 = λ R. IsTotalOrder R in
+    subst P cmp-key_cmp (KeyOrd.Laws.total-law)

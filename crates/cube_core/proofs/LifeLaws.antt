@@ -29,12 +29,14 @@ life_after (Delete id) (Some present) = None
 -- a change that names the id is the last of those that name it
 pub naming-more : (id : List ℕ) (changes : List Change) (change : Change) → bytes_eq id (id_of change) ≡ true
     → naming id (changes ++ change ∷ []) ≡ naming id changes ++ change ∷ []
-naming-more id changes change same = filter-append (λ (c : Change). bytes_eq id (id_of c)) changes (change ∷ []) ∙ rw same refl
+naming-more id changes change same =
+    filter-append (λ (c : Change). bytes_eq id (id_of c)) changes (change ∷ []) ∙ rw same refl
 
 -- a change that names another id isn't among them
 pub naming-other : (id : List ℕ) (changes : List Change) (change : Change) → bytes_eq id (id_of change) ≡ false
     → naming id (changes ++ change ∷ []) ≡ naming id changes
-naming-other id changes change other = filter-append (λ (c : Change). bytes_eq id (id_of c)) changes (change ∷ []) ∙ rw other (append-nil _)
+naming-other id changes change other =
+    filter-append (λ (c : Change). bytes_eq id (id_of c)) changes (change ∷ []) ∙ rw other (append-nil _)
 
 -- a list that ends with a delete has one
 is_delete-last : (changes : List Change) (id : List ℕ) → list_any is_delete (changes ++ Delete id ∷ []) ≡ true
@@ -73,7 +75,8 @@ from_insert-more [] (Delete id) stays = refl
 from_insert-more (Insert _ first ∷ changes) change stays =
     ap Some (fold_push updated_by first changes change) ∙ last change (updated first changes) stays
   where
-    last : (change' : Change) (fact : Fact) → is_delete change' ≡ false → Some (updated_by fact change') ≡ life_after change' (Some fact)
+    last : (change' : Change) (fact : Fact) → is_delete change' ≡ false
+        → Some (updated_by fact change') ≡ life_after change' (Some fact)
     last (Insert id other) fact stays' = refl
     last (Update id other) fact stays' = refl
     last (Amend id part) fact stays' = refl
@@ -88,7 +91,8 @@ life_after-delete id None = refl
 life_after-delete id (Some fact) = refl
 
 -- the life of an id after one more change that names it, where it is no delete
-life_of-more : (id : List ℕ) (changes : List Change) (change : Change) → bytes_eq id (id_of change) ≡ true → is_delete change ≡ false
+life_of-more : (id : List ℕ) (changes : List Change) (change : Change) → bytes_eq id (id_of change) ≡ true
+    → is_delete change ≡ false
     → life_of id (changes ++ change ∷ []) ≡ life_after change (life_of id changes)
 life_of-more id changes change same stays =
     ap (λ (cs : List Change). from_insert (since_delete cs)) (naming-more id changes change same)

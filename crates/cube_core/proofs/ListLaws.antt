@@ -1,8 +1,14 @@
--- Laws of lists that the proofs of several crates stand on: what a list contains, what holds of all its elements, filters and sums.
-use Rattle.std.proofs.Common.{◌≡◌, ℕ, suc, ◌+◌, Bool, true, false, cond, List, [], ◌∷◌, ◌++◌, length, map, get_or, filter, sum_by, count_by, flat_map, Contains, ◌⊎◌, refl, sym, ap, ap₂, ◌∙◌, subst, inl, inr, arith, zero-add}
+-- Laws of lists that the proofs of several crates stand on:
+-- what a list contains, what holds of all its elements, filters and sums.
+use Rattle.std.proofs.Common.{◌≡◌, ℕ, suc, ◌+◌, Bool, true, false, cond, List, [], ◌∷◌, ◌++◌, length, map, get_or}
+use Rattle.std.proofs.Common.{filter, sum_by, count_by, flat_map, Contains, ◌⊎◌, refl, sym, ap, ap₂, ◌∙◌, subst, inl}
+use Rattle.std.proofs.Common.{inr, arith, zero-add}
 use Rattle.std.specs.List.{AllByRecursion, AllZip, list_any, list_all}
 use Rattle.std.proofs.lemmas.Bool.{cases_Bool, and_parts, or_left, or_right, or_cases, false≢true}
-use Rattle.std.proofs.lemmas.List.Elements.{Contains-get_or, Contains-append_left, Contains-append_right, Contains-append_cases, Contains-push, Contains-push_cases, All-contains, All-contains_itself, All-filter, All-from_recursion, recursion_from_All, filter_passes}
+use Rattle.std.proofs.lemmas.List.Elements.{Contains-get_or, Contains-append_left, Contains-append_right}
+use Rattle.std.proofs.lemmas.List.Elements.{Contains-append_cases, Contains-push, Contains-push_cases, All-contains}
+use Rattle.std.proofs.lemmas.List.Elements.{All-contains_itself, All-filter, All-from_recursion, recursion_from_All}
+use Rattle.std.proofs.lemmas.List.Elements.{filter_passes}
 use Rattle.std.proofs.lemmas.List.Sums.{sum_by-cons}
 
 -- ---- what a list contains
@@ -43,7 +49,8 @@ Contains-map f (x ∷ xs) y among = elim (Contains-cases (f x) (map f xs) y amon
 ]
 
 -- what one of the lists contains, all of them joined do
-pub flat_map-Contains : {X Y : Type 0} (f : X → List Y) (xs : List X) (x : X) (y : Y) → Contains xs x → Contains (f x) y →
+pub flat_map-Contains : {X Y : Type 0} (f : X → List Y) (xs : List X) (x : X) (y : Y) → Contains xs x
+    → Contains (f x) y →
     Contains (flat_map f xs) y
 flat_map-Contains f [] x y among h = absurd (Contains-nil x among)
 flat_map-Contains f (z ∷ zs) x y among h = elim (Contains-cases z zs x among) [
@@ -53,7 +60,8 @@ flat_map-Contains f (z ∷ zs) x y among h = elim (Contains-cases z zs x among) 
 
 -- ---- what holds of all elements
 -- what holds of each element holds of one that the list contains
-pub AllByRecursion-Contains : {X : Type 0} (P : X → Type 0) (xs : List X) (x : X) → AllByRecursion P xs → Contains xs x → P x
+pub AllByRecursion-Contains : {X : Type 0} (P : X → Type 0) (xs : List X) (x : X) → AllByRecursion P xs
+    → Contains xs x → P x
 AllByRecursion-Contains P xs x each among = All-contains P xs x (All-from_recursion P xs each) among
 
 -- what holds of each element that a list contains holds of all its elements
@@ -62,7 +70,8 @@ pub Contains-AllByRecursion : {X : Type 0} (P : X → Type 0) (xs : List X) → 
 Contains-AllByRecursion P xs h = recursion_from_All P xs (λ k d below. h (get_or xs k d) (Contains-get_or xs k d below))
 
 -- where all elements pass, each that the list contains does
-pub list_all-Contains : {X : Type 0} (p : X → Bool) (xs : List X) (x : X) → list_all p xs ≡ true → Contains xs x → p x ≡ true
+pub list_all-Contains : {X : Type 0} (p : X → Bool) (xs : List X) (x : X) → list_all p xs ≡ true → Contains xs x
+    → p x ≡ true
 list_all-Contains p [] x all among = absurd (Contains-nil x among)
 list_all-Contains p (y ∷ ys) x all among = elim (Contains-cases y ys x among) [
   | inl here ↦ ap p (sym here) ∙ (and_parts (p y) (list_all p ys) all).0
@@ -70,7 +79,8 @@ list_all-Contains p (y ∷ ys) x all among = elim (Contains-cases y ys x among) 
 ]
 
 -- where a list contains what passes, some element passes
-pub Contains-list_any : {X : Type 0} (p : X → Bool) (xs : List X) (x : X) → Contains xs x → p x ≡ true → list_any p xs ≡ true
+pub Contains-list_any : {X : Type 0} (p : X → Bool) (xs : List X) (x : X) → Contains xs x → p x ≡ true
+    → list_any p xs ≡ true
 Contains-list_any p [] x among passes = absurd (Contains-nil x among)
 Contains-list_any p (y ∷ ys) x among passes = elim (Contains-cases y ys x among) [
   | inl here ↦ or_left (p y) (list_any p ys) (ap p here ∙ passes)
@@ -87,14 +97,16 @@ list_any-Contains p (y ∷ ys) h = elim (or_cases (p y) (list_any p ys) h) [
 ]
 
 -- lists whose elements are related in turn are as long
-pub AllZip-length : {X Y : Type 0} (R : X → Y → Type 0) (xs : List X) (ys : List Y) → AllZip R xs ys → length xs ≡ length ys
+pub AllZip-length : {X Y : Type 0} (R : X → Y → Type 0) (xs : List X) (ys : List Y) → AllZip R xs ys
+    → length xs ≡ length ys
 AllZip-length R [] [] all = refl
 AllZip-length R [] (y ∷ ys) all = absurd all
 AllZip-length R (x ∷ xs) [] all = absurd all
 AllZip-length R (x ∷ xs) (y ∷ ys) all = ap suc (AllZip-length R xs ys all.1)
 
 -- and one more pair of related elements stays related
-pub AllZip-push : {X Y : Type 0} (R : X → Y → Type 0) (xs : List X) (ys : List Y) (x : X) (y : Y) → AllZip R xs ys → R x y →
+pub AllZip-push : {X Y : Type 0} (R : X → Y → Type 0) (xs : List X) (ys : List Y) (x : X) (y : Y) → AllZip R xs ys
+    → R x y →
     AllZip R (xs ++ x ∷ []) (ys ++ y ∷ [])
 AllZip-push R [] [] x y all related = (related, tt)
 AllZip-push R [] (b ∷ ys) x y all related = absurd all
@@ -156,21 +168,26 @@ sum_by-map f g (x ∷ xs) =
     sum_by-cons g (f x) (map f xs) ∙ ap (λ n. g (f x) + n) (sum_by-map f g xs) ∙ sym (sum_by-cons (λ y. g (f y)) x xs)
 
 -- sums of the same terms
-pub sum_by-same : {X : Type 0} (f g : X → ℕ) (xs : List X) → AllByRecursion (λ x. f x ≡ g x) xs → sum_by f xs ≡ sum_by g xs
+pub sum_by-same : {X : Type 0} (f g : X → ℕ) (xs : List X) → AllByRecursion (λ x. f x ≡ g x) xs
+    → sum_by f xs ≡ sum_by g xs
 sum_by-same f g [] same = refl
 sum_by-same f g (x ∷ xs) same =
     sum_by-cons f x xs ∙ ap₂ (λ m n. m + n) same.0 (sum_by-same f g xs same.1) ∙ sym (sum_by-cons g x xs)
 
 -- a count of one more element, which passes or fails
-pub count_by-passed : {X : Type 0} (p : X → Bool) (x : X) (xs : List X) → p x ≡ true → count_by p (x ∷ xs) ≡ 1 + count_by p xs
+pub count_by-passed : {X : Type 0} (p : X → Bool) (x : X) (xs : List X) → p x ≡ true
+    → count_by p (x ∷ xs) ≡ 1 + count_by p xs
 count_by-passed p x xs passes = sum_by-cons (λ y. cond (p y) 1 0) x xs ∙ ap (λ b. cond b 1 0 + count_by p xs) passes
 
-pub count_by-failed : {X : Type 0} (p : X → Bool) (x : X) (xs : List X) → p x ≡ false → count_by p (x ∷ xs) ≡ count_by p xs
+pub count_by-failed : {X : Type 0} (p : X → Bool) (x : X) (xs : List X) → p x ≡ false
+    → count_by p (x ∷ xs) ≡ count_by p xs
 count_by-failed p x xs fails =
     sum_by-cons (λ y. cond (p y) 1 0) x xs ∙ ap (λ b. cond b 1 0 + count_by p xs) fails ∙ zero-add (count_by p xs)
 
 -- where no element passes, the count is 0
-pub count_by-none : {X : Type 0} (p : X → Bool) (xs : List X) → ((x : X) → Contains xs x → p x ≡ false) → count_by p xs ≡ 0
+pub count_by-none : {X : Type 0} (p : X → Bool) (xs : List X) → ((x : X) → Contains xs x → p x ≡ false)
+    → count_by p xs ≡ 0
 count_by-none p [] fails = refl
 count_by-none p (x ∷ xs) fails =
-    count_by-failed p x xs (fails x (Contains-head x xs)) ∙ count_by-none p xs (λ y among. fails y (Contains-tail x xs y among))
+    count_by-failed p x xs (fails x (Contains-head x xs))
+    ∙ count_by-none p xs (λ y among. fails y (Contains-tail x xs y among))

@@ -1,5 +1,6 @@
 -- The partial form of a schema is a schema.
-use Rattle.std.proofs.Common.{◌≡◌, ◌≤◌, ◌∷◌, [], ℕ, Bool, true, List, length, map, fold, refl, inl, inr, arith, length-append}
+use Rattle.std.proofs.Common.{◌≡◌, ◌≤◌, ◌∷◌, [], ℕ, Bool, true, List, length, map, fold, refl, inl, inr, arith}
+use Rattle.std.proofs.Common.{length-append}
 use Rattle.std.specs.List.{list_all}
 use Rattle.std.proofs.lemmas.Bool.{cases_Bool, and_parts}
 use Rattle.std.proofs.lemmas.List.Folds.{list_all-append}
@@ -9,7 +10,8 @@ use Rattle.cube_core.specs.declared.aggregate.Agg.{Agg}
 use Rattle.cube_core.specs.declared.aggregate.Agg.TheVariants.{CountAll, Count, Sum, Min, Max, Avg}
 
 -- a list with one more aggregate, or the same list: what all pass, and how long it is at least
-with_aggregate-list_all : (p : Agg → Bool) (aggregates : List Agg) (agg : Agg) → list_all p aggregates ≡ true → p agg ≡ true → list_all p (with_aggregate aggregates agg) ≡ true
+with_aggregate-list_all : (p : Agg → Bool) (aggregates : List Agg) (agg : Agg) → list_all p aggregates ≡ true
+    → p agg ≡ true → list_all p (with_aggregate aggregates agg) ≡ true
 with_aggregate-list_all p aggregates agg all one = elim (cases_Bool (has_aggregate agg aggregates)) [
   | inl there ↦ rw there all
   | inr missing ↦ rw (missing, list_all-append p aggregates (agg ∷ []), all, one) refl
@@ -21,9 +23,12 @@ with_aggregate-length aggregates agg = elim (cases_Bool (has_aggregate agg aggre
   | inr missing ↦ rw (missing, length-append aggregates (agg ∷ [])) (omega arith)
 ]
 
-with_parts-list_all : (measures : ℕ) (aggregates : List Agg) (agg : Agg) → list_all (is_aggregate_of measures) aggregates ≡ true → is_aggregate_of measures agg ≡ true → list_all (is_aggregate_of measures) (with_parts aggregates agg) ≡ true
+with_parts-list_all : (measures : ℕ) (aggregates : List Agg) (agg : Agg)
+    → list_all (is_aggregate_of measures) aggregates ≡ true → is_aggregate_of measures agg ≡ true
+    → list_all (is_aggregate_of measures) (with_parts aggregates agg) ≡ true
 with_parts-list_all measures aggregates (Avg m) all one =
-    with_aggregate-list_all (is_aggregate_of measures) (with_aggregate aggregates (Sum m)) (Count m) (with_aggregate-list_all (is_aggregate_of measures) aggregates (Sum m) all one) one
+    with_aggregate-list_all (is_aggregate_of measures) (with_aggregate aggregates (Sum m)) (Count m)
+    (with_aggregate-list_all (is_aggregate_of measures) aggregates (Sum m) all one) one
 with_parts-list_all measures aggregates CountAll all one = all
 with_parts-list_all measures aggregates (Count m) all one = all
 with_parts-list_all measures aggregates (Sum m) all one = all
@@ -31,14 +36,20 @@ with_parts-list_all measures aggregates (Min m) all one = all
 with_parts-list_all measures aggregates (Max m) all one = all
 
 with_parts-length : (aggregates : List Agg) (agg : Agg) → length aggregates ≤ length (with_parts aggregates agg)
-with_parts-length aggregates (Avg m) = omega (arith, with_aggregate-length aggregates (Sum m), with_aggregate-length (with_aggregate aggregates (Sum m)) (Count m))
+with_parts-length aggregates (Avg m) = omega (
+  arith,
+  with_aggregate-length aggregates (Sum m),
+  with_aggregate-length (with_aggregate aggregates (Sum m)) (Count m),
+)
 with_parts-length aggregates CountAll = omega arith
 with_parts-length aggregates (Count m) = omega arith
 with_parts-length aggregates (Sum m) = omega arith
 with_parts-length aggregates (Min m) = omega arith
 with_parts-length aggregates (Max m) = omega arith
 
-fold-list_all : (measures : ℕ) (all means : List Agg) → list_all (is_aggregate_of measures) all ≡ true → list_all (is_aggregate_of measures) means ≡ true → list_all (is_aggregate_of measures) (fold with_parts all means) ≡ true
+fold-list_all : (measures : ℕ) (all means : List Agg) → list_all (is_aggregate_of measures) all ≡ true
+    → list_all (is_aggregate_of measures) means ≡ true
+    → list_all (is_aggregate_of measures) (fold with_parts all means) ≡ true
 fold-list_all measures all [] of others = of
 fold-list_all measures all (agg ∷ means) of others =
     let (one, rest) = and_parts (is_aggregate_of measures agg) (list_all (is_aggregate_of measures) means) others in
@@ -49,7 +60,8 @@ fold-length all [] = omega arith
 fold-length all (agg ∷ means) = omega (arith, with_parts-length all agg, fold-length (with_parts all agg) means)
 
 -- the partial form of a schema is one, where it hasn't too many aggregates
-pub partial_form-IsSchema : (s : Layout) → IsSchema s → length (partial_aggregates s.aggregates) ≤ 24 → IsSchema (partial_form s)
+pub partial_form-IsSchema : (s : Layout) → IsSchema s → length (partial_aggregates s.aggregates) ≤ 24
+    → IsSchema (partial_form s)
 partial_form-IsSchema s is few = record {
   some_dimension = is.some_dimension;
   dimensions_at_most = is.dimensions_at_most;
@@ -59,7 +71,8 @@ partial_form-IsSchema s is few = record {
   aggregates_at_most = few;
   names_are_lawful = is.names_are_lawful;
   names_are_distinct = is.names_are_distinct;
-  aggregates_are_of_measures = fold-list_all (length s.measures) s.aggregates s.aggregates is.aggregates_are_of_measures is.aggregates_are_of_measures;
+  aggregates_are_of_measures = fold-list_all (length s.measures)
+      s.aggregates s.aggregates is.aggregates_are_of_measures is.aggregates_are_of_measures;
   aggregates_are_spelled = refl;
   some_record = is.some_record;
   records_at_most = is.records_at_most;
@@ -72,8 +85,19 @@ partial_form-IsSchema s is few = record {
 }
 
 -- the same, of parts that were copied or made
-pub copied-IsSchema : (s : Layout) (dimensions measures texts : List (List ℕ)) (aggregates : List Agg) (sets : List ℕ) → IsSchema s
-    → dimensions ≡ s.dimensions → measures ≡ s.measures → aggregates ≡ partial_aggregates s.aggregates → texts ≡ map (spelling_of measures) aggregates → sets ≡ s.grouping_sets → length aggregates ≤ 24
-    → IsSchema (record { dimensions = dimensions; measures = measures; aggregates = aggregates; aggregate_texts = texts; max_records = s.max_records; grouping_sets = sets; version = s.version; shard = s.shard })
+pub copied-IsSchema : (s : Layout) (dimensions measures texts : List (List ℕ)) (aggregates : List Agg) (sets : List ℕ)
+    → IsSchema s
+    → dimensions ≡ s.dimensions → measures ≡ s.measures → aggregates ≡ partial_aggregates s.aggregates
+    → texts ≡ map (spelling_of measures) aggregates → sets ≡ s.grouping_sets → length aggregates ≤ 24
+    → IsSchema (record {
+      dimensions = dimensions;
+      measures = measures;
+      aggregates = aggregates;
+      aggregate_texts = texts;
+      max_records = s.max_records;
+      grouping_sets = sets;
+      version = s.version;
+      shard = s.shard;
+    })
 copied-IsSchema s dimensions measures texts aggregates sets is d m a t g few =
     rw (d, t, a, m, g) (partial_form-IsSchema s is (rw a at few))

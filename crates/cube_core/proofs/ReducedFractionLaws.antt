@@ -1,5 +1,6 @@
 -- A total and a count, each divided by their greatest common divisor, are a fraction in lowest terms.
-use Rattle.std.proofs.Common.{◌≡◌, ℕ, zero, suc, ◌*◌, ◌/◌, ◌<◌, ◌≤◌, ℤ, pos, negsuc, neg_ℤ, ◌*ℤ◌, unsigned_abs, int_div, refl, sym, ◌∙◌, ap, subst, arith}
+use Rattle.std.proofs.Common.{◌≡◌, ℕ, zero, suc, ◌*◌, ◌/◌, ◌<◌, ◌≤◌, ℤ, pos, negsuc, neg_ℤ, ◌*ℤ◌, unsigned_abs, int_div}
+use Rattle.std.proofs.Common.{refl, sym, ◌∙◌, ap, subst, arith}
 use Prim.Native.Nat.{◌∣◌}
 use Rattle.std.specs.Int.{IsGcd}
 use Rattle.std.proofs.Math.Nat.{zero-mul, div-mul_cancel, dvd-mul_right, pos_of_dvd_of_pos}
@@ -17,7 +18,8 @@ unsigned_abs-neg (suc n) = refl
 
 -- which of two numbers a common divisor is taken out of makes no difference to their product
 divide-times : (a b g : ℕ) → g ∣ a → g ∣ b → a / g * b ≡ a * (b / g)
-divide-times a b g p q = omega (arith, ap (λ k. k * (b / g)) (div-mul_cancel g p), ap (λ k. a / g * k) (div-mul_cancel g q))
+divide-times a b g p q =
+    omega (arith, ap (λ k. k * (b / g)) (div-mul_cancel g p), ap (λ k. a / g * k) (div-mul_cancel g q))
 
 quotient-positive : (n g : ℕ) → 0 < n → g ∣ n → 0 < n / g
 quotient-positive n g some p =
@@ -34,6 +36,7 @@ IsInLowestTerms-IsGcd (pos a) count g some h =
 IsInLowestTerms-IsGcd (negsuc a) count g some h =
     record {
       positive = quotient-positive count g some h.1;
-      coprime = subst (λ k. IsGcd k (count / g) 1) (sym (unsigned_abs-neg (suc a / g))) (IsGcd-divided (suc a) count g (pos_of_dvd_of_pos h.1 some) h);
+      coprime = subst (λ k. IsGcd k (count / g) 1) (sym (unsigned_abs-neg (suc a / g)))
+          (IsGcd-divided (suc a) count g (pos_of_dvd_of_pos h.1 some) h);
       equal = neg-times (suc a / g) count ∙ ap (λ k. neg_ℤ (pos k)) (divide-times (suc a) count g h.0 h.1);
     }

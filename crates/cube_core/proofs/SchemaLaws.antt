@@ -1,5 +1,7 @@
 -- A document that has no fault writes a schema.
-use Rattle.std.proofs.Common.{◌≡◌, ℕ, ◌+◌, ◌<◌, ◌≤◌, ◌^◌, pos, zero, suc, Bool, true, false, ◌&&◌, is_some, nat_le, nat_lt, codes, List, [], ◌∷◌, ◌++◌, length, map, find, Option, Some, None, Result, Ok, Err, IfOk, IfSome, IsUtf8, refl, ap, ◌∙◌, sym, subst, inl, inr, arith}
+use Rattle.std.proofs.Common.{◌≡◌, ℕ, ◌+◌, ◌<◌, ◌≤◌, ◌^◌, pos, zero, suc, Bool, true, false, ◌&&◌, is_some, nat_le}
+use Rattle.std.proofs.Common.{nat_lt, codes, List, [], ◌∷◌, ◌++◌, length, map, find, Option, Some, None, Result, Ok}
+use Rattle.std.proofs.Common.{Err, IfOk, IfSome, IsUtf8, refl, ap, ◌∙◌, sym, subst, inl, inr, arith}
 use Rattle.std.specs.Str.{bytes_eq}
 use Rattle.std.specs.List.{list_all, range_with_len, filter_map, cons_option}
 use Rattle.std.specs.Option.{option_map_or}
@@ -13,11 +15,18 @@ use Rattle.cube_core.proofs.GroupingLaws.{grouping-AreKept, kept_sets-all_sets}
 use Rattle.cube_core.specs.GroupingSet.{all_sets}
 use Rattle.toml.specs.Parse.{parse_document}
 use Rattle.cube_core.specs.declared.schema_fault.SchemaFault.{SchemaFault}
-use Rattle.cube_core.specs.declared.schema_fault.SchemaFault.TheVariants.{Memory, Toml, UnknownKey, Dimensions, Measures, Name, Aggregates, MaxRecords, Grouping, Version}
+use Rattle.cube_core.specs.declared.schema_fault.SchemaFault.TheVariants.{Memory, Toml, UnknownKey, Dimensions}
+use Rattle.cube_core.specs.declared.schema_fault.SchemaFault.TheVariants.{Measures, Name, Aggregates, MaxRecords}
+use Rattle.cube_core.specs.declared.schema_fault.SchemaFault.TheVariants.{Grouping, Version}
 use Rattle.cube_core.specs.Shard.{IsShard}
 use Rattle.cube_core.specs.declared.shard.Shard.{Shard}
 use Rattle.cube_core.specs.Layout.{Layout, IsSchema, spelling_of, is_aggregate_of, is_lawful_name, are_distinct}
-use Rattle.cube_core.specs.SchemaDocument.{is_some_up_to, are_lawful_names, aggregates_over, aggregate_spelled, are_spellings, record_limit, max_records_in, default_max_records, sets_of_grouping, feed_version, version_in, dimensions_in, measures_in, spellings_in, has_known_keys, SchemaParts, parts_in, named_parts, parts_faults, is_fault_of_parts, layout_of_parts, document_faults, has_fault, first_fault, layout_of, AnswersParts, AnswersDocument, AnswersBytes}
+use Rattle.cube_core.specs.SchemaDocument.{is_some_up_to, are_lawful_names, aggregates_over, aggregate_spelled}
+use Rattle.cube_core.specs.SchemaDocument.{are_spellings, record_limit, max_records_in, default_max_records}
+use Rattle.cube_core.specs.SchemaDocument.{sets_of_grouping, feed_version, version_in, dimensions_in, measures_in}
+use Rattle.cube_core.specs.SchemaDocument.{spellings_in, has_known_keys, SchemaParts, parts_in, named_parts}
+use Rattle.cube_core.specs.SchemaDocument.{parts_faults, is_fault_of_parts, layout_of_parts, document_faults, has_fault}
+use Rattle.cube_core.specs.SchemaDocument.{first_fault, layout_of, AnswersParts, AnswersDocument, AnswersBytes}
 use Rattle.cube_core.specs.declared.aggregate.Agg.{Agg}
 use Rattle.cube_core.specs.declared.aggregate.Agg.TheVariants.{Count, Sum, Min, Max, Avg}
 
@@ -30,7 +39,8 @@ find-passes test (y ∷ ys) x is =
       | inr fails ↦ find-passes test ys x (rw fails at is)
     ]
 
-find-has : {X : Type 0} (test has : X → Bool) (xs : List X) (x : X) → list_all has xs ≡ true → find test xs ≡ Some x → has x ≡ true
+find-has : {X : Type 0} (test has : X → Bool) (xs : List X) (x : X) → list_all has xs ≡ true → find test xs ≡ Some x
+    → has x ≡ true
 find-has test has [] x all is = cc
 find-has test has (y ∷ ys) x all is =
     let (here, others) = and_parts (has y) (list_all has ys) all in
@@ -47,29 +57,42 @@ range_with_len-below k (suc n) after is =
     rw here (range_with_len-below (k + 1) n after (omega arith))
 
 -- the aggregates of one function, and others, are of so many measures
-is_aggregate_of-map : (measures : ℕ) (make : ℕ → Agg) (others : List Agg) → ((m : ℕ) → is_aggregate_of measures (make m) ≡ nat_lt m measures) → list_all (is_aggregate_of measures) others ≡ true
+is_aggregate_of-map : (measures : ℕ) (make : ℕ → Agg) (others : List Agg)
+    → ((m : ℕ) → is_aggregate_of measures (make m) ≡ nat_lt m measures)
+    → list_all (is_aggregate_of measures) others ≡ true
     → list_all (is_aggregate_of measures) (map make (range_with_len 0 measures) ++ others) ≡ true
 is_aggregate_of-map measures make others of rest =
     let numbers : list_all (λ m. is_aggregate_of measures (make m)) (range_with_len 0 measures) ≡ true =
-    ap (λ test. list_all test (range_with_len 0 measures)) (λ i m. of m i) ∙ range_with_len-below 0 measures measures (omega arith) in
-    rw (list_all-append (is_aggregate_of measures) (map make (range_with_len 0 measures)) others, list_all-map (is_aggregate_of measures) make (range_with_len 0 measures), numbers) rest
+    ap (λ test. list_all test (range_with_len 0 measures)) (λ i m. of m i)
+    ∙ range_with_len-below 0 measures measures (omega arith) in
+    rw (
+      list_all-append (is_aggregate_of measures) (map make (range_with_len 0 measures)) others,
+      list_all-map (is_aggregate_of measures) make (range_with_len 0 measures),
+      numbers,
+    ) rest
 
 -- every aggregate over so many measures is of them
 aggregates_over-of : (measures : ℕ) → list_all (is_aggregate_of measures) (aggregates_over measures) ≡ true
 aggregates_over-of measures =
     let over : (ℕ → Agg) → List Agg = λ make. map make (range_with_len 0 measures) in
-    let last : list_all (is_aggregate_of measures) (over Avg) ≡ true = list_all-map (is_aggregate_of measures) Avg (range_with_len 0 measures) ∙ range_with_len-below 0 measures measures (omega arith) in
+    let last : list_all (is_aggregate_of measures) (over Avg) ≡ true =
+    list_all-map (is_aggregate_of measures) Avg (range_with_len 0 measures)
+    ∙ range_with_len-below 0 measures measures (omega arith) in
     is_aggregate_of-map measures Count (over Sum ++ (over Min ++ (over Max ++ over Avg))) (λ m. refl)
     (is_aggregate_of-map measures Sum (over Min ++ (over Max ++ over Avg)) (λ m. refl)
     (is_aggregate_of-map measures Min (over Max ++ over Avg) (λ m. refl)
     (is_aggregate_of-map measures Max (over Avg) (λ m. refl) last)))
 
 -- the aggregate that a text spells is of the measures, and the text is its spelling
-aggregate_spelled-spelling_of : (measures : List (List ℕ)) (text : List ℕ) (agg : Agg) → aggregate_spelled measures text ≡ Some agg → (is_aggregate_of (length measures) agg ≡ true) × (text ≡ spelling_of measures agg)
+aggregate_spelled-spelling_of : (measures : List (List ℕ)) (text : List ℕ) (agg : Agg)
+    → aggregate_spelled measures text ≡ Some agg
+    → (is_aggregate_of (length measures) agg ≡ true) × (text ≡ spelling_of measures agg)
 unfolding aggregate_spelled
 aggregate_spelled-spelling_of measures text agg is = (
-  find-has (λ a. bytes_eq text (spelling_of measures a)) (is_aggregate_of (length measures)) (aggregates_over (length measures)) agg (aggregates_over-of (length measures)) is,
-  (bytes_eq-Decides text (spelling_of measures agg)).0 (find-passes (λ a. bytes_eq text (spelling_of measures a)) (aggregates_over (length measures)) agg is),
+  find-has (λ a. bytes_eq text (spelling_of measures a)) (is_aggregate_of (length measures))
+      (aggregates_over (length measures)) agg (aggregates_over-of (length measures)) is,
+  (bytes_eq-Decides text (spelling_of measures agg)).0
+      (find-passes (λ a. bytes_eq text (spelling_of measures a)) (aggregates_over (length measures)) agg is),
 )
 
 -- texts that each spell an aggregate: as many aggregates, of the measures, in their spelling
@@ -78,7 +101,8 @@ pub record AreSpelled (measures texts : List (List ℕ)) (aggregates : List Agg)
   pub of_measures : list_all (is_aggregate_of (length measures)) aggregates ≡ true
   pub spelled : texts ≡ map (spelling_of measures) aggregates
 
-AreSpelled-cons : (measures texts : List (List ℕ)) (text : List ℕ) (aggregates : List Agg) (found : Option Agg) → aggregate_spelled measures text ≡ found → is_some found ≡ true
+AreSpelled-cons : (measures texts : List (List ℕ)) (text : List ℕ) (aggregates : List Agg) (found : Option Agg)
+    → aggregate_spelled measures text ≡ found → is_some found ≡ true
     → AreSpelled measures texts aggregates → AreSpelled measures (text ∷ texts) (cons_option found aggregates)
 AreSpelled-cons measures texts text aggregates None is some rest = cc
 AreSpelled-cons measures texts text aggregates (Some agg) is some rest =
@@ -89,11 +113,13 @@ AreSpelled-cons measures texts text aggregates (Some agg) is some rest =
       spelled = rw (← spelling) (ap (λ others. text ∷ others) rest.spelled);
     }
 
-AreSpelled-filter_map : (measures texts : List (List ℕ)) → are_spellings measures texts ≡ true → AreSpelled measures texts (filter_map (aggregate_spelled measures) texts)
+AreSpelled-filter_map : (measures texts : List (List ℕ)) → are_spellings measures texts ≡ true
+    → AreSpelled measures texts (filter_map (aggregate_spelled measures) texts)
 AreSpelled-filter_map measures [] all = record { as_many = refl; of_measures = refl; spelled = refl }
 AreSpelled-filter_map measures (text ∷ texts) all =
     let (here, others) = and_parts (is_some (aggregate_spelled measures text)) (are_spellings measures texts) all in
-    AreSpelled-cons measures texts text _ (aggregate_spelled measures text) refl here (AreSpelled-filter_map measures texts others)
+    AreSpelled-cons measures texts text _ (aggregate_spelled measures text) refl here
+    (AreSpelled-filter_map measures texts others)
 
 -- a limit that is read is in its range
 record_limit-bounds : (value : Data) (n : ℕ) → record_limit value ≡ Some n → (1 ≤ n) × (n < 2 ^ 32)
@@ -103,16 +129,20 @@ record_limit-bounds (integer (pos m)) n is =
     grind (arith, nat_tests)
 record_limit-bounds _ n is = cc
 
-max_records_in-at : (value : Option Data) (n : ℕ) → option_map_or record_limit value (Some default_max_records) ≡ Some n → (1 ≤ n) × (n < 2 ^ 32)
+max_records_in-at : (value : Option Data) (n : ℕ) → option_map_or record_limit value (Some default_max_records) ≡ Some n
+    → (1 ≤ n) × (n < 2 ^ 32)
 max_records_in-at None n is = let same : default_max_records ≡ n = same_Some _ _ is in (omega arith, omega arith)
 max_records_in-at (Some value) n is = record_limit-bounds value n is
 
-pub max_records_in-bounds : (document : Members) (found : Option ℕ) → found ≡ max_records_in document → IfSome found (λ limit. 1 ≤ limit)
+pub max_records_in-bounds : (document : Members) (found : Option ℕ) → found ≡ max_records_in document
+    → IfSome found (λ limit. 1 ≤ limit)
 max_records_in-bounds document None is = tt
-max_records_in-bounds document (Some n) is = (max_records_in-at (get_member (codes "max_records") document) n (sym is)).0
+max_records_in-bounds document (Some n) is =
+    (max_records_in-at (get_member (codes "max_records") document) n (sym is)).0
 
 -- a number of texts in its bounds
-is_some_up_to-length : (most : ℕ) (texts : List (List ℕ)) → is_some_up_to most texts ≡ true → (1 ≤ length texts) × (length texts ≤ most)
+is_some_up_to-length : (most : ℕ) (texts : List (List ℕ)) → is_some_up_to most texts ≡ true
+    → (1 ≤ length texts) × (length texts ≤ most)
 is_some_up_to-length most texts is =
     let (least, above) = and_parts (nat_le 1 (length texts)) (nat_le (length texts) most) is in
     (grind (arith, nat_tests), grind (arith, nat_tests))
@@ -129,23 +159,36 @@ version_in-at : (value : Option Data) (n : ℕ) → option_map_or feed_version v
 version_in-at None n is = let same : 1 ≡ n = same_Some _ _ is in (omega arith, omega arith)
 version_in-at (Some value) n is = feed_version-bounds value n is
 
-pub version_in-bounds : (document : Members) (found : Option ℕ) → found ≡ version_in document → IfSome found (λ number. (1 ≤ number) × (number ≤ 2))
+pub version_in-bounds : (document : Members) (found : Option ℕ) → found ≡ version_in document
+    → IfSome found (λ number. (1 ≤ number) × (number ≤ 2))
 version_in-bounds document None is = tt
 version_in-bounds document (Some n) is = version_in-at (get_member (codes "version") document) n (sym is)
 
 -- parts that have none of the faults make a schema
-pub layout_of_parts-IsSchema : (dimensions measures texts : List (List ℕ)) (aggregates : List Agg) (limit : ℕ) (grouping : Option Data) (sets : List ℕ) (version : ℕ) (shard : Shard)
+pub layout_of_parts-IsSchema : (dimensions measures texts : List (List ℕ)) (aggregates : List Agg) (limit : ℕ)
+    (grouping : Option Data) (sets : List ℕ) (version : ℕ) (shard : Shard)
     → IsShard shard → is_some_up_to 8 dimensions ≡ true → is_some_up_to 4 measures ≡ true
     → are_lawful_names (dimensions ++ measures) ≡ true → is_some_up_to 16 texts ≡ true
     → (aggregates ≡ filter_map (aggregate_spelled measures) texts) × (are_spellings measures texts ≡ true)
     → (1 ≤ limit) × (limit < 2 ^ 32) → Some sets ≡ sets_of_grouping dimensions grouping → (1 ≤ version) × (version ≤ 2)
-    → IsSchema (record { dimensions = dimensions; measures = measures; aggregates = aggregates; aggregate_texts = texts; max_records = limit; grouping_sets = sets; version = version; shard = shard })
-layout_of_parts-IsSchema dimensions measures texts aggregates limit grouping sets version shard lawful_shard d m names t spellings range sets_are versions =
+    → IsSchema (record {
+      dimensions = dimensions;
+      measures = measures;
+      aggregates = aggregates;
+      aggregate_texts = texts;
+      max_records = limit;
+      grouping_sets = sets;
+      version = version;
+      shard = shard;
+    })
+layout_of_parts-IsSchema dimensions measures texts aggregates limit grouping sets version shard lawful_shard d m names t
+    spellings range sets_are versions =
     let ds = is_some_up_to-length 8 dimensions d in
     let ms = is_some_up_to-length 4 measures m in
     let ts = is_some_up_to-length 16 texts t in
     let kept = grouping-AreKept dimensions grouping sets (sym sets_are) in
-    let (lawful, distinct) = and_parts (list_all is_lawful_name (dimensions ++ measures)) (are_distinct (dimensions ++ measures)) names in
+    let (lawful, distinct) =
+    and_parts (list_all is_lawful_name (dimensions ++ measures)) (are_distinct (dimensions ++ measures)) names in
     let all = AreSpelled-filter_map measures texts spellings.1 in
     rw spellings.0 (record {
       some_dimension = ds.0;
@@ -169,7 +212,8 @@ layout_of_parts-IsSchema dimensions measures texts aggregates limit grouping set
     })
 
 -- what is answered to the parts of a document with known keys alone is answered to the document
-document-answered : (document : Members) (answer : Result Layout SchemaFault) → has_known_keys document ≡ true → AnswersParts (parts_in document) answer → AnswersDocument document answer
+document-answered : (document : Members) (answer : Result Layout SchemaFault) → has_known_keys document ≡ true
+    → AnswersParts (parts_in document) answer → AnswersDocument document answer
 document-answered document (Ok layout) known answers = rw known answers
 document-answered document (Err Memory) known answers = tt
 document-answered document (Err Toml) known answers = rw known answers
@@ -183,51 +227,99 @@ document-answered document (Err Grouping) known answers = rw known answers
 document-answered document (Err Version) known answers = rw known answers
 
 -- the same, of parts that were read one by one
-pub document-answered_by : (document : Members) (dimensions measures spellings : List (List ℕ)) (limit : Option ℕ) (grouping : Option Data) (version : Option ℕ) (answer : Result Layout SchemaFault)
-    → has_known_keys document ≡ true → dimensions ≡ dimensions_in document → measures ≡ measures_in document → spellings ≡ spellings_in document
-    → limit ≡ max_records_in document → grouping ≡ get_member (codes "grouping") document → version ≡ version_in document
-    → AnswersParts (record { dimensions = dimensions; measures = measures; spellings = spellings; max_records = limit; grouping_sets = sets_of_grouping dimensions grouping; version = version }) answer
+pub document-answered_by : (document : Members) (dimensions measures spellings : List (List ℕ)) (limit : Option ℕ)
+    (grouping : Option Data) (version : Option ℕ) (answer : Result Layout SchemaFault)
+    → has_known_keys document ≡ true → dimensions ≡ dimensions_in document → measures ≡ measures_in document
+    → spellings ≡ spellings_in document
+    → limit ≡ max_records_in document → grouping ≡ get_member (codes "grouping") document
+    → version ≡ version_in document
+    → AnswersParts (record {
+      dimensions = dimensions;
+      measures = measures;
+      spellings = spellings;
+      max_records = limit;
+      grouping_sets = sets_of_grouping dimensions grouping;
+      version = version;
+    }) answer
     → AnswersDocument document answer
 document-answered_by document dimensions measures spellings limit grouping version answer known d m t l g v answers =
     document-answered document answer known (subst (λ (parts : SchemaParts). AnswersParts parts answer)
-    (λ i. record { dimensions = d i; measures = m i; spellings = t i; max_records = l i; grouping_sets = sets_of_grouping (d i) (g i); version = v i }) answers)
+    (λ i. record {
+      dimensions = d i;
+      measures = m i;
+      spellings = t i;
+      max_records = l i;
+      grouping_sets = sets_of_grouping (d i) (g i);
+      version = v i;
+    }) answers)
 
 -- what is answered to names, where nothing else is said, is answered to their parts
-pub named_parts-answered : (dimensions measures spellings ds ms ts : List (List ℕ)) (answer : Result Layout SchemaFault) → ds ≡ dimensions → ms ≡ measures → ts ≡ spellings
-    → AnswersParts (record { dimensions = ds; measures = ms; spellings = ts; max_records = Some default_max_records; grouping_sets = sets_of_grouping ds None; version = Some 1 }) answer
+pub named_parts-answered : (dimensions measures spellings ds ms ts : List (List ℕ)) (answer : Result Layout SchemaFault)
+    → ds ≡ dimensions → ms ≡ measures → ts ≡ spellings
+    → AnswersParts (record {
+      dimensions = ds;
+      measures = ms;
+      spellings = ts;
+      max_records = Some default_max_records;
+      grouping_sets = sets_of_grouping ds None;
+      version = Some 1;
+    }) answer
     → AnswersParts (named_parts dimensions measures spellings) answer
 named_parts-answered dimensions measures spellings ds ms ts answer d m t answers =
-    let sets : sets_of_grouping ds None ≡ Some (all_sets (length dimensions)) = ap (λ names. sets_of_grouping names None) d ∙ ap Some (kept_sets-all_sets (length dimensions)) in
+    let sets : sets_of_grouping ds None ≡ Some (all_sets (length dimensions)) =
+    ap (λ names. sets_of_grouping names None) d ∙ ap Some (kept_sets-all_sets (length dimensions)) in
     subst (λ (parts : SchemaParts). AnswersParts parts answer)
-    (λ i. record { dimensions = d i; measures = m i; spellings = t i; max_records = Some default_max_records; grouping_sets = sets i; version = Some 1 }) answers
+    (λ i. record {
+      dimensions = d i;
+      measures = m i;
+      spellings = t i;
+      max_records = Some default_max_records;
+      grouping_sets = sets i;
+      version = Some 1;
+    }) answers
 
 -- a schema that is answered to parts is theirs
-option_map_or-Ok : (found : Option SchemaFault) (layout s : Layout) → Ok s ≡ option_map_or Err found (Ok layout) → s ≡ layout
+option_map_or-Ok : (found : Option SchemaFault) (layout s : Layout) → Ok s ≡ option_map_or Err found (Ok layout)
+    → s ≡ layout
 option_map_or-Ok None layout s is = cc
 option_map_or-Ok (Some fault) layout s is = cc
 
-AnswersParts-Ok : (parts : SchemaParts) (answer : Result Layout SchemaFault) → AnswersParts parts answer → IfOk answer (λ layout. layout ≡ layout_of_parts parts)
-AnswersParts-Ok parts (Ok layout) answers = option_map_or-Ok (find (is_fault_of_parts parts) parts_faults) (layout_of_parts parts) layout answers
+AnswersParts-Ok : (parts : SchemaParts) (answer : Result Layout SchemaFault) → AnswersParts parts answer
+    → IfOk answer (λ layout. layout ≡ layout_of_parts parts)
+AnswersParts-Ok parts (Ok layout) answers =
+    option_map_or-Ok (find (is_fault_of_parts parts) parts_faults) (layout_of_parts parts) layout answers
 AnswersParts-Ok parts (Err fault) answers = tt
 
-pub named_parts-layout : (dimensions measures spellings ds ms ts : List (List ℕ)) (answer : Result Layout SchemaFault) → ds ≡ dimensions → ms ≡ measures → ts ≡ spellings
-    → AnswersParts (record { dimensions = ds; measures = ms; spellings = ts; max_records = Some default_max_records; grouping_sets = sets_of_grouping ds None; version = Some 1 }) answer
+pub named_parts-layout : (dimensions measures spellings ds ms ts : List (List ℕ)) (answer : Result Layout SchemaFault)
+    → ds ≡ dimensions → ms ≡ measures → ts ≡ spellings
+    → AnswersParts (record {
+      dimensions = ds;
+      measures = ms;
+      spellings = ts;
+      max_records = Some default_max_records;
+      grouping_sets = sets_of_grouping ds None;
+      version = Some 1;
+    }) answer
     → IfOk answer (λ layout. layout ≡ layout_of_parts (named_parts dimensions measures spellings))
 named_parts-layout dimensions measures spellings ds ms ts answer d m t answers =
-    AnswersParts-Ok (named_parts dimensions measures spellings) answer (named_parts-answered dimensions measures spellings ds ms ts answer d m t answers)
+    AnswersParts-Ok (named_parts dimensions measures spellings) answer
+    (named_parts-answered dimensions measures spellings ds ms ts answer d m t answers)
 
 -- no document is answered that it is none
-first_fault-Toml : (document : Members) (found : Option SchemaFault) → first_fault document ≡ found → Err Toml ≡ option_map_or Err found (Ok (layout_of document)) → false ≡ true
+first_fault-Toml : (document : Members) (found : Option SchemaFault) → first_fault document ≡ found
+    → Err Toml ≡ option_map_or Err found (Ok (layout_of document)) → false ≡ true
 first_fault-Toml document None is same = cc
 first_fault-Toml document (Some fault) is same =
     let fault_is : fault ≡ Toml = cc in
     find-passes (has_fault document) document_faults Toml (is ∙ ap Some fault_is)
 
 -- what is answered to the document of bytes is answered to the bytes
-pub bytes-answered : (bytes : List ℕ) (document : Members) (answer : Result Layout SchemaFault) → IsUtf8 bytes → parse_document bytes ≡ Some document → AnswersDocument document answer → AnswersBytes bytes answer
+pub bytes-answered : (bytes : List ℕ) (document : Members) (answer : Result Layout SchemaFault) → IsUtf8 bytes
+    → parse_document bytes ≡ Some document → AnswersDocument document answer → AnswersBytes bytes answer
 bytes-answered bytes document (Ok layout) utf8 parsed answers = (utf8, document, parsed, answers)
 bytes-answered bytes document (Err Memory) utf8 parsed answers = tt
-bytes-answered bytes document (Err Toml) utf8 parsed answers = absurd (false≢true (first_fault-Toml document (first_fault document) refl answers))
+bytes-answered bytes document (Err Toml) utf8 parsed answers =
+    absurd (false≢true (first_fault-Toml document (first_fault document) refl answers))
 bytes-answered bytes document (Err UnknownKey) utf8 parsed answers = (utf8, document, parsed, answers)
 bytes-answered bytes document (Err Dimensions) utf8 parsed answers = (utf8, document, parsed, answers)
 bytes-answered bytes document (Err Measures) utf8 parsed answers = (utf8, document, parsed, answers)

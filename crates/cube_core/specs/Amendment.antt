@@ -1,4 +1,5 @@
--- An amendment over a fact: the values that it puts, and the fact's own in the fields that it keeps (this project's choice).
+-- An amendment over a fact:
+-- the values that it puts, and the fact's own in the fields that it keeps (this project's choice).
 use Rattle.std.specs.Prelude.{List, map}
 use Rattle.std.specs.List.{zip}
 use Rattle.cube_core.specs.declared.fact.Fact.{Fact}

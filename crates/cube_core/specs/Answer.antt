@@ -1,4 +1,5 @@
--- The answers of the aggregates over a group of facts (SQL:1999, aggregate functions: COUNT of no value is 0, the others of no value are null).
+-- The answers of the aggregates over a group of facts (SQL:1999, aggregate functions:
+-- COUNT of no value is 0, the others of no value are null).
 use Rattle.std.specs.Prelude.{◌≡◌, ◌≤ℤ◌, ℕ, ℤ, List, [], ◌∷◌, length, Contains}
 use Rattle.std.specs.List.{AllByRecursion, AllZip}
 use Rattle.cube_core.specs.Fraction.{IsInLowestTerms}
@@ -30,7 +31,8 @@ IsGreatest values a = IsBest (λ m x. x ≤ℤ m) values a
 -- the mean of the values as a fraction in lowest terms, null where there is none
 abbrev pub IsMean : List ℤ → Answer → Type 0
 IsMean [] a = a ≡ answer.Null
-IsMean (v ∷ vs) a = (p : ℤ) × (q : ℕ) × (a ≡ answer.Ratio p q) × IsInLowestTerms (total_of (v ∷ vs)) (length (v ∷ vs)) p q
+IsMean (v ∷ vs) a =
+    (p : ℤ) × (q : ℕ) × (a ≡ answer.Ratio p q) × IsInLowestTerms (total_of (v ∷ vs)) (length (v ∷ vs)) p q
 
 -- the answer of an aggregate over a group of facts
 abbrev pub IsAnswer : List Fact → Agg → Answer → Type 0

@@ -1,4 +1,5 @@
--- An arrival list: the items of several sources in the order in which they came (an item belongs to its source, and nothing is known of the order between sources: this project's choice).
+-- An arrival list: the items of several sources in the order in which they came (an item belongs to its source,
+-- and nothing is known of the order between sources: this project's choice).
 use Rattle.std.specs.Prelude.{◌==◌, ℕ, List, map, filter}
 use Rattle.std.specs.List.{range_with_len}
 use Rattle.cube_core.specs.declared.change.Item.{Item}

@@ -1,4 +1,5 @@
--- Which facts a key covers (Gray et al. 1997, section 3: a coordinate that was aggregated over is ALL; SQL:1999: all nulls of a column are one group).
+-- Which facts a key covers (Gray et al. 1997, section 3: a coordinate that was aggregated over is ALL; SQL:1999:
+-- all nulls of a column are one group).
 use Rattle.std.specs.Prelude.{◌&&◌, ℕ, Bool, true, false, List, [], ◌∷◌, Option, Some, None}
 use Rattle.std.specs.Str.{bytes_eq}
 use Rattle.cube_core.specs.declared.key.Coord.{Coord}

@@ -1,4 +1,5 @@
--- The cube over grouping sets: the cells of these sets of a list of facts, each with its answers (Gray et al. 1997, section 3, where CUBE has all sets; SQL:1999, grouping sets; the grand total over no facts is this project's choice).
+-- The cube over grouping sets: the cells of these sets of a list of facts, each with its answers (Gray et al. 1997,
+-- section 3, where CUBE has all sets; SQL:1999, grouping sets; the grand total over no facts is this project's choice).
 use Rattle.std.specs.Prelude.{◌==◌, ◌&&◌, ◌||◌, ◌↔◌, ℕ, Bool, IsTrue, List, length, map, Contains}
 use Rattle.std.specs.List.{AllByRecursion, list_any, list_all}
 use Rattle.std.specs.List.Sorted.{IsStrictlySortedBy}
@@ -17,7 +18,8 @@ use Rattle.cube_core.specs.declared.fact.Fact.{Fact}
 abbrev pub is_total : ℕ → Key → Bool
 is_total dimensions key = (length key.coords == dimensions) && list_all is_all_coord key.coords
 
--- whether a key is a cell of the cube over these grouping sets: its set is one of them, and it is the grand total or covers a fact
+-- whether a key is a cell of the cube over these grouping sets:
+-- its set is one of them, and it is the grand total or covers a fact
 abbrev pub is_cell : List ℕ → ℕ → List Fact → Key → Bool
 is_cell sets dimensions facts key =
     is_among (mask_of key) sets && (is_total dimensions key || list_any (covers key) facts)
@@ -31,7 +33,8 @@ abbrev pub HasAnswers : List Agg → List Fact → Row → Type 0
 HasAnswers aggregates facts row = AreAnswers (group_of row.key facts) aggregates row.answers
 
 -- these are the rows of the cube over these grouping sets: each cell once, in key order, with the answers of its group
-pub record AreRowsOver (sets : List ℕ) (dimensions : ℕ) (aggregates : List Agg) (facts : List Fact) (rows : List Row) : Type 0 where
+pub record AreRowsOver (sets : List ℕ) (dimensions : ℕ) (aggregates : List Agg) (facts : List Fact) (rows : List Row)
+    : Type 0 where
   pub cells : (key : Key) → Contains (map key_of rows) key ↔ IsTrue (is_cell sets dimensions facts key)
   pub ordered : IsStrictlySortedBy key_cmp (map key_of rows)
   pub answers : AllByRecursion (HasAnswers aggregates facts) rows

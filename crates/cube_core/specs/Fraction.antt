@@ -1,4 +1,5 @@
--- The mean of a group as a fraction (this project's choice: a mean is printed as p/q in lowest terms, with q at least 1).
+-- The mean of a group as a fraction (this project's choice:
+-- a mean is printed as p/q in lowest terms, with q at least 1).
 use Rattle.std.specs.Prelude.{◌≡◌, ℕ, ◌<◌, ℤ, pos, ◌*ℤ◌, unsigned_abs}
 use Rattle.std.specs.Int.{IsGcd}
 

@@ -1,4 +1,5 @@
--- The group of a key, and the values that its facts have of a measure (Gray et al. 1997; SQL:1999: aggregates of a measure skip nulls).
+-- The group of a key, and the values that its facts have of a measure (Gray et al. 1997; SQL:1999:
+-- aggregates of a measure skip nulls).
 use Rattle.std.specs.Prelude.{ℕ, ℤ, pos, ◌+ℤ◌, List, [], ◌∷◌, get_or, Option, None, filter}
 use Rattle.std.specs.List.{filter_map}
 use Rattle.cube_core.specs.Covers.{covers}

@@ -1,5 +1,7 @@
--- Grouping sets: the set of dimensions that aren't ALL in a key, written as a mask (SQL:1999, grouping sets; the masks are this project's choice).
-use Rattle.std.specs.Prelude.{◌+◌, ◌*◌, ◌/◌, ◌^◌, ◌%◌, ◌==◌, ℕ, Bool, true, false, IsTrue, List, [], ◌∷◌, filter, slice_get, if◌then◌else◌}
+-- Grouping sets: the set of dimensions that aren't ALL in a key, written as a mask (SQL:1999, grouping sets;
+-- the masks are this project's choice).
+use Rattle.std.specs.Prelude.{◌+◌, ◌*◌, ◌/◌, ◌^◌, ◌%◌, ◌==◌, ℕ, Bool, true, false, IsTrue, List, [], ◌∷◌, filter}
+use Rattle.std.specs.Prelude.{slice_get, if◌then◌else◌}
 use Rattle.std.specs.Option.{option_map_or}
 use Rattle.std.specs.List.{AllByRecursion, range_with_len, list_any}
 use Rattle.cube_core.specs.declared.key.Coord.{Coord}
@@ -29,7 +31,8 @@ mask_of key = mask_of_coords key.coords
 abbrev pub all_sets : ℕ → List ℕ
 all_sets dimensions = range_with_len 0 (2 ^ dimensions)
 
--- the part, of n, that a grouping set is in: its mask and the whole quotient of it by n, added, modulo n (this project's choice)
+-- the part, of n, that a grouping set is in:
+-- its mask and the whole quotient of it by n, added, modulo n (this project's choice)
 abbrev pub part_of : ℕ → ℕ → ℕ
 part_of n set = (set + set / n) % n
 

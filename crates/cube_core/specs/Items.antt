@@ -1,5 +1,8 @@
--- The items of a feed: what its records say, one after another, after the header (this project's choice of a change feed).
-use Rattle.std.specs.Prelude.{◌≡◌, ◌==◌, ◌||◌, ◌&&◌, ◌+◌, nat_lt, ℕ, ℤ, Bool, true, false, not, pos, negsuc, ◌^◌, List, [], ◌∷◌, ◌++◌, length, map, take, drop, get_or, codes, Option, Some, None, is_some, option_map, Result, Ok, Err, if◌then◌else◌}
+-- The items of a feed:
+-- what its records say, one after another, after the header (this project's choice of a change feed).
+use Rattle.std.specs.Prelude.{◌≡◌, ◌==◌, ◌||◌, ◌&&◌, ◌+◌, nat_lt, ℕ, ℤ, Bool, true, false, not, pos, negsuc, ◌^◌, List}
+use Rattle.std.specs.Prelude.{[], ◌∷◌, ◌++◌, length, map, take, drop, get_or, codes, Option, Some, None, is_some}
+use Rattle.std.specs.Prelude.{option_map, Result, Ok, Err, if◌then◌else◌}
 use Rattle.std.specs.Str.{bytes_eq, is_utf8, all_ascii_digits}
 use Rattle.std.specs.Str.Parse.{without_leading_sign, signed_digits_value}
 use Rattle.std.specs.List.{list_all, list_any, filter_map}
@@ -185,7 +188,8 @@ items_after s number (fields ∷ records) =
     )
     else record { items = []; end = TooManyRecords }
 
--- what the records of a feed give: nothing where there is none, and only after a right header an item for each data record of the shard
+-- what the records of a feed give:
+-- nothing where there is none, and only after a right header an item for each data record of the shard
 abbrev pub items_of : Layout → List (List (List ℕ)) → Coming FeedEnd
 items_of s [] = record { items = []; end = Good }
 items_of s (header ∷ records) =

@@ -1,5 +1,6 @@
 -- The schema of a cube: what its feeds hold and which aggregates it shows (this project's choice).
-use Rattle.std.specs.Prelude.{◌≡◌, ◌<◌, ◌≤◌, ◌&&◌, nat_lt, ℕ, Bool, true, not, List, [], ◌∷◌, ◌++◌, ◌^◌, length, map, codes, get_or, All}
+use Rattle.std.specs.Prelude.{◌≡◌, ◌<◌, ◌≤◌, ◌&&◌, nat_lt, ℕ, Bool, true, not, List, [], ◌∷◌, ◌++◌, ◌^◌, length, map}
+use Rattle.std.specs.Prelude.{codes, get_or, All}
 use Rattle.std.specs.Str.{bytes_eq}
 use Rattle.std.specs.List.{list_any, list_all}
 use Rattle.std.specs.List.Sorted.{IsStrictlyIncreasing}
@@ -10,7 +11,9 @@ use Rattle.cube_core.specs.declared.shard.Shard.{Shard}
 use Rattle.cube_core.specs.declared.aggregate.Agg.{Agg}
 use Rattle.cube_core.specs.declared.aggregate.Agg.TheVariants.{CountAll, Count, Sum, Min, Max, Avg}
 
--- a schema: the names of the dimensions and of the measures, the aggregates, each with its spelling, how many data records a feed may have, the masks of the grouping sets that are kept, the version of its feeds, and the shard of them that is read
+-- a schema: the names of the dimensions and of the measures, the aggregates, each with its spelling,
+-- how many data records a feed may have, the masks of the grouping sets that are kept, the version of its feeds,
+-- and the shard of them that is read
 pub record Layout : Type 0 where
   pub dimensions : List (List ℕ)
   pub measures : List (List ℕ)
@@ -64,7 +67,8 @@ spelling_of measures (Min m) = spelled_with (codes "min") measures m
 spelling_of measures (Max m) = spelled_with (codes "max") measures m
 spelling_of measures (Avg m) = spelled_with (codes "avg") measures m
 
--- what is true of every schema: the numbers of its parts, lawful names that differ, aggregates of its measures in their spelling, and grouping sets of its dimensions, in ascending order, and a lawful shard
+-- what is true of every schema: the numbers of its parts, lawful names that differ, aggregates of its measures
+-- in their spelling, and grouping sets of its dimensions, in ascending order, and a lawful shard
 pub record IsSchema (s : Layout) : Type 0 where
   pub some_dimension : 1 ≤ length s.dimensions
   pub dimensions_at_most : length s.dimensions ≤ 8
@@ -95,7 +99,8 @@ sample_layout = record {
   dimensions = codes "region" ∷ codes "kind" ∷ [];
   measures = codes "amount" ∷ [];
   aggregates = CountAll ∷ Sum 0 ∷ Min 0 ∷ Max 0 ∷ Avg 0 ∷ [];
-  aggregate_texts = codes "count(*)" ∷ codes "sum(amount)" ∷ codes "min(amount)" ∷ codes "max(amount)" ∷ codes "avg(amount)" ∷ [];
+  aggregate_texts =
+      codes "count(*)" ∷ codes "sum(amount)" ∷ codes "min(amount)" ∷ codes "max(amount)" ∷ codes "avg(amount)" ∷ [];
   max_records = 4294967295;
   grouping_sets = all_sets 2;
   version = 1;

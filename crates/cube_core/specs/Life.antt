@@ -1,5 +1,7 @@
--- The life of an id in a list of changes: absent, or present with a fact (an update is a delete and an insert: Gray et al. 1997, section 6; an amendment is an update of some fields: this project's choice).
-use Rattle.std.specs.Prelude.{ℕ, Bool, true, false, List, [], ◌∷◌, Option, Some, None, Result, Ok, Err, if◌then◌else◌, filter}
+-- The life of an id in a list of changes: absent, or present with a fact (an update is a delete and an insert:
+-- Gray et al. 1997, section 6; an amendment is an update of some fields: this project's choice).
+use Rattle.std.specs.Prelude.{ℕ, Bool, true, false, List, [], ◌∷◌, Option, Some, None, Result, Ok, Err, if◌then◌else◌}
+use Rattle.std.specs.Prelude.{filter}
 use Rattle.std.specs.Str.{bytes_eq}
 use Rattle.std.specs.List.{list_any, filter_map, fold}
 use Rattle.cube_core.specs.Layout.{Layout}
@@ -35,7 +37,8 @@ since_delete [] = []
 since_delete (change ∷ changes) =
     if list_any is_delete (change ∷ changes) then since_delete changes else change ∷ changes
 
--- the fact of a present id after a change that takes it not away: an update puts its fact, an amendment some fields of it
+-- the fact of a present id after a change that takes it not away:
+-- an update puts its fact, an amendment some fields of it
 abbrev pub updated_by : Fact → Change → Fact
 updated_by fact (Insert id other) = fact
 updated_by fact (Update id other) = other

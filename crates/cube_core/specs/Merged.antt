@@ -1,5 +1,7 @@
--- The merged rows of cubes over parts of the facts: each key of any of them once, with what its answers make together (Gray et al. 1997: COUNT, SUM, MIN and MAX are distributive, AVG is algebraic, made of SUM and COUNT).
-use Rattle.std.specs.Prelude.{◌≡◌, ◌↔◌, ⊤, ℕ, zero, suc, ℤ, List, map, filter, get_or, sum_by, slice_get, Contains, Option, Some, None}
+-- The merged rows of cubes over parts of the facts: each key of any of them once, with what its answers make together
+-- (Gray et al. 1997: COUNT, SUM, MIN and MAX are distributive, AVG is algebraic, made of SUM and COUNT).
+use Rattle.std.specs.Prelude.{◌≡◌, ◌↔◌, ⊤, ℕ, zero, suc, ℤ, List, map, filter, get_or, sum_by, slice_get, Contains}
+use Rattle.std.specs.Prelude.{Option, Some, None}
 use Rattle.std.specs.List.{AllByRecursion, AllZip, filter_map}
 use Rattle.std.specs.List.Sorted.{IsStrictlySortedBy}
 use Rattle.std.specs.Ordering.{is_eq}
@@ -37,7 +39,8 @@ count_of answers = sum_by count_in answers
 abbrev pub numbers_of : List Answer → List ℤ
 numbers_of answers = filter_map number_in answers
 
--- what an aggregate's answers to the parts make of the whole: counts and sums are added, the least of the least and the greatest of the greatest values is taken, null where all are null; of means alone nothing is made
+-- what an aggregate's answers to the parts make of the whole: counts and sums are added, the least of the least
+-- and the greatest of the greatest values is taken, null where all are null; of means alone nothing is made
 abbrev pub Makes : Agg → List Answer → Answer → Type 0
 Makes CountAll parts a = a ≡ answer.Count (count_of parts)
 Makes (Count m) parts a = a ≡ answer.Count (count_of parts)
@@ -65,7 +68,8 @@ IsMadeMean given rows m a =
     (sums : ℕ) × (counts : ℕ) × (slice_get given sums ≡ Some (Sum m)) × (slice_get given counts ≡ Some (Count m))
     × IsMeanOf (total_of (numbers_of (column sums rows))) (count_of (column counts rows)) a
 
--- the answer to an aggregate that rows with one key make together, where they answer the given aggregates: a mean is made of sums and counts, and any other of its own answers
+-- the answer to an aggregate that rows with one key make together, where they answer the given aggregates:
+-- a mean is made of sums and counts, and any other of its own answers
 abbrev pub IsMerged : List Agg → List Row → Agg → Answer → Type 0
 IsMerged given rows (Avg m) a = IsMadeMean given rows m a
 IsMerged given rows agg a = IsMadeAt given rows agg a
@@ -78,7 +82,8 @@ rows_at key rows = filter (λ row. is_eq (key_cmp key row.key)) rows
 abbrev pub HasMergedAnswers : List Agg → List Agg → List Row → Row → Type 0
 HasMergedAnswers given wanted parts row = AllZip (IsMerged given (rows_at row.key parts)) wanted row.answers
 
--- these are the merged rows of the rows of cubes, in any order, which answer the given aggregates: each key once, in key order, with its merged answers to the wanted ones
+-- these are the merged rows of the rows of cubes, in any order, which answer the given aggregates:
+-- each key once, in key order, with its merged answers to the wanted ones
 pub record AreMerged (given wanted : List Agg) (parts rows : List Row) : Type 0 where
   pub cells : (key : Key) → Contains (map key_of rows) key ↔ Contains (map key_of parts) key
   pub ordered : IsStrictlySortedBy key_cmp (map key_of rows)

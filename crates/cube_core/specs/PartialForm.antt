@@ -1,5 +1,7 @@
--- The partial form of a schema: it also has what each mean is made of, so that cubes under it can be merged (Gray et al. 1997: AVG is algebraic, made of SUM and COUNT).
-use Rattle.std.specs.Prelude.{◌≡◌, ◌==◌, ◌<◌, ⊤, ℕ, Bool, true, false, List, [], ◌∷◌, ◌++◌, length, map, if◌then◌else◌, Result, Ok, Err}
+-- The partial form of a schema: it also has what each mean is made of,
+-- so that cubes under it can be merged (Gray et al. 1997: AVG is algebraic, made of SUM and COUNT).
+use Rattle.std.specs.Prelude.{◌≡◌, ◌==◌, ◌<◌, ⊤, ℕ, Bool, true, false, List, [], ◌∷◌, ◌++◌, length, map, if◌then◌else◌}
+use Rattle.std.specs.Prelude.{Result, Ok, Err}
 use Rattle.std.specs.List.{list_any, fold}
 use Rattle.cube_core.specs.Layout.{Layout, spelling_of}
 use Rattle.cube_core.specs.declared.aggregate.Agg.{Agg}
@@ -36,13 +38,17 @@ partial_aggregates aggregates = fold with_parts aggregates aggregates
 
 -- the partial form of a schema
 abbrev pub partial_form : Layout → Layout
-partial_form s = record s { aggregates = partial_aggregates s.aggregates; aggregate_texts = map (spelling_of s.measures) (partial_aggregates s.aggregates) }
+partial_form s = record s {
+  aggregates = partial_aggregates s.aggregates;
+  aggregate_texts = map (spelling_of s.measures) (partial_aggregates s.aggregates);
+}
 
 -- the most aggregates of a schema: 16 of its document, and 2 for each measure
 abbrev pub most_aggregates : ℕ
 most_aggregates = 24
 
--- what may be answered to a wish for the partial form: the form, that it has too many aggregates, or that memory ran out
+-- what may be answered to a wish for the partial form:
+-- the form, that it has too many aggregates, or that memory ran out
 abbrev pub AnswersPartial : Layout → Result Layout SchemaFault → Type 0
 AnswersPartial s (Ok form) = form ≡ partial_form s
 AnswersPartial s (Err Memory) = ⊤

@@ -1,4 +1,5 @@
--- The printed cube: the text of the rows of the cube over the schema's grouping sets, in key order (this project's choice).
+-- The printed cube: the text of the rows of the cube over the schema's grouping sets,
+-- in key order (this project's choice).
 use Rattle.std.specs.Prelude.{◌≡◌, ℕ, List}
 use Rattle.cube_core.specs.Layout.{Layout}
 use Rattle.cube_core.specs.Cube.{AreRows}

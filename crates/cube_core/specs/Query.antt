@@ -1,5 +1,8 @@
--- Queries of a cube: patterns of keys and the words that spell them, roll-up and drill-down along a dimension (Gray et al. 1997: rolling up replaces the values of a dimension by ALL; the words are this project's choice).
-use Rattle.std.specs.Prelude.{◌≡◌, ◌==◌, ◌&&◌, ◌↔◌, ◌+◌, ◌^◌, ⊤, ℕ, Bool, true, false, not, if◌then◌else◌, IsTrue, List, [], ◌∷◌, length, map, filter, find, Contains, codes, position, Option, Some, None, is_some, Result, Ok, Err, slice_set}
+-- Queries of a cube: patterns of keys and the words that spell them, roll-up and drill-down along a dimension (Gray et
+-- al. 1997: rolling up replaces the values of a dimension by ALL; the words are this project's choice).
+use Rattle.std.specs.Prelude.{◌≡◌, ◌==◌, ◌&&◌, ◌↔◌, ◌+◌, ◌^◌, ⊤, ℕ, Bool, true, false, not, if◌then◌else◌, IsTrue, List}
+use Rattle.std.specs.Prelude.{[], ◌∷◌, length, map, filter, find, Contains, codes, position, Option, Some, None}
+use Rattle.std.specs.Prelude.{is_some, Result, Ok, Err, slice_set}
 use Rattle.std.specs.Str.{bytes_eq, is_utf8}
 use Rattle.std.specs.Option.{option_map_or, ok_or}
 use Rattle.std.specs.List.{AllByRecursion, list_all, filter_map}
@@ -18,7 +21,8 @@ use Rattle.cube_core.specs.declared.key.Coord.TheVariants as coord
 use Rattle.cube_core.specs.declared.key.Key.{Key}
 use Rattle.cube_core.specs.declared.key.Row.{Row}
 use Rattle.cube_core.specs.declared.query.QueryFault.{QueryFault}
-use Rattle.cube_core.specs.declared.query.QueryFault.TheVariants.{Fields, Field, NotCell, NotRolled, UnknownDimension, Memory, NotGrouped}
+use Rattle.cube_core.specs.declared.query.QueryFault.TheVariants.{Fields, Field, NotCell, NotRolled, UnknownDimension}
+use Rattle.cube_core.specs.declared.query.QueryFault.TheVariants.{Memory, NotGrouped}
 
 -- what may be answered to a query: what is said of it, or that memory ran out
 abbrev pub Says : {T : Type 0} → Result T QueryFault → Result T QueryFault → Type 0
@@ -45,7 +49,8 @@ abbrev pub named_by : List ℕ → Option (List ℕ)
 named_by [] = None
 named_by (first ∷ text) = if (first == 61) && is_utf8 text then Some text else None
 
--- the coordinate that a field wants, or none for any, where it has one of the four forms: `?`, `\A`, `\N`, or `=` followed by a text
+-- the coordinate that a field wants, or none for any, where it has one of the four forms:
+-- `?`, `\A`, `\N`, or `=` followed by a text
 abbrev pub wanted_by : List ℕ → Option (Option Coord)
 wanted_by field =
     if bytes_eq field any_text then Some None
@@ -55,7 +60,8 @@ wanted_by field =
 
 -- the pattern that fields spell: each of them has one of the four forms
 abbrev pub spelled_by : List (List ℕ) → Result Wanted QueryFault
-spelled_by fields = if list_all (λ field. is_some (wanted_by field)) fields then Ok (filter_map wanted_by fields) else Err Field
+spelled_by fields =
+    if list_all (λ field. is_some (wanted_by field)) fields then Ok (filter_map wanted_by fields) else Err Field
 
 -- the pattern that a record spells under a schema: it has a field for each dimension
 abbrev pub spelled_under : Layout → List (List ℕ) → Result Wanted QueryFault
@@ -73,7 +79,8 @@ pattern_of s word = option_map_or (spelled_under s) (only_one (records_of word))
 
 -- the key that a pattern is: a coordinate is wanted in each dimension
 abbrev pub cell_of : Wanted → Result Key QueryFault
-cell_of pattern = if list_all is_some pattern then Ok (record { coords = filter_map (λ wanted. wanted) pattern }) else Err NotCell
+cell_of pattern =
+    if list_all is_some pattern then Ok (record { coords = filter_map (λ wanted. wanted) pattern }) else Err NotCell
 
 -- whether a coordinate is the one that is wanted; any is where none is, ALL and null too
 abbrev pub is_wanted : Option Coord → Coord → Bool
@@ -111,15 +118,19 @@ drills_down dimension above key = not (is_all_at key dimension) && eq_by_cmp key
 abbrev pub rows_below : ℕ → Key → List Row → List Row
 rows_below dimension above rows = filter (λ row. drills_down dimension above row.key) rows
 
--- why there is no drill-down from a key along a dimension, over the grouping sets that are kept: the key isn't ALL in it, or the key's set with the dimension isn't one of them
+-- why there is no drill-down from a key along a dimension, over the grouping sets that are kept:
+-- the key isn't ALL in it, or the key's set with the dimension isn't one of them
 abbrev pub drill_fault : List ℕ → ℕ → Key → Option QueryFault
 drill_fault sets dimension key =
     if not (is_all_at key dimension) then Some NotRolled
     else if not (is_among (mask_of key + 2 ^ dimension) sets) then Some NotGrouped
     else None
 
--- these are the rows of the cube over these grouping sets whose key passes a test: each once, in key order, with the answers of its group
-pub record AreRowsWhere (test : Key → Bool) (sets : List ℕ) (dimensions : ℕ) (aggregates : List Agg) (facts : List Fact) (rows : List Row) : Type 0 where
-  pub cells : (key : Key) → Contains (map key_of rows) key ↔ (IsTrue (is_cell sets dimensions facts key) × IsTrue (test key))
+-- these are the rows of the cube over these grouping sets whose key passes a test:
+-- each once, in key order, with the answers of its group
+pub record AreRowsWhere (test : Key → Bool) (sets : List ℕ) (dimensions : ℕ) (aggregates : List Agg) (facts : List Fact)
+    (rows : List Row) : Type 0 where
+  pub cells : (key : Key)
+      → Contains (map key_of rows) key ↔ (IsTrue (is_cell sets dimensions facts key) × IsTrue (test key))
   pub ordered : IsStrictlySortedBy key_cmp (map key_of rows)
   pub answers : AllByRecursion (HasAnswers aggregates facts) rows

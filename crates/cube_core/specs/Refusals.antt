@@ -1,5 +1,7 @@
--- The refusals of a list of items: the number of each refused item, with the code of the first reason (this project's choice).
-use Rattle.std.specs.Prelude.{ℕ, Bool, List, length, take, Option, Some, None, is_some, slice_get, Result, Ok, Err, if◌then◌else◌, not, option_map, option_and_then}
+-- The refusals of a list of items:
+-- the number of each refused item, with the code of the first reason (this project's choice).
+use Rattle.std.specs.Prelude.{ℕ, Bool, List, length, take, Option, Some, None, is_some, slice_get, Result, Ok, Err}
+use Rattle.std.specs.Prelude.{if◌then◌else◌, not, option_map, option_and_then}
 use Rattle.std.specs.List.{filter_map, range_with_len}
 use Rattle.cube_core.specs.Layout.{Layout}
 use Rattle.cube_core.specs.Takes.{takes, may_amend}
@@ -11,7 +13,8 @@ use Rattle.cube_core.specs.declared.change.LineFault.TheVariants as fault
 use Rattle.cube_core.specs.declared.change.Item.{Item}
 use Rattle.cube_core.specs.declared.change.Refusal.{Refusal}
 
--- the code of an insert of an id that is present: in version 2 the codes are one higher, since a fault of lines is 6 there
+-- the code of an insert of an id that is present:
+-- in version 2 the codes are one higher, since a fault of lines is 6 there
 abbrev pub present_code : Layout → ℕ
 present_code s = if may_amend s then 7 else 6
 
@@ -49,7 +52,8 @@ code_of s before (Ok change) =
 -- the refusal of an item after the items before it, if it is refused
 abbrev pub refusal_of : Layout → List Item → Item → Option Refusal
 refusal_of s before item =
-    option_map (λ code. let refusal : Refusal = record { number = item.number; code = code } in refusal) (code_of s before item.what)
+    option_map (λ code. let refusal : Refusal = record { number = item.number; code = code } in refusal)
+    (code_of s before item.what)
 
 -- the refusal of the item at a place of a list, if it is refused
 abbrev pub refusal_at : Layout → List Item → ℕ → Option Refusal

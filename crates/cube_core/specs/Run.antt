@@ -1,4 +1,5 @@
--- What a run over the feeds of several sources takes and prints, told by the bytes of the sources alone (this project's choice).
+-- What a run over the feeds of several sources takes and prints,
+-- told by the bytes of the sources alone (this project's choice).
 use Rattle.std.specs.Prelude.{◌≡◌, ℕ, List, length, Option, IfSome}
 use Rattle.std.specs.List.{AllByRecursion, AllZip}
 use Rattle.cube_core.specs.Arrival.{Arrivals, of_sources}

@@ -1,9 +1,13 @@
--- The schema that a TOML document writes, or that its parts make, and the faults of those that make none (TOML 1.1; the keys, the limits and the order of the faults are this project's choice).
-use Rattle.std.specs.Prelude.{◌≡◌, ◌&&◌, ◌+◌, ◌*◌, ◌^◌, ℕ, pos, Bool, false, true, not, nat_lt, nat_le, is_some, if◌then◌else◌, List, [], ◌∷◌, ◌++◌, length, map, take, filter, find, codes, Option, Some, None, option_and_then, option_map, unwrap_or, Result, Ok, Err, IsUtf8, ⊤}
+-- The schema that a TOML document writes, or that its parts make, and the faults of those that make none (TOML 1.1;
+-- the keys, the limits and the order of the faults are this project's choice).
+use Rattle.std.specs.Prelude.{◌≡◌, ◌&&◌, ◌+◌, ◌*◌, ◌^◌, ℕ, pos, Bool, false, true, not, nat_lt, nat_le, is_some}
+use Rattle.std.specs.Prelude.{if◌then◌else◌, List, [], ◌∷◌, ◌++◌, length, map, take, filter, find, codes, Option, Some}
+use Rattle.std.specs.Prelude.{None, option_and_then, option_map, unwrap_or, Result, Ok, Err, IsUtf8, ⊤}
 use Rattle.std.specs.Str.{bytes_eq}
 use Rattle.std.specs.Option.{option_map_or}
 use Rattle.std.specs.List.{list_all, filter_map, range_with_len}
-use Rattle.toml.specs.Data.{Data, string, integer, array, as_array, Items, no_items, item, Members, no_members, member, get_member}
+use Rattle.toml.specs.Data.{Data, string, integer, array, as_array, Items, no_items, item, Members, no_members, member}
+use Rattle.toml.specs.Data.{get_member}
 use Rattle.toml.specs.Parse.{parse_document}
 use Rattle.cube_core.specs.Shard.{whole_feed}
 use Rattle.cube_core.specs.Layout.{Layout, is_listed, are_distinct, is_lawful_name, spelling_of}
@@ -11,11 +15,14 @@ use Rattle.cube_core.specs.GroupingSet.{all_sets, is_among}
 use Rattle.cube_core.specs.declared.aggregate.Agg.{Agg}
 use Rattle.cube_core.specs.declared.aggregate.Agg.TheVariants.{CountAll, Count, Sum, Min, Max, Avg}
 use Rattle.cube_core.specs.declared.schema_fault.SchemaFault.{SchemaFault}
-use Rattle.cube_core.specs.declared.schema_fault.SchemaFault.TheVariants.{Memory, Toml, UnknownKey, Dimensions, Measures, Name, Aggregates, MaxRecords, Grouping, Version}
+use Rattle.cube_core.specs.declared.schema_fault.SchemaFault.TheVariants.{Memory, Toml, UnknownKey, Dimensions}
+use Rattle.cube_core.specs.declared.schema_fault.SchemaFault.TheVariants.{Measures, Name, Aggregates, MaxRecords}
+use Rattle.cube_core.specs.declared.schema_fault.SchemaFault.TheVariants.{Grouping, Version}
 
 -- the keys that a document may have
 abbrev pub known_keys : List (List ℕ)
-known_keys = codes "dimensions" ∷ codes "measures" ∷ codes "aggregates" ∷ codes "max_records" ∷ codes "grouping" ∷ codes "version" ∷ []
+known_keys = codes "dimensions" ∷ codes "measures" ∷ codes "aggregates" ∷ codes "max_records" ∷ codes "grouping"
+    ∷ codes "version" ∷ []
 
 -- whether a document has no other key
 abbrev pub has_known_keys : Members → Bool
@@ -65,7 +72,8 @@ aggregates_over measures =
 
 -- the aggregate of these measures that is spelled so
 unfoldable pub aggregate_spelled : List (List ℕ) → List ℕ → Option Agg
-aggregate_spelled measures text = find (λ agg. bytes_eq text (spelling_of measures agg)) (aggregates_over (length measures))
+aggregate_spelled measures text =
+    find (λ agg. bytes_eq text (spelling_of measures agg)) (aggregates_over (length measures))
 
 -- whether each text spells an aggregate of these measures
 abbrev pub are_spellings : List (List ℕ) → List (List ℕ) → Bool
@@ -82,7 +90,8 @@ record_limit _ = None
 
 -- how many data records the document allows, where what it says of them is right
 abbrev pub max_records_in : Members → Option ℕ
-max_records_in document = option_map_or record_limit (get_member (codes "max_records") document) (Some default_max_records)
+max_records_in document =
+    option_map_or record_limit (get_member (codes "max_records") document) (Some default_max_records)
 
 -- whether names are a set of dimensions: each is one of them, and none stands twice
 abbrev pub is_set_of : List (List ℕ) → List (List ℕ) → Bool
@@ -91,7 +100,8 @@ is_set_of dimensions names = list_all (λ name. is_listed name dimensions) names
 -- the mask of the set that has the dimensions of these names: the sum of 2 to the power d over their places d, from 0
 abbrev pub mask_of_names : List (List ℕ) → List (List ℕ) → ℕ
 mask_of_names [] names = 0
-mask_of_names (dimension ∷ dimensions) names = (if is_listed dimension names then 1 else 0) + 2 * mask_of_names dimensions names
+mask_of_names (dimension ∷ dimensions) names =
+    (if is_listed dimension names then 1 else 0) + 2 * mask_of_names dimensions names
 
 -- the set that names write, where they are one of dimensions
 abbrev pub set_of_names : List (List ℕ) → List (List ℕ) → Option ℕ
@@ -104,7 +114,9 @@ set_of_item dimensions value = option_and_then (set_of_names dimensions) (option
 -- the sets that an array writes, where each of its items writes one
 abbrev pub sets_of_items : List (List ℕ) → Items → Option (List ℕ)
 sets_of_items dimensions no_items = Some []
-sets_of_items dimensions (item value others) = option_and_then (λ set. option_map (λ sets. set ∷ sets) (sets_of_items dimensions others)) (set_of_item dimensions value)
+sets_of_items dimensions (item value others) =
+    option_and_then (λ set. option_map (λ sets. set ∷ sets) (sets_of_items dimensions others))
+    (set_of_item dimensions value)
 
 -- whether no set stands twice in a list
 abbrev pub are_distinct_sets : List ℕ → Bool
@@ -117,7 +129,8 @@ are_lawful_sets sets = nat_le 1 (length sets) && are_distinct_sets sets
 
 -- the sets of ROLLUP: for each number of dimensions that of so many first ones (SQL:1999)
 abbrev pub rollup_sets : List (List ℕ) → List ℕ
-rollup_sets dimensions = map (λ first. mask_of_names dimensions (take first dimensions)) (range_with_len 0 (length dimensions + 1))
+rollup_sets dimensions =
+    map (λ first. mask_of_names dimensions (take first dimensions)) (range_with_len 0 (length dimensions + 1))
 
 -- the sets that a text names
 abbrev pub sets_of_word : List (List ℕ) → List ℕ → Option (List ℕ)
@@ -130,7 +143,8 @@ sets_of_word dimensions text =
 abbrev pub named_sets : List (List ℕ) → Option Data → Option (List ℕ)
 named_sets dimensions None = Some (all_sets (length dimensions))
 named_sets dimensions (Some (string text)) = sets_of_word dimensions text
-named_sets dimensions (Some (array items)) = option_and_then (λ sets. if are_lawful_sets sets then Some sets else None) (sets_of_items dimensions items)
+named_sets dimensions (Some (array items)) =
+    option_and_then (λ sets. if are_lawful_sets sets then Some sets else None) (sets_of_items dimensions items)
 named_sets dimensions (Some _) = None
 
 -- of all grouping sets of so many dimensions those that are named
@@ -154,7 +168,9 @@ feed_version _ = None
 abbrev pub version_in : Members → Option ℕ
 version_in document = option_map_or feed_version (get_member (codes "version") document) (Some 1)
 
--- what a schema is made of, as a document or a caller gives it: the names, the spellings of the aggregates, and how many data records a feed may have, the grouping sets that are kept and the version of the feeds, each of the last three where what is said of it is right
+-- what a schema is made of, as a document or a caller gives it: the names, the spellings of the aggregates,
+-- and how many data records a feed may have, the grouping sets that are kept and the version of the feeds,
+-- each of the last three where what is said of it is right
 pub record SchemaParts : Type 0 where
   pub dimensions : List (List ℕ)
   pub measures : List (List ℕ)
@@ -174,7 +190,8 @@ parts_in document = record {
   version = version_in document;
 }
 
--- the parts of a schema of which no more is said than its names and the spellings of its aggregates: the most data records, all grouping sets, and version 1
+-- the parts of a schema of which no more is said than its names and the spellings of its aggregates:
+-- the most data records, all grouping sets, and version 1
 abbrev pub named_parts : List (List ℕ) → List (List ℕ) → List (List ℕ) → SchemaParts
 named_parts dimensions measures spellings = record {
   dimensions = dimensions;
@@ -197,7 +214,8 @@ is_fault_of_parts parts UnknownKey = false
 is_fault_of_parts parts Dimensions = not (is_some_up_to 8 parts.dimensions)
 is_fault_of_parts parts Measures = not (is_some_up_to 4 parts.measures)
 is_fault_of_parts parts Name = not (are_lawful_names (parts.dimensions ++ parts.measures))
-is_fault_of_parts parts Aggregates = not (is_some_up_to 16 parts.spellings && are_spellings parts.measures parts.spellings)
+is_fault_of_parts parts Aggregates =
+    not (is_some_up_to 16 parts.spellings && are_spellings parts.measures parts.spellings)
 is_fault_of_parts parts MaxRecords = not (is_some parts.max_records)
 is_fault_of_parts parts Grouping = not (is_some parts.grouping_sets)
 is_fault_of_parts parts Version = not (is_some parts.version)
@@ -250,8 +268,10 @@ abbrev pub AnswersDocument : Members → Result Layout SchemaFault → Type 0
 AnswersDocument document (Err Memory) = ⊤
 AnswersDocument document answer = answer ≡ schema_of document
 
--- what may be answered to the bytes of a schema file: what their document says, that they are no UTF-8 or no document, or that memory ran out
+-- what may be answered to the bytes of a schema file:
+-- what their document says, that they are no UTF-8 or no document, or that memory ran out
 abbrev pub AnswersBytes : List ℕ → Result Layout SchemaFault → Type 0
 AnswersBytes bytes (Err Memory) = ⊤
 AnswersBytes bytes (Err Toml) = IsUtf8 bytes → parse_document bytes ≡ None
-AnswersBytes bytes answer = IsUtf8 bytes × (document : Members) × (parse_document bytes ≡ Some document) × (answer ≡ schema_of document)
+AnswersBytes bytes answer =
+    IsUtf8 bytes × (document : Members) × (parse_document bytes ≡ Some document) × (answer ≡ schema_of document)

@@ -1,4 +1,5 @@
--- The shard of a record: which of so many shares of a feed it belongs to, told by its id alone (this project's choice; the hash is FNV-1a of 64 bits, of Fowler, Noll and Vo, RFC 9923).
+-- The shard of a record: which of so many shares of a feed it belongs to, told by its id alone (this project's choice;
+-- the hash is FNV-1a of 64 bits, of Fowler, Noll and Vo, RFC 9923).
 use Rattle.std.specs.Prelude.{◌==◌, ◌≤◌, ◌<◌, ◌*◌, ◌%◌, ◌^◌, bit_xor, ℕ, Bool, List}
 use Rattle.std.specs.List.{fold}
 use Rattle.cube_core.specs.declared.shard.Shard.{Shard}

@@ -1,4 +1,5 @@
--- Several sources: what their feeds leave together, and the printed cube of that (an id belongs to its source: this project's choice).
+-- Several sources:
+-- what their feeds leave together, and the printed cube of that (an id belongs to its source: this project's choice).
 use Rattle.std.specs.Prelude.{◌≡◌, ℕ, List, map, flat_map}
 use Rattle.std.specs.List.{AllZip}
 use Rattle.cube_core.specs.Layout.{Layout}

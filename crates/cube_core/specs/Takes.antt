@@ -46,7 +46,8 @@ may_amend s = s.version == 2
 abbrev pub is_id : List ℕ → Bool
 is_id id = not (length id == 0)
 
--- whether a schema takes a change: its id is lawful, its fact or its amendment, where there is one, fits, and its feeds may amend, where it is an amendment
+-- whether a schema takes a change: its id is lawful, its fact or its amendment, where there is one, fits,
+-- and its feeds may amend, where it is an amendment
 abbrev pub takes : Layout → Change → Bool
 takes s (Insert id fact) = is_id id && fits s fact
 takes s (Update id fact) = is_id id && fits s fact

@@ -1,4 +1,5 @@
--- The text of rows and of refusals: a header line, then a line for each, as CSV (RFC 4180 with line ends of one LF; GROUPING columns as in SQL:1999).
+-- The text of rows and of refusals: a header line, then a line for each, as CSV (RFC 4180 with line ends of one LF;
+-- GROUPING columns as in SQL:1999).
 use Rattle.std.specs.Prelude.{ℕ, ◌-◌, List, [], ◌∷◌, ◌++◌, length, get_or, map, codes, decimal}
 use Rattle.std.specs.Fmt.{signed_decimal}
 use Rattle.std.specs.List.{flat_map, range_with_len}
@@ -12,7 +13,8 @@ use Rattle.cube_core.specs.declared.key.Coord.{Coord}
 use Rattle.cube_core.specs.declared.key.Coord.TheVariants as coord
 use Rattle.cube_core.specs.declared.key.Row.{Row}
 
--- a line of fields: joined by commas, ended by LF, a field quoted where it holds a comma, a quote, CR or LF, its quotes doubled
+-- a line of fields: joined by commas, ended by LF, a field quoted where it holds a comma,
+-- a quote, CR or LF, its quotes doubled
 abbrev pub line : List (List ℕ) → List ℕ
 line fields = row_text default_writer fields
 

@@ -1,5 +1,6 @@
 -- What a contract sees of the values of a fact's dimensions, whose texts lie in one block (this project's choice).
-use Rattle.std.specs.Prelude.{◌≡◌, ◌≤◌, ◌∷◌, [], ◌++◌, ℕ, List, All, length, map, take, drop, Option, Some, None, slice_range, IsUtf8, ⊤}
+use Rattle.std.specs.Prelude.{◌≡◌, ◌≤◌, ◌∷◌, [], ◌++◌, ℕ, List, All, length, map, take, drop, Option, Some, None}
+use Rattle.std.specs.Prelude.{slice_range, IsUtf8, ⊤}
 use Rattle.cube_core.specs.declared.dimension_values.Span.{Span}
 use Rattle.cube_core.specs.declared.dimension_values.Span.TheVariants.{Null, Text}
 use Rattle.cube_core.specs.declared.dimension_values.StoredValues.{StoredValues}
@@ -32,7 +33,8 @@ LiesIn block (Text start end) = (start ≤ end) × (end ≤ length block) × IsU
 -- a block and its spans have these values more than another block and its spans, whose spans lie within it
 abbrev pub AddsAll : List ℕ → List (Span ℕ) → List ℕ → List (Span ℕ) → List (Option (List ℕ)) → Type 0
 AddsAll block spans more_block more_spans values =
-    All (LiesIn block) spans → All (LiesIn more_block) more_spans × (values_in more_block more_spans ≡ values_in block spans ++ values)
+    All (LiesIn block) spans
+    → All (LiesIn more_block) more_spans × (values_in more_block more_spans ≡ values_in block spans ++ values)
 
 -- a block and its spans have one value more than another block and its spans, whose spans lie within it
 abbrev pub Adds : List ℕ → List (Span ℕ) → List ℕ → List (Span ℕ) → Option (List ℕ) → Type 0

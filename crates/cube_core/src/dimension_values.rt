@@ -249,14 +249,13 @@ fn span_of(block: &[u8], start: usize, end: usize) -> Span<u8>
     }
 }
 
-// Where a text begins and ends that is put at the end of a block; None past the largest `u32`.
-fn places_after(block: &[u8], text: &str) -> Option<(u32, u32)>
+// Where a text begins and ends that is put at the end of a block; None past the largest `usize`.
+fn places_after(block: &[u8], text: &str) -> Option<(usize, usize)>
     ensures { IfSome result (λ places.
         (places.0 ≡ length block.now) × (places.1 ≡ length block.now + length text.now)) }
 {
-    let start = u32::try_from(block.len()).ok()?;
-    let len = u32::try_from(text.len()).ok()?;
-    Some((start, start.checked_add(len)?))
+    let end = block.len().checked_add(text.len())?;
+    Some((block.len(), end))
 }
 
 // Adds a value on the heap; the only error is want of memory.
@@ -274,6 +273,9 @@ fn add_on_heap(
         return Ok(());
     };
     let Some((start, end)) = places_after(block.as_slice(), text) else {
+        return Err(AllocError);
+    };
+    let (Ok(start), Ok(end)) = (u32::try_from(start), u32::try_from(end)) else {
         return Err(AllocError);
     };
     block.extend_from_slice(text.as_bytes())?;

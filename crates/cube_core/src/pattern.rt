@@ -1,10 +1,7 @@
 //! Patterns of keys, and the words that spell them.
-ghost use Rattle.std.specs.Prelude.{◌≡◌, ℕ, List, Some, IfOk, option_map};
-ghost use Rattle.std.specs.Borrow.{Bor};
+ghost use Rattle.std.specs.Prelude.{◌≡◌, IfOk, option_map};
 ghost use Rattle.std.specs.Option.{ok_or};
-ghost use Rattle.csv.specs.Reading.{ReadRecord, Ready, reader_trim};
 ghost use Rattle.csv.specs.Records.{fields_of};
-ghost use Rattle.csv.specs.declared.reader.Trim.TheVariants as trim;
 ghost use Rattle.cube_core.specs.Records.{records_of};
 ghost use Rattle.cube_core.specs.Query.{Says, wanted_by, spelled_by, named_by, only_one, pattern_of, cell_of, is_wanted, all_wanted, matches};
 ghost use Rattle.cube_core.specs.declared.query.QueryFault.TheVariants as fault;
@@ -16,7 +13,7 @@ use crate::query::QueryFault;
 use crate::schema::Schema;
 use crate::sequence::Sequence;
 use crate::text::Text;
-use csv::{ByteRecord, Reader, ReaderBuilder};
+use csv::{ByteRecord, ReaderBuilder};
 use std::alloc::{AllocError, Global};
 use std::marker::Model;
 use std::str;
@@ -97,27 +94,15 @@ fn only_record(alloc: Global, text: &[u8]) -> Result<Option<ByteRecord>, AllocEr
         .flexible(true)
         .from_reader(alloc, text);
     let mut record = ByteRecord::new(alloc);
+    let mut next = ByteRecord::new(alloc);
     // A reader of bytes in memory fails for want of memory alone.
     let Ok(found) = reader.read_byte_record(&mut record) else {
         return Err(AllocError);
     };
-    let more = has_more(alloc, &mut reader)?;
-    Ok((found & !more).then_some(record))
-}
-
-/// Whether a reader has one more record, which is read; the only error is want of memory.
-fn has_more(alloc: Global, reader: &mut Reader<&[u8]>) -> Result<bool, AllocError>
-    requires trims { reader_trim reader.old ≡ trim.None }
-    requires ready { Ready reader.old }
-    ensures { IfOk result (λ more. (fields : List (List ℕ))
-        × ReadRecord (λ (text : Bor (List ℕ)). Some text.now) reader.old reader.new more fields) }
-{
-    let mut record = ByteRecord::new(alloc);
-    // A reader of bytes in memory fails for want of memory alone.
-    let Ok(more) = reader.read_byte_record(&mut record) else {
+    let Ok(more) = reader.read_byte_record(&mut next) else {
         return Err(AllocError);
     };
-    Ok(more)
+    Ok((found & !more).then_some(record))
 }
 
 /// What the fields of a record want; the error is `Field` where one has none of the four forms, or `Memory`.

@@ -1,4 +1,5 @@
--- A bag (multiset) of whole numbers, kept as numbers with how often each is held: this project's choice. Nothing speaks of its order.
+-- A bag (multiset) of whole numbers, kept as numbers with how often each is held:
+-- this project's choice. Nothing speaks of its order.
 use Rattle.std.specs.Prelude.{◌≡◌, ℕ, ◌*◌, ◌+◌, ◌<◌, ◌≤ℤ◌, ℤ, List, sum_by, if◌then◌else◌}
 use Rattle.std.specs.Ordering.{int_eq}
 

@@ -1,5 +1,6 @@
 -- What a log keeps of its pairs: of those that were added, of the numbers that were taken away, and of pairs in order.
-use Rattle.std.specs.Prelude.{◌≡◌, ℕ, ◌+◌, ◌^◌, ◌<◌, ◌≤◌, ◌≤ℤ◌, ◌<ℤ◌, ℤ, List, [], ◌∷◌, suc, zero, Option, IfSome, IfNone, length, slice_index_or, sum_by, if◌then◌else◌}
+use Rattle.std.specs.Prelude.{◌≡◌, ℕ, ◌+◌, ◌^◌, ◌<◌, ◌≤◌, ◌≤ℤ◌, ◌<ℤ◌, ℤ, List, [], ◌∷◌, suc, zero, Option, IfSome}
+use Rattle.std.specs.Prelude.{IfNone, length, slice_index_or, sum_by, if◌then◌else◌}
 use Rattle.std.specs.Ordering.{int_eq}
 use Rattle.std.specs.List.{AllWithin}
 use Rattle.cube_counts.specs.Bag.{Bag, one_at, held_of, size_of, HasLeast, HasGreatest}
@@ -27,7 +28,8 @@ pub record Covers (bag : Bag) (numbers : List ℤ) : Type 0 where
 pub record TakesAll (old new : Bag) (numbers : List ℤ) : Type 0 where
   pub held : (x : ℤ) → held_of old x ≡ held_of new x + times_in numbers x
 
--- what is owed is held, and the total, of 64 bits, is no less than the size of the bag; where there is none, nothing is owed
+-- what is owed is held, and the total, of 64 bits, is no less than the size of the bag;
+-- where there is none, nothing is owed
 pub record Owes (bag : Bag) (owed : List ℤ) (total : Option ℕ) : Type 0 where
   pub covered : Covers bag owed
   pub size : IfSome total (λ n. (size_of bag ≤ n) × (n < 2 ^ 64))
@@ -44,7 +46,8 @@ Rises bag = (i j : ℕ) (d : ℤ × ℕ) → i ≤ j → j < length bag → (sli
 
 -- below this place a pair with an equal number next to it counts nothing
 abbrev pub IsJoined : Bag → ℕ → Type 0
-IsJoined bag n = (k : ℕ) (d : ℤ × ℕ) → k + 1 < n → (slice_index_or bag k d).0 ≡ (slice_index_or bag (k + 1) d).0 → (slice_index_or bag k d).1 ≡ 0
+IsJoined bag n = (k : ℕ) (d : ℤ × ℕ) → k + 1 < n → (slice_index_or bag k d).0 ≡ (slice_index_or bag (k + 1) d).0
+    → (slice_index_or bag k d).1 ≡ 0
 
 -- the numbers rise, and each is counted in the last of its pairs
 pub record IsOrdered (bag : Bag) : Type 0 where

@@ -19,20 +19,23 @@ start_of s bytes = option_map (λ (known : List ℕ). to_come (items_of s (recor
 -- what was to come at the start are the items done, and then what is to come now
 abbrev pub LeftOf : Ahead → List Item → Ahead → Type 0
 LeftOf None done now = ⊤
-LeftOf (Some all) done now = (rest : Coming (Option FeedFault)) × (now ≡ Some rest) × (all.items ≡ done ++ rest.items) × (all.end ≡ rest.end)
+LeftOf (Some all) done now =
+    (rest : Coming (Option FeedFault)) × (now ≡ Some rest) × (all.items ≡ done ++ rest.items) × (all.end ≡ rest.end)
 
 -- items, each with the number of their source
 abbrev pub from_source : ℕ → List Item → Arrivals
 from_source source items = map (λ item. (source, item)) items
 
 -- how far a feed was taken: a ledger that stood at an arrival list stands at the items done after it
-pub record HasTaken (s : Layout) (bytes : Option (List ℕ)) (source : ℕ) (old : LedgerView) (feed : FeedView) (now : LedgerView) : Type 0 where
+pub record HasTaken (s : Layout) (bytes : Option (List ℕ)) (source : ℕ) (old : LedgerView) (feed : FeedView)
+    (now : LedgerView) : Type 0 where
   pub done : List Item
   pub left : LeftOf (start_of s bytes) done feed.to_come
   pub of_schema : feed.schema ≡ now.schema
   pub schema : now.schema ≡ old.schema
   pub sources : length now.accounts ≡ length old.accounts
-  pub stands : (arrivals : Arrivals) → LedgerStandsAt old arrivals → LedgerStandsAt now (arrivals ++ from_source source done)
+  pub stands : (arrivals : Arrivals) → LedgerStandsAt old arrivals
+      → LedgerStandsAt now (arrivals ++ from_source source done)
 
 -- at the start nothing was taken
 left-start : (start : Ahead) → LeftOf start [] start
@@ -51,14 +54,17 @@ HasTaken-none s bytes source ledger feed comes feed_schema schema = record {
 }
 
 -- one item more
-left-more : (start now next : Ahead) (done : List Item) (item : Item) → LeftOf start done now → Gives now (Ok (Some item)) next
+left-more : (start now next : Ahead) (done : List Item) (item : Item) → LeftOf start done now
+    → Gives now (Ok (Some item)) next
     → LeftOf start (done ++ item ∷ []) next
 left-more None now next done item left gives = tt
 left-more (Some all) now next done item left gives =
-    let given : Gives (Some left.0) (Ok (Some item)) next = subst (λ (n : Ahead). Gives n (Ok (Some item)) next) left.1 gives in (
+    let given : Gives (Some left.0) (Ok (Some item)) next =
+    subst (λ (n : Ahead). Gives n (Ok (Some item)) next) left.1 gives in (
       given.0,
       given.2,
-      left.2 ∙ ap (λ (t : Coming (Option FeedFault)). done ++ t.items) given.1 ∙ sym (append_assoc done (item ∷ []) given.0.items),
+      left.2 ∙ ap (λ (t : Coming (Option FeedFault)). done ++ t.items) given.1
+          ∙ sym (append_assoc done (item ∷ []) given.0.items),
       left.3 ∙ ap (λ (t : Coming (Option FeedFault)). t.end) given.1,
     )
 
@@ -69,8 +75,10 @@ from_source-more arrivals source done item =
     append_assoc arrivals (from_source source done) ((source, item) ∷ [])
     ∙ ap (λ more. arrivals ++ more) (sym (map-append (λ (x : Item). (source, x)) done (item ∷ [])))
 
-pub HasTaken-more : (s : Layout) (bytes : Option (List ℕ)) (source : ℕ) (old : LedgerView) (feed next : FeedView) (now new : LedgerView) (item : Item)
-    → Gives feed.to_come (Ok (Some item)) next.to_come → next.schema ≡ feed.schema → AtSource (Enters now.schema item) source now new
+pub HasTaken-more : (s : Layout) (bytes : Option (List ℕ)) (source : ℕ) (old : LedgerView) (feed next : FeedView)
+    (now new : LedgerView) (item : Item)
+    → Gives feed.to_come (Ok (Some item)) next.to_come → next.schema ≡ feed.schema
+    → AtSource (Enters now.schema item) source now new
     → ((arrivals : Arrivals) → LedgerStandsAt now arrivals → LedgerStandsAt new (arrivals ++ (source, item) ∷ []))
     → HasTaken s bytes source old feed now → HasTaken s bytes source old next new
 HasTaken-more s bytes source old feed next now new item gives same at stands taken = record {

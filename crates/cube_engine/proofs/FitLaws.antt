@@ -36,7 +36,8 @@ and-three false false false all = cc
 
 -- lawful values over lawful values are lawful
 list_all-fields_over : (fields : List (Field (Option (List ℕ)))) (olds : List (Option (List ℕ)))
-    → list_all puts_dimension_value fields ≡ true → list_all is_dimension_value olds ≡ true → list_all is_dimension_value (fields_over fields olds) ≡ true
+    → list_all puts_dimension_value fields ≡ true → list_all is_dimension_value olds ≡ true
+    → list_all is_dimension_value (fields_over fields olds) ≡ true
 list_all-fields_over [] olds put old = refl
 list_all-fields_over (f ∷ fields) [] put old = refl
 list_all-fields_over (Keep ∷ fields) (o ∷ olds) put old =
@@ -49,26 +50,42 @@ list_all-fields_over (Put value ∷ fields) (o ∷ olds) put old =
 
 -- what it says of a fact that it fits
 fits-parts : (s : Layout) (fact : Fact) → fits s fact ≡ true
-    → (length fact.dims ≡ length s.dimensions) × (length fact.measures ≡ length s.measures) × (list_all is_dimension_value fact.dims ≡ true)
+    → (length fact.dims ≡ length s.dimensions) × (length fact.measures ≡ length s.measures)
+    × (list_all is_dimension_value fact.dims ≡ true)
 fits-parts s fact fit =
-    let three = and-three (length fact.dims == length s.dimensions) (length fact.measures == length s.measures) (list_all is_dimension_value fact.dims) fit in
-    (eqb-true (length fact.dims) (length s.dimensions) three.0, eqb-true (length fact.measures) (length s.measures) three.1, three.2)
+    let three = and-three (length fact.dims == length s.dimensions) (length fact.measures == length s.measures)
+    (list_all is_dimension_value fact.dims) fit in (
+      eqb-true (length fact.dims) (length s.dimensions) three.0,
+      eqb-true (length fact.measures) (length s.measures) three.1,
+      three.2,
+    )
 
 -- a fact of the right shape fits
-fits-shape : (s : Layout) (fact : Fact) → length fact.dims ≡ length s.dimensions → length fact.measures ≡ length s.measures
+fits-shape : (s : Layout) (fact : Fact) → length fact.dims ≡ length s.dimensions
+    → length fact.measures ≡ length s.measures
     → list_all is_dimension_value fact.dims ≡ true → fits s fact ≡ true
 fits-shape s fact dims measures lawful =
-    rw (eq-eqb (length fact.dims) (length s.dimensions) dims, eq-eqb (length fact.measures) (length s.measures) measures, lawful) refl
+    rw (
+      eq-eqb (length fact.dims) (length s.dimensions) dims,
+      eq-eqb (length fact.measures) (length s.measures) measures,
+      lawful,
+    ) refl
 
 -- what it says of an amendment that it fits
 fits_part-parts : (s : Layout) (part : Partial) → fits_part s part ≡ true
-    → (length part.dims ≡ length s.dimensions) × (length part.measures ≡ length s.measures) × (list_all puts_dimension_value part.dims ≡ true)
+    → (length part.dims ≡ length s.dimensions) × (length part.measures ≡ length s.measures)
+    × (list_all puts_dimension_value part.dims ≡ true)
 fits_part-parts s part fit =
-    let three = and-three (length part.dims == length s.dimensions) (length part.measures == length s.measures) (list_all puts_dimension_value part.dims) fit in
-    (eqb-true (length part.dims) (length s.dimensions) three.0, eqb-true (length part.measures) (length s.measures) three.1, three.2)
+    let three = and-three (length part.dims == length s.dimensions) (length part.measures == length s.measures)
+    (list_all puts_dimension_value part.dims) fit in (
+      eqb-true (length part.dims) (length s.dimensions) three.0,
+      eqb-true (length part.measures) (length s.measures) three.1,
+      three.2,
+    )
 
 -- an amendment of a fact fits where both do
-pub fits-over : (s : Layout) (part : Partial) (fact : Fact) → fits_part s part ≡ true → fits s fact ≡ true → fits s (over part fact) ≡ true
+pub fits-over : (s : Layout) (part : Partial) (fact : Fact) → fits_part s part ≡ true → fits s fact ≡ true
+    → fits s (over part fact) ≡ true
 fits-over s part fact part_fits fact_fits =
     let p = fits_part-parts s part part_fits in
     let f = fits-parts s fact fact_fits in
@@ -78,7 +95,8 @@ fits-over s part fact part_fits fact_fits =
     (list_all-fields_over part.dims fact.dims p.2 f.2)
 
 -- a fact that stands in a book fits where all its facts do
-fact_at-fits : (s : Layout) (book : Entries) (id : List ℕ) → AllFit s (facts_of book) → IfSome (fact_at book id) (λ fact. fits s fact ≡ true)
+fact_at-fits : (s : Layout) (book : Entries) (id : List ℕ) → AllFit s (facts_of book)
+    → IfSome (fact_at book id) (λ fact. fits s fact ≡ true)
 fact_at-fits s book id all = IfSome-lookup_from_All (λ (fact : Fact). fits s fact ≡ true) (bytes_eq id) book all
 
 -- an amendment that a schema takes fits
@@ -86,7 +104,8 @@ pub amend-fits : (s : Layout) (id : List ℕ) (part : Partial) → takes s (Amen
 amend-fits s id part taken = (and-three (may_amend s) (is_id id) (fits_part s part) taken).2
 
 -- an amendment that a schema takes has as many fields as each fact of a book whose facts fit
-pub AmendsAlike-takes : (s : Layout) (book : Entries) (change : Change) → takes s change ≡ true → AllFit s (facts_of book) → AmendsAlike book change
+pub AmendsAlike-takes : (s : Layout) (book : Entries) (change : Change) → takes s change ≡ true
+    → AllFit s (facts_of book) → AmendsAlike book change
 AmendsAlike-takes s book (Insert id fact) taken all = tt
 AmendsAlike-takes s book (Update id fact) taken all = tt
 AmendsAlike-takes s book (Delete id) taken all = tt
@@ -104,16 +123,20 @@ amended-fits s part (Some f) fact part_fits fit is =
     ap (fits s) (sym same) ∙ fits-over s part f part_fits fit
 
 -- the fact that a taken change puts fits
-pub fact_put-fits : (s : Layout) (book : Entries) (change : Change) (fact : Fact) → takes s change ≡ true → AllFit s (facts_of book)
+pub fact_put-fits : (s : Layout) (book : Entries) (change : Change) (fact : Fact) → takes s change ≡ true
+    → AllFit s (facts_of book)
     → fact_put change (fact_at book (id_of change)) ≡ Some fact → fits s fact ≡ true
-fact_put-fits s book (Insert id f) fact taken all put = ap (fits s) (sym (same_Some f fact put)) ∙ (and_parts (is_id id) (fits s f) taken).1
-fact_put-fits s book (Update id f) fact taken all put = ap (fits s) (sym (same_Some f fact put)) ∙ (and_parts (is_id id) (fits s f) taken).1
+fact_put-fits s book (Insert id f) fact taken all put =
+    ap (fits s) (sym (same_Some f fact put)) ∙ (and_parts (is_id id) (fits s f) taken).1
+fact_put-fits s book (Update id f) fact taken all put =
+    ap (fits s) (sym (same_Some f fact put)) ∙ (and_parts (is_id id) (fits s f) taken).1
 fact_put-fits s book (Delete id) fact taken all put = cc
 fact_put-fits s book (Amend id part) fact taken all put =
     amended-fits s part (fact_at book id) fact (amend-fits s id part taken) (fact_at-fits s book id all) put
 
 -- so does what comes of settling a change
-pub RulingFits-Settles : (s : Layout) (book : Entries) (change : Change) → takes s change ≡ true → AllFit s (facts_of book)
+pub RulingFits-Settles : (s : Layout) (book : Entries) (change : Change) → takes s change ≡ true
+    → AllFit s (facts_of book)
     → (ruling : Ruling) → Settles book change ruling → RulingFits s ruling
 RulingFits-Settles s book change taken all (Refuse code) settles = absurd settles
 RulingFits-Settles s book change taken all (ruling.Put id fact) settles =

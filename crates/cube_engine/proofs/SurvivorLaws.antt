@@ -22,8 +22,10 @@ facts-looked_up : (book es : Entries) → IsBook book → ((e : List ℕ × Fact
     → map Some (values_of es) ≡ map (fact_at book) (keys_of es)
 facts-looked_up book [] once among = refl
 facts-looked_up book (e ∷ es) once among =
-    let here : Some e.1 ≡ fact_at book e.0 = sym (lookup-from_Contains nat_list_eq_equiv e.0 e.1 book once (among e (Contains-head e es))) in
-    let rest : map Some (values_of es) ≡ map (fact_at book) (keys_of es) = facts-looked_up book es once (λ x x_in. among x (Contains-tail e es x x_in)) in
+    let here : Some e.1 ≡ fact_at book e.0 =
+    sym (lookup-from_Contains nat_list_eq_equiv e.0 e.1 book once (among e (Contains-head e es))) in
+    let rest : map Some (values_of es) ≡ map (fact_at book) (keys_of es) =
+    facts-looked_up book es once (λ x x_in. among x (Contains-tail e es x x_in)) in
     λ i. here i ∷ rest i
 
 -- a map of functions that are alike
@@ -32,13 +34,16 @@ map-alike f g [] same = refl
 map-alike f g (x ∷ xs) same = λ i. same x i ∷ map-alike f g xs same i
 
 -- the facts of an account that stands at items survive them
-AreSurviving-account : (s : Layout) (items : List Item) (account : AccountView) → AccountStandsAt s items account → AreSurviving s items (facts_of account.book)
+AreSurviving-account : (s : Layout) (items : List Item) (account : AccountView) → AccountStandsAt s items account
+    → AreSurviving s items (facts_of account.book)
 AreSurviving-account s items account stands = record {
   ids = ids_of account.book;
   each_once = stands.each_once;
   present = λ id. (
-    λ there. Contains-keys_from_lookup (λ x y same. (bytes_eq-Decides x y).0 same) id account.book (subst (λ (o : Option Fact). IsSome o) (sym (stands.facts id)) there),
-    λ among. subst (λ (o : Option Fact). IsSome o) (stands.facts id) (IsSome-lookup_from_Contains nat_list_eq_equiv id account.book among),
+    λ there. Contains-keys_from_lookup (λ x y same. (bytes_eq-Decides x y).0 same) id account.book
+        (subst (λ (o : Option Fact). IsSome o) (sym (stands.facts id)) there),
+    λ among. subst (λ (o : Option Fact). IsSome o) (stands.facts id)
+        (IsSome-lookup_from_Contains nat_list_eq_equiv id account.book among),
   );
   facts_are_theirs =
       facts-looked_up account.book account.book stands.each_once (λ e among. among)
@@ -46,14 +51,17 @@ AreSurviving-account s items account stands = record {
 }
 
 -- so do those of accounts one after another
-survive-each : (s : Layout) (feeds : List (List Item)) (accounts : List AccountView) → AllZip (AccountStandsAt s) feeds accounts
+survive-each : (s : Layout) (feeds : List (List Item)) (accounts : List AccountView)
+    → AllZip (AccountStandsAt s) feeds accounts
     → AllZip (AreSurviving s) feeds (map (λ (account : AccountView). facts_of account.book) accounts)
 survive-each s [] [] stand = tt
 survive-each s [] (a ∷ accounts) stand = absurd stand
 survive-each s (items ∷ feeds) [] stand = absurd stand
-survive-each s (items ∷ feeds) (a ∷ accounts) stand = (AreSurviving-account s items a stand.0, survive-each s feeds accounts stand.1)
+survive-each s (items ∷ feeds) (a ∷ accounts) stand =
+    (AreSurviving-account s items a stand.0, survive-each s feeds accounts stand.1)
 
-all_facts-joined : (accounts : List AccountView) → all_facts accounts ≡ flat_map (λ part. part) (map (λ (account : AccountView). facts_of account.book) accounts)
+all_facts-joined : (accounts : List AccountView)
+    → all_facts accounts ≡ flat_map (λ part. part) (map (λ (account : AccountView). facts_of account.book) accounts)
 all_facts-joined [] = refl
 all_facts-joined (a ∷ accounts) = ap (λ facts. facts_of a.book ++ facts) (all_facts-joined accounts)
 

@@ -12,9 +12,11 @@ use Rattle.cube_engine.proofs.BuilderLaws.{SameSets-trans}
 use Rattle.cube_engine.proofs.RulingLaws.{AtSource-length}
 
 -- a ledger that took an item
-pub ledger-further : (old new : LedgerView) (source : ℕ) (item : Item) → AtSource (Enters old.schema item) source old new
+pub ledger-further : (old new : LedgerView) (source : ℕ) (item : Item)
+    → AtSource (Enters old.schema item) source old new
     → ((arrivals : Arrivals) → LedgerStandsAt old arrivals → LedgerStandsAt new (arrivals ++ (source, item) ∷ []))
-    → (first : LedgerView) (arrivals : Arrivals) → LedgerStandsFrom first old arrivals → LedgerStandsFrom first new (arrivals ++ (source, item) ∷ [])
+    → (first : LedgerView) (arrivals : Arrivals) → LedgerStandsFrom first old arrivals
+    → LedgerStandsFrom first new (arrivals ++ (source, item) ∷ [])
 ledger-further old new source item at stands first arrivals from = record {
   schema = at.schema ∙ from.schema;
   all = AtSource-length _ source old new at ∙ from.all;
@@ -22,11 +24,14 @@ ledger-further old new source item at stands first arrivals from = record {
 }
 
 -- a ledger that is as it was
-pub ledger-same : (old new : LedgerView) → new ≡ old → (first : LedgerView) (arrivals : Arrivals) → LedgerStandsFrom first old arrivals → LedgerStandsFrom first new arrivals
-ledger-same old new same first arrivals from = subst (λ (l : LedgerView). LedgerStandsFrom first l arrivals) (sym same) from
+pub ledger-same : (old new : LedgerView) → new ≡ old → (first : LedgerView) (arrivals : Arrivals)
+    → LedgerStandsFrom first old arrivals → LedgerStandsFrom first new arrivals
+ledger-same old new same first arrivals from =
+    subst (λ (l : LedgerView). LedgerStandsFrom first l arrivals) (sym same) from
 
 -- a cube whose cells count the same has the same facts
-HasFacts-SameCells : (facts : List Fact) (old new : Lattice) → SameCells old new → HasFacts facts old → HasFacts facts new
+HasFacts-SameCells : (facts : List Fact) (old new : Lattice) → SameCells old new → HasFacts facts old
+    → HasFacts facts new
 HasFacts-SameCells facts old new same has = record {
   cells = IsCubeOf-SameCells old new facts same has.cells;
   facts_are = same.facts ∙ has.facts_are;
@@ -40,7 +45,8 @@ pub record TakesOne (old new : BuilderView) : Type 0 where
 -- a builder that took an item
 pub builder-further : (old new : BuilderView) (source : ℕ) (item : Item) → TakesOne old new
     → ((arrivals : Arrivals) → StandsAt old arrivals → StandsAt new (arrivals ++ (source, item) ∷ []))
-    → (first : BuilderView) (arrivals : Arrivals) → BuilderStandsFrom first old arrivals → BuilderStandsFrom first new (arrivals ++ (source, item) ∷ [])
+    → (first : BuilderView) (arrivals : Arrivals) → BuilderStandsFrom first old arrivals
+    → BuilderStandsFrom first new (arrivals ++ (source, item) ∷ [])
 builder-further old new source item takes stands first arrivals from = record {
   same = SameSets-trans first.cube old.cube new.cube from.same takes.same;
   all = takes.all ∙ from.all;
@@ -48,7 +54,8 @@ builder-further old new source item takes stands first arrivals from = record {
 }
 
 -- a builder whose books and cells count the same
-pub builder-same : (old new : BuilderView) → SameBuilder old new → (first : BuilderView) (arrivals : Arrivals) → BuilderStandsFrom first old arrivals → BuilderStandsFrom first new arrivals
+pub builder-same : (old new : BuilderView) → SameBuilder old new → (first : BuilderView) (arrivals : Arrivals)
+    → BuilderStandsFrom first old arrivals → BuilderStandsFrom first new arrivals
 builder-same old new is first arrivals from =
     let ledger = is.ledger in
     let stands = from.stands_at in

@@ -1,5 +1,6 @@
 -- The facts of one source, each under its id: a map of ids to facts, empty at first (this project's choice).
-use Rattle.std.specs.Prelude.{◌≡◌, ◌++◌, ◌∷◌, ⊤, ℕ, Bool, false, List, length, Option, Some, None, IfSome, is_some, option_map, if◌then◌else◌}
+use Rattle.std.specs.Prelude.{◌≡◌, ◌++◌, ◌∷◌, ⊤, ℕ, Bool, false, List, length, Option, Some, None, IfSome, is_some}
+use Rattle.std.specs.Prelude.{option_map, if◌then◌else◌}
 use Rattle.std.specs.Option.{option_to_list}
 use Rattle.std.specs.Str.{bytes_eq}
 use Rattle.std.specs.List.{IsDistinct}
@@ -34,7 +35,8 @@ facts_of book = values_of book
 abbrev pub IsBook : Entries → Type 0
 IsBook book = IsDistinct bytes_eq (ids_of book)
 
--- the new book has this fact under an id, or none, and under each other id what the old one has; what was there is gone, and no id stands twice
+-- the new book has this fact under an id, or none, and under each other id what the old one has;
+-- what was there is gone, and no id stands twice
 pub record Replaces (old : Entries) (id : List ℕ) (gone come : Option Fact) (new : Entries) : Type 0 where
   pub was : gone ≡ fact_at old id
   pub facts : (other : List ℕ) → fact_at new other ≡ (if bytes_eq id other then come else fact_at old other)
@@ -48,7 +50,8 @@ pub record GainsEntry (old : Entries) (id : List ℕ) (fact : Fact) (new : Entri
   pub more : IsPermutation ((id, fact) ∷ old) new
   pub each_once : IsBook new
 
--- the fact that a change puts under its id, given the one that is there: none where it is a delete, or an amendment of nothing
+-- the fact that a change puts under its id, given the one that is there:
+-- none where it is a delete, or an amendment of nothing
 abbrev pub fact_put : Change → Option Fact → Option Fact
 fact_put (Insert id fact) old = Some fact
 fact_put (Update id fact) old = Some fact
@@ -71,7 +74,8 @@ abbrev pub AmendsAlike : Entries → Change → Type 0
 AmendsAlike book (Insert id fact) = ⊤
 AmendsAlike book (Update id fact) = ⊤
 AmendsAlike book (Amend id part) =
-    IfSome (fact_at book id) (λ fact. (length part.dims ≡ length fact.dims) × (length part.measures ≡ length fact.measures))
+    IfSome (fact_at book id)
+    (λ fact. (length part.dims ≡ length fact.dims) × (length part.measures ≡ length fact.measures))
 AmendsAlike book (Delete id) = ⊤
 
 -- a book made a change: it isn't refused, and its fact or none stands under its id in place of what is gone

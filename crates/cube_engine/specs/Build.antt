@@ -10,7 +10,8 @@ use Rattle.cube_engine.specs.Ledger.{LedgerView, LedgerStandsAt, all_facts}
 use Rattle.cube_engine.specs.declared.fault.BuildFault.{BuildFault}
 use Rattle.cube_engine.specs.declared.fault.BuildFault.TheVariants as build_fault
 
--- a ledger has taken the feeds of these sources: every feed is good, and the ledger stands at an arrival list of their items
+-- a ledger has taken the feeds of these sources:
+-- every feed is good, and the ledger stands at an arrival list of their items
 pub record Builds (s : Layout) (sources : Told) (ledger : LedgerView) : Type 0 where
   pub good : AreGood s sources
   pub arrivals : Arrivals
@@ -19,7 +20,8 @@ pub record Builds (s : Layout) (sources : Told) (ledger : LedgerView) : Type 0 w
   pub all : length ledger.accounts ≡ length sources
   pub stands : LedgerStandsAt ledger arrivals
 
--- a builder has taken the feeds of these sources: its ledger has, and its cube has the facts of the books, over the schema's grouping sets
+-- a builder has taken the feeds of these sources: its ledger has, and its cube has the facts of the books,
+-- over the schema's grouping sets
 pub record BuildsWhole (s : Layout) (sources : Told) (builder : BuilderView) : Type 0 where
   pub ledger : Builds s sources builder.ledger
   pub sets : builder.cube.sets ≡ s.grouping_sets
@@ -38,7 +40,8 @@ pub record TakesFeed (s : Layout) (bytes : Option (List ℕ)) (source : ℕ) (ol
   pub good : IsGood s bytes
   pub schema : new.schema ≡ old.schema
   pub sources : length new.accounts ≡ length old.accounts
-  pub stands : (arrivals : Arrivals) → LedgerStandsAt old arrivals → LedgerStandsAt new (arrivals ++ map (λ item. (source, item)) items)
+  pub stands : (arrivals : Arrivals) → LedgerStandsAt old arrivals
+      → LedgerStandsAt new (arrivals ++ map (λ item. (source, item)) items)
 
 -- why not all items of the feed of a source were taken: memory, or the feed's own fault
 abbrev pub StopsFeed : Layout → Option (List ℕ) → ℕ → BuildFault → Type 0

@@ -1,5 +1,6 @@
 -- The books and the refusals of all sources, and what an item does to them (this project's choice).
-use Rattle.std.specs.Prelude.{◌≡◌, ◌≤◌, ⊤, true, All, ◌++◌, ◌∷◌, ◌-◌, ℕ, Bool, false, List, [], length, get_or, flat_map, slice_set, Option, Some, None, is_some, Result, Ok, Err, not, if◌then◌else◌}
+use Rattle.std.specs.Prelude.{◌≡◌, ◌≤◌, ⊤, true, All, ◌++◌, ◌∷◌, ◌-◌, ℕ, Bool, false, List, [], length, get_or}
+use Rattle.std.specs.Prelude.{flat_map, slice_set, Option, Some, None, is_some, Result, Ok, Err, not, if◌then◌else◌}
 use Rattle.std.specs.List.{AllZip}
 use Rattle.cube_core.specs.Arrival.{Arrivals, of_sources}
 use Rattle.cube_core.specs.Layout.{Layout}
@@ -58,7 +59,8 @@ code_in s book (Ok change) =
     else code_by_presence s change (is_some (fact_at book (id_of change)))
 
 -- what an item says is a change that a source with this book takes, and this fact or none comes under this id by it
-pub record Puts (s : Layout) (book : Entries) (what : Result Change LineFault) (id : List ℕ) (come : Option Fact) : Type 0 where
+pub record Puts (s : Layout) (book : Entries) (what : Result Change LineFault) (id : List ℕ) (come : Option Fact)
+    : Type 0 where
   pub change : Change
   pub says : what ≡ Ok change
   pub lawful : code_in s book what ≡ None
@@ -116,17 +118,20 @@ pub record Exchanges (id : List ℕ) (gone come : Option Fact) (old new : Accoun
   pub book : Replaces old.book id gone come new.book
   pub refusals : new.refusals ≡ old.refusals
 
--- what an item of a number came to was done to an account: it was noted as refused, a fact was put under an id, or the fact there was taken out
+-- what an item of a number came to was done to an account:
+-- it was noted as refused, a fact was put under an id, or the fact there was taken out
 abbrev pub Obeys : ℕ → Ruling → AccountView → AccountView → Type 0
 Obeys number (Refuse code) old new = new ≡ with_refusal old number code
 Obeys number (Put id fact) old new = Exchanges id (fact_at old.book id) (Some fact) old new
 Obeys number (Take id) old new = Exchanges id (fact_at old.book id) None old new
 
--- an account took an item: one that is refused is noted with its code and changes no fact, and the change of any other is made
+-- an account took an item: one that is refused is noted with its code and changes no fact,
+-- and the change of any other is made
 pub record Enters (s : Layout) (item : Item) (old new : AccountView) : Type 0 where
   pub refused : (code : ℕ) → code_in s old.book item.what ≡ Some code → new ≡ with_refusal old item.number code
   pub taken : (change : Change) → item.what ≡ Ok change → code_in s old.book item.what ≡ None
-      → Exchanges (id_of change) (fact_at old.book (id_of change)) (fact_put change (fact_at old.book (id_of change))) old new
+      → Exchanges (id_of change) (fact_at old.book (id_of change))
+      (fact_put change (fact_at old.book (id_of change))) old new
 
 -- the account of one source changed so, and nothing else did
 pub record AtSource (changes : AccountView → AccountView → Type 0) (source : ℕ) (old new : LedgerView) : Type 0 where
@@ -135,7 +140,8 @@ pub record AtSource (changes : AccountView → AccountView → Type 0) (source :
   pub accounts : new.accounts ≡ slice_set old.accounts (source - 1) account
   pub schema : new.schema ≡ old.schema
 
--- an account stands at the items of its source: its book has a fact under an id exactly where the id is present after them, and that very fact, and its refusals are theirs
+-- an account stands at the items of its source: its book has a fact under an id exactly where the id is present
+-- after them, and that very fact, and its refusals are theirs
 pub record AccountStandsAt (s : Layout) (items : List Item) (account : AccountView) : Type 0 where
   pub facts : (id : List ℕ) → fact_at account.book id ≡ life_of id (changes_of s items)
   pub each_once : IsBook account.book

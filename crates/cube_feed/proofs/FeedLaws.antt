@@ -19,13 +19,16 @@ pub StillComes-refl : (now : Ahead) → StillComes now now
 StillComes-refl None = tt
 StillComes-refl (Some coming) = refl
 
-pub StillComes-Gives : (then now new : Ahead) (answer : Result (Option Item) FeedFault) → StillComes then now → Gives now answer new → Gives then answer new
+pub StillComes-Gives : (then now new : Ahead) (answer : Result (Option Item) FeedFault) → StillComes then now
+    → Gives now answer new → Gives then answer new
 StillComes-Gives None now new answer same gives = tt
 StillComes-Gives (Some coming) now new answer same gives = subst (λ (ahead : Ahead). Gives ahead answer new) same gives
 
 -- a record of another shard is passed over
-skip-Some : (s : Layout) (number : ℕ) (coming : Coming (Option FeedFault)) (old : Left) (new : RecordsView) → number < s.max_records
-    → Advances old true new → is_read s new.fields ≡ false → after_header s number old ≡ Some coming → after_header s (number + 1) new.left ≡ Some coming
+skip-Some : (s : Layout) (number : ℕ) (coming : Coming (Option FeedFault)) (old : Left) (new : RecordsView)
+    → number < s.max_records
+    → Advances old true new → is_read s new.fields ≡ false → after_header s number old ≡ Some coming
+    → after_header s (number + 1) new.left ≡ Some coming
 skip-Some s number coming None new below advances other is = cc is
 skip-Some s number coming (Some []) new below advances other is = cc advances
 skip-Some s number coming (Some (fields ∷ rest)) new below advances other is =
@@ -33,30 +36,37 @@ skip-Some s number coming (Some (fields ∷ rest)) new below advances other is =
     rw advances.2 (rw (lt-ltb number s.max_records below, unread) at is)
 
 pub StillComes-skip : (s : Layout) (number : ℕ) (then : Ahead) (old : Left) (new : RecordsView) → number < s.max_records
-    → Advances old true new → is_read s new.fields ≡ false → StillComes then (after_header s number old) → StillComes then (after_header s (number + 1) new.left)
+    → Advances old true new → is_read s new.fields ≡ false → StillComes then (after_header s number old)
+    → StillComes then (after_header s (number + 1) new.left)
 StillComes-skip s number None old new below advances other same = tt
-StillComes-skip s number (Some coming) old new below advances other same = skip-Some s number coming old new below advances other same
+StillComes-skip s number (Some coming) old new below advances other same =
+    skip-Some s number coming old new below advances other same
 
 -- the item of a record of the shard
-pub item-Gives : (s : Layout) (number : ℕ) (old : Left) (new : RecordsView) (item : Item) → number < s.max_records → Advances old true new → is_read s new.fields ≡ true
-    → item.number ≡ number + 1 → item.what ≡ change_of s new.fields → Gives (after_header s number old) (Ok (Some item)) (after_header s item.number new.left)
+pub item-Gives : (s : Layout) (number : ℕ) (old : Left) (new : RecordsView) (item : Item) → number < s.max_records
+    → Advances old true new → is_read s new.fields ≡ true
+    → item.number ≡ number + 1 → item.what ≡ change_of s new.fields
+    → Gives (after_header s number old) (Ok (Some item)) (after_header s item.number new.left)
 item-Gives s number None new item below advances read is says = tt
 item-Gives s number (Some []) new item below advances read is says = cc advances
 item-Gives s number (Some (fields ∷ rest)) new item below advances read is says =
     let known : is_read s fields ≡ true = subst (λ (fs : List (List ℕ)). is_read s fs ≡ true) advances.1 read in
     (to_come (items_after s (number + 1) rest), first_of known, rw (advances.2, is) refl)
   where
-    first_of : is_read s fields ≡ true → to_come (items_after s number (fields ∷ rest)) ≡ coming_after item (to_come (items_after s (number + 1) rest))
+    first_of : is_read s fields ≡ true
+        → to_come (items_after s number (fields ∷ rest)) ≡ coming_after item (to_come (items_after s (number + 1) rest))
     first_of known = rw (lt-ltb number s.max_records below, known, is, says, advances.1) refl
 
 -- no record is left
-pub none-Gives : (s : Layout) (number : ℕ) (old : Left) (new : RecordsView) (ahead : Ahead) → Advances old false new → Gives (after_header s number old) (Ok None) ahead
+pub none-Gives : (s : Layout) (number : ℕ) (old : Left) (new : RecordsView) (ahead : Ahead) → Advances old false new
+    → Gives (after_header s number old) (Ok None) ahead
 none-Gives s number None new ahead advances = tt
 none-Gives s number (Some []) new ahead advances = refl
 none-Gives s number (Some (fields ∷ rest)) new ahead advances = cc advances.0
 
 -- a record too many
-pub too_many-Gives : (s : Layout) (number : ℕ) (old : Left) (new : RecordsView) (ahead : Ahead) → nat_lt number s.max_records ≡ false → Advances old true new
+pub too_many-Gives : (s : Layout) (number : ℕ) (old : Left) (new : RecordsView) (ahead : Ahead)
+    → nat_lt number s.max_records ≡ false → Advances old true new
     → Gives (after_header s number old) (Err TooMany) ahead
 too_many-Gives s number None new ahead full advances = tt
 too_many-Gives s number (Some []) new ahead full advances = cc advances

@@ -23,8 +23,10 @@ fits_i64-FitsSigned (pos n) h = record { sfits = search rules }
 fits_i64-FitsSigned (negsuc n) h = record { sfits = search rules }
 
 -- a numeral in the range is a number of the definition
-IsNumeral-is_number : (bs : List ℕ) → IsNumeral 10 (without_leading_sign bs) → FitsSigned w64 (signed_digits_value 10 bs) → is_number bs ≡ true
-IsNumeral-is_number bs h f = and_from _ _ (and_from _ _ (lt-ltb 0 _ h.0) (IsNumeral-digits_value.from _ h.1)) (FitsSigned-fits_i64 _ f)
+IsNumeral-is_number : (bs : List ℕ) → IsNumeral 10 (without_leading_sign bs)
+    → FitsSigned w64 (signed_digits_value 10 bs) → is_number bs ≡ true
+IsNumeral-is_number bs h f =
+    and_from _ _ (and_from _ _ (lt-ltb 0 _ h.0) (IsNumeral-digits_value.from _ h.1)) (FitsSigned-fits_i64 _ f)
 
 -- and a number of the definition is a numeral in the range
 is_number-IsNumeral : (bs : List ℕ) → is_number bs ≡ true
@@ -35,7 +37,8 @@ is_number-IsNumeral bs h =
     ((ltb-true 0 _ first.0, IsNumeral-digits_value.to _ first.1), fits_i64-FitsSigned _ both.1)
 
 -- what `parse` gives, without its error
-pub ParsesSigned-number_of : {E : Type 0} (bs : List ℕ) (r : Result ℤ E) → ParsesSigned w64 10 bs r → result_ok r ≡ number_of bs
+pub ParsesSigned-number_of : {E : Type 0} (bs : List ℕ) (r : Result ℤ E) → ParsesSigned w64 10 bs r
+    → result_ok r ≡ number_of bs
 ParsesSigned-number_of bs (Ok x) h = rw (IsNumeral-is_number bs h.0.0 h.0.1) (ap Some h.1)
 ParsesSigned-number_of bs (Err e) h = by (is_number bs) refl
   where

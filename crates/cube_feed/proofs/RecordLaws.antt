@@ -1,8 +1,10 @@
 -- The records of the rest of a text go on from one read to the next.
-use Rattle.std.proofs.Common.{◌≡◌, ◌<◌, ◌+◌, ◌⊎◌, inl, inr, ℕ, Bool, true, false, List, [], ◌∷◌, ◌++◌, length, Option, Some, None, refl, sym, ap, arith, add-one}
+use Rattle.std.proofs.Common.{◌≡◌, ◌<◌, ◌+◌, ◌⊎◌, inl, inr, ℕ, Bool, true, false, List, [], ◌∷◌, ◌++◌, length, Option}
+use Rattle.std.proofs.Common.{Some, None, refl, sym, ap, arith, add-one}
 use Rattle.std.specs.Prelude.{zero, suc, option_map, if◌then◌else◌}
 use Rattle.csv.specs.Machine.{Read, next_record, ends_at_end, is_end, step, fields_after, field_after}
-use Rattle.csv.specs.Reading.{records_from, records_next, default_config, source_of, pending_of, reader_trim, reader_state, has_failed, Ready, ReadRecord, NextIs, ReadsNext}
+use Rattle.csv.specs.Reading.{records_from, records_next, default_config, source_of, pending_of, reader_trim}
+use Rattle.csv.specs.Reading.{reader_state, has_failed, Ready, ReadRecord, NextIs, ReadsNext}
 use Rattle.csv.specs.declared.reader.Reader.{Reader}
 use Rattle.csv.specs.declared.reader.Trim.TheVariants as trim
 use Rattle.cube_feed.specs.Reading.{Advances, ReadsPlainly, left_of, records_at}
@@ -14,24 +16,30 @@ use Rattle.csv.specs.declared.parser.State.TheVariants as st
 pub record Shrinks (before : List ℕ) (state : State) (left : List ℕ) : Type 0 where
   pub is : (length left < length before) ⊎ ((state ≡ st.StartRecord) × (left ≡ []))
 
-Shrinks-cons : (c : ℕ) (rest : List ℕ) (state : State) (left : List ℕ) → Shrinks rest state left → Shrinks (c ∷ rest) state left
-Shrinks-cons c rest state left h = elim h.is [ inl a ↦ record { is = inl (omega arith) } | inr b ↦ record { is = inr b } ]
+Shrinks-cons : (c : ℕ) (rest : List ℕ) (state : State) (left : List ℕ) → Shrinks rest state left
+    → Shrinks (c ∷ rest) state left
+Shrinks-cons c rest state left h =
+    elim h.is [ inl a ↦ record { is = inl (omega arith) } | inr b ↦ record { is = inr b } ]
 
 next_record-Shrinks : (cfg : Config) (s : State) (fields : List (List ℕ)) (field xs : List ℕ) (r : Read)
     → next_record cfg s fields field xs ≡ Some r → Shrinks xs r.1 r.2
 unfolding next_record
 next_record-Shrinks cfg s fields field [] r h = by (ends_at_end s) h
   where
-    by : (b : Bool) → (if b then Some (fields ++ (field ∷ []), st.StartRecord, []) else None) ≡ Some r → Shrinks [] r.1 r.2
+    by : (b : Bool) → (if b then Some (fields ++ (field ∷ []), st.StartRecord, []) else None) ≡ Some r
+        → Shrinks [] r.1 r.2
     by true e = record { is = inr (cc, cc) }
     by false e = cc
 next_record-Shrinks cfg s fields field (c ∷ rest) r h =
-    by (is_end (step cfg s c).1) h (next_record-Shrinks cfg (step cfg s c).0 (fields_after (step cfg s c).1 fields field) (field_after (step cfg s c).1 c field) rest r)
+    by (is_end (step cfg s c).1) h (next_record-Shrinks cfg (step cfg s c).0
+    (fields_after (step cfg s c).1 fields field) (field_after (step cfg s c).1 c field) rest r)
   where
     by : (b : Bool)
         → (if b then Some (fields_after (step cfg s c).1 fields field, (step cfg s c).0, rest)
-        else next_record cfg (step cfg s c).0 (fields_after (step cfg s c).1 fields field) (field_after (step cfg s c).1 c field) rest) ≡ Some r
-        → (next_record cfg (step cfg s c).0 (fields_after (step cfg s c).1 fields field) (field_after (step cfg s c).1 c field) rest ≡ Some r → Shrinks rest r.1 r.2)
+        else next_record cfg (step cfg s c).0 (fields_after (step cfg s c).1 fields field)
+        (field_after (step cfg s c).1 c field) rest) ≡ Some r
+        → (next_record cfg (step cfg s c).0 (fields_after (step cfg s c).1 fields field)
+        (field_after (step cfg s c).1 c field) rest ≡ Some r → Shrinks rest r.1 r.2)
         → Shrinks (c ∷ rest) r.1 r.2
     by true e more = let left : rest ≡ r.2 = cc in record { is = inl (omega (arith, ap length left)) }
     by false e more = Shrinks-cons c rest r.1 r.2 (more e)
@@ -51,7 +59,8 @@ records_from-fuel cfg (suc n) zero s xs h k = absurd (omega arith)
 records_from-fuel cfg (suc n) (suc m) s xs h k = by (next_record cfg s [] [] xs) refl (records_from-fuel cfg n m)
   where
     by : (o : Option Read) → next_record cfg s [] [] xs ≡ o
-        → ((s2 : State) (ys : List ℕ) → length ys < n → length ys < m → records_from cfg n s2 ys ≡ records_from cfg m s2 ys)
+        → ((s2 : State) (ys : List ℕ) → length ys < n → length ys < m
+        → records_from cfg n s2 ys ≡ records_from cfg m s2 ys)
         → records_next (records_from cfg n) o ≡ records_next (records_from cfg m) o
     by None e more = refl
     by (Some r) e more = elim (next_record-Shrinks cfg s [] [] xs r e).is [
@@ -77,7 +86,8 @@ records_at-Some s xs r h = rw (add-one (length xs), h) (ap (λ (rs : List (List 
     ]
 
 NextIs-true : (s : State) (xs : List ℕ) (o : Option Read) (fields : List (List ℕ)) (s2 : State) (ys : List ℕ)
-    → next_record default_config s [] [] xs ≡ o → NextIs o true fields s2 ys → records_at s xs ≡ fields ∷ records_at s2 ys
+    → next_record default_config s [] [] xs ≡ o → NextIs o true fields s2 ys
+    → records_at s xs ≡ fields ∷ records_at s2 ys
 NextIs-true s xs None fields s2 ys e n = cc n
 NextIs-true s xs (Some r) fields s2 ys e n = rw (n.1, n.2, n.3) (records_at-Some s xs r e)
 
@@ -87,27 +97,33 @@ NextIs-false s xs None fields s2 ys e n = records_at-None s xs e
 NextIs-false s xs (Some r) fields s2 ys e n = cc n.0
 
 -- what a read of csv does to the records that are left
-ReadsNext-Advances : (s : State) (xs : List ℕ) (after : Option (List ℕ)) (found : Bool) (fields : List (List ℕ)) (s2 : State)
+ReadsNext-Advances : (s : State) (xs : List ℕ) (after : Option (List ℕ)) (found : Bool) (fields : List (List ℕ))
+    (s2 : State)
     → ReadsNext default_config s (Some xs) after found fields s2
     → Advances (Some (records_at s xs)) found (record { left = option_map (records_at s2) after; fields = fields })
 ReadsNext-Advances s xs None found fields s2 h = absurd h
-ReadsNext-Advances s xs (Some ys) true fields s2 h = rw (NextIs-true s xs (next_record default_config s [] [] xs) fields s2 ys refl h) (refl, refl, refl)
-ReadsNext-Advances s xs (Some ys) false fields s2 h = rw (NextIs-false s xs (next_record default_config s [] [] xs) fields s2 ys refl h) refl
+ReadsNext-Advances s xs (Some ys) true fields s2 h =
+    rw (NextIs-true s xs (next_record default_config s [] [] xs) fields s2 ys refl h) (refl, refl, refl)
+ReadsNext-Advances s xs (Some ys) false fields s2 h =
+    rw (NextIs-false s xs (next_record default_config s [] [] xs) fields s2 ys refl h) refl
 
 -- a read takes the first of the records that are left
-pub ReadRecord-Advances : {R : Type 0} (remaining : R → Option (List ℕ)) (old new : Reader R) (found : Bool) (fields : List (List ℕ))
+pub ReadRecord-Advances : {R : Type 0} (remaining : R → Option (List ℕ)) (old new : Reader R) (found : Bool)
+    (fields : List (List ℕ))
     → ReadsPlainly old → (reader_trim old ≡ trim.None → Ready old → ReadRecord remaining old new found fields)
     → Advances (left_of remaining old) found (record { left = left_of remaining new; fields = fields })
 ReadRecord-Advances {R} remaining old new found fields plain reads = by (has_failed old) refl
   where
     known : has_failed old ≡ false → (source : Option (List ℕ)) → source_of remaining old ≡ source
-        → Advances (option_map (records_at (reader_state old)) source) found (record { left = left_of remaining new; fields = fields })
+        → Advances (option_map (records_at (reader_state old)) source) found
+        (record { left = left_of remaining new; fields = fields })
     known e None q = tt
     known e (Some xs) q =
         let read = reads (plain.trims e) (plain.ready e) in
         let next = rw (plain.config e, q) at read.0 in
         rw read.1 (ReadsNext-Advances old.state xs (pending_of (remaining new.rdr) new) found fields new.state next)
 
-    by : (failed : Bool) → has_failed old ≡ failed → Advances (left_of remaining old) found (record { left = left_of remaining new; fields = fields })
+    by : (failed : Bool) → has_failed old ≡ failed
+        → Advances (left_of remaining old) found (record { left = left_of remaining new; fields = fields })
     by true e = rw e tt
     by false e = known e (source_of remaining old) refl

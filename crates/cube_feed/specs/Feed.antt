@@ -1,9 +1,11 @@
 -- What a feed has to come, and what each call of it gives (this project's choice).
-use Rattle.std.specs.Prelude.{◌≡◌, ⊤, ◌+◌, ◌<◌, ◌≤◌, ℕ, Bool, true, false, List, [], Option, Some, None, option_map, Result, Ok, Err, IfOk, IfSome}
+use Rattle.std.specs.Prelude.{◌≡◌, ⊤, ◌+◌, ◌<◌, ◌≤◌, ℕ, Bool, true, false, List, [], Option, Some, None, option_map}
+use Rattle.std.specs.Prelude.{Result, Ok, Err, IfOk, IfSome}
 use Rattle.cube_core.specs.Layout.{Layout}
 use Rattle.cube_core.specs.Shard.{whole_feed}
 use Rattle.cube_core.specs.Takes.{takes}
-use Rattle.cube_core.specs.Items.{Coming, FeedEnd, Good, WrongHeader, TooManyRecords, coming_after, items_of, items_after}
+use Rattle.cube_core.specs.Items.{Coming, FeedEnd, Good, WrongHeader, TooManyRecords, coming_after, items_of}
+use Rattle.cube_core.specs.Items.{items_after}
 use Rattle.cube_core.specs.declared.change.Item.{Item}
 use Rattle.cube_feed.specs.declared.fault.FeedFault.{FeedFault}
 use Rattle.cube_feed.specs.declared.fault.FeedFault.TheVariants.{Memory, Read, Header, TooMany}
@@ -14,7 +16,8 @@ use Rattle.cube_feed.specs.declared.feed.Stage.TheVariants as stage
 abbrev pub Left : Type 0
 Left = Option (List (List (List ℕ)))
 
--- what lies ahead in a feed, where its reader tells its bytes: the items to come, and the fault that follows them, if one does
+-- what lies ahead in a feed, where its reader tells its bytes:
+-- the items to come, and the fault that follows them, if one does
 abbrev pub Ahead : Type 0
 Ahead = Option (Coming (Option FeedFault))
 
@@ -37,9 +40,11 @@ abbrev pub before_header : Layout → Left → Ahead
 before_header schema left = option_map (λ (records : List (List (List ℕ))). to_come (items_of schema records)) left
 
 abbrev pub after_header : Layout → ℕ → Left → Ahead
-after_header schema number left = option_map (λ (records : List (List (List ℕ))). to_come (items_after schema number records)) left
+after_header schema number left =
+    option_map (λ (records : List (List (List ℕ))). to_come (items_after schema number records)) left
 
--- what a caller sees of a feed: its schema, the number of its last item, its end once it has come there, and what is to come,
+-- what a caller sees of a feed:
+-- its schema, the number of its last item, its end once it has come there, and what is to come,
 -- where its reader tells its bytes
 pub record FeedView : Type 0 where
   pub schema : Layout
@@ -72,7 +77,8 @@ end_answer (Some fault) = Err fault
 -- Memory and the reader may fail at any time
 abbrev pub Gives : Ahead → Result (Option Item) FeedFault → Ahead → Type 0
 Gives None answer new = ⊤
-Gives (Some old) (Ok (Some item)) new = (rest : Coming (Option FeedFault)) × (old ≡ coming_after item rest) × (new ≡ Some rest)
+Gives (Some old) (Ok (Some item)) new =
+    (rest : Coming (Option FeedFault)) × (old ≡ coming_after item rest) × (new ≡ Some rest)
 Gives (Some old) (Ok None) new = old ≡ nothing_but None
 Gives (Some old) (Err Memory) new = ⊤
 Gives (Some old) (Err Read) new = ⊤
@@ -81,7 +87,8 @@ Gives (Some old) (Err TooMany) new = old ≡ nothing_but (Some TooMany)
 
 -- a change that is given is one that the schema takes
 abbrev pub IsTaken : Layout → Result (Option Item) FeedFault → Type 0
-IsTaken schema answer = IfOk answer (λ next. IfSome next (λ item. IfOk item.what (λ change. takes schema change ≡ true)))
+IsTaken schema answer =
+    IfOk answer (λ next. IfSome next (λ item. IfOk item.what (λ change. takes schema change ≡ true)))
 
 -- the number of an item that is given, or the one before where none is
 abbrev pub number_after : ℕ → Result (Option Item) FeedFault → ℕ
@@ -89,7 +96,8 @@ number_after number (Ok (Some item)) = item.number
 number_after number (Ok None) = number
 number_after number (Err fault) = number
 
--- an item's number comes after the one before, and is the schema's number of records at most; of a whole feed it is the next
+-- an item's number comes after the one before, and is the schema's number of records at most;
+-- of a whole feed it is the next
 pub record IsNumbered (s : Layout) (before number : ℕ) : Type 0 where
   pub after : before < number
   pub at_most : number ≤ s.max_records
@@ -97,21 +105,24 @@ pub record IsNumbered (s : Layout) (before number : ℕ) : Type 0 where
 
 -- an item is numbered after the one before; without one the number stays
 abbrev pub Numbers : FeedView → Result (Option Item) FeedFault → FeedView → Type 0
-Numbers old (Ok (Some item)) new = IsNumbered old.schema old.number item.number × (new.number ≡ item.number) × (new.ended ≡ None)
+Numbers old (Ok (Some item)) new =
+    IsNumbered old.schema old.number item.number × (new.number ≡ item.number) × (new.ended ≡ None)
 Numbers old (Ok None) new = new.number ≡ old.number
 Numbers old (Err fault) new = new.number ≡ old.number
 
 -- the header was taken, and the data records are left; or there is no record, or the first isn't the header
 abbrev pub TakesHeader : Layout → Left → Result Bool FeedFault → Left → Type 0
 TakesHeader schema None answer new = ⊤
-TakesHeader schema (Some records) (Ok true) new = (rest : List (List (List ℕ))) × (items_of schema records ≡ items_after schema 0 rest) × (new ≡ Some rest)
+TakesHeader schema (Some records) (Ok true) new =
+    (rest : List (List (List ℕ))) × (items_of schema records ≡ items_after schema 0 rest) × (new ≡ Some rest)
 TakesHeader schema (Some records) (Ok false) new = items_of schema records ≡ record { items = []; end = Good }
 TakesHeader schema (Some records) (Err Memory) new = ⊤
 TakesHeader schema (Some records) (Err Read) new = ⊤
 TakesHeader schema (Some records) (Err Header) new = items_of schema records ≡ record { items = []; end = WrongHeader }
 TakesHeader schema (Some records) (Err TooMany) new = ⊥
 
--- what is true of every feed: its last item's number is the schema's number of records at most, and 0 before the header was read
+-- what is true of every feed: its last item's number is the schema's number of records at most,
+-- and 0 before the header was read
 pub record IsFeed (schema : Layout) (number : ℕ) (at : Stage) : Type 0 where
   pub number_at_most : number ≤ schema.max_records
   pub none_at_start : at ≡ stage.Start → number ≡ 0

@@ -1,6 +1,7 @@
 -- What a reader of records has left, and what taking one does (this project's choice).
 use Rattle.std.specs.Prelude.{◌+◌, length, ◌≡◌, ⊤, ℕ, Bool, true, false, List, [], ◌∷◌, Option, Some, None, option_map}
-use Rattle.csv.specs.Reading.{source_of, reader_config, reader_trim, is_flexible, names_headers, reader_state, has_failed, Ready, default_config, records_from}
+use Rattle.csv.specs.Reading.{source_of, reader_config, reader_trim, is_flexible, names_headers, reader_state}
+use Rattle.csv.specs.Reading.{has_failed, Ready, default_config, records_from}
 use Rattle.csv.specs.declared.parser.State.{State}
 use Rattle.csv.specs.declared.reader.Reader.{Reader}
 use Rattle.csv.specs.declared.reader.Trim.TheVariants as trim

@@ -1,9 +1,12 @@
--- When the fields of a record of the right width spell a change, and what is wrong with them else (this project's choice).
-use Rattle.std.specs.Prelude.{◌==◌, ◌&&◌, ℕ, ℤ, Bool, not, List, length, drop, Option, Some, is_some, option_map, Result, Ok, Err, if◌then◌else◌}
+-- When the fields of a record of the right width spell a change,
+-- and what is wrong with them else (this project's choice).
+use Rattle.std.specs.Prelude.{◌==◌, ◌&&◌, ℕ, ℤ, Bool, not, List, length, drop, Option, Some, is_some, option_map}
+use Rattle.std.specs.Prelude.{Result, Ok, Err, if◌then◌else◌}
 use Rattle.std.specs.Str.{bytes_eq, is_utf8}
 use Rattle.std.specs.List.{list_all, filter_map}
 use Rattle.cube_core.specs.Layout.{Layout}
-use Rattle.cube_core.specs.Items.{width_of, field_at, keep_text, dimension_of, measure_of, dimension_fields, measure_fields, insert_of, update_of}
+use Rattle.cube_core.specs.Items.{width_of, field_at, keep_text, dimension_of, measure_of, dimension_fields}
+use Rattle.cube_core.specs.Items.{measure_fields, insert_of, update_of}
 use Rattle.cube_core.specs.declared.partial.Field.{Field}
 use Rattle.cube_core.specs.declared.partial.Field.TheVariants.{Keep, Put}
 use Rattle.cube_core.specs.declared.partial.Partial.{Partial}
@@ -36,12 +39,14 @@ put_fault fields =
     else fault.Measure
 
 -- what is read of a record, its id with its dimensions and its measures
-abbrev pub listed : {D M : Type 0} → List D → List M → Result (List ℕ) LineFault → Result (List ℕ × List D × List M) LineFault
+abbrev pub listed : {D M : Type 0} → List D → List M → Result (List ℕ) LineFault
+    → Result (List ℕ × List D × List M) LineFault
 listed dimensions measures (Ok id) = Ok (id, dimensions, measures)
 listed dimensions measures (Err why) = Err why
 
 -- what is read of a record with an amendment
-abbrev pub part_listed : Result (List ℕ × Partial) LineFault → Result (List ℕ × List (Field (Option (List ℕ))) × List (Field (Option ℤ))) LineFault
+abbrev pub part_listed : Result (List ℕ × Partial) LineFault
+    → Result (List ℕ × List (Field (Option (List ℕ))) × List (Field (Option ℤ))) LineFault
 part_listed (Ok amendment) = Ok (amendment.0, amendment.1.dims, amendment.1.measures)
 part_listed (Err why) = Err why
 
@@ -58,7 +63,11 @@ abbrev pub read_of : {D M : Type 0} → (List ℕ → Option D) → (List ℕ �
 read_of dimension measure s fields =
     if not (length fields == width_of s) then Err fault.Fields
     else if not (are_sound dimension measure s fields) then Err (put_fault fields)
-    else Ok (field_at fields 1, filter_map dimension (dimension_fields s fields), filter_map measure (measure_fields s fields))
+    else Ok (
+      field_at fields 1,
+      filter_map dimension (dimension_fields s fields),
+      filter_map measure (measure_fields s fields),
+    )
 
 -- the change that a record with lawful fields spells, by its operation
 abbrev pub change_by : Operation → Layout → List (List ℕ) → Result Change LineFault

@@ -1,5 +1,6 @@
 -- Lists that are changed place by place.
-use Rattle.std.proofs.Common.{◌≡◌, ◌<◌, ◌+◌, ◌++◌, ℕ, zero, suc, List, [], ◌∷◌, length, take, get_or, set, map, refl, ap, arith, ◌∙◌}
+use Rattle.std.proofs.Common.{◌≡◌, ◌<◌, ◌+◌, ◌++◌, ℕ, zero, suc, List, [], ◌∷◌, length, take, get_or, set, map, refl}
+use Rattle.std.proofs.Common.{ap, arith, ◌∙◌}
 use Rattle.std.proofs.lemmas.Grind.{common_steps}
 use Rattle.std.proofs.lemmas.List.{get_or_append_left}
 use Rattle.std.proofs.Math.Seq.{get_or-append_seam, take-append_seam}
@@ -11,12 +12,14 @@ first_mapped f zero xs = xs
 first_mapped f (suc n) [] = []
 first_mapped f (suc n) (x ∷ xs) = f x ∷ first_mapped f n xs
 
-first_mapped-next : {A : Type 0} (f : A → A) (n : ℕ) (xs : List A) (d : A) → n < length xs → get_or (first_mapped f n xs) n d ≡ get_or xs n d
+first_mapped-next : {A : Type 0} (f : A → A) (n : ℕ) (xs : List A) (d : A) → n < length xs
+    → get_or (first_mapped f n xs) n d ≡ get_or xs n d
 first_mapped-next f zero xs d below = refl
 first_mapped-next f (suc n) [] d below = refl
 first_mapped-next f (suc n) (x ∷ xs) d below = first_mapped-next f n xs d (omega arith)
 
-set-first_mapped : {A : Type 0} (f : A → A) (n : ℕ) (xs : List A) (d y : A) → n < length xs → y ≡ f (get_or xs n d) → set (first_mapped f n xs) n y ≡ first_mapped f (suc n) xs
+set-first_mapped : {A : Type 0} (f : A → A) (n : ℕ) (xs : List A) (d y : A) → n < length xs → y ≡ f (get_or xs n d)
+    → set (first_mapped f n xs) n y ≡ first_mapped f (suc n) xs
 set-first_mapped f zero [] d y below is = absurd (omega arith)
 set-first_mapped f zero (x ∷ xs) d y below is = ap (λ z. z ∷ xs) is
 set-first_mapped f (suc n) [] d y below is = absurd (omega arith)
@@ -28,7 +31,8 @@ length-first_mapped f (suc n) [] = refl
 length-first_mapped f (suc n) (x ∷ xs) = ap suc (length-first_mapped f n xs)
 
 -- the next place is changed
-pub first_mapped-more : {A : Type 0} (f : A → A) (n : ℕ) (xs now : List A) (d y : A) → now ≡ first_mapped f n xs → n < length now → y ≡ f (get_or now n d) → set now n y ≡ first_mapped f (n + 1) xs
+pub first_mapped-more : {A : Type 0} (f : A → A) (n : ℕ) (xs now : List A) (d y : A) → now ≡ first_mapped f n xs
+    → n < length now → y ≡ f (get_or now n d) → set now n y ≡ first_mapped f (n + 1) xs
 first_mapped-more f n xs now d y are below is =
     let within : n < length xs = omega (arith, below, ap length are, length-first_mapped f n xs) in
     let here : get_or now n d ≡ get_or xs n d = ap (λ ys. get_or ys n d) are ∙ first_mapped-next f n xs d within in
@@ -36,10 +40,12 @@ first_mapped-more f n xs now d y are below is =
     ap (λ ys. set ys n y) are ∙ set-first_mapped f n xs d y within (is ∙ ap f here) ∙ ap (λ m. first_mapped f m xs) next
 
 -- the next place is changed where it lies
-pub first_mapped-set : {A : Type 0} (f : A → A) (n : ℕ) (xs now next : List A) → now ≡ first_mapped f n xs → n < length now
+pub first_mapped-set : {A : Type 0} (f : A → A) (n : ℕ) (xs now next : List A) → now ≡ first_mapped f n xs
+    → n < length now
     → ((d : A) → next ≡ set now n (f (get_or now n d))) → next ≡ first_mapped f (n + 1) xs
 first_mapped-set f n xs [] next are below is = absurd (omega (arith, below))
-first_mapped-set f n xs (d ∷ now) next are below is = is d ∙ first_mapped-more f n xs (d ∷ now) d (f (get_or (d ∷ now) n d)) are below refl
+first_mapped-set f n xs (d ∷ now) next are below is =
+    is d ∙ first_mapped-more f n xs (d ∷ now) d (f (get_or (d ∷ now) n d)) are below refl
 
 -- all places are changed
 pub first_mapped-all : {A : Type 0} (f : A → A) (n : ℕ) (xs : List A) → n ≡ length xs → first_mapped f n xs ≡ map f xs
@@ -60,7 +66,8 @@ All-append_last P xs x all =
     let further : length xs < length (xs ++ x ∷ []) = grind (arith, common_steps) in
     rw (get_or-append_seam xs x [] x) at (all (length xs) x further)
 
-pub AllZip-nil : {A B : Type 0} (R : A → B → Type 0) (xs : List A) (ys : List B) → length xs ≡ 0 → length ys ≡ 0 → AllZip R xs ys
+pub AllZip-nil : {A B : Type 0} (R : A → B → Type 0) (xs : List A) (ys : List B) → length xs ≡ 0 → length ys ≡ 0
+    → AllZip R xs ys
 AllZip-nil R [] [] a b = record {}
 AllZip-nil R [] (y ∷ ys) a b = absurd (omega (arith, b))
 AllZip-nil R (x ∷ xs) ys a b = absurd (omega (arith, a))

@@ -18,8 +18,10 @@ AreAll coming items end = coming ≡ record { items = items; end = end }
 abbrev pub AreFirst : Coming (Option FeedFault) → List Item → Type 0
 AreFirst coming items = (rest : List Item) × (coming.items ≡ items ++ rest)
 
--- what a feeder's stop says of the items that it sent, where the reader tells its bytes: without one, or by a fault of the feed's
--- end, they are all the items to come, and that is their end; by want of memory or a fault of the reader they are the first of them
+-- what a feeder's stop says of the items that it sent, where the reader tells its bytes:
+-- without one, or by a fault of the feed's
+-- end, they are all the items to come, and that is their end;
+-- by want of memory or a fault of the reader they are the first of them
 abbrev pub Stops : Ahead → List Item → Option FeedFault → Type 0
 Stops None items stop = ⊤
 Stops (Some coming) items None = AreAll coming items None
@@ -40,10 +42,12 @@ IsReceiptOf outlet receipt = (receipt.link ≡ outlet.link) × (receipt.sent ≡
 
 -- the receipts of outlets, each at its outlet's place, where one was given
 pub record AreReceipts (outlets : List (Sending Parcel)) (receipts : List (Option (Sending Parcel))) : Type 0 where
-  pub each : (j : ℕ) (d : Sending Parcel) → j < length outlets → IfSome (slice_index_or receipts j None) (IsReceiptOf (slice_index_or outlets j d))
+  pub each : (j : ℕ) (d : Sending Parcel) → j < length outlets
+      → IfSome (slice_index_or receipts j None) (IsReceiptOf (slice_index_or outlets j d))
   pub others : (j : ℕ) → length outlets ≤ j → slice_index_or receipts j None ≡ None
 
--- what a feeder leaves: some items, of which its stop tells, and for each link the receipt, where one was given, which names what was
+-- what a feeder leaves: some items, of which its stop tells, and for each link the receipt,
+-- where one was given, which names what was
 -- sent before and then the parcels of these items
 pub record Feeds (coming : Ahead) (outlets : List (Sending Parcel)) (end : FeederEnd) : Type 0 where
   pub items : List Item

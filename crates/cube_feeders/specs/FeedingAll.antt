@@ -14,29 +14,35 @@ use Rattle.cube_feeders.specs.declared.parcel.Parcel.{Parcel}
 use Rattle.cube_feeders.specs.declared.roster.Gatherer.{Gatherer}
 
 -- a builder of so many sources that has taken nothing
-pub record IsNew {B : Type 0} (all : B → ℕ) (stands : B → B → Arrivals → Type 0) (sources : ℕ) (builder : B) : Type 0 where
+pub record IsNew {B : Type 0} (all : B → ℕ) (stands : B → B → Arrivals → Type 0) (sources : ℕ) (builder : B)
+    : Type 0 where
   pub sources_are : all builder ≡ sources
   pub stands_at : stands builder builder []
 
 -- from the link of each source were received a line for each of the source's arrivals, and then the end
 abbrev pub HasReceived : ℕ → Arrivals → List (Receiving Parcel) → Type 0
-HasReceived sources arrivals inlets = map (λ inlet. inlet.received) inlets ≡ map parcels_of (of_sources sources arrivals)
+HasReceived sources arrivals inlets =
+    map (λ inlet. inlet.received) inlets ≡ map parcels_of (of_sources sources arrivals)
 
--- a builder has taken these feeds: it stands at an arrival list that has of each source the items of its feed, and from each link were
+-- a builder has taken these feeds:
+-- it stands at an arrival list that has of each source the items of its feed, and from each link were
 -- received a line for each of these items, and then the end
-pub record TakesFeeds {B : Type 0} (stands : B → Arrivals → Type 0) (feeds : List (List Item)) (gatherer : Gatherer B) : Type 0 where
+pub record TakesFeeds {B : Type 0} (stands : B → Arrivals → Type 0) (feeds : List (List Item)) (gatherer : Gatherer B)
+    : Type 0 where
   pub arrivals : Arrivals
   pub same : of_sources (length feeds) arrivals ≡ feeds
   pub stands_at : stands gatherer.builder arrivals
   pub received : HasReceived (length feeds) arrivals gatherer.inlets.items
 
 -- builders have all taken the same feeds, those of all sources
-pub record TakeAll {B : Type 0} (stands : B → B → Arrivals → Type 0) (s : Layout) (sources : Told) (builders : List B) (gatherers : List (Gatherer B)) : Type 0 where
+pub record TakeAll {B : Type 0} (stands : B → B → Arrivals → Type 0) (s : Layout) (sources : Told) (builders : List B)
+    (gatherers : List (Gatherer B)) : Type 0 where
   pub feeds : List (List Item)
   pub items : AllZip (AreItemsOf s) sources feeds
   pub each : AllZip (λ builder gatherer. TakesFeeds (stands builder) feeds gatherer) builders gatherers
 
--- why the feeds weren't taken: memory or no thread before a record was read, or the lowest source's own fault; want of memory or of a
+-- why the feeds weren't taken:
+-- memory or no thread before a record was read, or the lowest source's own fault; want of memory or of a
 -- receipt only where all feeds are good
 abbrev pub ExplainsFeeding : Layout → Told → FeedingFault → Type 0
 ExplainsFeeding s sources feeding_fault.Memory = ⊤

@@ -12,7 +12,8 @@ abbrev pub AreFresh : List (Receiving Parcel) → Type 0
 AreFresh inlets = (i : ℕ) (d : Receiving Parcel) → i < length inlets → (slice_index_or inlets i d).received ≡ []
 
 -- the builder stands at the first of these arrivals, and at all of them where memory was never wanting
-pub record StandsAtFirst {B : Type 0} (stands : B → Arrivals → Type 0) (builder : B) (wanting : Bool) (arrivals : Arrivals) : Type 0 where
+pub record StandsAtFirst {B : Type 0} (stands : B → Arrivals → Type 0) (builder : B) (wanting : Bool)
+    (arrivals : Arrivals) : Type 0 where
   pub first : Arrivals
   pub rest : Arrivals
   pub split : arrivals ≡ first ++ rest
@@ -29,26 +30,34 @@ taken_of false items = lines_of items
 taken_of true items = parcels_of items
 
 -- what one look at a link changes: some items came, perhaps the end, and the builder stands where they lead it
-pub record Looks {B : Type 0} (stands : B → B → Arrivals → Type 0) (source : ℕ) (old new : Receiving Parcel) (ended : Bool) (before after : B) (wanting wanting' : Bool) : Type 0 where
+pub record Looks {B : Type 0} (stands : B → B → Arrivals → Type 0) (source : ℕ) (old new : Receiving Parcel)
+    (ended : Bool) (before after : B) (wanting wanting' : Bool) : Type 0 where
   pub items : List Item
   pub link : new.link ≡ old.link
   pub received : new.received ≡ old.received ++ taken_of ended items
-  pub stands_on : (first : B) (arrivals : Arrivals) → StandsAtFirst (stands first) before wanting arrivals → StandsAtFirst (stands first) after wanting' (arrivals ++ from source items)
+  pub stands_on : (first : B) (arrivals : Arrivals) → StandsAtFirst (stands first) before wanting arrivals
+      → StandsAtFirst (stands first) after wanting' (arrivals ++ from source items)
 
 -- which of the links have ended, by what was taken from each
 abbrev pub ended_of : List Taken → List Bool
 ended_of taken = map (λ link. link.ended) taken
 
--- while a builder gathers: some of the links have ended, each has given the lines of its source's arrivals, and the builder stands at these
-pub record Gathering {B : Type 0} (stands : B → Arrivals → Type 0) (old now : List (Receiving Parcel)) (ended : List Bool) (builder : B) (wanting : Bool) : Type 0 where
+-- while a builder gathers: some of the links have ended, each has given the lines of its source's arrivals,
+-- and the builder stands at these
+pub record Gathering {B : Type 0} (stands : B → Arrivals → Type 0) (old now : List (Receiving Parcel))
+    (ended : List Bool) (builder : B) (wanting : Bool) : Type 0 where
   pub arrivals : Arrivals
   pub same_length : length now ≡ length old
-  pub links : (i : ℕ) (d : Receiving Parcel) → i < length old → (slice_index_or now i d).link ≡ (slice_index_or old i d).link
-  pub received : (i : ℕ) (d : Receiving Parcel) → i < length old → (slice_index_or now i d).received ≡ taken_of (slice_index_or ended i false) (of_source arrivals (i + 1))
+  pub links : (i : ℕ) (d : Receiving Parcel) → i < length old
+      → (slice_index_or now i d).link ≡ (slice_index_or old i d).link
+  pub received : (i : ℕ) (d : Receiving Parcel) → i < length old
+      → (slice_index_or now i d).received ≡ taken_of (slice_index_or ended i false) (of_source arrivals (i + 1))
   pub stands_at : StandsAtFirst stands builder wanting arrivals
 
--- what a builder has gathered: each link has given the lines of its source's arrivals and then its end, and the builder stands at these
-pub record Gathers {B : Type 0} (stands : B → Arrivals → Type 0) (old new : List (Receiving Parcel)) (builder : B) (wanting : Bool) : Type 0 where
+-- what a builder has gathered: each link has given the lines of its source's arrivals and then its end,
+-- and the builder stands at these
+pub record Gathers {B : Type 0} (stands : B → Arrivals → Type 0) (old new : List (Receiving Parcel)) (builder : B)
+    (wanting : Bool) : Type 0 where
   pub arrivals : Arrivals
   pub links : map (λ inlet. inlet.link) new ≡ map (λ inlet. inlet.link) old
   pub received : map (λ inlet. inlet.received) new ≡ map parcels_of (of_sources (length old) arrivals)

@@ -1,5 +1,6 @@
 -- The receipts of the feeders' links, held against what the builders received (this project's choice).
-use Rattle.std.specs.Prelude.{◌≡◌, ◌<◌, ℕ, Bool, false, List, [], ◌++◌, length, map, slice_index_or, Option, None, IfSome}
+use Rattle.std.specs.Prelude.{◌≡◌, ◌<◌, ℕ, Bool, false, List, [], ◌++◌, length, map, slice_index_or, Option, None}
+use Rattle.std.specs.Prelude.{IfSome}
 use Rattle.std.specs.List.{All}
 use Rattle.cube_link.specs.Link.{Sending, Receiving}
 use Rattle.cube_feeders.specs.declared.fault.FeedingFault.{FeedingFault}
@@ -41,12 +42,14 @@ Begins received receipt = (rest : List Parcel) × (received.sent ++ rest ≡ rec
 -- there is an end for each link of a builder, and the receipt that it has for this builder is that of the link
 pub record FitLinks (builder : ℕ) (ends : List FeederEnd) (received : List (Sending Parcel)) : Type 0 where
   pub all : length received ≡ length ends
-  pub each : (k : ℕ) (e : FeederEnd) (d : Sending Parcel) → k < length ends → IfSome (receipt_of (slice_index_or ends k e) builder) (IsOfLink (slice_index_or received k d))
+  pub each : (k : ℕ) (e : FeederEnd) (d : Sending Parcel) → k < length ends
+      → IfSome (receipt_of (slice_index_or ends k e) builder) (IsOfLink (slice_index_or received k d))
 
 -- what was received from each link of a builder is how what its receipt names begins
 abbrev pub BeginReceipts : ℕ → List FeederEnd → List (Sending Parcel) → Type 0
 BeginReceipts builder ends received =
-    (k : ℕ) (e : FeederEnd) (d : Sending Parcel) → k < length ends → IfSome (receipt_of (slice_index_or ends k e) builder) (Begins (slice_index_or received k d))
+    (k : ℕ) (e : FeederEnd) (d : Sending Parcel) → k < length ends
+    → IfSome (receipt_of (slice_index_or ends k e) builder) (Begins (slice_index_or received k d))
 
 -- the same of all builders, each with what was received from its links
 abbrev pub AllFit : List FeederEnd → List (List (Sending Parcel)) → Type 0
@@ -55,7 +58,8 @@ AllFit ends received = (j : ℕ) → j < length received → FitLinks j ends (sl
 abbrev pub AllBegin : List FeederEnd → List (List (Sending Parcel)) → Type 0
 AllBegin ends received = (j : ℕ) → j < length received → BeginReceipts j ends (slice_index_or received j [])
 
--- no feeder stopped, no builder wanted memory, and every receipt was given; what was received is how what they name begins
+-- no feeder stopped, no builder wanted memory, and every receipt was given;
+-- what was received is how what they name begins
 pub record Settles {B : Type 0} (ends : List FeederEnd) (old new : List (Gatherer B)) : Type 0 where
   pub good : All HasNoStop ends
   pub enough : All (λ gatherer. gatherer.wanting ≡ false) old

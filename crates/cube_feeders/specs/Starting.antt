@@ -7,18 +7,21 @@ use Rattle.cube_feeders.specs.declared.roster.Gatherer.{Gatherer}
 use Rattle.cube_feeders.specs.declared.roster.Roster.{Roster}
 
 -- a builder that has taken nothing, with a link from each source, from which nothing was received
-pub record IsReady {B : Type 0} (sources : B → ℕ) (stands : B → B → Arrivals → Type 0) (gatherer : Gatherer B) : Type 0 where
+pub record IsReady {B : Type 0} (sources : B → ℕ) (stands : B → B → Arrivals → Type 0) (gatherer : Gatherer B)
+    : Type 0 where
   pub inlets : vec_len gatherer.inlets ≡ sources gatherer.builder
   pub most : vec_len gatherer.inlets ≤ 64
   pub fresh : AreFresh gatherer.inlets.items
   pub stands_at : stands gatherer.builder gatherer.builder []
 
--- what a builder has gathered from its links: each has given the lines of its source's arrivals and then its end, and the builder
+-- what a builder has gathered from its links:
+-- each has given the lines of its source's arrivals and then its end, and the builder
 -- stands at these arrivals where memory was never wanting
 pub record HasGathered {B : Type 0} (stands : B → B → Arrivals → Type 0) (old new : Gatherer B) : Type 0 where
   pub arrivals : Arrivals
   pub links : map (λ inlet. inlet.link) new.inlets.items ≡ map (λ inlet. inlet.link) old.inlets.items
-  pub received : map (λ inlet. inlet.received) new.inlets.items ≡ map parcels_of (of_sources (length old.inlets.items) arrivals)
+  pub received : map (λ inlet. inlet.received) new.inlets.items
+      ≡ map parcels_of (of_sources (length old.inlets.items) arrivals)
   pub stands_at : new.wanting ≡ false → stands old.builder new.builder arrivals
 
 -- no feeder was joined yet, and there are room for so many ends and a post for each of so many threads

@@ -14,8 +14,10 @@ use Rattle.cube_journal.proofs.RowLaws.{entries_of_rows}
 use Rattle.cube_journal.proofs.ViewLaws.{open_if_sound}
 
 -- a store that is opened again on what is one of changes and of these notes
-pub reopened_store : (old mid : View) (notes : List Entry) → (IsClean old → HasTables old) → IsClean old → IsClean mid → IsReopened old mid → (mid.is_open ≡ false → IsTrue mid.is_broken)
-    → (mid.is_broken ≡ false → mid.trees catalog_tree ≡ mid.committed catalog_tree → mid.shape ≡ mid.committed_shape) → (changes : List Entry) × Holds mid.committed changes notes → IsStore mid notes
+pub reopened_store : (old mid : View) (notes : List Entry) → (IsClean old → HasTables old) → IsClean old → IsClean mid
+    → IsReopened old mid → (mid.is_open ≡ false → IsTrue mid.is_broken)
+    → (mid.is_broken ≡ false → mid.trees catalog_tree ≡ mid.committed catalog_tree → mid.shape ≡ mid.committed_shape)
+    → (changes : List Entry) × Holds mid.committed changes notes → IsStore mid notes
 reopened_store old mid notes have was_clean clean fresh broken unaltered found =
     let sound : mid.is_broken ≡ false = fresh.sound clean in
     let before : HasTables old = have was_clean in
@@ -32,7 +34,8 @@ reopened_store old mid notes have was_clean clean fresh broken unaltered found =
     }
 
 -- a call failed, as of before another
-pub failed_since : (a b c : ℕ) (e : OpenFault) → a ≤ b → IsFailedCall (MoreFaults b c) e → IsFailedCall (MoreFaults a c) e
+pub failed_since : (a b c : ℕ) (e : OpenFault) → a ≤ b → IsFailedCall (MoreFaults b c) e
+    → IsFailedCall (MoreFaults a c) e
 failed_since a b c (kind.Store error) up h = widen h
   where
     wide : MoreFaults b c → MoreFaults a c

@@ -1,5 +1,6 @@
 -- What the opening of a store finds, and why it is refused.
-use Rattle.std.proofs.Common.{◌≡◌, ◌⊎◌, inl, inr, ℕ, ◌<◌, ◌≤◌, ◌^◌, Bool, true, false, List, length, IsTrue, refl, sym, ap, subst, ◌∙◌, arith, true≢false}
+use Rattle.std.proofs.Common.{◌≡◌, ◌⊎◌, inl, inr, ℕ, ◌<◌, ◌≤◌, ◌^◌, Bool, true, false, List, length, IsTrue, refl, sym}
+use Rattle.std.proofs.Common.{ap, subst, ◌∙◌, arith, true≢false}
 use Rattle.sqlite_disk.specs.Disk.{MoreFaults}
 use Rattle.sqlite_trees.specs.declared.store.Shape.{Shape}
 use Rattle.sqlite_trees.specs.declared.store.Shape.TheVariants.{Table}
@@ -10,33 +11,44 @@ use Rattle.sqlite_trees.specs.View.{View, IsClean, IsRolledBack}
 use Rattle.cube_journal.specs.declared.fault.OpenFault.{OpenFault}
 use Rattle.cube_journal.specs.declared.fault.OpenFault.TheVariants as kind
 use Rattle.cube_journal.specs.Rows.{Entry, rows_from, entries_in, AreChanges, AreNotes, DifferAt, IsForeignAt}
-use Rattle.cube_journal.specs.State.{held_in, stored_in, noted_in, Holds, HasTables, IsJournal, IsStore, OnlyReads, Finds, IsCause, Explains, IsFailedCall}
+use Rattle.cube_journal.specs.State.{held_in, stored_in, noted_in, Holds, HasTables, IsJournal, IsStore, OnlyReads}
+use Rattle.cube_journal.specs.State.{Finds, IsCause, Explains, IsFailedCall}
 use Rattle.cube_journal.proofs.RowLaws.{entries_of_rows, rows_length, changes_from, none_foreign, none_differ}
 use Rattle.cube_journal.proofs.ReadingLaws.{cause_then}
 use Rattle.cube_journal.proofs.ViewLaws.{open_if_sound, clean_if_open}
 
 -- the same reasons, seen from an earlier moment
-pub explains_then : (fault more shut before is_open was_open tables were : Type 0) (trees others : Trees) (notes : List Entry) (e : OpenFault)
+pub explains_then : (fault more shut before is_open was_open tables were : Type 0) (trees others : Trees)
+    (notes : List Entry) (e : OpenFault)
     → (fault → more) → (shut → before) → (is_open → was_open) → (were → tables) → (is_open → trees ≡ others)
     → Explains fault shut is_open tables trees notes e → Explains more before was_open were others notes e
-explains_then fault more shut before is_open was_open tables were trees others notes (kind.Store error) up back sound have same h = cause_then fault more shut before ⊥ ⊥ error up back (λ x. x) h
-explains_then fault more shut before is_open was_open tables were trees others notes kind.NoTables up back sound have same h = λ t. h (have t)
-explains_then fault more shut before is_open was_open tables were trees others notes kind.NotEmpty up back sound have same h = h
-explains_then fault more shut before is_open was_open tables were trees others notes (kind.Feed source) up back sound have same h =
+explains_then fault more shut before is_open was_open tables were trees others notes
+    (kind.Store error) up back sound have same h = cause_then fault more shut before ⊥ ⊥ error up back (λ x. x) h
+explains_then fault more shut before is_open was_open tables were trees others notes kind.NoTables up back sound have
+    same h = λ t. h (have t)
+explains_then fault more shut before is_open was_open tables were trees others notes kind.NotEmpty up back sound have
+    same h = h
+explains_then fault more shut before is_open was_open tables were trees others notes
+    (kind.Feed source) up back sound have same h =
     (sound h.0, subst (λ (t : Trees). DifferAt (t 1) (rows_from 0 notes) source) (same h.0) h.1)
-explains_then fault more shut before is_open was_open tables were trees others notes (kind.Row number) up back sound have same h =
+explains_then fault more shut before is_open was_open tables were trees others notes
+    (kind.Row number) up back sound have same h =
     (sound h.0, subst (λ (t : Trees). IsForeignAt (t 0) number) (same h.0) h.1)
-explains_then fault more shut before is_open was_open tables were trees others notes kind.TooMany up back sound have same h =
+explains_then fault more shut before is_open was_open tables were trees others notes kind.TooMany up back sound have
+    same h =
     (sound h.0, subst (λ (t : Trees). 2 ^ 62 < length (t 0)) (same h.0) h.1)
 
 -- a call after others that only read fails for reasons that hold of the whole
-pub cause_since : (old before : View) (a b c : ℕ) (e : StoreError) → a ≤ b → OnlyReads old before → IsCause (MoreFaults b c) (IsTrue before.is_broken) ⊥ e
+pub cause_since : (old before : View) (a b c : ℕ) (e : StoreError) → a ≤ b → OnlyReads old before
+    → IsCause (MoreFaults b c) (IsTrue before.is_broken) ⊥ e
     → IsCause (MoreFaults a c) (IsTrue old.is_broken) ⊥ e
 cause_since old before a b c e up reads h =
     let wide : MoreFaults b c → MoreFaults a c = λ f. omega arith in
-    cause_then (MoreFaults b c) (MoreFaults a c) (IsTrue before.is_broken) (IsTrue old.is_broken) ⊥ ⊥ e wide (λ broken. sym (ap (λ (v : View). v.is_broken) reads) ∙ broken) (λ x. x) h
+    cause_then (MoreFaults b c) (MoreFaults a c) (IsTrue before.is_broken) (IsTrue old.is_broken) ⊥ ⊥ e wide
+    (λ broken. sym (ap (λ (v : View). v.is_broken) reads) ∙ broken) (λ x. x) h
 
-pub failed : (fault shut : Type 0) (error : StoreError) → (shut → fault) → IsCause fault shut ⊥ error → (error ≡ OutOfMemory) ⊎ fault
+pub failed : (fault shut : Type 0) (error : StoreError) → (shut → fault) → IsCause fault shut ⊥ error
+    → (error ≡ OutOfMemory) ⊎ fault
 failed fault shut OutOfMemory wide h = inl refl
 failed fault shut Io wide h = inr h
 failed fault shut Corrupt wide h = inr h
@@ -45,10 +57,14 @@ failed fault shut Broken wide h = inr (wide h)
 failed fault shut Unstorable wide h = absurd h
 
 -- a store whose tables are those of changes and of these notes, while it is open, is refused only where a call failed
-pub refuses_none : (fault more : Type 0) (was : View) (notes : List Entry) (e : OpenFault) → HasTables was → (IsTrue was.is_open → (changes : List Entry) × Holds was.committed changes notes)
-    → (fault → more) → (was.is_open ≡ false → more) → Explains fault ((was.is_open ≡ false) ⊎ fault) (IsTrue was.is_open) (HasTables was) was.committed notes e → IsFailedCall more e
+pub refuses_none : (fault more : Type 0) (was : View) (notes : List Entry) (e : OpenFault) → HasTables was
+    → (IsTrue was.is_open → (changes : List Entry) × Holds was.committed changes notes)
+    → (fault → more) → (was.is_open ≡ false → more)
+    → Explains fault ((was.is_open ≡ false) ⊎ fault) (IsTrue was.is_open) (HasTables was) was.committed notes e
+    → IsFailedCall more e
 refuses_none fault more was notes (kind.Store error) tables holds up shut h =
-    failed more ((was.is_open ≡ false) ⊎ fault) error wide (cause_then fault more ((was.is_open ≡ false) ⊎ fault) ((was.is_open ≡ false) ⊎ fault) ⊥ ⊥ error up (λ x. x) (λ x. x) h)
+    failed more ((was.is_open ≡ false) ⊎ fault) error wide (cause_then fault more ((was.is_open ≡ false) ⊎ fault)
+    ((was.is_open ≡ false) ⊎ fault) ⊥ ⊥ error up (λ x. x) (λ x. x) h)
   where
     wide : (was.is_open ≡ false) ⊎ fault → more
     wide (inl is_shut) = shut is_shut
@@ -59,7 +75,8 @@ refuses_none fault more was notes (kind.Feed source) tables holds up shut h =
     let found = holds h.0 in absurd (none_differ (was.committed 1) (rows_from 0 notes) source found.1.notes_are h.1)
 refuses_none fault more was notes (kind.Row number) tables holds up shut h =
     let found = holds h.0 in
-    absurd (none_foreign (was.committed 0) (length found.0) number (changes_from (was.committed 0) found.0 (length found.0) found.1.changes_are found.1.sources refl) h.1)
+    absurd (none_foreign (was.committed 0) (length found.0) number
+    (changes_from (was.committed 0) found.0 (length found.0) found.1.changes_are found.1.sources refl) h.1)
 refuses_none fault more was notes kind.TooMany tables holds up shut h =
     let found = holds h.0 in
     let many : 2 ^ 62 < length (was.committed 0) = h.1 in
@@ -67,9 +84,11 @@ refuses_none fault more was notes kind.TooMany tables holds up shut h =
 
 -- the same of a store that is open
 pub accepts : (fault : Type 0) (was : View) (notes : List Entry) (e : OpenFault) → IsStore was notes
-    → Explains fault ((was.is_open ≡ false) ⊎ fault) (IsTrue was.is_open) (HasTables was) was.committed notes e → IsFailedCall fault e
+    → Explains fault ((was.is_open ≡ false) ⊎ fault) (IsTrue was.is_open) (HasTables was) was.committed notes e
+    → IsFailedCall fault e
 accepts fault was notes e store h =
-    refuses_none fault fault was notes e store.tables (λ _. (stored_in was, store.holds)) (λ f. f) (λ shut. absurd (true≢false (sym store.is_open ∙ shut))) h
+    refuses_none fault fault was notes e store.tables (λ _. (stored_in was, store.holds)) (λ f. f)
+    (λ shut. absurd (true≢false (sym store.is_open ∙ shut))) h
 
 -- ---- a store that is rolled back, and then read
 
@@ -92,7 +111,8 @@ module _ (was mid : View) (undone : IsRolledBack was mid) (broken : mid.is_open 
       (ap (λ (s : ℕ → Shape). s 0) shape ∙ have.changes, ap (λ (s : ℕ → Shape). s 1) shape ∙ have.feeds)
 
   -- a transaction is broken after a rollback only in a store that was shut, or that a fault has shut
-  pub shut_before : (fault : Type 0) → (IsTrue was.is_open → IsTrue mid.is_open ⊎ fault) → IsTrue mid.is_broken → (was.is_open ≡ false) ⊎ fault
+  pub shut_before : (fault : Type 0) → (IsTrue was.is_open → IsTrue mid.is_open ⊎ fault) → IsTrue mid.is_broken
+      → (was.is_open ≡ false) ⊎ fault
   shut_before fault closes is_broken = found was.is_open refl
     where
       shut : IsTrue mid.is_open ⊎ fault → fault
@@ -104,15 +124,20 @@ module _ (was mid : View) (undone : IsRolledBack was mid) (broken : mid.is_open 
       found true is = inr (shut (closes is))
 
 -- why a store that is rolled back isn't opened, as of before the rollback
-pub explains_before : (was mid : View) (a b c : ℕ) (notes : List Entry) (e : OpenFault) → IsRolledBack was mid → (mid.is_open ≡ false → IsTrue mid.is_broken) → IsClean mid → a ≤ b → b ≤ c
+pub explains_before : (was mid : View) (a b c : ℕ) (notes : List Entry) (e : OpenFault) → IsRolledBack was mid
+    → (mid.is_open ≡ false → IsTrue mid.is_broken) → IsClean mid → a ≤ b → b ≤ c
     → (IsTrue was.is_open → IsTrue mid.is_open ⊎ MoreFaults a b)
-    → Explains (MoreFaults b c) (IsTrue mid.is_broken) (mid.is_broken ≡ false) ((mid.shape 0 ≡ Table) × (mid.shape 1 ≡ Table)) mid.trees notes e
-    → Explains (MoreFaults a c) ((was.is_open ≡ false) ⊎ MoreFaults a c) (IsTrue was.is_open) (HasTables was) was.committed notes e
+    → Explains (MoreFaults b c) (IsTrue mid.is_broken) (mid.is_broken ≡ false)
+    ((mid.shape 0 ≡ Table) × (mid.shape 1 ≡ Table)) mid.trees notes e
+    → Explains (MoreFaults a c) ((was.is_open ≡ false) ⊎ MoreFaults a c) (IsTrue was.is_open)
+    (HasTables was) was.committed notes e
 explains_before was mid a b c notes e undone broken clean up later closes h =
     let wide : MoreFaults b c → MoreFaults a c = λ f. omega arith in
-    explains_then (MoreFaults b c) (MoreFaults a c) (IsTrue mid.is_broken) ((was.is_open ≡ false) ⊎ MoreFaults a c) (mid.is_broken ≡ false) (IsTrue was.is_open)
+    explains_then (MoreFaults b c) (MoreFaults a c) (IsTrue mid.is_broken) ((was.is_open ≡ false) ⊎ MoreFaults a c)
+    (mid.is_broken ≡ false) (IsTrue was.is_open)
     ((mid.shape 0 ≡ Table) × (mid.shape 1 ≡ Table)) (HasTables was) mid.trees was.committed notes e wide
-    (shut_before was mid undone broken (MoreFaults a c) (λ is_open. still (closes is_open))) (was_open was mid undone broken clean) (same_tables was mid undone broken) (same_trees was mid undone broken) h
+    (shut_before was mid undone broken (MoreFaults a c) (λ is_open. still (closes is_open)))
+    (was_open was mid undone broken clean) (same_tables was mid undone broken) (same_trees was mid undone broken) h
   where
     more : MoreFaults a b → MoreFaults a c
     more f = omega arith
@@ -121,8 +146,10 @@ explains_before was mid a b c notes e undone broken clean up later closes h =
     still (inl is_open) = inl is_open
     still (inr f) = inr (more f)
 
-module _ (was mid now : View) (count : ℕ) (notes : List Entry) (undone : IsRolledBack was mid) (to_mid : IsClean now → IsClean mid) (reads : IsClean now → OnlyReads mid now)
-    (sound : IsClean now → mid.is_broken ≡ false) (changes : IsClean now → AreChanges (mid.trees 0) count) (same : IsClean now → AreNotes (mid.trees 1) notes)
+module _ (was mid now : View) (count : ℕ) (notes : List Entry) (undone : IsRolledBack was mid)
+    (to_mid : IsClean now → IsClean mid) (reads : IsClean now → OnlyReads mid now)
+    (sound : IsClean now → mid.is_broken ≡ false) (changes : IsClean now → AreChanges (mid.trees 0) count)
+    (same : IsClean now → AreNotes (mid.trees 1) notes)
     (broken : mid.is_open ≡ false → IsTrue mid.is_broken) where
   trees_are : IsClean now → mid.trees ≡ was.committed
   trees_are h = same_trees was mid undone broken (sound h)
@@ -130,19 +157,22 @@ module _ (was mid now : View) (count : ℕ) (notes : List Entry) (undone : IsRol
   last_are : IsClean now → mid.committed ≡ was.committed
   last_are h = same_last was mid undone broken (to_mid h) (sound h)
 
-  pub open_is : count ≤ 2 ^ 62 → (mid.shape 0 ≡ Table) × (mid.shape 1 ≡ Table) → (mid.is_broken ≡ false → mid.trees ≡ mid.committed → mid.shape ≡ mid.committed_shape)
+  pub open_is : count ≤ 2 ^ 62 → (mid.shape 0 ≡ Table) × (mid.shape 1 ≡ Table)
+      → (mid.is_broken ≡ false → mid.trees ≡ mid.committed → mid.shape ≡ mid.committed_shape)
       → (now.is_clean ≡ false → now.is_open ≡ false) → IsJournal now count count
   open_is few tables law shut = record {
     tables = λ h. record {
       changes = ap (λ (v : View). v.shape 0) (reads h) ∙ tables.0;
       feeds = ap (λ (v : View). v.shape 1) (reads h) ∙ tables.1;
-      unaltered = ap (λ (v : View). v.committed_shape) (reads h) ∙ sym (law (sound h) (trees_are h ∙ sym (last_are h))) ∙ sym (ap (λ (v : View). v.shape) (reads h));
+      unaltered = ap (λ (v : View). v.committed_shape) (reads h) ∙ sym (law (sound h) (trees_are h ∙ sym (last_are h)))
+          ∙ sym (ap (λ (v : View). v.shape) (reads h));
     };
     few = few;
     within = omega arith;
     standing = λ is_open. let h = clean_if_open now shut is_open in
         let trees : now.trees ≡ mid.trees = ap (λ (v : View). v.trees) (reads h) in
-        let last : now.committed ≡ mid.trees = ap (λ (v : View). v.committed) (reads h) ∙ last_are h ∙ sym (trees_are h) in
+        let last : now.committed ≡ mid.trees =
+        ap (λ (v : View). v.committed) (reads h) ∙ last_are h ∙ sym (trees_are h) in
         let noted : mid.trees 1 ≡ rows_from 0 notes = same h in
         let back : entries_in (mid.trees 1) ≡ notes = ap entries_in noted ∙ entries_of_rows 0 notes in
         record {
@@ -150,7 +180,8 @@ module _ (was mid now : View) (count : ℕ) (notes : List Entry) (undone : IsRol
           held = subst (λ (t : Trees). AreChanges (t 0) count) (sym trees) (changes h);
           stored = subst (λ (t : Trees). AreChanges (t 0) count) (sym last) (changes h);
           same_notes = ap (λ (t : Trees). t 1) (trees ∙ sym last);
-          notes = subst (λ (t : Trees). AreNotes (t 1) (entries_in (t 1))) (sym last) (noted ∙ ap (rows_from 0) (sym back));
+          notes =
+              subst (λ (t : Trees). AreNotes (t 1) (entries_in (t 1))) (sym last) (noted ∙ ap (rows_from 0) (sym back));
         };
   }
 
@@ -164,4 +195,5 @@ module _ (was mid now : View) (count : ℕ) (notes : List Entry) (undone : IsRol
   }
 
   pub open_noted : IsClean now → noted_in was ≡ notes
-  open_noted h = ap (λ (t : Trees). entries_in (t 1)) (sym (trees_are h)) ∙ ap entries_in (same h) ∙ entries_of_rows 0 notes
+  open_noted h =
+      ap (λ (t : Trees). entries_in (t 1)) (sym (trees_are h)) ∙ ap entries_in (same h) ∙ entries_of_rows 0 notes

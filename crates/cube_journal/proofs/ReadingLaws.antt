@@ -1,5 +1,6 @@
 -- What a reading of rows has passed.
-use Rattle.std.proofs.Common.{◌≡◌, ℕ, ◌+◌, ◌≤◌, Bool, true, false, List, [], ◌∷◌, ◌++◌, length, IsTrue, refl, sym, ap, subst, ◌∙◌, arith, append_assoc, length-append}
+use Rattle.std.proofs.Common.{◌≡◌, ℕ, ◌+◌, ◌≤◌, Bool, true, false, List, [], ◌∷◌, ◌++◌, length, IsTrue, refl, sym, ap}
+use Rattle.std.proofs.Common.{subst, ◌∙◌, arith, append_assoc, length-append}
 use Rattle.std.proofs.lemmas.List.{append-nil}
 use Rattle.sqlite_value.specs.declared.keys.Order.{Order}
 use Rattle.sqlite_value.specs.Order.{Row}
@@ -18,12 +19,14 @@ from_no_key : (o : Order) (rows : List Row) → from_key o [] rows ≡ rows
 from_no_key o [] = refl
 from_no_key o (row ∷ rows) = refl
 
-pub begins : (old new : View) (tree : ℕ) (key : Row) → key ≡ [] → new ≡ with_cursor old 0 (sought (order_of (old.shape tree)) Forward key (old.trees tree)) → Begins old new tree
+pub begins : (old new : View) (tree : ℕ) (key : Row) → key ≡ []
+    → new ≡ with_cursor old 0 (sought (order_of (old.shape tree)) Forward key (old.trees tree)) → Begins old new tree
 begins old new tree key none is =
     let order = order_of (old.shape tree) in
     record {
       reads = rw is;
-      left = ap (λ (v : View). left_of v 0) is ∙ ap (λ k. from_key order k (old.trees tree)) none ∙ from_no_key order (old.trees tree);
+      left = ap (λ (v : View). left_of v 0) is ∙ ap (λ k. from_key order k (old.trees tree)) none
+          ∙ from_no_key order (old.trees tree);
     }
 
 pub passes : (old new : View) (row : Row) (found : Bool) → Advances old new 0 row found → Passes old new row found
@@ -38,7 +41,8 @@ read_by old new row true h = h.0
 read_by old new row false h = h.0
 
 -- a call that reads fails for the same reasons, in the words of this crate
-pub read_cause : (v : View) (fault : Type 0) (e : StoreError) → HasCause v fault ⊥ e → IsCause fault (IsTrue v.is_broken) ⊥ e
+pub read_cause : (v : View) (fault : Type 0) (e : StoreError) → HasCause v fault ⊥ e
+    → IsCause fault (IsTrue v.is_broken) ⊥ e
 read_cause v fault OutOfMemory h = tt
 read_cause v fault Io h = h
 read_cause v fault Corrupt h = h
@@ -47,7 +51,8 @@ read_cause v fault Broken h = h
 read_cause v fault Unstorable h = h
 
 -- a wider fault, and another way in which the store was shut
-pub cause_then : (fault more shut before unstorable wider : Type 0) (e : StoreError) → (fault → more) → (shut → before) → (unstorable → wider) → IsCause fault shut unstorable e → IsCause more before wider e
+pub cause_then : (fault more shut before unstorable wider : Type 0) (e : StoreError) → (fault → more) → (shut → before)
+    → (unstorable → wider) → IsCause fault shut unstorable e → IsCause more before wider e
 cause_then fault more shut before unstorable wider OutOfMemory up back wide h = tt
 cause_then fault more shut before unstorable wider Io up back wide h = up h
 cause_then fault more shut before unstorable wider Corrupt up back wide h = up h
@@ -62,10 +67,12 @@ takes_more takes (d ∷ es) start mid end e all one = (all.0, all.1, takes_more 
 
 module _ {K : Type 0} (takes : K → Entry → K → Type 0) where
   pub none_taken : (rows left : List Row) (start : K) → left ≡ rows → HasTaken takes rows left 0 start start
-  none_taken rows left start all = record { passed = []; rows_are = sym all; sources = tt; count_is = refl; taken = refl }
+  none_taken rows left start all =
+      record { passed = []; rows_are = sym all; sources = tt; count_is = refl; taken = refl }
 
   pub one_taken : (rows before left : List Row) (row : Row) (at : ℕ) (start mid end : K) (e : Entry)
-      → HasTaken takes rows before at start mid → before ≡ row ∷ left → row ≡ row_of (at + 1) e → IsOfSource e → takes mid e end
+      → HasTaken takes rows before at start mid → before ≡ row ∷ left → row ≡ row_of (at + 1) e → IsOfSource e
+      → takes mid e end
       → HasTaken takes rows left (at + 1) start end
   one_taken rows before left row at start mid end e was step is source one =
       let passed = was.passed in
@@ -75,19 +82,25 @@ module _ {K : Type 0} (takes : K → Entry → K → Type 0) where
       record {
         passed = passed ++ e ∷ [];
         rows_are = was.rows_are ∙ ap (λ l. rows_from 1 passed ++ l) (step ∙ ap (λ r. r ∷ left) is)
-            ∙ sym (append_assoc (rows_from 1 passed) (row_of (at + 1) e ∷ []) left) ∙ ap (λ r. r ++ left) (sym (rows_more 1 (at + 1) passed e place));
+            ∙ sym (append_assoc (rows_from 1 passed) (row_of (at + 1) e ∷ []) left)
+            ∙ ap (λ r. r ++ left) (sym (rows_more 1 (at + 1) passed e place));
         sources = all-append IsOfSource passed (e ∷ []) was.sources (source, tt);
         count_is = longer;
         taken = takes_more takes passed start mid end e was.taken one;
       }
 
-  pub all_taken : (rows left : List Row) (at : ℕ) (start end : K) → HasTaken takes rows left at start end → left ≡ [] → AreChanges rows at × TakesAll takes start (entries_in rows) end
+  pub all_taken : (rows left : List Row) (at : ℕ) (start end : K) → HasTaken takes rows left at start end → left ≡ []
+      → AreChanges rows at × TakesAll takes start (entries_in rows) end
   all_taken rows left at start end was none =
-      let is : rows ≡ rows_from 1 was.passed = was.rows_are ∙ ap (λ l. rows_from 1 was.passed ++ l) none ∙ append-nil (rows_from 1 was.passed) in
-      let back : entries_in rows ≡ was.passed = ap entries_in is ∙ entries_of_rows 1 was.passed in
-      (changes_from rows was.passed at is was.sources was.count_is, subst (λ es. TakesAll takes start es end) (sym back) was.taken)
+      let is : rows ≡ rows_from 1 was.passed =
+      was.rows_are ∙ ap (λ l. rows_from 1 was.passed ++ l) none ∙ append-nil (rows_from 1 was.passed) in
+      let back : entries_in rows ≡ was.passed = ap entries_in is ∙ entries_of_rows 1 was.passed in (
+        changes_from rows was.passed at is was.sources was.count_is,
+        subst (λ es. TakesAll takes start es end) (sym back) was.taken,
+      )
 
-  pub foreign_next : (rows before left : List Row) (row : Row) (at : ℕ) (start end : K) → HasTaken takes rows before at start end → before ≡ row ∷ left
+  pub foreign_next : (rows before left : List Row) (row : Row) (at : ℕ) (start end : K)
+      → HasTaken takes rows before at start end → before ≡ row ∷ left
       → ((e : Entry) → IsOfSource e → row ≡ row_of (at + 1) e → ⊥) → IsForeignAt rows (at + 1)
   foreign_next rows before left row at start end was step foreign = record {
     before = was.passed;
@@ -98,5 +111,12 @@ module _ {K : Type 0} (takes : K → Entry → K → Type 0) where
     foreign = foreign;
   }
 
-  pub taken_length : (rows left : List Row) (at : ℕ) (start end : K) → HasTaken takes rows left at start end → at ≤ length rows
-  taken_length rows left at start end was = omega (arith, ap length was.rows_are, length-append (rows_from 1 was.passed) left, rows_length 1 was.passed, was.count_is)
+  pub taken_length : (rows left : List Row) (at : ℕ) (start end : K) → HasTaken takes rows left at start end
+      → at ≤ length rows
+  taken_length rows left at start end was = omega (
+    arith,
+    ap length was.rows_are,
+    length-append (rows_from 1 was.passed) left,
+    rows_length 1 was.passed,
+    was.count_is,
+  )

@@ -1,5 +1,6 @@
 -- What a call of the store leaves of a journal.
-use Rattle.std.proofs.Common.{◌≡◌, ◌⊎◌, inl, inr, ℕ, ◌+◌, ◌<◌, ◌≤◌, ◌^◌, Bool, true, false, List, length, IsTrue, refl, sym, ap, subst, ◌∙◌, arith, true≢false}
+use Rattle.std.proofs.Common.{◌≡◌, ◌⊎◌, inl, inr, ℕ, ◌+◌, ◌<◌, ◌≤◌, ◌^◌, Bool, true, false, List, length, IsTrue, refl}
+use Rattle.std.proofs.Common.{sym, ap, subst, ◌∙◌, arith, true≢false}
 use Rattle.sqlite_disk.specs.Disk.{MoreFaults}
 use Rattle.sqlite_value.specs.Order.{Row}
 use Rattle.sqlite_trees.specs.declared.error.StoreError.{StoreError}
@@ -10,13 +11,17 @@ use Rattle.sqlite_trees.specs.View.{View, doubt, IsClean, KeepsSchema, KeepsComm
 use Rattle.sqlite_trees.specs.View.{Commits as StoreCommits}
 use Rattle.sqlite_trees.proofs.Doubt.{no_doubt}
 use Rattle.cube_journal.specs.Rows.{Entry, row_of, entries_in, IsOfSource, AreChanges, AreNotes}
-use Rattle.cube_journal.specs.State.{held_in, stored_in, noted_in, Holds, HasTables, IsStanding, IsJournal, IsStore, Appends, Undoes, Commits, IsCause}
+use Rattle.cube_journal.specs.State.{held_in, stored_in, noted_in, Holds, HasTables, IsStanding, IsJournal, IsStore}
+use Rattle.cube_journal.specs.State.{Appends, Undoes, Commits, IsCause}
 use Rattle.cube_journal.proofs.RowLaws.{put_change, put_entries, entries_count}
 
 -- ---- what a store is that isn't broken
 
 pub open_if_sound : (v : View) → (v.is_open ≡ false → IsTrue v.is_broken) → v.is_broken ≡ false → IsTrue v.is_open
-open_if_sound v law sound = elim v.is_open as (λ b. (b ≡ false → v.is_broken ≡ true) → b ≡ true) [ true ↦ λ _. refl | false ↦ λ h. absurd (true≢false (sym (h refl) ∙ sound)) ] law
+open_if_sound v law sound = elim v.is_open as (λ b. (b ≡ false → v.is_broken ≡ true) → b ≡ true) [
+  | true ↦ λ _. refl
+  | false ↦ λ h. absurd (true≢false (sym (h refl) ∙ sound))
+] law
 
 pub clean_if_open : (v : View) → (v.is_clean ≡ false → v.is_open ≡ false) → IsTrue v.is_open → IsClean v
 clean_if_open v law is_open = clean v.is_clean law
@@ -36,15 +41,26 @@ pub schema_itself : (v : View) → KeepsSchema v v
 schema_itself v = record { shape = refl; reals = refl; committed_shape = refl; committed_reals = refl; numbered = refl }
 
 pub kept_itself : (v : View) → KeepsCommitted v v
-kept_itself v = record { shape = refl; reals = refl; committed_shape = refl; committed_reals = refl; numbered = refl; was_open = λ h. h; committed = λ _. refl; marks = λ _. refl }
+kept_itself v = record {
+  shape = refl;
+  reals = refl;
+  committed_shape = refl;
+  committed_reals = refl;
+  numbered = refl;
+  was_open = λ h. h;
+  committed = λ _. refl;
+  marks = λ _. refl;
+}
 
 notes_moved : (was now : List Row) → now ≡ was → AreNotes was (entries_in was) → AreNotes now (entries_in now)
 notes_moved was now same are = subst (λ rows. AreNotes rows (entries_in rows)) (sym same) are
 
 -- ---- a change more
 
-module _ (old new : View) (count committed : ℕ) (change : Entry) (was : IsJournal old count committed) (source : IsOfSource change) (few : count < 2 ^ 62)
-    (back : IsClean new → IsClean old) (schema : KeepsSchema old new) (sets : IsClean new → SetsTree old new 0 (put_row (row_of (count + 1) change)))
+module _ (old new : View) (count committed : ℕ) (change : Entry) (was : IsJournal old count committed)
+    (source : IsOfSource change) (few : count < 2 ^ 62)
+    (back : IsClean new → IsClean old) (schema : KeepsSchema old new)
+    (sets : IsClean new → SetsTree old new 0 (put_row (row_of (count + 1) change)))
     (shut : new.is_clean ≡ false → new.is_open ≡ false) where
   rows_are : (h : IsClean new) → new.trees 0 ≡ put_row (row_of (count + 1) change) (old.trees 0)
   rows_are h = ap (λ (v : View). v.trees 0) (sets h).is
@@ -57,10 +73,14 @@ module _ (old new : View) (count committed : ℕ) (change : Entry) (was : IsJour
       let before = was.standing (old_open h is_open) in
       record {
         sound = ap (λ (v : View). v.is_broken) (sets h).is ∙ (sets h).sound;
-        held = subst (λ rows. AreChanges rows (count + 1)) (sym (rows_are h)) (put_change (old.trees 0) count change source before.held);
-        stored = subst (λ rows. AreChanges rows committed) (sym (ap (λ (v : View). v.committed 0) (sets h).is)) before.stored;
-        same_notes = ap (λ (v : View). v.trees 1) (sets h).is ∙ before.same_notes ∙ sym (ap (λ (v : View). v.committed 1) (sets h).is);
-        notes = notes_moved (old.committed 1) (new.committed 1) (ap (λ (v : View). v.committed 1) (sets h).is) before.notes;
+        held = subst (λ rows. AreChanges rows (count + 1)) (sym (rows_are h))
+            (put_change (old.trees 0) count change source before.held);
+        stored = subst (λ rows. AreChanges rows committed)
+            (sym (ap (λ (v : View). v.committed 0) (sets h).is)) before.stored;
+        same_notes = ap (λ (v : View). v.trees 1) (sets h).is ∙ before.same_notes
+            ∙ sym (ap (λ (v : View). v.committed 1) (sets h).is);
+        notes =
+            notes_moved (old.committed 1) (new.committed 1) (ap (λ (v : View). v.committed 1) (sets h).is) before.notes;
       }
 
   pub append_keeps : IsJournal new (count + 1) committed
@@ -73,7 +93,8 @@ module _ (old new : View) (count committed : ℕ) (change : Entry) (was : IsJour
 
   pub append_adds : (new.is_open ≡ false → IsTrue new.is_broken) → IsClean new → Appends old new change
   append_adds law h =
-      let is_open : IsTrue new.is_open = open_if_sound new law (ap (λ (v : View). v.is_broken) (sets h).is ∙ (sets h).sound) in
+      let is_open : IsTrue new.is_open =
+      open_if_sound new law (ap (λ (v : View). v.is_broken) (sets h).is ∙ (sets h).sound) in
       let before = was.standing (old_open h is_open) in
       record {
         is_open = is_open;
@@ -84,7 +105,8 @@ module _ (old new : View) (count committed : ℕ) (change : Entry) (was : IsJour
 
 -- ---- a rollback, after a call that kept what is committed
 
-module _ (old mid new : View) (count committed : ℕ) (was : IsJournal old count committed) (to_mid : IsClean new → IsClean mid) (to_old : IsClean new → IsClean old)
+module _ (old mid new : View) (count committed : ℕ) (was : IsJournal old count committed)
+    (to_mid : IsClean new → IsClean mid) (to_old : IsClean new → IsClean old)
     (schema : KeepsSchema old mid) (kept : IsClean mid → KeepsCommitted old mid) (undone : IsRolledBack mid new)
     (shut : new.is_clean ≡ false → new.is_open ≡ false) where
   mid_open : IsClean new → IsTrue new.is_open → IsTrue mid.is_open
@@ -143,7 +165,8 @@ module _ (old mid new : View) (count committed : ℕ) (was : IsJournal old count
 
 -- ---- a commit
 
-module _ (old new : View) (count committed : ℕ) (was : IsJournal old count committed) (back : IsClean new → IsClean old) (commits : IsClean new → StoreCommits old new)
+module _ (old new : View) (count committed : ℕ) (was : IsJournal old count committed) (back : IsClean new → IsClean old)
+    (commits : IsClean new → StoreCommits old new)
     (shut : new.is_clean ≡ false → new.is_open ≡ false) where
   was_open : IsClean new → IsTrue new.is_open → IsTrue old.is_open
   was_open h is_open = sym (ap (λ (v : View). v.is_open) (commits h).is) ∙ is_open
@@ -151,12 +174,15 @@ module _ (old new : View) (count committed : ℕ) (was : IsJournal old count com
   committed_stands : IsClean new → IsTrue new.is_open → IsStanding new count count
   committed_stands h is_open =
       let before = was.standing (was_open h is_open) in
-      let last : new.committed 1 ≡ old.committed 1 = ap (λ (v : View). v.committed 1) (commits h).is ∙ before.same_notes in
+      let last : new.committed 1 ≡ old.committed 1 =
+      ap (λ (v : View). v.committed 1) (commits h).is ∙ before.same_notes in
       record {
         sound = ap (λ (v : View). v.is_broken) (commits h).is ∙ (commits h).sound;
         held = subst (λ rows. AreChanges rows count) (sym (ap (λ (v : View). v.trees 0) (commits h).is)) before.held;
-        stored = subst (λ rows. AreChanges rows count) (sym (ap (λ (v : View). v.committed 0) (commits h).is)) before.held;
-        same_notes = ap (λ (v : View). v.trees 1) (commits h).is ∙ sym (ap (λ (v : View). v.committed 1) (commits h).is);
+        stored =
+            subst (λ rows. AreChanges rows count) (sym (ap (λ (v : View). v.committed 0) (commits h).is)) before.held;
+        same_notes =
+            ap (λ (v : View). v.trees 1) (commits h).is ∙ sym (ap (λ (v : View). v.committed 1) (commits h).is);
         notes = notes_moved (old.committed 1) (new.committed 1) last before.notes;
       }
 
@@ -174,12 +200,14 @@ module _ (old new : View) (count committed : ℕ) (was : IsJournal old count com
 
   pub commit_commits : (new.is_open ≡ false → IsTrue new.is_broken) → IsClean new → Commits old new
   commit_commits law h =
-      let is_open : IsTrue new.is_open = open_if_sound new law (ap (λ (v : View). v.is_broken) (commits h).is ∙ (commits h).sound) in
+      let is_open : IsTrue new.is_open =
+      open_if_sound new law (ap (λ (v : View). v.is_broken) (commits h).is ∙ (commits h).sound) in
       record {
         is_open = is_open;
         held = ap (λ (v : View). held_in v) (commits h).is;
         stored = ap (λ (v : View). stored_in v) (commits h).is;
-        noted = ap (λ (v : View). noted_in v) (commits h).is ∙ ap entries_in (was.standing (was_open h is_open)).same_notes;
+        noted =
+            ap (λ (v : View). noted_in v) (commits h).is ∙ ap entries_in (was.standing (was_open h is_open)).same_notes;
       }
 
 -- ---- crashes
@@ -188,7 +216,8 @@ few_entries : (rows : List Row) (count : ℕ) → AreChanges rows count → coun
 few_entries rows count are few = omega (arith, entries_count rows count are)
 
 -- what the transaction sees, in rows
-held_rows : (v : View) (count committed : ℕ) → count ≤ 2 ^ 62 → IsStanding v count committed → (db : Trees) → db ≡ v.trees → Holds db (held_in v) (noted_in v)
+held_rows : (v : View) (count committed : ℕ) → count ≤ 2 ^ 62 → IsStanding v count committed → (db : Trees)
+    → db ≡ v.trees → Holds db (held_in v) (noted_in v)
 held_rows v count committed few standing db is = record {
   changes_are = ap (λ (t : Trees). t 0) is ∙ standing.held.rows_are;
   sources = standing.held.sources;
@@ -198,7 +227,8 @@ held_rows v count committed few standing db is = record {
 
 -- while the store is open, a crash leaves what is stored
 pub settled_rows : (v : View) (count committed : ℕ) (recovers : Trees → Type 0) → IsJournal v count committed
-    → ((db : Trees) → IsTrue v.is_open → recovers db → db ≡ v.committed) → IsTrue v.is_open → (db : Trees) → recovers db → Holds db (stored_in v) (noted_in v)
+    → ((db : Trees) → IsTrue v.is_open → recovers db → db ≡ v.committed) → IsTrue v.is_open → (db : Trees) → recovers db
+    → Holds db (stored_in v) (noted_in v)
 settled_rows v count committed recovers was law is_open db found =
     let standing = was.standing is_open in
     let few : committed ≤ 2 ^ 62 = omega (arith, was.few, was.within) in
@@ -210,7 +240,8 @@ settled_rows v count committed recovers was law is_open db found =
     }
 
 -- a crash within a commit leaves what the transaction saw, or what it left before
-pub commit_leaves : (v : View) (count committed : ℕ) (before : Trees → Type 0) (db : Trees) → IsJournal v count committed → (v.is_open ≡ false → IsTrue v.is_broken) → (v.is_clean ≡ false → v.is_open ≡ false)
+pub commit_leaves : (v : View) (count committed : ℕ) (before : Trees → Type 0) (db : Trees)
+    → IsJournal v count committed → (v.is_open ≡ false → IsTrue v.is_broken) → (v.is_clean ≡ false → v.is_open ≡ false)
     → ((v.is_broken ≡ false) × (db ≡ v.trees)) ⊎ before db → (IsClean v × Holds db (held_in v) (noted_in v)) ⊎ before db
 commit_leaves v count committed before db was broken shut (inr old) = inr old
 commit_leaves v count committed before db was broken shut (inl now) =
@@ -218,16 +249,20 @@ commit_leaves v count committed before db was broken shut (inl now) =
     inl (clean_if_open v shut is_open, held_rows v count committed was.few (was.standing is_open) db now.1)
 
 -- once a commit has ended well, a crash leaves what the transaction saw
-pub commit_lasts : (old new : View) (count committed : ℕ) → IsJournal old count committed → (IsClean new → IsClean old) → (IsClean new → StoreCommits old new) → (new.is_clean ≡ false → new.is_open ≡ false)
-    → (new.is_open ≡ false → IsTrue new.is_broken) → (recovers : Trees → Type 0) → ((db : Trees) → IsTrue new.is_open → recovers db → db ≡ new.committed)
+pub commit_lasts : (old new : View) (count committed : ℕ) → IsJournal old count committed → (IsClean new → IsClean old)
+    → (IsClean new → StoreCommits old new) → (new.is_clean ≡ false → new.is_open ≡ false)
+    → (new.is_open ≡ false → IsTrue new.is_broken) → (recovers : Trees → Type 0)
+    → ((db : Trees) → IsTrue new.is_open → recovers db → db ≡ new.committed)
     → IsClean new → (db : Trees) → recovers db → Holds db (held_in old) (noted_in old)
 commit_lasts old new count committed was back commits shut broken recovers law h db found =
     let done = commit_commits old new count committed was back commits shut broken h in
-    let rows = settled_rows new count count recovers (commit_keeps old new count committed was back commits shut) law done.is_open db found in
+    let rows = settled_rows new count count recovers
+    (commit_keeps old new count committed was back commits shut) law done.is_open db found in
     subst (λ es. Holds db es (noted_in old)) done.stored (subst (λ ns. Holds db (stored_in new) ns) done.noted rows)
 
 -- an open journal is a store that can be opened again
-pub is_store : (v : View) (count committed : ℕ) → IsJournal v count committed → (v.is_clean ≡ false → v.is_open ≡ false) → IsTrue v.is_open → IsStore v (noted_in v)
+pub is_store : (v : View) (count committed : ℕ) → IsJournal v count committed → (v.is_clean ≡ false → v.is_open ≡ false)
+    → IsTrue v.is_open → IsStore v (noted_in v)
 is_store v count committed was shut is_open =
     let standing = was.standing is_open in
     let few : committed ≤ 2 ^ 62 = omega (arith, was.few, was.within) in
@@ -243,7 +278,8 @@ is_store v count committed was shut is_open =
     }
 
 -- how many changes the transaction of an open journal has
-pub held_count : (v : View) (count committed : ℕ) → IsJournal v count committed → IsTrue v.is_open → length (held_in v) ≡ count
+pub held_count : (v : View) (count committed : ℕ) → IsJournal v count committed → IsTrue v.is_open
+    → length (held_in v) ≡ count
 held_count v count committed was is_open = entries_count (v.trees 0) count (was.standing is_open).held
 
 -- ---- causes
@@ -256,7 +292,8 @@ shut_if_broken v count committed was broken = shut v.is_open refl
     shut true is = absurd (true≢false (sym broken ∙ (was.standing is).sound))
 
 -- of a journal's store a call fails with a cause, which later faults don't take away
-pub cause_of : (v : View) (count committed : ℕ) → IsJournal v count committed → (a b c : ℕ) (P Q : Type 0) (e : StoreError) → b ≤ c → (P → Q)
+pub cause_of : (v : View) (count committed : ℕ) → IsJournal v count committed
+    → (a b c : ℕ) (P Q : Type 0) (e : StoreError) → b ≤ c → (P → Q)
     → HasCause v (MoreFaults a b) P e → IsCause (MoreFaults a c) (v.is_open ≡ false) Q e
 cause_of v count committed was a b c P Q OutOfMemory up wider h = tt
 cause_of v count committed was a b c P Q Io up wider h = omega arith

@@ -17,7 +17,8 @@ Passes old new row true = OnlyReads old new × (left_of old 0 ≡ row ∷ left_o
 Passes old new row false = OnlyReads old new × (left_of old 0 ≡ [])
 
 -- Of these rows so many changes are passed and taken, and the others are left (this project's choice).
-pub record HasTaken {K : Type 0} (takes : K → Entry → K → Type 0) (rows left : List Row) (at : ℕ) (start end : K) : Type 0 where
+pub record HasTaken {K : Type 0} (takes : K → Entry → K → Type 0) (rows left : List Row) (at : ℕ) (start end : K)
+    : Type 0 where
   pub passed : List Entry
   pub rows_are : rows ≡ rows_from 1 passed ++ left
   pub sources : AllByRecursion IsOfSource passed

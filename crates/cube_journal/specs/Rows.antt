@@ -6,11 +6,13 @@ use Rattle.sqlite_value.specs.declared.value.Value.TheVariants.{Null, Int, Blob}
 use Rattle.sqlite_value.specs.Order.{Row, column, bytes}
 use Rattle.cube_journal.specs.declared.note.FeedNote.{FeedNote}
 
--- What a row says beside its number: the source of a change and the bytes of its record, or the length of a feed and its digest (this project's choice).
+-- What a row says beside its number:
+-- the source of a change and the bytes of its record, or the length of a feed and its digest (this project's choice).
 abbrev pub Entry : Type 0
 Entry = ℕ × List ℕ
 
--- The row with this number: the column that is the table's INTEGER PRIMARY KEY is stored as NULL (SQLite's "Database File Format").
+-- The row with this number:
+-- the column that is the table's INTEGER PRIMARY KEY is stored as NULL (SQLite's "Database File Format").
 abbrev pub row_of : ℕ → Entry → Row
 row_of number entry = Int (pos number) ∷ Null ∷ Int (pos entry.0) ∷ Blob entry.1 ∷ []
 

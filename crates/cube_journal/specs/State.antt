@@ -8,7 +8,8 @@ use Rattle.sqlite_trees.specs.declared.error.StoreError.{StoreError}
 use Rattle.sqlite_trees.specs.declared.error.StoreError.TheVariants.{OutOfMemory, Io, Corrupt, Full, Broken, Unstorable}
 use Rattle.sqlite_trees.specs.Tree.{Trees}
 use Rattle.sqlite_trees.specs.View.{View, doubt, IsClean}
-use Rattle.cube_journal.specs.Rows.{Entry, IsOfSource, rows_from, entries_in, AreChanges, AreNotes, DifferAt, IsForeignAt}
+use Rattle.cube_journal.specs.Rows.{Entry, IsOfSource, rows_from, entries_in, AreChanges, AreNotes, DifferAt}
+use Rattle.cube_journal.specs.Rows.{IsForeignAt}
 use Rattle.cube_journal.specs.declared.fault.OpenFault.{OpenFault}
 use Rattle.cube_journal.specs.declared.fault.OpenFault.TheVariants as kind
 
@@ -118,9 +119,11 @@ module _ (old new : View) where
 pub record GoesOn {S : Type 0} (view : S → View) (faults : S → ℕ) (old new : S) : Type 0 where
   pub clean : doubt (view old).is_clean ≤ doubt (view new).is_clean
   pub counts : faults old ≤ faults new
-  pub stays : IsClean (view new) → IsTrue (view old).is_open → IsTrue (view new).is_open ⊎ MoreFaults (faults old) (faults new)
+  pub stays : IsClean (view new) → IsTrue (view old).is_open
+      → IsTrue (view new).is_open ⊎ MoreFaults (faults old) (faults new)
 
--- Why a call on a store fails: want of memory, a fault of the disk or of the file, that the store was shut, or that the row can't be stored (this project's choice).
+-- Why a call on a store fails: want of memory, a fault of the disk or of the file, that the store was shut,
+-- or that the row can't be stored (this project's choice).
 abbrev pub IsCause : Type 0 → Type 0 → Type 0 → StoreError → Type 0
 IsCause fault shut unstorable OutOfMemory = ⊤
 IsCause fault shut unstorable Io = fault
@@ -129,16 +132,20 @@ IsCause fault shut unstorable Full = fault
 IsCause fault shut unstorable Broken = shut
 IsCause fault shut unstorable Unstorable = unstorable
 
--- Why a store of these trees isn't opened with these notes: a call failed, a table is wanting, the notes differ first at this feed, this row is the first that isn't the next change, or there are more than can be counted (this project's choice).
+-- Why a store of these trees isn't opened with these notes:
+-- a call failed, a table is wanting, the notes differ first at this feed,
+-- this row is the first that isn't the next change, or there are more than can be counted (this project's choice).
 abbrev pub Explains : Type 0 → Type 0 → Type 0 → Type 0 → Trees → List Entry → OpenFault → Type 0
 Explains fault shut is_open tables trees notes (kind.Store error) = IsCause fault shut ⊥ error
 Explains fault shut is_open tables trees notes kind.NoTables = tables → ⊥
 Explains fault shut is_open tables trees notes kind.NotEmpty = ⊥
-Explains fault shut is_open tables trees notes (kind.Feed source) = is_open × DifferAt (trees 1) (rows_from 0 notes) source
+Explains fault shut is_open tables trees notes (kind.Feed source) =
+    is_open × DifferAt (trees 1) (rows_from 0 notes) source
 Explains fault shut is_open tables trees notes (kind.Row number) = is_open × IsForeignAt (trees 0) number
 Explains fault shut is_open tables trees notes kind.TooMany = is_open × (2 ^ 62 < length (trees 0))
 
--- Why no journal is made in a store of these trees: a call failed, a note can't be stored, a table is wanting, or one of them has a row (this project's choice).
+-- Why no journal is made in a store of these trees: a call failed, a note can't be stored, a table is wanting,
+-- or one of them has a row (this project's choice).
 abbrev pub Hinders : Type 0 → Type 0 → Type 0 → Type 0 → Type 0 → Trees → OpenFault → Type 0
 Hinders fault shut unstorable tables is_open trees (kind.Store error) = IsCause fault shut unstorable error
 Hinders fault shut unstorable tables is_open trees kind.NoTables = tables → ⊥
@@ -155,6 +162,7 @@ abbrev pub FailsToStart : Type 0 → Type 0 → OpenFault → Type 0
 FailsToStart fault unstorable (kind.Store error) = ((error ≡ OutOfMemory) ⊎ fault) ⊎ ((error ≡ Unstorable) × unstorable)
 FailsToStart fault unstorable _ = ⊥
 
--- A start has made a store with these notes, or has opened the one that was there, which has them (this project's choice).
+-- A start has made a store with these notes, or has opened the one that was there,
+-- which has them (this project's choice).
 abbrev pub Starts : List Entry → View → View → Type 0
 Starts notes was now = Makes notes was now ⊎ (Finds was now × (noted_in was ≡ notes))

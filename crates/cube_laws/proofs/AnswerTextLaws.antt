@@ -1,5 +1,6 @@
 -- The text of an answer tells the answer, among those of its kind.
-use Rattle.std.proofs.Common.{◌≡◌, ◌≢◌, ◌==◌, ℕ, suc, ◌<◌, ◌^◌, ℤ, pos, negsuc, List, [], ◌∷◌, ◌++◌, map, get_or, FitsSigned, refl, sym, ap, ap₂, ◌∙◌, subst, arith, append_assoc, codes}
+use Rattle.std.proofs.Common.{◌≡◌, ◌≢◌, ◌==◌, ℕ, suc, ◌<◌, ◌^◌, ℤ, pos, negsuc, List, [], ◌∷◌, ◌++◌, map, get_or}
+use Rattle.std.proofs.Common.{FitsSigned, refl, sym, ap, ap₂, ◌∙◌, subst, arith, append_assoc, codes}
 use Rattle.std.specs.Int.{w64, w128}
 use Rattle.std.specs.Fmt.{decimal, signed_decimal}
 use Rattle.std.specs.List.{AllByRecursion, AllZip}
@@ -44,7 +45,8 @@ decimal-minus n bytes small same =
 signed_decimal-unique : (y z : ℤ) → FitsSigned w128 y → FitsSigned w128 z → signed_decimal y ≡ signed_decimal z → y ≡ z
 signed_decimal-unique (pos m) (pos n) fits fits' same = ap pos (decimal-unique m n (omega arith) (omega arith) same)
 signed_decimal-unique (pos m) (negsuc n) fits fits' same = absurd (decimal-minus m (decimal (suc n)) (omega arith) same)
-signed_decimal-unique (negsuc m) (pos n) fits fits' same = absurd (decimal-minus n (decimal (suc m)) (omega arith) (sym same))
+signed_decimal-unique (negsuc m) (pos n) fits fits' same =
+    absurd (decimal-minus n (decimal (suc m)) (omega arith) (sym same))
 signed_decimal-unique (negsuc m) (negsuc n) fits fits' same =
     let digits : decimal (suc m) ≡ decimal (suc n) = cc in
     let next : suc m ≡ suc n = decimal-unique (suc m) (suc n) (omega arith) (omega arith) digits in
@@ -56,7 +58,8 @@ signed_decimal-IsPlain (negsuc n) fits = ((omega arith, λ same. omega arith), d
 
 -- ---- fractions
 -- two texts with a slash after bytes that are none
-slash-unique : (xs ys as' bs : List ℕ) → AllByRecursion IsPlain xs → AllByRecursion IsPlain ys → xs ++ 47 ∷ as' ≡ ys ++ 47 ∷ bs → (xs ≡ ys) × (as' ≡ bs)
+slash-unique : (xs ys as' bs : List ℕ) → AllByRecursion IsPlain xs → AllByRecursion IsPlain ys
+    → xs ++ 47 ∷ as' ≡ ys ++ 47 ∷ bs → (xs ≡ ys) × (as' ≡ bs)
 slash-unique [] [] as' bs plain plain' same = (refl, cc)
 slash-unique [] (y ∷ ys) as' bs plain plain' same = let first : 47 ≡ y = cc in absurd (plain'.0.1 (sym first))
 slash-unique (x ∷ xs) [] as' bs plain plain' same = let first : x ≡ 47 = cc in absurd (plain.0.1 first)
@@ -74,19 +77,24 @@ Ratio-text p q = append_assoc (signed_decimal p) (codes "/") (decimal q)
 -- the first byte for null is none of a number's, with or without a slash after it
 null_text-plain : (xs as' : List ℕ) → AllByRecursion IsPlain xs → null_text ≡ xs ++ 47 ∷ as' → ⊥
 null_text-plain [] as' plain same = false≢true (ap (λ (bytes : List ℕ). get_or bytes 0 0 == 47) same)
-null_text-plain (x ∷ xs) as' plain same = let first : x ≡ 92 = sym (ap (λ (bytes : List ℕ). get_or bytes 0 0) same) in omega (arith, plain.0.0)
+null_text-plain (x ∷ xs) as' plain same =
+    let first : x ≡ 92 = sym (ap (λ (bytes : List ℕ). get_or bytes 0 0) same) in
+    omega (arith, plain.0.0)
 
 null_text-number : (z : ℤ) → FitsSigned w128 z → null_text ≡ signed_decimal z → ⊥
 null_text-number z fits same =
-    let plain : AllByRecursion IsPlain null_text = subst (AllByRecursion IsPlain) (sym same) (signed_decimal-IsPlain z fits) in
+    let plain : AllByRecursion IsPlain null_text =
+    subst (AllByRecursion IsPlain) (sym same) (signed_decimal-IsPlain z fits) in
     omega (arith, plain.0.0)
 
 null_text-Ratio : (p : ℤ) (q : ℕ) → FitsSigned w128 p → null_text ≡ answer_text (answer.Ratio p q) → ⊥
-null_text-Ratio p q fits same = null_text-plain (signed_decimal p) (decimal q) (signed_decimal-IsPlain p fits) (same ∙ Ratio-text p q)
+null_text-Ratio p q fits same =
+    null_text-plain (signed_decimal p) (decimal q) (signed_decimal-IsPlain p fits) (same ∙ Ratio-text p q)
 
 -- ---- answers of a kind
 IsCount-told : (a b : Answer) → IsCount a → IsCount b → answer_text a ≡ answer_text b → a ≡ b
-IsCount-told (answer.Count m) (answer.Count n) h k same = ap answer.Count (decimal-unique m n (omega arith) (omega arith) same)
+IsCount-told (answer.Count m) (answer.Count n) h k same =
+    ap answer.Count (decimal-unique m n (omega arith) (omega arith) same)
 IsCount-told (answer.Count m) answer.Null h k same = absurd k
 IsCount-told (answer.Count m) (answer.Whole z) h k same = absurd k
 IsCount-told (answer.Count m) (answer.Ratio p q) h k same = absurd k
@@ -122,9 +130,11 @@ IsFraction-told answer.Null answer.Null h k same = refl
 IsFraction-told answer.Null (answer.Ratio p q) h k same = absurd (null_text-Ratio p q k.0 same)
 IsFraction-told (answer.Ratio p q) answer.Null h k same = absurd (null_text-Ratio p q h.0 (sym same))
 IsFraction-told (answer.Ratio p q) (answer.Ratio p' q') h k same =
-    let parts = slash-unique (signed_decimal p) (signed_decimal p') (decimal q) (decimal q') (signed_decimal-IsPlain p h.0) (signed_decimal-IsPlain p' k.0)
+    let parts = slash-unique (signed_decimal p) (signed_decimal p') (decimal q) (decimal q')
+    (signed_decimal-IsPlain p h.0) (signed_decimal-IsPlain p' k.0)
     (sym (Ratio-text p q) ∙ same ∙ Ratio-text p' q') in
-    ap₂ answer.Ratio (signed_decimal-unique p p' h.0 k.0 parts.0) (decimal-unique q q' (omega (arith, h.1)) (omega (arith, k.1)) parts.1)
+    ap₂ answer.Ratio (signed_decimal-unique p p' h.0 k.0 parts.0)
+    (decimal-unique q q' (omega (arith, h.1)) (omega (arith, k.1)) parts.1)
 IsFraction-told answer.Null (answer.Count n) h k same = absurd k
 IsFraction-told answer.Null (answer.Whole z) h k same = absurd k
 IsFraction-told (answer.Ratio p q) (answer.Count n) h k same = absurd k
@@ -141,7 +151,8 @@ IsOfKind-told (Max m) a b h k same = IsNumber-told a b (IsValue-IsNumber a h) (I
 IsOfKind-told (Avg m) a b h k same = IsFraction-told a b h k same
 
 -- answers to the same aggregates that show the same are the same
-pub AreOfKind-told : (aggregates : List Agg) (as' bs : List Answer) → AllZip IsOfKind aggregates as' → AllZip IsOfKind aggregates bs → map answer_text as' ≡ map answer_text bs → as' ≡ bs
+pub AreOfKind-told : (aggregates : List Agg) (as' bs : List Answer) → AllZip IsOfKind aggregates as'
+    → AllZip IsOfKind aggregates bs → map answer_text as' ≡ map answer_text bs → as' ≡ bs
 AreOfKind-told [] [] [] h k same = refl
 AreOfKind-told [] [] (b ∷ bs) h k same = absurd k
 AreOfKind-told [] (a ∷ as') bs h k same = absurd h

@@ -1,5 +1,7 @@
 -- Each fact is in the group of one cell of each grouping set.
-use Rattle.std.proofs.Common.{◌≡◌, ℕ, zero, suc, ◌^◌, ◌<◌, ◌==◌, ◌||◌, Bool, true, List, [], ◌∷◌, length, map, get_or, filter, sum_by, count_by, slice_get, Contains, Option, Some, refl, sym, ap, ◌∙◌, subst, arith, eqb-true, eq-eqb}
+use Rattle.std.proofs.Common.{◌≡◌, ℕ, zero, suc, ◌^◌, ◌<◌, ◌==◌, ◌||◌, Bool, true, List, [], ◌∷◌, length, map, get_or}
+use Rattle.std.proofs.Common.{filter, sum_by, count_by, slice_get, Contains, Option, Some, refl, sym, ap, ◌∙◌, subst}
+use Rattle.std.proofs.Common.{arith, eqb-true, eq-eqb}
 use Rattle.std.specs.List.{AllByRecursion, list_any, list_all}
 use Rattle.std.proofs.lemmas.Bool.{and_parts, and_from, or_right}
 use Rattle.std.proofs.lemmas.List.Concat.{length-flat_map}
@@ -25,14 +27,18 @@ use Rattle.cube_core.specs.declared.key.Row.{Row}
 use Rattle.cube_laws.proofs.RowOrderLaws.{length-Reordered}
 use Rattle.cube_laws.proofs.GroupCountLaws.{count_by-one, SharedOut, joined_groups-filter}
 use Rattle.cube_core.proofs.KeyOrderLaws.{key_cmp-IsTotalOrder}
-use Rattle.cube_core.proofs.AncestorLaws.{ancestor_of, all_stand_for-ancestor_of, mask_of_coords-ancestor_of, all_stand_for-mask_of_coords}
-use Rattle.cube_core.proofs.ListLaws.{AllByRecursion-Contains, Contains-AllByRecursion, Contains-filter, Contains-list_any, filter-Contains, filter-all, map-filter, sum_by-map, sum_by-same}
+use Rattle.cube_core.proofs.AncestorLaws.{ancestor_of, all_stand_for-ancestor_of, mask_of_coords-ancestor_of}
+use Rattle.cube_core.proofs.AncestorLaws.{all_stand_for-mask_of_coords}
+use Rattle.cube_core.proofs.ListLaws.{AllByRecursion-Contains, Contains-AllByRecursion, Contains-filter}
+use Rattle.cube_core.proofs.ListLaws.{Contains-list_any, filter-Contains, filter-all, map-filter, sum_by-map}
+use Rattle.cube_core.proofs.ListLaws.{sum_by-same}
 use Rattle.cube_core.proofs.CellKeyLaws.{Key-coords}
 
 -- a fact has as many values and nulls as there are dimensions
 pub HaveDimensions-Contains : (dimensions : ℕ) (facts : List Fact) (fact : Fact) → HaveDimensions dimensions facts →
     Contains facts fact → length fact.dims ≡ dimensions
-HaveDimensions-Contains dimensions facts fact dims among = AllByRecursion-Contains (λ (f : Fact). length f.dims ≡ dimensions) facts fact dims among
+HaveDimensions-Contains dimensions facts fact dims among =
+    AllByRecursion-Contains (λ (f : Fact). length f.dims ≡ dimensions) facts fact dims among
 
 -- whether a key is in a grouping set
 abbrev is_in_set : ℕ → Key → Bool
@@ -58,30 +64,37 @@ module _ (s : Layout) (facts : List Fact) (rows : List Row) (are : AreRows s fac
   keys_in_set set = filter (is_in_set set) (map key_of rows)
 
   -- one key of a grouping set covers a fact
-  pub keys_in_set-one : (set : ℕ) (fact : Fact) → set < 2 ^ length s.dimensions → is_among set s.grouping_sets ≡ true → Contains facts fact →
+  pub keys_in_set-one : (set : ℕ) (fact : Fact) → set < 2 ^ length s.dimensions → is_among set s.grouping_sets ≡ true
+      → Contains facts fact →
       length fact.dims ≡ length s.dimensions →
       count_by (λ key. covers key fact) (keys_in_set set) ≡ 1
   keys_in_set-one set fact below kept among dims =
       let one : Key = key_in_set set fact in
-      let mask : mask_of one ≡ set = mask_of_coords-ancestor_of fact.dims set (subst (λ n. set < 2 ^ n) (sym dims) below) in
+      let mask : mask_of one ≡ set =
+      mask_of_coords-ancestor_of fact.dims set (subst (λ n. set < 2 ^ n) (sym dims) below) in
       let covered : covers one fact ≡ true = all_stand_for-ancestor_of fact.dims set in
       let is_kept : is_among (mask_of one) s.grouping_sets ≡ true = ap (λ n. is_among n s.grouping_sets) mask ∙ kept in
       count_by-one key_cmp-IsTotalOrder (λ key. covers key fact) one (keys_in_set set)
       (IsStrictlySortedBy-filter key_cmp (is_in_set set) (map key_of rows) are.ordered)
-      (filter-Contains (is_in_set set) (map key_of rows) one (AreRows-covers one fact among covered is_kept) (eq-eqb (mask_of one) set mask))
+      (filter-Contains (is_in_set set) (map key_of rows) one (AreRows-covers one fact among covered is_kept)
+      (eq-eqb (mask_of one) set mask))
       covered
       (λ key key_among key_covers.
-      let in_set : mask_of key ≡ set = eqb-true (mask_of key) set (Contains-filter (is_in_set set) (map key_of rows) key key_among).1 in
-      Key-coords key one (all_stand_for-mask_of_coords key.coords one.coords fact.dims key_covers covered (in_set ∙ sym mask)))
+      let in_set : mask_of key ≡ set =
+      eqb-true (mask_of key) set (Contains-filter (is_in_set set) (map key_of rows) key key_among).1 in
+      Key-coords key one
+      (all_stand_for-mask_of_coords key.coords one.coords fact.dims key_covers covered (in_set ∙ sym mask)))
 
   -- the groups of the rows of a grouping set have each fact once
-  pub rows_in_set-group_size : (set : ℕ) → HaveDimensions (length s.dimensions) facts → set < 2 ^ length s.dimensions → is_among set s.grouping_sets ≡ true →
+  pub rows_in_set-group_size : (set : ℕ) → HaveDimensions (length s.dimensions) facts → set < 2 ^ length s.dimensions
+      → is_among set s.grouping_sets ≡ true →
       sum_by (group_size facts) (rows_in_set set rows) ≡ length facts
   rows_in_set-group_size set dims below kept =
       let keys : List Key = keys_in_set set in
       let shared : AllByRecursion (SharedOut keys (λ _. true)) facts
       = Contains-AllByRecursion (SharedOut keys (λ _. true)) facts (λ fact among. record {
-        one = λ _. keys_in_set-one set fact below kept among (HaveDimensions-Contains (length s.dimensions) facts fact dims among);
+        one = λ _. keys_in_set-one set fact below kept among
+            (HaveDimensions-Contains (length s.dimensions) facts fact dims among);
         no_other = λ never. cc;
       }) in
       sym (sum_by-map key_of (λ key. length (group_of key facts)) (rows_in_set set rows))
@@ -91,7 +104,8 @@ module _ (s : Layout) (facts : List Fact) (rows : List Row) (are : AreRows s fac
       ∙ ap length (filter-all (λ _. true) facts (Contains-AllByRecursion (λ _. true ≡ true) facts (λ _ _. refl)))
 
 -- the answer of an aggregate stands at its place
-pub AreAnswers-slice_get : (group : List Fact) (aggregates : List Agg) (answers : List Answer) (place : ℕ) (aggregate : Agg) →
+pub AreAnswers-slice_get : (group : List Fact) (aggregates : List Agg) (answers : List Answer) (place : ℕ)
+    (aggregate : Agg) →
     AreAnswers group aggregates answers → slice_get aggregates place ≡ Some aggregate →
     IsAnswer group aggregate (get_or answers place answer.Null)
 AreAnswers-slice_get group [] answers place aggregate h at_place = cc
@@ -122,12 +136,14 @@ rows_in_set-count_at s facts rows set place are dims below kept at_place =
     ∙ rows_in_set-group_size s facts rows are set dims below kept
 
 -- ALL stands for each value
-all_stand_for-is_all_coord : (coords : List Coord) (values : List (Option (List ℕ))) → list_all is_all_coord coords ≡ true →
+all_stand_for-is_all_coord : (coords : List Coord) (values : List (Option (List ℕ)))
+    → list_all is_all_coord coords ≡ true →
     length coords ≡ length values → all_stand_for coords values ≡ true
 all_stand_for-is_all_coord [] [] all long = refl
 all_stand_for-is_all_coord [] (v ∷ values) all long = absurd (omega (arith, long))
 all_stand_for-is_all_coord (c ∷ coords) [] all long = absurd (omega (arith, long))
-all_stand_for-is_all_coord (coord.All ∷ coords) (v ∷ values) all long = all_stand_for-is_all_coord coords values all (omega (arith, long))
+all_stand_for-is_all_coord (coord.All ∷ coords) (v ∷ values) all long =
+    all_stand_for-is_all_coord coords values all (omega (arith, long))
 all_stand_for-is_all_coord (coord.Null ∷ coords) (v ∷ values) all long = cc
 all_stand_for-is_all_coord (coord.Text name ∷ coords) (v ∷ values) all long = cc
 
@@ -138,10 +154,12 @@ group_of-is_total dimensions facts key dims total =
     let parts = and_parts (length key.coords == dimensions) (list_all is_all_coord key.coords) total in
     let long : length key.coords ≡ dimensions = eqb-true (length key.coords) dimensions parts.0 in
     filter-all (covers key) facts (Contains-AllByRecursion (λ fact. covers key fact ≡ true) facts (λ fact among.
-    all_stand_for-is_all_coord key.coords fact.dims parts.1 (long ∙ sym (HaveDimensions-Contains dimensions facts fact dims among))))
+    all_stand_for-is_all_coord key.coords fact.dims parts.1
+    (long ∙ sym (HaveDimensions-Contains dimensions facts fact dims among))))
 
 -- the count of the grand total is the number of facts
-pub answer_at-is_total : (s : Layout) (facts : List Fact) (rows : List Row) (row : Row) (place : ℕ) → AreRows s facts rows →
+pub answer_at-is_total : (s : Layout) (facts : List Fact) (rows : List Row) (row : Row) (place : ℕ)
+    → AreRows s facts rows →
     HaveDimensions (length s.dimensions) facts → Contains rows row → is_total (length s.dimensions) row.key ≡ true →
     slice_get s.aggregates place ≡ Some agg.CountAll → answer_at place row ≡ answer.Count (length facts)
 answer_at-is_total s facts rows row place are dims among total at_place =

@@ -1,5 +1,6 @@
 -- A total and a count have one fraction in lowest terms.
-use Rattle.std.proofs.Common.{◌≡◌, ℕ, zero, suc, ◌-◌, ◌*◌, ◌<◌, ℤ, pos, negsuc, neg_ℤ, ◌*ℤ◌, unsigned_abs, sym, ◌∙◌, ap, subst, arith}
+use Rattle.std.proofs.Common.{◌≡◌, ℕ, zero, suc, ◌-◌, ◌*◌, ◌<◌, ℤ, pos, negsuc, neg_ℤ, ◌*ℤ◌, unsigned_abs, sym, ◌∙◌, ap}
+use Rattle.std.proofs.Common.{subst, arith}
 use Prim.Native.Nat.{◌∣◌}
 use Rattle.std.proofs.lemmas.Int.{unsigned_abs-mul}
 use Rattle.std.proofs.lemmas.Nat.Gcd.{dvd_antisymm, IsGcd-swap}
@@ -49,7 +50,8 @@ IsInLowestTerms-Divides : (total : ℤ) (count : ℕ) (p p' : ℤ) (q q' : ℕ) 
     IsInLowestTerms total count p q → IsInLowestTerms total count p' q' → q ∣ q'
 IsInLowestTerms-Divides total count p p' q q' some h h' =
     divides-coprime q (unsigned_abs p) q' (IsGcd-swap (unsigned_abs p) q 1 h.coprime)
-    (subst (λ k. q ∣ k) (sym (IsInLowestTerms-cross total count p p' q q' some h.equal h'.equal)) (dvd-mul_left q (unsigned_abs p')))
+    (subst (λ k. q ∣ k) (sym (IsInLowestTerms-cross total count p p' q q' some h.equal h'.equal))
+    (dvd-mul_left q (unsigned_abs p')))
 
 -- the numerator and the denominator are determined by the total and the count
 pub IsInLowestTerms-unique : (total : ℤ) (count : ℕ) (p p' : ℤ) (q q' : ℕ) → 0 < count →

@@ -1,5 +1,6 @@
 -- Cells that share the facts of a group out among them have that group's facts, up to order.
-use Rattle.std.proofs.Common.{◌≡◌, ◌+◌, Bool, true, false, cond, List, [], ◌∷◌, ◌++◌, filter, count_by, flat_map, Contains, Ordering, refl, sym, ap, ◌∙◌, subst, arith, inl, inr}
+use Rattle.std.proofs.Common.{◌≡◌, ◌+◌, Bool, true, false, cond, List, [], ◌∷◌, ◌++◌, filter, count_by, flat_map}
+use Rattle.std.proofs.Common.{Contains, Ordering, refl, sym, ap, ◌∙◌, subst, arith, inl, inr}
 use Rattle.std.specs.List.{AllByRecursion}
 use Rattle.std.specs.List.Sorted.{IsStrictlySortedBy}
 use Rattle.std.specs.Cmp.{IsTotalOrder}
@@ -11,7 +12,8 @@ use Rattle.cube_core.specs.declared.fact.Fact.{Fact}
 use Rattle.cube_core.specs.declared.key.Key.{Key}
 use Rattle.cube_laws.proofs.RowLaws.{IsStrictlySortedBy-head}
 use Rattle.cube_laws.proofs.RowOrderLaws.{Reordered, none, next, exchange, both, Reordered-refl}
-use Rattle.cube_core.proofs.ListLaws.{Contains-cases, Contains-head, Contains-tail, count_by-failed, count_by-none, count_by-passed, filter-failed, filter-passed}
+use Rattle.cube_core.proofs.ListLaws.{Contains-cases, Contains-head, Contains-tail, count_by-failed, count_by-none}
+use Rattle.cube_core.proofs.ListLaws.{count_by-passed, filter-failed, filter-passed}
 
 -- where one element of a strictly sorted list passes, the count is 1
 pub count_by-one : {X : Type 0} {c : X → X → Ordering} → IsTotalOrder c → (p : X → Bool) (one : X) (xs : List X) →
@@ -22,11 +24,14 @@ count_by-one {X} {c} o p one (x ∷ xs) sorted among passes alone = elim (Contai
   | inl here ↦
       count_by-passed p x xs (ap p here ∙ passes)
       ∙ ap (λ n. 1 + n) (count_by-none p xs (λ y after. false_from_ne_true (p y) (λ passes_too.
-      IsStrictlySortedBy-head o x xs sorted (subst (Contains xs) (alone y (Contains-tail x xs y after) passes_too ∙ sym here) after))))
+      IsStrictlySortedBy-head o x xs sorted
+      (subst (Contains xs) (alone y (Contains-tail x xs y after) passes_too ∙ sym here) after))))
   | inr after ↦
       count_by-failed p x xs (false_from_ne_true (p x) (λ passes_too.
-      IsStrictlySortedBy-head o x xs sorted (subst (Contains xs) (sym (alone x (Contains-head x xs) passes_too)) after)))
-      ∙ count_by-one o p one xs (sorted_tail c x xs sorted) after passes (λ y y_after. alone y (Contains-tail x xs y y_after))
+      IsStrictlySortedBy-head o x xs sorted
+      (subst (Contains xs) (sym (alone x (Contains-head x xs) passes_too)) after)))
+      ∙ count_by-one o p one xs (sorted_tail c x xs sorted) after passes
+      (λ y y_after. alone y (Contains-tail x xs y y_after))
 ]
 
 -- an element from behind a list comes before it
@@ -63,7 +68,8 @@ module _ {X A : Type 0} (p : A → Bool) (x : X) (g : A → List X) where
     | inl passes ↦
         let rest : count_by p as' ≡ 0 = omega (arith, h, count_by-passed p a as' passes) in
         let same : flat_map with_x (a ∷ as') ≡ x ∷ flat_map g (a ∷ as')
-        = ap (λ b. cond b (x ∷ g a) (g a) ++ flat_map with_x as') passes ∙ ap (λ xs. (x ∷ g a) ++ xs) (with_x-none as' rest) in
+        = ap (λ b. cond b (x ∷ g a) (g a) ++ flat_map with_x as') passes
+        ∙ ap (λ xs. (x ∷ g a) ++ xs) (with_x-none as' rest) in
         subst (λ xs. Reordered xs (x ∷ flat_map g (a ∷ as'))) (sym same) (Reordered-refl (x ∷ flat_map g (a ∷ as')))
     | inr fails ↦
         let rest : count_by p as' ≡ 1 = sym (count_by-failed p a as' fails) ∙ h in

@@ -1,5 +1,7 @@
 -- The grouping sets of a schema that was read.
-use Rattle.std.proofs.Common.{◌≡◌, ℕ, zero, suc, ◌+◌, ◌-◌, ◌*◌, ◌^◌, ◌<◌, ◌≤◌, ◌==◌, ◌||◌, Bool, true, false, not, cond, List, [], ◌∷◌, ◌++◌, length, map, filter, take, Option, Some, None, Ok, Err, unwrap_or, codes, refl, sym, ap, ap₂, ◌∙◌, subst, inl, inr, arith, zero-add, eqb-true}
+use Rattle.std.proofs.Common.{◌≡◌, ℕ, zero, suc, ◌+◌, ◌-◌, ◌*◌, ◌^◌, ◌<◌, ◌≤◌, ◌==◌, ◌||◌, Bool, true, false, not, cond}
+use Rattle.std.proofs.Common.{List, [], ◌∷◌, ◌++◌, length, map, filter, take, Option, Some, None, Ok, Err, unwrap_or}
+use Rattle.std.proofs.Common.{codes, refl, sym, ap, ap₂, ◌∙◌, subst, inl, inr, arith, zero-add, eqb-true}
 use Rattle.std.specs.Prelude.{⊤}
 use Rattle.std.specs.List.{range_with_len}
 use Rattle.std.specs.Str.{bytes_eq}
@@ -15,7 +17,10 @@ use Rattle.toml.specs.Data.{Members, string, get_member}
 use Rattle.cube_core.specs.Cube.{AreRows, AreRowsOver}
 use Rattle.cube_core.specs.GroupingSet.{all_sets, is_among}
 use Rattle.cube_core.specs.Layout.{Layout, IsSchema, is_listed, are_distinct}
-use Rattle.cube_core.specs.SchemaDocument.{dimensions_in, measures_in, spellings_in, max_records_in, default_max_records, record_limit, mask_of_names, rollup_sets, kept_sets, sets_of_grouping, grouping_sets_in, feed_version, version_in, parts_in, named_parts, schema_of_parts, first_fault, layout_of, schema_of}
+use Rattle.cube_core.specs.SchemaDocument.{dimensions_in, measures_in, spellings_in, max_records_in}
+use Rattle.cube_core.specs.SchemaDocument.{default_max_records, record_limit, mask_of_names, rollup_sets, kept_sets}
+use Rattle.cube_core.specs.SchemaDocument.{sets_of_grouping, grouping_sets_in, feed_version, version_in, parts_in}
+use Rattle.cube_core.specs.SchemaDocument.{named_parts, schema_of_parts, first_fault, layout_of, schema_of}
 use Rattle.cube_core.specs.declared.fact.Fact.{Fact}
 use Rattle.cube_core.specs.declared.key.Row.{Row}
 use Rattle.cube_core.specs.declared.schema_fault.SchemaFault.{SchemaFault}
@@ -23,7 +28,8 @@ use Rattle.cube_core.proofs.GroupingLaws.{kept_sets-all_sets}
 use Rattle.cube_laws.specs.Written.{GivesNames}
 
 -- the schema that is answered is the document's
-option_map_or-Ok : (found : Option SchemaFault) (layout s : Layout) → option_map_or Err found (Ok layout) ≡ Ok s → layout ≡ s
+option_map_or-Ok : (found : Option SchemaFault) (layout s : Layout) → option_map_or Err found (Ok layout) ≡ Ok s
+    → layout ≡ s
 option_map_or-Ok None layout s is = cc
 option_map_or-Ok (Some fault) layout s is = cc
 
@@ -31,32 +37,46 @@ pub schema_of-layout_of : (document : Members) (s : Layout) → schema_of docume
 schema_of-layout_of document s is = option_map_or-Ok (first_fault document) (layout_of document) s is
 
 -- without a grouping all are kept
-pub grouping_sets-all_sets : (document : Members) (s : Layout) → schema_of document ≡ Ok s → get_member (codes "grouping") document ≡ None → s.grouping_sets ≡ all_sets (length s.dimensions)
+pub grouping_sets-all_sets : (document : Members) (s : Layout) → schema_of document ≡ Ok s
+    → get_member (codes "grouping") document ≡ None → s.grouping_sets ≡ all_sets (length s.dimensions)
 grouping_sets-all_sets document s is none =
     subst (λ (t : Layout). t.grouping_sets ≡ all_sets (length t.dimensions)) (schema_of-layout_of document s is)
     (ap (λ grouping. unwrap_or (sets_of_grouping (dimensions_in document) grouping) []) none
     ∙ kept_sets-all_sets (length (dimensions_in document)))
 
 -- a document of names alone has the parts of a schema that is told by them
-pub GivesNames-schema_of : (document : Members) (dimensions measures spellings : List (List ℕ)) → GivesNames document dimensions measures spellings
+pub GivesNames-schema_of : (document : Members) (dimensions measures spellings : List (List ℕ))
+    → GivesNames document dimensions measures spellings
     → schema_of document ≡ schema_of_parts (named_parts dimensions measures spellings)
 GivesNames-schema_of document dimensions measures spellings gives =
     let ds : dimensions_in document ≡ dimensions = ap (λ o. unwrap_or o []) gives.at_dimensions in
     let ms : measures_in document ≡ measures = ap (λ o. unwrap_or o []) gives.at_measures in
     let texts : spellings_in document ≡ spellings = ap (λ o. unwrap_or o []) gives.at_aggregates in
-    let limit : max_records_in document ≡ Some default_max_records = ap (λ o. option_map_or record_limit o (Some default_max_records)) gives.max_records in
-    let sets : grouping_sets_in document ≡ Some (all_sets (length dimensions)) = ap₂ sets_of_grouping ds gives.grouping ∙ ap Some (kept_sets-all_sets (length dimensions)) in
+    let limit : max_records_in document ≡ Some default_max_records =
+    ap (λ o. option_map_or record_limit o (Some default_max_records)) gives.max_records in
+    let sets : grouping_sets_in document ≡ Some (all_sets (length dimensions)) =
+    ap₂ sets_of_grouping ds gives.grouping ∙ ap Some (kept_sets-all_sets (length dimensions)) in
     let version : version_in document ≡ Some 1 = ap (λ o. option_map_or feed_version o (Some 1)) gives.version in
-    let parts : parts_in document ≡ named_parts dimensions measures spellings = λ i. record { dimensions = ds i; measures = ms i; spellings = texts i; max_records = limit i; grouping_sets = sets i; version = version i } in
+    let parts : parts_in document ≡ named_parts dimensions measures spellings = λ i. record {
+      dimensions = ds i;
+      measures = ms i;
+      spellings = texts i;
+      max_records = limit i;
+      grouping_sets = sets i;
+      version = version i;
+    } in
     rw gives.known_keys (ap schema_of_parts parts)
 
-pub AreRows-all_sets : (document : Members) (s : Layout) (facts : List Fact) (rows : List Row) → schema_of document ≡ Ok s → get_member (codes "grouping") document ≡ None → AreRows s facts rows
+pub AreRows-all_sets : (document : Members) (s : Layout) (facts : List Fact) (rows : List Row)
+    → schema_of document ≡ Ok s → get_member (codes "grouping") document ≡ None → AreRows s facts rows
     → AreRowsOver (all_sets (length s.dimensions)) (length s.dimensions) s.aggregates facts rows
 AreRows-all_sets document s facts rows is none are =
-    subst (λ sets. AreRowsOver sets (length s.dimensions) s.aggregates facts rows) (grouping_sets-all_sets document s is none) are
+    subst (λ sets. AreRowsOver sets (length s.dimensions) s.aggregates facts rows)
+    (grouping_sets-all_sets document s is none) are
 
 -- a name that is no dimension adds nothing to a mask
-pub mask_of_names-other : (name : List ℕ) (dimensions names : List (List ℕ)) → is_listed name dimensions ≡ false → mask_of_names dimensions (name ∷ names) ≡ mask_of_names dimensions names
+pub mask_of_names-other : (name : List ℕ) (dimensions names : List (List ℕ)) → is_listed name dimensions ≡ false
+    → mask_of_names dimensions (name ∷ names) ≡ mask_of_names dimensions names
 mask_of_names-other name [] names other = refl
 mask_of_names-other name (dimension ∷ dimensions) names other =
     let (here, after) = neither (bytes_eq name dimension) (is_listed name dimensions) other in
@@ -77,7 +97,8 @@ power-double : (mask power : ℕ) → 1 ≤ power → mask ≡ power - 1 → 1 +
 power-double mask power least is = omega (arith, is)
 
 -- the mask of the first dimensions
-mask_of_names-take : (dimensions : List (List ℕ)) (first : ℕ) → are_distinct dimensions ≡ true → first ≤ length dimensions → mask_of_names dimensions (take first dimensions) ≡ 2 ^ first - 1
+mask_of_names-take : (dimensions : List (List ℕ)) (first : ℕ) → are_distinct dimensions ≡ true
+    → first ≤ length dimensions → mask_of_names dimensions (take first dimensions) ≡ 2 ^ first - 1
 mask_of_names-take dimensions zero distinct few = mask_of_names-nil dimensions
 mask_of_names-take [] (suc first) distinct few = absurd (omega (arith, few))
 mask_of_names-take (dimension ∷ dimensions) (suc first) distinct few =
@@ -90,7 +111,8 @@ mask_of_names-take (dimension ∷ dimensions) (suc first) distinct few =
     (power-double (2 ^ first - 1) (2 ^ first) (pow_pos first) refl ∙ ap (λ n. n - 1) (sym (pow-succ' 2 first)))
 
 -- numbers from a on, each as the other function has it
-map-same : (f g : ℕ → ℕ) (a n : ℕ) → ((i : ℕ) → i < a + n → f i ≡ g i) → map f (range_with_len a n) ≡ map g (range_with_len a n)
+map-same : (f g : ℕ → ℕ) (a n : ℕ) → ((i : ℕ) → i < a + n → f i ≡ g i)
+    → map f (range_with_len a n) ≡ map g (range_with_len a n)
 map-same f g a zero same = refl
 map-same f g a (suc n) same =
     ap₂ (λ x xs. x ∷ xs) (same a (omega arith)) (map-same f g (a + 1) n (λ i below. same i (omega (arith, below))))
@@ -100,7 +122,8 @@ pub are_distinct-front : (front end : List (List ℕ)) → are_distinct (front +
 are_distinct-front [] end distinct = refl
 are_distinct-front (name ∷ front) end distinct =
     let (other, others) = and_parts (not (is_listed name (front ++ end))) (are_distinct (front ++ end)) distinct in
-    let here : not (is_listed name front) ≡ true = unlisted (is_listed name front) (is_listed name end) (sym (ap not (list_any-append (bytes_eq name) front end)) ∙ other) in
+    let here : not (is_listed name front) ≡ true = unlisted (is_listed name front) (is_listed name end)
+    (sym (ap not (list_any-append (bytes_eq name) front end)) ∙ other) in
     rw here (are_distinct-front front end others)
   where
     unlisted : (a b : Bool) → not (a || b) ≡ true → not a ≡ true
@@ -111,9 +134,11 @@ are_distinct-front (name ∷ front) end distinct =
 abbrev first_sets : ℕ → List ℕ
 first_sets dimensions = map (λ first. 2 ^ first - 1) (range_with_len 0 (dimensions + 1))
 
-rollup_sets-first_sets : (dimensions : List (List ℕ)) → are_distinct dimensions ≡ true → rollup_sets dimensions ≡ first_sets (length dimensions)
+rollup_sets-first_sets : (dimensions : List (List ℕ)) → are_distinct dimensions ≡ true
+    → rollup_sets dimensions ≡ first_sets (length dimensions)
 rollup_sets-first_sets dimensions distinct =
-    map-same (λ first. mask_of_names dimensions (take first dimensions)) (λ first. 2 ^ first - 1) 0 (length dimensions + 1)
+    map-same (λ first. mask_of_names dimensions (take first dimensions)) (λ first. 2 ^ first - 1) 0
+    (length dimensions + 1)
     (λ first below. mask_of_names-take dimensions first distinct (omega (arith, below)))
 
 -- numbers that rise, from a on and below b
@@ -129,14 +154,17 @@ is_among-Rise set a b (x ∷ xs) rise before =
     rw (differs, is_among-Rise set (x + 1) b xs rise.2 (omega (arith, rise.0))) refl
 
 -- of numbers above x those among x and others are those among the others
-is_among-below : (x a n : ℕ) (xs : List ℕ) → x < a → filter (λ set. is_among set (x ∷ xs)) (range_with_len a n) ≡ filter (λ set. is_among set xs) (range_with_len a n)
+is_among-below : (x a n : ℕ) (xs : List ℕ) → x < a
+    → filter (λ set. is_among set (x ∷ xs)) (range_with_len a n) ≡ filter (λ set. is_among set xs) (range_with_len a n)
 is_among-below x a zero xs before = refl
 is_among-below x a (suc n) xs before =
     let differs : (x == a) ≡ false = grind (arith, nat_tests) in
-    rw differs (ap (λ rest. cond (is_among a xs) (a ∷ rest) rest) (is_among-below x (a + 1) n xs (omega (arith, before))))
+    rw differs
+    (ap (λ rest. cond (is_among a xs) (a ∷ rest) rest) (is_among-below x (a + 1) n xs (omega (arith, before))))
 
 -- of the numbers from a on those among rising ones are these
-pub filter-Rise : (a n b : ℕ) (xs : List ℕ) → a + n ≡ b → Rise a b xs → filter (λ set. is_among set xs) (range_with_len a n) ≡ xs
+pub filter-Rise : (a n b : ℕ) (xs : List ℕ) → a + n ≡ b → Rise a b xs
+    → filter (λ set. is_among set xs) (range_with_len a n) ≡ xs
 filter-Rise a zero b [] is rise = refl
 filter-Rise a zero b (x ∷ xs) is rise = absurd (omega (arith, rise.0, rise.1, is))
 filter-Rise a (suc n) b [] is rise = filter-Rise (a + 1) n b [] (omega (arith, is)) tt
@@ -144,7 +172,8 @@ filter-Rise a (suc n) b (x ∷ xs) is rise = elim (cases_Bool (x == a)) [
   | inl here ↦
       let same : x ≡ a = eqb-true x a here in
       let after : Rise (a + 1) b xs = subst (λ y. Rise (y + 1) b xs) same rise.2 in
-      rw here (ap₂ (λ y ys. y ∷ ys) (sym same) (is_among-below x (a + 1) n xs (omega (arith, same)) ∙ filter-Rise (a + 1) n b xs (omega (arith, is)) after))
+      rw here (ap₂ (λ y ys. y ∷ ys) (sym same)
+      (is_among-below x (a + 1) n xs (omega (arith, same)) ∙ filter-Rise (a + 1) n b xs (omega (arith, is)) after))
   | inr other ↦
       let later : a + 1 ≤ x = grind (arith, nat_tests, rise.0) in
       rw (other, is_among-Rise a (x + 1) b xs rise.2 (omega (arith, later)))
@@ -152,7 +181,8 @@ filter-Rise a (suc n) b (x ∷ xs) is rise = elim (cases_Bool (x == a)) [
 ]
 
 -- the masks of the first dimensions rise
-first_sets-Rise : (dimensions j m least : ℕ) → j + m ≡ dimensions + 1 → least < 2 ^ j → Rise least (2 ^ dimensions) (map (λ first. 2 ^ first - 1) (range_with_len j m))
+first_sets-Rise : (dimensions j m least : ℕ) → j + m ≡ dimensions + 1 → least < 2 ^ j
+    → Rise least (2 ^ dimensions) (map (λ first. 2 ^ first - 1) (range_with_len j m))
 first_sets-Rise dimensions j zero least is below = tt
 first_sets-Rise dimensions j (suc m) least is below =
     let two : 0 < 2 = omega arith in
@@ -169,12 +199,16 @@ kept_sets-first_sets dimensions =
     (first_sets-Rise dimensions 0 (dimensions + 1) 0 (omega arith) (omega arith))
 
 -- ROLLUP keeps the sets of the first dimensions
-pub grouping_sets-first_sets : (document : Members) (s : Layout) → IsSchema s → schema_of document ≡ Ok s → get_member (codes "grouping") document ≡ Some (string (codes "rollup")) → s.grouping_sets ≡ first_sets (length s.dimensions)
+pub grouping_sets-first_sets : (document : Members) (s : Layout) → IsSchema s → schema_of document ≡ Ok s
+    → get_member (codes "grouping") document ≡ Some (string (codes "rollup"))
+    → s.grouping_sets ≡ first_sets (length s.dimensions)
 grouping_sets-first_sets document s schema is rollup =
-    subst (λ (t : Layout). IsSchema t → t.grouping_sets ≡ first_sets (length t.dimensions)) (schema_of-layout_of document s is)
+    subst (λ (t : Layout). IsSchema t → t.grouping_sets ≡ first_sets (length t.dimensions))
+    (schema_of-layout_of document s is)
     (λ read.
     let dimensions = dimensions_in document in
     ap (λ grouping. unwrap_or (sets_of_grouping dimensions grouping) []) rollup
-    ∙ ap (kept_sets (length dimensions)) (rollup_sets-first_sets dimensions (are_distinct-front dimensions (layout_of document).measures read.names_are_distinct))
+    ∙ ap (kept_sets (length dimensions)) (rollup_sets-first_sets dimensions
+    (are_distinct-front dimensions (layout_of document).measures read.names_are_distinct))
     ∙ kept_sets-first_sets (length dimensions))
     schema

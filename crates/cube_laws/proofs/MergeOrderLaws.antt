@@ -12,67 +12,88 @@ use Rattle.cube_laws.specs.Merging.{joined, AreMergedOf, IsMergeTree, cube, merg
 use Rattle.cube_laws.proofs.GroupCountLaws.{Reordered-middle, Reordered-append}
 use Rattle.cube_laws.proofs.MergedLaws.{AreRowsOver-AreMergedOf}
 use Rattle.cube_laws.proofs.RowLaws.{AreRowsOver-unique}
-use Rattle.cube_laws.proofs.RowOrderLaws.{Reordered, Reordered-refl, Reordered-sym, next, exchange, both, IsPermutation-Reordered, Reordered-IsPermutation, AreRowsOver-IsPermutation}
+use Rattle.cube_laws.proofs.RowOrderLaws.{Reordered, Reordered-refl, Reordered-sym, next, exchange, both}
+use Rattle.cube_laws.proofs.RowOrderLaws.{IsPermutation-Reordered, Reordered-IsPermutation, AreRowsOver-IsPermutation}
 use Rattle.cube_laws.proofs.RowOrderLaws.{none as no_steps}
 
 -- two lists that begin a list change places
 Reordered-exchange : {X : Type 0} (xs ys zs : List X) → Reordered (xs ++ (ys ++ zs)) (ys ++ (xs ++ zs))
 Reordered-exchange [] ys zs = Reordered-refl (ys ++ zs)
-Reordered-exchange (x ∷ xs) ys zs = both (next (Reordered-exchange xs ys zs)) (Reordered-sym (Reordered-middle x ys (xs ++ zs)))
+Reordered-exchange (x ∷ xs) ys zs =
+    both (next (Reordered-exchange xs ys zs)) (Reordered-sym (Reordered-middle x ys (xs ++ zs)))
 
 -- lists in another order, joined, are joined in another order
-joined-Reordered : {X : Type 0} {lists others : List (List X)} → Reordered lists others → Reordered (joined lists) (joined others)
+joined-Reordered : {X : Type 0} {lists others : List (List X)} → Reordered lists others
+    → Reordered (joined lists) (joined others)
 joined-Reordered no_steps = no_steps
 joined-Reordered (next {x} r) = Reordered-append x (joined-Reordered r)
 joined-Reordered (exchange {x} {y} {xs}) = Reordered-exchange x y (joined xs)
 joined-Reordered (both r t) = both (joined-Reordered r) (joined-Reordered t)
 
-pub joined-IsPermutation : {X : Type 0} (lists others : List (List X)) → IsPermutation lists others → IsPermutation (joined lists) (joined others)
-joined-IsPermutation lists others h = Reordered-IsPermutation (joined-Reordered (IsPermutation-Reordered lists others h))
+pub joined-IsPermutation : {X : Type 0} (lists others : List (List X)) → IsPermutation lists others
+    → IsPermutation (joined lists) (joined others)
+joined-IsPermutation lists others h =
+    Reordered-IsPermutation (joined-Reordered (IsPermutation-Reordered lists others h))
 
 -- cubes in another order have the same merged rows
-pub AreMergedOf-IsPermutation : (given wanted : List Agg) (cubes others : List (List Row)) (rows : List Row) → IsPermutation cubes others
+pub AreMergedOf-IsPermutation : (given wanted : List Agg) (cubes others : List (List Row)) (rows : List Row)
+    → IsPermutation cubes others
     → AreMergedOf given wanted cubes rows → AreMergedOf given wanted others rows
 AreMergedOf-IsPermutation given wanted cubes others rows h are = record {
   parts = are.parts;
-  drawn = IsPermutation-trans (joined others) (joined cubes) are.parts (joined-IsPermutation others cubes (IsPermutation-sym cubes others h)) are.drawn;
+  drawn = IsPermutation-trans (joined others) (joined cubes) are.parts
+      (joined-IsPermutation others cubes (IsPermutation-sym cubes others h)) are.drawn;
   merged = are.merged;
 }
 
 -- however facts are parted, the merged rows are the same
-pub AreMergedOf-parts : (s : Layout) (parts others : List (List Fact)) (cubes other_cubes : List (List Row)) (rows other_rows : List Row) → 1 ≤ length parts → 1 ≤ length others
-    → IsPermutation (joined parts) (joined others) → AllZip (AreRows (partial_form s)) parts cubes → AllZip (AreRows (partial_form s)) others other_cubes
-    → AreMergedOf (partial_aggregates s.aggregates) s.aggregates cubes rows → AreMergedOf (partial_aggregates s.aggregates) s.aggregates other_cubes other_rows → rows ≡ other_rows
-AreMergedOf-parts s parts others cubes other_cubes rows other_rows some some_others order are are_others merged merged_others =
+pub AreMergedOf-parts : (s : Layout) (parts others : List (List Fact)) (cubes other_cubes : List (List Row))
+    (rows other_rows : List Row) → 1 ≤ length parts → 1 ≤ length others
+    → IsPermutation (joined parts) (joined others) → AllZip (AreRows (partial_form s)) parts cubes
+    → AllZip (AreRows (partial_form s)) others other_cubes
+    → AreMergedOf (partial_aggregates s.aggregates) s.aggregates cubes rows
+    → AreMergedOf (partial_aggregates s.aggregates) s.aggregates other_cubes other_rows → rows ≡ other_rows
+AreMergedOf-parts s parts others cubes other_cubes rows other_rows some some_others order are are_others merged
+    merged_others =
     AreRowsOver-unique s.grouping_sets (length s.dimensions) s.aggregates (joined others) rows other_rows
-    (AreRowsOver-IsPermutation s.grouping_sets (length s.dimensions) s.aggregates (joined parts) (joined others) rows order
-    (AreRowsOver-AreMergedOf s.grouping_sets (length s.dimensions) (partial_aggregates s.aggregates) s.aggregates parts cubes rows some are merged))
-    (AreRowsOver-AreMergedOf s.grouping_sets (length s.dimensions) (partial_aggregates s.aggregates) s.aggregates others other_cubes other_rows some_others are_others merged_others)
+    (AreRowsOver-IsPermutation s.grouping_sets (length s.dimensions) s.aggregates (joined parts)
+    (joined others) rows order
+    (AreRowsOver-AreMergedOf s.grouping_sets (length s.dimensions)
+    (partial_aggregates s.aggregates) s.aggregates parts cubes rows some are merged))
+    (AreRowsOver-AreMergedOf s.grouping_sets (length s.dimensions)
+    (partial_aggregates s.aggregates) s.aggregates others other_cubes other_rows some_others are_others merged_others)
 
 mutual
   -- what is merged in any nesting are the rows of the cube of all facts
-  pub IsMergeTree-AreRows : (s : Layout) {facts : List Fact} {rows : List Row} → IsMergeTree s facts rows → AreRows s facts rows
+  pub IsMergeTree-AreRows : (s : Layout) {facts : List Fact} {rows : List Row} → IsMergeTree s facts rows
+      → AreRows s facts rows
   IsMergeTree-AreRows s (cube are) = are
   IsMergeTree-AreRows s (merge {parts} {cubes} {facts} {rows} some same trees merged) =
       subst (λ all. AreRows s all rows) (sym same)
-      (AreRowsOver-AreMergedOf s.grouping_sets (length s.dimensions) s.aggregates s.aggregates parts cubes rows some (AreMergeTrees-AllZip s trees) merged)
+      (AreRowsOver-AreMergedOf s.grouping_sets (length s.dimensions) s.aggregates s.aggregates parts cubes rows some
+      (AreMergeTrees-AllZip s trees) merged)
 
   -- so each part's are the rows of its cube
-  pub AreMergeTrees-AllZip : (s : Layout) {parts : List (List Fact)} {cubes : List (List Row)} → AreMergeTrees s parts cubes → AllZip (AreRows s) parts cubes
+  pub AreMergeTrees-AllZip : (s : Layout) {parts : List (List Fact)} {cubes : List (List Row)}
+      → AreMergeTrees s parts cubes → AllZip (AreRows s) parts cubes
   AreMergeTrees-AllZip s none = tt
   AreMergeTrees-AllZip s (more tree trees) = (IsMergeTree-AreRows s tree, AreMergeTrees-AllZip s trees)
 
 -- the last merge gives the rows that are wanted
-pub AreMergeTrees-AreRows : (s : Layout) (parts : List (List Fact)) (cubes : List (List Row)) (rows : List Row) → 1 ≤ length parts → AreMergeTrees (partial_form s) parts cubes
+pub AreMergeTrees-AreRows : (s : Layout) (parts : List (List Fact)) (cubes : List (List Row)) (rows : List Row)
+    → 1 ≤ length parts → AreMergeTrees (partial_form s) parts cubes
     → AreMergedOf (partial_aggregates s.aggregates) s.aggregates cubes rows → AreRows s (joined parts) rows
 AreMergeTrees-AreRows s parts cubes rows some trees merged =
-    AreRowsOver-AreMergedOf s.grouping_sets (length s.dimensions) (partial_aggregates s.aggregates) s.aggregates parts cubes rows some
+    AreRowsOver-AreMergedOf s.grouping_sets (length s.dimensions)
+    (partial_aggregates s.aggregates) s.aggregates parts cubes rows some
     (AreMergeTrees-AllZip (partial_form s) trees) merged
 
 -- two merges in any nesting, of the same facts in any order, give the same rows
-pub IsMergeTree-unique : (s : Layout) (facts others : List Fact) (rows other_rows : List Row) → IsPermutation facts others → IsMergeTree s facts rows → IsMergeTree s others other_rows
+pub IsMergeTree-unique : (s : Layout) (facts others : List Fact) (rows other_rows : List Row)
+    → IsPermutation facts others → IsMergeTree s facts rows → IsMergeTree s others other_rows
     → rows ≡ other_rows
 IsMergeTree-unique s facts others rows other_rows order tree other_tree =
     AreRowsOver-unique s.grouping_sets (length s.dimensions) s.aggregates others rows other_rows
-    (AreRowsOver-IsPermutation s.grouping_sets (length s.dimensions) s.aggregates facts others rows order (IsMergeTree-AreRows s tree))
+    (AreRowsOver-IsPermutation s.grouping_sets (length s.dimensions) s.aggregates facts others rows order
+    (IsMergeTree-AreRows s tree))
     (IsMergeTree-AreRows s other_tree)

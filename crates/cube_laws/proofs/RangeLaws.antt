@@ -1,5 +1,7 @@
 -- The answers over facts that can be counted are in the ranges of their kinds.
-use Rattle.std.proofs.Common.{◌≡◌, ℕ, zero, suc, ◌+◌, ◌*◌, ◌<◌, ◌≤◌, ◌≤ℤ◌, ◌^◌, Bool, ℤ, pos, negsuc, neg_ℤ, ◌+ℤ◌, unsigned_abs, List, [], ◌∷◌, length, get_or, filter, Option, Some, None, IfSome, FitsSigned, sym, ap, ◌∙◌, subst, inl, inr, arith}
+use Rattle.std.proofs.Common.{◌≡◌, ℕ, zero, suc, ◌+◌, ◌*◌, ◌<◌, ◌≤◌, ◌≤ℤ◌, ◌^◌, Bool, ℤ, pos, negsuc, neg_ℤ, ◌+ℤ◌}
+use Rattle.std.proofs.Common.{unsigned_abs, List, [], ◌∷◌, length, get_or, filter, Option, Some, None, IfSome}
+use Rattle.std.proofs.Common.{FitsSigned, sym, ap, ◌∙◌, subst, inl, inr, arith}
 use Prim.Native.Nat.{◌∣◌}
 use Rattle.std.specs.Int.{w64, w128}
 use Rattle.std.specs.List.{AllByRecursion, AllZip, cons_option}
@@ -20,7 +22,8 @@ use Rattle.cube_core.specs.declared.aggregate.Answer.{Answer}
 use Rattle.cube_core.specs.declared.fact.Fact.{Fact}
 use Rattle.cube_core.specs.declared.key.Row.{Row}
 use Rattle.cube_core.proofs.CommonDivisorLaws.{divides-coprime}
-use Rattle.cube_core.proofs.ListLaws.{AllByRecursion-Contains, Contains-AllByRecursion, map-Contains, filter-passed, filter-failed}
+use Rattle.cube_core.proofs.ListLaws.{AllByRecursion-Contains, Contains-AllByRecursion, map-Contains, filter-passed}
+use Rattle.cube_core.proofs.ListLaws.{filter-failed}
 use Rattle.cube_merge.specs.Lawful.{IsCount, IsNumber, IsValue, IsFraction, IsOfKind, IsRowOf}
 use Rattle.cube_laws.specs.Told.{HasSmallValues, AreCountable, CanBePrinted}
 use Rattle.cube_laws.proofs.KeyLaws.{IsTold-is_cell}
@@ -52,24 +55,30 @@ fits_wide : (z : ℤ) → unsigned_abs z < 2 ^ 127 → FitsSigned w128 z
 fits_wide z small = fits_signed_from_abs w128 z small
 
 -- the sum of numbers of 64 bits
-total_of-unsigned_abs : (values : List ℤ) → AllByRecursion (FitsSigned w64) values → unsigned_abs (total_of values) ≤ length values * 2 ^ 63
+total_of-unsigned_abs : (values : List ℤ) → AllByRecursion (FitsSigned w64) values
+    → unsigned_abs (total_of values) ≤ length values * 2 ^ 63
 total_of-unsigned_abs [] small = omega arith
 total_of-unsigned_abs (v ∷ vs) small =
     let first : unsigned_abs v ≤ 2 ^ 63 = fits-unsigned_abs v small.0 in
     let after : unsigned_abs (total_of vs) ≤ length vs * 2 ^ 63 = total_of-unsigned_abs vs small.1 in
-    let sum : unsigned_abs (v +ℤ total_of vs) ≤ unsigned_abs v + unsigned_abs (total_of vs) = unsigned_abs-add v (total_of vs) in
+    let sum : unsigned_abs (v +ℤ total_of vs) ≤ unsigned_abs v + unsigned_abs (total_of vs) =
+    unsigned_abs-add v (total_of vs) in
     omega (arith, first, after, sum)
 
 -- fewer than 2 to the power 64 of them
-total_of-fits : (values : List ℤ) → length values < 2 ^ 64 → AllByRecursion (FitsSigned w64) values → unsigned_abs (total_of values) < 2 ^ 127
+total_of-fits : (values : List ℤ) → length values < 2 ^ 64 → AllByRecursion (FitsSigned w64) values
+    → unsigned_abs (total_of values) < 2 ^ 127
 total_of-fits values few small = let size = total_of-unsigned_abs values small in omega (arith, size, few)
 
 -- ---- fractions
 -- a fraction in lowest terms is no larger than what it is made of
-IsInLowestTerms-size : (total : ℤ) (count : ℕ) (p : ℤ) (q : ℕ) → IsInLowestTerms total count p q → unsigned_abs p * count ≡ unsigned_abs total * q
-IsInLowestTerms-size total count p q h = sym (unsigned_abs-mul p (pos count)) ∙ ap unsigned_abs h.equal ∙ unsigned_abs-mul total (pos q)
+IsInLowestTerms-size : (total : ℤ) (count : ℕ) (p : ℤ) (q : ℕ) → IsInLowestTerms total count p q
+    → unsigned_abs p * count ≡ unsigned_abs total * q
+IsInLowestTerms-size total count p q h =
+    sym (unsigned_abs-mul p (pos count)) ∙ ap unsigned_abs h.equal ∙ unsigned_abs-mul total (pos q)
 
-IsInLowestTerms-count : (total : ℤ) (count : ℕ) (p : ℤ) (q : ℕ) → 0 < count → IsInLowestTerms total count p q → q ≤ count
+IsInLowestTerms-count : (total : ℤ) (count : ℕ) (p : ℤ) (q : ℕ) → 0 < count → IsInLowestTerms total count p q
+    → q ≤ count
 IsInLowestTerms-count total count p q some h =
     le_of_dvd some (divides-coprime q (unsigned_abs p) count (IsGcd-swap (unsigned_abs p) q 1 h.coprime)
     (subst (λ n. q ∣ n) (sym (IsInLowestTerms-size total count p q h)) (dvd-mul_left q (unsigned_abs total))))
@@ -78,23 +87,30 @@ size-le : (a b count q : ℕ) → 0 < count → a ∣ b → a * count ≡ b * q 
 size-le a zero count q some divides size = omega (arith, le-mul_of_pos_right a some, size)
 size-le a (suc b) count q some divides size = le_of_dvd (omega arith) divides
 
-IsInLowestTerms-total : (total : ℤ) (count : ℕ) (p : ℤ) (q : ℕ) → 0 < count → IsInLowestTerms total count p q → unsigned_abs p ≤ unsigned_abs total
+IsInLowestTerms-total : (total : ℤ) (count : ℕ) (p : ℤ) (q : ℕ) → 0 < count → IsInLowestTerms total count p q
+    → unsigned_abs p ≤ unsigned_abs total
 IsInLowestTerms-total total count p q some h =
     let size = IsInLowestTerms-size total count p q h in
     size-le (unsigned_abs p) (unsigned_abs total) count q some
     (divides-coprime (unsigned_abs p) q (unsigned_abs total) h.coprime
-    (subst (λ n. unsigned_abs p ∣ n) (size ∙ mul_comm (unsigned_abs total) q) (dvd-mul_right (unsigned_abs p) count))) size
+    (subst (λ n. unsigned_abs p ∣ n) (size ∙ mul_comm (unsigned_abs total) q) (dvd-mul_right (unsigned_abs p) count)))
+    size
 
 -- ---- answers
-IsSum-IsNumber : (values : List ℤ) (a : Answer) → length values < 2 ^ 64 → AllByRecursion (FitsSigned w64) values → IsSum values a → IsNumber a
+IsSum-IsNumber : (values : List ℤ) (a : Answer) → length values < 2 ^ 64 → AllByRecursion (FitsSigned w64) values
+    → IsSum values a → IsNumber a
 IsSum-IsNumber [] a few small h = subst IsNumber (sym h) tt
-IsSum-IsNumber (v ∷ vs) a few small h = subst IsNumber (sym h) (fits_wide (total_of (v ∷ vs)) (total_of-fits (v ∷ vs) few small))
+IsSum-IsNumber (v ∷ vs) a few small h =
+    subst IsNumber (sym h) (fits_wide (total_of (v ∷ vs)) (total_of-fits (v ∷ vs) few small))
 
-IsBest-IsValue : (R : ℤ → ℤ → Type 0) (values : List ℤ) (a : Answer) → AllByRecursion (FitsSigned w64) values → IsBest R values a → IsValue a
+IsBest-IsValue : (R : ℤ → ℤ → Type 0) (values : List ℤ) (a : Answer) → AllByRecursion (FitsSigned w64) values
+    → IsBest R values a → IsValue a
 IsBest-IsValue R [] a small h = subst IsValue (sym h) tt
-IsBest-IsValue R (v ∷ vs) a small h = subst IsValue (sym h.1) (AllByRecursion-Contains (FitsSigned w64) (v ∷ vs) h.0 small h.2)
+IsBest-IsValue R (v ∷ vs) a small h =
+    subst IsValue (sym h.1) (AllByRecursion-Contains (FitsSigned w64) (v ∷ vs) h.0 small h.2)
 
-IsMean-IsFraction : (values : List ℤ) (a : Answer) → length values < 2 ^ 64 → AllByRecursion (FitsSigned w64) values → IsMean values a → IsFraction a
+IsMean-IsFraction : (values : List ℤ) (a : Answer) → length values < 2 ^ 64 → AllByRecursion (FitsSigned w64) values
+    → IsMean values a → IsFraction a
 IsMean-IsFraction [] a few small h = subst IsFraction (sym h) tt
 IsMean-IsFraction (v ∷ vs) a few small h =
     let total = total_of-fits (v ∷ vs) few small in
@@ -116,34 +132,52 @@ length-cons_option-le (Some x) xs = omega arith
 
 length-values_of-le : (m : ℕ) (facts : List Fact) → length (values_of m facts) ≤ length facts
 length-values_of-le m [] = omega arith
-length-values_of-le m (fact ∷ facts) = omega (arith, length-cons_option-le (value_of m fact) (values_of m facts), length-values_of-le m facts)
+length-values_of-le m (fact ∷ facts) =
+    omega (arith, length-cons_option-le (value_of m fact) (values_of m facts), length-values_of-le m facts)
 
-pub AllByRecursion-cons_option : {X : Type 0} (P : X → Type 0) (o : Option X) (xs : List X) → IfSome o P → AllByRecursion P xs → AllByRecursion P (cons_option o xs)
+pub AllByRecursion-cons_option : {X : Type 0} (P : X → Type 0) (o : Option X) (xs : List X) → IfSome o P
+    → AllByRecursion P xs → AllByRecursion P (cons_option o xs)
 AllByRecursion-cons_option P None xs one all = all
 AllByRecursion-cons_option P (Some x) xs one all = (one, all)
 
 -- the value at a place, or null past the end
-get_or-small : (values : List (Option ℤ)) (m : ℕ) → AllByRecursion (λ value. IfSome value (FitsSigned w64)) values → IfSome (get_or values m None) (FitsSigned w64)
+get_or-small : (values : List (Option ℤ)) (m : ℕ) → AllByRecursion (λ value. IfSome value (FitsSigned w64)) values
+    → IfSome (get_or values m None) (FitsSigned w64)
 get_or-small [] m small = tt
 get_or-small (value ∷ values) zero small = small.0
 get_or-small (value ∷ values) (suc m) small = get_or-small values m small.1
 
-values_of-small : (m : ℕ) (facts : List Fact) → AllByRecursion HasSmallValues facts → AllByRecursion (FitsSigned w64) (values_of m facts)
+values_of-small : (m : ℕ) (facts : List Fact) → AllByRecursion HasSmallValues facts
+    → AllByRecursion (FitsSigned w64) (values_of m facts)
 values_of-small m [] small = tt
 values_of-small m (fact ∷ facts) small =
-    AllByRecursion-cons_option (FitsSigned w64) (value_of m fact) (values_of m facts) (get_or-small fact.measures m small.0) (values_of-small m facts small.1)
+    AllByRecursion-cons_option (FitsSigned w64) (value_of m fact) (values_of m facts)
+    (get_or-small fact.measures m small.0) (values_of-small m facts small.1)
 
-IsAnswer-IsOfKind : (group : List Fact) (agg : Agg) (a : Answer) → AreCountable group → IsAnswer group agg a → IsOfKind agg a
+IsAnswer-IsOfKind : (group : List Fact) (agg : Agg) (a : Answer) → AreCountable group → IsAnswer group agg a
+    → IsOfKind agg a
 IsAnswer-IsOfKind group CountAll a countable h = subst IsCount (sym h) countable.few
-IsAnswer-IsOfKind group (Count m) a countable h = subst IsCount (sym h) (omega (arith, length-values_of-le m group, countable.few))
+IsAnswer-IsOfKind group (Count m) a countable h =
+    subst IsCount (sym h) (omega (arith, length-values_of-le m group, countable.few))
 IsAnswer-IsOfKind group (Sum m) a countable h =
-    IsSum-IsNumber (values_of m group) a (omega (arith, length-values_of-le m group, countable.few)) (values_of-small m group countable.small) h
-IsAnswer-IsOfKind group (Min m) a countable h = IsBest-IsValue (λ m x. m ≤ℤ x) (values_of m group) a (values_of-small m group countable.small) h
-IsAnswer-IsOfKind group (Max m) a countable h = IsBest-IsValue (λ m x. x ≤ℤ m) (values_of m group) a (values_of-small m group countable.small) h
+    IsSum-IsNumber (values_of m group) a (omega (
+      arith,
+      length-values_of-le m group,
+      countable.few,
+    )) (values_of-small m group countable.small) h
+IsAnswer-IsOfKind group (Min m) a countable h =
+    IsBest-IsValue (λ m x. m ≤ℤ x) (values_of m group) a (values_of-small m group countable.small) h
+IsAnswer-IsOfKind group (Max m) a countable h =
+    IsBest-IsValue (λ m x. x ≤ℤ m) (values_of m group) a (values_of-small m group countable.small) h
 IsAnswer-IsOfKind group (Avg m) a countable h =
-    IsMean-IsFraction (values_of m group) a (omega (arith, length-values_of-le m group, countable.few)) (values_of-small m group countable.small) h
+    IsMean-IsFraction (values_of m group) a (omega (
+      arith,
+      length-values_of-le m group,
+      countable.few,
+    )) (values_of-small m group countable.small) h
 
-AreAnswers-AreOfKind : (group : List Fact) (aggregates : List Agg) (answers : List Answer) → AreCountable group → AreAnswers group aggregates answers → AllZip IsOfKind aggregates answers
+AreAnswers-AreOfKind : (group : List Fact) (aggregates : List Agg) (answers : List Answer) → AreCountable group
+    → AreAnswers group aggregates answers → AllZip IsOfKind aggregates answers
 AreAnswers-AreOfKind group [] [] countable h = h
 AreAnswers-AreOfKind group [] (a ∷ answers) countable h = h
 AreAnswers-AreOfKind group (agg ∷ aggregates) [] countable h = h
@@ -154,17 +188,21 @@ AreAnswers-AreOfKind group (agg ∷ aggregates) (a ∷ answers) countable h =
 group_of-AreCountable : (facts : List Fact) (row : Row) → AreCountable facts → AreCountable (group_of row.key facts)
 group_of-AreCountable facts row countable = record {
   few = omega (arith, length-filter-le (covers row.key) facts, countable.few);
-  small = recursion_from_All HasSmallValues (group_of row.key facts) (All-filter (covers row.key) HasSmallValues facts (All-from_recursion HasSmallValues facts countable.small));
+  small = recursion_from_All HasSmallValues (group_of row.key facts)
+      (All-filter (covers row.key) HasSmallValues facts (All-from_recursion HasSmallValues facts countable.small));
 }
 
 -- the rows of a cube are rows of its schema
-pub AreRows-IsRowOf : (s : Layout) (facts : List Fact) (rows : List Row) → CanBePrinted s facts → AreRows s facts rows → AllByRecursion (IsRowOf s) rows
+pub AreRows-IsRowOf : (s : Layout) (facts : List Fact) (rows : List Row) → CanBePrinted s facts → AreRows s facts rows
+    → AllByRecursion (IsRowOf s) rows
 AreRows-IsRowOf s facts rows printable are =
     Contains-AllByRecursion (IsRowOf s) rows (λ row among.
-    let told = IsTold-is_cell s s.grouping_sets facts row.key printable.fit ((are.cells row.key).0 (map-Contains key_of rows row among)) in
+    let told = IsTold-is_cell s s.grouping_sets facts row.key printable.fit
+    ((are.cells row.key).0 (map-Contains key_of rows row among)) in
     record {
       coords = told.1;
       told = told.0;
-      answers = AreAnswers-AreOfKind (group_of row.key facts) s.aggregates row.answers (group_of-AreCountable facts row printable.countable)
+      answers = AreAnswers-AreOfKind (group_of row.key facts) s.aggregates row.answers
+          (group_of-AreCountable facts row printable.countable)
           (AllByRecursion-Contains (HasAnswers s.aggregates facts) rows row are.answers among);
     })

@@ -1,5 +1,6 @@
 -- The answers of groups, against the answer of the groups joined: of sums the sum, of least values the least.
-use Rattle.std.proofs.Common.{◌≡◌, ℤ, ◌+ℤ◌, List, [], ◌∷◌, ◌++◌, length, flat_map, Contains, ◌↔◌, ◌⊎◌, refl, sym, ap, ◌∙◌, subst, inl, inr, arith, length-append}
+use Rattle.std.proofs.Common.{◌≡◌, ℤ, ◌+ℤ◌, List, [], ◌∷◌, ◌++◌, length, flat_map, Contains, ◌↔◌, ◌⊎◌, refl, sym, ap}
+use Rattle.std.proofs.Common.{◌∙◌, subst, inl, inr, arith, length-append}
 use Rattle.std.specs.List.{AllByRecursion, cons_option, filter_map}
 use Rattle.std.proofs.lemmas.Int.{ints}
 use Rattle.std.proofs.lemmas.List.Elements.{Contains-append_left, Contains-append_right, Contains-append_cases}
@@ -8,12 +9,15 @@ use Rattle.cube_core.specs.Group.{total_of}
 use Rattle.cube_core.specs.Merged.{number_in}
 use Rattle.cube_core.specs.declared.aggregate.Answer.{Answer}
 use Rattle.cube_core.specs.declared.aggregate.Answer.TheVariants as answer
-use Rattle.cube_core.proofs.ListLaws.{AllByRecursion-Contains, Contains-AllByRecursion, Contains-cases, Contains-head, Contains-nil, Contains-tail}
+use Rattle.cube_core.proofs.ListLaws.{AllByRecursion-Contains, Contains-AllByRecursion, Contains-cases, Contains-head}
+use Rattle.cube_core.proofs.ListLaws.{Contains-nil, Contains-tail}
 
 -- a sum of joined lists
 total_of-append : (xs ys : List ℤ) → total_of (xs ++ ys) ≡ total_of xs +ℤ total_of ys
 total_of-append [] ys = omega (arith, ints)
-total_of-append (x ∷ xs) ys = let rest : total_of (xs ++ ys) ≡ total_of xs +ℤ total_of ys = total_of-append xs ys in omega (arith, ints)
+total_of-append (x ∷ xs) ys =
+    let rest : total_of (xs ++ ys) ≡ total_of xs +ℤ total_of ys = total_of-append xs ys in
+    omega (arith, ints)
 
 -- an answer to values: null where there are none, else a number
 unfoldable pub Says : List ℤ → Answer → Type 0
@@ -78,7 +82,8 @@ module _ (R : ℤ → ℤ → Type 0) where
   IsBest-as_good one (n ∷ ns) [] a both within found h = absurd (omega (arith, both.1 refl))
   IsBest-as_good one (n ∷ ns) (v ∷ vs) a both within found h =
       let good = found h.0 h.2 in
-      let below : (x : ℤ) → Contains (v ∷ vs) x → R h.0 x = λ x among. AllByRecursion-Contains (R h.0) (v ∷ vs) x h.3 among in
+      let below : (x : ℤ) → Contains (v ∷ vs) x → R h.0 x =
+      λ x among. AllByRecursion-Contains (R h.0) (v ∷ vs) x h.3 among in
       let same : h.0 ≡ good.0 = one h.0 good.0 (below good.0 (within good.0 good.1)) good.2 in (
         h.0,
         h.1,
@@ -157,33 +162,37 @@ module _ {X : Type 0} (values_under : X → List ℤ) (answer_of : X → Answer)
         AllByRecursion (λ row. IsBest R (values_under row) (answer_of row)) rows →
         Contains (numbers_among answer_of rows) n → Contains (flat_map values_under rows) n
     numbers_among-values [] n h among = among
-    numbers_among-values (row ∷ rows) n h among = elim (number_in-cases (answer_of row) (numbers_among answer_of rows) n among) [
-      | inl here ↦
-          Contains-append_left (values_under row) (flat_map values_under rows) n
-          (IsBest-Whole R (values_under row) (answer_of row) n h.0 here)
-      | inr after ↦
-          Contains-append_right (values_under row) (flat_map values_under rows) n (numbers_among-values rows n h.1 after)
-    ]
+    numbers_among-values (row ∷ rows) n h among =
+        elim (number_in-cases (answer_of row) (numbers_among answer_of rows) n among) [
+          | inl here ↦
+              Contains-append_left (values_under row) (flat_map values_under rows) n
+              (IsBest-Whole R (values_under row) (answer_of row) n h.0 here)
+          | inr after ↦
+              Contains-append_right (values_under row) (flat_map values_under rows) n
+              (numbers_among-values rows n h.1 after)
+        ]
 
     -- for each value there is a number as good
     numbers_among-as_good : (rows : List X) (x : ℤ) →
         AllByRecursion (λ row. IsBest R (values_under row) (answer_of row)) rows →
         Contains (flat_map values_under rows) x → (n : ℤ) × Contains (numbers_among answer_of rows) n × R n x
     numbers_among-as_good [] x h among = absurd (Contains-nil x among)
-    numbers_among-as_good (row ∷ rows) x h among = elim (Contains-append_cases (values_under row) (flat_map values_under rows) x among) [
-      | inl here ↦
-          let found = IsBest-Contains R (values_under row) (answer_of row) x h.0 here in
-          (found.0, numbers_among-Contains row rows found.0 found.1, found.2)
-      | inr after ↦
-          let found = numbers_among-as_good rows x h.1 after in
-          (found.0, number_in-Contains (answer_of row) (numbers_among answer_of rows) found.0 found.1, found.2)
-    ]
+    numbers_among-as_good (row ∷ rows) x h among =
+        elim (Contains-append_cases (values_under row) (flat_map values_under rows) x among) [
+          | inl here ↦
+              let found = IsBest-Contains R (values_under row) (answer_of row) x h.0 here in
+              (found.0, numbers_among-Contains row rows found.0 found.1, found.2)
+          | inr after ↦
+              let found = numbers_among-as_good rows x h.1 after in
+              (found.0, number_in-Contains (answer_of row) (numbers_among answer_of rows) found.0 found.1, found.2)
+        ]
 
     -- each answer says whether there are values
     IsBest-all_Says : (rows : List X) → AllByRecursion (λ row. IsBest R (values_under row) (answer_of row)) rows →
         AllByRecursion (λ row. Says (values_under row) (answer_of row)) rows
     IsBest-all_Says [] each = each
-    IsBest-all_Says (row ∷ rows) each = (IsBest-Says R (values_under row) (answer_of row) each.0, IsBest-all_Says rows each.1)
+    IsBest-all_Says (row ∷ rows) each =
+        (IsBest-Says R (values_under row) (answer_of row) each.0, IsBest-all_Says rows each.1)
 
     -- the best of the best is the best of the values, where no two values are as good as each other
     pub IsBest-numbers_among : ((m n : ℤ) → R m n → R n m → m ≡ n) → (rows : List X) (a : Answer) →

@@ -1,5 +1,6 @@
 -- The answer of a cell is the same aggregate of the answers one step below it, for COUNT, SUM, MIN and MAX.
-use Rattle.std.proofs.Common.{◌≡◌, ℕ, ◌≤ℤ◌, ℤ, true, List, [], ◌∷◌, ◌++◌, length, map, flat_map, sum_by, slice_get, Contains, Some, ◌↔◌, refl, sym, ap, ◌∙◌, subst, arith}
+use Rattle.std.proofs.Common.{◌≡◌, ℕ, ◌≤ℤ◌, ℤ, true, List, [], ◌∷◌, ◌++◌, length, map, flat_map, sum_by, slice_get}
+use Rattle.std.proofs.Common.{Contains, Some, ◌↔◌, refl, sym, ap, ◌∙◌, subst, arith}
 use Rattle.std.specs.List.{AllByRecursion}
 use Rattle.std.proofs.lemmas.Int.{ints}
 use Rattle.std.proofs.lemmas.List.Concat.{length-flat_map}
@@ -18,16 +19,19 @@ use Rattle.cube_core.specs.declared.aggregate.Answer.{Answer}
 use Rattle.cube_core.specs.declared.aggregate.Answer.TheVariants as answer
 use Rattle.cube_core.specs.declared.fact.Fact.{Fact}
 use Rattle.cube_core.specs.declared.key.Row.{Row}
-use Rattle.cube_laws.proofs.RowOrderLaws.{Reordered, Reordered-sym, length-Reordered, values_of-Reordered, IsSum-Reordered, IsBest-Reordered}
+use Rattle.cube_laws.proofs.RowOrderLaws.{Reordered, Reordered-sym, length-Reordered, values_of-Reordered}
+use Rattle.cube_laws.proofs.RowOrderLaws.{IsSum-Reordered, IsBest-Reordered}
 use Rattle.cube_laws.proofs.CountLaws.{AreRows-answer_at}
 use Rattle.cube_laws.proofs.GroupCountLaws.{joined_groups}
-use Rattle.cube_laws.proofs.RollupBestLaws.{Says, IsSum-Says, IsBest-Says, numbers_among-none, numbers_among-total_of, IsBest-numbers_among, IsSum-total_of, Says-Null, Says-all_Null}
+use Rattle.cube_laws.proofs.RollupBestLaws.{Says, IsSum-Says, IsBest-Says, numbers_among-none, numbers_among-total_of}
+use Rattle.cube_laws.proofs.RollupBestLaws.{IsBest-numbers_among, IsSum-total_of, Says-Null, Says-all_Null}
 use Rattle.cube_laws.proofs.RollupKeyLaws.{joined_groups-rows_below}
 use Rattle.cube_core.proofs.ListLaws.{Contains-AllByRecursion, Contains-filter, sum_by-map, sum_by-same}
 
 -- the values of joined groups are the groups' values, joined
 values_of-joined_groups : (m : ℕ) (rows : List Row) (facts : List Fact) →
-    values_of m (joined_groups (map key_of rows) facts) ≡ flat_map (λ (row : Row). values_of m (group_of row.key facts)) rows
+    values_of m (joined_groups (map key_of rows) facts)
+    ≡ flat_map (λ (row : Row). values_of m (group_of row.key facts)) rows
 values_of-joined_groups m [] facts = refl
 values_of-joined_groups m (row ∷ rows) facts =
     filter_map-append (value_of m) (group_of row.key facts) (joined_groups (map key_of rows) facts)
@@ -67,19 +71,23 @@ module _ (s : Layout) (facts : List Fact) (rows : List Row) (row : Row) (dimensi
   rows-answer_at : (aggregate : Agg) → slice_get s.aggregates place ≡ Some aggregate → (other : Row) →
       Contains rows other →
       IsAnswer (group_of other.key facts) aggregate (answer_at place other)
-  rows-answer_at aggregate at_place other among = AreRows-answer_at s facts rows is.are_rows other among place aggregate at_place
+  rows-answer_at aggregate at_place other among =
+      AreRows-answer_at s facts rows is.are_rows other among place aggregate at_place
 
   -- what holds of each row holds of each one below
   AllByRecursion-under : (P : Row → Type 0) → ((other : Row) → Contains rows other → P other) → AllByRecursion P under
   AllByRecursion-under P h = Contains-AllByRecursion P under
-      (λ below among. h below (Contains-filter (λ (other : Row). drills_down dimension row.key other.key) rows below among).0)
+      (λ below among.
+      h below (Contains-filter (λ (other : Row). drills_down dimension row.key other.key) rows below among).0)
 
   -- the facts of the group, and its values, are those of the groups below
   group_of-under : Reordered (group_of row.key facts) (joined_groups (map key_of under) facts)
-  group_of-under = Reordered-sym (joined_groups-rows_below s facts rows is.are_rows row.key dimension is.is_all is.is_kept)
+  group_of-under =
+      Reordered-sym (joined_groups-rows_below s facts rows is.are_rows row.key dimension is.is_all is.is_kept)
 
   values_of-under : (m : ℕ) → Reordered (values_in m row) (flat_map (values_in m) under)
-  values_of-under m = subst (Reordered (values_in m row)) (values_of-joined_groups m under facts) (values_of-Reordered m group_of-under)
+  values_of-under m =
+      subst (Reordered (values_in m row)) (values_of-joined_groups m under facts) (values_of-Reordered m group_of-under)
 
   -- a count of facts rolls up
   pub CountAll-under : slice_get s.aggregates place ≡ Some agg.CountAll →
@@ -111,9 +119,11 @@ module _ (s : Layout) (facts : List Fact) (rows : List Row) (row : Row) (dimensi
       IsSum-total_of (numbers_at place under) (flat_map (values_in m) under) (answer_at place row)
       (numbers_among-none (values_in m) (answer_at place) under
       (AllByRecursion-under (λ below. Says (values_in m below) (answer_at place below))
-      (λ below among. IsSum-Says (values_in m below) (answer_at place below) (rows-answer_at (agg.Sum m) at_place below among))))
+      (λ below among.
+      IsSum-Says (values_in m below) (answer_at place below) (rows-answer_at (agg.Sum m) at_place below among))))
       (numbers_among-total_of (values_in m) (answer_at place) under
-      (AllByRecursion-under (λ below. IsSum (values_in m below) (answer_at place below)) (rows-answer_at (agg.Sum m) at_place)))
+      (AllByRecursion-under (λ below. IsSum (values_in m below) (answer_at place below))
+      (rows-answer_at (agg.Sum m) at_place)))
       (IsSum-Reordered (values_in m row) (flat_map (values_in m) under) (answer_at place row) (values_of-under m)
       (rows-answer_at (agg.Sum m) at_place row is.row_of_cube))
 
@@ -124,7 +134,8 @@ module _ (s : Layout) (facts : List Fact) (rows : List Row) (row : Row) (dimensi
   IsBest-under IsAsGood one m best =
       IsBest-numbers_among (values_in m) (answer_at place) IsAsGood one under (answer_at place row)
       (AllByRecursion-under (λ below. IsBest IsAsGood (values_in m below) (answer_at place below)) best)
-      (IsBest-Reordered IsAsGood (values_in m row) (flat_map (values_in m) under) (answer_at place row) (values_of-under m)
+      (IsBest-Reordered IsAsGood (values_in m row) (flat_map (values_in m) under) (answer_at place row)
+      (values_of-under m)
       (best row is.row_of_cube))
 
   -- so do a least value and a greatest
@@ -145,7 +156,8 @@ module _ (s : Layout) (facts : List Fact) (rows : List Row) (row : Row) (dimensi
   Null-under aggregate numbers at_place =
       let m = measure_in aggregate in
       let says : (other : Row) → Contains rows other → Says (values_in m other) (answer_at place other)
-      = λ other among. IsAnswer-Says (group_of other.key facts) aggregate (answer_at place other) numbers (rows-answer_at aggregate at_place other among) in
+      = λ other among. IsAnswer-Says (group_of other.key facts) aggregate (answer_at place other) numbers
+      (rows-answer_at aggregate at_place other among) in
       let own = Says-Null (values_in m row) (answer_at place row) (says row is.row_of_cube) in
       let each = Says-all_Null (values_in m) (answer_at place) under
       (AllByRecursion-under (λ below. Says (values_in m below) (answer_at place below)) says) in

@@ -1,9 +1,13 @@
 -- Facts in another order have the same groups, up to order, and so the same answers and rows.
-use Rattle.std.proofs.Common.{◌≡◌, ℕ, zero, suc, ◌<◌, ◌≤ℤ◌, ℤ, ◌+ℤ◌, Bool, true, false, cond, List, [], ◌∷◌, length, map, get_or, set, filter, filter_map, Option, Some, None, Contains, IsPermutation, IsTrue, ◌↔◌, ◌||◌, ◌&&◌, refl, ap, ◌∙◌, subst, subst₂, arith, swap}
+use Rattle.std.proofs.Common.{◌≡◌, ℕ, zero, suc, ◌<◌, ◌≤ℤ◌, ℤ, ◌+ℤ◌, Bool, true, false, cond, List, [], ◌∷◌, length}
+use Rattle.std.proofs.Common.{map, get_or, set, filter, filter_map, Option, Some, None, Contains, IsPermutation, IsTrue}
+use Rattle.std.proofs.Common.{◌↔◌, ◌||◌, ◌&&◌, refl, ap, ◌∙◌, subst, subst₂, arith, swap}
 use Rattle.std.specs.List.{AllByRecursion, cons_option}
 use Rattle.std.proofs.lemmas.Int.{ints}
 use Rattle.std.proofs.lemmas.List.Elements.{All-from_recursion, recursion_from_All}
-use Rattle.std.proofs.lemmas.List.Sorted.{IsPermutation-keeps, IsPermutation-refl, IsPermutation-cons, IsPermutation-trans, IsPermutation-middle, All-permutation, Contains-permutation, list_any-IsPermutation}
+use Rattle.std.proofs.lemmas.List.Sorted.{IsPermutation-keeps, IsPermutation-refl, IsPermutation-cons}
+use Rattle.std.proofs.lemmas.List.Sorted.{IsPermutation-trans, IsPermutation-middle, All-permutation}
+use Rattle.std.proofs.lemmas.List.Sorted.{Contains-permutation, list_any-IsPermutation}
 use Rattle.cube_core.specs.Layout.{Layout}
 use Rattle.cube_core.specs.Answer.{IsSum, IsBest, IsMean, IsAnswer, AreAnswers}
 use Rattle.cube_core.specs.Covers.{covers}
@@ -62,14 +66,16 @@ Reordered-sym (both r t) = both (Reordered-sym t) (Reordered-sym r)
 -- a permutation is a list in another order, by such steps
 pub IsPermutation-Reordered : {X : Type 0} (xs ys : List X) → IsPermutation xs ys → Reordered xs ys
 IsPermutation-Reordered xs ys h =
-    IsPermutation-keeps xs (Reordered xs) (Reordered-refl xs) (λ l i j below_i below_j so_far. both so_far (Reordered-swap l i j below_i below_j)) ys h
+    IsPermutation-keeps xs (Reordered xs) (Reordered-refl xs)
+    (λ l i j below_i below_j so_far. both so_far (Reordered-swap l i j below_i below_j)) ys h
 
 -- and such steps make a permutation
 pub Reordered-IsPermutation : {X : Type 0} {xs ys : List X} → Reordered xs ys → IsPermutation xs ys
 Reordered-IsPermutation none = IsPermutation-refl []
 Reordered-IsPermutation (next {x} {xs} {ys} r) = IsPermutation-cons x xs ys (Reordered-IsPermutation r)
 Reordered-IsPermutation (exchange {x} {y} {xs}) = IsPermutation-middle (x ∷ []) y xs
-Reordered-IsPermutation (both {xs} {ys} {zs} r t) = IsPermutation-trans xs ys zs (Reordered-IsPermutation r) (Reordered-IsPermutation t)
+Reordered-IsPermutation (both {xs} {ys} {zs} r t) =
+    IsPermutation-trans xs ys zs (Reordered-IsPermutation r) (Reordered-IsPermutation t)
 
 -- an element that is kept or left out in both lists
 Reordered-cond : {X : Type 0} (b : Bool) (x : X) (xs ys : List X) → Reordered xs ys →
@@ -78,7 +84,8 @@ Reordered-cond true x xs ys r = next r
 Reordered-cond false x xs ys r = r
 
 Reordered-cond_both : {X : Type 0} (b c : Bool) (x y : X) (xs : List X) →
-    Reordered (cond b (x ∷ cond c (y ∷ xs) xs) (cond c (y ∷ xs) xs)) (cond c (y ∷ cond b (x ∷ xs) xs) (cond b (x ∷ xs) xs))
+    Reordered (cond b (x ∷ cond c (y ∷ xs) xs) (cond c (y ∷ xs) xs))
+    (cond c (y ∷ cond b (x ∷ xs) xs) (cond b (x ∷ xs) xs))
 Reordered-cond_both true true x y xs = exchange
 Reordered-cond_both true false x y xs = Reordered-refl (x ∷ xs)
 Reordered-cond_both false true x y xs = Reordered-refl (y ∷ xs)
@@ -109,7 +116,8 @@ Reordered-cons_option_both (Some x) (Some y) xs = exchange
 pub filter_map-Reordered : {X Y : Type 0} (h : X → Option Y) {xs ys : List X} → Reordered xs ys →
     Reordered (filter_map h xs) (filter_map h ys)
 filter_map-Reordered h none = none
-filter_map-Reordered h (next {x} {xs} {ys} r) = Reordered-cons_option (h x) (filter_map h xs) (filter_map h ys) (filter_map-Reordered h r)
+filter_map-Reordered h (next {x} {xs} {ys} r) =
+    Reordered-cons_option (h x) (filter_map h xs) (filter_map h ys) (filter_map-Reordered h r)
 filter_map-Reordered h (exchange {x} {y} {xs}) = Reordered-cons_option_both (h x) (h y) (filter_map h xs)
 filter_map-Reordered h (both r t) = both (filter_map-Reordered h r) (filter_map-Reordered h t)
 
@@ -139,9 +147,11 @@ values_of-Reordered m r = filter_map-Reordered (value_of m) r
 -- what is known of each element
 AllByRecursion-Reordered : {X : Type 0} (P : X → Type 0) (xs ys : List X) → Reordered xs ys → AllByRecursion P xs →
     AllByRecursion P ys
-AllByRecursion-Reordered P xs ys r h = recursion_from_All P ys (All-permutation P xs ys (Reordered-IsPermutation r) (All-from_recursion P xs h))
+AllByRecursion-Reordered P xs ys r h =
+    recursion_from_All P ys (All-permutation P xs ys (Reordered-IsPermutation r) (All-from_recursion P xs h))
 
-pub IsSum-Reordered : (values values' : List ℤ) (a : Answer) → Reordered values values' → IsSum values a → IsSum values' a
+pub IsSum-Reordered : (values values' : List ℤ) (a : Answer) → Reordered values values' → IsSum values a
+    → IsSum values' a
 IsSum-Reordered [] [] a r h = h
 IsSum-Reordered [] (w ∷ ws) a r h = absurd (omega (arith, length-Reordered r))
 IsSum-Reordered (v ∷ vs) [] a r h = absurd (omega (arith, length-Reordered r))
@@ -159,24 +169,34 @@ IsBest-Reordered IsAsGood (v ∷ vs) (w ∷ ws) a r h = (
   AllByRecursion-Reordered (IsAsGood h.0) (v ∷ vs) (w ∷ ws) r h.3,
 )
 
-IsMean-Reordered : (values values' : List ℤ) (a : Answer) → Reordered values values' → IsMean values a → IsMean values' a
+IsMean-Reordered : (values values' : List ℤ) (a : Answer) → Reordered values values' → IsMean values a
+    → IsMean values' a
 IsMean-Reordered [] [] a r h = h
 IsMean-Reordered [] (w ∷ ws) a r h = absurd (omega (arith, length-Reordered r))
 IsMean-Reordered (v ∷ vs) [] a r h = absurd (omega (arith, length-Reordered r))
-IsMean-Reordered (v ∷ vs) (w ∷ ws) a r h =
-    (h.0, h.1, h.2, subst₂ (λ total count. IsInLowestTerms total count h.0 h.1) (total_of-Reordered r) (length-Reordered r) h.3)
+IsMean-Reordered (v ∷ vs) (w ∷ ws) a r h = (
+  h.0,
+  h.1,
+  h.2,
+  subst₂ (λ total count. IsInLowestTerms total count h.0 h.1) (total_of-Reordered r) (length-Reordered r) h.3,
+)
 
 -- an answer over a group is one over the group in another order
 IsAnswer-Reordered : (group group' : List Fact) (aggregate : Agg) (a : Answer) → Reordered group group' →
     IsAnswer group aggregate a → IsAnswer group' aggregate a
 IsAnswer-Reordered group group' agg.CountAll a r h = h ∙ ap answer.Count (length-Reordered r)
 IsAnswer-Reordered group group' (agg.Count m) a r h = h ∙ ap answer.Count (length-Reordered (values_of-Reordered m r))
-IsAnswer-Reordered group group' (agg.Sum m) a r h = IsSum-Reordered (values_of m group) (values_of m group') a (values_of-Reordered m r) h
-IsAnswer-Reordered group group' (agg.Min m) a r h = IsBest-Reordered (λ m x. m ≤ℤ x) (values_of m group) (values_of m group') a (values_of-Reordered m r) h
-IsAnswer-Reordered group group' (agg.Max m) a r h = IsBest-Reordered (λ m x. x ≤ℤ m) (values_of m group) (values_of m group') a (values_of-Reordered m r) h
-IsAnswer-Reordered group group' (agg.Avg m) a r h = IsMean-Reordered (values_of m group) (values_of m group') a (values_of-Reordered m r) h
+IsAnswer-Reordered group group' (agg.Sum m) a r h =
+    IsSum-Reordered (values_of m group) (values_of m group') a (values_of-Reordered m r) h
+IsAnswer-Reordered group group' (agg.Min m) a r h =
+    IsBest-Reordered (λ m x. m ≤ℤ x) (values_of m group) (values_of m group') a (values_of-Reordered m r) h
+IsAnswer-Reordered group group' (agg.Max m) a r h =
+    IsBest-Reordered (λ m x. x ≤ℤ m) (values_of m group) (values_of m group') a (values_of-Reordered m r) h
+IsAnswer-Reordered group group' (agg.Avg m) a r h =
+    IsMean-Reordered (values_of m group) (values_of m group') a (values_of-Reordered m r) h
 
-AreAnswers-Reordered : (group group' : List Fact) (aggregates : List Agg) (answers : List Answer) → Reordered group group' →
+AreAnswers-Reordered : (group group' : List Fact) (aggregates : List Agg) (answers : List Answer)
+    → Reordered group group' →
     AreAnswers group aggregates answers → AreAnswers group' aggregates answers
 AreAnswers-Reordered group group' [] [] r h = h
 AreAnswers-Reordered group group' [] (a ∷ answers) r h = h
@@ -188,23 +208,28 @@ HasAnswers-Reordered : (aggregates : List Agg) (facts facts' : List Fact) (rows 
     AllByRecursion (HasAnswers aggregates facts) rows → AllByRecursion (HasAnswers aggregates facts') rows
 HasAnswers-Reordered aggregates facts facts' [] r h = h
 HasAnswers-Reordered aggregates facts facts' (row ∷ rows) r h = (
-  AreAnswers-Reordered (group_of row.key facts) (group_of row.key facts') aggregates row.answers (group_of-Reordered row.key r) h.0,
+  AreAnswers-Reordered (group_of row.key facts) (group_of row.key facts') aggregates row.answers
+      (group_of-Reordered row.key r) h.0,
   HasAnswers-Reordered aggregates facts facts' rows r h.1,
 )
 
 -- the same cells
-is_cell-IsPermutation : (sets : List ℕ) (dimensions : ℕ) (facts facts' : List Fact) (key : Key) → IsPermutation facts facts' →
+is_cell-IsPermutation : (sets : List ℕ) (dimensions : ℕ) (facts facts' : List Fact) (key : Key)
+    → IsPermutation facts facts' →
     is_cell sets dimensions facts key ≡ is_cell sets dimensions facts' key
 is_cell-IsPermutation sets dimensions facts facts' key h =
-    ap (λ b. is_among (mask_of key) sets && (is_total dimensions key || b)) (list_any-IsPermutation (covers key) facts facts' h)
+    ap (λ b. is_among (mask_of key) sets && (is_total dimensions key || b))
+    (list_any-IsPermutation (covers key) facts facts' h)
 
 -- the rows over facts are those over the facts in another order
-pub AreRowsOver-IsPermutation : (sets : List ℕ) (dimensions : ℕ) (aggregates : List Agg) (facts facts' : List Fact) (rows : List Row) →
+pub AreRowsOver-IsPermutation : (sets : List ℕ) (dimensions : ℕ) (aggregates : List Agg) (facts facts' : List Fact)
+    (rows : List Row) →
     IsPermutation facts facts' → AreRowsOver sets dimensions aggregates facts rows →
     AreRowsOver sets dimensions aggregates facts' rows
 AreRowsOver-IsPermutation sets dimensions aggregates facts facts' rows h are =
     record {
-      cells = λ key. subst (λ b. Contains (map key_of rows) key ↔ IsTrue b) (is_cell-IsPermutation sets dimensions facts facts' key h) (are.cells key);
+      cells = λ key. subst (λ b. Contains (map key_of rows) key ↔ IsTrue b)
+          (is_cell-IsPermutation sets dimensions facts facts' key h) (are.cells key);
       ordered = are.ordered;
       answers = HasAnswers-Reordered aggregates facts facts' rows (IsPermutation-Reordered facts facts' h) are.answers;
     }

@@ -13,23 +13,29 @@ use Rattle.cube_laws.proofs.KeyLaws.{LookAlike-unique, append-front, append-back
 use Rattle.cube_laws.proofs.TextLaws.{records-fields}
 
 -- a row of a schema has a field
-row_fields-IsRowOf : (s : Layout) (rows : List Row) → 1 ≤ length s.dimensions → AllByRecursion (IsRowOf s) rows → AllByRecursion (λ fields. 1 ≤ length fields) (map row_fields rows)
+row_fields-IsRowOf : (s : Layout) (rows : List Row) → 1 ≤ length s.dimensions → AllByRecursion (IsRowOf s) rows
+    → AllByRecursion (λ fields. 1 ≤ length fields) (map row_fields rows)
 row_fields-IsRowOf s [] some all = tt
-row_fields-IsRowOf s (row ∷ rows) some all =
-    (omega (arith, length-append (shown row.key) (map answer_text row.answers), length-shown row.key, all.0.coords), row_fields-IsRowOf s rows some all.1)
+row_fields-IsRowOf s (row ∷ rows) some all = (
+  omega (arith, length-append (shown row.key) (map answer_text row.answers), length-shown row.key, all.0.coords),
+  row_fields-IsRowOf s rows some all.1,
+)
 
 -- two rows that show the same are one row
 row_fields-told : (s : Layout) (a b : Row) → IsRowOf s a → IsRowOf s b → row_fields a ≡ row_fields b → a ≡ b
 row_fields-told s a b h k same =
     let coords : length a.key.coords ≡ length b.key.coords = h.coords ∙ sym k.coords in
-    let columns : length (shown a.key) ≡ length (shown b.key) = length-shown a.key ∙ ap (λ n. 2 * n) coords ∙ sym (length-shown b.key) in
+    let columns : length (shown a.key) ≡ length (shown b.key) =
+    length-shown a.key ∙ ap (λ n. 2 * n) coords ∙ sym (length-shown b.key) in
     let keys : a.key ≡ b.key = LookAlike-unique a.key b.key h.told k.told
-    (shown-LookAlike a.key b.key coords (append-front (shown a.key) (shown b.key) (map answer_text a.answers) (map answer_text b.answers) columns same)) in
+    (shown-LookAlike a.key b.key coords
+    (append-front (shown a.key) (shown b.key) (map answer_text a.answers) (map answer_text b.answers) columns same)) in
     let answers : a.answers ≡ b.answers = AreOfKind-told s.aggregates a.answers b.answers h.answers k.answers
     (append-back (shown a.key) (shown b.key) (map answer_text a.answers) (map answer_text b.answers) columns same) in
     ap₂ (λ (key : Key) (given : List Answer). let row : Row = record { key = key; answers = given } in row) keys answers
 
-rows-told : (s : Layout) (rows others : List Row) → AllByRecursion (IsRowOf s) rows → AllByRecursion (IsRowOf s) others → map row_fields rows ≡ map row_fields others → rows ≡ others
+rows-told : (s : Layout) (rows others : List Row) → AllByRecursion (IsRowOf s) rows → AllByRecursion (IsRowOf s) others
+    → map row_fields rows ≡ map row_fields others → rows ≡ others
 rows-told s [] [] h k same = refl
 rows-told s [] (b ∷ others) h k same = cc same
 rows-told s (a ∷ rows) [] h k same = cc same
@@ -39,10 +45,12 @@ rows-told s (a ∷ rows) (b ∷ others) h k same =
     ap₂ (λ row more. row ∷ more) (row_fields-told s a b h.0 k.0 first) (rows-told s rows others h.1 k.1 after)
 
 -- two lists of rows of a schema with the same text are the same rows
-pub text_of_rows-told : (s : Layout) (rows others : List Row) → 1 ≤ length s.dimensions → AllByRecursion (IsRowOf s) rows → AllByRecursion (IsRowOf s) others
+pub text_of_rows-told : (s : Layout) (rows others : List Row) → 1 ≤ length s.dimensions
+    → AllByRecursion (IsRowOf s) rows → AllByRecursion (IsRowOf s) others
     → text_of_rows s rows ≡ text_of_rows s others → rows ≡ others
 text_of_rows-told s rows others some h k same =
     let read : header_fields s ∷ map row_fields rows ≡ header_fields s ∷ map row_fields others
-    = sym (records-fields s rows some (row_fields-IsRowOf s rows some h)) ∙ ap (records default_config) same ∙ records-fields s others some (row_fields-IsRowOf s others some k) in
+    = sym (records-fields s rows some (row_fields-IsRowOf s rows some h)) ∙ ap (records default_config) same
+    ∙ records-fields s others some (row_fields-IsRowOf s others some k) in
     let fields : map row_fields rows ≡ map row_fields others = cc read in
     rows-told s rows others h k fields

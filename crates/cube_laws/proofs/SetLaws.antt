@@ -20,7 +20,8 @@ use Rattle.cube_core.specs.declared.key.Row.{Row}
 use Rattle.cube_core.proofs.ListLaws.{Contains-filter, filter-Contains, map-filter}
 
 -- a set that is among sets that are among others is among these
-is_among-AreAmong : (others sets : List ℕ) (set : ℕ) → AreAmong sets others → is_among set sets ≡ true → is_among set others ≡ true
+is_among-AreAmong : (others sets : List ℕ) (set : ℕ) → AreAmong sets others → is_among set sets ≡ true
+    → is_among set others ≡ true
 is_among-AreAmong others [] set are among = cc among
 is_among-AreAmong others (first ∷ sets) set are among = elim (or_cases (first == set) (is_among set sets) among) [
   | inl same ↦ ap (λ (n : ℕ). is_among n others) (sym (eqb-true first set same)) ∙ are.0
@@ -28,7 +29,8 @@ is_among-AreAmong others (first ∷ sets) set are among = elim (or_cases (first 
 ]
 
 -- the rows of a cube in some of its grouping sets are those of the cube over these
-pub AreRowsOver-AreAmong : (dimensions : ℕ) (aggregates : List Agg) (facts : List Fact) (rows : List Row) (others sets : List ℕ)
+pub AreRowsOver-AreAmong : (dimensions : ℕ) (aggregates : List Agg) (facts : List Fact) (rows : List Row)
+    (others sets : List ℕ)
     → AreAmong sets others
     → AreRowsOver others dimensions aggregates facts rows
     → AreRowsOver sets dimensions aggregates facts (rows_in sets rows)
@@ -44,17 +46,22 @@ AreRowsOver-AreAmong dimensions aggregates facts rows others sets are whole =
         (λ cell.
             let parts = and_parts _ _ cell in
             let among = is_among-AreAmong others sets (mask_of key) are parts.0 in
-            rw keys (filter-Contains in_sets (map key_of rows) key ((whole.cells key).1 (and_from _ _ among parts.1)) parts.0)),
+            rw keys
+            (filter-Contains in_sets (map key_of rows) key ((whole.cells key).1 (and_from _ _ among parts.1)) parts.0)),
       );
       ordered = rw keys (IsStrictlySortedBy-filter key_cmp in_sets (map key_of rows) whole.ordered);
-      answers = recursion_from_All _ _ (All-filter (λ (row : Row). in_sets row.key) (HasAnswers aggregates facts) rows (All-from_recursion (HasAnswers aggregates facts) rows whole.answers));
+      answers = recursion_from_All _ _ (All-filter (λ (row : Row). in_sets row.key) (HasAnswers aggregates facts) rows
+          (All-from_recursion (HasAnswers aggregates facts) rows whole.answers));
     }
 
 -- a schema's sets are among all
-pub AreAmong-all_sets : (dimensions : ℕ) (sets : List ℕ) → AllByRecursion (λ set. set < 2 ^ dimensions) sets → AreAmong sets (all_sets dimensions)
+pub AreAmong-all_sets : (dimensions : ℕ) (sets : List ℕ) → AllByRecursion (λ set. set < 2 ^ dimensions) sets
+    → AreAmong sets (all_sets dimensions)
 AreAmong-all_sets dimensions [] below = tt
-AreAmong-all_sets dimensions (set ∷ sets) below =
-    (list_any-all_sets set dimensions (λ other. other == set) below.0 (eq-eqb set set refl), AreAmong-all_sets dimensions sets below.1)
+AreAmong-all_sets dimensions (set ∷ sets) below = (
+  list_any-all_sets set dimensions (λ other. other == set) below.0 (eq-eqb set set refl),
+  AreAmong-all_sets dimensions sets below.1,
+)
 
 pub IsSchema-AreAmong : (s : Layout) → IsSchema s → AreAmong s.grouping_sets (all_sets (length s.dimensions))
 IsSchema-AreAmong s is =
@@ -62,10 +69,12 @@ IsSchema-AreAmong s is =
     (recursion_from_All (λ set. set < 2 ^ length s.dimensions) s.grouping_sets is.sets_are_of_dimensions)
 
 -- a set that passes is among those that a filter keeps
-is_among-filter : (p : ℕ → Bool) (sets : List ℕ) (set : ℕ) → is_among set sets ≡ true → p set ≡ true → is_among set (filter p sets) ≡ true
+is_among-filter : (p : ℕ → Bool) (sets : List ℕ) (set : ℕ) → is_among set sets ≡ true → p set ≡ true
+    → is_among set (filter p sets) ≡ true
 is_among-filter p [] set among passes = among
 is_among-filter p (first ∷ sets) set among passes = elim (or_cases (first == set) (is_among set sets) among) [
-  | inl same ↦ let first_passes = ap p (eqb-true first set same) ∙ passes in rw first_passes (or_left (first == set) _ same)
+  | inl same ↦ let first_passes = ap p (eqb-true first set same) ∙ passes in
+      rw first_passes (or_left (first == set) _ same)
   | inr later ↦ elim (cases_Bool (p first)) [
     | inl kept ↦ rw kept (or_right (first == set) _ (is_among-filter p sets set later passes))
     | inr left ↦ rw left (is_among-filter p sets set later passes)
@@ -73,7 +82,8 @@ is_among-filter p (first ∷ sets) set among passes = elim (or_cases (first == s
 ]
 
 -- a set among those that a filter keeps passes, and was among them
-filter-is_among : (p : ℕ → Bool) (sets : List ℕ) (set : ℕ) → is_among set (filter p sets) ≡ true → (is_among set sets ≡ true) × (p set ≡ true)
+filter-is_among : (p : ℕ → Bool) (sets : List ℕ) (set : ℕ) → is_among set (filter p sets) ≡ true
+    → (is_among set sets ≡ true) × (p set ≡ true)
 filter-is_among p [] set among = cc among
 filter-is_among p (first ∷ sets) set among = elim (cases_Bool (p first)) [
   | inl kept ↦ elim (or_cases (first == set) (is_among set (filter p sets)) (rw kept at among)) [
@@ -84,25 +94,35 @@ filter-is_among p (first ∷ sets) set among = elim (cases_Bool (p first)) [
 ]
 
 -- a part has no set that isn't in the list
-pub is_among-sets_of_part : (parts j : ℕ) (sets : List ℕ) (set : ℕ) → is_among set (sets_of_part j parts sets) ≡ true → is_among set sets ≡ true
+pub is_among-sets_of_part : (parts j : ℕ) (sets : List ℕ) (set : ℕ) → is_among set (sets_of_part j parts sets) ≡ true
+    → is_among set sets ≡ true
 is_among-sets_of_part parts j sets set among = (filter-is_among (λ other. part_of parts other == j) sets set among).0
 
 -- a set that is in part k of so many leaves k
-sets_of_part-mod : (parts : ℕ) (sets : List ℕ) (set k : ℕ) → is_among set (sets_of_part k parts sets) ≡ true → k ≡ part_of parts set
-sets_of_part-mod parts sets set k among = sym (eqb-true (part_of parts set) k (filter-is_among (λ other. part_of parts other == k) sets set among).1)
+sets_of_part-mod : (parts : ℕ) (sets : List ℕ) (set k : ℕ) → is_among set (sets_of_part k parts sets) ≡ true
+    → k ≡ part_of parts set
+sets_of_part-mod parts sets set k among =
+    sym (eqb-true (part_of parts set) k (filter-is_among (λ other. part_of parts other == k) sets set among).1)
 
 -- a set is in the part that it leaves
-sets_of_part-own : (parts : ℕ) (sets : List ℕ) (set : ℕ) → is_among set sets ≡ true → is_among set (sets_of_part (part_of parts set) parts sets) ≡ true
-sets_of_part-own parts sets set among = is_among-filter (λ other. part_of parts other == part_of parts set) sets set among (eq-eqb (part_of parts set) (part_of parts set) refl)
+sets_of_part-own : (parts : ℕ) (sets : List ℕ) (set : ℕ) → is_among set sets ≡ true
+    → is_among set (sets_of_part (part_of parts set) parts sets) ≡ true
+sets_of_part-own parts sets set among = is_among-filter (λ other. part_of parts other == part_of parts set)
+    sets set among (eq-eqb (part_of parts set) (part_of parts set) refl)
 
 -- each set is in one part
 pub sets_of_part-unique : (parts : ℕ) (sets : List ℕ) (set : ℕ) → 1 ≤ parts → is_among set sets ≡ true
     → IsTrueOfOne parts (λ j. is_among set (sets_of_part j parts sets))
-sets_of_part-unique parts sets set some among =
-    (part_of parts set, part_of-below parts set some, sets_of_part-own parts sets set among, λ k here. sets_of_part-mod parts sets set k here)
+sets_of_part-unique parts sets set some among = (
+  part_of parts set,
+  part_of-below parts set some,
+  sets_of_part-own parts sets set among,
+  λ k here. sets_of_part-mod parts sets set k here,
+)
 
 -- each cell is in one part
-pub is_cell-sets_of_part : (parts dimensions : ℕ) (sets : List ℕ) (facts : List Fact) (key : Key) → 1 ≤ parts → is_cell sets dimensions facts key ≡ true
+pub is_cell-sets_of_part : (parts dimensions : ℕ) (sets : List ℕ) (facts : List Fact) (key : Key) → 1 ≤ parts
+    → is_cell sets dimensions facts key ≡ true
     → IsTrueOfOne parts (λ j. is_cell (sets_of_part j parts sets) dimensions facts key)
 is_cell-sets_of_part parts dimensions sets facts key some cell =
     let halves = and_parts _ _ cell in (

@@ -1,16 +1,22 @@
 -- The shards of a feed: which items, changes, refusals and survivors each has.
-use Rattle.std.proofs.Common.{◌≡◌, ℕ, zero, suc, ◌+◌, ◌<◌, ◌≤◌, nat_lt, Bool, true, false, not, List, [], ◌∷◌, ◌++◌, length, map, filter, filter_map, drop, get_or, if◌then◌else◌, Option, Some, None, IsSome, IfSome, Result, Ok, Err, IfOk, Contains, option_map, ◌≢◌, refl, sym, ap, ◌∙◌, subst, inl, inr, arith, append_assoc, length-append, codes}
+use Rattle.std.proofs.Common.{◌≡◌, ℕ, zero, suc, ◌+◌, ◌<◌, ◌≤◌, nat_lt, Bool, true, false, not, List, [], ◌∷◌, ◌++◌}
+use Rattle.std.proofs.Common.{length, map, filter, filter_map, drop, get_or, if◌then◌else◌, Option, Some, None, IsSome}
+use Rattle.std.proofs.Common.{IfSome, Result, Ok, Err, IfOk, Contains, option_map, ◌≢◌, refl, sym, ap, ◌∙◌, subst, inl}
+use Rattle.std.proofs.Common.{inr, arith, append_assoc, length-append, codes}
 use Rattle.std.specs.Prelude.{◌==◌, ◌||◌, ◌%◌, is_some}
 use Rattle.std.specs.Option.{option_to_list}
 use Rattle.std.specs.List.{AllByRecursion, AllZip, IsDistinct, list_all, cons_option, range_with_len}
 use Rattle.std.specs.Str.{bytes_eq, is_utf8}
 use Rattle.std.proofs.lemmas.Bool.{cases_Bool, eqb-true, eq-eqb, false≢true}
 use Rattle.std.proofs.lemmas.List.{append-nil, map-append}
-use Rattle.std.proofs.lemmas.List.Elements.{Contains-append_left, Contains-append_right, Contains-append_cases, filter-append}
+use Rattle.std.proofs.lemmas.List.Elements.{Contains-append_left, Contains-append_right, Contains-append_cases}
+use Rattle.std.proofs.lemmas.List.Elements.{filter-append}
 use Rattle.std.proofs.lemmas.Nat.{mod_below}
 use Rattle.std.proofs.lemmas.Map.Keys.{IsDistinct-head, IsDistinct-tail, IsDistinct-cons, IsDistinct-from_apart}
 use Rattle.std.proofs.lemmas.Slice.Eq.{bytes_eq-Decides}
-use Rattle.cube_core.specs.Items.{Coming, FeedEnd, Good, TooManyRecords, WrongHeader, change_of, coming_after, field_at, insert_of, is_header, is_measure, is_read, items_after, items_of, keeps_any, measure_fields, put_of, update_of, width_of}
+use Rattle.cube_core.specs.Items.{Coming, FeedEnd, Good, TooManyRecords, WrongHeader, change_of, coming_after, field_at}
+use Rattle.cube_core.specs.Items.{insert_of, is_header, is_measure, is_read, items_after, items_of, keeps_any}
+use Rattle.cube_core.specs.Items.{measure_fields, put_of, update_of, width_of}
 use Rattle.cube_core.specs.Layout.{Layout}
 use Rattle.cube_core.specs.Life.{changes_of, from_insert, id_of, life_of, since_delete, taken_change}
 use Rattle.cube_core.specs.Refusals.{code_by_presence, code_of, refusal_of, refusals_of, shape_code}
@@ -23,7 +29,8 @@ use Rattle.cube_core.specs.declared.change.LineFault.{LineFault}
 use Rattle.cube_core.specs.declared.change.Refusal.{Refusal}
 use Rattle.cube_core.specs.declared.fact.Fact.{Fact}
 use Rattle.cube_core.proofs.ItemLaws.{IfOk-if}
-use Rattle.cube_core.proofs.ListLaws.{AllByRecursion-Contains, Contains-AllByRecursion, Contains-head, Contains-nil, Contains-tail, filter-failed, filter-passed}
+use Rattle.cube_core.proofs.ListLaws.{AllByRecursion-Contains, Contains-AllByRecursion, Contains-head, Contains-nil}
+use Rattle.cube_core.proofs.ListLaws.{Contains-tail, filter-failed, filter-passed}
 use Rattle.cube_core.proofs.RefusalLaws.{refusals_of-more}
 use Rattle.cube_laws.specs.Merging.{joined}
 use Rattle.cube_laws.specs.Shards.{has_record, of_shard, places}
@@ -31,12 +38,14 @@ use Rattle.cube_laws.proofs.MergedLaws.{AllByRecursion-append}
 
 -- ---- lists
 -- what stands right after the front
-get_or-seam : (done rest : List (List (List ℕ))) (fields : List (List ℕ)) → get_or (done ++ fields ∷ rest) (length done) [] ≡ fields
+get_or-seam : (done rest : List (List (List ℕ))) (fields : List (List ℕ))
+    → get_or (done ++ fields ∷ rest) (length done) [] ≡ fields
 get_or-seam [] rest fields = refl
 get_or-seam (first ∷ done) rest fields = get_or-seam done rest fields
 
 -- a filter that keeps what another keeps
-filter-within : {X : Type 0} (p q : X → Bool) (xs : List X) → ((x : X) → p x ≡ true → q x ≡ true) → filter p (filter q xs) ≡ filter p xs
+filter-within : {X : Type 0} (p q : X → Bool) (xs : List X) → ((x : X) → p x ≡ true → q x ≡ true)
+    → filter p (filter q xs) ≡ filter p xs
 filter-within p q [] within = refl
 filter-within p q (x ∷ xs) within = elim (cases_Bool (q x)) [
   | inl kept ↦ elim (cases_Bool (p x)) [
@@ -49,17 +58,20 @@ filter-within p q (x ∷ xs) within = elim (cases_Bool (q x)) [
   ]
   | inr left_out ↦ elim (cases_Bool (p x)) [
     | inl passes ↦ absurd (false≢true (sym left_out ∙ within x passes))
-    | inr fails ↦ ap (filter p) (filter-failed q x xs left_out) ∙ filter-within p q xs within ∙ sym (filter-failed p x xs fails)
+    | inr fails ↦
+        ap (filter p) (filter-failed q x xs left_out) ∙ filter-within p q xs within ∙ sym (filter-failed p x xs fails)
   ]
 ]
 
 -- a filter of what another leaves out
-filter-apart : {X : Type 0} (p q : X → Bool) (xs : List X) → ((x : X) → p x ≡ true → q x ≡ false) → filter p (filter q xs) ≡ []
+filter-apart : {X : Type 0} (p q : X → Bool) (xs : List X) → ((x : X) → p x ≡ true → q x ≡ false)
+    → filter p (filter q xs) ≡ []
 filter-apart p q [] apart = refl
 filter-apart p q (x ∷ xs) apart = elim (cases_Bool (q x)) [
   | inl kept ↦ elim (cases_Bool (p x)) [
     | inl passes ↦ absurd (false≢true (sym (apart x passes) ∙ kept))
-    | inr fails ↦ ap (filter p) (filter-passed q x xs kept) ∙ filter-failed p x (filter q xs) fails ∙ filter-apart p q xs apart
+    | inr fails ↦
+        ap (filter p) (filter-passed q x xs kept) ∙ filter-failed p x (filter q xs) fails ∙ filter-apart p q xs apart
   ]
   | inr left_out ↦ ap (filter p) (filter-failed q x xs left_out) ∙ filter-apart p q xs apart
 ]
@@ -79,22 +91,26 @@ filter_map-filter {Y = Y} f p q (x ∷ xs) alike = elim (cases_Bool (p x)) [
       ∙ left_out-step (f x) (filter_map f xs) left_out alike.0
 ]
   where
-    kept-step : (given : Option Y) (ys : List Y) → p x ≡ true → IfSome given (λ y. q y ≡ p x) → cons_option given (filter q ys) ≡ filter q (cons_option given ys)
+    kept-step : (given : Option Y) (ys : List Y) → p x ≡ true → IfSome given (λ y. q y ≡ p x)
+        → cons_option given (filter q ys) ≡ filter q (cons_option given ys)
     kept-step None ys kept same = refl
     kept-step (Some y) ys kept same = sym (filter-passed q y ys (same ∙ kept))
 
-    left_out-step : (given : Option Y) (ys : List Y) → p x ≡ false → IfSome given (λ y. q y ≡ p x) → filter q ys ≡ filter q (cons_option given ys)
+    left_out-step : (given : Option Y) (ys : List Y) → p x ≡ false → IfSome given (λ y. q y ≡ p x)
+        → filter q ys ≡ filter q (cons_option given ys)
     left_out-step None ys left_out same = refl
     left_out-step (Some y) ys left_out same = sym (filter-failed q y ys (same ∙ left_out))
 
 -- ids of two lists, where none of the one is equal to one of the other
 IsDistinct-append : (ids others : List (List ℕ)) → IsDistinct bytes_eq ids → IsDistinct bytes_eq others
-    → ((id other : List ℕ) → Contains ids id → Contains others other → bytes_eq id other ≡ false) → IsDistinct bytes_eq (ids ++ others)
+    → ((id other : List ℕ) → Contains ids id → Contains others other → bytes_eq id other ≡ false)
+    → IsDistinct bytes_eq (ids ++ others)
 IsDistinct-append [] others left right apart = right
 IsDistinct-append (id ∷ ids) others left right apart =
     IsDistinct-cons bytes_eq id (ids ++ others)
     (AllByRecursion-append (λ other. bytes_eq id other ≡ false) ids others (IsDistinct-head bytes_eq id ids left)
-    (Contains-AllByRecursion (λ other. bytes_eq id other ≡ false) others (λ other among. apart id other (Contains-head id ids) among)))
+    (Contains-AllByRecursion (λ other. bytes_eq id other ≡ false) others
+    (λ other among. apart id other (Contains-head id ids) among)))
     (IsDistinct-append ids others (IsDistinct-tail bytes_eq id ids left) right
     (λ first other here there. apart first other (Contains-tail id ids first here) there))
 
@@ -103,19 +119,23 @@ IsDistinct-append (id ∷ ids) others left right apart =
 abbrev Names : List (List ℕ) → Change → Type 0
 Names fields change = id_of change ≡ field_at fields 1
 
-put_of-Names : (s : Layout) (fields : List (List ℕ)) (change : Result Change LineFault) → IfOk change (Names fields) → IfOk (put_of change s fields) (Names fields)
+put_of-Names : (s : Layout) (fields : List (List ℕ)) (change : Result Change LineFault) → IfOk change (Names fields)
+    → IfOk (put_of change s fields) (Names fields)
 put_of-Names s fields change names =
     IfOk-if (Names fields) (not (length fields == width_of s)) _ _ (λ wrong. tt) (λ right.
     IfOk-if (Names fields) (not (list_all is_utf8 (drop 1 fields))) _ _ (λ bad. tt) (λ texts.
     IfOk-if (Names fields) (length (field_at fields 1) == 0) _ _ (λ empty. tt) (λ named.
-    IfOk-if (Names fields) (not (list_all (is_measure s) (measure_fields s fields))) _ _ (λ bad. tt) (λ lawful. names))))
+    IfOk-if (Names fields) (not (list_all (is_measure s) (measure_fields s fields))) _ _ (λ bad. tt)
+    (λ lawful. names))))
 
 change_of-Names : (s : Layout) (fields : List (List ℕ)) → IfOk (change_of s fields) (Names fields)
 change_of-Names s fields =
     IfOk-if (Names fields) (bytes_eq (field_at fields 0) (codes "I")) _ _
-    (λ letter. put_of-Names s fields (insert_of s fields) (IfOk-if (Names fields) (keeps_any s fields) _ _ (λ keeps. tt) (λ none. refl)))
+    (λ letter. put_of-Names s fields (insert_of s fields)
+    (IfOk-if (Names fields) (keeps_any s fields) _ _ (λ keeps. tt) (λ none. refl)))
     (λ other. IfOk-if (Names fields) (bytes_eq (field_at fields 0) (codes "U")) _ _
-    (λ letter. put_of-Names s fields (update_of s fields) (IfOk-if (Names fields) (keeps_any s fields) _ _ (λ keeps. refl) (λ none. refl)))
+    (λ letter. put_of-Names s fields (update_of s fields)
+    (IfOk-if (Names fields) (keeps_any s fields) _ _ (λ keeps. refl) (λ none. refl)))
     (λ neither. IfOk-if (Names fields) (bytes_eq (field_at fields 0) (codes "D")) _ _
     (λ letter.
     IfOk-if (Names fields) (not ((length fields == 2) || (length fields == width_of s))) _ _ (λ wrong. tt) (λ right.
@@ -151,7 +171,8 @@ mod-one : (n : ℕ) → (n % 1 == 0) ≡ true
 mod-one n = eq-eqb (n % 1) 0 (omega arith)
 
 is_read-whole : (s : Layout) (fields : List (List ℕ)) → s.shard ≡ whole_feed → is_read s fields ≡ true
-is_read-whole s fields whole = ap (λ shard. is_in_shard shard (field_at fields 1)) whole ∙ mod-one (fnv_hash (field_at fields 1))
+is_read-whole s fields whole =
+    ap (λ shard. is_in_shard shard (field_at fields 1)) whole ∙ mod-one (fnv_hash (field_at fields 1))
 
 -- an item says what the record of its number spells
 abbrev Says : Layout → List (List (List ℕ)) → Item → Type 0
@@ -169,89 +190,123 @@ module _ (s : Layout) (count place : ℕ) where
   part = of_shard count s place
 
   -- a record of the feed in its bounds gives an item, and one of the shard too where it is in it
-  items_after-whole : (number : ℕ) (fields : List (List ℕ)) (records : List (List (List ℕ))) → s.shard ≡ whole_feed → nat_lt number s.max_records ≡ true
-      → items_after s number (fields ∷ records) ≡ coming_after (item_at s number fields) (items_after s (number + 1) records)
+  items_after-whole : (number : ℕ) (fields : List (List ℕ)) (records : List (List (List ℕ))) → s.shard ≡ whole_feed
+      → nat_lt number s.max_records ≡ true
+      → items_after s number (fields ∷ records)
+      ≡ coming_after (item_at s number fields) (items_after s (number + 1) records)
   items_after-whole number fields records whole within =
-      ap (λ b. if b then (if is_read s fields then coming_after (item_at s number fields) (items_after s (number + 1) records) else items_after s (number + 1) records) else no_more) within
-      ∙ ap (λ b. if b then coming_after (item_at s number fields) (items_after s (number + 1) records) else items_after s (number + 1) records) (is_read-whole s fields whole)
+      ap (λ b. if b then
+      (if is_read s fields then coming_after (item_at s number fields) (items_after s (number + 1) records)
+      else items_after s (number + 1) records) else no_more) within
+      ∙ ap (λ b. if b then coming_after (item_at s number fields) (items_after s (number + 1) records)
+      else items_after s (number + 1) records) (is_read-whole s fields whole)
 
-  items_after-inside : (number : ℕ) (fields : List (List ℕ)) (records : List (List (List ℕ))) → nat_lt number s.max_records ≡ true → is_read part fields ≡ true
-      → items_after part number (fields ∷ records) ≡ coming_after (item_at s number fields) (items_after part (number + 1) records)
+  items_after-inside : (number : ℕ) (fields : List (List ℕ)) (records : List (List (List ℕ)))
+      → nat_lt number s.max_records ≡ true → is_read part fields ≡ true
+      → items_after part number (fields ∷ records)
+      ≡ coming_after (item_at s number fields) (items_after part (number + 1) records)
   items_after-inside number fields records within read =
-      ap (λ b. if b then (if is_read part fields then coming_after (item_at s number fields) (items_after part (number + 1) records) else items_after part (number + 1) records) else no_more) within
-      ∙ ap (λ b. if b then coming_after (item_at s number fields) (items_after part (number + 1) records) else items_after part (number + 1) records) read
+      ap (λ b. if b then
+      (if is_read part fields then coming_after (item_at s number fields) (items_after part (number + 1) records)
+      else items_after part (number + 1) records) else no_more) within
+      ∙ ap (λ b. if b then coming_after (item_at s number fields) (items_after part (number + 1) records)
+      else items_after part (number + 1) records) read
 
-  items_after-outside : (number : ℕ) (fields : List (List ℕ)) (records : List (List (List ℕ))) → nat_lt number s.max_records ≡ true → is_read part fields ≡ false
+  items_after-outside : (number : ℕ) (fields : List (List ℕ)) (records : List (List (List ℕ)))
+      → nat_lt number s.max_records ≡ true → is_read part fields ≡ false
       → items_after part number (fields ∷ records) ≡ items_after part (number + 1) records
   items_after-outside number fields records within other =
-      ap (λ b. if b then (if is_read part fields then coming_after (item_at s number fields) (items_after part (number + 1) records) else items_after part (number + 1) records) else no_more) within
-      ∙ ap (λ b. if b then coming_after (item_at s number fields) (items_after part (number + 1) records) else items_after part (number + 1) records) other
+      ap (λ b. if b then
+      (if is_read part fields then coming_after (item_at s number fields) (items_after part (number + 1) records)
+      else items_after part (number + 1) records) else no_more) within
+      ∙ ap (λ b. if b then coming_after (item_at s number fields) (items_after part (number + 1) records)
+      else items_after part (number + 1) records) other
 
-  items_after-past : (t : Layout) (number : ℕ) (fields : List (List ℕ)) (records : List (List (List ℕ))) → nat_lt number t.max_records ≡ false
+  items_after-past : (t : Layout) (number : ℕ) (fields : List (List ℕ)) (records : List (List (List ℕ)))
+      → nat_lt number t.max_records ≡ false
       → items_after t number (fields ∷ records) ≡ no_more
   items_after-past t number fields records past =
-      ap (λ b. if b then (if is_read t fields then coming_after (item_at t number fields) (items_after t (number + 1) records) else items_after t (number + 1) records) else no_more) past
+      ap (λ b. if b then
+      (if is_read t fields then coming_after (item_at t number fields) (items_after t (number + 1) records)
+      else items_after t (number + 1) records) else no_more) past
 
   -- whether the record of an item is in the shard
   abbrev is_of_part : List (List (List ℕ)) → Item → Bool
   is_of_part records item = has_record part records item.number
 
   -- the record that follows those done
-  record-seam : (done records : List (List (List ℕ))) (fields : List (List ℕ)) (number : ℕ) → length done ≡ number + 1 → get_or (done ++ fields ∷ records) (number + 1) [] ≡ fields
+  record-seam : (done records : List (List (List ℕ))) (fields : List (List ℕ)) (number : ℕ) → length done ≡ number + 1
+      → get_or (done ++ fields ∷ records) (number + 1) [] ≡ fields
   record-seam done records fields number as_many =
       ap (λ n. get_or (done ++ fields ∷ records) n []) (sym as_many) ∙ get_or-seam done records fields
 
-  one-more : (done : List (List (List ℕ))) (fields : List (List ℕ)) (number : ℕ) → length done ≡ number + 1 → length (done ++ fields ∷ []) ≡ number + 1 + 1
+  one-more : (done : List (List (List ℕ))) (fields : List (List ℕ)) (number : ℕ) → length done ≡ number + 1
+      → length (done ++ fields ∷ []) ≡ number + 1 + 1
   one-more done fields number as_many = length-append done (fields ∷ []) ∙ ap (λ n. n + 1) as_many
 
-  items_after-part : s.shard ≡ whole_feed → (done records : List (List (List ℕ))) (number : ℕ) → length done ≡ number + 1
-      → (items_after part number records).items ≡ filter (is_of_part (done ++ records)) (items_after s number records).items
+  items_after-part : s.shard ≡ whole_feed → (done records : List (List (List ℕ))) (number : ℕ)
+      → length done ≡ number + 1
+      → (items_after part number records).items
+      ≡ filter (is_of_part (done ++ records)) (items_after s number records).items
   items_after-part whole done [] number as_many = refl
   items_after-part whole done (fields ∷ records) number as_many =
       let all : List (List (List ℕ)) = done ++ fields ∷ records in
-      let after : (items_after part (number + 1) records).items ≡ filter (is_of_part all) (items_after s (number + 1) records).items
-      = subst (λ (rs : List (List (List ℕ))). (items_after part (number + 1) records).items ≡ filter (is_of_part rs) (items_after s (number + 1) records).items)
+      let after : (items_after part (number + 1) records).items
+      ≡ filter (is_of_part all) (items_after s (number + 1) records).items
+      = subst (λ (rs : List (List (List ℕ))).
+      (items_after part (number + 1) records).items ≡ filter (is_of_part rs) (items_after s (number + 1) records).items)
       (append_assoc done (fields ∷ []) records)
       (items_after-part whole (done ++ fields ∷ []) records (number + 1) (one-more done fields number as_many)) in
-      let here : is_of_part all (item_at s number fields) ≡ is_read part fields = ap (is_read part) (record-seam done records fields number as_many) in
+      let here : is_of_part all (item_at s number fields) ≡ is_read part fields =
+      ap (is_read part) (record-seam done records fields number as_many) in
       elim (cases_Bool (nat_lt number s.max_records)) [
         | inl within ↦
-            let feed = ap (λ (coming : Coming FeedEnd). filter (is_of_part all) coming.items) (items_after-whole number fields records whole within) in
+            let feed = ap (λ (coming : Coming FeedEnd). filter (is_of_part all) coming.items)
+            (items_after-whole number fields records whole within) in
             elim (cases_Bool (is_read part fields)) [
               | inl read ↦
                   ap (λ (coming : Coming FeedEnd). coming.items) (items_after-inside number fields records within read)
                   ∙ ap (λ items. item_at s number fields ∷ items) after
-                  ∙ sym (filter-passed (is_of_part all) (item_at s number fields) (items_after s (number + 1) records).items (here ∙ read))
+                  ∙ sym (filter-passed (is_of_part all) (item_at s number fields)
+                  (items_after s (number + 1) records).items (here ∙ read))
                   ∙ sym feed
               | inr other ↦
-                  ap (λ (coming : Coming FeedEnd). coming.items) (items_after-outside number fields records within other)
+                  ap (λ (coming : Coming FeedEnd). coming.items)
+                  (items_after-outside number fields records within other)
                   ∙ after
-                  ∙ sym (filter-failed (is_of_part all) (item_at s number fields) (items_after s (number + 1) records).items (here ∙ other))
+                  ∙ sym (filter-failed (is_of_part all) (item_at s number fields)
+                  (items_after s (number + 1) records).items (here ∙ other))
                   ∙ sym feed
             ]
         | inr past ↦
             ap (λ (coming : Coming FeedEnd). coming.items) (items_after-past part number fields records past)
-            ∙ sym (ap (λ (coming : Coming FeedEnd). filter (is_of_part all) coming.items) (items_after-past s number fields records past))
+            ∙ sym (ap (λ (coming : Coming FeedEnd). filter (is_of_part all) coming.items)
+            (items_after-past s number fields records past))
       ]
 
-  pub items_of-part : s.shard ≡ whole_feed → (records : List (List (List ℕ))) → (items_of part records).items ≡ filter (is_of_part records) (items_of s records).items
+  pub items_of-part : s.shard ≡ whole_feed → (records : List (List (List ℕ)))
+      → (items_of part records).items ≡ filter (is_of_part records) (items_of s records).items
   items_of-part whole [] = refl
   items_of-part whole (header ∷ records) = elim (cases_Bool (is_header s header)) [
     | inl right ↦
         ap (λ b. (if b then items_after part 0 records else record { items = []; end = WrongHeader }).items) right
         ∙ items_after-part whole (header ∷ []) records 0 refl
-        ∙ sym (ap (λ b. filter (is_of_part (header ∷ records)) (if b then items_after s 0 records else record { items = []; end = WrongHeader }).items) right)
+        ∙ sym (ap (λ b. filter (is_of_part (header ∷ records))
+        (if b then items_after s 0 records else record { items = []; end = WrongHeader }).items) right)
     | inr wrong ↦
         ap (λ b. (if b then items_after part 0 records else record { items = []; end = WrongHeader }).items) wrong
-        ∙ sym (ap (λ b. filter (is_of_part (header ∷ records)) (if b then items_after s 0 records else record { items = []; end = WrongHeader }).items) wrong)
+        ∙ sym (ap (λ b. filter (is_of_part (header ∷ records))
+        (if b then items_after s 0 records else record { items = []; end = WrongHeader }).items) wrong)
   ]
 
 -- ---- how a shard ends
 end_after : ℕ → ℕ → List (List (List ℕ)) → FeedEnd
 end_after most number [] = Good
-end_after most number (fields ∷ records) = if nat_lt number most then end_after most (number + 1) records else TooManyRecords
+end_after most number (fields ∷ records) =
+    if nat_lt number most then end_after most (number + 1) records else TooManyRecords
 
-items_after-end : (t : Layout) (number : ℕ) (records : List (List (List ℕ))) → (items_after t number records).end ≡ end_after t.max_records number records
+items_after-end : (t : Layout) (number : ℕ) (records : List (List (List ℕ)))
+    → (items_after t number records).end ≡ end_after t.max_records number records
 unfolding end_after
 items_after-end t number [] = refl
 items_after-end t number (fields ∷ records) = elim (cases_Bool (nat_lt number t.max_records)) [
@@ -262,7 +317,8 @@ items_after-end t number (fields ∷ records) = elim (cases_Bool (nat_lt number 
   | inr past ↦ rw past refl
 ]
 
-pub items_of-end : (s : Layout) (count place : ℕ) (records : List (List (List ℕ))) → (items_of (of_shard count s place) records).end ≡ (items_of s records).end
+pub items_of-end : (s : Layout) (count place : ℕ) (records : List (List (List ℕ)))
+    → (items_of (of_shard count s place) records).end ≡ (items_of s records).end
 items_of-end s count place [] = refl
 items_of-end s count place (header ∷ records) = elim (cases_Bool (is_header s header)) [
   | inl right ↦ rw right (items_after-end (of_shard count s place) 0 records ∙ sym (items_after-end s 0 records))
@@ -277,9 +333,11 @@ items_after-Says s done [] number as_many = tt
 items_after-Says s done (fields ∷ records) number as_many =
     let all : List (List (List ℕ)) = done ++ fields ∷ records in
     let after : AllByRecursion (Says s all) (items_after s (number + 1) records).items
-    = subst (λ (rs : List (List (List ℕ))). AllByRecursion (Says s rs) (items_after s (number + 1) records).items) (append_assoc done (fields ∷ []) records)
+    = subst (λ (rs : List (List (List ℕ))). AllByRecursion (Says s rs) (items_after s (number + 1) records).items)
+    (append_assoc done (fields ∷ []) records)
     (items_after-Says s (done ++ fields ∷ []) records (number + 1) (one-more s 0 0 done fields number as_many)) in
-    let here : Says s all (item_at s number fields) = sym (ap (change_of s) (record-seam s 0 0 done records fields number as_many)) in
+    let here : Says s all (item_at s number fields) =
+    sym (ap (change_of s) (record-seam s 0 0 done records fields number as_many)) in
     elim (cases_Bool (nat_lt number s.max_records)) [
       | inl within ↦ elim (cases_Bool (is_read s fields)) [
         | inl read ↦ rw (within, read) (here, after)
@@ -288,7 +346,8 @@ items_after-Says s done (fields ∷ records) number as_many =
       | inr past ↦ rw past tt
     ]
 
-items_of-Says : (s : Layout) (records : List (List (List ℕ))) → AllByRecursion (Says s records) (items_of s records).items
+items_of-Says : (s : Layout) (records : List (List (List ℕ)))
+    → AllByRecursion (Says s records) (items_of s records).items
 items_of-Says s [] = tt
 items_of-Says s (header ∷ records) = elim (cases_Bool (is_header s header)) [
   | inl right ↦ rw right (items_after-Says s (header ∷ []) records 0 refl)
@@ -297,11 +356,14 @@ items_of-Says s (header ∷ records) = elim (cases_Bool (is_header s header)) [
 
 module _ (s : Layout) (count place : ℕ) (records : List (List (List ℕ))) where
   -- a change of an item is of the shard where its record is in it
-  taken_change-is_of : (item : Item) → Says s records item → IfSome (taken_change s item.what) (λ change. is_of count place change ≡ is_of_part s count place records item)
-  taken_change-is_of item says = named item.what (subst (λ what. IfOk what (Names (get_or records item.number []))) (sym says) (change_of-Names s (get_or records item.number [])))
+  taken_change-is_of : (item : Item) → Says s records item
+      → IfSome (taken_change s item.what) (λ change. is_of count place change ≡ is_of_part s count place records item)
+  taken_change-is_of item says = named item.what (subst (λ what. IfOk what (Names (get_or records item.number [])))
+      (sym says) (change_of-Names s (get_or records item.number [])))
     where
       taken : (change : Change) (b : Bool) → Names (get_or records item.number []) change
-          → IfSome (if b then Some change else None) (λ (it : Change). is_of count place it ≡ is_of_part s count place records item)
+          → IfSome (if b then Some change else None)
+          (λ (it : Change). is_of count place it ≡ is_of_part s count place records item)
       taken change true names = ap (λ id. shard_of count id == place) names
       taken change false names = tt
 
@@ -314,87 +376,113 @@ module _ (s : Layout) (count place : ℕ) (records : List (List (List ℕ))) whe
   changes_of-filter : (items : List Item) → AllByRecursion (Says s records) items
       → changes_of s (filter (is_of_part s count place records) items) ≡ filter (is_of count place) (changes_of s items)
   changes_of-filter items says =
-      filter_map-filter (λ (item : Item). taken_change s item.what) (is_of_part s count place records) (is_of count place) items
-      (Contains-AllByRecursion (λ (item : Item). IfSome (taken_change s item.what) (λ change. is_of count place change ≡ is_of_part s count place records item)) items
+      filter_map-filter (λ (item : Item). taken_change s item.what) (is_of_part s count place records)
+      (is_of count place) items
+      (Contains-AllByRecursion (λ (item : Item). IfSome (taken_change s item.what)
+      (λ change. is_of count place change ≡ is_of_part s count place records item)) items
       (λ item among. taken_change-is_of item (AllByRecursion-Contains (Says s records) items item says among)))
 
   -- ---- the refusals of a shard
   -- an item of the shard is refused after the shard's items before it as it is after all of them
-  code_of-part : (before : List Item) (item : Item) → AllByRecursion (Says s records) before → Says s records item → is_of_part s count place records item ≡ true
+  code_of-part : (before : List Item) (item : Item) → AllByRecursion (Says s records) before → Says s records item
+      → is_of_part s count place records item ≡ true
       → code_of s (filter (is_of_part s count place records) before) item.what ≡ code_of s before item.what
-  code_of-part before item says said inside = at item.what (subst (λ what. IfOk what (Names (get_or records item.number []))) (sym said) (change_of-Names s (get_or records item.number [])))
+  code_of-part before item says said inside = at item.what
+      (subst (λ what. IfOk what (Names (get_or records item.number []))) (sym said)
+      (change_of-Names s (get_or records item.number [])))
     where
       at : (what : Result Change LineFault) → IfOk what (Names (get_or records item.number []))
           → code_of s (filter (is_of_part s count place records) before) what ≡ code_of s before what
       at (Err fault) names = refl
       at (Ok change) names =
-          let within : (shard_of count (id_of change) == place) ≡ true = ap (λ id. shard_of count id == place) names ∙ inside in
-          let life = ap (life_of (id_of change)) (changes_of-filter before says) ∙ life_of-inside count place (id_of change) (changes_of s before) within in
-          ap (λ found. if not (takes s change) then Some (shape_code s) else code_by_presence s change (is_some found)) life
+          let within : (shard_of count (id_of change) == place) ≡ true =
+          ap (λ id. shard_of count id == place) names ∙ inside in
+          let life = ap (life_of (id_of change)) (changes_of-filter before says)
+          ∙ life_of-inside count place (id_of change) (changes_of s before) within in
+          ap (λ found. if not (takes s change) then Some (shape_code s) else code_by_presence s change (is_some found))
+          life
 
   -- whether the record of a refusal is in the shard
   abbrev is_refused_here : Refusal → Bool
   is_refused_here refusal = has_record (of_shard count s place) records refusal.number
 
   refusal-filter : (item : Item) (code : Option ℕ) → is_of_part s count place records item ≡ true
-      → filter is_refused_here (option_to_list (option_map (λ c. let refusal : Refusal = record { number = item.number; code = c } in refusal) code))
-      ≡ option_to_list (option_map (λ c. let refusal : Refusal = record { number = item.number; code = c } in refusal) code)
+      → filter is_refused_here (option_to_list
+      (option_map (λ c. let refusal : Refusal = record { number = item.number; code = c } in refusal) code))
+      ≡ option_to_list
+      (option_map (λ c. let refusal : Refusal = record { number = item.number; code = c } in refusal) code)
   refusal-filter item None inside = refl
-  refusal-filter item (Some c) inside = filter-passed is_refused_here (record { number = item.number; code = c }) [] inside
+  refusal-filter item (Some c) inside =
+      filter-passed is_refused_here (record { number = item.number; code = c }) [] inside
 
   refusal-none : (item : Item) (code : Option ℕ) → is_of_part s count place records item ≡ false
-      → filter is_refused_here (option_to_list (option_map (λ c. let refusal : Refusal = record { number = item.number; code = c } in refusal) code)) ≡ []
+      → filter is_refused_here (option_to_list
+      (option_map (λ c. let refusal : Refusal = record { number = item.number; code = c } in refusal) code)) ≡ []
   refusal-none item None outside = refl
-  refusal-none item (Some c) outside = filter-failed is_refused_here (record { number = item.number; code = c }) [] outside
+  refusal-none item (Some c) outside =
+      filter-failed is_refused_here (record { number = item.number; code = c }) [] outside
 
   -- the refusals of the shard's items, where those of the items before are known
   abbrev RefusesAlike : List Item → Type 0
-  RefusesAlike items = refusals_of s (filter (is_of_part s count place records) items) ≡ filter is_refused_here (refusals_of s items)
+  RefusesAlike items =
+      refusals_of s (filter (is_of_part s count place records) items) ≡ filter is_refused_here (refusals_of s items)
 
-  RefusesAlike-more : (before : List Item) (item : Item) → AllByRecursion (Says s records) before → Says s records item → RefusesAlike before → RefusesAlike (before ++ item ∷ [])
+  RefusesAlike-more : (before : List Item) (item : Item) → AllByRecursion (Says s records) before → Says s records item
+      → RefusesAlike before → RefusesAlike (before ++ item ∷ [])
   RefusesAlike-more before item says said alike =
       let p : Item → Bool = is_of_part s count place records in
       let after : filter is_refused_here (refusals_of s (before ++ item ∷ []))
-      ≡ filter is_refused_here (refusals_of s before) ++ filter is_refused_here (option_to_list (refusal_of s before item))
-      = ap (filter is_refused_here) (refusals_of-more s before item) ∙ filter-append is_refused_here (refusals_of s before) (option_to_list (refusal_of s before item)) in
+      ≡ filter is_refused_here (refusals_of s before)
+      ++ filter is_refused_here (option_to_list (refusal_of s before item))
+      = ap (filter is_refused_here) (refusals_of-more s before item)
+      ∙ filter-append is_refused_here (refusals_of s before) (option_to_list (refusal_of s before item)) in
       elim (cases_Bool (p item)) [
         | inl inside ↦
             let kept : filter p (before ++ item ∷ []) ≡ filter p before ++ item ∷ []
-            = filter-append p before (item ∷ []) ∙ ap (λ items. filter p before ++ items) (filter-passed p item [] inside) in
+            = filter-append p before (item ∷ [])
+            ∙ ap (λ items. filter p before ++ items) (filter-passed p item [] inside) in
             let same : refusal_of s (filter p before) item ≡ refusal_of s before item
-            = ap (option_map (λ c. let refusal : Refusal = record { number = item.number; code = c } in refusal)) (code_of-part before item says said inside) in
+            = ap (option_map (λ c. let refusal : Refusal = record { number = item.number; code = c } in refusal))
+            (code_of-part before item says said inside) in
             ap (refusals_of s) kept
             ∙ refusals_of-more s (filter p before) item
             ∙ ap (λ refusals. refusals ++ option_to_list (refusal_of s (filter p before) item)) alike
             ∙ ap (λ refusal. filter is_refused_here (refusals_of s before) ++ option_to_list refusal) same
-            ∙ sym (ap (λ refusals. filter is_refused_here (refusals_of s before) ++ refusals) (refusal-filter item (code_of s before item.what) inside))
+            ∙ sym (ap (λ refusals. filter is_refused_here (refusals_of s before) ++ refusals)
+            (refusal-filter item (code_of s before item.what) inside))
             ∙ sym after
         | inr outside ↦
             let left_out : filter p (before ++ item ∷ []) ≡ filter p before
-            = filter-append p before (item ∷ []) ∙ ap (λ items. filter p before ++ items) (filter-failed p item [] outside) ∙ append-nil (filter p before) in
+            = filter-append p before (item ∷ [])
+            ∙ ap (λ items. filter p before ++ items) (filter-failed p item [] outside) ∙ append-nil (filter p before) in
             ap (refusals_of s) left_out
             ∙ alike
             ∙ sym (append-nil (filter is_refused_here (refusals_of s before)))
-            ∙ sym (ap (λ refusals. filter is_refused_here (refusals_of s before) ++ refusals) (refusal-none item (code_of s before item.what) outside))
+            ∙ sym (ap (λ refusals. filter is_refused_here (refusals_of s before) ++ refusals)
+            (refusal-none item (code_of s before item.what) outside))
             ∙ sym after
       ]
 
-  RefusesAlike-all : (before items : List Item) → AllByRecursion (Says s records) before → AllByRecursion (Says s records) items → RefusesAlike before → RefusesAlike (before ++ items)
+  RefusesAlike-all : (before items : List Item) → AllByRecursion (Says s records) before
+      → AllByRecursion (Says s records) items → RefusesAlike before → RefusesAlike (before ++ items)
   RefusesAlike-all before [] says said alike = subst RefusesAlike (sym (append-nil before)) alike
   RefusesAlike-all before (item ∷ items) says said alike =
       subst RefusesAlike (append_assoc before (item ∷ []) items)
-      (RefusesAlike-all (before ++ item ∷ []) items (AllByRecursion-append (Says s records) before (item ∷ []) says (said.0, tt)) said.1
+      (RefusesAlike-all (before ++ item ∷ []) items
+      (AllByRecursion-append (Says s records) before (item ∷ []) says (said.0, tt)) said.1
       (RefusesAlike-more before item says said.0 alike))
 
   pub refusals_of-part : s.shard ≡ whole_feed
-      → refusals_of (of_shard count s place) (items_of (of_shard count s place) records).items ≡ filter is_refused_here (refusals_of s (items_of s records).items)
+      → refusals_of (of_shard count s place) (items_of (of_shard count s place) records).items
+      ≡ filter is_refused_here (refusals_of s (items_of s records).items)
   refusals_of-part whole =
       ap (refusals_of (of_shard count s place)) (items_of-part s count place whole records)
       ∙ RefusesAlike-all [] (items_of s records).items tt (items_of-Says s records) refl
 
   -- ---- the survivors of a shard
   changes_of-part : s.shard ≡ whole_feed
-      → changes_of (of_shard count s place) (items_of (of_shard count s place) records).items ≡ filter (is_of count place) (changes_of s (items_of s records).items)
+      → changes_of (of_shard count s place) (items_of (of_shard count s place) records).items
+      ≡ filter (is_of count place) (changes_of s (items_of s records).items)
   changes_of-part whole =
       ap (changes_of (of_shard count s place)) (items_of-part s count place whole records)
       ∙ changes_of-filter (items_of s records).items (items_of-Says s records)
@@ -410,25 +498,29 @@ module _ (count : ℕ) (changes : List Change) where
     each_once : IsDistinct bytes_eq ids
     from : (id : List ℕ) → Contains ids id → start ≤ shard_of count id
     present : (id : List ℕ) → Contains ids id → IsSome (life id)
-    all : (id : List ℕ) → start ≤ shard_of count id → shard_of count id < start + len → IsSome (life id) → Contains ids id
+    all : (id : List ℕ) → start ≤ shard_of count id → shard_of count id < start + len → IsSome (life id)
+        → Contains ids id
     theirs : map Some facts ≡ map life ids
 
   none-IsSome : IsSome {T = Fact} None → ⊥
   none-IsSome some = cc some
 
   -- the ids of a shard's survivors are in it
-  Survive-inside : (place : ℕ) (facts : List Fact) (survive : Survive (filter (is_of count place) changes) facts) (id : List ℕ) → Contains survive.ids id
+  Survive-inside : (place : ℕ) (facts : List Fact) (survive : Survive (filter (is_of count place) changes) facts)
+      (id : List ℕ) → Contains survive.ids id
       → shard_of count id ≡ place
   Survive-inside place facts survive id among = elim (cases_Bool (shard_of count id == place)) [
     | inl inside ↦ eqb-true (shard_of count id) place inside
-    | inr outside ↦ absurd (none-IsSome (subst IsSome (life_of-outside count place id changes outside) ((survive.present id).1 among)))
+    | inr outside ↦ absurd
+        (none-IsSome (subst IsSome (life_of-outside count place id changes outside) ((survive.present id).1 among)))
   ]
 
   map-life : (place : ℕ) (ids : List (List ℕ)) → ((id : List ℕ) → Contains ids id → shard_of count id ≡ place)
       → map (λ id. life_of id (filter (is_of count place) changes)) ids ≡ map life ids
   map-life place [] inside = refl
   map-life place (id ∷ ids) inside =
-      let here = life_of-inside count place id changes (eq-eqb (shard_of count id) place (inside id (Contains-head id ids))) in
+      let here =
+      life_of-inside count place id changes (eq-eqb (shard_of count id) place (inside id (Contains-head id ids))) in
       let after = map-life place ids (λ other among. inside other (Contains-tail id ids other among)) in
       λ i. here i ∷ after i
 
@@ -442,7 +534,8 @@ module _ (count : ℕ) (changes : List Change) where
     theirs = refl;
   }
 
-  SurvivesFrom-more : (start len : ℕ) (facts more : List Fact) → Survive (filter (is_of count start) changes) facts → SurvivesFrom (start + 1) len more
+  SurvivesFrom-more : (start len : ℕ) (facts more : List Fact) → Survive (filter (is_of count start) changes) facts
+      → SurvivesFrom (start + 1) len more
       → SurvivesFrom start (suc len) (facts ++ more)
   SurvivesFrom-more start len facts more here rest =
       let inside = Survive-inside start facts here in
@@ -460,14 +553,19 @@ module _ (count : ℕ) (changes : List Change) where
           | inr second ↦ omega (arith, rest.from id second)
         ];
         present = λ id among. elim (Contains-append_cases here.ids rest.ids id among) [
-          | inl first ↦ subst IsSome (life_of-inside count start id changes (eq-eqb (shard_of count id) start (inside id first))) ((here.present id).1 first)
+          | inl first ↦
+              subst IsSome (life_of-inside count start id changes (eq-eqb (shard_of count id) start (inside id first)))
+              ((here.present id).1 first)
           | inr second ↦ rest.present id second
         ];
         all = λ id first last lives. elim (cases_Bool (shard_of count id == start)) [
-          | inl at ↦ Contains-append_left here.ids rest.ids id ((here.present id).0 (subst IsSome (sym (life_of-inside count start id changes at)) lives))
+          | inl at ↦ Contains-append_left here.ids rest.ids id
+              ((here.present id).0 (subst IsSome (sym (life_of-inside count start id changes at)) lives))
           | inr above ↦
-              let differ : shard_of count id ≢ start = λ same. false≢true (sym above ∙ eq-eqb (shard_of count id) start same) in
-              Contains-append_right here.ids rest.ids id (rest.all id (omega (arith, first, differ)) (omega (arith, last)) lives)
+              let differ : shard_of count id ≢ start =
+              λ same. false≢true (sym above ∙ eq-eqb (shard_of count id) start same) in
+              Contains-append_right here.ids rest.ids id
+              (rest.all id (omega (arith, first, differ)) (omega (arith, last)) lives)
         ];
         theirs =
             map-append Some facts more
@@ -476,25 +574,32 @@ module _ (count : ℕ) (changes : List Change) where
             ∙ sym (map-append life here.ids rest.ids);
       }
 
-  SurvivesFrom-all : (start len : ℕ) (parts : List (List Fact)) → AllZip (λ place facts. Survive (filter (is_of count place) changes) facts) (range_with_len start len) parts
+  SurvivesFrom-all : (start len : ℕ) (parts : List (List Fact))
+      → AllZip (λ place facts. Survive (filter (is_of count place) changes) facts) (range_with_len start len) parts
       → SurvivesFrom start len (joined parts)
   SurvivesFrom-all start zero [] all = SurvivesFrom-none start
   SurvivesFrom-all start zero (facts ∷ parts) all = absurd all
   SurvivesFrom-all start (suc len) [] all = absurd all
-  SurvivesFrom-all start (suc len) (facts ∷ parts) all = SurvivesFrom-more start len facts (joined parts) all.0 (SurvivesFrom-all (start + 1) len parts all.1)
+  SurvivesFrom-all start (suc len) (facts ∷ parts) all =
+      SurvivesFrom-more start len facts (joined parts) all.0 (SurvivesFrom-all (start + 1) len parts all.1)
 
   -- all shards together
   SurvivesFrom-Survive : (facts : List Fact) → 1 ≤ count → SurvivesFrom 0 count facts → Survive changes facts
   SurvivesFrom-Survive facts some h = record {
     ids = h.ids;
     each_once = h.each_once;
-    present = λ id. (λ lives. h.all id (omega arith) (omega (arith, mod_below (fnv_hash id) count some)) lives, h.present id);
+    present =
+        λ id. (λ lives. h.all id (omega arith) (omega (arith, mod_below (fnv_hash id) count some)) lives, h.present id);
     facts_are_theirs = h.theirs;
   }
 
-AllZip-changes : (s : Layout) (count : ℕ) (records : List (List (List ℕ))) (start len : ℕ) (parts : List (List Fact)) → s.shard ≡ whole_feed
-    → AllZip (λ place facts. AreSurviving (of_shard count s place) (items_of (of_shard count s place) records).items facts) (range_with_len start len) parts
-    → AllZip (λ place facts. Survive (filter (is_of count place) (changes_of s (items_of s records).items)) facts) (range_with_len start len) parts
+AllZip-changes : (s : Layout) (count : ℕ) (records : List (List (List ℕ))) (start len : ℕ) (parts : List (List Fact))
+    → s.shard ≡ whole_feed
+    → AllZip
+    (λ place facts. AreSurviving (of_shard count s place) (items_of (of_shard count s place) records).items facts)
+    (range_with_len start len) parts
+    → AllZip (λ place facts. Survive (filter (is_of count place) (changes_of s (items_of s records).items)) facts)
+    (range_with_len start len) parts
 AllZip-changes s count records start zero [] whole all = tt
 AllZip-changes s count records start zero (facts ∷ parts) whole all = absurd all
 AllZip-changes s count records start (suc len) [] whole all = absurd all
@@ -504,9 +609,13 @@ AllZip-changes s count records start (suc len) (facts ∷ parts) whole all = (
 )
 
 -- the survivors of all shards of a feed survive it
-pub AreSurviving-parts : (s : Layout) (count : ℕ) (records : List (List (List ℕ))) (parts : List (List Fact)) → s.shard ≡ whole_feed → 1 ≤ count
-    → AllZip (λ place facts. AreSurviving (of_shard count s place) (items_of (of_shard count s place) records).items facts) (places count) parts
+pub AreSurviving-parts : (s : Layout) (count : ℕ) (records : List (List (List ℕ))) (parts : List (List Fact))
+    → s.shard ≡ whole_feed → 1 ≤ count
+    → AllZip
+    (λ place facts. AreSurviving (of_shard count s place) (items_of (of_shard count s place) records).items facts)
+    (places count) parts
     → AreSurviving s (items_of s records).items (joined parts)
 AreSurviving-parts s count records parts whole some all =
     let changes = changes_of s (items_of s records).items in
-    SurvivesFrom-Survive count changes (joined parts) some (SurvivesFrom-all count changes 0 count parts (AllZip-changes s count records 0 count parts whole all))
+    SurvivesFrom-Survive count changes (joined parts) some
+    (SurvivesFrom-all count changes 0 count parts (AllZip-changes s count records 0 count parts whole all))

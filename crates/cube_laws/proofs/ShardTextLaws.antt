@@ -1,7 +1,9 @@
 -- The printed partial cubes of all shards of feeds, merged, are the printed cube of the feeds.
-use Rattle.std.proofs.Common.{◌≡◌, ℕ, zero, suc, ◌+◌, ◌<◌, ◌≤◌, List, [], ◌∷◌, ◌++◌, length, map, IsPermutation, refl, sym, ap, subst, arith, append_assoc}
+use Rattle.std.proofs.Common.{◌≡◌, ℕ, zero, suc, ◌+◌, ◌<◌, ◌≤◌, List, [], ◌∷◌, ◌++◌, length, map, IsPermutation, refl}
+use Rattle.std.proofs.Common.{sym, ap, subst, arith, append_assoc}
 use Rattle.std.specs.List.{AllByRecursion, AllZip, range_with_len}
-use Rattle.std.proofs.lemmas.List.Sorted.{IsPermutation-refl, IsPermutation-trans, IsPermutation-append, IsPermutation-append_comm}
+use Rattle.std.proofs.lemmas.List.Sorted.{IsPermutation-refl, IsPermutation-trans, IsPermutation-append}
+use Rattle.std.proofs.lemmas.List.Sorted.{IsPermutation-append_comm}
 use Rattle.cube_core.specs.Items.{items_of}
 use Rattle.cube_core.specs.Layout.{Layout, IsSchema}
 use Rattle.cube_core.specs.PartialForm.{partial_form}
@@ -21,7 +23,8 @@ use Rattle.cube_laws.proofs.SourceGroupLaws.{AllZip-partial, SurviveTogether-par
 use Rattle.cube_laws.proofs.SurvivorRangeLaws.{SurviveTogether-CanBePrinted}
 
 -- a shard among so many is one of a schema
-of_shard-IsSchema : (s : Layout) (count place : ℕ) → IsSchema s → place < count → count ≤ 65536 → IsSchema (of_shard count s place)
+of_shard-IsSchema : (s : Layout) (count place : ℕ) → IsSchema s → place < count → count ≤ 65536
+    → IsSchema (of_shard count s place)
 of_shard-IsSchema s count place is below most = record {
   some_dimension = is.some_dimension;
   dimensions_at_most = is.dimensions_at_most;
@@ -46,11 +49,13 @@ of_shard-IsSchema s count place is below most = record {
 -- ---- shards of several sources
 -- what survives a shard of each source
 abbrev SurvivesShard : Layout → ℕ → List (List ℕ) → ℕ → List (List Fact) → Type 0
-SurvivesShard s count sources place parts = AllZip (AreSurviving (of_shard count s place)) (items_of_sources (of_shard count s place) sources) parts
+SurvivesShard s count sources place parts =
+    AllZip (AreSurviving (of_shard count s place)) (items_of_sources (of_shard count s place) sources) parts
 
 -- and what survives the shards from a place on, so many of them
 abbrev SurviveShards : Layout → ℕ → List (List ℕ) → ℕ → ℕ → List (List (List Fact)) → Type 0
-SurviveShards s count sources start len shards = AllZip (SurvivesShard s count sources) (range_with_len start len) shards
+SurviveShards s count sources start len shards =
+    AllZip (SurvivesShard s count sources) (range_with_len start len) shards
 
 -- two halves of each of two parts, the first halves first
 swap-halves : (a b c d : List Fact) → IsPermutation ((a ++ b) ++ (c ++ d)) ((a ++ c) ++ (b ++ d))
@@ -63,16 +68,20 @@ swap-halves a b c d =
     (IsPermutation-append (b ++ c) (c ++ b) d d (IsPermutation-append_comm b c) (IsPermutation-refl d))))))
 
 -- the first source of each shard, and the others
-record FirstApart (s : Layout) (count start len : ℕ) (bytes : List ℕ) (sources : List (List ℕ)) (shards : List (List (List Fact))) : Type 0 where
+record FirstApart (s : Layout) (count start len : ℕ) (bytes : List ℕ) (sources : List (List ℕ))
+    (shards : List (List (List Fact))) : Type 0 where
   firsts : List (List Fact)
   others : List (List (List Fact))
-  first_survive : AllZip (λ place facts. AreSurviving (of_shard count s place) (items_of (of_shard count s place) (records_of bytes)).items facts) (range_with_len start len) firsts
+  first_survive : AllZip (λ place facts. AreSurviving (of_shard count s place)
+      (items_of (of_shard count s place) (records_of bytes)).items facts) (range_with_len start len) firsts
   others_survive : SurviveShards s count sources start len others
   moved : IsPermutation (joined (map joined shards)) (joined firsts ++ joined (map joined others))
 
-FirstApart-all : (s : Layout) (count start len : ℕ) (bytes : List ℕ) (sources : List (List ℕ)) (shards : List (List (List Fact)))
+FirstApart-all : (s : Layout) (count start len : ℕ) (bytes : List ℕ) (sources : List (List ℕ))
+    (shards : List (List (List Fact)))
     → SurviveShards s count (bytes ∷ sources) start len shards → FirstApart s count start len bytes sources shards
-FirstApart-all s count start zero bytes sources [] all = record { firsts = []; others = []; first_survive = tt; others_survive = tt; moved = IsPermutation-refl [] }
+FirstApart-all s count start zero bytes sources [] all =
+    record { firsts = []; others = []; first_survive = tt; others_survive = tt; moved = IsPermutation-refl [] }
 FirstApart-all s count start zero bytes sources (parts ∷ shards) all = absurd all
 FirstApart-all s count start (suc len) bytes sources [] all = absurd all
 FirstApart-all s count start (suc len) bytes sources ([] ∷ shards) all = absurd all.0
@@ -87,12 +96,15 @@ FirstApart-all s count start (suc len) bytes sources ((part ∷ parts) ∷ shard
           ((part ++ joined parts) ++ joined (map joined shards))
           ((part ++ joined parts) ++ (joined rest.firsts ++ joined (map joined rest.others)))
           ((part ++ joined rest.firsts) ++ (joined parts ++ joined (map joined rest.others)))
-          (IsPermutation-append (part ++ joined parts) (part ++ joined parts) (joined (map joined shards)) (joined rest.firsts ++ joined (map joined rest.others)) (IsPermutation-refl (part ++ joined parts)) rest.moved)
+          (IsPermutation-append (part ++ joined parts) (part ++ joined parts) (joined (map joined shards))
+          (joined rest.firsts ++ joined (map joined rest.others))
+          (IsPermutation-refl (part ++ joined parts)) rest.moved)
           (swap-halves part (joined parts) (joined rest.firsts) (joined (map joined rest.others)));
     }
 
 -- shards of no source have no facts
-no_source : (s : Layout) (count start len : ℕ) (shards : List (List (List Fact))) → SurviveShards s count [] start len shards → joined (map joined shards) ≡ []
+no_source : (s : Layout) (count start len : ℕ) (shards : List (List (List Fact)))
+    → SurviveShards s count [] start len shards → joined (map joined shards) ≡ []
 no_source s count start zero [] all = refl
 no_source s count start zero (parts ∷ shards) all = absurd all
 no_source s count start (suc len) [] all = absurd all
@@ -105,7 +117,8 @@ record SurvivesAll (s : Layout) (sources : List (List ℕ)) (facts : List Fact) 
   survive : SurviveTogether s (items_of_sources s sources) together
   moved : IsPermutation facts together
 
-SurvivesAll-shards : (s : Layout) (count : ℕ) (sources : List (List ℕ)) (shards : List (List (List Fact))) → s.shard ≡ whole_feed → 1 ≤ count
+SurvivesAll-shards : (s : Layout) (count : ℕ) (sources : List (List ℕ)) (shards : List (List (List Fact)))
+    → s.shard ≡ whole_feed → 1 ≤ count
     → SurviveShards s count sources 0 count shards → SurvivesAll s sources (joined (map joined shards))
 SurvivesAll-shards s count [] shards whole some all = record {
   together = [];
@@ -114,7 +127,8 @@ SurvivesAll-shards s count [] shards whole some all = record {
 }
 SurvivesAll-shards s count (bytes ∷ sources) shards whole some all =
     let apart = FirstApart-all s count 0 count bytes sources shards all in
-    let first : AreSurviving s (items_of s (records_of bytes)).items (joined apart.firsts) = AreSurviving-parts s count (records_of bytes) apart.firsts whole some apart.first_survive in
+    let first : AreSurviving s (items_of s (records_of bytes)).items (joined apart.firsts) =
+    AreSurviving-parts s count (records_of bytes) apart.firsts whole some apart.first_survive in
     let rest = SurvivesAll-shards s count sources apart.others whole some apart.others_survive in
     record {
       together = joined apart.firsts ++ rest.together;
@@ -124,9 +138,11 @@ SurvivesAll-shards s count (bytes ∷ sources) shards whole some all =
         joined = ap (λ facts. joined apart.firsts ++ facts) rest.survive.joined;
       };
       moved = IsPermutation-trans
-          (joined (map joined shards)) (joined apart.firsts ++ joined (map joined apart.others)) (joined apart.firsts ++ rest.together)
+          (joined (map joined shards)) (joined apart.firsts ++ joined (map joined apart.others))
+          (joined apart.firsts ++ rest.together)
           apart.moved
-          (IsPermutation-append (joined apart.firsts) (joined apart.firsts) (joined (map joined apart.others)) rest.together (IsPermutation-refl (joined apart.firsts)) rest.moved);
+          (IsPermutation-append (joined apart.firsts) (joined apart.firsts)
+          (joined (map joined apart.others)) rest.together (IsPermutation-refl (joined apart.firsts)) rest.moved);
     }
 
 -- ---- the prints of shards
@@ -139,20 +155,26 @@ record ArePrintedShards (s : Layout) (count start len : ℕ) (sources texts : Li
   printable : AllByRecursion (CanBePrinted s) (map joined shards)
   as_many : length (map joined shards) ≡ len
 
-ArePrintedShards-all : (s : Layout) (count start len : ℕ) (sources texts : List (List ℕ)) → IsSchema s → start + len ≤ count → count ≤ 65536 → AreFewSources sources
-    → AllZip (λ place text. IsPrintedOf (partial_form (of_shard count s place)) sources text) (range_with_len start len) texts
+ArePrintedShards-all : (s : Layout) (count start len : ℕ) (sources texts : List (List ℕ)) → IsSchema s
+    → start + len ≤ count → count ≤ 65536 → AreFewSources sources
+    → AllZip (λ place text. IsPrintedOf (partial_form (of_shard count s place)) sources text)
+    (range_with_len start len) texts
     → ArePrintedShards s count start len sources texts
-ArePrintedShards-all s count start zero sources [] schema within most few all = record { shards = []; survive = tt; survive_partial = tt; printed = tt; printable = tt; as_many = refl }
+ArePrintedShards-all s count start zero sources [] schema within most few all =
+    record { shards = []; survive = tt; survive_partial = tt; printed = tt; printable = tt; as_many = refl }
 ArePrintedShards-all s count start zero sources (text ∷ texts) schema within most few all = absurd all
 ArePrintedShards-all s count start (suc len) sources [] schema within most few all = absurd all
 ArePrintedShards-all s count start (suc len) sources (text ∷ texts) schema within most few all =
-    let rest = ArePrintedShards-all s count (start + 1) len sources texts schema (omega (arith, within)) most few all.1 in
+    let rest =
+    ArePrintedShards-all s count (start + 1) len sources texts schema (omega (arith, within)) most few all.1 in
     let facts : List Fact = all.0.facts in
     let survive = SurviveTogether-partial (of_shard count s start) sources facts all.0.survive in
-    let can = SurviveTogether-CanBePrinted (of_shard count s start) sources (of_shard-IsSchema s count start schema (omega (arith, within)) most) few facts survive in
+    let can = SurviveTogether-CanBePrinted (of_shard count s start) sources
+    (of_shard-IsSchema s count start schema (omega (arith, within)) most) few facts survive in
     let parts : List (List Fact) = all.0.survive.parts in
     let is_joined : facts ≡ joined parts = all.0.survive.joined in
-    let print : IsPrinted (partial_form s) facts text = record { rows = all.0.printed.rows; are_rows = all.0.printed.are_rows; text_is = all.0.printed.text_is } in
+    let print : IsPrinted (partial_form s) facts text =
+    record { rows = all.0.printed.rows; are_rows = all.0.printed.are_rows; text_is = all.0.printed.text_is } in
     let printable : CanBePrinted s facts = record { fit = can.fit; countable = can.countable } in
     record {
       shards = parts ∷ rest.shards;
@@ -164,8 +186,10 @@ ArePrintedShards-all s count start (suc len) sources (text ∷ texts) schema wit
     }
 
 -- merging the printed shards of sources is printing the sources
-pub IsMergedText-shards : (s : Layout) (count : ℕ) (sources texts : List (List ℕ)) (text : List ℕ) → IsSchema s → s.shard ≡ whole_feed → 1 ≤ count → count ≤ 65536 → AreFewSources sources
-    → AllZip (λ place part. IsPrintedOf (partial_form (of_shard count s place)) sources part) (places count) texts → IsMergedText (partial_form s) s texts text → IsPrintedOf s sources text
+pub IsMergedText-shards : (s : Layout) (count : ℕ) (sources texts : List (List ℕ)) (text : List ℕ) → IsSchema s
+    → s.shard ≡ whole_feed → 1 ≤ count → count ≤ 65536 → AreFewSources sources
+    → AllZip (λ place part. IsPrintedOf (partial_form (of_shard count s place)) sources part) (places count) texts
+    → IsMergedText (partial_form s) s texts text → IsPrintedOf s sources text
 IsMergedText-shards s count sources texts text schema whole some most few all merged =
     let found = ArePrintedShards-all s count 0 count sources texts schema (omega arith) most few all in
     let survivors = SurvivesAll-shards s count sources found.shards whole some found.survive in
@@ -174,11 +198,14 @@ IsMergedText-shards s count sources texts text schema whole some most few all me
       facts = survivors.together;
       survive = survivors.survive;
       printed = IsPrinted-IsPermutation s (joined parts) survivors.together text survivors.moved
-          (IsMergedText-IsPrinted s parts texts text schema (omega (arith, some, found.as_many)) found.printable found.printed merged);
+          (IsMergedText-IsPrinted s parts texts text schema
+          (omega (arith, some, found.as_many)) found.printable found.printed merged);
     }
 
-pub IsMergedText-shards_partial : (s : Layout) (count : ℕ) (sources texts : List (List ℕ)) (text : List ℕ) → IsSchema s → s.shard ≡ whole_feed → 1 ≤ count → count ≤ 65536 → AreFewSources sources
-    → AllZip (λ place part. IsPrintedOf (partial_form (of_shard count s place)) sources part) (places count) texts → IsMergedText (partial_form s) (partial_form s) texts text
+pub IsMergedText-shards_partial : (s : Layout) (count : ℕ) (sources texts : List (List ℕ)) (text : List ℕ) → IsSchema s
+    → s.shard ≡ whole_feed → 1 ≤ count → count ≤ 65536 → AreFewSources sources
+    → AllZip (λ place part. IsPrintedOf (partial_form (of_shard count s place)) sources part) (places count) texts
+    → IsMergedText (partial_form s) (partial_form s) texts text
     → IsPrintedOf (partial_form s) sources text
 IsMergedText-shards_partial s count sources texts text schema whole some most few all merged =
     let found = ArePrintedShards-all s count 0 count sources texts schema (omega arith) most few all in
@@ -188,5 +215,6 @@ IsMergedText-shards_partial s count sources texts text schema whole some most fe
       facts = survivors.together;
       survive = survivors.survive;
       printed = IsPrinted-IsPermutation (partial_form s) (joined parts) survivors.together text survivors.moved
-          (IsMergedText-partial s parts texts text schema (omega (arith, some, found.as_many)) found.printable found.printed merged);
+          (IsMergedText-partial s parts texts text schema
+          (omega (arith, some, found.as_many)) found.printable found.printed merged);
     }

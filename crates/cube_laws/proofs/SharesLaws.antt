@@ -1,5 +1,6 @@
 -- What the answers of rows over shares of facts make is the answer over all of the facts.
-use Rattle.std.proofs.Common.{◌≡◌, ℕ, zero, suc, ◌≤ℤ◌, ℤ, List, [], ◌∷◌, ◌++◌, length, map, flat_map, sum_by, slice_get, Some, IsPermutation, refl, sym, ap, ◌∙◌, subst, arith}
+use Rattle.std.proofs.Common.{◌≡◌, ℕ, zero, suc, ◌≤ℤ◌, ℤ, List, [], ◌∷◌, ◌++◌, length, map, flat_map, sum_by, slice_get}
+use Rattle.std.proofs.Common.{Some, IsPermutation, refl, sym, ap, ◌∙◌, subst, arith}
 use Rattle.std.specs.List.{AllByRecursion, AllZip, cons_option}
 use Rattle.std.proofs.lemmas.Int.{ints}
 use Rattle.std.proofs.lemmas.List.Concat.{length-flat_map}
@@ -19,8 +20,10 @@ use Rattle.cube_core.proofs.ListLaws.{AllByRecursion-Contains, Contains-AllByRec
 use Rattle.cube_laws.specs.Cells.{answer_at}
 use Rattle.cube_laws.specs.Merging.{IsMadeOf}
 use Rattle.cube_laws.proofs.CountLaws.{AreAnswers-slice_get}
-use Rattle.cube_laws.proofs.RowOrderLaws.{Reordered, IsPermutation-Reordered, filter_map-Reordered, total_of-Reordered, IsSum-Reordered, IsBest-Reordered}
-use Rattle.cube_laws.proofs.RollupBestLaws.{Says, IsSum-Says, numbers_among, numbers_among-none, numbers_among-total_of, IsBest-numbers_among, IsBest-values_under, IsSum-total_of}
+use Rattle.cube_laws.proofs.RowOrderLaws.{Reordered, IsPermutation-Reordered, filter_map-Reordered, total_of-Reordered}
+use Rattle.cube_laws.proofs.RowOrderLaws.{IsSum-Reordered, IsBest-Reordered}
+use Rattle.cube_laws.proofs.RollupBestLaws.{Says, IsSum-Says, numbers_among, numbers_among-none, numbers_among-total_of}
+use Rattle.cube_laws.proofs.RollupBestLaws.{IsBest-numbers_among, IsBest-values_under, IsSum-total_of}
 
 -- a share of facts: some of them, and the row that answers over these
 abbrev pub Share : Type 0
@@ -46,19 +49,23 @@ abbrev values_in : ℕ → Share → List ℤ
 values_in m share = values_of m share.0
 
 -- the values of all facts are the values of each share, joined
-values_of-shares : (m : ℕ) (shares : List Share) → values_of m (flat_map facts_in shares) ≡ flat_map (values_in m) shares
+values_of-shares : (m : ℕ) (shares : List Share)
+    → values_of m (flat_map facts_in shares) ≡ flat_map (values_in m) shares
 values_of-shares m [] = refl
 values_of-shares m (share ∷ shares) =
     filter_map-append (value_of m) share.0 (flat_map facts_in shares)
     ∙ ap (λ values. values_in m share ++ values) (values_of-shares m shares)
 
 -- the numbers that the rows of shares answer
-numbers_of-shares : (place : ℕ) (shares : List Share) → numbers_of (column place (map row_in shares)) ≡ numbers_among (answer_in place) shares
+numbers_of-shares : (place : ℕ) (shares : List Share)
+    → numbers_of (column place (map row_in shares)) ≡ numbers_among (answer_in place) shares
 numbers_of-shares place [] = refl
-numbers_of-shares place (share ∷ shares) = ap (cons_option (number_in (answer_in place share))) (numbers_of-shares place shares)
+numbers_of-shares place (share ∷ shares) =
+    ap (cons_option (number_in (answer_in place share))) (numbers_of-shares place shares)
 
 -- the counts that they answer
-count_of-shares : (place : ℕ) (shares : List Share) → count_of (column place (map row_in shares)) ≡ sum_by (λ share. count_in (answer_in place share)) shares
+count_of-shares : (place : ℕ) (shares : List Share)
+    → count_of (column place (map row_in shares)) ≡ sum_by (λ share. count_in (answer_in place share)) shares
 count_of-shares place shares =
     sum_by-map (answer_at place) count_in (map row_in shares)
     ∙ sum_by-map row_in (λ row. count_in (answer_at place row)) shares
@@ -71,24 +78,38 @@ count_of-flat_map place f shares each =
     count_of-shares place shares
     ∙ sum_by-same (λ share. count_in (answer_in place share)) (λ share. length (f share)) shares
     (Contains-AllByRecursion (λ share. count_in (answer_in place share) ≡ length (f share)) shares
-    (λ share among. ap count_in (AllByRecursion-Contains (λ other. answer_in place other ≡ answer.Count (length (f other))) shares share each among)))
+    (λ share among. ap count_in
+    (AllByRecursion-Contains (λ other. answer_in place other ≡ answer.Count (length (f other)))
+    shares share each among)))
     ∙ sym (length-flat_map f shares)
 
 -- a mean of values is made of their sum and their count
-IsMeanOf-IsMean : (values : List ℤ) (total : ℤ) (count : ℕ) (a : Answer) → total ≡ total_of values → count ≡ length values → IsMeanOf total count a → IsMean values a
+IsMeanOf-IsMean : (values : List ℤ) (total : ℤ) (count : ℕ) (a : Answer) → total ≡ total_of values
+    → count ≡ length values → IsMeanOf total count a → IsMean values a
 IsMeanOf-IsMean [] total zero a sums counts h = h
 IsMeanOf-IsMean [] total (suc n) a sums counts h = absurd (omega (arith, counts))
 IsMeanOf-IsMean (v ∷ vs) total zero a sums counts h = absurd (omega (arith, counts))
-IsMeanOf-IsMean (v ∷ vs) total (suc n) a sums counts h =
-    (h.0, h.1, h.2, subst (λ t. IsInLowestTerms t (length (v ∷ vs)) h.0 h.1) sums (subst (λ k. IsInLowestTerms total k h.0 h.1) counts h.3))
+IsMeanOf-IsMean (v ∷ vs) total (suc n) a sums counts h = (
+  h.0,
+  h.1,
+  h.2,
+  subst (λ t. IsInLowestTerms t (length (v ∷ vs)) h.0 h.1) sums
+      (subst (λ k. IsInLowestTerms total k h.0 h.1) counts h.3),
+)
 
 -- and a mean that is made of them is the mean of the values
-IsMean-IsMeanOf : (values : List ℤ) (total : ℤ) (count : ℕ) (a : Answer) → total ≡ total_of values → count ≡ length values → IsMean values a → IsMeanOf total count a
+IsMean-IsMeanOf : (values : List ℤ) (total : ℤ) (count : ℕ) (a : Answer) → total ≡ total_of values
+    → count ≡ length values → IsMean values a → IsMeanOf total count a
 IsMean-IsMeanOf [] total zero a sums counts h = h
 IsMean-IsMeanOf [] total (suc n) a sums counts h = absurd (omega (arith, counts))
 IsMean-IsMeanOf (v ∷ vs) total zero a sums counts h = absurd (omega (arith, counts))
-IsMean-IsMeanOf (v ∷ vs) total (suc n) a sums counts h =
-    (h.0, h.1, h.2, subst (λ t. IsInLowestTerms t (suc n) h.0 h.1) (sym sums) (subst (λ k. IsInLowestTerms (total_of (v ∷ vs)) k h.0 h.1) (sym counts) h.3))
+IsMean-IsMeanOf (v ∷ vs) total (suc n) a sums counts h = (
+  h.0,
+  h.1,
+  h.2,
+  subst (λ t. IsInLowestTerms t (suc n) h.0 h.1) (sym sums)
+      (subst (λ k. IsInLowestTerms (total_of (v ∷ vs)) k h.0 h.1) (sym counts) h.3),
+)
 
 module _ (given : List Agg) (shares : List Share) (each : AllByRecursion (Answers given) shares) where
   -- all facts, and the rows
@@ -103,27 +124,33 @@ module _ (given : List Agg) (shares : List Share) (each : AllByRecursion (Answer
       → ((share : Share) → IsAnswer share.0 agg (answer_in place share) → P share) → AllByRecursion P shares
   answers-at P place agg stands to =
       Contains-AllByRecursion P shares (λ share among.
-      to share (AreAnswers-slice_get share.0 given share.1.answers place agg (AllByRecursion-Contains (Answers given) shares share each among) stands))
+      to share (AreAnswers-slice_get share.0 given share.1.answers place agg
+      (AllByRecursion-Contains (Answers given) shares share each among) stands))
 
   -- counts of values add up
-  Count-shares : (place m : ℕ) → slice_get given place ≡ Some (Count m) → count_of (column place share_rows) ≡ length (values_of m all_facts)
+  Count-shares : (place m : ℕ) → slice_get given place ≡ Some (Count m)
+      → count_of (column place share_rows) ≡ length (values_of m all_facts)
   Count-shares place m stands =
       count_of-flat_map place (values_in m) shares
-      (answers-at (λ share. answer_in place share ≡ answer.Count (length (values_in m share))) place (Count m) stands (λ share h. h))
+      (answers-at (λ share. answer_in place share ≡ answer.Count (length (values_in m share))) place (Count m) stands
+      (λ share h. h))
       ∙ ap length (sym (values_of-shares m shares))
 
   -- sums are the sum
-  Sum-total_of : (place m : ℕ) → slice_get given place ≡ Some (Sum m) → total_of (numbers_of (column place share_rows)) ≡ total_of (values_of m all_facts)
+  Sum-total_of : (place m : ℕ) → slice_get given place ≡ Some (Sum m)
+      → total_of (numbers_of (column place share_rows)) ≡ total_of (values_of m all_facts)
   Sum-total_of place m stands =
       ap total_of (numbers_of-shares place shares)
       ∙ numbers_among-total_of (values_in m) (answer_in place) shares
       (answers-at (λ share. IsSum (values_in m share) (answer_in place share)) place (Sum m) stands (λ share h. h))
       ∙ ap total_of (sym (values_of-shares m shares))
 
-  Sum-shares : (place m : ℕ) (a : Answer) → slice_get given place ≡ Some (Sum m) → IsSum (numbers_of (column place share_rows)) a → IsSum (values_of m all_facts) a
+  Sum-shares : (place m : ℕ) (a : Answer) → slice_get given place ≡ Some (Sum m)
+      → IsSum (numbers_of (column place share_rows)) a → IsSum (values_of m all_facts) a
   Sum-shares place m a stands h =
       let none = numbers_among-none (values_in m) (answer_in place) shares
-      (answers-at (λ share. Says (values_in m share) (answer_in place share)) place (Sum m) stands (λ share is. IsSum-Says (values_in m share) (answer_in place share) is)) in
+      (answers-at (λ share. Says (values_in m share) (answer_in place share)) place (Sum m) stands
+      (λ share is. IsSum-Says (values_in m share) (answer_in place share) is)) in
       subst (λ values. IsSum values a) (sym (values_of-shares m shares))
       (IsSum-total_of (flat_map (values_in m) shares) (numbers_among (answer_in place) shares) a (none.1, none.0)
       (sym (numbers_among-total_of (values_in m) (answer_in place) shares
@@ -131,8 +158,10 @@ module _ (given : List Agg) (shares : List Share) (each : AllByRecursion (Answer
       (subst (λ numbers. IsSum numbers a) (numbers_of-shares place shares) h))
 
   -- the best of the best is the best
-  Best-shares : (R : ℤ → ℤ → Type 0) → ((m n x : ℤ) → R m n → R n x → R m x) → (place m : ℕ) (agg : Agg) (a : Answer) → slice_get given place ≡ Some agg
-      → ((share : Share) → IsAnswer share.0 agg (answer_in place share) → IsBest R (values_in m share) (answer_in place share))
+  Best-shares : (R : ℤ → ℤ → Type 0) → ((m n x : ℤ) → R m n → R n x → R m x) → (place m : ℕ) (agg : Agg) (a : Answer)
+      → slice_get given place ≡ Some agg
+      → ((share : Share) → IsAnswer share.0 agg (answer_in place share)
+      → IsBest R (values_in m share) (answer_in place share))
       → IsBest R (numbers_of (column place share_rows)) a → IsBest R (values_of m all_facts) a
   Best-shares R better place m agg a stands best h =
       subst (λ values. IsBest R values a) (sym (values_of-shares m shares))
@@ -144,34 +173,43 @@ module _ (given : List Agg) (shares : List Share) (each : AllByRecursion (Answer
   pub IsMerged-shares : (agg : Agg) (a : Answer) → IsMerged given share_rows agg a → IsAnswer all_facts agg a
   IsMerged-shares CountAll a h =
       h.2 ∙ ap answer.Count (count_of-flat_map h.0 facts_in shares
-      (answers-at (λ share. answer_in h.0 share ≡ answer.Count (length (facts_in share))) h.0 CountAll h.1 (λ share is. is)))
+      (answers-at (λ share. answer_in h.0 share ≡ answer.Count (length (facts_in share))) h.0 CountAll h.1
+      (λ share is. is)))
   IsMerged-shares (Count m) a h = h.2 ∙ ap answer.Count (Count-shares h.0 m h.1)
   IsMerged-shares (Sum m) a h = Sum-shares h.0 m a h.1 h.2
-  IsMerged-shares (Min m) a h = Best-shares (λ m x. m ≤ℤ x) (λ m n x below above. omega (arith, ints)) h.0 m (Min m) a h.1 (λ share is. is) h.2
-  IsMerged-shares (Max m) a h = Best-shares (λ m x. x ≤ℤ m) (λ m n x below above. omega (arith, ints)) h.0 m (Max m) a h.1 (λ share is. is) h.2
+  IsMerged-shares (Min m) a h =
+      Best-shares (λ m x. m ≤ℤ x) (λ m n x below above. omega (arith, ints)) h.0 m (Min m) a h.1 (λ share is. is) h.2
+  IsMerged-shares (Max m) a h =
+      Best-shares (λ m x. x ≤ℤ m) (λ m n x below above. omega (arith, ints)) h.0 m (Max m) a h.1 (λ share is. is) h.2
   IsMerged-shares (Avg m) a h =
-      IsMeanOf-IsMean (values_of m all_facts) (total_of (numbers_of (column h.0 share_rows))) (count_of (column h.1 share_rows)) a
+      IsMeanOf-IsMean (values_of m all_facts) (total_of (numbers_of (column h.0 share_rows)))
+      (count_of (column h.1 share_rows)) a
       (Sum-total_of h.0 m h.2) (Count-shares h.1 m h.3) h.4
 
-  pub AreMerged-shares : (wanted : List Agg) (answers : List Answer) → AllZip (IsMerged given share_rows) wanted answers → AreAnswers all_facts wanted answers
+  pub AreMerged-shares : (wanted : List Agg) (answers : List Answer) → AllZip (IsMerged given share_rows) wanted answers
+      → AreAnswers all_facts wanted answers
   AreMerged-shares [] [] h = h
   AreMerged-shares [] (a ∷ answers) h = h
   AreMerged-shares (agg ∷ wanted) [] h = h
   AreMerged-shares (agg ∷ wanted) (a ∷ answers) h = (IsMerged-shares agg a h.0, AreMerged-shares wanted answers h.1)
 
   -- ---- and back: the answer over all facts is what the rows' answers make
-  Sum-back : (place m : ℕ) (a : Answer) → slice_get given place ≡ Some (Sum m) → IsSum (values_of m all_facts) a → IsSum (numbers_of (column place share_rows)) a
+  Sum-back : (place m : ℕ) (a : Answer) → slice_get given place ≡ Some (Sum m) → IsSum (values_of m all_facts) a
+      → IsSum (numbers_of (column place share_rows)) a
   Sum-back place m a stands h =
       let none = numbers_among-none (values_in m) (answer_in place) shares
-      (answers-at (λ share. Says (values_in m share) (answer_in place share)) place (Sum m) stands (λ share is. IsSum-Says (values_in m share) (answer_in place share) is)) in
+      (answers-at (λ share. Says (values_in m share) (answer_in place share)) place (Sum m) stands
+      (λ share is. IsSum-Says (values_in m share) (answer_in place share) is)) in
       subst (λ numbers. IsSum numbers a) (sym (numbers_of-shares place shares))
       (IsSum-total_of (numbers_among (answer_in place) shares) (flat_map (values_in m) shares) a none
       (numbers_among-total_of (values_in m) (answer_in place) shares
       (answers-at (λ share. IsSum (values_in m share) (answer_in place share)) place (Sum m) stands (λ share is. is)))
       (subst (λ values. IsSum values a) (values_of-shares m shares) h))
 
-  Best-back : (R : ℤ → ℤ → Type 0) → ((m n : ℤ) → R m n → R n m → m ≡ n) → (place m : ℕ) (agg : Agg) (a : Answer) → slice_get given place ≡ Some agg
-      → ((share : Share) → IsAnswer share.0 agg (answer_in place share) → IsBest R (values_in m share) (answer_in place share))
+  Best-back : (R : ℤ → ℤ → Type 0) → ((m n : ℤ) → R m n → R n m → m ≡ n) → (place m : ℕ) (agg : Agg) (a : Answer)
+      → slice_get given place ≡ Some agg
+      → ((share : Share) → IsAnswer share.0 agg (answer_in place share)
+      → IsBest R (values_in m share) (answer_in place share))
       → IsBest R (values_of m all_facts) a → IsBest R (numbers_of (column place share_rows)) a
   Best-back R one place m agg a stands best h =
       subst (λ numbers. IsBest R numbers a) (sym (numbers_of-shares place shares))
@@ -179,58 +217,84 @@ module _ (given : List Agg) (shares : List Share) (each : AllByRecursion (Answer
       (answers-at (λ share. IsBest R (values_in m share) (answer_in place share)) place agg stands best)
       (subst (λ values. IsBest R values a) (values_of-shares m shares) h))
 
-  IsAnswer-shares : (agg : Agg) (a : Answer) → IsMadeOf given agg → IsAnswer all_facts agg a → IsMerged given share_rows agg a
+  IsAnswer-shares : (agg : Agg) (a : Answer) → IsMadeOf given agg → IsAnswer all_facts agg a
+      → IsMerged given share_rows agg a
   IsAnswer-shares CountAll a made h = (
     made.0,
     made.1,
     h ∙ ap answer.Count (sym (count_of-flat_map made.0 facts_in shares
-        (answers-at (λ share. answer_in made.0 share ≡ answer.Count (length (facts_in share))) made.0 CountAll made.1 (λ share is. is)))),
+        (answers-at (λ share. answer_in made.0 share ≡ answer.Count (length (facts_in share))) made.0 CountAll made.1
+        (λ share is. is)))),
   )
   IsAnswer-shares (Count m) a made h = (made.0, made.1, h ∙ ap answer.Count (sym (Count-shares made.0 m made.1)))
   IsAnswer-shares (Sum m) a made h = (made.0, made.1, Sum-back made.0 m a made.1 h)
-  IsAnswer-shares (Min m) a made h = (made.0, made.1, Best-back (λ m x. m ≤ℤ x) (λ m n below above. omega (arith, ints)) made.0 m (Min m) a made.1 (λ share is. is) h)
-  IsAnswer-shares (Max m) a made h = (made.0, made.1, Best-back (λ m x. x ≤ℤ m) (λ m n below above. omega (arith, ints)) made.0 m (Max m) a made.1 (λ share is. is) h)
+  IsAnswer-shares (Min m) a made h = (
+    made.0,
+    made.1,
+    Best-back (λ m x. m ≤ℤ x) (λ m n below above. omega (arith, ints)) made.0 m (Min m) a made.1 (λ share is. is) h,
+  )
+  IsAnswer-shares (Max m) a made h = (
+    made.0,
+    made.1,
+    Best-back (λ m x. x ≤ℤ m) (λ m n below above. omega (arith, ints)) made.0 m (Max m) a made.1 (λ share is. is) h,
+  )
   IsAnswer-shares (Avg m) a made h = (
     made.0.0,
     made.1.0,
     made.0.1,
     made.1.1,
-    IsMean-IsMeanOf (values_of m all_facts) (total_of (numbers_of (column made.0.0 share_rows))) (count_of (column made.1.0 share_rows)) a
+    IsMean-IsMeanOf (values_of m all_facts) (total_of (numbers_of (column made.0.0 share_rows)))
+        (count_of (column made.1.0 share_rows)) a
         (Sum-total_of made.0.0 m made.0.1) (Count-shares made.1.0 m made.1.1) h,
   )
 
-  pub AreAnswers-shares : (wanted : List Agg) (answers : List Answer) → AllByRecursion (IsMadeOf given) wanted → AreAnswers all_facts wanted answers → AllZip (IsMerged given share_rows) wanted answers
+  pub AreAnswers-shares : (wanted : List Agg) (answers : List Answer) → AllByRecursion (IsMadeOf given) wanted
+      → AreAnswers all_facts wanted answers → AllZip (IsMerged given share_rows) wanted answers
   AreAnswers-shares [] [] made h = h
   AreAnswers-shares [] (a ∷ answers) made h = h
   AreAnswers-shares (agg ∷ wanted) [] made h = h
-  AreAnswers-shares (agg ∷ wanted) (a ∷ answers) made h = (IsAnswer-shares agg a made.0 h.0, AreAnswers-shares wanted answers made.1 h.1)
+  AreAnswers-shares (agg ∷ wanted) (a ∷ answers) made h =
+      (IsAnswer-shares agg a made.0 h.0, AreAnswers-shares wanted answers made.1 h.1)
 
 -- ---- rows in another order
-count_of-IsPermutation : (place : ℕ) (rows rows' : List Row) → IsPermutation rows rows' → count_of (column place rows') ≡ count_of (column place rows)
+count_of-IsPermutation : (place : ℕ) (rows rows' : List Row) → IsPermutation rows rows'
+    → count_of (column place rows') ≡ count_of (column place rows)
 count_of-IsPermutation place rows rows' h =
-    sum_by-IsPermutation count_in (column place rows) (column place rows') (IsPermutation-map (answer_at place) rows rows' h)
+    sum_by-IsPermutation count_in (column place rows) (column place rows')
+    (IsPermutation-map (answer_at place) rows rows' h)
 
-numbers_of-Reordered : (place : ℕ) (rows rows' : List Row) → IsPermutation rows rows' → Reordered (numbers_of (column place rows)) (numbers_of (column place rows'))
+numbers_of-Reordered : (place : ℕ) (rows rows' : List Row) → IsPermutation rows rows'
+    → Reordered (numbers_of (column place rows)) (numbers_of (column place rows'))
 numbers_of-Reordered place rows rows' h =
-    filter_map-Reordered number_in (IsPermutation-Reordered (column place rows) (column place rows') (IsPermutation-map (answer_at place) rows rows' h))
+    filter_map-Reordered number_in (IsPermutation-Reordered (column place rows) (column place rows')
+    (IsPermutation-map (answer_at place) rows rows' h))
 
 -- rows in another order make the same answer
-pub IsMerged-IsPermutation : (given : List Agg) (rows rows' : List Row) (agg : Agg) (a : Answer) → IsPermutation rows rows' → IsMerged given rows agg a → IsMerged given rows' agg a
-IsMerged-IsPermutation given rows rows' CountAll a p h = (h.0, h.1, h.2 ∙ ap answer.Count (sym (count_of-IsPermutation h.0 rows rows' p)))
-IsMerged-IsPermutation given rows rows' (Count m) a p h = (h.0, h.1, h.2 ∙ ap answer.Count (sym (count_of-IsPermutation h.0 rows rows' p)))
-IsMerged-IsPermutation given rows rows' (Sum m) a p h = (h.0, h.1, IsSum-Reordered _ _ a (numbers_of-Reordered h.0 rows rows' p) h.2)
-IsMerged-IsPermutation given rows rows' (Min m) a p h = (h.0, h.1, IsBest-Reordered (λ m x. m ≤ℤ x) _ _ a (numbers_of-Reordered h.0 rows rows' p) h.2)
-IsMerged-IsPermutation given rows rows' (Max m) a p h = (h.0, h.1, IsBest-Reordered (λ m x. x ≤ℤ m) _ _ a (numbers_of-Reordered h.0 rows rows' p) h.2)
+pub IsMerged-IsPermutation : (given : List Agg) (rows rows' : List Row) (agg : Agg) (a : Answer)
+    → IsPermutation rows rows' → IsMerged given rows agg a → IsMerged given rows' agg a
+IsMerged-IsPermutation given rows rows' CountAll a p h =
+    (h.0, h.1, h.2 ∙ ap answer.Count (sym (count_of-IsPermutation h.0 rows rows' p)))
+IsMerged-IsPermutation given rows rows' (Count m) a p h =
+    (h.0, h.1, h.2 ∙ ap answer.Count (sym (count_of-IsPermutation h.0 rows rows' p)))
+IsMerged-IsPermutation given rows rows' (Sum m) a p h =
+    (h.0, h.1, IsSum-Reordered _ _ a (numbers_of-Reordered h.0 rows rows' p) h.2)
+IsMerged-IsPermutation given rows rows' (Min m) a p h =
+    (h.0, h.1, IsBest-Reordered (λ m x. m ≤ℤ x) _ _ a (numbers_of-Reordered h.0 rows rows' p) h.2)
+IsMerged-IsPermutation given rows rows' (Max m) a p h =
+    (h.0, h.1, IsBest-Reordered (λ m x. x ≤ℤ m) _ _ a (numbers_of-Reordered h.0 rows rows' p) h.2)
 IsMerged-IsPermutation given rows rows' (Avg m) a p h = (
   h.0,
   h.1,
   h.2,
   h.3,
-  subst (λ total. IsMeanOf total (count_of (column h.1 rows')) a) (total_of-Reordered (numbers_of-Reordered h.0 rows rows' p))
-      (subst (λ count. IsMeanOf (total_of (numbers_of (column h.0 rows))) count a) (sym (count_of-IsPermutation h.1 rows rows' p)) h.4),
+  subst (λ total. IsMeanOf total (count_of (column h.1 rows')) a)
+      (total_of-Reordered (numbers_of-Reordered h.0 rows rows' p))
+      (subst (λ count. IsMeanOf (total_of (numbers_of (column h.0 rows))) count a)
+      (sym (count_of-IsPermutation h.1 rows rows' p)) h.4),
 )
 
-pub AreMerged-IsPermutation : (given : List Agg) (rows rows' : List Row) (wanted : List Agg) (answers : List Answer) → IsPermutation rows rows'
+pub AreMerged-IsPermutation : (given : List Agg) (rows rows' : List Row) (wanted : List Agg) (answers : List Answer)
+    → IsPermutation rows rows'
     → AllZip (IsMerged given rows) wanted answers → AllZip (IsMerged given rows') wanted answers
 AreMerged-IsPermutation given rows rows' [] [] p h = h
 AreMerged-IsPermutation given rows rows' [] (a ∷ answers) p h = h

@@ -1,5 +1,6 @@
 -- In a schema no two aggregates share a spelling.
-use Rattle.std.proofs.Common.{◌≡◌, ℕ, ◌+◌, ◌<◌, true, false, not, zero, suc, List, [], ◌∷◌, ◌++◌, length, get_or, codes, Option, Some, None, option_map, add-zero, arith, refl, ap, ◌∙◌, sym, inl, inr}
+use Rattle.std.proofs.Common.{◌≡◌, ℕ, ◌+◌, ◌<◌, true, false, not, zero, suc, List, [], ◌∷◌, ◌++◌, length, get_or, codes}
+use Rattle.std.proofs.Common.{Option, Some, None, option_map, add-zero, arith, refl, ap, ◌∙◌, sym, inl, inr}
 use Rattle.std.specs.Str.{bytes_eq}
 use Rattle.std.specs.Option.{option_or}
 use Rattle.std.specs.List.{list_all, position_from}
@@ -9,14 +10,17 @@ use Rattle.std.proofs.lemmas.Bool.Decides.{nat_tests}
 use Rattle.std.proofs.lemmas.List.Sums.{AllPass-from_list_all}
 use Rattle.std.proofs.lemmas.Iterator.Adapters.{position_from-zero}
 use Rattle.std.proofs.lemmas.List.Folds.{list_all-append}
-use Rattle.cube_core.specs.Layout.{Layout, IsSchema, spelling_of, is_aggregate_of, is_listed, are_distinct, is_lawful_name}
+use Rattle.cube_core.specs.Layout.{Layout, IsSchema, spelling_of, is_aggregate_of, is_listed, are_distinct}
+use Rattle.cube_core.specs.Layout.{is_lawful_name}
 use Rattle.cube_core.specs.SchemaDocument.{aggregate_spelled}
 use Rattle.cube_core.specs.declared.aggregate.Agg.{Agg}
 use Rattle.cube_core.specs.declared.aggregate.Agg.TheVariants.{CountAll, Count, Sum, Min, Max, Avg}
-use Rattle.cube_core.proofs.SchemaSpellingLaws.{aggregate_spelled_measure_in, measure_in, position-between, position-between_none, bytes_eq-between}
+use Rattle.cube_core.proofs.SchemaSpellingLaws.{aggregate_spelled_measure_in, measure_in, position-between}
+use Rattle.cube_core.proofs.SchemaSpellingLaws.{position-between_none, bytes_eq-between}
 
 -- a text that is at a place of a list is listed
-is_listed-get_or : (text : List ℕ) (texts : List (List ℕ)) (m : ℕ) → m < length texts → text ≡ get_or texts m [] → is_listed text texts ≡ true
+is_listed-get_or : (text : List ℕ) (texts : List (List ℕ)) (m : ℕ) → m < length texts → text ≡ get_or texts m []
+    → is_listed text texts ≡ true
 is_listed-get_or text [] m inside same = absurd (omega arith)
 is_listed-get_or text (first ∷ texts) zero inside same = rw ((bytes_eq-Decides text first).1 same)
 is_listed-get_or text (first ∷ texts) (suc m) inside same =
@@ -26,49 +30,67 @@ is_listed-get_or text (first ∷ texts) (suc m) inside same =
     ]
 
 -- a name stands at one place among names that differ
-position_of-name : (names : List (List ℕ)) (m k : ℕ) → are_distinct names ≡ true → m < length names → position_from (λ name. bytes_eq name (get_or names m [])) k names ≡ Some (k + m)
+position_of-name : (names : List (List ℕ)) (m k : ℕ) → are_distinct names ≡ true → m < length names
+    → position_from (λ name. bytes_eq name (get_or names m [])) k names ≡ Some (k + m)
 position_of-name [] m k distinct inside = absurd (omega arith)
 position_of-name (name ∷ names) zero k distinct inside = rw ((bytes_eq-Decides name name).1 refl, add-zero k)
 position_of-name (name ∷ names) (suc m) k distinct inside =
     let (alone, others) = and_parts (not (is_listed name names)) (are_distinct names) distinct in
     let other : bytes_eq name (get_or names m []) ≡ false =
-    false_from_ne_true _ (λ same. false≢true (sym (not-true _ alone) ∙ is_listed-get_or name names m (omega arith) ((bytes_eq-Decides name (get_or names m [])).0 same))) in
+    false_from_ne_true _ (λ same. false≢true (sym (not-true _ alone)
+    ∙ is_listed-get_or name names m (omega arith) ((bytes_eq-Decides name (get_or names m [])).0 same))) in
     rw other (position_of-name names m (k + 1) others (omega arith) ∙ ap Some (omega arith))
 
 -- the measure that a spelling names
-measure_in-own : (measures : List (List ℕ)) (m : ℕ) (opening : List ℕ) → are_distinct measures ≡ true → m < length measures
+measure_in-own : (measures : List (List ℕ)) (m : ℕ) (opening : List ℕ) → are_distinct measures ≡ true
+    → m < length measures
     → measure_in measures ((opening ++ get_or measures m []) ++ codes ")") opening ≡ Some m
 measure_in-own measures m opening distinct inside =
-    sym (position-between opening (codes ")") ((opening ++ get_or measures m []) ++ codes ")") (get_or measures m []) measures refl)
+    sym (position-between opening (codes ")") ((opening ++ get_or measures m []) ++ codes ")")
+    (get_or measures m []) measures refl)
     ∙ position_from-zero (λ name. bytes_eq name (get_or measures m [])) measures
     ∙ position_of-name measures m 0 distinct inside
     ∙ ap Some (omega arith)
 
 -- no measure is named by a text that another function begins
-measure_in-other : (measures : List (List ℕ)) (text opening : List ℕ) → ((name : List ℕ) → bytes_eq text ((opening ++ name) ++ codes ")") ≡ false) → measure_in measures text opening ≡ None
+measure_in-other : (measures : List (List ℕ)) (text opening : List ℕ)
+    → ((name : List ℕ) → bytes_eq text ((opening ++ name) ++ codes ")") ≡ false)
+    → measure_in measures text opening ≡ None
 measure_in-other measures text opening other =
-    position-between_none opening (codes ")") text measures (λ name same. false≢true (sym (other name) ∙ (bytes_eq-Decides text ((opening ++ name) ++ codes ")")).1 (sym same)))
+    position-between_none opening (codes ")") text measures
+    (λ name same. false≢true (sym (other name) ∙ (bytes_eq-Decides text ((opening ++ name) ++ codes ")")).1 (sym same)))
 
 -- a function that has no such measure is passed over, and one that has is taken
-option_or-None : (make : ℕ → Agg) (measure : Option ℕ) (others : Option Agg) (agg : Agg) → measure ≡ None → others ≡ Some agg → option_or (option_map make measure) others ≡ Some agg
+option_or-None : (make : ℕ → Agg) (measure : Option ℕ) (others : Option Agg) (agg : Agg) → measure ≡ None
+    → others ≡ Some agg → option_or (option_map make measure) others ≡ Some agg
 option_or-None make measure others agg none rest = rw none rest
 
-option_or-Some : (make : ℕ → Agg) (measure : Option ℕ) (others : Option Agg) (m : ℕ) → measure ≡ Some m → option_or (option_map make measure) others ≡ Some (make m)
+option_or-Some : (make : ℕ → Agg) (measure : Option ℕ) (others : Option Agg) (m : ℕ) → measure ≡ Some m
+    → option_or (option_map make measure) others ≡ Some (make m)
 option_or-Some make measure others m some = rw some
 
 -- a lawful name isn't a star
-is_lawful_name-star : (names : List (List ℕ)) (m : ℕ) → list_all is_lawful_name names ≡ true → m < length names → bytes_eq (codes "*") (get_or names m []) ≡ false
+is_lawful_name-star : (names : List (List ℕ)) (m : ℕ) → list_all is_lawful_name names ≡ true → m < length names
+    → bytes_eq (codes "*") (get_or names m []) ≡ false
 is_lawful_name-star names m lawful inside =
-    let this : is_lawful_name (get_or names m []) ≡ true = AllPass-from_list_all is_lawful_name names lawful m [] inside in
-    false_from_ne_true _ (λ star. false≢true (ap is_lawful_name ((bytes_eq-Decides (codes "*") (get_or names m [])).0 star) ∙ this))
+    let this : is_lawful_name (get_or names m []) ≡ true =
+    AllPass-from_list_all is_lawful_name names lawful m [] inside in
+    false_from_ne_true _
+    (λ star. false≢true (ap is_lawful_name ((bytes_eq-Decides (codes "*") (get_or names m [])).0 star) ∙ this))
 
-pub aggregate_spelled-spelling_of : (measures : List (List ℕ)) (agg : Agg) → list_all is_lawful_name measures ≡ true → are_distinct measures ≡ true → is_aggregate_of (length measures) agg ≡ true → aggregate_spelled measures (spelling_of measures agg) ≡ Some agg
-aggregate_spelled-spelling_of measures CountAll lawful distinct of = aggregate_spelled_measure_in measures (codes "count(*)")
+pub aggregate_spelled-spelling_of : (measures : List (List ℕ)) (agg : Agg) → list_all is_lawful_name measures ≡ true
+    → are_distinct measures ≡ true → is_aggregate_of (length measures) agg ≡ true
+    → aggregate_spelled measures (spelling_of measures agg) ≡ Some agg
+aggregate_spelled-spelling_of measures CountAll lawful distinct of =
+    aggregate_spelled_measure_in measures (codes "count(*)")
 aggregate_spelled-spelling_of measures (Count m) lawful distinct of =
     let inside : m < length measures = grind (arith, nat_tests) in
     let text : List ℕ = spelling_of measures (Count m) in
-    let star : bytes_eq text (codes "count(*)") ≡ false = bytes_eq-between (codes "count(") (codes ")") (codes "*") text (get_or measures m []) refl ∙ is_lawful_name-star measures m lawful inside in
-    aggregate_spelled_measure_in measures text ∙ rw star (option_or-Some Count _ _ m (measure_in-own measures m (codes "count(") distinct inside))
+    let star : bytes_eq text (codes "count(*)") ≡ false =
+    bytes_eq-between (codes "count(") (codes ")") (codes "*") text (get_or measures m []) refl
+    ∙ is_lawful_name-star measures m lawful inside in
+    aggregate_spelled_measure_in measures text
+    ∙ rw star (option_or-Some Count _ _ m (measure_in-own measures m (codes "count(") distinct inside))
 aggregate_spelled-spelling_of measures (Sum m) lawful distinct of =
     let inside : m < length measures = grind (arith, nat_tests) in
     let text : List ℕ = spelling_of measures (Sum m) in
@@ -103,10 +125,14 @@ aggregate_spelled-spelling_of measures (Avg m) lawful distinct of =
 -- the measures of a schema are lawful and differ, being its last names
 are_distinct-end : (front end : List (List ℕ)) → are_distinct (front ++ end) ≡ true → are_distinct end ≡ true
 are_distinct-end [] end distinct = distinct
-are_distinct-end (name ∷ front) end distinct = are_distinct-end front end (and_parts (not (is_listed name (front ++ end))) (are_distinct (front ++ end)) distinct).1
+are_distinct-end (name ∷ front) end distinct = are_distinct-end front end
+    (and_parts (not (is_listed name (front ++ end))) (are_distinct (front ++ end)) distinct).1
 
-pub aggregate_spelled-IsSchema : (s : Layout) (agg : Agg) → IsSchema s → is_aggregate_of (length s.measures) agg ≡ true → aggregate_spelled s.measures (spelling_of s.measures agg) ≡ Some agg
+pub aggregate_spelled-IsSchema : (s : Layout) (agg : Agg) → IsSchema s → is_aggregate_of (length s.measures) agg ≡ true
+    → aggregate_spelled s.measures (spelling_of s.measures agg) ≡ Some agg
 aggregate_spelled-IsSchema s agg is of =
     let lawful : list_all is_lawful_name s.measures ≡ true =
-    (and_parts (list_all is_lawful_name s.dimensions) (list_all is_lawful_name s.measures) (sym (list_all-append is_lawful_name s.dimensions s.measures) ∙ is.names_are_lawful)).1 in
-    aggregate_spelled-spelling_of s.measures agg lawful (are_distinct-end s.dimensions s.measures is.names_are_distinct) of
+    (and_parts (list_all is_lawful_name s.dimensions) (list_all is_lawful_name s.measures)
+    (sym (list_all-append is_lawful_name s.dimensions s.measures) ∙ is.names_are_lawful)).1 in
+    aggregate_spelled-spelling_of s.measures agg lawful
+    (are_distinct-end s.dimensions s.measures is.names_are_distinct) of

@@ -25,7 +25,8 @@ line-length fields = simp length-append (omega arith)
 -- so there are no more lines than bytes
 line-flat_map : (lines : List (List (List ℕ))) → length lines ≤ length (flat_map line lines)
 line-flat_map [] = omega arith
-line-flat_map (fields ∷ lines) = omega (arith, line-length fields, line-flat_map lines, length-append (line fields) (flat_map line lines))
+line-flat_map (fields ∷ lines) =
+    omega (arith, line-length fields, line-flat_map lines, length-append (line fields) (flat_map line lines))
 
 -- a record of some field is read back as it is
 read_back-same : (fields : List (List ℕ)) → 1 ≤ length fields → read_back fields ≡ fields
@@ -33,7 +34,8 @@ read_back-same [] some = absurd (omega arith)
 read_back-same (field ∷ fields) some = refl
 
 -- lines, read with enough turns
-records_from-line : (lines : List (List (List ℕ))) (turns : ℕ) → AllByRecursion (λ fields. 1 ≤ length fields) lines → length lines ≤ turns
+records_from-line : (lines : List (List (List ℕ))) (turns : ℕ) → AllByRecursion (λ fields. 1 ≤ length fields) lines
+    → length lines ≤ turns
     → records_from default_config turns st.StartRecord (flat_map line lines) ≡ lines
 unfolding records_from next_record
 records_from-line [] zero all enough = refl
@@ -44,8 +46,10 @@ records_from-line (fields ∷ lines) (suc turns) all enough =
     (ap (λ (rest : List (List (List ℕ))). fields ∷ rest) (records_from-line lines turns all.1 (omega arith)))
 
 -- lines, read to their end
-pub records-line : (lines : List (List (List ℕ))) → AllByRecursion (λ fields. 1 ≤ length fields) lines → records default_config (flat_map line lines) ≡ lines
-records-line lines all = records_from-line lines (length (flat_map line lines) + 1) all (omega (arith, line-flat_map lines))
+pub records-line : (lines : List (List (List ℕ))) → AllByRecursion (λ fields. 1 ≤ length fields) lines
+    → records default_config (flat_map line lines) ≡ lines
+records-line lines all =
+    records_from-line lines (length (flat_map line lines) + 1) all (omega (arith, line-flat_map lines))
 
 -- the lines of rows are those of their fields
 row_line-row_fields : (rows : List Row) → flat_map row_line rows ≡ flat_map line (map row_fields rows)
@@ -56,18 +60,23 @@ row_line-row_fields (row ∷ rows) = ap (λ (text : List ℕ). row_line row ++ t
 row_fields-length : (row : Row) → 1 ≤ length row.answers → 1 ≤ length (row_fields row)
 row_fields-length row some = simp (length-append, length-map) (omega arith)
 
-row_fields-HasAnswers : (aggregates : List Agg) (facts : List Fact) (rows : List Row) → 1 ≤ length aggregates → AllByRecursion (HasAnswers aggregates facts) rows
+row_fields-HasAnswers : (aggregates : List Agg) (facts : List Fact) (rows : List Row) → 1 ≤ length aggregates
+    → AllByRecursion (HasAnswers aggregates facts) rows
     → AllByRecursion (λ fields. 1 ≤ length fields) (map row_fields rows)
 row_fields-HasAnswers aggregates facts [] some all = tt
-row_fields-HasAnswers aggregates facts (row ∷ rows) some all =
-    (row_fields-length row (omega (arith, AllZip-length (IsAnswer (group_of row.key facts)) aggregates row.answers all.0)), row_fields-HasAnswers aggregates facts rows some all.1)
+row_fields-HasAnswers aggregates facts (row ∷ rows) some all = (
+  row_fields-length row
+      (omega (arith, AllZip-length (IsAnswer (group_of row.key facts)) aggregates row.answers all.0)),
+  row_fields-HasAnswers aggregates facts rows some all.1,
+)
 
 -- the header has a field
 header_fields-length : (s : Layout) → 1 ≤ length s.dimensions → 1 ≤ length (header_fields s)
 header_fields-length s some = simp (length-append, length-map) (omega arith)
 
 -- rows of fields, printed with the header and read back
-pub records-fields : (s : Layout) (rows : List Row) → 1 ≤ length s.dimensions → AllByRecursion (λ fields. 1 ≤ length fields) (map row_fields rows)
+pub records-fields : (s : Layout) (rows : List Row) → 1 ≤ length s.dimensions
+    → AllByRecursion (λ fields. 1 ≤ length fields) (map row_fields rows)
     → records default_config (text_of_rows s rows) ≡ header_fields s ∷ map row_fields rows
 records-fields s rows some all =
     ap (λ (text : List ℕ). records default_config (line (header_fields s) ++ text)) (row_line-row_fields rows)
@@ -77,4 +86,5 @@ records-fields s rows some all =
 pub records-text_of_rows : (s : Layout) (facts : List Fact) (rows : List Row) → IsSchema s → AreRows s facts rows
     → records default_config (text_of_rows s rows) ≡ header_fields s ∷ map row_fields rows
 records-text_of_rows s facts rows schema are =
-    records-fields s rows schema.some_dimension (row_fields-HasAnswers s.aggregates facts rows schema.some_aggregate are.answers)
+    records-fields s rows schema.some_dimension
+    (row_fields-HasAnswers s.aggregates facts rows schema.some_aggregate are.answers)

@@ -1,5 +1,7 @@
--- What the laws of counts speak of: the rows of a grouping set, the answers of a row, the keys that cover a fact (Gray et al. 1997; grouping sets as in SQL:1999).
-use Rattle.std.specs.Prelude.{◌≡◌, ◌==◌, ◌↔◌, ◌+◌, ◌*◌, ◌^◌, ℕ, IsTrue, List, [], ◌∷◌, length, map, get_or, filter, Contains, Option}
+-- What the laws of counts speak of: the rows of a grouping set, the answers of a row,
+-- the keys that cover a fact (Gray et al. 1997; grouping sets as in SQL:1999).
+use Rattle.std.specs.Prelude.{◌≡◌, ◌==◌, ◌↔◌, ◌+◌, ◌*◌, ◌^◌, ℕ, IsTrue, List, [], ◌∷◌, length, map, get_or, filter}
+use Rattle.std.specs.Prelude.{Contains, Option}
 use Rattle.std.specs.List.{AllByRecursion, AllZip}
 use Rattle.cube_core.specs.Covers.{covers}
 use Rattle.cube_core.specs.Group.{group_of}

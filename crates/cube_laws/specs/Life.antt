@@ -1,5 +1,7 @@
--- The words of the laws on the life of an id (Gray et al. 1997, section 6; an id is present from an insert to a delete: this project's choice).
-use Rattle.std.specs.Prelude.{◌≡◌, ℕ, ℤ, Bool, false, List, [], ◌∷◌, map, Option, Some, None, slice_get, option_and_then}
+-- The words of the laws on the life of an id (Gray et al. 1997, section 6;
+-- an id is present from an insert to a delete: this project's choice).
+use Rattle.std.specs.Prelude.{◌≡◌, ℕ, ℤ, Bool, false, List, [], ◌∷◌, map, Option, Some, None, slice_get}
+use Rattle.std.specs.Prelude.{option_and_then}
 use Rattle.std.specs.Str.{bytes_eq}
 use Rattle.std.specs.List.{list_any, filter_map, cons_option, fold}
 use Rattle.cube_core.specs.Life.{life_of}

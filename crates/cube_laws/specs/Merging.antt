@@ -1,4 +1,5 @@
--- What the laws of merging speak of: facts in parts, and the merged rows of their cubes (Gray et al. 1997: COUNT, SUM, MIN and MAX are distributive, AVG is algebraic, made of SUM and COUNT; the merging of rows is this project's choice).
+-- What the laws of merging speak of: facts in parts, and the merged rows of their cubes (Gray et al. 1997: COUNT, SUM,
+-- MIN and MAX are distributive, AVG is algebraic, made of SUM and COUNT; the merging of rows is this project's choice).
 use Rattle.std.specs.Prelude.{◌≡◌, ◌<◌, ◌≤◌, ℕ, List, [], ◌∷◌, ◌++◌, length, get_or, slice_get, Some, IsPermutation}
 use Rattle.std.specs.List.{AllByRecursion, flat_map}
 use Rattle.cube_core.specs.Layout.{Layout}
@@ -17,7 +18,8 @@ use Rattle.cube_core.specs.declared.key.Row.{Row}
 abbrev pub joined : {X : Type 0} → List (List X) → List X
 joined lists = flat_map (λ list. list) lists
 
--- these are the merged rows of the rows of cubes, which answer the given aggregates: the rows of all cubes, in any order, make them
+-- these are the merged rows of the rows of cubes, which answer the given aggregates:
+-- the rows of all cubes, in any order, make them
 pub record AreMergedOf (given wanted : List Agg) (cubes : List (List Row)) (rows : List Row) : Type 0 where
   pub parts : List Row
   pub drawn : IsPermutation (joined cubes) parts
@@ -27,22 +29,26 @@ pub record AreMergedOf (given wanted : List Agg) (cubes : List (List Row)) (rows
 abbrev pub Stands : List Agg → Agg → Type 0
 Stands given agg = (place : ℕ) × (slice_get given place ≡ Some agg)
 
--- of answers to the given aggregates an answer to this one is made: it is one of them, or a mean whose sum and count are
+-- of answers to the given aggregates an answer to this one is made:
+-- it is one of them, or a mean whose sum and count are
 abbrev pub IsMadeOf : List Agg → Agg → Type 0
 IsMadeOf given (Avg m) = Stands given (Sum m) × Stands given (Count m)
 IsMadeOf given agg = Stands given agg
 
 mutual
-  -- these rows are those of the cube of these facts under a schema, or the merged rows of such rows of parts of the facts, in any nesting
+  -- these rows are those of the cube of these facts under a schema,
+  -- or the merged rows of such rows of parts of the facts, in any nesting
   pub data IsMergeTree (s : Layout) : List Fact → List Row → Type 0 where
     cube : {facts : List Fact} {rows : List Row} → AreRows s facts rows → IsMergeTree s facts rows
-    merge : {parts : List (List Fact)} {cubes : List (List Row)} {facts : List Fact} {rows : List Row} → 1 ≤ length parts → facts ≡ joined parts
+    merge : {parts : List (List Fact)} {cubes : List (List Row)} {facts : List Fact} {rows : List Row}
+        → 1 ≤ length parts → facts ≡ joined parts
         → AreMergeTrees s parts cubes → AreMergedOf s.aggregates s.aggregates cubes rows → IsMergeTree s facts rows
 
   -- the same of each part of the facts and its rows
   pub data AreMergeTrees (s : Layout) : List (List Fact) → List (List Row) → Type 0 where
     none : AreMergeTrees s [] []
-    more : {facts : List Fact} {rows : List Row} {parts : List (List Fact)} {cubes : List (List Row)} → IsMergeTree s facts rows → AreMergeTrees s parts cubes
+    more : {facts : List Fact} {rows : List Row} {parts : List (List Fact)} {cubes : List (List Row)}
+        → IsMergeTree s facts rows → AreMergeTrees s parts cubes
         → AreMergeTrees s (facts ∷ parts) (rows ∷ cubes)
 
 -- a text is that of rows of a schema
@@ -50,7 +56,8 @@ pub record IsTextOf (s : Layout) (text : List ℕ) (rows : List Row) : Type 0 wh
   pub text_is : text ≡ text_of_rows s rows
   pub of_schema : AllByRecursion (IsRowOf s) rows
 
--- this text is, under the wanted schema, that of the merged rows of cubes whose texts under the given one these are, each at its place
+-- this text is, under the wanted schema,
+-- that of the merged rows of cubes whose texts under the given one these are, each at its place
 pub record IsMergedText (given wanted : Layout) (texts : List (List ℕ)) (text : List ℕ) : Type 0 where
   pub cubes : List (List Row)
   pub rows : List Row

@@ -1,4 +1,5 @@
--- What the laws of drill-down and roll-up speak of (Gray et al. 1997: rolling up replaces the values of a dimension by ALL).
+-- What the laws of drill-down and roll-up speak of (Gray et al. 1997:
+-- rolling up replaces the values of a dimension by ALL).
 use Rattle.std.specs.Prelude.{◌≡◌, ℕ, ℤ, Bool, true, false, List, Contains, ◌+◌, ◌^◌}
 use Rattle.std.specs.List.{AllByRecursion, filter_map}
 use Rattle.cube_core.specs.Layout.{Layout}
@@ -29,7 +30,8 @@ gives_numbers (agg.Min m) = true
 gives_numbers (agg.Max m) = true
 gives_numbers (agg.Avg m) = false
 
--- this row is one of the cube over these facts, its key is ALL in this dimension, and the set of the key with the dimension is kept too
+-- this row is one of the cube over these facts, its key is ALL in this dimension,
+-- and the set of the key with the dimension is kept too
 pub record IsRolledUp (s : Layout) (facts : List Fact) (rows : List Row) (row : Row) (dimension : ℕ) : Type 0 where
   pub are_rows : AreRows s facts rows
   pub row_of_cube : Contains rows row

@@ -1,4 +1,5 @@
--- The words of the laws on grouping sets (SQL:1999, grouping sets, of which CUBE has all; parts of them are this project's choice).
+-- The words of the laws on grouping sets (SQL:1999, grouping sets, of which CUBE has all;
+-- parts of them are this project's choice).
 use Rattle.std.specs.Prelude.{◌≡◌, ◌<◌, ℕ, Bool, IsTrue, List, filter}
 use Rattle.cube_core.specs.GroupingSet.{mask_of, is_among}
 use Rattle.cube_core.specs.declared.key.Row.{Row}

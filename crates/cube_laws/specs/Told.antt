@@ -1,4 +1,5 @@
--- What the laws on the text of rows speak of: facts that can be counted (this project's choice: counts of 64 bits, measures of 64).
+-- What the laws on the text of rows speak of: facts that can be counted (this project's choice:
+-- counts of 64 bits, measures of 64).
 use Rattle.std.specs.Prelude.{◌<◌, ◌^◌, ℕ, IsTrue, List, length, IfSome, FitsSigned}
 use Rattle.std.specs.Int.{w64}
 use Rattle.std.specs.List.{AllByRecursion, list_all}
@@ -23,7 +24,8 @@ pub record CanBePrinted (s : Layout) (facts : List Fact) : Type 0 where
 
 -- whatever facts survive the feeds of these sources' bytes can be printed
 abbrev pub CanPrintSurvivors : Layout → List (List ℕ) → Type 0
-CanPrintSurvivors s sources = (facts : List Fact) → SurviveTogether s (items_of_sources s sources) facts → CanBePrinted s facts
+CanPrintSurvivors s sources =
+    (facts : List Fact) → SurviveTogether s (items_of_sources s sources) facts → CanBePrinted s facts
 
 -- so few sources that what survives them can be counted: fewer than 2 to the power 32
 abbrev pub AreFewSources : List (List ℕ) → Type 0

@@ -1,5 +1,6 @@
 -- Taking the next record of a source.
-use Rattle.std.proofs.Common.{◌≡◌, ◌==◌, ◌+◌, ◌-◌, ◌<◌, ◌≤◌, ◌≢◌, ◌++◌, ℕ, Bool, List, true, false, [], ◌∷◌, length, get_or, refl, sym, ap, ◌∙◌, subst, arith}
+use Rattle.std.proofs.Common.{◌≡◌, ◌==◌, ◌+◌, ◌-◌, ◌<◌, ◌≤◌, ◌≢◌, ◌++◌, ℕ, Bool, List, true, false, [], ◌∷◌, length}
+use Rattle.std.proofs.Common.{get_or, refl, sym, ap, ◌∙◌, subst, arith}
 use Rattle.std.specs.Prelude.{None, Option, Result, Some, slice_set}
 use Rattle.std.specs.List.{last_or}
 use Rattle.std.specs.Option.{option_map_or}
@@ -21,51 +22,67 @@ last_or-append o [] x = refl
 last_or-append o (y ∷ ys) x = last_or-append (Some y) ys x
 
 -- an item of a source is its last then, and leaves the last of another as it was
-last_number-own : (arrivals : Arrivals) (source : ℕ) (item : Item) → last_number (of_source (arrivals ++ (source, item) ∷ []) source) ≡ item.number
+last_number-own : (arrivals : Arrivals) (source : ℕ) (item : Item)
+    → last_number (of_source (arrivals ++ (source, item) ∷ []) source) ≡ item.number
 last_number-own arrivals source item =
-    let own : of_source (arrivals ++ (source, item) ∷ []) source ≡ of_source arrivals source ++ item ∷ [] = of_source-append arrivals ((source, item) ∷ []) source ∙ rw (eq-eqb source source refl) refl in
-    ap last_number own ∙ ap (λ (last : Option Item). option_map_or (λ (it : Item). it.number) last 0) (last_or-append None (of_source arrivals source) item)
+    let own : of_source (arrivals ++ (source, item) ∷ []) source ≡ of_source arrivals source ++ item ∷ [] =
+    of_source-append arrivals ((source, item) ∷ []) source ∙ rw (eq-eqb source source refl) refl in
+    ap last_number own ∙ ap (λ (last : Option Item). option_map_or (λ (it : Item). it.number) last 0)
+    (last_or-append None (of_source arrivals source) item)
 
-pub of_source-other : (arrivals : Arrivals) (source other : ℕ) (item : Item) → source ≢ other → of_source (arrivals ++ (source, item) ∷ []) other ≡ of_source arrivals other
+pub of_source-other : (arrivals : Arrivals) (source other : ℕ) (item : Item) → source ≢ other
+    → of_source (arrivals ++ (source, item) ∷ []) other ≡ of_source arrivals other
 of_source-other arrivals source other item apart =
-    let differs : (source == other) ≡ false = false_from_ne_true (source == other) (λ same. apart (eqb-true source other same)) in
+    let differs : (source == other) ≡ false =
+    false_from_ne_true (source == other) (λ same. apart (eqb-true source other same)) in
     of_source-append arrivals ((source, item) ∷ []) other ∙ rw differs (append-nil (of_source arrivals other))
 
 -- numbers are those of the last items where that of a source is its next item's
-pub AreLast-more : (numbers more : List ℕ) (arrivals : Arrivals) (source : ℕ) (item : Item) → 1 ≤ source → source ≤ 64 → length numbers ≡ 64
-    → more ≡ slice_set numbers (source - 1) item.number → AreLast numbers arrivals → AreLast more (arrivals ++ (source, item) ∷ [])
-AreLast-more numbers more arrivals source item first last long set are = λ other some within. by other some within (other == source) refl where
-  by : (other : ℕ) → 1 ≤ other → other ≤ 64 → (test : Bool) → (other == source) ≡ test
-      → get_or more (other - 1) 0 ≡ last_number (of_source (arrivals ++ (source, item) ∷ []) other)
-  by other some within true same =
-      let here : other ≡ source = eqb-true other source same in
-      let inside : source - 1 < length numbers = omega (arith, first, last, long) in
-      subst (λ n. get_or more (n - 1) 0 ≡ last_number (of_source (arrivals ++ (source, item) ∷ []) n)) (sym here)
-      (ap (λ l. get_or l (source - 1) 0) set ∙ get_or-set_same numbers (source - 1) item.number 0 inside ∙ sym (last_number-own arrivals source item))
-  by other some within false differs =
-      let apart : source ≢ other = λ same. both_ways _ differs (eq-eqb other source (sym same)) in
-      let places : other - 1 ≢ source - 1 = λ same. apart (omega (arith, same, some, first)) in
-      ap (λ l. get_or l (other - 1) 0) set ∙ get_or-set_other numbers (source - 1) (other - 1) item.number 0 places
-      ∙ are other some within ∙ sym (ap last_number (of_source-other arrivals source other item apart))
+pub AreLast-more : (numbers more : List ℕ) (arrivals : Arrivals) (source : ℕ) (item : Item) → 1 ≤ source → source ≤ 64
+    → length numbers ≡ 64
+    → more ≡ slice_set numbers (source - 1) item.number → AreLast numbers arrivals
+    → AreLast more (arrivals ++ (source, item) ∷ [])
+AreLast-more numbers more arrivals source item first last long set are =
+    λ other some within. by other some within (other == source) refl where
+      by : (other : ℕ) → 1 ≤ other → other ≤ 64 → (test : Bool) → (other == source) ≡ test
+          → get_or more (other - 1) 0 ≡ last_number (of_source (arrivals ++ (source, item) ∷ []) other)
+      by other some within true same =
+          let here : other ≡ source = eqb-true other source same in
+          let inside : source - 1 < length numbers = omega (arith, first, last, long) in
+          subst (λ n. get_or more (n - 1) 0 ≡ last_number (of_source (arrivals ++ (source, item) ∷ []) n)) (sym here)
+          (ap (λ l. get_or l (source - 1) 0) set ∙ get_or-set_same numbers (source - 1) item.number 0 inside
+          ∙ sym (last_number-own arrivals source item))
+      by other some within false differs =
+          let apart : source ≢ other = λ same. both_ways _ differs (eq-eqb other source (sym same)) in
+          let places : other - 1 ≢ source - 1 = λ same. apart (omega (arith, same, some, first)) in
+          ap (λ l. get_or l (other - 1) 0) set ∙ get_or-set_other numbers (source - 1) (other - 1) item.number 0 places
+          ∙ are other some within ∙ sym (ap last_number (of_source-other arrivals source other item apart))
 
 -- the ledger took the item, and the number of its source is one more
-pub TakesNext-numbered : (old new : LiveView) (source number : ℕ) (what : Result Change LineFault) → 1 ≤ source → length old.numbers ≡ 64 → source ≤ 64
+pub TakesNext-numbered : (old new : LiveView) (source number : ℕ) (what : Result Change LineFault) → 1 ≤ source
+    → length old.numbers ≡ 64 → source ≤ 64
     → number ≡ get_or old.numbers (source - 1) 0
-    → ((arrivals : Arrivals) → LedgerStandsAt old.ledger arrivals → LedgerStandsAt new.ledger (arrivals ++ (source, record { number = number + 1; what = what }) ∷ []))
+    → ((arrivals : Arrivals) → LedgerStandsAt old.ledger arrivals
+    → LedgerStandsAt new.ledger (arrivals ++ (source, record { number = number + 1; what = what }) ∷ []))
     → new.numbers ≡ slice_set old.numbers (source - 1) (number + 1) → TakesNext source what old new
 TakesNext-numbered old new source number what first long last is took set arrivals stands = record {
-  ledger = subst (λ (item : Item). LedgerStandsAt new.ledger (arrivals ++ (source, item) ∷ [])) said (took arrivals stands.ledger);
+  ledger = subst (λ (item : Item). LedgerStandsAt new.ledger (arrivals ++ (source, item) ∷ [])) said
+      (took arrivals stands.ledger);
   numbers =
       AreLast-more old.numbers new.numbers arrivals source (said_item arrivals source what) first last long
-      (set ∙ ap (λ n. slice_set old.numbers (source - 1) (n + 1)) (is ∙ stands.numbers source first last)) stands.numbers;
+      (set ∙ ap (λ n. slice_set old.numbers (source - 1) (n + 1)) (is ∙ stands.numbers source first last))
+      stands.numbers;
 } where
   said : record { number = number + 1; what = what } ≡ said_item arrivals source what
-  said = ap (λ n. let item : Item = record { number = n + 1; what = what } in item) (is ∙ stands.numbers source first last)
+  said =
+      ap (λ n. let item : Item = record { number = n + 1; what = what } in item) (is ∙ stands.numbers source first last)
 
 -- a change was taken that is in the schema's shard, or left alone that isn't
-pub TakesChange-read : (source : ℕ) (fields : List (List ℕ)) (what : Result Change LineFault) (old new : LiveView) → is_read old.schema fields ≡ true → what ≡ change_of old.schema fields
+pub TakesChange-read : (source : ℕ) (fields : List (List ℕ)) (what : Result Change LineFault) (old new : LiveView)
+    → is_read old.schema fields ≡ true → what ≡ change_of old.schema fields
     → TakesNext source what old new → TakesChange source fields old new
 TakesChange-read source fields what old new read is takes arrivals stands = rw (read, ← is) (takes arrivals stands)
 
-pub TakesChange-other : (source : ℕ) (fields : List (List ℕ)) (live : LiveView) → is_read live.schema fields ≡ false → TakesChange source fields live live
+pub TakesChange-other : (source : ℕ) (fields : List (List ℕ)) (live : LiveView) → is_read live.schema fields ≡ false
+    → TakesChange source fields live live
 TakesChange-other source fields live other arrivals stands = rw other stands

@@ -1,5 +1,6 @@
 -- How an opening takes items, and that it stands over feeds that it was fed.
-use Rattle.std.proofs.Common.{◌≡◌, ◌-◌, ◌<◌, ◌≤◌, ◌++◌, ◌∙◌, ℕ, zero, suc, List, [], ◌∷◌, length, get_or, replicate, refl, sym, ap, subst, arith}
+use Rattle.std.proofs.Common.{◌≡◌, ◌-◌, ◌<◌, ◌≤◌, ◌++◌, ◌∙◌, ℕ, zero, suc, List, [], ◌∷◌, length, get_or, replicate}
+use Rattle.std.proofs.Common.{refl, sym, ap, subst, arith}
 use Rattle.std.specs.Prelude.{slice_set}
 use Rattle.cube_core.specs.Arrival.{Arrivals}
 use Rattle.cube_core.specs.Layout.{Layout}
@@ -22,18 +23,21 @@ none-at (suc n) (suc place) none = none-at n place none
 pub AreLast-none : AreLast (replicate 64 0) []
 AreLast-none source first last = none-at 64 (source - 1) 0
 
-pub IsOpening-new : (s : Layout) (ledger : LedgerView) (feeds most : ℕ) (numbers : List ℕ) → ledger.schema ≡ s → ledger.accounts ≡ replicate 64 new_account → feeds ≤ 64 → most ≡ s.max_records
+pub IsOpening-new : (s : Layout) (ledger : LedgerView) (feeds most : ℕ) (numbers : List ℕ) → ledger.schema ≡ s
+    → ledger.accounts ≡ replicate 64 new_account → feeds ≤ 64 → most ≡ s.max_records
     → numbers ≡ replicate 64 0 → IsOpening ledger feeds most numbers
 IsOpening-new s ledger feeds most numbers schema accounts within is none = record {
   sources = ap length accounts;
   feeds_at_most = within;
   most_is = is ∙ ap (λ (l : Layout). l.max_records) (sym schema);
   numbered = ap length none;
-  at_most = λ place. subst (λ n. n ≤ most) (sym (ap (λ (ns : List ℕ). get_or ns place 0) none ∙ none-at 64 place 0)) (omega arith);
+  at_most = λ place.
+      subst (λ n. n ≤ most) (sym (ap (λ (ns : List ℕ). get_or ns place 0) none ∙ none-at 64 place 0)) (omega arith);
 }
 
 -- where there is no feed
-pub OpensOver-none : (s : Layout) (sources : Told) (Stands : Arrivals → Type 0) → length sources ≡ 0 → Stands [] → OpensOver s sources Stands
+pub OpensOver-none : (s : Layout) (sources : Told) (Stands : Arrivals → Type 0) → length sources ≡ 0 → Stands []
+    → OpensOver s sources Stands
 OpensOver-none s [] Stands none stands = record {
   feeds = [];
   good = tt;
@@ -45,13 +49,16 @@ OpensOver-none s [] Stands none stands = record {
 OpensOver-none s (bytes ∷ sources) Stands none stands = absurd (omega (arith, none))
 
 -- after all feeds were taken
-pub OpensOver-fed : (s : Layout) (sources : Told) (opening : OpeningView) (gatherers : List (Gatherer OpeningView)) (one : Gatherer OpeningView) → AreGood s sources → opening.feeds ≡ length sources
-    → TakeAll OpeningStandsAt s sources (opening ∷ []) gatherers → one ≡ get_or gatherers 0 one → OpensOver s sources (OpeningStandsAt opening one.builder)
+pub OpensOver-fed : (s : Layout) (sources : Told) (opening : OpeningView) (gatherers : List (Gatherer OpeningView))
+    (one : Gatherer OpeningView) → AreGood s sources → opening.feeds ≡ length sources
+    → TakeAll OpeningStandsAt s sources (opening ∷ []) gatherers → one ≡ get_or gatherers 0 one
+    → OpensOver s sources (OpeningStandsAt opening one.builder)
 OpensOver-fed s sources opening [] one good feeds taken is = absurd taken.each
 OpensOver-fed s sources opening (gatherer ∷ other ∷ gatherers) one good feeds taken is = absurd taken.each.1
 OpensOver-fed s sources opening (gatherer ∷ []) one good feeds taken is =
     let takes = taken.each.0 in
-    let long : length taken.feeds ≡ length sources = sym (AllZip-length (AreItemsOf s) sources taken.feeds taken.items) in
+    let long : length taken.feeds ≡ length sources =
+    sym (AllZip-length (AreItemsOf s) sources taken.feeds taken.items) in
     let stands : OpeningStandsAt opening gatherer.builder takes.arrivals = takes.stands_at in
     subst (λ (g : Gatherer OpeningView). OpensOver s sources (OpeningStandsAt opening g.builder)) (sym is) (record {
       feeds = taken.feeds;
@@ -66,7 +73,8 @@ OpensOver-fed s sources opening (gatherer ∷ []) one good feeds taken is =
     })
 
 -- what it stands over is what is made of it
-pub OpensOver-made : {s : Layout} {sources : Told} {Fed Made : Arrivals → Type 0} → ((start : Arrivals) → Fed start → Made start) → OpensOver s sources Fed → OpensOver s sources Made
+pub OpensOver-made : {s : Layout} {sources : Told} {Fed Made : Arrivals → Type 0}
+    → ((start : Arrivals) → Fed start → Made start) → OpensOver s sources Fed → OpensOver s sources Made
 OpensOver-made to opens = record {
   feeds = opens.feeds;
   good = opens.good;
@@ -77,7 +85,8 @@ OpensOver-made to opens = record {
 }
 
 -- the cube that is made of an opening stands where it stood
-pub LiveStandsAt-made : (first opening : OpeningView) (live : LiveView) (arrivals : Arrivals) → live.ledger ≡ opening.ledger
+pub LiveStandsAt-made : (first opening : OpeningView) (live : LiveView) (arrivals : Arrivals)
+    → live.ledger ≡ opening.ledger
     → live.numbers ≡ opening.numbers → OpeningStandsAt first opening arrivals → LiveStandsAt live arrivals
 LiveStandsAt-made first opening live arrivals ledger numbers stands = record {
   ledger = subst (λ (l : LedgerView). LedgerStandsAt l arrivals) (sym ledger) stands.ledger;
@@ -85,14 +94,18 @@ LiveStandsAt-made first opening live arrivals ledger numbers stands = record {
 }
 
 -- an opening took the next item of a source with a feed
-pub OpeningStandsAt-more : (first old new : OpeningView) (arrivals : Arrivals) (source : ℕ) (item : Item) → 1 ≤ source → source ≤ old.feeds → old.feeds ≤ 64 → length old.numbers ≡ 64
-    → new.ledger.schema ≡ old.ledger.schema → new.feeds ≡ old.feeds → (LedgerStandsAt old.ledger arrivals → LedgerStandsAt new.ledger (arrivals ++ (source, item) ∷ []))
-    → new.numbers ≡ slice_set old.numbers (source - 1) item.number → OpeningStandsAt first old arrivals → OpeningStandsAt first new (arrivals ++ (source, item) ∷ [])
+pub OpeningStandsAt-more : (first old new : OpeningView) (arrivals : Arrivals) (source : ℕ) (item : Item) → 1 ≤ source
+    → source ≤ old.feeds → old.feeds ≤ 64 → length old.numbers ≡ 64
+    → new.ledger.schema ≡ old.ledger.schema → new.feeds ≡ old.feeds
+    → (LedgerStandsAt old.ledger arrivals → LedgerStandsAt new.ledger (arrivals ++ (source, item) ∷ []))
+    → new.numbers ≡ slice_set old.numbers (source - 1) item.number → OpeningStandsAt first old arrivals
+    → OpeningStandsAt first new (arrivals ++ (source, item) ∷ [])
 OpeningStandsAt-more first old new arrivals source item some within few long schema feeds takes set stands = record {
   schema = schema ∙ stands.schema;
   feeds = feeds ∙ stands.feeds;
   ledger = takes stands.ledger;
-  numbers = AreLast-more old.numbers new.numbers arrivals source item some (omega (arith, within, few)) long set stands.numbers;
+  numbers = AreLast-more old.numbers new.numbers arrivals source item some
+      (omega (arith, within, few)) long set stands.numbers;
   others = λ other beyond.
       let past : old.feeds < other = subst (λ n. n < other) feeds beyond in
       of_source-other arrivals source other item (λ same. omega (arith, same, within, past)) ∙ stands.others other past;

@@ -1,5 +1,6 @@
 -- The lines of refusals of sources one after another.
-use Rattle.std.proofs.Common.{◌≡◌, ◌<◌, ◌+◌, ◌-◌, ℕ, List, [], ◌∷◌, ◌++◌, length, get_or, map, ap, ◌∙◌, subst, arith, append_assoc}
+use Rattle.std.proofs.Common.{◌≡◌, ◌<◌, ◌+◌, ◌-◌, ℕ, List, [], ◌∷◌, ◌++◌, length, get_or, map, ap, ◌∙◌, subst, arith}
+use Rattle.std.proofs.Common.{append_assoc}
 use Rattle.std.specs.List.{flat_map, range_with_len}
 use Rattle.std.proofs.lemmas.Grind.{flat_map-append}
 use Rattle.std.proofs.lemmas.List.{append-nil, get_or-map}
@@ -18,18 +19,22 @@ abbrev pub lines_up_to : List AccountView → ℕ → List ℕ
 lines_up_to accounts place = flat_map (lines_of_source (refusals_of_accounts accounts)) (range_with_len 1 place)
 
 -- text added, and then more
-pub AddsText-both : (first second : List ℕ) (old mid new : Lines) → AddsText first old mid → AddsText second mid new → AddsText (first ++ second) old new
+pub AddsText-both : (first second : List ℕ) (old mid new : Lines) → AddsText first old mid → AddsText second mid new
+    → AddsText (first ++ second) old new
 AddsText-both first second old mid new before after text holds =
     subst (λ t. Holds t [] new) (append_assoc text first second) (after (text ++ first) (before text holds))
 
 -- one source more
 pub lines_up_to-more : (accounts : List AccountView) (place : ℕ) → place < length accounts
-    → lines_up_to accounts (place + 1) ≡ lines_up_to accounts place ++ flat_map (refusal_line (place + 1)) (get_or accounts place new_account).refusals
+    → lines_up_to accounts (place + 1)
+    ≡ lines_up_to accounts place ++ flat_map (refusal_line (place + 1)) (get_or accounts place new_account).refusals
 lines_up_to-more accounts place below =
     let of_source = lines_of_source (refusals_of_accounts accounts) in
-    let here : get_or (refusals_of_accounts accounts) (place + 1 - 1) [] ≡ (get_or accounts place new_account).refusals =
+    let here : get_or (refusals_of_accounts accounts) (place + 1 - 1) []
+    ≡ (get_or accounts place new_account).refusals =
     ap (λ n. get_or (refusals_of_accounts accounts) n []) (omega arith)
     ∙ get_or-map (λ (account : AccountView). account.refusals) accounts place new_account [] below in
     ap (flat_map of_source) (range_with_len-more 1 place ∙ ap (λ n. range_with_len 1 place ++ n ∷ []) (omega arith))
     ∙ flat_map-append of_source (range_with_len 1 place) ((place + 1) ∷ [])
-    ∙ ap (λ l. lines_up_to accounts place ++ l) (append-nil (of_source (place + 1)) ∙ ap (flat_map (refusal_line (place + 1))) here)
+    ∙ ap (λ l. lines_up_to accounts place ++ l)
+    (append-nil (of_source (place + 1)) ∙ ap (flat_map (refusal_line (place + 1))) here)

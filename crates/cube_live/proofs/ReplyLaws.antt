@@ -14,7 +14,8 @@ arrivals_after-append s start (fields ∷ some) more = arrivals_after-append s (
 
 -- the replies to records, followed by those to more from the list after them
 pub AreReplies-append : (s : Layout) (start : Arrivals) (some more : List (List (List ℕ))) (first second : List ℕ)
-    → AreReplies s start some first → AreReplies s (arrivals_after s start some) more second → AreReplies s start (some ++ more) (first ++ second)
+    → AreReplies s start some first → AreReplies s (arrivals_after s start some) more second
+    → AreReplies s start (some ++ more) (first ++ second)
 AreReplies-append s start [] more first second none rest = rw none rest
 AreReplies-append s start (fields ∷ some) more first second are rest = (
   are.0,
@@ -25,13 +26,16 @@ AreReplies-append s start (fields ∷ some) more first second are rest = (
 )
 
 -- the reply to one record more
-pub AreReplies-more : (s : Layout) (start : Arrivals) (some : List (List (List ℕ))) (fields : List (List ℕ)) (text reply : List ℕ)
-    → AreReplies s start some text → IsReply s (arrivals_after s start some) (request_of s fields) reply → AreReplies s start (some ++ fields ∷ []) (text ++ reply)
+pub AreReplies-more : (s : Layout) (start : Arrivals) (some : List (List (List ℕ))) (fields : List (List ℕ))
+    (text reply : List ℕ)
+    → AreReplies s start some text → IsReply s (arrivals_after s start some) (request_of s fields) reply
+    → AreReplies s start (some ++ fields ∷ []) (text ++ reply)
 AreReplies-more s start some fields text reply are is =
     AreReplies-append s start some (fields ∷ []) text reply are (reply, [], sym (append-nil reply), is, refl)
 
 -- the first records and the next
-pub take-next : {A : Type 0} (count : ℕ) (records : List A) (next : A) (rest : List A) → drop count records ≡ next ∷ rest
+pub take-next : {A : Type 0} (count : ℕ) (records : List A) (next : A) (rest : List A)
+    → drop count records ≡ next ∷ rest
     → (take (suc count) records ≡ take count records ++ next ∷ []) × (drop (suc count) records ≡ rest)
 take-next zero [] next rest is = cc is
 take-next zero (r ∷ records) next rest is = let both = is in (cc both, cc both)

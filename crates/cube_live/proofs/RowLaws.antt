@@ -1,5 +1,6 @@
 -- The rows of one key.
-use Rattle.std.proofs.Common.{◌≡◌, ◌∙◌, ℕ, Bool, true, false, List, [], ◌∷◌, refl, sym, ap, subst, inl, inr, length, map}
+use Rattle.std.proofs.Common.{◌≡◌, ◌∙◌, ℕ, Bool, true, false, List, [], ◌∷◌, refl, sym, ap, subst, inl, inr, length}
+use Rattle.std.proofs.Common.{map}
 use Rattle.std.specs.Prelude.{◌&&◌, Contains, IsTrue, IfSome, Option, Some, None, is_some, Ok}
 use Rattle.std.specs.Cmp.Lexicographic.{slice_cmp}
 use Rattle.std.specs.List.{filter_map, list_all}
@@ -35,7 +36,8 @@ is_key-itself : (key : Key) → is_key key key ≡ true
 is_key-itself key = (eq_by_cmp_equiv key_cmp-IsTotalOrder).refl key
 
 -- where the key is no cell, it has no row
-pub AreRowsWhere-none : (sets : List ℕ) (dimensions : ℕ) (aggregates : List Agg) (facts : List Fact) (key : Key) → is_cell sets dimensions facts key ≡ false
+pub AreRowsWhere-none : (sets : List ℕ) (dimensions : ℕ) (aggregates : List Agg) (facts : List Fact) (key : Key)
+    → is_cell sets dimensions facts key ≡ false
     → AreRowsWhere (is_key key) sets dimensions aggregates facts []
 unfolding IsStrictlySortedBy
 AreRowsWhere-none sets dimensions aggregates facts key none = record {
@@ -48,15 +50,18 @@ AreRowsWhere-none sets dimensions aggregates facts key none = record {
 }
 
 -- where it is one, that row alone
-pub AreRowsWhere-one : (sets : List ℕ) (dimensions : ℕ) (aggregates : List Agg) (facts : List Fact) (key : Key) (row : Row) → is_cell sets dimensions facts key ≡ true
-    → row.key ≡ key → HasAnswers aggregates facts row → AreRowsWhere (is_key key) sets dimensions aggregates facts (row ∷ [])
+pub AreRowsWhere-one : (sets : List ℕ) (dimensions : ℕ) (aggregates : List Agg) (facts : List Fact) (key : Key)
+    (row : Row) → is_cell sets dimensions facts key ≡ true
+    → row.key ≡ key → HasAnswers aggregates facts row
+    → AreRowsWhere (is_key key) sets dimensions aggregates facts (row ∷ [])
 unfolding IsStrictlySortedBy
 AreRowsWhere-one sets dimensions aggregates facts key row cell is answers = record {
   cells = λ other. (there other, back other);
   ordered = (tt, tt);
   answers = (answers, tt);
 } where
-  there : (other : Key) → Contains (row.key ∷ []) other → IsTrue (is_cell sets dimensions facts other) × IsTrue (is_key key other)
+  there : (other : Key) → Contains (row.key ∷ []) other
+      → IsTrue (is_cell sets dimensions facts other) × IsTrue (is_key key other)
   there other among = elim (Contains-cases row.key [] other among) [
     | inl same ↦
         let P : Key → Type 0 = λ k. IsTrue (is_cell sets dimensions facts k) × IsTrue (is_key key k) in
@@ -64,17 +69,21 @@ AreRowsWhere-one sets dimensions aggregates facts key row cell is answers = reco
     | inr later ↦ absurd (Contains-nil other later)
   ]
 
-  back : (other : Key) → IsTrue (is_cell sets dimensions facts other) × IsTrue (is_key key other) → Contains (row.key ∷ []) other
+  back : (other : Key) → IsTrue (is_cell sets dimensions facts other) × IsTrue (is_key key other)
+      → Contains (row.key ∷ []) other
   back other passes =
       let same : row.key ≡ other = is ∙ is_key-same key other passes.1 in
       subst (λ (k : Key). Contains (row.key ∷ []) k) same (Contains-head row.key [])
 
 -- the rows of a test are those of any that answers the same
-pub AreRowsWhere-alike : (test other : Key → Bool) (sets : List ℕ) (dimensions : ℕ) (aggregates : List Agg) (facts : List Fact) (rows : List Row) → ((key : Key) → other key ≡ test key)
+pub AreRowsWhere-alike : (test other : Key → Bool) (sets : List ℕ) (dimensions : ℕ) (aggregates : List Agg)
+    (facts : List Fact) (rows : List Row) → ((key : Key) → other key ≡ test key)
     → AreRowsWhere test sets dimensions aggregates facts rows → AreRowsWhere other sets dimensions aggregates facts rows
 AreRowsWhere-alike test other sets dimensions aggregates facts rows alike are = record {
   cells = λ key.
-      let P : Bool → Type 0 = λ b. (Contains (map key_of rows) key → IsTrue (is_cell sets dimensions facts key) × IsTrue b) × (IsTrue (is_cell sets dimensions facts key) × IsTrue b → Contains (map key_of rows) key) in
+      let P : Bool → Type 0 =
+      λ b. (Contains (map key_of rows) key → IsTrue (is_cell sets dimensions facts key) × IsTrue b)
+      × (IsTrue (is_cell sets dimensions facts key) × IsTrue b → Contains (map key_of rows) key) in
       subst P (sym (alike key)) (are.cells key);
   ordered = are.ordered;
   answers = are.answers;
@@ -98,7 +107,8 @@ all_wanted-coords (Some wanted ∷ pattern) (c ∷ coords) some =
     ∙ sym (is_eq-then (coord_cmp wanted c) (slice_cmp coord_cmp (filter_map (λ wanted. wanted) pattern) coords))
 
 -- so it matches the key that it is, and no other
-pub matches-cell : (pattern : Wanted) (key other : Key) → Ok key ≡ cell_of pattern → matches pattern other ≡ is_key key other
+pub matches-cell : (pattern : Wanted) (key other : Key)
+    → Ok key ≡ cell_of pattern → matches pattern other ≡ is_key key other
 matches-cell pattern key other is = by (list_all is_some pattern) refl
   where
     by : (b : Bool) → list_all is_some pattern ≡ b → matches pattern other ≡ is_key key other
@@ -109,54 +119,73 @@ matches-cell pattern key other is = by (list_all is_some pattern) refl
     by false all = let bad = rw all at is in cc bad
 
 -- the rows of a cube of a schema over its grouping sets are the rows of the schema
-pub AreRows-AreRowsOver : (s : Layout) (cube : Lattice) (facts : List Fact) (rows : List Row) → cube.schema ≡ s → cube.sets ≡ s.grouping_sets
+pub AreRows-AreRowsOver : (s : Layout) (cube : Lattice) (facts : List Fact) (rows : List Row) → cube.schema ≡ s
+    → cube.sets ≡ s.grouping_sets
     → AreRowsOver cube.sets (length cube.schema.dimensions) cube.schema.aggregates facts rows → AreRows s facts rows
 AreRows-AreRowsOver s cube facts rows schema sets are =
     subst (λ (l : Layout). AreRowsOver s.grouping_sets (length l.dimensions) l.aggregates facts rows) schema
-    (subst (λ (kept : List ℕ). AreRowsOver kept (length cube.schema.dimensions) cube.schema.aggregates facts rows) sets are)
+    (subst (λ (kept : List ℕ). AreRowsOver kept (length cube.schema.dimensions) cube.schema.aggregates facts rows)
+    sets are)
 
 -- so are those whose keys pass a test
-pub AreRowsWhere-kept : (test : Key → Bool) (s : Layout) (cube : Lattice) (facts : List Fact) (rows : List Row) → cube.schema ≡ s → cube.sets ≡ s.grouping_sets
+pub AreRowsWhere-kept : (test : Key → Bool) (s : Layout) (cube : Lattice) (facts : List Fact) (rows : List Row)
+    → cube.schema ≡ s → cube.sets ≡ s.grouping_sets
     → AreRowsWhere test cube.sets (length cube.schema.dimensions) cube.schema.aggregates facts rows
     → AreRowsWhere test s.grouping_sets (length s.dimensions) s.aggregates facts rows
 AreRowsWhere-kept test s cube facts rows schema sets are =
     subst (λ (l : Layout). AreRowsWhere test s.grouping_sets (length l.dimensions) l.aggregates facts rows) schema
-    (subst (λ (kept : List ℕ). AreRowsWhere test kept (length cube.schema.dimensions) cube.schema.aggregates facts rows) sets are)
+    (subst (λ (kept : List ℕ). AreRowsWhere test kept (length cube.schema.dimensions) cube.schema.aggregates facts rows)
+    sets are)
 
 -- the row of a key, or none, is the list of its rows
-pub AreRowsWhere-IsRowOver : (sets : List ℕ) (dimensions : ℕ) (aggregates : List Agg) (facts : List Fact) (key : Key) (row : Row)
-    → IsRowOver sets dimensions aggregates facts key (Some row) → AreRowsWhere (is_key key) sets dimensions aggregates facts (row ∷ [])
-AreRowsWhere-IsRowOver sets dimensions aggregates facts key row is = AreRowsWhere-one sets dimensions aggregates facts key row is.0 is.1 is.2
+pub AreRowsWhere-IsRowOver : (sets : List ℕ) (dimensions : ℕ) (aggregates : List Agg) (facts : List Fact) (key : Key)
+    (row : Row)
+    → IsRowOver sets dimensions aggregates facts key (Some row)
+    → AreRowsWhere (is_key key) sets dimensions aggregates facts (row ∷ [])
+AreRowsWhere-IsRowOver sets dimensions aggregates facts key row is =
+    AreRowsWhere-one sets dimensions aggregates facts key row is.0 is.1 is.2
 
 -- the cell of a key is one of the cube of its facts, and its row has the answers of the key's group
-pub cell-HasAnswers : (cube : Lattice) (facts : List Fact) (aggregates : List Agg) (key : Key) (tally : Tally) (row : Row) → IsCubeOf cube facts → cell_at cube.cells key ≡ Some tally
-    → IsRowOf aggregates (key, tally) row → (is_cell cube.sets (length cube.schema.dimensions) facts key ≡ true) × (row.key ≡ key) × HasAnswers aggregates facts row
+pub cell-HasAnswers : (cube : Lattice) (facts : List Fact) (aggregates : List Agg) (key : Key) (tally : Tally)
+    (row : Row) → IsCubeOf cube facts → cell_at cube.cells key ≡ Some tally
+    → IsRowOf aggregates (key, tally) row → (is_cell cube.sets (length cube.schema.dimensions) facts key ≡ true)
+    × (row.key ≡ key) × HasAnswers aggregates facts row
 cell-HasAnswers cube facts aggregates key tally row of found is = (
   sym (of.keys key) ∙ ap is_some found,
   is.key,
   subst (λ (k : Key). AreAnswers (group_of k facts) aggregates row.answers) (sym is.key)
-      (is.answers (group_of key facts) (subst (λ (o : Option Tally). IfSome o (IsTallyOf (group_of key facts))) found (of.tallies key))),
+      (is.answers (group_of key facts)
+      (subst (λ (o : Option Tally). IfSome o (IsTallyOf (group_of key facts))) found (of.tallies key))),
 )
 
 -- where a key has no cell it is none
-pub no_cell : (cube : Lattice) (facts : List Fact) (key : Key) → IsCubeOf cube facts → cell_at cube.cells key ≡ None → is_cell cube.sets (length cube.schema.dimensions) facts key ≡ false
+pub no_cell : (cube : Lattice) (facts : List Fact) (key : Key) → IsCubeOf cube facts → cell_at cube.cells key ≡ None
+    → is_cell cube.sets (length cube.schema.dimensions) facts key ≡ false
 no_cell cube facts key of none = sym (of.keys key) ∙ ap is_some none
 
 -- rows over sets that are the schema's
-pub AreRowsWhere-sets : (test : Key → Bool) (s : Layout) (sets : List ℕ) (facts : List Fact) (rows : List Row) → sets ≡ s.grouping_sets
-    → AreRowsWhere test sets (length s.dimensions) s.aggregates facts rows → AreRowsWhere test s.grouping_sets (length s.dimensions) s.aggregates facts rows
-AreRowsWhere-sets test s sets facts rows same are = subst (λ (kept : List ℕ). AreRowsWhere test kept (length s.dimensions) s.aggregates facts rows) same are
+pub AreRowsWhere-sets : (test : Key → Bool) (s : Layout) (sets : List ℕ) (facts : List Fact) (rows : List Row)
+    → sets ≡ s.grouping_sets
+    → AreRowsWhere test sets (length s.dimensions) s.aggregates facts rows
+    → AreRowsWhere test s.grouping_sets (length s.dimensions) s.aggregates facts rows
+AreRowsWhere-sets test s sets facts rows same are =
+    subst (λ (kept : List ℕ). AreRowsWhere test kept (length s.dimensions) s.aggregates facts rows) same are
 
 -- the row of a key's cell is the list of its rows
-pub rows-one : (s : Layout) (cube : Lattice) (facts : List Fact) (key : Key) (tally : Tally) (row : Row) → cube.schema ≡ s → IsCubeOf cube facts → Some tally ≡ cell_at cube.cells key
-    → IsRowOf s.aggregates (key, tally) row → AreRowsWhere (is_key key) cube.sets (length s.dimensions) s.aggregates facts (row ∷ [])
+pub rows-one : (s : Layout) (cube : Lattice) (facts : List Fact) (key : Key) (tally : Tally) (row : Row)
+    → cube.schema ≡ s → IsCubeOf cube facts → Some tally ≡ cell_at cube.cells key
+    → IsRowOf s.aggregates (key, tally) row
+    → AreRowsWhere (is_key key) cube.sets (length s.dimensions) s.aggregates facts (row ∷ [])
 rows-one s cube facts key tally row schema of found is =
     let has = cell-HasAnswers cube facts s.aggregates key tally row of (sym found) is in
-    AreRowsWhere-one cube.sets (length s.dimensions) s.aggregates facts key row (subst (λ (l : Layout). is_cell cube.sets (length l.dimensions) facts key ≡ true) schema has.0) has.1 has.2
+    AreRowsWhere-one cube.sets (length s.dimensions) s.aggregates facts key row
+    (subst (λ (l : Layout). is_cell cube.sets (length l.dimensions) facts key ≡ true) schema has.0) has.1 has.2
 
 -- and of a key that has none there is no row
-pub rows-none : (s : Layout) (cube : Lattice) (facts : List Fact) (key : Key) → cube.schema ≡ s → IsCubeOf cube facts → None ≡ cell_at cube.cells key
+pub rows-none : (s : Layout) (cube : Lattice) (facts : List Fact) (key : Key) → cube.schema ≡ s → IsCubeOf cube facts
+    → None ≡ cell_at cube.cells key
     → AreRowsWhere (is_key key) cube.sets (length s.dimensions) s.aggregates facts []
 rows-none s cube facts key schema of none =
     AreRowsWhere-none cube.sets (length s.dimensions) s.aggregates facts key
-    (subst (λ (l : Layout). is_cell cube.sets (length l.dimensions) facts key ≡ false) schema (no_cell cube facts key of (sym none)))
+    (subst (λ (l : Layout). is_cell cube.sets (length l.dimensions) facts key ≡ false) schema
+    (no_cell cube facts key of (sym none)))

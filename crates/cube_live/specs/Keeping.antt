@@ -1,4 +1,5 @@
--- What a journal has of a session: of which changes it was told, and of how many it has made sure (this project's choice).
+-- What a journal has of a session:
+-- of which changes it was told, and of how many it has made sure (this project's choice).
 use Rattle.std.specs.Prelude.{◌≡◌, ◌+◌, ◌++◌, ◌∷◌, [], ◌⊎◌, ℕ, List, length, take, drop, Option, if◌then◌else◌}
 use Rattle.cube_core.specs.Arrival.{Arrivals}
 use Rattle.cube_core.specs.Items.{is_read}
@@ -52,23 +53,31 @@ keeping_after s k [] = k
 keeping_after s k (fields ∷ records) = keeping_after s (keeping_with s k fields) records
 
 -- a journal that kept so much from some first value on goes on to keep what this step makes of it
-abbrev pub KeepsOn : {J : Type 0} → (J → J → Keeping → Type 0) → (J → J → Keeping → Type 0) → J → (Keeping → Keeping) → J → Type 0
+abbrev pub KeepsOn : {J : Type 0} → (J → J → Keeping → Type 0) → (J → J → Keeping → Type 0) → J → (Keeping → Keeping)
+    → J → Type 0
 KeepsOn {J} before after old step new = (first : J) → (k : Keeping) → before first old k → after first new (step k)
 
 -- a step was not taken, or it was, or a call on the journal failed within it
-abbrev pub KeepsPart : {J : Type 0} → (J → J → Keeping → Type 0) → (J → J → Keeping → Type 0) → J → J → Keeping → Keeping → Type 0
+abbrev pub KeepsPart : {J : Type 0} → (J → J → Keeping → Type 0) → (J → J → Keeping → Type 0) → J → J → Keeping
+    → Keeping → Type 0
 KeepsPart keeps breaks first new k next = keeps first new k ⊎ (keeps first new next ⊎ breaks first new (unsure k next))
 
 -- what a record that failed so leaves of a step: before any byte of an answer goes out the step is taken
-abbrev pub EndsIn : {J : Type 0} → (J → J → Keeping → Type 0) → (J → J → Keeping → Type 0) → SessionFault → J → (Keeping → Keeping) → J → Type 0
+abbrev pub EndsIn : {J : Type 0} → (J → J → Keeping → Type 0) → (J → J → Keeping → Type 0) → SessionFault → J
+    → (Keeping → Keeping) → J → Type 0
 EndsIn keeps breaks (Write sent) old step new = KeepsOn keeps keeps old step new
-EndsIn {J} keeps breaks Read old step new = (first : J) → (k : Keeping) → keeps first old k → KeepsPart keeps breaks first new k (step k)
-EndsIn {J} keeps breaks (TooMany source) old step new = (first : J) → (k : Keeping) → keeps first old k → KeepsPart keeps breaks first new k (step k)
-EndsIn {J} keeps breaks Full old step new = (first : J) → (k : Keeping) → keeps first old k → KeepsPart keeps breaks first new k (step k)
-EndsIn {J} keeps breaks (Journal fault) old step new = (first : J) → (k : Keeping) → keeps first old k → KeepsPart keeps breaks first new k (step k)
+EndsIn {J} keeps breaks Read old step new =
+    (first : J) → (k : Keeping) → keeps first old k → KeepsPart keeps breaks first new k (step k)
+EndsIn {J} keeps breaks (TooMany source) old step new =
+    (first : J) → (k : Keeping) → keeps first old k → KeepsPart keeps breaks first new k (step k)
+EndsIn {J} keeps breaks Full old step new =
+    (first : J) → (k : Keeping) → keeps first old k → KeepsPart keeps breaks first new k (step k)
+EndsIn {J} keeps breaks (Journal fault) old step new =
+    (first : J) → (k : Keeping) → keeps first old k → KeepsPart keeps breaks first new k (step k)
 
 -- how much of a session's records a journal kept
-module _ {J : Type 0} (keeps breaks : J → J → Keeping → Type 0) (old new : J) (s : Layout) (records : List (List (List ℕ))) where
+module _ {J : Type 0} (keeps breaks : J → J → Keeping → Type 0) (old new : J) (s : Layout)
+    (records : List (List (List ℕ))) where
   -- what the first records, so many, have it keep
   abbrev pub KeepsFirst : ℕ → Type 0
   KeepsFirst count = KeepsOn keeps keeps old (λ k. keeping_after s k (take count records)) new
@@ -76,9 +85,11 @@ module _ {J : Type 0} (keeps breaks : J → J → Keeping → Type 0) (old new :
   -- that, and maybe a part of what the record after them has it keep
   abbrev pub KeepsUpTo : ℕ → Type 0
   KeepsUpTo count = (first : J) → (k : Keeping) → keeps first old k
-      → KeepsPart keeps breaks first new (keeping_after s k (take count records)) (keeping_after s k (take (count + 1) records))
+      → KeepsPart keeps breaks first new (keeping_after s k (take count records))
+      (keeping_after s k (take (count + 1) records))
 
-  -- how much it kept where a session failed so after so many records: before any byte of an answer all that stands before it
+  -- how much it kept where a session failed so after so many records:
+  -- before any byte of an answer all that stands before it
   abbrev pub KeepsBy : SessionFault → ℕ → Type 0
   KeepsBy Read count = KeepsUpTo count
   KeepsBy (TooMany source) count = KeepsUpTo count
@@ -86,15 +97,22 @@ module _ {J : Type 0} (keeps breaks : J → J → Keeping → Type 0) (old new :
   KeepsBy (Write sent) count = KeepsFirst count
   KeepsBy (Journal fault) count = KeepsUpTo count
 
--- what went out where a session failed so after so many records: the replies to these, but for a failed write the first bytes of them
-abbrev pub LeavesAt : Layout → List (List (List ℕ)) → Arrivals → SessionFault → ℕ → Option (List ℕ) → Option (List ℕ) → Type 0
+-- what went out where a session failed so after so many records:
+-- the replies to these, but for a failed write the first bytes of them
+abbrev pub LeavesAt : Layout → List (List (List ℕ)) → Arrivals → SessionFault → ℕ → Option (List ℕ) → Option (List ℕ)
+    → Type 0
 LeavesAt s records start Read count old new = Answered s records start count old new
-LeavesAt s records start (TooMany source) count old new = Answered s records start count old new × IsPastLast s records start count source
+LeavesAt s records start (TooMany source) count old new =
+    Answered s records start count old new × IsPastLast s records start count source
 LeavesAt s records start Full count old new = Answered s records start count old new
-LeavesAt s records start (Write sent) count old new = (part : AnsweredInPart s records start sent old new) × (part.count ≡ count)
+LeavesAt s records start (Write sent) count old new =
+    (part : AnsweredInPart s records start sent old new) × (part.count ≡ count)
 LeavesAt s records start (Journal fault) count old new = Answered s records start count old new
 
--- a session failed so after some of its records: its journal kept what these have it keep, and the replies to them went out, wherever the cube stood
-abbrev pub FailsKept : {J : Type 0} → (J → J → Keeping → Type 0) → (J → J → Keeping → Type 0) → J → J → Layout → List (List (List ℕ)) → LiveView → SessionFault → Option (List ℕ) → Option (List ℕ) → Type 0
-FailsKept keeps breaks begun ended s records before fault old new = (count : ℕ) × KeepsBy keeps breaks begun ended s records fault count
+-- a session failed so after some of its records:
+-- its journal kept what these have it keep, and the replies to them went out, wherever the cube stood
+abbrev pub FailsKept : {J : Type 0} → (J → J → Keeping → Type 0) → (J → J → Keeping → Type 0) → J → J → Layout
+    → List (List (List ℕ)) → LiveView → SessionFault → Option (List ℕ) → Option (List ℕ) → Type 0
+FailsKept keeps breaks begun ended s records before fault old new =
+    (count : ℕ) × KeepsBy keeps breaks begun ended s records fault count
     × ((start : Arrivals) → LiveStandsAt before start → LeavesAt s records start fault count old new)

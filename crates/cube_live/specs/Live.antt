@@ -1,4 +1,5 @@
--- A cube that is kept right: the ledger of all 64 sources, and the number of the last record of each that was taken (this project's choice).
+-- A cube that is kept right:
+-- the ledger of all 64 sources, and the number of the last record of each that was taken (this project's choice).
 use Rattle.std.specs.Prelude.{◌≡◌, ◌≤◌, ◌<◌, ◌-◌, ◌++◌, ◌∷◌, [], ⊤, ℕ, List, length, get_or, Result}
 use Rattle.cube_core.specs.Arrival.{Arrivals, of_source}
 use Rattle.cube_core.specs.Layout.{Layout}
@@ -9,15 +10,18 @@ use Rattle.cube_live.specs.Session.{arrivals_changed, last_number, said_item}
 use Rattle.cube_live.specs.declared.live.LiveFault.{LiveFault}
 use Rattle.cube_live.specs.declared.live.LiveFault.TheVariants.{TooMany, Memory}
 use Rattle.cube_live.specs.declared.request.Question.{Question}
-use Rattle.cube_live.specs.declared.request.Question.TheVariants.{Print, Slice, Drill, RollUp, Refusals, RefusalsAfter, Sync}
+use Rattle.cube_live.specs.declared.request.Question.TheVariants.{Print, Slice, Drill, RollUp, Refusals, RefusalsAfter}
+use Rattle.cube_live.specs.declared.request.Question.TheVariants.{Sync}
 
--- the schema, the books and the refusals, and the number of the last record of each source that was taken, 0 where none was
+-- the schema, the books and the refusals,
+-- and the number of the last record of each source that was taken, 0 where none was
 pub record LiveView : Type 0 where
   pub schema : Layout
   pub ledger : LedgerView
   pub numbers : List ℕ
 
--- what is true of it always: its ledger is of the schema and 64 sources, and no source has a record past those that the schema takes
+-- what is true of it always:
+-- its ledger is of the schema and 64 sources, and no source has a record past those that the schema takes
 pub record IsLive (s : Layout) (ledger : LedgerView) (numbers : List ℕ) : Type 0 where
   pub schema : ledger.schema ≡ s
   pub sources : length ledger.accounts ≡ 64
@@ -26,7 +30,8 @@ pub record IsLive (s : Layout) (ledger : LedgerView) (numbers : List ℕ) : Type
 
 -- each of these numbers is that of the last item that an arrival list has of its source, of the 64
 abbrev pub AreLast : List ℕ → Arrivals → Type 0
-AreLast numbers arrivals = (source : ℕ) → 1 ≤ source → source ≤ 64 → get_or numbers (source - 1) 0 ≡ last_number (of_source arrivals source)
+AreLast numbers arrivals =
+    (source : ℕ) → 1 ≤ source → source ≤ 64 → get_or numbers (source - 1) 0 ≡ last_number (of_source arrivals source)
 
 -- it stands at an arrival list: the ledger does, and its numbers are those of the list's last items
 pub record LiveStandsAt (live : LiveView) (arrivals : Arrivals) : Type 0 where
@@ -36,11 +41,13 @@ pub record LiveStandsAt (live : LiveView) (arrivals : Arrivals) : Type 0 where
 -- it took what the next record of a source says
 abbrev pub TakesNext : ℕ → Result Change LineFault → LiveView → LiveView → Type 0
 TakesNext source what old new =
-    (arrivals : Arrivals) → LiveStandsAt old arrivals → LiveStandsAt new (arrivals ++ (source, said_item arrivals source what) ∷ [])
+    (arrivals : Arrivals) → LiveStandsAt old arrivals
+    → LiveStandsAt new (arrivals ++ (source, said_item arrivals source what) ∷ [])
 
 -- it took a change of a source, a data record of these fields
 abbrev pub TakesChange : ℕ → List (List ℕ) → LiveView → LiveView → Type 0
-TakesChange source fields old new = (arrivals : Arrivals) → LiveStandsAt old arrivals → LiveStandsAt new (arrivals_changed old.schema arrivals source fields)
+TakesChange source fields old new = (arrivals : Arrivals) → LiveStandsAt old arrivals
+    → LiveStandsAt new (arrivals_changed old.schema arrivals source fields)
 
 -- nothing changed that counts
 pub record SameLive (old new : LiveView) : Type 0 where
@@ -52,7 +59,8 @@ abbrev pub ExplainsLive : ℕ → LiveView → LiveFault → Type 0
 ExplainsLive source live TooMany = get_or live.numbers (source - 1) 0 ≡ live.schema.max_records
 ExplainsLive source live Memory = ⊤
 
--- a question is one that can be asked under a schema: its dimension is one of the schema's, its key has a coordinate for each, and its source is one of the 64
+-- a question is one that can be asked under a schema:
+-- its dimension is one of the schema's, its key has a coordinate for each, and its source is one of the 64
 abbrev pub CanAsk : Layout → Question → Type 0
 CanAsk s Print = ⊤
 CanAsk s (Slice pattern) = ⊤

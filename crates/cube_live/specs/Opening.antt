@@ -1,4 +1,5 @@
--- The opening of a session: the feeds of the first sources are taken to their ends before its first record (this project's choice).
+-- The opening of a session:
+-- the feeds of the first sources are taken to their ends before its first record (this project's choice).
 use Rattle.std.specs.Prelude.{◌≡◌, ◌≤◌, ◌<◌, [], ℕ, List, length, get_or}
 use Rattle.std.specs.List.{AllZip}
 use Rattle.cube_core.specs.Arrival.{Arrivals, of_source, of_sources}
@@ -13,7 +14,8 @@ pub record StartsOver (feeds : List (List Item)) (start : Arrivals) : Type 0 whe
   pub fed : of_sources (length feeds) start ≡ feeds
   pub others : (source : ℕ) → length feeds < source → of_source start source ≡ []
 
--- this stands over the feeds of these sources: every feed is good, and it stands at an arrival list that has of each source with a feed the items of its feed, and of the others nothing
+-- this stands over the feeds of these sources: every feed is good,
+-- and it stands at an arrival list that has of each source with a feed the items of its feed, and of the others nothing
 pub record OpensOver (s : Layout) (sources : Told) (Stands : Arrivals → Type 0) : Type 0 where
   pub feeds : List (List Item)
   pub good : AreGood s sources
@@ -22,7 +24,8 @@ pub record OpensOver (s : Layout) (sources : Told) (Stands : Arrivals → Type 0
   pub starts : StartsOver feeds start
   pub stands : Stands start
 
--- what a contract sees of an opening: the ledger of the 64 sources, how many of them have a feed, and the number of the last record of each that was taken
+-- what a contract sees of an opening: the ledger of the 64 sources, how many of them have a feed,
+-- and the number of the last record of each that was taken
 pub record OpeningView : Type 0 where
   pub ledger : LedgerView
   pub feeds : ℕ
@@ -36,7 +39,8 @@ pub record IsOpening (ledger : LedgerView) (feeds most : ℕ) (numbers : List �
   pub numbered : length numbers ≡ 64
   pub at_most : (place : ℕ) → get_or numbers place 0 ≤ most
 
--- an opening that began as another one stands at an arrival list: its ledger does, its numbers are those of the list's last items, and of the sources without a feed the list has nothing
+-- an opening that began as another one stands at an arrival list: its ledger does,
+-- its numbers are those of the list's last items, and of the sources without a feed the list has nothing
 pub record OpeningStandsAt (first opening : OpeningView) (arrivals : Arrivals) : Type 0 where
   pub schema : opening.ledger.schema ≡ first.ledger.schema
   pub feeds : opening.feeds ≡ first.feeds

@@ -1,5 +1,6 @@
 -- What a record of a session asks: a change of a source, a question, or neither (this project's choice).
-use Rattle.std.specs.Prelude.{◌==◌, ◌&&◌, ◌+◌, nat_lt, ℕ, ℤ, pos, negsuc, List, length, drop, codes, decimal, Option, Some, None, option_and_then, Result, Ok, Err, if◌then◌else◌}
+use Rattle.std.specs.Prelude.{◌==◌, ◌&&◌, ◌+◌, nat_lt, ℕ, ℤ, pos, negsuc, List, length, drop, codes, decimal, Option}
+use Rattle.std.specs.Prelude.{Some, None, option_and_then, Result, Ok, Err, if◌then◌else◌}
 use Rattle.std.specs.Option.{option_map_or}
 use Rattle.std.specs.Str.{bytes_eq, is_utf8}
 use Rattle.cube_core.specs.Items.{field_at, number_of}
@@ -7,7 +8,8 @@ use Rattle.cube_core.specs.Layout.{Layout}
 use Rattle.cube_core.specs.Query.{Wanted, cell_of, drill_fault, place_of, spelled_by}
 use Rattle.cube_core.specs.declared.key.Key.{Key}
 use Rattle.cube_core.specs.declared.query.QueryFault.{QueryFault}
-use Rattle.cube_live.specs.declared.request.Question.TheVariants.{Print, Slice, Drill, RollUp, Refusals, RefusalsAfter, Sync}
+use Rattle.cube_live.specs.declared.request.Question.TheVariants.{Print, Slice, Drill, RollUp, Refusals, RefusalsAfter}
+use Rattle.cube_live.specs.declared.request.Question.TheVariants.{Sync}
 use Rattle.cube_live.specs.declared.request.Request.{Request}
 use Rattle.cube_live.specs.declared.request.Request.TheVariants.{Change, Ask, Wrong}
 use Rattle.cube_live.specs.declared.request.RequestFault.TheVariants.{Unknown, Shape, Query}
@@ -60,7 +62,8 @@ cell_and_dimension s fields = with_dimension (cell_by (spelled_by (drop 2 fields
 
 -- the drill-down from a key along a dimension, where there is one
 abbrev pub drill_by : Layout → Key × ℕ → Request
-drill_by s at = option_map_or (λ fault. Wrong (Query fault)) (drill_fault s.grouping_sets at.1 at.0) (Ask (Drill at.0 at.1))
+drill_by s at =
+    option_map_or (λ fault. Wrong (Query fault)) (drill_fault s.grouping_sets at.1 at.0) (Ask (Drill at.0 at.1))
 
 -- what a drill-down asks: the dimension, and a field for each dimension
 abbrev pub drill_request : Layout → List (List ℕ) → Request

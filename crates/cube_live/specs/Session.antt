@@ -1,5 +1,6 @@
 -- A session: the replies to its records, one after another, each over what came before it (this project's choice).
-use Rattle.std.specs.Prelude.{◌≡◌, ◌+◌, ℕ, List, [], ◌∷◌, ◌++◌, None, length, drop, codes, decimal, Result, if◌then◌else◌}
+use Rattle.std.specs.Prelude.{◌≡◌, ◌+◌, ℕ, List, [], ◌∷◌, ◌++◌, None, length, drop, codes, decimal, Result}
+use Rattle.std.specs.Prelude.{if◌then◌else◌}
 use Rattle.std.specs.List.{last_or}
 use Rattle.std.specs.Option.{option_map_or}
 use Rattle.cube_core.specs.Arrival.{Arrivals, of_source, of_sources}
@@ -42,10 +43,12 @@ code_line fault = code_text fault ++ 10 ∷ []
 abbrev pub ok_line : ℕ → List ℕ
 ok_line count = codes "ok " ++ decimal count ++ 10 ∷ []
 
--- what a record that asks this may be replied at an arrival list: nothing to a change; to a question the line that counts the bytes of a text that shows it, and the text; else the line of the code
+-- what a record that asks this may be replied at an arrival list: nothing to a change;
+-- to a question the line that counts the bytes of a text that shows it, and the text; else the line of the code
 abbrev pub IsReply : Layout → Arrivals → Request → List ℕ → Type 0
 IsReply s arrivals (request.Change source) reply = reply ≡ []
-IsReply s arrivals (Ask question) reply = (text : List ℕ) × Shows question s (of_sources 64 arrivals) text × (reply ≡ ok_line (length text) ++ text)
+IsReply s arrivals (Ask question) reply =
+    (text : List ℕ) × Shows question s (of_sources 64 arrivals) text × (reply ≡ ok_line (length text) ++ text)
 IsReply s arrivals (Wrong fault) reply = reply ≡ code_line fault
 
 -- the number of the last item, or 0 where there is none
@@ -56,9 +59,11 @@ last_number items = option_map_or (λ (item : Item). item.number) (last_or None 
 abbrev pub said_item : Arrivals → ℕ → Result Change LineFault → Item
 said_item arrivals source what = record { number = last_number (of_source arrivals source) + 1; what = what }
 
--- an arrival list after a change of a source, a data record of these fields: one item more where the record is in the schema's shard, and else the same
+-- an arrival list after a change of a source, a data record of these fields:
+-- one item more where the record is in the schema's shard, and else the same
 abbrev pub arrivals_changed : Layout → Arrivals → ℕ → List (List ℕ) → Arrivals
-arrivals_changed s arrivals source fields = if is_read s fields then arrivals ++ (source, said_item arrivals source (change_of s fields)) ∷ [] else arrivals
+arrivals_changed s arrivals source fields =
+    if is_read s fields then arrivals ++ (source, said_item arrivals source (change_of s fields)) ∷ [] else arrivals
 
 -- an arrival list after a record that asks this: changed by a change, and else the same
 abbrev pub arrivals_by : Layout → Arrivals → Request → List (List ℕ) → Arrivals
@@ -75,7 +80,8 @@ abbrev pub arrivals_after : Layout → Arrivals → List (List (List ℕ)) → A
 arrivals_after s arrivals [] = arrivals
 arrivals_after s arrivals (fields ∷ records) = arrivals_after s (arrivals_with s arrivals fields) records
 
--- this text is the replies to records from an arrival list: the reply to the first at this list, followed by those to the rest from the list after it
+-- this text is the replies to records from an arrival list:
+-- the reply to the first at this list, followed by those to the rest from the list after it
 abbrev pub AreReplies : Layout → Arrivals → List (List (List ℕ)) → List ℕ → Type 0
 AreReplies s arrivals [] text = text ≡ []
 AreReplies s arrivals (fields ∷ records) text = (reply : List ℕ) × (rest : List ℕ) × (text ≡ reply ++ rest)

@@ -15,7 +15,8 @@ use Rattle.cube_core.specs.declared.fact.Fact.{Fact}
 use Rattle.cube_core.specs.declared.key.Key.{Key}
 use Rattle.cube_core.specs.declared.key.Row.{Row}
 use Rattle.cube_live.specs.declared.request.Question.{Question}
-use Rattle.cube_live.specs.declared.request.Question.TheVariants.{Print, Slice, Drill, RollUp, Refusals, RefusalsAfter, Sync}
+use Rattle.cube_live.specs.declared.request.Question.TheVariants.{Print, Slice, Drill, RollUp, Refusals, RefusalsAfter}
+use Rattle.cube_live.specs.declared.request.Question.TheVariants.{Sync}
 
 -- a text shows the printed cube of the facts that survive in all sources
 pub record ShowsCube (s : Layout) (feeds : List (List Item)) (text : List ℕ) : Type 0 where
@@ -74,5 +75,6 @@ Shows (Slice pattern) s feeds text = ShowsRows (matches pattern) s feeds text
 Shows (Drill key dimension) s feeds text = ShowsRows (drills_down dimension key) s feeds text
 Shows (RollUp key dimension) s feeds text = ShowsRows (is_key (rolled_up dimension key)) s feeds text
 Shows Refusals s feeds text = text ≡ text_of_refusals (map (refusals_of s) feeds)
-Shows (RefusalsAfter source number) s feeds text = text ≡ text_after source number (refusals_of s (get_or feeds (source - 1) []))
+Shows (RefusalsAfter source number) s feeds text =
+    text ≡ text_after source number (refusals_of s (get_or feeds (source - 1) []))
 Shows Sync s feeds text = text ≡ []

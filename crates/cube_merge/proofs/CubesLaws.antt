@@ -1,5 +1,7 @@
 -- How the text of a merged cube grows, and what its inputs held.
-use Rattle.std.proofs.Common.{◌≡◌, ◌++◌, ◌<◌, ◌≤◌, ◌∷◌, [], ℕ, zero, suc, Bool, true, false, List, Option, Some, None, length, get_or, map, take, drop, refl, sym, ap, ◌∙◌, subst, arith, append_assoc, flat_map, IfSome, inl, inr, option_to_list}
+use Rattle.std.proofs.Common.{◌≡◌, ◌++◌, ◌<◌, ◌≤◌, ◌∷◌, [], ℕ, zero, suc, Bool, true, false, List, Option, Some, None}
+use Rattle.std.proofs.Common.{length, get_or, map, take, drop, refl, sym, ap, ◌∙◌, subst, arith, append_assoc, flat_map}
+use Rattle.std.proofs.Common.{IfSome, inl, inr, option_to_list}
 use Rattle.std.specs.List.{AllByRecursion, AllZip}
 use Rattle.std.specs.List.Sorted.{IsStrictlySortedBy}
 use Rattle.cube_core.specs.Cube.{key_of}
@@ -14,14 +16,18 @@ use Rattle.cube_core.specs.declared.aggregate.Agg.{Agg}
 use Rattle.cube_core.specs.declared.key.Row.{Row}
 use Rattle.cube_core.proofs.ListLaws.{AllZip-length}
 use Rattle.cube_merge.specs.Lawful.{IsRowOf}
-use Rattle.cube_merge.specs.Merging.{InputView, AreInOrder, AreOfSchema, nothing_left, IsMergeOf, IsLeastSoFar, IsNotBelow, Gave, IsEnded, HasTaken, AreFresh, AllMove, IsMerging, MergesInputs, IsTextOf}
+use Rattle.cube_merge.specs.Merging.{InputView, AreInOrder, AreOfSchema, nothing_left, IsMergeOf, IsLeastSoFar}
+use Rattle.cube_merge.specs.Merging.{IsNotBelow, Gave, IsEnded, HasTaken, AreFresh, AllMove, IsMerging, MergesInputs}
+use Rattle.cube_merge.specs.Merging.{IsTextOf}
 use Rattle.cube_merge.proofs.LeastLaws.{past, not_below-none}
 use Rattle.cube_merge.proofs.StepLaws.{IsMerging-start, nothing-ordered}
 
 -- what a vector holds after its slice was written whole
-pub refill-same : {X : Type 0} (n : ℕ) (news olds : List X) → length news ≡ length olds → n ≡ length olds → take n (news ++ drop (length news) olds) ≡ news
+pub refill-same : {X : Type 0} (n : ℕ) (news olds : List X) → length news ≡ length olds → n ≡ length olds
+    → take n (news ++ drop (length news) olds) ≡ news
 refill-same n news olds same long =
-    ap (λ t. take n (news ++ t)) (all-dropped (length news) olds (omega (arith, same))) ∙ ap (take n) (append-nil news) ∙ all-taken n news (omega (arith, same, long)) where
+    ap (λ t. take n (news ++ t)) (all-dropped (length news) olds (omega (arith, same))) ∙ ap (take n) (append-nil news)
+    ∙ all-taken n news (omega (arith, same, long)) where
       all-dropped : {Y : Type 0} (k : ℕ) (xs : List Y) → length xs ≤ k → drop k xs ≡ []
       all-dropped zero [] h = refl
       all-dropped zero (x ∷ xs) h = absurd (omega (arith, h))
@@ -35,45 +41,58 @@ refill-same n news olds same long =
       all-taken (suc k) (x ∷ xs) h = ap (λ t. x ∷ t) (all-taken k xs (omega (arith, h)))
 
 -- the least key of all inputs
-pub IsLeastSoFar-all : (inputs : List InputView) (place : ℕ) (row : Row) → IsLeastSoFar inputs (Some place) (length inputs) → (get_or inputs place nothing_left).row ≡ Some row → (k : ℕ) → IsNotBelow row.key (get_or inputs k nothing_left)
+pub IsLeastSoFar-all : (inputs : List InputView) (place : ℕ) (row : Row)
+    → IsLeastSoFar inputs (Some place) (length inputs) → (get_or inputs place nothing_left).row ≡ Some row → (k : ℕ)
+    → IsNotBelow row.key (get_or inputs k nothing_left)
 IsLeastSoFar-all inputs place row least is k =
     let same : least.1 ≡ row = same_row least.1 row (sym least.2 ∙ is) in
     subst (λ (r : Row). IsNotBelow r.key (get_or inputs k nothing_left)) same (elim (cases_lt k (length inputs)) [
       | inl below ↦ least.3 k below
-      | inr above ↦ not_below-none least.1.key (get_or inputs k nothing_left) (ap (λ (i : InputView). i.row) (past inputs k nothing_left above))
+      | inr above ↦ not_below-none least.1.key (get_or inputs k nothing_left)
+          (ap (λ (i : InputView). i.row) (past inputs k nothing_left above))
     ]) where
       same_row : (a b : Row) → Some a ≡ Some b → a ≡ b
       same_row a b e = cc
 
 -- one more row's line
-pub text_of_rows-push : (s : Layout) (rows : List Row) (row : Row) (sent old more left : List ℕ) → sent ++ old ≡ text_of_rows s rows → old ++ row_line row ≡ more ++ left → (sent ++ more) ++ left ≡ text_of_rows s (rows ++ row ∷ [])
+pub text_of_rows-push : (s : Layout) (rows : List Row) (row : Row) (sent old more left : List ℕ)
+    → sent ++ old ≡ text_of_rows s rows → old ++ row_line row ≡ more ++ left
+    → (sent ++ more) ++ left ≡ text_of_rows s (rows ++ row ∷ [])
 text_of_rows-push s rows row sent old more left so_far parts =
     let header = line (header_fields s) in
-    append_assoc sent more left ∙ ap (λ t. sent ++ t) (sym parts) ∙ sym (append_assoc sent old (row_line row)) ∙ ap (λ t. t ++ row_line row) so_far
+    append_assoc sent more left ∙ ap (λ t. sent ++ t) (sym parts) ∙ sym (append_assoc sent old (row_line row))
+    ∙ ap (λ t. t ++ row_line row) so_far
     ∙ append_assoc header (flat_map row_line rows) (row_line row)
-    ∙ ap (λ t. header ++ t) (sym (flat_map-append row_line rows (row ∷ []) ∙ ap (λ t. flat_map row_line rows ++ t) (append-nil (row_line row))))
+    ∙ ap (λ t. header ++ t)
+    (sym (flat_map-append row_line rows (row ∷ []) ∙ ap (λ t. flat_map row_line rows ++ t) (append-nil (row_line row))))
 
 -- one more row's line, of which nothing was sent
-pub text_of_rows-more : (s : Layout) (rows : List Row) (row : Row) (sent old new : List ℕ) → sent ++ old ≡ text_of_rows s rows → new ≡ old ++ row_line row → sent ++ new ≡ text_of_rows s (rows ++ row ∷ [])
-text_of_rows-more s rows row sent old new so_far grown = ap (λ t. t ++ new) (sym (append-nil sent)) ∙ text_of_rows-push s rows row sent old [] new so_far (sym grown)
+pub text_of_rows-more : (s : Layout) (rows : List Row) (row : Row) (sent old new : List ℕ)
+    → sent ++ old ≡ text_of_rows s rows → new ≡ old ++ row_line row → sent ++ new ≡ text_of_rows s (rows ++ row ∷ [])
+text_of_rows-more s rows row sent old new so_far grown =
+    ap (λ t. t ++ new) (sym (append-nil sent)) ∙ text_of_rows-push s rows row sent old [] new so_far (sym grown)
 
 -- where each input of a list took the header, by place
 module _ {R : Type 0} (remaining : R → Option (List ℕ)) (header : List ℕ) where
-  pub taken-row : (readers : List R) (inputs : List InputView) → AllZip (HasTaken remaining header) readers inputs → (k : ℕ) → (get_or inputs k nothing_left).row ≡ None
+  pub taken-row : (readers : List R) (inputs : List InputView) → AllZip (HasTaken remaining header) readers inputs
+      → (k : ℕ) → (get_or inputs k nothing_left).row ≡ None
   taken-row [] [] all k = refl
   taken-row [] (i ∷ is) all k = absurd all
   taken-row (r ∷ rs) [] all k = absurd all
   taken-row (r ∷ rs) (i ∷ is) all zero = all.0.1
   taken-row (r ∷ rs) (i ∷ is) all (suc k) = taken-row rs is all.1 k
 
-  pub taken-lines : (readers : List R) (inputs : List InputView) → AllZip (HasTaken remaining header) readers inputs → (k : ℕ) → (get_or inputs k nothing_left).lines ≡ 1
+  pub taken-lines : (readers : List R) (inputs : List InputView) → AllZip (HasTaken remaining header) readers inputs
+      → (k : ℕ) → (get_or inputs k nothing_left).lines ≡ 1
   taken-lines [] [] all k = refl
   taken-lines [] (i ∷ is) all k = absurd all
   taken-lines (r ∷ rs) [] all k = absurd all
   taken-lines (r ∷ rs) (i ∷ is) all zero = all.0.2
   taken-lines (r ∷ rs) (i ∷ is) all (suc k) = taken-lines rs is all.1 k
 
-  pub taken-header : (readers : List R) (inputs : List InputView) → AllZip (HasTaken remaining header) readers inputs → (k : ℕ) → Consumes (get_or (map remaining readers) k None) (get_or (map (λ (i : InputView). i.left) inputs) k None) header
+  pub taken-header : (readers : List R) (inputs : List InputView) → AllZip (HasTaken remaining header) readers inputs
+      → (k : ℕ)
+      → Consumes (get_or (map remaining readers) k None) (get_or (map (λ (i : InputView). i.left) inputs) k None) header
   taken-header [] [] all k = tt
   taken-header [] (i ∷ is) all k = absurd all
   taken-header (r ∷ rs) [] all k = absurd all
@@ -84,13 +103,16 @@ Consumes-same : (a : Option (List ℕ)) → Consumes a a []
 Consumes-same None = tt
 Consumes-same (Some x) = refl
 
-pub lefts-at : (inputs : List InputView) (k : ℕ) → Consumes (get_or (map (λ (i : InputView). i.left) inputs) k None) (get_or inputs k nothing_left).left []
+pub lefts-at : (inputs : List InputView) (k : ℕ)
+    → Consumes (get_or (map (λ (i : InputView). i.left) inputs) k None) (get_or inputs k nothing_left).left []
 lefts-at [] k = tt
 lefts-at (i ∷ is) zero = Consumes-same i.left
 lefts-at (i ∷ is) (suc k) = lefts-at is k
 
 -- inputs that took the header alone
-pub taken-AreFresh : {R : Type 0} (remaining : R → Option (List ℕ)) (header : List ℕ) (readers : List R) (inputs : List InputView) → AllZip (HasTaken remaining header) readers inputs → AreFresh (map (λ (i : InputView). i.left) inputs) inputs
+pub taken-AreFresh : {R : Type 0} (remaining : R → Option (List ℕ)) (header : List ℕ)
+    (readers : List R) (inputs : List InputView) → AllZip (HasTaken remaining header) readers inputs
+    → AreFresh (map (λ (i : InputView). i.left) inputs) inputs
 taken-AreFresh remaining header readers inputs taken = record {
   left = lefts-at inputs;
   row = taken-row remaining header readers inputs taken;
@@ -98,20 +120,27 @@ taken-AreFresh remaining header readers inputs taken = record {
 }
 
 -- what an input held that has ended
-text-of_ended : (s : Layout) (text start : Option (List ℕ)) (input : InputView) (rows : List Row) → Consumes text start (line (header_fields s)) → Gave start input rows → IsEnded start input → input.row ≡ None → IsTextOf s text rows
+text-of_ended : (s : Layout) (text start : Option (List ℕ)) (input : InputView) (rows : List Row)
+    → Consumes text start (line (header_fields s)) → Gave start input rows → IsEnded start input → input.row ≡ None
+    → IsTextOf s text rows
 text-of_ended s None start input rows head gave ended none = tt
 text-of_ended s (Some t) None input rows head gave ended none = absurd head
 text-of_ended s (Some t) (Some x) input rows head gave ended none = by_left input.left given_rows (ended none) where
   given_rows : Consumes (Some x) input.left (flat_map row_line rows)
-  given_rows = subst (λ rs. Consumes (Some x) input.left (flat_map row_line rs)) (ap (λ o. rows ++ option_to_list o) none ∙ append-nil rows) gave
+  given_rows = subst (λ rs. Consumes (Some x) input.left (flat_map row_line rs))
+      (ap (λ o. rows ++ option_to_list o) none ∙ append-nil rows) gave
 
-  by_left : (left : Option (List ℕ)) → Consumes (Some x) left (flat_map row_line rows) → IsAtEnd left → t ≡ text_of_rows s rows
+  by_left : (left : Option (List ℕ)) → Consumes (Some x) left (flat_map row_line rows) → IsAtEnd left
+      → t ≡ text_of_rows s rows
   by_left None c e = absurd c
-  by_left (Some y) c e = head ∙ ap (λ l. line (header_fields s) ++ l) (c ∙ ap (λ l. flat_map row_line rows ++ l) e ∙ append-nil (flat_map row_line rows))
+  by_left (Some y) c e = head ∙ ap (λ l. line (header_fields s) ++ l)
+      (c ∙ ap (λ l. flat_map row_line rows ++ l) e ∙ append-nil (flat_map row_line rows))
 
 -- the merge of all texts
-pub IsMergeOf-ends : {R : Type 0} (remaining : R → Option (List ℕ)) (given wanted : Layout) (readers : List R) (inputs : List InputView) (old new : Option (List ℕ))
-    → AllZip (HasTaken remaining (line (header_fields given))) readers inputs → MergesInputs given wanted inputs old new → IsMergeOf given wanted (map remaining readers) old new
+pub IsMergeOf-ends : {R : Type 0} (remaining : R → Option (List ℕ)) (given wanted : Layout) (readers : List R)
+    (inputs : List InputView) (old new : Option (List ℕ))
+    → AllZip (HasTaken remaining (line (header_fields given))) readers inputs → MergesInputs given wanted inputs old new
+    → IsMergeOf given wanted (map remaining readers) old new
 IsMergeOf-ends remaining given wanted readers inputs old new taken merges =
     let header = line (header_fields given) in
     let starts = map (λ (i : InputView). i.left) inputs in
@@ -121,11 +150,17 @@ IsMergeOf-ends remaining given wanted readers inputs old new taken merges =
       cubes = merging.cubes;
       parts = merging.parts;
       rows = m.1;
-      as_many = merging.width ∙ m.2 ∙ sym (AllZip-length (HasTaken remaining header) readers inputs taken) ∙ sym (length-map readers remaining);
-      read = λ k. text-of_ended given (get_or (map remaining readers) k None) (get_or starts k None) (get_or m.0 k nothing_left) (get_or merging.cubes k [])
+      as_many = merging.width ∙ m.2 ∙ sym (AllZip-length (HasTaken remaining header) readers inputs taken)
+          ∙ sym (length-map readers remaining);
+      read = λ k. text-of_ended given (get_or (map remaining readers) k None) (get_or starts k None)
+          (get_or m.0 k nothing_left) (get_or merging.cubes k [])
           (taken-header remaining header readers inputs taken k) (merging.gave k) (merging.ended k) (m.4 k);
-      of_schema = λ k. subst (λ rs. AllByRecursion (IsRowOf given) rs) (ap (λ o. get_or merging.cubes k [] ++ option_to_list o) (m.4 k) ∙ append-nil (get_or merging.cubes k [])) (merging.of_schema k);
-      ordered = λ k. subst (λ rs. IsStrictlySortedBy key_cmp (map key_of rs)) (ap (λ o. get_or merging.cubes k [] ++ option_to_list o) (m.4 k) ∙ append-nil (get_or merging.cubes k [])) (merging.ordered k);
+      of_schema = λ k. subst (λ rs. AllByRecursion (IsRowOf given) rs)
+          (ap (λ o. get_or merging.cubes k [] ++ option_to_list o) (m.4 k) ∙ append-nil (get_or merging.cubes k []))
+          (merging.of_schema k);
+      ordered = λ k. subst (λ rs. IsStrictlySortedBy key_cmp (map key_of rs))
+          (ap (λ o. get_or merging.cubes k [] ++ option_to_list o) (m.4 k) ∙ append-nil (get_or merging.cubes k []))
+          (merging.ordered k);
       drawn = merging.drawn;
       merged = merging.merged;
       fit = merging.fit;
@@ -133,8 +168,10 @@ IsMergeOf-ends remaining given wanted readers inputs old new taken merges =
     }
 
 -- an input without a row gave none yet
-pub Gave-none : (start : Option (List ℕ)) (input : InputView) → Consumes start input.left [] → input.row ≡ None → Gave start input []
-Gave-none start input c none = subst (λ o. Consumes start input.left (flat_map row_line ([] ++ option_to_list o))) (sym none) c
+pub Gave-none : (start : Option (List ℕ)) (input : InputView) → Consumes start input.left [] → input.row ≡ None
+    → Gave start input []
+Gave-none start input c none =
+    subst (λ o. Consumes start input.left (flat_map row_line ([] ++ option_to_list o))) (sym none) c
 
 pub AreOfSchema-none : (s : Layout) (input : InputView) → input.row ≡ None → AreOfSchema s input []
 AreOfSchema-none s input none = subst (λ o. AllByRecursion (IsRowOf s) (option_to_list o)) (sym none) tt
@@ -143,19 +180,25 @@ pub AreInOrder-none : (input : InputView) → input.row ≡ None → AreInOrder 
 AreInOrder-none input none = nothing-ordered input none
 
 -- past the inputs, of which each is used, nothing is left
-pub IsEnded-unused : (start : Option (List ℕ)) (us : List Bool) (inputs : List InputView) (k : ℕ) → ((n : ℕ) → n < length inputs → get_or us n false ≡ true) → get_or us k false ≡ false → IsEnded start (get_or inputs k nothing_left)
+pub IsEnded-unused : (start : Option (List ℕ)) (us : List Bool) (inputs : List InputView) (k : ℕ)
+    → ((n : ℕ) → n < length inputs → get_or us n false ≡ true) → get_or us k false ≡ false
+    → IsEnded start (get_or inputs k nothing_left)
 IsEnded-unused start us inputs k used unused none = elim (cases_lt k (length inputs)) [
   | inl below ↦ let clash : true ≡ false = sym (used k below) ∙ unused in absurd (cc)
-  | inr above ↦ subst (λ (i : InputView). IfSome start (λ _. IsAtEnd i.left)) (sym (past inputs k nothing_left above)) (nothing start)
+  | inr above ↦ subst (λ (i : InputView). IfSome start (λ _. IsAtEnd i.left)) (sym (past inputs k nothing_left above))
+      (nothing start)
 ] where
   nothing : (o : Option (List ℕ)) → IfSome o (λ _. IsAtEnd None)
   nothing None = tt
   nothing (Some x) = tt
 
 -- where inputs that took the header alone took their first lines, nothing is merged yet
-pub IsMerging-begun : (given : Layout) (wanted : List Agg) (starts : List (Option (List ℕ))) (olds news : List InputView) (us : List Bool)
-    → ((k : ℕ) → k < length olds → get_or us k false ≡ true) → AreFresh starts olds → length news ≡ length olds → AllMove given us olds news → IsMerging given wanted starts news []
+pub IsMerging-begun : (given : Layout) (wanted : List Agg) (starts : List (Option (List ℕ)))
+    (olds news : List InputView) (us : List Bool)
+    → ((k : ℕ) → k < length olds → get_or us k false ≡ true) → AreFresh starts olds → length news ≡ length olds
+    → AllMove given us olds news → IsMerging given wanted starts news []
 IsMerging-begun given wanted starts olds news us used fresh same moved =
     IsMerging-start given wanted starts olds news us
-    (λ k. Gave-none (get_or starts k None) (get_or olds k nothing_left) (fresh.left k) (fresh.row k)) fresh.row fresh.lines
+    (λ k. Gave-none (get_or starts k None) (get_or olds k nothing_left) (fresh.left k) (fresh.row k))
+    fresh.row fresh.lines
     (λ k unused. IsEnded-unused (get_or starts k None) us olds k used unused) same moved

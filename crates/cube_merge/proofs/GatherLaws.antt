@@ -1,5 +1,6 @@
 -- What one more answer makes of what answers made.
-use Rattle.std.proofs.Common.{◌≡◌, ◌++◌, ◌+◌, ◌<◌, ◌∷◌, [], ℕ, ℤ, pos, zero, suc, ◌+ℤ◌, ◌≤ℤ◌, List, Option, Some, None, Contains, length, length-append, get_or, take, refl, sym, ap, ◌∙◌, subst, arith}
+use Rattle.std.proofs.Common.{◌≡◌, ◌++◌, ◌+◌, ◌<◌, ◌∷◌, [], ℕ, ℤ, pos, zero, suc, ◌+ℤ◌, ◌≤ℤ◌, List, Option, Some, None}
+use Rattle.std.proofs.Common.{Contains, length, length-append, get_or, take, refl, sym, ap, ◌∙◌, subst, arith}
 use Rattle.std.specs.List.{AllByRecursion, AllZip, cons_option}
 use Rattle.std.proofs.lemmas.Int.{ints}
 use Rattle.std.proofs.lemmas.List.{take_more}
@@ -26,27 +27,33 @@ cons-append : (o : Option ℤ) (xs ys : List ℤ) → cons_option o (xs ++ ys) �
 cons-append None xs ys = refl
 cons-append (Some x) xs ys = refl
 
-numbers_of-push : (parts : List Answer) (a : Answer) → numbers_of (parts ++ a ∷ []) ≡ numbers_of parts ++ cons_option (number_in a) []
+numbers_of-push : (parts : List Answer) (a : Answer)
+    → numbers_of (parts ++ a ∷ []) ≡ numbers_of parts ++ cons_option (number_in a) []
 numbers_of-push [] a = refl
-numbers_of-push (b ∷ parts) a = ap (cons_option (number_in b)) (numbers_of-push parts a) ∙ cons-append (number_in b) (numbers_of parts) (cons_option (number_in a) [])
+numbers_of-push (b ∷ parts) a = ap (cons_option (number_in b)) (numbers_of-push parts a)
+    ∙ cons-append (number_in b) (numbers_of parts) (cons_option (number_in a) [])
 
 -- one more answer that is a number, or is none
-pub numbers_of-number : (parts : List Answer) (a : Answer) (number : ℤ) → number_in a ≡ Some number → numbers_of (parts ++ a ∷ []) ≡ numbers_of parts ++ number ∷ []
+pub numbers_of-number : (parts : List Answer) (a : Answer) (number : ℤ) → number_in a ≡ Some number
+    → numbers_of (parts ++ a ∷ []) ≡ numbers_of parts ++ number ∷ []
 numbers_of-number parts a number is = numbers_of-push parts a ∙ ap (λ o. numbers_of parts ++ cons_option o []) is
 
 append-none : (xs : List ℤ) → xs ++ [] ≡ xs
 append-none [] = refl
 append-none (x ∷ xs) = ap (λ t. x ∷ t) (append-none xs)
 
-pub numbers_of-none : (parts : List Answer) (a : Answer) → number_in a ≡ None → numbers_of (parts ++ a ∷ []) ≡ numbers_of parts
-numbers_of-none parts a is = numbers_of-push parts a ∙ ap (λ o. numbers_of parts ++ cons_option o []) is ∙ append-none (numbers_of parts)
+pub numbers_of-none : (parts : List Answer) (a : Answer) → number_in a ≡ None
+    → numbers_of (parts ++ a ∷ []) ≡ numbers_of parts
+numbers_of-none parts a is =
+    numbers_of-push parts a ∙ ap (λ o. numbers_of parts ++ cons_option o []) is ∙ append-none (numbers_of parts)
 
 pub total_of-push : (xs : List ℤ) (x : ℤ) → total_of (xs ++ x ∷ []) ≡ total_of xs +ℤ x
 total_of-push [] x = omega (arith, ints)
 total_of-push (y ∷ xs) x = omega (arith, ints, total_of-push xs x)
 
 -- the sum is the total, where there is one
-pub IsSum-total : (values : List ℤ) (a : Answer) (sum : ℤ) → IsSum values a → number_in a ≡ Some sum → total_of values ≡ sum
+pub IsSum-total : (values : List ℤ) (a : Answer) (sum : ℤ) → IsSum values a → number_in a ≡ Some sum
+    → total_of values ≡ sum
 IsSum-total [] a sum is some =
     let clash : None ≡ Some sum = sym (ap number_in is) ∙ some in
     absurd (cc)
@@ -61,23 +68,27 @@ IsSum-total_none (v ∷ vs) a is none =
     absurd (cc)
 
 module _ (R : ℤ → ℤ → Type 0) where
-  AllByRecursion-push : (m : ℤ) (xs : List ℤ) (x : ℤ) → AllByRecursion (R m) xs → R m x → AllByRecursion (R m) (xs ++ x ∷ [])
+  AllByRecursion-push : (m : ℤ) (xs : List ℤ) (x : ℤ) → AllByRecursion (R m) xs → R m x
+      → AllByRecursion (R m) (xs ++ x ∷ [])
   AllByRecursion-push m [] x all one = (one, tt)
   AllByRecursion-push m (y ∷ xs) x all one = (all.0, AllByRecursion-push m xs x all.1 one)
 
-  AllByRecursion-better : (m n : ℤ) (xs : List ℤ) → ((x : ℤ) → R m x → R n x) → AllByRecursion (R m) xs → AllByRecursion (R n) xs
+  AllByRecursion-better : (m n : ℤ) (xs : List ℤ) → ((x : ℤ) → R m x → R n x) → AllByRecursion (R m) xs
+      → AllByRecursion (R n) xs
   AllByRecursion-better m n [] better all = tt
   AllByRecursion-better m n (y ∷ xs) better all = (better y all.0, AllByRecursion-better m n xs better all.1)
 
   -- the first number is the best
-  pub IsBest-one : (values : List ℤ) (a : Answer) (number : ℤ) → IsBest R values a → number_in a ≡ None → R number number → IsBest R (values ++ number ∷ []) (answer.Whole number)
+  pub IsBest-one : (values : List ℤ) (a : Answer) (number : ℤ) → IsBest R values a → number_in a ≡ None
+      → R number number → IsBest R (values ++ number ∷ []) (answer.Whole number)
   IsBest-one [] a number is none same = (number, refl, Contains-head number [], (same, tt))
   IsBest-one (v ∷ vs) a number is none same =
       let clash : Some is.0 ≡ None = sym (ap number_in is.1) ∙ none in
       absurd (cc)
 
   -- the best stays, or the new number is better
-  pub IsBest-stays : (values : List ℤ) (a : Answer) (best number : ℤ) → IsBest R values a → number_in a ≡ Some best → R best number → IsBest R (values ++ number ∷ []) (answer.Whole best)
+  pub IsBest-stays : (values : List ℤ) (a : Answer) (best number : ℤ) → IsBest R values a → number_in a ≡ Some best
+      → R best number → IsBest R (values ++ number ∷ []) (answer.Whole best)
   IsBest-stays [] a best number is some good =
       let clash : None ≡ Some best = sym (ap number_in is) ∙ some in
       absurd (cc)
@@ -90,7 +101,8 @@ module _ (R : ℤ → ℤ → Type 0) where
         AllByRecursion-push best (v ∷ vs) number (subst (λ m. AllByRecursion (R m) (v ∷ vs)) same is.3) good,
       )
 
-  pub IsBest-new : (values : List ℤ) (a : Answer) (best number : ℤ) → IsBest R values a → number_in a ≡ Some best → R number number → ((x : ℤ) → R best x → R number x) → IsBest R (values ++ number ∷ []) (answer.Whole number)
+  pub IsBest-new : (values : List ℤ) (a : Answer) (best number : ℤ) → IsBest R values a → number_in a ≡ Some best
+      → R number number → ((x : ℤ) → R best x → R number x) → IsBest R (values ++ number ∷ []) (answer.Whole number)
   IsBest-new [] a best number is some good better =
       let clash : None ≡ Some best = sym (ap number_in is) ∙ some in
       absurd (cc)
@@ -100,7 +112,9 @@ module _ (R : ℤ → ℤ → Type 0) where
         number,
         refl,
         Contains-append_right (v ∷ vs) (number ∷ []) number (Contains-head number []),
-        AllByRecursion-push number (v ∷ vs) number (AllByRecursion-better best number (v ∷ vs) better (subst (λ m. AllByRecursion (R m) (v ∷ vs)) same is.3)) good,
+        AllByRecursion-push number (v ∷ vs) number
+            (AllByRecursion-better best number (v ∷ vs) better (subst (λ m. AllByRecursion (R m) (v ∷ vs)) same is.3))
+            good,
       )
 
 int_le-refl : (x : ℤ) → x ≤ℤ x
@@ -109,29 +123,44 @@ int_le-refl x = omega (arith, ints)
 pub Joins-Min-none : (made a : Answer) → number_in a ≡ None → Joins (Min 0) made a made
 Joins-Min-none made a none parts is = rw (numbers_of-none parts a none) is
 
-pub Joins-Min-one : (made a : Answer) (number : ℤ) → number_in made ≡ None → number_in a ≡ Some number → Joins (Min 0) made a (answer.Whole number)
-Joins-Min-one made a number first some parts is = rw (numbers_of-number parts a number some) (IsBest-one (λ m x. m ≤ℤ x) (numbers_of parts) made number is first (int_le-refl number))
+pub Joins-Min-one : (made a : Answer) (number : ℤ) → number_in made ≡ None → number_in a ≡ Some number
+    → Joins (Min 0) made a (answer.Whole number)
+Joins-Min-one made a number first some parts is = rw (numbers_of-number parts a number some)
+    (IsBest-one (λ m x. m ≤ℤ x) (numbers_of parts) made number is first (int_le-refl number))
 
-pub Joins-Min-stays : (made a : Answer) (best number : ℤ) → number_in made ≡ Some best → number_in a ≡ Some number → best ≤ℤ number → Joins (Min 0) made a (answer.Whole best)
-Joins-Min-stays made a best number there some good parts is = rw (numbers_of-number parts a number some) (IsBest-stays (λ m x. m ≤ℤ x) (numbers_of parts) made best number is there good)
+pub Joins-Min-stays : (made a : Answer) (best number : ℤ) → number_in made ≡ Some best → number_in a ≡ Some number
+    → best ≤ℤ number → Joins (Min 0) made a (answer.Whole best)
+Joins-Min-stays made a best number there some good parts is = rw (numbers_of-number parts a number some)
+    (IsBest-stays (λ m x. m ≤ℤ x) (numbers_of parts) made best number is there good)
 
-pub Joins-Min-new : (made a : Answer) (best number : ℤ) → number_in made ≡ Some best → number_in a ≡ Some number → number ≤ℤ best → Joins (Min 0) made a (answer.Whole number)
-Joins-Min-new made a best number there some good parts is = rw (numbers_of-number parts a number some) (IsBest-new (λ m x. m ≤ℤ x) (numbers_of parts) made best number is there (int_le-refl number) (λ x b. omega (arith, ints, good, b)))
+pub Joins-Min-new : (made a : Answer) (best number : ℤ) → number_in made ≡ Some best → number_in a ≡ Some number
+    → number ≤ℤ best → Joins (Min 0) made a (answer.Whole number)
+Joins-Min-new made a best number there some good parts is = rw (numbers_of-number parts a number some)
+    (IsBest-new (λ m x. m ≤ℤ x) (numbers_of parts) made best number is there (int_le-refl number)
+    (λ x b. omega (arith, ints, good, b)))
 
 pub Joins-Max-none : (made a : Answer) → number_in a ≡ None → Joins (Max 0) made a made
 Joins-Max-none made a none parts is = rw (numbers_of-none parts a none) is
 
-pub Joins-Max-one : (made a : Answer) (number : ℤ) → number_in made ≡ None → number_in a ≡ Some number → Joins (Max 0) made a (answer.Whole number)
-Joins-Max-one made a number first some parts is = rw (numbers_of-number parts a number some) (IsBest-one (λ m x. x ≤ℤ m) (numbers_of parts) made number is first (int_le-refl number))
+pub Joins-Max-one : (made a : Answer) (number : ℤ) → number_in made ≡ None → number_in a ≡ Some number
+    → Joins (Max 0) made a (answer.Whole number)
+Joins-Max-one made a number first some parts is = rw (numbers_of-number parts a number some)
+    (IsBest-one (λ m x. x ≤ℤ m) (numbers_of parts) made number is first (int_le-refl number))
 
-pub Joins-Max-stays : (made a : Answer) (best number : ℤ) → number_in made ≡ Some best → number_in a ≡ Some number → number ≤ℤ best → Joins (Max 0) made a (answer.Whole best)
-Joins-Max-stays made a best number there some good parts is = rw (numbers_of-number parts a number some) (IsBest-stays (λ m x. x ≤ℤ m) (numbers_of parts) made best number is there good)
+pub Joins-Max-stays : (made a : Answer) (best number : ℤ) → number_in made ≡ Some best → number_in a ≡ Some number
+    → number ≤ℤ best → Joins (Max 0) made a (answer.Whole best)
+Joins-Max-stays made a best number there some good parts is = rw (numbers_of-number parts a number some)
+    (IsBest-stays (λ m x. x ≤ℤ m) (numbers_of parts) made best number is there good)
 
-pub Joins-Max-new : (made a : Answer) (best number : ℤ) → number_in made ≡ Some best → number_in a ≡ Some number → best ≤ℤ number → Joins (Max 0) made a (answer.Whole number)
-Joins-Max-new made a best number there some good parts is = rw (numbers_of-number parts a number some) (IsBest-new (λ m x. x ≤ℤ m) (numbers_of parts) made best number is there (int_le-refl number) (λ x b. omega (arith, ints, good, b)))
+pub Joins-Max-new : (made a : Answer) (best number : ℤ) → number_in made ≡ Some best → number_in a ≡ Some number
+    → best ≤ℤ number → Joins (Max 0) made a (answer.Whole number)
+Joins-Max-new made a best number there some good parts is = rw (numbers_of-number parts a number some)
+    (IsBest-new (λ m x. x ≤ℤ m) (numbers_of parts) made best number is there (int_le-refl number)
+    (λ x b. omega (arith, ints, good, b)))
 
 -- the mean of a sum and of a count above 0
-pub IsMeanOf-fraction : (total : ℤ) (count : ℕ) (p : ℤ) (q : ℕ) → 0 < count → IsInLowestTerms total count p q → IsMeanOf total count (answer.Ratio p q)
+pub IsMeanOf-fraction : (total : ℤ) (count : ℕ) (p : ℤ) (q : ℕ) → 0 < count → IsInLowestTerms total count p q
+    → IsMeanOf total count (answer.Ratio p q)
 IsMeanOf-fraction total zero p q some lowest = absurd (omega arith)
 IsMeanOf-fraction total (suc n) p q some lowest = (p, q, refl, lowest)
 
@@ -140,7 +169,9 @@ IsMeanOf-none total zero is = refl
 IsMeanOf-none total (suc n) is = absurd (omega arith)
 
 -- a merged answer, of what was made at a place or of sums and counts
-pub IsMerged-Made : (given : List Agg) (rows : List Row) (agg : Agg) (made : List Answer) (place : ℕ) → AreMade given rows made → IsSourceOf given agg (source.Made place) → IsMerged given rows agg (get_or made place answer.Null)
+pub IsMerged-Made : (given : List Agg) (rows : List Row) (agg : Agg) (made : List Answer) (place : ℕ)
+    → AreMade given rows made → IsSourceOf given agg (source.Made place)
+    → IsMerged given rows agg (get_or made place answer.Null)
 IsMerged-Made given rows (Avg m) made place are is = absurd is
 IsMerged-Made given rows CountAll made place are is = (place, is, are place CountAll is)
 IsMerged-Made given rows (Count m) made place are is = (place, is, are place (Count m) is)
@@ -148,9 +179,18 @@ IsMerged-Made given rows (Sum m) made place are is = (place, is, are place (Sum 
 IsMerged-Made given rows (Min m) made place are is = (place, is, are place (Min m) is)
 IsMerged-Made given rows (Max m) made place are is = (place, is, are place (Max m) is)
 
-pub IsMerged-Mean : (given : List Agg) (rows : List Row) (agg : Agg) (made : List Answer) (sums counts : ℕ) (a : Answer) → AreMade given rows made → IsSourceOf given agg (source.Mean sums counts)
-    → ((ss cs : List Answer) → Makes (Sum 0) ss (get_or made sums answer.Null) → Makes (Count 0) cs (get_or made counts answer.Null) → IsMeanOf (total_of (numbers_of ss)) (count_of cs) a) → IsMerged given rows agg a
-IsMerged-Mean given rows (Avg m) made sums counts a are is mean = (sums, counts, is.0, is.1, mean (column sums rows) (column counts rows) (are sums (Sum m) is.0) (are counts (Count m) is.1))
+pub IsMerged-Mean : (given : List Agg) (rows : List Row) (agg : Agg) (made : List Answer) (sums counts : ℕ) (a : Answer)
+    → AreMade given rows made → IsSourceOf given agg (source.Mean sums counts)
+    → ((ss cs : List Answer) → Makes (Sum 0) ss (get_or made sums answer.Null)
+    → Makes (Count 0) cs (get_or made counts answer.Null) → IsMeanOf (total_of (numbers_of ss)) (count_of cs) a)
+    → IsMerged given rows agg a
+IsMerged-Mean given rows (Avg m) made sums counts a are is mean = (
+  sums,
+  counts,
+  is.0,
+  is.1,
+  mean (column sums rows) (column counts rows) (are sums (Sum m) is.0) (are counts (Count m) is.1),
+)
 IsMerged-Mean given rows CountAll made sums counts a are is mean = absurd is
 IsMerged-Mean given rows (Count m) made sums counts a are is mean = absurd is
 IsMerged-Mean given rows (Sum m) made sums counts a are is mean = absurd is
@@ -158,15 +198,22 @@ IsMerged-Mean given rows (Min m) made sums counts a are is mean = absurd is
 IsMerged-Mean given rows (Max m) made sums counts a are is mean = absurd is
 
 -- one more source
-pub AllZip-take : {X Y : Type 0} (R : X → Y → Type 0) (xs : List X) (ys : List Y) (i : ℕ) (d : X) (y : Y) → i < length xs → AllZip R (take i xs) ys → R (get_or xs i d) y → AllZip R (take (i + 1) xs) (ys ++ y ∷ [])
-AllZip-take R xs ys i d y inside all one = rw (take_more xs i d inside) (AllZip-push R (take i xs) ys (get_or xs i d) y all one)
+pub AllZip-take : {X Y : Type 0} (R : X → Y → Type 0) (xs : List X) (ys : List Y) (i : ℕ) (d : X) (y : Y)
+    → i < length xs → AllZip R (take i xs) ys → R (get_or xs i d) y → AllZip R (take (i + 1) xs) (ys ++ y ∷ [])
+AllZip-take R xs ys i d y inside all one =
+    rw (take_more xs i d inside) (AllZip-push R (take i xs) ys (get_or xs i d) y all one)
 
 -- ---- answers one after another
-pub numbers_of-next : (answers : List Answer) (i : ℕ) (d : Answer) (number : ℤ) → i < length answers → number_in (get_or answers i d) ≡ Some number → numbers_of (take (i + 1) answers) ≡ numbers_of (take i answers) ++ number ∷ []
-numbers_of-next answers i d number inside some = ap numbers_of (take_more answers i d inside) ∙ numbers_of-number (take i answers) (get_or answers i d) number some
+pub numbers_of-next : (answers : List Answer) (i : ℕ) (d : Answer) (number : ℤ) → i < length answers
+    → number_in (get_or answers i d) ≡ Some number
+    → numbers_of (take (i + 1) answers) ≡ numbers_of (take i answers) ++ number ∷ []
+numbers_of-next answers i d number inside some =
+    ap numbers_of (take_more answers i d inside) ∙ numbers_of-number (take i answers) (get_or answers i d) number some
 
-pub numbers_of-next_none : (answers : List Answer) (i : ℕ) (d : Answer) → i < length answers → number_in (get_or answers i d) ≡ None → numbers_of (take (i + 1) answers) ≡ numbers_of (take i answers)
-numbers_of-next_none answers i d inside none = ap numbers_of (take_more answers i d inside) ∙ numbers_of-none (take i answers) (get_or answers i d) none
+pub numbers_of-next_none : (answers : List Answer) (i : ℕ) (d : Answer) → i < length answers
+    → number_in (get_or answers i d) ≡ None → numbers_of (take (i + 1) answers) ≡ numbers_of (take i answers)
+numbers_of-next_none answers i d inside none =
+    ap numbers_of (take_more answers i d inside) ∙ numbers_of-none (take i answers) (get_or answers i d) none
 
 pub length-push : (values : List ℤ) (z : ℤ) → 0 < length (values ++ z ∷ [])
 length-push values z = omega (arith, length-append values (z ∷ []))

@@ -13,16 +13,23 @@ use Rattle.cube_merge.specs.declared.fault.MergeFault.TheVariants.{Memory, Aggre
 use Rattle.cube_merge.proofs.CubesLaws.{taken-AreFresh}
 
 -- inputs that took their headers
-pub tells-inputs : {R : Type 0} (remaining : R → Option (List ℕ)) (given wanted : Layout) (readers : List R) (inputs : List InputView) → AllZip (HasTaken remaining (line (header_fields given))) readers inputs
-    → (old new : Option (List ℕ)) (aggs wanteds : List Agg) (fault : MergeFault) → InputsFail given wanted inputs fault old new → TellsLack aggs wanteds fault
+pub tells-inputs : {R : Type 0} (remaining : R → Option (List ℕ)) (given wanted : Layout) (readers : List R)
+    (inputs : List InputView) → AllZip (HasTaken remaining (line (header_fields given))) readers inputs
+    → (old new : Option (List ℕ)) (aggs wanteds : List Agg) (fault : MergeFault)
+    → InputsFail given wanted inputs fault old new → TellsLack aggs wanteds fault
 tells-inputs remaining given wanted readers inputs taken old new aggs wanteds Memory fails = tt
 tells-inputs remaining given wanted readers inputs taken old new aggs wanteds (Input fault input number) fails = tt
 tells-inputs remaining given wanted readers inputs taken old new aggs wanteds (Write sent) fails = tt
 tells-inputs remaining given wanted readers inputs taken old new aggs wanteds Aggregates fails =
-    elim (fails (map (λ (i : InputView). i.left) inputs) (taken-AreFresh remaining (line (header_fields given)) readers inputs taken)) [ inl start ↦ absurd start.1 | inr stops ↦ absurd stops.why ]
+    elim (fails (map (λ (i : InputView). i.left) inputs)
+    (taken-AreFresh remaining (line (header_fields given)) readers inputs taken)) [
+      | inl start ↦ absurd start.1
+      | inr stops ↦ absurd stops.why
+    ]
 
 -- inputs that couldn't
-pub tells-open : (header : List ℕ) (texts : List (Option (List ℕ))) (aggs wanteds : List Agg) (fault : MergeFault) → FailsToOpenAll header texts fault → TellsLack aggs wanteds fault
+pub tells-open : (header : List ℕ) (texts : List (Option (List ℕ))) (aggs wanteds : List Agg) (fault : MergeFault)
+    → FailsToOpenAll header texts fault → TellsLack aggs wanteds fault
 tells-open header texts aggs wanteds Memory fails = tt
 tells-open header texts aggs wanteds Aggregates fails = absurd fails
 tells-open header texts aggs wanteds (Input fault input number) fails = tt

@@ -8,7 +8,10 @@ use Rattle.cube_core.proofs.ListLaws.{AllZip-push}
 use Rattle.cube_merge.specs.Lawful.{IsOfKind}
 
 -- one more of its kind
-pub AreOfKind-next : (aggregates : List Agg) (answers : List Answer) (i : ℕ) (x : Agg) (d : Answer) → i < length aggregates → i < length answers → AllZip IsOfKind (take i aggregates) (take i answers)
-    → IsOfKind (get_or aggregates i x) (get_or answers i d) → AllZip IsOfKind (take (i + 1) aggregates) (take (i + 1) answers)
+pub AreOfKind-next : (aggregates : List Agg) (answers : List Answer) (i : ℕ) (x : Agg) (d : Answer)
+    → i < length aggregates → i < length answers → AllZip IsOfKind (take i aggregates) (take i answers)
+    → IsOfKind (get_or aggregates i x) (get_or answers i d)
+    → AllZip IsOfKind (take (i + 1) aggregates) (take (i + 1) answers)
 AreOfKind-next aggregates answers i x d inside inside_too so_far one =
-    rw (take_more aggregates i x inside, take_more answers i d inside_too) (AllZip-push IsOfKind (take i aggregates) (take i answers) (get_or aggregates i x) (get_or answers i d) so_far one)
+    rw (take_more aggregates i x inside, take_more answers i d inside_too)
+    (AllZip-push IsOfKind (take i aggregates) (take i answers) (get_or aggregates i x) (get_or answers i d) so_far one)

@@ -1,5 +1,6 @@
 -- Why a merge is given up, and what it leaves written (this project's choice).
-use Rattle.std.specs.Prelude.{◌≡◌, ◌≢◌, ◌<◌, ◌≤◌, ◌+◌, ◌-◌, ◌⊎◌, ◌∷◌, [], ◌++◌, ⊤, ℕ, Bool, true, false, List, Option, Some, None, IfSome, Contains, get_or, length, map, take}
+use Rattle.std.specs.Prelude.{◌≡◌, ◌≢◌, ◌<◌, ◌≤◌, ◌+◌, ◌-◌, ◌⊎◌, ◌∷◌, [], ◌++◌, ⊤, ℕ, Bool, true, false, List, Option}
+use Rattle.std.specs.Prelude.{Some, None, IfSome, Contains, get_or, length, map, take}
 use Rattle.std.specs.declared.cmp.Ordering.TheVariants.{Less}
 use Rattle.std.specs.List.{AllByRecursion}
 use Rattle.std.specs.List.Sorted.{IsStrictlySortedBy}
@@ -14,7 +15,8 @@ use Rattle.cube_core.specs.declared.key.Key.{Key}
 use Rattle.cube_core.specs.declared.key.Row.{Row}
 use Rattle.cube_merge.specs.Lawful.{IsRowOf}
 use Rattle.cube_merge.specs.Joint.{HasRow, rows_of}
-use Rattle.cube_merge.specs.Merging.{InputView, AreFresh, AreUses, IsAbove, IsMerging, all_rows, nothing_left, used_rows}
+use Rattle.cube_merge.specs.Merging.{InputView, AreFresh, AreUses, IsAbove, IsMerging, all_rows, nothing_left}
+use Rattle.cube_merge.specs.Merging.{used_rows}
 use Rattle.cube_merge.specs.Range.{AreTooLarge}
 use Rattle.cube_merge.specs.NextLine.{next_line}
 use Rattle.cube_merge.specs.declared.fault.InputFault.{InputFault}
@@ -22,11 +24,13 @@ use Rattle.cube_merge.specs.declared.fault.InputFault.TheVariants as why
 use Rattle.cube_merge.specs.declared.fault.MergeFault.{MergeFault}
 use Rattle.cube_merge.specs.declared.fault.MergeFault.TheVariants.{Memory, Aggregates, Input, Write}
 
--- how a merge tells a fault of the input at a place: by its number, counted from 1, and the record; want of memory is told of no input
+-- how a merge tells a fault of the input at a place: by its number, counted from 1, and the record;
+-- want of memory is told of no input
 abbrev pub IsFaultAt : InputFault → ℕ → ℕ → MergeFault → Type 0
 IsFaultAt fault place number Memory = ⊤
 IsFaultAt fault place number Aggregates = ⊥
-IsFaultAt fault place number (Input told input at) = (told ≡ fault) × (input ≡ place + 1) × (at ≡ number) × (fault ≢ why.Memory)
+IsFaultAt fault place number (Input told input at) =
+    (told ≡ fault) × (input ≡ place + 1) × (at ≡ number) × (fault ≢ why.Memory)
 IsFaultAt fault place number (Write sent) = ⊥
 
 -- reading failed, or memory ran out
@@ -69,7 +73,8 @@ FailsToMove s input why.Memory number = ⊤
 FailsToMove s input fault number = HasFault s input fault number
 
 -- an input whose line was used can't take its next one
-pub record HasFaultAt (s : Layout) (used : List Bool) (inputs : List InputView) (fault : InputFault) (input number : ℕ) : Type 0 where
+pub record HasFaultAt (s : Layout) (used : List Bool) (inputs : List InputView) (fault : InputFault) (input number : ℕ)
+    : Type 0 where
   pub place : ℕ
   pub input_is : input ≡ place + 1
   pub inside : place < length inputs
@@ -103,7 +108,8 @@ TellsOverflow inputs (Write sent) = ⊥
 abbrev pub FailsToMake : List Agg → List InputView → List ℕ → MergeFault → Type 0
 FailsToMake given inputs places Memory = ⊤
 FailsToMake given inputs places Aggregates = ⊥
-FailsToMake given inputs places (Input fault input number) = IsTooLargeAt inputs fault input number × AreTooLarge given (rows_of inputs places)
+FailsToMake given inputs places (Input fault input number) =
+    IsTooLargeAt inputs fault input number × AreTooLarge given (rows_of inputs places)
 FailsToMake given inputs places (Write sent) = ⊥
 
 -- of the rows of inputs those with some key are too large together
@@ -143,7 +149,8 @@ StepFails s inputs Aggregates = ⊥
 StepFails s inputs (Input fault input number) = FailsWithRow s inputs fault input number
 StepFails s inputs (Write sent) = ⊥
 
--- a text is the header line, the lines of these rows of the schema in key order, and this rest, whose first line is the record of this number, the header being the first
+-- a text is the header line, the lines of these rows of the schema in key order, and this rest,
+-- whose first line is the record of this number, the header being the first
 pub record StandsAt (s : Layout) (text : List ℕ) (rows : List Row) (rest : List ℕ) (number : ℕ) : Type 0 where
   pub text_is : text ≡ text_of_rows s rows ++ rest
   pub of_schema : AllByRecursion (IsRowOf s) rows
@@ -176,7 +183,8 @@ pub record HasRowAt (s : Layout) (number : ℕ) (text : List ℕ) : Type 0 where
 
 -- the last of rows isn't the grand total
 abbrev pub EndsWithoutTotal : Layout → List Row → Type 0
-EndsWithoutTotal s rows = (before : List Row) (last : Row) → rows ≡ before ++ last ∷ [] → is_total (length s.dimensions) last.key ≡ false
+EndsWithoutTotal s rows =
+    (before : List Row) (last : Row) → rows ≡ before ++ last ∷ [] → is_total (length s.dimensions) last.key ≡ false
 
 -- nothing follows the lines of rows, of which the last isn't the grand total, which the schema keeps
 pub record IsIncomplete (s : Layout) (number : ℕ) (text : List ℕ) : Type 0 where
@@ -214,14 +222,17 @@ pub record IsTooLarge (s : Layout) (texts : List (Option (List ℕ))) : Type 0 w
   pub too_large : AreTooLarge s.aggregates (rows_at key (all_rows cubes))
 
 -- the input of this number, counted from 1, has a fault at a record
-pub record InputFails (s : Layout) (texts : List (Option (List ℕ))) (fault : InputFault) (input number : ℕ) : Type 0 where
+pub record InputFails (s : Layout) (texts : List (Option (List ℕ))) (fault : InputFault) (input number : ℕ)
+    : Type 0 where
   pub from_one : 1 ≤ input
   pub within : input ≤ length texts
   pub explains : IfSome (get_or texts (input - 1) None) (ExplainsFault s fault number)
   pub too_large : fault ≡ why.Overflow → IsTooLarge s texts
 
--- what was written is the first bytes, so many, of the text of the rows that were merged of inputs so far; each input took the header of its text, and began with what was left
-pub record WroteFirst (given wanted : Layout) (texts : List (Option (List ℕ))) (sent : ℕ) (old new : Option (List ℕ)) : Type 0 where
+-- what was written is the first bytes, so many, of the text of the rows that were merged of inputs so far;
+-- each input took the header of its text, and began with what was left
+pub record WroteFirst (given wanted : Layout) (texts : List (Option (List ℕ))) (sent : ℕ) (old new : Option (List ℕ))
+    : Type 0 where
   pub starts : List (Option (List ℕ))
   pub inputs : List InputView
   pub rows : List Row
@@ -236,18 +247,22 @@ abbrev pub WroteSome : Layout → Layout → List (Option (List ℕ)) → Option
 WroteSome given wanted texts old new = (new ≡ old) ⊎ ((sent : ℕ) × WroteFirst given wanted texts sent old new)
 
 -- what a merge that failed leaves written, and why it failed
-abbrev pub FailsToMerge : Layout → Layout → List (Option (List ℕ)) → MergeFault → Option (List ℕ) → Option (List ℕ) → Type 0
+abbrev pub FailsToMerge : Layout → Layout → List (Option (List ℕ)) → MergeFault → Option (List ℕ) → Option (List ℕ)
+    → Type 0
 FailsToMerge given wanted texts Memory old new = WroteSome given wanted texts old new
 FailsToMerge given wanted texts Aggregates old new = new ≡ old
-FailsToMerge given wanted texts (Input fault input number) old new = WroteSome given wanted texts old new × InputFails given texts fault input number
+FailsToMerge given wanted texts (Input fault input number) old new =
+    WroteSome given wanted texts old new × InputFails given texts fault input number
 FailsToMerge given wanted texts (Write sent) old new = WroteFirst given wanted texts sent old new
 
--- bytes couldn't be written behind so many that were sent before: the first of them went out, or none since they would be too many to count
+-- bytes couldn't be written behind so many that were sent before:
+-- the first of them went out, or none since they would be too many to count
 abbrev pub FailsToSend : List ℕ → ℕ → MergeFault → Option (List ℕ) → Option (List ℕ) → Type 0
 FailsToSend bytes sent Memory old new = new ≡ old
 FailsToSend bytes sent Aggregates old new = ⊥
 FailsToSend bytes sent (Input fault input number) old new = ⊥
-FailsToSend bytes sent (Write total) old new = (part : ℕ) × (part ≤ length bytes) × (total ≡ sent + part) × Appends old new (take part bytes)
+FailsToSend bytes sent (Write total) old new =
+    (part : ℕ) × (part ≤ length bytes) × (total ≡ sent + part) × Appends old new (take part bytes)
 
 -- why a merge stopped that had sent so many bytes, where its inputs stood so
 abbrev pub StopsAt : Layout → List InputView → ℕ → MergeFault → Type 0
@@ -257,7 +272,8 @@ StopsAt s inputs sent (Input fault input number) = FailsWithRow s inputs fault i
 StopsAt s inputs sent (Write total) = total ≡ sent
 
 -- how far a merge came that failed: it merged these rows, and the first bytes of their text were written
-pub record Stops (given wanted : Layout) (starts : List (Option (List ℕ))) (count : ℕ) (fault : MergeFault) (old new : Option (List ℕ)) : Type 0 where
+pub record Stops (given wanted : Layout) (starts : List (Option (List ℕ))) (count : ℕ) (fault : MergeFault)
+    (old new : Option (List ℕ)) : Type 0 where
   pub inputs : List InputView
   pub rows : List Row
   pub sent : ℕ
@@ -270,7 +286,8 @@ pub record Stops (given wanted : Layout) (starts : List (Option (List ℕ))) (co
 -- the same, from inputs by which merges go on
 abbrev pub RestFails : Layout → Layout → List InputView → MergeFault → Option (List ℕ) → Option (List ℕ) → Type 0
 RestFails given wanted inputs fault old new =
-    (starts : List (Option (List ℕ))) → IsMerging given wanted.aggregates starts inputs [] → Stops given wanted starts (length inputs) fault old new
+    (starts : List (Option (List ℕ))) → IsMerging given wanted.aggregates starts inputs []
+    → Stops given wanted starts (length inputs) fault old new
 
 -- an input whose header was taken couldn't take its first line, or memory ran out
 abbrev pub FailsToStart : Layout → List InputView → MergeFault → Type 0
@@ -282,7 +299,8 @@ FailsToStart s inputs (Write sent) = ⊥
 -- the same, from inputs that took the header alone; where the first lines couldn't be taken, nothing was written
 abbrev pub InputsFail : Layout → Layout → List InputView → MergeFault → Option (List ℕ) → Option (List ℕ) → Type 0
 InputsFail given wanted inputs fault old new =
-    (starts : List (Option (List ℕ))) → AreFresh starts inputs → ((new ≡ old) × FailsToStart given inputs fault) ⊎ Stops given wanted starts (length inputs) fault old new
+    (starts : List (Option (List ℕ))) → AreFresh starts inputs
+    → ((new ≡ old) × FailsToStart given inputs fault) ⊎ Stops given wanted starts (length inputs) fault old new
 
 -- the fault of a text whose header line couldn't be taken
 abbrev pub HasNoHeader : List ℕ → Option (List ℕ) → InputFault → ℕ → Type 0
@@ -303,7 +321,8 @@ FailsToOpen header place text (Input fault input number) = (input ≡ place + 1)
 FailsToOpen header place text (Write sent) = ⊥
 
 -- one of many texts has a header line that couldn't be taken
-pub record IsNotOpened (header : List ℕ) (texts : List (Option (List ℕ))) (fault : InputFault) (input number : ℕ) : Type 0 where
+pub record IsNotOpened (header : List ℕ) (texts : List (Option (List ℕ))) (fault : InputFault) (input number : ℕ)
+    : Type 0 where
   pub place : ℕ
   pub input_is : input ≡ place + 1
   pub inside : place < length texts

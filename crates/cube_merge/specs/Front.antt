@@ -6,9 +6,11 @@ use Rattle.cube_merge.specs.Merging.{InputView, IsBelow, IsNotBelow, nothing_lef
 
 -- of the inputs before a place that aren't behind, none has a row, or this one's key is the least
 abbrev pub IsLeastIn : List InputView → List Bool → Option ℕ → ℕ → Type 0
-IsLeastIn inputs behind None end = (k : ℕ) → k < end → get_or behind k false ≡ false → (get_or inputs k nothing_left).row ≡ None
+IsLeastIn inputs behind None end =
+    (k : ℕ) → k < end → get_or behind k false ≡ false → (get_or inputs k nothing_left).row ≡ None
 IsLeastIn inputs behind (Some place) end =
-    (place < length inputs) × (row : Row) × ((get_or inputs place nothing_left).row ≡ Some row) × ((k : ℕ) → k < end → get_or behind k false ≡ false → IsNotBelow row.key (get_or inputs k nothing_left))
+    (place < length inputs) × (row : Row) × ((get_or inputs place nothing_left).row ≡ Some row)
+    × ((k : ℕ) → k < end → get_or behind k false ≡ false → IsNotBelow row.key (get_or inputs k nothing_left))
 
 -- a key is below the rows of the inputs that are behind
 abbrev pub AreAbove : Key → List Bool → List InputView → Type 0
@@ -16,7 +18,8 @@ AreAbove key behind inputs = (k : ℕ) → get_or behind k false ≡ true → Is
 
 -- an input has a row, and its key is below the rows of the inputs that are behind
 abbrev pub IsInFront : List InputView → List Bool → ℕ → Type 0
-IsInFront inputs behind place = (row : Row) × ((get_or inputs place nothing_left).row ≡ Some row) × AreAbove row.key behind inputs
+IsInFront inputs behind place =
+    (row : Row) × ((get_or inputs place nothing_left).row ≡ Some row) × AreAbove row.key behind inputs
 
 -- the inputs that are behind aren't used
 abbrev pub AreUnused : List Bool → List Bool → Type 0

@@ -14,7 +14,8 @@ rows_of inputs places = flat_map (λ place. option_to_list (get_or inputs place 
 
 -- each of these is the place of an input that has a row
 abbrev pub HaveRows : List InputView → List ℕ → Type 0
-HaveRows inputs places = AllByRecursion (λ place. (place < length inputs) × HasRow (get_or inputs place nothing_left)) places
+HaveRows inputs places =
+    AllByRecursion (λ place. (place < length inputs) × HasRow (get_or inputs place nothing_left)) places
 
 -- a place, where it is used
 abbrev pub place_where : ℕ → Bool → List ℕ

@@ -8,7 +8,8 @@ use Rattle.cube_core.specs.declared.key.Row.{Row}
 
 -- these are what the rows' answers to each given aggregate make
 abbrev pub AreMade : List Agg → List Row → List Answer → Type 0
-AreMade given rows made = (place : ℕ) (agg : Agg) → slice_get given place ≡ Some agg → Makes agg (column place rows) (get_or made place answer.Null)
+AreMade given rows made = (place : ℕ) (agg : Agg) → slice_get given place ≡ Some agg
+    → Makes agg (column place rows) (get_or made place answer.Null)
 
 -- one more answer was joined to what answers made of an aggregate
 abbrev pub Joins : Agg → Answer → Answer → Answer → Type 0

@@ -1,5 +1,6 @@
 -- How the rows of several inputs are merged, step by step (this project's choice).
-use Rattle.std.specs.Prelude.{◌≡◌, ◌<◌, ◌+◌, ◌∷◌, [], ◌++◌, ⊤, ℕ, Bool, true, false, List, Option, Some, None, IfSome, MatchOption, option_to_list, map, get_or, length, IsPermutation, Contains}
+use Rattle.std.specs.Prelude.{◌≡◌, ◌<◌, ◌+◌, ◌∷◌, [], ◌++◌, ⊤, ℕ, Bool, true, false, List, Option, Some, None, IfSome}
+use Rattle.std.specs.Prelude.{MatchOption, option_to_list, map, get_or, length, IsPermutation, Contains}
 use Rattle.std.specs.List.{flat_map, AllByRecursion, AllZip}
 use Rattle.std.specs.List.Sorted.{IsStrictlySortedBy}
 use Rattle.std.specs.declared.cmp.Ordering.TheVariants.{Less}
@@ -17,7 +18,8 @@ use Rattle.cube_merge.specs.Range.{AreInRange}
 use Rattle.cube_merge.specs.Source.{IsSourceOf}
 use Rattle.cube_merge.specs.declared.source.Source.{Source}
 
--- what a contract sees of an input: the bytes that are left, where its reader tells them, the row of the line taken last, and how many lines were taken
+-- what a contract sees of an input: the bytes that are left, where its reader tells them,
+-- the row of the line taken last, and how many lines were taken
 pub record InputView : Type 0 where
   pub left : Option (List ℕ)
   pub row : Option Row
@@ -34,7 +36,9 @@ IsAbove (Some before) row = key_cmp before.key row.key ≡ Less
 
 -- the next line was taken, that of a row of the schema above the one before, or none is left
 abbrev pub Advances : Layout → InputView → InputView → Type 0
-Advances s old new = MatchOption new.row (Consumes old.left new.left [] × IfSome old.left (λ _. IsAtEnd new.left)) (λ row. Consumes old.left new.left (row_line row) × IsAbove old.row row × (new.lines ≡ old.lines + 1) × IsRowOf s row)
+Advances s old new =
+    MatchOption new.row (Consumes old.left new.left [] × IfSome old.left (λ _. IsAtEnd new.left)) (λ row.
+    Consumes old.left new.left (row_line row) × IsAbove old.row row × (new.lines ≡ old.lines + 1) × IsRowOf s row)
 
 -- an input whose line was used took the next one, and any other stays
 abbrev pub Moves : Layout → Bool → InputView → InputView → Type 0
@@ -43,7 +47,8 @@ Moves s false old new = new ≡ old
 
 -- the same of each input
 abbrev pub AllMove : Layout → List Bool → List InputView → List InputView → Type 0
-AllMove s used olds news = (k : ℕ) → Moves s (get_or used k false) (get_or olds k nothing_left) (get_or news k nothing_left)
+AllMove s used olds news =
+    (k : ℕ) → Moves s (get_or used k false) (get_or olds k nothing_left) (get_or news k nothing_left)
 
 -- the line of an input is used where its row has this key; the row of any other is above it
 abbrev pub IsUse : Key → Bool → InputView → Type 0
@@ -73,7 +78,8 @@ IsNotBelow key input = IfSome input.row (λ row. key_cmp row.key key ≡ Less �
 abbrev pub IsLeastSoFar : List InputView → Option ℕ → ℕ → Type 0
 IsLeastSoFar inputs None end = (k : ℕ) → k < end → (get_or inputs k nothing_left).row ≡ None
 IsLeastSoFar inputs (Some place) end =
-    (place < length inputs) × (row : Row) × ((get_or inputs place nothing_left).row ≡ Some row) × ((k : ℕ) → k < end → IsNotBelow row.key (get_or inputs k nothing_left))
+    (place < length inputs) × (row : Row) × ((get_or inputs place nothing_left).row ≡ Some row)
+    × ((k : ℕ) → k < end → IsNotBelow row.key (get_or inputs k nothing_left))
 
 -- all rows of cubes, one cube's after another's
 abbrev pub all_rows : List (List Row) → List Row
@@ -112,7 +118,8 @@ abbrev pub IsMadeInRange : List Agg → List Row → Row → Type 0
 IsMadeInRange given parts row = AreInRange given (rows_at row.key parts)
 
 -- so far these rows were merged of inputs that began with these bytes
-pub record IsMerging (given : Layout) (wanted : List Agg) (starts : List (Option (List ℕ))) (inputs : List InputView) (rows : List Row) : Type 0 where
+pub record IsMerging (given : Layout) (wanted : List Agg) (starts : List (Option (List ℕ))) (inputs : List InputView)
+    (rows : List Row) : Type 0 where
   pub cubes : List (List Row)
   pub parts : List Row
   pub width : length cubes ≡ length inputs
@@ -127,36 +134,44 @@ pub record IsMerging (given : Layout) (wanted : List Agg) (starts : List (Option
   pub below : (key : Key) → Contains (map key_of rows) key → (k : ℕ) → IsBelow key (get_or inputs k nothing_left)
 
 -- the row of the next key: it is made of the rows that are used
-pub record IsNextRow (given : List Agg) (sources : List Source) (inputs : List InputView) (used : List Bool) (row : Row) : Type 0 where
+pub record IsNextRow (given : List Agg) (sources : List Source) (inputs : List InputView) (used : List Bool) (row : Row)
+    : Type 0 where
   pub wide : length used ≡ length inputs
   pub uses : AreUses row.key used inputs
   pub some : 0 < length (used_rows used inputs)
   pub fit : AreInRange given (used_rows used inputs)
-  pub answers : (wanted : List Agg) → AllZip (IsSourceOf given) wanted sources → AllZip (IsMerged given (used_rows used inputs)) wanted row.answers
+  pub answers : (wanted : List Agg) → AllZip (IsSourceOf given) wanted sources
+      → AllZip (IsMerged given (used_rows used inputs)) wanted row.answers
 
 -- the line of the row of the next key was put at the end of a text
 abbrev pub PutsRow : List Agg → List Source → List InputView → List Bool → List ℕ → List ℕ → Type 0
-PutsRow given sources inputs used old new = (row : Row) × (new ≡ old ++ row_line row) × IsNextRow given sources inputs used row
+PutsRow given sources inputs used old new =
+    (row : Row) × (new ≡ old ++ row_line row) × IsNextRow given sources inputs used row
 
 -- a row that merges of any inputs so far go on by
 abbrev pub GoesOnBy : Layout → List Agg → List InputView → List InputView → Row → Type 0
-GoesOnBy given wanted olds news row = (starts : List (Option (List ℕ))) (rows : List Row) → IsMerging given wanted starts olds rows → IsMerging given wanted starts news (rows ++ row ∷ [])
+GoesOnBy given wanted olds news row = (starts : List (Option (List ℕ))) (rows : List Row)
+    → IsMerging given wanted starts olds rows → IsMerging given wanted starts news (rows ++ row ∷ [])
 
 -- the line of the next merged row was put at the end of a text; or no input had a row
 abbrev pub PutsNext : Layout → List Source → List InputView → List InputView → List ℕ → List ℕ → Bool → Type 0
 PutsNext given sources olds news old new true =
-    (wanted : List Agg) → AllZip (IsSourceOf given.aggregates) wanted sources → (row : Row) × (new ≡ old ++ row_line row) × GoesOnBy given wanted olds news row
-PutsNext given sources olds news old new false = (new ≡ old) × (news ≡ olds) × ((k : ℕ) → (get_or olds k nothing_left).row ≡ None)
+    (wanted : List Agg) → AllZip (IsSourceOf given.aggregates) wanted sources
+    → (row : Row) × (new ≡ old ++ row_line row) × GoesOnBy given wanted olds news row
+PutsNext given sources olds news old new false =
+    (new ≡ old) × (news ≡ olds) × ((k : ℕ) → (get_or olds k nothing_left).row ≡ None)
 
 -- of what a reader had an input took the header alone, and has no row
 abbrev pub HasTaken : {R : Type 0} → (R → Option (List ℕ)) → List ℕ → R → InputView → Type 0
-HasTaken remaining header reader input = Consumes (remaining reader) input.left header × (input.row ≡ None) × (input.lines ≡ 1)
+HasTaken remaining header reader input =
+    Consumes (remaining reader) input.left header × (input.row ≡ None) × (input.lines ≡ 1)
 
 -- what was written is the cube of the rows that merges of these inputs go on by, to the end of each
 abbrev pub MergesRest : Layout → Layout → List InputView → Option (List ℕ) → Option (List ℕ) → Type 0
 MergesRest given wanted inputs old new =
     (starts : List (Option (List ℕ))) → IsMerging given wanted.aggregates starts inputs []
-    → (ends : List InputView) × (rows : List Row) × (length ends ≡ length inputs) × IsMerging given wanted.aggregates starts ends rows
+    → (ends : List InputView) × (rows : List Row) × (length ends ≡ length inputs)
+    × IsMerging given wanted.aggregates starts ends rows
     × ((k : ℕ) → (get_or ends k nothing_left).row ≡ None) × Appends old new (text_of_rows wanted rows)
 
 -- inputs that began with these bytes took the header alone
@@ -169,14 +184,17 @@ pub record AreFresh (starts : List (Option (List ℕ))) (inputs : List InputView
 abbrev pub MergesInputs : Layout → Layout → List InputView → Option (List ℕ) → Option (List ℕ) → Type 0
 MergesInputs given wanted inputs old new =
     (starts : List (Option (List ℕ))) → AreFresh starts inputs
-    → (ends : List InputView) × (rows : List Row) × (length ends ≡ length inputs) × IsMerging given wanted.aggregates starts ends rows
+    → (ends : List InputView) × (rows : List Row) × (length ends ≡ length inputs)
+    × IsMerging given wanted.aggregates starts ends rows
     × ((k : ℕ) → (get_or ends k nothing_left).row ≡ None) × Appends old new (text_of_rows wanted rows)
 
 -- a text is that of a cube's rows, where it is told
 abbrev pub IsTextOf : Layout → Option (List ℕ) → List Row → Type 0
 IsTextOf s text rows = IfSome text (λ known. known ≡ text_of_rows s rows)
 
--- what was written is the text, under the wanted schema, of the merged rows of cubes whose texts under the given one were read, each of rows of that schema in key order; each count and each sum that the rows with one key make is in range
+-- what was written is the text, under the wanted schema,
+-- of the merged rows of cubes whose texts under the given one were read, each of rows of that schema in key order;
+-- each count and each sum that the rows with one key make is in range
 pub record IsMergeOf (given wanted : Layout) (texts : List (Option (List ℕ))) (old new : Option (List ℕ)) : Type 0 where
   pub cubes : List (List Row)
   pub parts : List Row

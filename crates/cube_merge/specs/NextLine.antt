@@ -1,5 +1,6 @@
 -- The first line of a text: it goes on past a line end within quotes (RFC 4180, with line ends of one LF).
-use Rattle.std.specs.Prelude.{◌≡◌, ◌==◌, Bool, true, false, not, List, [], ◌∷◌, ◌++◌, ⊤, ℕ, Option, Some, None, IfSome, if◌then◌else◌}
+use Rattle.std.specs.Prelude.{◌≡◌, ◌==◌, Bool, true, false, not, List, [], ◌∷◌, ◌++◌, ⊤, ℕ, Option, Some, None, IfSome}
+use Rattle.std.specs.Prelude.{if◌then◌else◌}
 
 -- whether what follows a byte is within quotes, where the byte is or isn't
 abbrev pub is_quoted_behind : Bool → ℕ → Bool

@@ -1,4 +1,5 @@
--- The text of fields each ended by a comma, as a line stands in memory before its last comma becomes its end (this project's choice).
+-- The text of fields each ended by a comma,
+-- as a line stands in memory before its last comma becomes its end (this project's choice).
 use Rattle.std.specs.Prelude.{◌≡◌, ◌∷◌, [], ◌++◌, ℕ, List, map}
 use Rattle.std.specs.List.{flat_map}
 use Rattle.csv.specs.Writing.{default_writer, field_text}

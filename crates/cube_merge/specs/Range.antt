@@ -1,4 +1,5 @@
--- Whether the counts and the sums that rows make together can be told (this project's choice: counts of 64 bits, sums of 128).
+-- Whether the counts and the sums that rows make together can be told (this project's choice:
+-- counts of 64 bits, sums of 128).
 use Rattle.std.specs.Prelude.{◌≡◌, ◌<◌, ◌^◌, ⊤, ℕ, List, Some, slice_get, FitsSigned}
 use Rattle.std.specs.Int.{w128}
 use Rattle.cube_core.specs.Group.{total_of}

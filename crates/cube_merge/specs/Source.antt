@@ -11,12 +11,14 @@ use Rattle.cube_merge.specs.declared.source.Source.TheVariants.{Made, Mean}
 
 -- the answer to an aggregate comes from here, among the given aggregates
 abbrev pub IsSourceOf : List Agg → Agg → Source → Type 0
-IsSourceOf given (Avg m) (Mean sums counts) = (slice_get given sums ≡ Some (Sum m)) × (slice_get given counts ≡ Some (Count m))
+IsSourceOf given (Avg m) (Mean sums counts) =
+    (slice_get given sums ≡ Some (Sum m)) × (slice_get given counts ≡ Some (Count m))
 IsSourceOf given (Avg m) (Made place) = ⊥
 IsSourceOf given agg (Made place) = slice_get given place ≡ Some agg
 IsSourceOf given agg (Mean sums counts) = ⊥
 
--- whether answers to an aggregate can be made of those to the given ones: it stands among them, or is a mean whose sum and count do
+-- whether answers to an aggregate can be made of those to the given ones:
+-- it stands among them, or is a mean whose sum and count do
 abbrev pub can_be_made : List Agg → Agg → Bool
 can_be_made given (Avg m) = has_aggregate (Sum m) given && has_aggregate (Count m) given
 can_be_made given agg = has_aggregate agg given

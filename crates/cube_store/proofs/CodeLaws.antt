@@ -15,7 +15,8 @@ use Rattle.cube_journal.specs.State as journal
 use Rattle.cube_store.specs.Codes.{code_of, open_code_of, file_code_of, look_code_of, TellsFailedCall, HasReason}
 
 -- a look that only a log without end stops
-pub look_fails : (a b : ℕ) (P : Type 0) (e : Error) → HasCause a b (OnlyIf log.Full P) e → TellsFailedCall (look_code_of e)
+pub look_fails : (a b : ℕ) (P : Type 0) (e : Error) → HasCause a b (OnlyIf log.Full P) e
+    → TellsFailedCall (look_code_of e)
 look_fails a b P (log.Io error) h = tt
 look_fails a b P log.OutOfMemory h = tt
 look_fails a b P log.Full h = tt
@@ -25,7 +26,8 @@ look_fails a b P log.Corrupt h = let no : log.Corrupt ≡ log.Full = h.0 in absu
 look_fails a b P log.Exists h = let no : log.Exists ≡ log.Full = h.0 in absurd (cc)
 
 -- the same of one that a log that can't be read stops too, where it can be
-pub first_look_fails : (a b : ℕ) (P Q : Type 0) (e : Error) → (P → ⊥) → HasCause a b (λ e. OnlyIf log.Corrupt P e ⊎ OnlyIf log.Full Q e) e → TellsFailedCall (look_code_of e)
+pub first_look_fails : (a b : ℕ) (P Q : Type 0) (e : Error) → (P → ⊥)
+    → HasCause a b (λ e. OnlyIf log.Corrupt P e ⊎ OnlyIf log.Full Q e) e → TellsFailedCall (look_code_of e)
 first_look_fails a b P Q (log.Io error) never h = tt
 first_look_fails a b P Q log.OutOfMemory never h = tt
 first_look_fails a b P Q log.Full never h = tt
@@ -39,7 +41,8 @@ first_look_fails a b P Q log.Exists never (inl h) = let no : log.Exists ≡ log.
 first_look_fails a b P Q log.Exists never (inr h) = let no : log.Exists ≡ log.Full = h.0 in absurd (cc)
 
 -- files that are what is wanted are refused only where a call fails
-pub attach_fails : (a b : ℕ) (limit wanted : Type 0) (e : OpenError) → FailsToOpen a b limit wanted e → wanted → TellsFailedCall (file_code_of e)
+pub attach_fails : (a b : ℕ) (limit wanted : Type 0) (e : OpenError) → FailsToOpen a b limit wanted e → wanted
+    → TellsFailedCall (file_code_of e)
 attach_fails a b limit wanted refusal.OutOfMemory h w = tt
 attach_fails a b limit wanted refusal.Io h w = tt
 attach_fails a b limit wanted refusal.Full h w = tt
@@ -54,7 +57,8 @@ stored_fails cause.Broken = tt
 stored_fails cause.Unstorable = tt
 
 -- so is a store that a start takes
-pub start_fails : (fault cant : Type 0) (e : OpenFault) → journal.FailsToStart fault cant e → TellsFailedCall (open_code_of e)
+pub start_fails : (fault cant : Type 0) (e : OpenFault) → journal.FailsToStart fault cant e
+    → TellsFailedCall (open_code_of e)
 start_fails fault cant (kind.Store error) h = stored_fails error
 start_fails fault cant kind.NoTables h = h
 start_fails fault cant kind.NotEmpty h = h
@@ -63,7 +67,8 @@ start_fails fault cant (kind.Row number) h = h
 start_fails fault cant kind.TooMany h = h
 
 -- a copy of the log fails for want of memory, or at a fault
-pub copy_fails : (was : trees.View) (fault : Type 0) (e : StoreError) → trees.HasCause was fault ⊥ e → HasReason fault (IsTrue was.is_broken) (code_of e)
+pub copy_fails : (was : trees.View) (fault : Type 0) (e : StoreError) → trees.HasCause was fault ⊥ e
+    → HasReason fault (IsTrue was.is_broken) (code_of e)
 copy_fails was fault cause.OutOfMemory h = tt
 copy_fails was fault cause.Io h = inl h
 copy_fails was fault cause.Corrupt h = inl h

@@ -1,5 +1,6 @@
 -- From the files of a pool to what they hold.
-use Rattle.std.proofs.Common.{◌≡◌, ◌⊎◌, inl, inr, ◌<◌, ◌≤◌, ℕ, Bool, true, false, ◌&&◌, IsTrue, Some, None, List, length, slice_index, refl, sym, ap, ap₂, subst, ◌∙◌, arith, true≢false}
+use Rattle.std.proofs.Common.{◌≡◌, ◌⊎◌, inl, inr, ◌<◌, ◌≤◌, ℕ, Bool, true, false, ◌&&◌, IsTrue, Some, None, List}
+use Rattle.std.proofs.Common.{length, slice_index, refl, sym, ap, ap₂, subst, ◌∙◌, arith, true≢false}
 use Rattle.std.proofs.lemmas.Bool.{cond-true}
 use Rattle.std.proofs.Math.Logic.{∥∥₁_elim, ∥∥₁_map}
 use Rattle.sqlite_disk.specs.declared.Disk.{Ghosts}
@@ -31,29 +32,37 @@ use Rattle.cube_store.specs.Found.{store_schema, tables_in, StoreIn, ReadsAs, Is
 
 -- ---- which files are clean
 
-pool_is_clean : {D : Type 0} {g : Ghosts D} (it : Pool D g) → (state it).is_clean ≡ are_clean g (files it).0 (files it).1
+pool_is_clean : {D : Type 0} {g : Ghosts D} (it : Pool D g)
+    → (state it).is_clean ≡ are_clean g (files it).0 (files it).1
 unfolding state files
 pool_is_clean it = refl
 
-pub files_are_clean : {D : Type 0} {g : Ghosts D} (it : Unopened D g) (log db : D) → files_of it ≡ (log, db) → IsTrue (state_of it).is_clean → AreClean g log db
+pub files_are_clean : {D : Type 0} {g : Ghosts D} (it : Unopened D g) (log db : D) → files_of it ≡ (log, db)
+    → IsTrue (state_of it).is_clean → AreClean g log db
 files_are_clean {g = g} it log db is clean = sym (pool_is_clean it.pool ∙ ap (λ f. are_clean g f.0 f.1) is) ∙ clean
 
-pub left_is_clean : {D : Type 0} {g : Ghosts D} (it : Unopened D g) (log db : D) → (log, db) ≡ files_of it → AreClean g log db → IsTrue (state_of it).is_clean
+pub left_is_clean : {D : Type 0} {g : Ghosts D} (it : Unopened D g) (log db : D) → (log, db) ≡ files_of it
+    → AreClean g log db → IsTrue (state_of it).is_clean
 left_is_clean {g = g} it log db is clean = pool_is_clean it.pool ∙ ap (λ f. are_clean g f.0 f.1) (sym is) ∙ clean
 
-pub same_image : {D : Type 0} {g : Ghosts D} (it : Unopened D g) (log db before_log before_db : D) → files_of it ≡ (log, db) → OnlyReads g before_log log → OnlyReads g before_db db
+pub same_image : {D : Type 0} {g : Ghosts D} (it : Unopened D g) (log db before_log before_db : D)
+    → files_of it ≡ (log, db) → OnlyReads g before_log log → OnlyReads g before_db db
     → image it ≡ seen_image g before_log before_db
-same_image {g = g} it log db before_log before_db is l d = ap (λ f. seen_image g f.0 f.1) is ∙ ap₂ (λ a b. let i : Image = record { log = a; db = b } in i) l.seen d.seen
+same_image {g = g} it log db before_log before_db is l d =
+    ap (λ f. seen_image g f.0 f.1) is ∙ ap₂ (λ a b. let i : Image = record { log = a; db = b } in i) l.seen d.seen
 
 both_before : (a b c d : Bool) → (IsTrue a → IsTrue c) → (IsTrue b → IsTrue d) → IsTrue (a && b) → IsTrue (c && d)
 both_before true true c d f g h = rw (f refl, g refl) refl
 both_before true false c d f g h = absurd (true≢false (sym h))
 both_before false b c d f g h = absurd (true≢false (sym h))
 
-pub was_clean : {D : Type 0} {g : Ghosts D} (log db before_log before_db : D) → OnlyReads g before_log log → OnlyReads g before_db db → AreClean g log db → AreClean g before_log before_db
-was_clean {g = g} log db before_log before_db l d clean = both_before (g.is_clean log) (g.is_clean db) (g.is_clean before_log) (g.is_clean before_db) l.clean d.clean clean
+pub was_clean : {D : Type 0} {g : Ghosts D} (log db before_log before_db : D) → OnlyReads g before_log log
+    → OnlyReads g before_db db → AreClean g log db → AreClean g before_log before_db
+was_clean {g = g} log db before_log before_db l d clean =
+    both_before (g.is_clean log) (g.is_clean db) (g.is_clean before_log) (g.is_clean before_db) l.clean d.clean clean
 
-pub same_seen : {D : Type 0} {g : Ghosts D} (log db before_log before_db : D) → OnlyReads g before_log log → OnlyReads g before_db db → seen_image g log db ≡ seen_image g before_log before_db
+pub same_seen : {D : Type 0} {g : Ghosts D} (log db before_log before_db : D) → OnlyReads g before_log log
+    → OnlyReads g before_db db → seen_image g log db ≡ seen_image g before_log before_db
 same_seen log db before_log before_db l d = ap₂ (λ a b. let i : Image = record { log = a; db = b } in i) l.seen d.seen
 
 -- ---- the two tables of an open store
@@ -67,7 +76,8 @@ module _ where
   unfolding all_shapes
   feeds_shape = refl
 
-pub store_tables : {D : Type 0} {g : Ghosts D} (it : FileStore D g) → schema_of it ≡ store_schema → it.saved ≡ None → HasTables (view it)
+pub store_tables : {D : Type 0} {g : Ghosts D} (it : FileStore D g) → schema_of it ≡ store_schema → it.saved ≡ None
+    → HasTables (view it)
 store_tables it schema unaltered = record {
   changes = ap (λ (s : List Wanted). all_shapes s 0) schema ∙ changes_shape;
   feeds = ap (λ (s : List Wanted). all_shapes s 1) schema ∙ feeds_shape;
@@ -83,7 +93,8 @@ not_blank_store it found blank =
     not_blank 4096 it found.0 (adopts_of _ it found.0 found.1) large found.2.sound 4096 some blank
 
 -- the pages of a log that can be read begin with an S
-pub begin_is : (it : Image) → StoreIn it → (stored : raw.Pages) × (first : List ℕ) × raw.Recovers 4096 it stored × (stored 1 ≡ Some first) × (length first ≡ 4096) × (slice_index first 0 ≡ 83)
+pub begin_is : (it : Image) → StoreIn it → (stored : raw.Pages) × (first : List ℕ) × raw.Recovers 4096 it stored
+    × (stored 1 ≡ Some first) × (length first ≡ 4096) × (slice_index first 0 ≡ 83)
 begin_is it found =
     let large : 504 ≤ 4096 = omega arith in
     let adopts = adopts_of 4096 it found.0 found.1 in
@@ -95,16 +106,21 @@ log_is_read it found never = let begin = begin_is it found in never begin.2.fram
 
 -- ---- what an opening finds
 
-pub reads_as : {D : Type 0} {g : Ghosts D} (it : FileStore D g) (before : Image) → IsTrue (state_of_store it).is_clean → (state_of_store it).page_size ≡ 4096 → schema_of it ≡ store_schema → it.saved ≡ None
+pub reads_as : {D : Type 0} {g : Ghosts D} (it : FileStore D g) (before : Image) → IsTrue (state_of_store it).is_clean
+    → (state_of_store it).page_size ≡ 4096 → schema_of it ≡ store_schema → it.saved ≡ None
     → Recovers 4096 before (state_of_store it).committed → ReadsAs before (view it)
 reads_as it before clean size schema unaltered found =
-    let listing : kept_schema it.saved (schema_of it) ≡ store_schema = ap (λ o. kept_schema o (schema_of it)) unaltered ∙ schema in
+    let listing : kept_schema it.saved (schema_of it) ≡ store_schema =
+    ap (λ o. kept_schema o (schema_of it)) unaltered ∙ schema in
     let reads : (view it).committed ≡ tables_in (state_of_store it).committed =
-    cond-true _ (file_trees (state_of_store it).page_size (kept_schema it.saved (schema_of it)) (state_of_store it).committed) no_trees clean
+    cond-true _
+    (file_trees (state_of_store it).page_size (kept_schema it.saved (schema_of it)) (state_of_store it).committed)
+    no_trees clean
     ∙ ap₂ (λ n s. file_trees n s (state_of_store it).committed) size listing in
     ((state_of_store it).committed, found, ap (λ (t : Trees). t 0) reads, ap (λ (t : Trees). t 1) reads)
 
-pub has_file : {D : Type 0} {g : Ghosts D} (it : Unopened D g) → (state_of it).page_size ≡ 4096 → wanted_by it ≡ store_schema → StoreIn (image it) → HasFile it
+pub has_file : {D : Type 0} {g : Ghosts D} (it : Unopened D g) → (state_of it).page_size ≡ 4096
+    → wanted_by it ≡ store_schema → StoreIn (image it) → HasFile it
 has_file it size schema found = (
   found.0,
   subst (λ n. Recovers n (image it) found.0) (sym size) found.1,
@@ -113,7 +129,8 @@ has_file it size schema found = (
 
 -- ---- what the next opening finds
 
-module _ {D : Type 0} {g : Ghosts D} (it : FileStore D g) (left : Image) (size : (state_of_store it).page_size ≡ 4096) (schema : schema_of it ≡ store_schema) (unaltered : it.saved ≡ None)
+module _ {D : Type 0} {g : Ghosts D} (it : FileStore D g) (left : Image) (size : (state_of_store it).page_size ≡ 4096)
+    (schema : schema_of it ≡ store_schema) (unaltered : it.saved ≡ None)
     (may : (state_of_store it).may_leave left) where
   listed : (pages : PageMap) → schema_in it pages ≡ store_schema
   listed pages = ap (λ s. schema_for s (schema_of it) pages) unaltered ∙ schema
@@ -124,15 +141,24 @@ module _ {D : Type 0} {g : Ghosts D} (it : FileStore D g) (left : Image) (size :
       ∥∥₁_map found.2 (λ ours. (
         found.0,
         subst (λ n. Recovers n left found.0) size found.1,
-        subst (λ n. IsFile n store_schema found.0) size (subst (λ s. IsFile (state_of_store it).page_size s found.0) (listed found.0) ours.file),
+        subst (λ n. IsFile n store_schema found.0) size
+            (subst (λ s. IsFile (state_of_store it).page_size s found.0) (listed found.0) ours.file),
       )))
 
-  pub found_again : (v : View) → IsFound left v → (db : Trees) × recovers it db × (v.committed 0 ≡ db 0) × (v.committed 1 ≡ db 1)
+  pub found_again : (v : View) → IsFound left v
+      → (db : Trees) × recovers it db × (v.committed 0 ≡ db 0) × (v.committed 1 ≡ db 1)
   found_again v is = again is.found
     where
-      again : ReadsAs left v ⊎ (IsUnmade v × (StoreIn left → ⊥)) → (db : Trees) × recovers it db × (v.committed 0 ≡ db 0) × (v.committed 1 ≡ db 1)
+      again : ReadsAs left v ⊎ (IsUnmade v × (StoreIn left → ⊥))
+          → (db : Trees) × recovers it db × (v.committed 0 ≡ db 0) × (v.committed 1 ≡ db 1)
       again (inr none) = absurd (∥∥₁_elim leaves_store (λ a _. absurd a) none.1)
       again (inl held) =
-          let recovered : Recovers (state_of_store it).page_size left held.0 = subst (λ n. Recovers n left held.0) (sym size) held.1 in
-          let same : tables_in held.0 ≡ reading it held.0 = ap₂ (λ n s. file_trees n s held.0) (sym size) (sym (listed held.0)) in
-          (reading it held.0, (left, held.0, may, ∣ recovered ∣₁, refl), held.2 ∙ ap (λ (t : Trees). t 0) same, held.3 ∙ ap (λ (t : Trees). t 1) same)
+          let recovered : Recovers (state_of_store it).page_size left held.0 =
+          subst (λ n. Recovers n left held.0) (sym size) held.1 in
+          let same : tables_in held.0 ≡ reading it held.0 =
+          ap₂ (λ n s. file_trees n s held.0) (sym size) (sym (listed held.0)) in (
+            reading it held.0,
+            (left, held.0, may, ∣ recovered ∣₁, refl),
+            held.2 ∙ ap (λ (t : Trees). t 0) same,
+            held.3 ∙ ap (λ (t : Trees). t 1) same,
+          )

@@ -14,11 +14,14 @@ use Rattle.cube_store.specs.declared.fault.StoreFault.{StoreFault}
 use Rattle.cube_store.specs.Codes.{HasReason}
 
 module _ {D : Type 0} {g : Ghosts D} where
-  -- Recovery finds in the files the pages that a store committed last, which its page size and its schema read as its tables (this project's choice).
+  -- Recovery finds in the files the pages that a store committed last,
+  -- which its page size and its schema read as its tables (this project's choice).
   abbrev pub ReadsLast : FileStore D g → Image → Type 0
-  ReadsLast it image = Recovers (state it).page_size image (state it).committed × (reading it (state it).committed ≡ (view it).committed)
+  ReadsLast it image =
+      Recovers (state it).page_size image (state it).committed × (reading it (state it).committed ≡ (view it).committed)
 
-  -- A store shows what it showed, and its files hold the changes and the notes of the last commit, byte for byte, now as after each crash (this project's choice).
+  -- A store shows what it showed, and its files hold the changes and the notes of the last commit, byte for byte,
+  -- now as after each crash (this project's choice).
   pub record IsCopied (was it : FileStore D g) : Type 0 where
     pub is_open : IsTrue (view it).is_open
     pub same : view it ≡ view was
@@ -30,7 +33,8 @@ module _ {D : Type 0} {g : Ghosts D} where
   abbrev pub IsEmptied : FileStore D g → FileStore D g → Type 0
   IsEmptied was it = (HasSpilled was → ⊥) → log_frames it ≡ 0
 
-  -- A store became another one, which a call has told as failed: a crash leaves no more than before, and the failure has a cause (this project's choice).
+  -- A store became another one, which a call has told as failed:
+  -- a crash leaves no more than before, and the failure has a cause (this project's choice).
   pub record IsUnharmed (was it : FileStore D g) (fault : StoreFault) : Type 0 where
     pub crash : (db : Trees) → recovers it db → recovers was db
     pub cause : IsClean (view it) → HasReason (MoreFaults (faults was) (faults it)) (IsTrue (view was).is_broken) fault

@@ -9,7 +9,8 @@ use Rattle.sqlite_wal.specs.declared.error.Error.TheVariants as log
 use Rattle.cube_journal.specs.declared.fault.OpenFault.{OpenFault}
 use Rattle.cube_journal.specs.declared.fault.OpenFault.TheVariants as kind
 use Rattle.cube_store.specs.declared.fault.StoreFault.{StoreFault}
-use Rattle.cube_store.specs.declared.fault.StoreFault.TheVariants.{InUse, CantOpen, NotAStore, Row, Feed, Failed, NoRoom, Memory}
+use Rattle.cube_store.specs.declared.fault.StoreFault.TheVariants.{InUse, CantOpen, NotAStore, Row, Feed, Failed}
+use Rattle.cube_store.specs.declared.fault.StoreFault.TheVariants.{NoRoom, Memory}
 
 -- What a failed call on an open store is told as (this project's choice).
 abbrev pub code_of : StoreError → StoreFault
@@ -46,7 +47,8 @@ look_code_of log.NoSuchPage = NotAStore
 look_code_of log.Corrupt = NotAStore
 look_code_of log.Exists = NotAStore
 
--- What is told is that a call failed, and not that something was refused for what the files hold (this project's choice).
+-- What is told is that a call failed,
+-- and not that something was refused for what the files hold (this project's choice).
 abbrev pub TellsFailedCall : StoreFault → Type 0
 TellsFailedCall InUse = ⊥
 TellsFailedCall CantOpen = ⊥
@@ -57,7 +59,8 @@ TellsFailedCall Failed = ⊤
 TellsFailedCall NoRoom = ⊤
 TellsFailedCall Memory = ⊤
 
--- Why a call on a store is told as failed: want of memory, a fault of the disk or of the file, or one that broke the store before (this project's choice).
+-- Why a call on a store is told as failed:
+-- want of memory, a fault of the disk or of the file, or one that broke the store before (this project's choice).
 abbrev pub HasReason : Type 0 → Type 0 → StoreFault → Type 0
 HasReason fault broken InUse = ⊥
 HasReason fault broken CantOpen = ⊥

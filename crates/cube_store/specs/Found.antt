@@ -18,7 +18,9 @@ changes_table = record {
   shape = Table;
   reals = 0;
   row = Text (codes "table") ∷ Text (codes "changes") ∷ Text (codes "changes")
-      ∷ Text (codes "CREATE TABLE changes(number INTEGER PRIMARY KEY, source INTEGER NOT NULL, record BLOB NOT NULL) STRICT") ∷ [];
+      ∷ Text
+      (codes "CREATE TABLE changes(number INTEGER PRIMARY KEY, source INTEGER NOT NULL, record BLOB NOT NULL) STRICT")
+      ∷ [];
 }
 
 -- The table of the notes on feeds, by its text (this project's choice).
@@ -27,7 +29,9 @@ feeds_table = record {
   shape = Table;
   reals = 0;
   row = Text (codes "table") ∷ Text (codes "feeds") ∷ Text (codes "feeds")
-      ∷ Text (codes "CREATE TABLE feeds(source INTEGER PRIMARY KEY, length INTEGER NOT NULL, digest BLOB NOT NULL) STRICT") ∷ [];
+      ∷ Text
+      (codes "CREATE TABLE feeds(source INTEGER PRIMARY KEY, length INTEGER NOT NULL, digest BLOB NOT NULL) STRICT")
+      ∷ [];
 }
 
 -- A store's schema is these two tables, and nothing else (this project's choice).
@@ -44,7 +48,8 @@ StoreIn image = (pages : PageMap) × Recovers 4096 image pages × IsFile 4096 st
 
 -- The files recover to pages whose tables are what the last commit of a store has (this project's choice).
 abbrev pub ReadsAs : Image → View → Type 0
-ReadsAs image v = (pages : PageMap) × Recovers 4096 image pages × (v.committed 0 ≡ tables_in pages 0) × (v.committed 1 ≡ tables_in pages 1)
+ReadsAs image v = (pages : PageMap) × Recovers 4096 image pages × (v.committed 0 ≡ tables_in pages 0)
+    × (v.committed 1 ≡ tables_in pages 1)
 
 -- A store is open on what the files hold; or it has no row, and the files held none (this project's choice).
 pub record IsFound (image : Image) (v : View) : Type 0 where

@@ -14,18 +14,22 @@ pub record Batch (S : Type 0) : Type 0 where
 
 -- a journal as a pair
 abbrev pub batch_code : {S : Type 0} → Coded S → Coded (Batch S)
-batch_code {S} store = code_by (S × ℕ) (coded× store coded_ℕ) (λ batch. (batch.store, batch.waiting)) (λ parts. record { store = parts.0; waiting = parts.1 }) (λ _. refl)
+batch_code {S} store = code_by (S × ℕ) (coded× store coded_ℕ) (λ batch. (batch.store, batch.waiting))
+    (λ parts. record { store = parts.0; waiting = parts.1 }) (λ _. refl)
 
--- a crash leaves the changes that were stored first and a first part of these after them, so many at least, byte for byte and in their order
+-- a crash leaves the changes that were stored first and a first part of these after them, so many at least,
+-- byte for byte and in their order
 pub record LeavesPart (first : View) (changes : List Entry) (sure : ℕ) (db : Trees) : Type 0 where
   pub count : ℕ
   pub at_least : sure ≤ count
   pub at_most : count ≤ length changes
   pub holds : Holds db (stored_in first ++ take count changes) (noted_in first)
 
--- why a change can't be stored: a fault has shut the store, it isn't of a source, or its row has no room behind the changes so far
+-- why a change can't be stored:
+-- a fault has shut the store, it isn't of a source, or its row has no room behind the changes so far
 abbrev pub CantStore : View → Entry → Type 0
-CantStore v change = (v.is_open ≡ false) ⊎ ((¬ IsStorableRow (v.reals 0) (row_of (length (held_in v) + 1) change)) ⊎ ((2 ^ 62 < length (held_in v) + 1) ⊎ (¬ IsOfSource change)))
+CantStore v change = (v.is_open ≡ false) ⊎ ((¬ IsStorableRow (v.reals 0) (row_of (length (held_in v) + 1) change))
+    ⊎ ((2 ^ 62 < length (held_in v) + 1) ⊎ (¬ IsOfSource change)))
 
 -- a store takes the changes that it took: it isn't shut, and has the same changes so far
 pub record TakesAsBefore (old new : View) : Type 0 where
@@ -51,8 +55,11 @@ module _ {S : Type 0} (view : S → View) (recovers : S → Trees → Type 0) wh
   -- the same, but a call failed since: a crash leaves a first part of these changes, so many at least
   pub record HasBroken (first now : Batch S) (changes : List Entry) (sure : ℕ) : Type 0 where
     pub was_clean : IsClean (view now.store) → IsClean (view first.store)
-    pub leaves : IsClean (view now.store) → (db : Trees) → recovers now.store db → LeavesPart (view first.store) changes sure db
+    pub leaves : IsClean (view now.store) → (db : Trees) → recovers now.store db
+        → LeavesPart (view first.store) changes sure db
 
   -- a journal that kept so much from some first moment on goes on to keep this
-  abbrev pub BatchKeepsOn : (Batch S → Batch S → List Entry → ℕ → Type 0) → Batch S → Batch S → (List Entry → List Entry) → (List Entry → ℕ → ℕ) → Type 0
-  BatchKeepsOn after old new told sure = (first : Batch S) → (changes : List Entry) → (so_many : ℕ) → HasKept first old changes so_many → after first new (told changes) (sure changes so_many)
+  abbrev pub BatchKeepsOn : (Batch S → Batch S → List Entry → ℕ → Type 0) → Batch S → Batch S
+      → (List Entry → List Entry) → (List Entry → ℕ → ℕ) → Type 0
+  BatchKeepsOn after old new told sure = (first : Batch S) → (changes : List Entry) → (so_many : ℕ)
+      → HasKept first old changes so_many → after first new (told changes) (sure changes so_many)

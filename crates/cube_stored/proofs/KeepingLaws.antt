@@ -3,7 +3,8 @@ use Rattle.std.proofs.Common.{◌≡◌, ◌++◌, ◌∷◌, [], ℕ, List, ref
 use Rattle.cube_live.specs.Keeping.{Noted}
 use Rattle.cube_stored.specs.Records.{record_text, stored_all, stored_as}
 
-pub stored_all-more : (told : List Noted) (source : ℕ) (fields : List (List ℕ)) → stored_all (told ++ (source, fields) ∷ []) ≡ stored_all told ++ (source, record_text fields) ∷ []
+pub stored_all-more : (told : List Noted) (source : ℕ) (fields : List (List ℕ))
+    → stored_all (told ++ (source, fields) ∷ []) ≡ stored_all told ++ (source, record_text fields) ∷ []
 stored_all-more [] source fields = refl
 stored_all-more (noted ∷ told) source fields = ap (λ es. stored_as noted ∷ es) (stored_all-more told source fields)
 

@@ -1,5 +1,6 @@
 -- What a session over a store keeps, from what its journal keeps.
-use Rattle.std.proofs.Common.{◌≡◌, ◌⊎◌, inl, inr, ◌+◌, ◌≤◌, ℕ, Bool, true, false, zero, suc, List, [], ◌∷◌, ◌++◌, length, take, drop, refl, sym, ap, subst, ◌∙◌, add-one, arith, length-append}
+use Rattle.std.proofs.Common.{◌≡◌, ◌⊎◌, inl, inr, ◌+◌, ◌≤◌, ℕ, Bool, true, false, zero, suc, List, [], ◌∷◌, ◌++◌}
+use Rattle.std.proofs.Common.{length, take, drop, refl, sym, ap, subst, ◌∙◌, add-one, arith, length-append}
 use Rattle.std.specs.Prelude.{Option, None, Some, IfSome, if◌then◌else◌}
 use Rattle.std.proofs.lemmas.List.{append-nil, length-map, take_all, take-append-le}
 use Rattle.sqlite_trees.specs.Tree.{Trees}
@@ -8,7 +9,8 @@ use Rattle.cube_core.specs.Items.{is_read}
 use Rattle.cube_core.specs.Layout.{Layout}
 use Rattle.cube_journal.specs.Rows.{Entry}
 use Rattle.cube_journal.specs.State.{Holds, TakesAll, stored_in, noted_in}
-use Rattle.cube_live.specs.Keeping.{FailsKept, Keeping, KeepsBy, KeepsOn, KeepsPart, LeavesAt, Noted, keeping_after, keeping_by, keeping_with, made_sure, with_change}
+use Rattle.cube_live.specs.Keeping.{FailsKept, Keeping, KeepsBy, KeepsOn, KeepsPart, LeavesAt, Noted, keeping_after}
+use Rattle.cube_live.specs.Keeping.{keeping_by, keeping_with, made_sure, with_change}
 use Rattle.cube_live.specs.Live.{LiveView}
 use Rattle.cube_live.specs.Request.{request_of}
 use Rattle.cube_live.specs.Serving.{Serves}
@@ -35,65 +37,86 @@ record Grows (k next : Keeping) : Type 0 where
 Grows-same : (k : Keeping) → Grows k k
 Grows-same k = record { more = []; told_is = sym (append-nil k.told); surer = omega arith }
 
-Grows-changed : (k : Keeping) (source : ℕ) (fields : List (List ℕ)) (read : Bool) → Grows k (if read then with_change k source fields else k)
+Grows-changed : (k : Keeping) (source : ℕ) (fields : List (List ℕ)) (read : Bool)
+    → Grows k (if read then with_change k source fields else k)
 Grows-changed k source fields true = record { more = (source, fields) ∷ []; told_is = refl; surer = omega arith }
 Grows-changed k source fields false = Grows-same k
 
-Grows-by : (s : Layout) (k : Keeping) (asks : Request) (fields : List (List ℕ)) → k.sure ≤ length k.told → Grows k (keeping_by s k asks fields)
+Grows-by : (s : Layout) (k : Keeping) (asks : Request) (fields : List (List ℕ)) → k.sure ≤ length k.told
+    → Grows k (keeping_by s k asks fields)
 Grows-by s k (Change source) fields within = Grows-changed k source fields (is_read s (drop 1 fields))
 Grows-by s k (Ask question) fields within = record { more = []; told_is = sym (append-nil k.told); surer = within }
 Grows-by s k (Wrong fault) fields within = record { more = []; told_is = sym (append-nil k.told); surer = within }
 
 -- no more is certain than was told
 within-changed : (k : Keeping) (source : ℕ) (fields : List (List ℕ)) (read : Bool) → k.sure ≤ length k.told
-    → (if read then with_change k source fields else k).sure ≤ length (if read then with_change k source fields else k).told
+    → (if read then with_change k source fields else k).sure
+    ≤ length (if read then with_change k source fields else k).told
 within-changed k source fields true within = omega (arith, within, length-append k.told ((source, fields) ∷ []))
 within-changed k source fields false within = within
 
-within-by : (s : Layout) (k : Keeping) (asks : Request) (fields : List (List ℕ)) → k.sure ≤ length k.told → (keeping_by s k asks fields).sure ≤ length (keeping_by s k asks fields).told
+within-by : (s : Layout) (k : Keeping) (asks : Request) (fields : List (List ℕ)) → k.sure ≤ length k.told
+    → (keeping_by s k asks fields).sure ≤ length (keeping_by s k asks fields).told
 within-by s k (Change source) fields within = within-changed k source fields (is_read s (drop 1 fields)) within
 within-by s k (Ask question) fields within = omega arith
 within-by s k (Wrong fault) fields within = omega arith
 
-within-after : (s : Layout) (k : Keeping) (records : List (List (List ℕ))) → k.sure ≤ length k.told → (keeping_after s k records).sure ≤ length (keeping_after s k records).told
+within-after : (s : Layout) (k : Keeping) (records : List (List (List ℕ))) → k.sure ≤ length k.told
+    → (keeping_after s k records).sure ≤ length (keeping_after s k records).told
 within-after s k [] within = within
-within-after s k (fields ∷ records) within = within-after s (keeping_with s k fields) records (within-by s k (request_of s fields) fields within)
+within-after s k (fields ∷ records) within =
+    within-after s (keeping_with s k fields) records (within-by s k (request_of s fields) fields within)
 
 -- the first records, and one more if there is one
-take-step : {A : Type 0} (count : ℕ) (records : List A) → (take (suc count) records ≡ take count records) ⊎ ((x : A) × (take (suc count) records ≡ take count records ++ x ∷ []))
+take-step : {A : Type 0} (count : ℕ) (records : List A) → (take (suc count) records ≡ take count records)
+    ⊎ ((x : A) × (take (suc count) records ≡ take count records ++ x ∷ []))
 take-step zero [] = inl refl
 take-step zero (r ∷ records) = inr (r, refl)
 take-step (suc count) [] = inl refl
 take-step {A} (suc count) (r ∷ records) = longer (take-step count records)
   where
-    longer : (take (suc count) records ≡ take count records) ⊎ ((x : A) × (take (suc count) records ≡ take count records ++ x ∷ []))
-        → (take (suc (suc count)) (r ∷ records) ≡ take (suc count) (r ∷ records)) ⊎ ((x : A) × (take (suc (suc count)) (r ∷ records) ≡ take (suc count) (r ∷ records) ++ x ∷ []))
+    longer : (take (suc count) records ≡ take count records)
+        ⊎ ((x : A) × (take (suc count) records ≡ take count records ++ x ∷ []))
+        → (take (suc (suc count)) (r ∷ records) ≡ take (suc count) (r ∷ records))
+        ⊎ ((x : A) × (take (suc (suc count)) (r ∷ records) ≡ take (suc count) (r ∷ records) ++ x ∷ []))
     longer (inl same) = inl (ap (λ l. r ∷ l) same)
     longer (inr more) = inr (more.0, ap (λ l. r ∷ l) more.1)
 
-Grows-take : (s : Layout) (records : List (List (List ℕ))) (count : ℕ) → Grows (keeping_after s nothing (take count records)) (keeping_after s nothing (take (count + 1) records))
-Grows-take s records count = subst (λ n. Grows (keeping_after s nothing (take count records)) (keeping_after s nothing (take n records))) (sym (add-one count)) (grows (take-step count records))
+Grows-take : (s : Layout) (records : List (List (List ℕ))) (count : ℕ)
+    → Grows (keeping_after s nothing (take count records)) (keeping_after s nothing (take (count + 1) records))
+Grows-take s records count =
+    subst (λ n. Grows (keeping_after s nothing (take count records)) (keeping_after s nothing (take n records)))
+    (sym (add-one count)) (grows (take-step count records))
   where
-    grows : (take (suc count) records ≡ take count records) ⊎ ((x : List (List ℕ)) × (take (suc count) records ≡ take count records ++ x ∷ []))
+    grows : (take (suc count) records ≡ take count records)
+        ⊎ ((x : List (List ℕ)) × (take (suc count) records ≡ take count records ++ x ∷ []))
         → Grows (keeping_after s nothing (take count records)) (keeping_after s nothing (take (suc count) records))
-    grows (inl same) = subst (λ (rs : List (List (List ℕ))). Grows (keeping_after s nothing (take count records)) (keeping_after s nothing rs)) (sym same) (Grows-same (keeping_after s nothing (take count records)))
+    grows (inl same) = subst (λ (rs : List (List (List ℕ))). Grows (keeping_after s nothing (take count records))
+        (keeping_after s nothing rs)) (sym same) (Grows-same (keeping_after s nothing (take count records)))
     grows (inr more) =
         subst (λ (next : Keeping). Grows (keeping_after s nothing (take count records)) next)
         (sym (ap (keeping_after s nothing) more.1 ∙ keeping_after-append s nothing (take count records) (more.0 ∷ [])))
-        (Grows-by s (keeping_after s nothing (take count records)) (request_of s more.0) more.0 (within-after s nothing (take count records) (omega arith)))
+        (Grows-by s (keeping_after s nothing (take count records)) (request_of s more.0) more.0
+        (within-after s nothing (take count records) (omega arith)))
 
 module _ {S : Type 0} (view : S → View) (recovers : S → Trees → Type 0) where
-  module _ (live resumed : LiveView) (was : View) (notes : List Entry) (begun now : Batch S) (fresh : HasKept view recovers begun begun [] 0)
-      (taken : IsClean (view begun.store) → TakesAll TakesStored live (stored_in was) resumed) (stored : IsClean (view begun.store) → stored_in (view begun.store) ≡ stored_in was)
+  module _ (live resumed : LiveView) (was : View) (notes : List Entry) (begun now : Batch S)
+      (fresh : HasKept view recovers begun begun [] 0)
+      (taken : IsClean (view begun.store) → TakesAll TakesStored live (stored_in was) resumed)
+      (stored : IsClean (view begun.store) → stored_in (view begun.store) ≡ stored_in was)
       (noted : IsClean (view begun.store) → noted_in (view begun.store) ≡ notes) where
     -- what a crash leaves, said of the store as it was
-    part-of : IsClean (view begun.store) → (changes : List Entry) (sure : ℕ) (db : Trees) → LeavesPart (view begun.store) changes sure db
+    part-of : IsClean (view begun.store) → (changes : List Entry) (sure : ℕ) (db : Trees)
+        → LeavesPart (view begun.store) changes sure db
         → (part : ℕ) × (sure ≤ part) × (part ≤ length changes) × Holds db (stored_in was ++ take part changes) notes
-    part-of clean changes sure db part = (part.count, part.at_least, part.at_most, rw (stored clean, noted clean) at part.holds)
+    part-of clean changes sure db part =
+        (part.count, part.at_least, part.at_most, rw (stored clean, noted clean) at part.holds)
 
     -- ---- where it ended well
-    served : (records : List (List (List ℕ))) (after : LiveView) (old new : Option (List ℕ)) → Serves resumed.schema records resumed after old new
-        → KeepsOn (keeps view recovers) (keeps view recovers) begun (λ k. made_sure (keeping_after resumed.schema k records)) now → IsClean (view now.store)
+    served : (records : List (List (List ℕ))) (after : LiveView) (old new : Option (List ℕ))
+        → Serves resumed.schema records resumed after old new
+        → KeepsOn (keeps view recovers) (keeps view recovers) begun
+        (λ k. made_sure (keeping_after resumed.schema k records)) now → IsClean (view now.store)
         → ServesStored live.schema was notes records live after (view now.store) (recovers now.store) old new
     served records after old new serves on clean =
         let kept = on begun nothing fresh in
@@ -101,95 +124,132 @@ module _ {S : Type 0} (view : S → View) (recovers : S → Trees → Type 0) wh
         let schema = TakesAll-schema live resumed (stored_in was) (taken clean_first) in
         let told : List Noted = (keeping_after resumed.schema nothing records).told in
         let stands = kept.stands clean in
-        let same : stored_all told ≡ changes_in live.schema records = ap (λ (s : Layout). changes_in s records) schema in
+        let same : stored_all told ≡ changes_in live.schema records =
+        ap (λ (s : Layout). changes_in s records) schema in
         record {
-          held = stands.held ∙ ap (λ es. es ++ stored_all told) (stored clean_first) ∙ ap (λ es. stored_in was ++ es) same;
+          held =
+              stands.held ∙ ap (λ es. es ++ stored_all told) (stored clean_first) ∙ ap (λ es. stored_in was ++ es) same;
           leaves = λ db may.
               let part = part-of clean_first (stored_all told) (length told) db (stands.leaves db may) in
-              let whole : take part.0 (stored_all told) ≡ stored_all told = take_all part.0 (stored_all told) (omega (arith, part.1, length-map told stored_as)) in
+              let whole : take part.0 (stored_all told) ≡ stored_all told =
+              take_all part.0 (stored_all told) (omega (arith, part.1, length-map told stored_as)) in
               subst (λ es. Holds db (stored_in was ++ es) notes) (whole ∙ same) part.3;
-          answered = λ start here. (rw schema at (serves (arrivals_from live.schema start (stored_in was)) (TakesAll-stands live resumed (stored_in was) (taken clean_first) start here))).0;
-          stands = λ start here. (rw schema at (serves (arrivals_from live.schema start (stored_in was)) (TakesAll-stands live resumed (stored_in was) (taken clean_first) start here))).1;
+          answered = λ start here. (rw schema at (serves (arrivals_from live.schema start (stored_in was))
+              (TakesAll-stands live resumed (stored_in was) (taken clean_first) start here))).0;
+          stands = λ start here. (rw schema at (serves (arrivals_from live.schema start (stored_in was))
+              (TakesAll-stands live resumed (stored_in was) (taken clean_first) start here))).1;
         }
 
-    pub ServesStored-served : (left : Option (List (List (List ℕ)))) (after : LiveView) (old new : Option (List ℕ)) → IfSome left (λ records. Serves resumed.schema records resumed after old new)
-        → IfSome left (λ records. KeepsOn (keeps view recovers) (keeps view recovers) begun (λ k. made_sure (keeping_after resumed.schema k records)) now)
-        → IfSome left (λ records. IsClean (view now.store) → ServesStored live.schema was notes records live after (view now.store) (recovers now.store) old new)
+    pub ServesStored-served : (left : Option (List (List (List ℕ)))) (after : LiveView) (old new : Option (List ℕ))
+        → IfSome left (λ records. Serves resumed.schema records resumed after old new)
+        → IfSome left (λ records. KeepsOn (keeps view recovers) (keeps view recovers) begun
+        (λ k. made_sure (keeping_after resumed.schema k records)) now)
+        → IfSome left (λ records. IsClean (view now.store)
+        → ServesStored live.schema was notes records live after (view now.store) (recovers now.store) old new)
     ServesStored-served None after old new serves on = tt
     ServesStored-served (Some records) after old new serves on = λ clean. served records after old new serves on clean
 
     -- over the schema that it began with
     pub schema-served : (left : Option (List (List (List ℕ)))) (after : LiveView) → after.schema ≡ resumed.schema
-        → IfSome left (λ records. KeepsOn (keeps view recovers) (keeps view recovers) begun (λ k. made_sure (keeping_after resumed.schema k records)) now)
+        → IfSome left (λ records. KeepsOn (keeps view recovers) (keeps view recovers) begun
+        (λ k. made_sure (keeping_after resumed.schema k records)) now)
         → IfSome left (λ records. IsClean (view now.store) → after.schema ≡ live.schema)
     schema-served None after same on = tt
-    schema-served (Some records) after same on = λ clean. same ∙ TakesAll-schema live resumed (stored_in was) (taken ((on begun nothing fresh).was_clean clean))
+    schema-served (Some records) after same on =
+        λ clean. same ∙ TakesAll-schema live resumed (stored_in was) (taken ((on begun nothing fresh).was_clean clean))
 
     -- ---- where it failed
-    first_clean : (k next : Keeping) → KeepsPart (keeps view recovers) (breaks view recovers) begun now k next → IsClean (view now.store) → IsClean (view begun.store)
+    first_clean : (k next : Keeping) → KeepsPart (keeps view recovers) (breaks view recovers) begun now k next
+        → IsClean (view now.store) → IsClean (view begun.store)
     first_clean k next (inl kept) clean = kept.was_clean clean
     first_clean k next (inr (inl kept)) clean = kept.was_clean clean
     first_clean k next (inr (inr broken)) clean = broken.was_clean clean
 
-    left_part : (k next : Keeping) → Grows k next → KeepsPart (keeps view recovers) (breaks view recovers) begun now k next → IsClean (view now.store) → (db : Trees) → recovers now.store db
+    left_part : (k next : Keeping) → Grows k next
+        → KeepsPart (keeps view recovers) (breaks view recovers) begun now k next → IsClean (view now.store)
+        → (db : Trees) → recovers now.store db
         → (part : ℕ) × (k.sure ≤ part) × Holds db (stored_in was ++ take part (stored_all next.told)) notes
     left_part k next grows (inl kept) clean db may =
         let part = part-of (kept.was_clean clean) (stored_all k.told) k.sure db ((kept.stands clean).leaves db may) in
         let longer : take part.0 (stored_all next.told) ≡ take part.0 (stored_all k.told) =
-        ap (λ told. take part.0 (stored_all told)) grows.told_is ∙ ap (λ es. take part.0 es) (stored_all-append k.told grows.more)
+        ap (λ told. take part.0 (stored_all told)) grows.told_is
+        ∙ ap (λ es. take part.0 es) (stored_all-append k.told grows.more)
         ∙ take-append-le part.0 (stored_all k.told) (stored_all grows.more) part.2 in
         (part.0, part.1, subst (λ es. Holds db (stored_in was ++ es) notes) (sym longer) part.3)
     left_part k next grows (inr (inl kept)) clean db may =
-        let part = part-of (kept.was_clean clean) (stored_all next.told) next.sure db ((kept.stands clean).leaves db may) in
+        let part =
+        part-of (kept.was_clean clean) (stored_all next.told) next.sure db ((kept.stands clean).leaves db may) in
         (part.0, omega (arith, grows.surer, part.1), part.3)
     left_part k next grows (inr (inr broken)) clean db may =
         let part = part-of (broken.was_clean clean) (stored_all next.told) k.sure db (broken.leaves clean db may) in
         (part.0, part.1, part.3)
 
     -- what a journal kept up to a record, whatever the fault
-    kept_part : (s : Layout) (records : List (List (List ℕ))) (fault : SessionFault) (count : ℕ) → KeepsBy (keeps view recovers) (breaks view recovers) begun now s records fault count
-        → KeepsPart (keeps view recovers) (breaks view recovers) begun now (keeping_after s nothing (take count records)) (keeping_after s nothing (take (count + 1) records))
+    kept_part : (s : Layout) (records : List (List (List ℕ))) (fault : SessionFault) (count : ℕ)
+        → KeepsBy (keeps view recovers) (breaks view recovers) begun now s records fault count
+        → KeepsPart (keeps view recovers) (breaks view recovers) begun now
+        (keeping_after s nothing (take count records)) (keeping_after s nothing (take (count + 1) records))
     kept_part s records Read count by = by begun nothing fresh
     kept_part s records (TooMany source) count by = by begun nothing fresh
     kept_part s records Full count by = by begun nothing fresh
     kept_part s records (Write sent) count by = inl (by begun nothing fresh)
     kept_part s records (Journal fault) count by = by begun nothing fresh
 
-    broken : (records : List (List (List ℕ))) (fault : SessionFault) (old new : Option (List ℕ)) → FailsKept (keeps view recovers) (breaks view recovers) begun now resumed.schema records resumed fault old new → IsClean (view now.store)
+    broken : (records : List (List (List ℕ))) (fault : SessionFault) (old new : Option (List ℕ))
+        → FailsKept (keeps view recovers) (breaks view recovers) begun now resumed.schema records resumed fault old new
+        → IsClean (view now.store)
         → BreaksSession live.schema was notes records live (recovers now.store) old new fault
     broken records fault old new fails clean =
         let count : ℕ = fails.0 in
         let part = kept_part resumed.schema records fault count fails.1 in
-        let clean_first = first_clean (keeping_after resumed.schema nothing (take count records)) (keeping_after resumed.schema nothing (take (count + 1) records)) part clean in
+        let clean_first = first_clean (keeping_after resumed.schema nothing (take count records))
+        (keeping_after resumed.schema nothing (take (count + 1) records)) part clean in
         let schema = TakesAll-schema live resumed (stored_in was) (taken clean_first) in (
           count,
           subst (λ (s : Layout). LeavesFirst s was notes records count (recovers now.store)) schema
-              (left_part (keeping_after resumed.schema nothing (take count records)) (keeping_after resumed.schema nothing (take (count + 1) records)) (Grows-take resumed.schema records count) part clean),
-          (λ start here. subst (λ (s : Layout). LeavesAt s records (arrivals_from live.schema start (stored_in was)) fault count old new) schema
-              (fails.2 (arrivals_from live.schema start (stored_in was)) (TakesAll-stands live resumed (stored_in was) (taken clean_first) start here))),
+              (left_part (keeping_after resumed.schema nothing (take count records))
+              (keeping_after resumed.schema nothing (take (count + 1) records))
+              (Grows-take resumed.schema records count) part clean),
+          (λ start here. subst
+              (λ (s : Layout). LeavesAt s records (arrivals_from live.schema start (stored_in was)) fault count old new)
+              schema
+              (fails.2 (arrivals_from live.schema start (stored_in was))
+              (TakesAll-stands live resumed (stored_in was) (taken clean_first) start here))),
         )
 
     pub BreaksSession-broken : (left : Option (List (List (List ℕ)))) (fault : SessionFault) (old new : Option (List ℕ))
-        → IfSome left (λ records. FailsKept (keeps view recovers) (breaks view recovers) begun now resumed.schema records resumed fault old new)
-        → IfSome left (λ records. IsClean (view now.store) → BreaksSession live.schema was notes records live (recovers now.store) old new fault)
+        → IfSome left (λ records.
+        FailsKept (keeps view recovers) (breaks view recovers) begun now resumed.schema records resumed fault old new)
+        → IfSome left (λ records. IsClean (view now.store)
+        → BreaksSession live.schema was notes records live (recovers now.store) old new fault)
     BreaksSession-broken None fault old new fails = tt
     BreaksSession-broken (Some records) fault old new fails = λ clean. broken records fault old new fails clean
 
   -- a session that failed, and left this store
-  pub BreaksSession-failed : (live resumed : LiveView) (was : View) (notes : List Entry) (begun : Batch S) (store : S) → HasKept view recovers begun begun [] 0
-      → (IsClean (view begun.store) → TakesAll TakesStored live (stored_in was) resumed) → (IsClean (view begun.store) → stored_in (view begun.store) ≡ stored_in was)
-      → (IsClean (view begun.store) → noted_in (view begun.store) ≡ notes) → (left : Option (List (List (List ℕ)))) (fault : SessionFault) (old new : Option (List ℕ))
+  pub BreaksSession-failed : (live resumed : LiveView) (was : View) (notes : List Entry) (begun : Batch S) (store : S)
+      → HasKept view recovers begun begun [] 0
+      → (IsClean (view begun.store) → TakesAll TakesStored live (stored_in was) resumed)
+      → (IsClean (view begun.store) → stored_in (view begun.store) ≡ stored_in was)
+      → (IsClean (view begun.store) → noted_in (view begun.store) ≡ notes)
+      → (left : Option (List (List (List ℕ)))) (fault : SessionFault) (old new : Option (List ℕ))
       → IfSome left (FailsStored view recovers resumed begun store fault old new)
-      → IfSome left (λ records. IsClean (view store) → BreaksSession live.schema was notes records live (recovers store) old new fault)
+      → IfSome left (λ records. IsClean (view store)
+      → BreaksSession live.schema was notes records live (recovers store) old new fault)
   BreaksSession-failed live resumed was notes begun store fresh taken stored noted None fault old new fails = tt
-  BreaksSession-failed live resumed was notes begun store fresh taken stored noted (Some records) fault old new fails = λ clean.
-      subst (λ (it : S). BreaksSession live.schema was notes records live (recovers it) old new fault) (sym fails.store_is)
-      (BreaksSession-broken live resumed was notes begun fails.ended fresh taken stored noted (Some records) fault old new fails.fails
+  BreaksSession-failed live resumed was notes begun store fresh taken stored noted (Some records) fault old new fails =
+      λ clean.
+      subst (λ (it : S). BreaksSession live.schema was notes records live (recovers it) old new fault)
+      (sym fails.store_is)
+      (BreaksSession-broken live resumed was notes begun fails.ended fresh taken stored noted
+      (Some records) fault old new fails.fails
       (subst (λ (it : S). IsClean (view it)) fails.store_is clean))
 
   -- and that it left this store, where its journal did
-  pub FailsStored-made : (live : LiveView) (begun ended : Batch S) (store : S) (fault : SessionFault) (old new : Option (List ℕ)) (left : Option (List (List (List ℕ)))) → store ≡ ended.store
-      → IfSome left (λ records. FailsKept (keeps view recovers) (breaks view recovers) begun ended live.schema records live fault old new)
+  pub FailsStored-made : (live : LiveView) (begun ended : Batch S) (store : S) (fault : SessionFault)
+      (old new : Option (List ℕ)) (left : Option (List (List (List ℕ)))) → store ≡ ended.store
+      → IfSome left (λ records.
+      FailsKept (keeps view recovers) (breaks view recovers) begun ended live.schema records live fault old new)
       → IfSome left (FailsStored view recovers live begun store fault old new)
   FailsStored-made live begun ended store fault old new None is fails = tt
-  FailsStored-made live begun ended store fault old new (Some records) is fails = record { ended = ended; store_is = is; fails = fails }
+  FailsStored-made live begun ended store fault old new (Some records) is fails =
+      record { ended = ended; store_is = is; fails = fails }

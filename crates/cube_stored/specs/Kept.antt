@@ -18,7 +18,8 @@ module _ {S : Type 0} (view : S → View) (recovers : S → Trees → Type 0) wh
   breaks first now k = HasBroken view recovers first now (stored_all k.told) k.sure
 
   -- a session failed so, and its journal's store is this one then
-  pub record FailsStored (live : LiveView) (begun : Batch S) (store : S) (fault : SessionFault) (old new : Option (List ℕ)) (records : List (List (List ℕ))) : Type 0 where
+  pub record FailsStored (live : LiveView) (begun : Batch S) (store : S) (fault : SessionFault)
+      (old new : Option (List ℕ)) (records : List (List (List ℕ))) : Type 0 where
     pub ended : Batch S
     pub store_is : store ≡ ended.store
     pub fails : FailsKept keeps breaks begun ended live.schema records live fault old new

@@ -18,7 +18,8 @@ pub record IsPlainByte (b : ℕ) : Type 0 where
   pub no_return : (b == 13) ≡ false
   pub no_feed : (b == 10) ≡ false
 
--- a byte that a text may begin with for its fields to be its pieces: no comma, so that there is a first field, and none of a byte order mark
+-- a byte that a text may begin with for its fields to be its pieces:
+-- no comma, so that there is a first field, and none of a byte order mark
 pub record MayBegin (b : ℕ) : Type 0 where
   pub no_comma : (b == comma) ≡ false
   pub no_mark : (b == 0xEF) ≡ false

@@ -26,6 +26,8 @@ first_of (fields ∷ records) = fields
 abbrev pub fields_in : List ℕ → List (List ℕ)
 fields_in text = first_of (records_of (text ++ 10 ∷ []))
 
--- a record reads back from its text, where its first field begins with no byte of a byte order mark, as none does that names a source (this project's choice)
+-- a record reads back from its text, where its first field begins with no byte of a byte order mark,
+-- as none does that names a source (this project's choice)
 abbrev pub ReadsBack : List (List ℕ) → List ℕ → Type 0
-ReadsBack fields text = (b : ℕ) → (more : List ℕ) → (others : List (List ℕ)) → fields ≡ (b ∷ more) ∷ others → (b == 0xEF) ≡ false → fields_in text ≡ fields
+ReadsBack fields text = (b : ℕ) → (more : List ℕ) → (others : List (List ℕ)) → fields ≡ (b ∷ more) ∷ others
+    → (b == 0xEF) ≡ false → fields_in text ≡ fields

@@ -7,7 +7,8 @@ use Rattle.cube_live.specs.Live.{LiveView, LiveStandsAt}
 use Rattle.cube_live.specs.Session.{arrivals_changed}
 use Rattle.cube_stored.specs.Records.{fields_in}
 
--- an arrival list after a stored change: what a session makes of a change of its source with these fields (this project's choice)
+-- an arrival list after a stored change:
+-- what a session makes of a change of its source with these fields (this project's choice)
 abbrev pub arrivals_by : Layout → Arrivals → Entry → Arrivals
 arrivals_by s arrivals change = arrivals_changed s arrivals change.0 (drop 1 (fields_in change.1))
 
@@ -19,4 +20,5 @@ arrivals_from s arrivals (change ∷ changes) = arrivals_from s (arrivals_by s a
 -- a cube that is kept right took a stored change (this project's choice)
 pub record TakesStored (old : LiveView) (change : Entry) (new : LiveView) : Type 0 where
   pub schema : new.schema ≡ old.schema
-  pub stands : (arrivals : Arrivals) → LiveStandsAt old arrivals → LiveStandsAt new (arrivals_by old.schema arrivals change)
+  pub stands : (arrivals : Arrivals) → LiveStandsAt old arrivals
+      → LiveStandsAt new (arrivals_by old.schema arrivals change)

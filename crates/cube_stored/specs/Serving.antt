@@ -1,4 +1,5 @@
--- What a session over a store promises: over which items its answers are, and what of its changes a crash may leave (this project's choice).
+-- What a session over a store promises:
+-- over which items its answers are, and what of its changes a crash may leave (this project's choice).
 use Rattle.std.specs.Prelude.{◌≡◌, ◌≤◌, ◌+◌, ◌++◌, ◌⊎◌, ℕ, List, [], length, take, Option}
 use Rattle.sqlite_trees.specs.Tree.{Trees}
 use Rattle.sqlite_trees.specs.View.{View}
@@ -29,24 +30,38 @@ changes_in s records = stored_all (keeping_after s nothing records).told
 abbrev pub certain_in : Layout → List (List (List ℕ)) → ℕ
 certain_in s records = (keeping_after s nothing records).sure
 
--- a session over a store was served to its end: the store has the changes that it had and those of the session, byte for byte and in their order, and so leaves each crash; the replies to all records went out, from a start at which the stored changes stand before the first record, and the cube stands after them
-pub record ServesStored (s : Layout) (was : View) (notes : List Entry) (records : List (List (List ℕ))) (before after : LiveView) (now : View) (Leaves : Trees → Type 0) (old new : Option (List ℕ)) : Type 0 where
+-- a session over a store was served to its end: the store has the changes that it had and those of the session,
+-- byte for byte and in their order, and so leaves each crash; the replies to all records went out,
+-- from a start at which the stored changes stand before the first record, and the cube stands after them
+pub record ServesStored (s : Layout) (was : View) (notes : List Entry) (records : List (List (List ℕ)))
+    (before after : LiveView) (now : View) (Leaves : Trees → Type 0) (old new : Option (List ℕ)) : Type 0 where
   pub held : held_in now ≡ stored_in was ++ changes_in s records
   pub leaves : (db : Trees) → Leaves db → Holds db (stored_in was ++ changes_in s records) notes
-  pub answered : (start : Arrivals) → LiveStandsAt before start → Answered s records (arrivals_from s start (stored_in was)) (length records) old new
-  pub stands : (start : Arrivals) → LiveStandsAt before start → LiveStandsAt after (arrivals_after s (arrivals_from s start (stored_in was)) records)
+  pub answered : (start : Arrivals) → LiveStandsAt before start
+      → Answered s records (arrivals_from s start (stored_in was)) (length records) old new
+  pub stands : (start : Arrivals) → LiveStandsAt before start
+      → LiveStandsAt after (arrivals_after s (arrivals_from s start (stored_in was)) records)
 
--- a crash leaves the stored changes and a first part of those among the first records, so many or one more, and of these all that stand before the last that was answered
+-- a crash leaves the stored changes and a first part of those among the first records, so many or one more,
+-- and of these all that stand before the last that was answered
 abbrev pub LeavesFirst : Layout → View → List Entry → List (List (List ℕ)) → ℕ → (Trees → Type 0) → Type 0
 LeavesFirst s was notes records count Leaves = (db : Trees) → Leaves db
-    → (part : ℕ) × (certain_in s (take count records) ≤ part) × Holds db (stored_in was ++ take part (changes_in s (take (count + 1) records))) notes
+    → (part : ℕ) × (certain_in s (take count records) ≤ part)
+    × Holds db (stored_in was ++ take part (changes_in s (take (count + 1) records))) notes
 
--- a session failed so after some of its records: the replies to these went out, but for a failed write the first bytes of them, and a crash leaves a first part of its changes
-abbrev pub BreaksSession : Layout → View → List Entry → List (List (List ℕ)) → LiveView → (Trees → Type 0) → Option (List ℕ) → Option (List ℕ) → SessionFault → Type 0
+-- a session failed so after some of its records: the replies to these went out,
+-- but for a failed write the first bytes of them, and a crash leaves a first part of its changes
+abbrev pub BreaksSession : Layout → View → List Entry → List (List (List ℕ)) → LiveView → (Trees → Type 0)
+    → Option (List ℕ) → Option (List ℕ) → SessionFault → Type 0
 BreaksSession s was notes records live Leaves old new fault = (count : ℕ) × LeavesFirst s was notes records count Leaves
-    × ((start : Arrivals) → LiveStandsAt live start → LeavesAt s records (arrivals_from s start (stored_in was)) fault count old new)
+    × ((start : Arrivals) → LiveStandsAt live start
+    → LeavesAt s records (arrivals_from s start (stored_in was)) fault count old new)
 
--- the same where the store wasn't taken: nothing went out, and a crash leaves what it left before or, in a store without a row, the notes alone
-abbrev pub BreaksStored : Layout → View → List Entry → List (List (List ℕ)) → LiveView → (Trees → Type 0) → (Trees → Type 0) → Option (List ℕ) → Option (List ℕ) → StoredFault → Type 0
-BreaksStored s was notes records live Before Leaves old new (Store fault) = (new ≡ old) × ((db : Trees) → Leaves db → LeavesNotes was notes db ⊎ Before db)
-BreaksStored s was notes records live Before Leaves old new (Session fault) = BreaksSession s was notes records live Leaves old new fault
+-- the same where the store wasn't taken: nothing went out, and a crash leaves what it left before or,
+-- in a store without a row, the notes alone
+abbrev pub BreaksStored : Layout → View → List Entry → List (List (List ℕ)) → LiveView → (Trees → Type 0)
+    → (Trees → Type 0) → Option (List ℕ) → Option (List ℕ) → StoredFault → Type 0
+BreaksStored s was notes records live Before Leaves old new (Store fault) =
+    (new ≡ old) × ((db : Trees) → Leaves db → LeavesNotes was notes db ⊎ Before db)
+BreaksStored s was notes records live Before Leaves old new (Session fault) =
+    BreaksSession s was notes records live Leaves old new fault

@@ -1,5 +1,6 @@
 -- How the beginning of a text grows in a writer.
-use Rattle.std.proofs.Common.{◌≡◌, ℕ, ◌+◌, ◌-◌, List, ◌++◌, length, take, drop, sym, arith, length-drop, take-append-drop}
+use Rattle.std.proofs.Common.{◌≡◌, ℕ, ◌+◌, ◌-◌, List, ◌++◌, length, take, drop, sym, arith, length-drop}
+use Rattle.std.proofs.Common.{take-append-drop}
 use Rattle.std.specs.Prelude.{Option}
 use Rattle.std.specs.Io.KnownBytes.{Appends}
 use Rattle.std.proofs.KnownBytes.{Appends-trans}
@@ -13,7 +14,8 @@ take-plus i n xs =
 
 -- after a text's first i bytes, n more of what a slice from i on holds
 pub Appends-take : (old mid new : Option (List ℕ)) (text : List ℕ) (i n : ℕ)
-    → Appends old mid (take i text) → Appends mid new (take n (take (length text - i) (drop i text))) → Appends old new (take (i + n) text)
+    → Appends old mid (take i text) → Appends mid new (take n (take (length text - i) (drop i text)))
+    → Appends old new (take (i + n) text)
 Appends-take old mid new text i n before more =
     let size = length-drop i text in
     let rest = take_all (length text - i) (drop i text) (omega arith) in

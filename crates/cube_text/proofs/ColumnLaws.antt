@@ -12,9 +12,17 @@ use Rattle.cube_cells.specs.Cube.{Cells}
 use Rattle.cube_text.specs.Rows.{AreColumns, IsColumn, answers_at}
 
 -- the column of one aggregate more
-pub AreColumns-push : (aggregates : List Agg) (cells : Cells) (from to which : ℕ) (columns : List (Vec Answer)) (column : Vec Answer) (unused : Agg) → which < length aggregates → AreColumns (take which aggregates) cells from to columns → from + length column.items ≡ to → IsColumn (get_or aggregates which unused) cells from column.items → AreColumns (take (which + 1) aggregates) cells from to (columns ++ column ∷ [])
+pub AreColumns-push : (aggregates : List Agg) (cells : Cells) (from to which : ℕ) (columns : List (Vec Answer))
+    (column : Vec Answer) (unused : Agg)
+    → which < length aggregates → AreColumns (take which aggregates) cells from to columns
+    → from + length column.items ≡ to → IsColumn (get_or aggregates which unused) cells from column.items
+    → AreColumns (take (which + 1) aggregates) cells from to (columns ++ column ∷ [])
 AreColumns-push aggregates cells from to which columns column unused inside are long is =
     rw (take_more aggregates which unused inside) (record {
       long = All-push (λ (c : Vec Answer). from + length c.items ≡ to) columns column are.long long;
-      each = λ i cell below facts tally. rw (map-append (λ (c : Vec Answer). get_or c.items i answer.Null) columns (column ∷ [])) (AllZip-push (IsAnswer facts) (take which aggregates) (answers_at columns i) (get_or aggregates which unused) (get_or column.items i answer.Null) (are.each i cell below facts tally) (is.each i cell (omega (arith, below, long)) facts tally));
+      each = λ i cell below facts tally.
+          rw (map-append (λ (c : Vec Answer). get_or c.items i answer.Null) columns (column ∷ []))
+          (AllZip-push (IsAnswer facts) (take which aggregates) (answers_at columns i) (get_or aggregates which unused)
+          (get_or column.items i answer.Null) (are.each i cell below facts tally)
+          (is.each i cell (omega (arith, below, long)) facts tally));
     })

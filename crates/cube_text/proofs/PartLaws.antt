@@ -1,5 +1,6 @@
 -- How the text of parts of the cells grows, and what the text of all parts is.
-use Rattle.std.proofs.Common.{◌≡◌, ◌∙◌, ℕ, suc, ap, ◌+◌, ◌*◌, ◌-◌, ◌<◌, List, ◌++◌, ◌∷◌, [], length, take, get_or, refl, sym, append_assoc, add-zero, arith}
+use Rattle.std.proofs.Common.{◌≡◌, ◌∙◌, ℕ, suc, ap, ◌+◌, ◌*◌, ◌-◌, ◌<◌, List, ◌++◌, ◌∷◌, [], length, take, get_or, refl}
+use Rattle.std.proofs.Common.{sym, append_assoc, add-zero, arith}
 use Rattle.std.specs.Prelude.{min}
 use Rattle.std.specs.Global.{Vec}
 use Rattle.std.specs.List.{AllZip, flat_map}
@@ -22,7 +23,8 @@ RowsGoOn-none : (o : CellsInOrder) (from : ℕ) → RowsGoOn o from from []
 RowsGoOn-none o from before are = rw (append-nil before) are
 
 -- rows behind rows
-RowsGoOn-both : (o : CellsInOrder) (from mid to : ℕ) (some more : List Row) → RowsGoOn o from mid some → RowsGoOn o mid to more → RowsGoOn o from to (some ++ more)
+RowsGoOn-both : (o : CellsInOrder) (from mid to : ℕ) (some more : List Row) → RowsGoOn o from mid some
+    → RowsGoOn o mid to more → RowsGoOn o from to (some ++ more)
 RowsGoOn-both o from mid to some more first second before are =
     rw (← append_assoc before some more) (second (before ++ some) (first before are))
 
@@ -31,53 +33,70 @@ pub GoesOn-none : (o : CellsInOrder) (from : ℕ) (lines : Lines) → GoesOn o f
 GoesOn-none o from lines = record { rows = []; go_on = RowsGoOn-none o from; added = λ text h. rw (append-nil text) h }
 
 -- the row of the next cell goes on
-RowsGoOn-cell : (o : CellsInOrder) (at : ℕ) (unused : Key × Tally) (row : Row) → at < length o.cells → IsRowOf o.aggregates (get_or o.cells at unused) row → RowsGoOn o at (at + 1) (row ∷ [])
+RowsGoOn-cell : (o : CellsInOrder) (at : ℕ) (unused : Key × Tally) (row : Row) → at < length o.cells
+    → IsRowOf o.aggregates (get_or o.cells at unused) row → RowsGoOn o at (at + 1) (row ∷ [])
 RowsGoOn-cell o at unused row inside is before are =
-    rw (take_more o.cells at unused inside) (AllZip-push (IsRowOf o.aggregates) (take at o.cells) before (get_or o.cells at unused) row are is)
+    rw (take_more o.cells at unused inside)
+    (AllZip-push (IsRowOf o.aggregates) (take at o.cells) before (get_or o.cells at unused) row are is)
 
 -- the line of the next cell was added
 pub GoesOn-cell : (o : CellsInOrder) (from at : ℕ) (unused : Key × Tally) (old mid new : Lines) → at < length o.cells
-    → GoesOn o from at old mid → AddsRow o.aggregates (get_or o.cells at unused) mid new → GoesOn o from (at + 1) old new
+    → GoesOn o from at old mid → AddsRow o.aggregates (get_or o.cells at unused) mid new
+    → GoesOn o from (at + 1) old new
 GoesOn-cell o from at unused old mid new inside before line = record {
   rows = before.rows ++ line.row ∷ [];
-  go_on = RowsGoOn-both o from at (at + 1) before.rows (line.row ∷ []) before.go_on (RowsGoOn-cell o at unused line.row inside line.is_row);
+  go_on = RowsGoOn-both o from at (at + 1) before.rows (line.row ∷ []) before.go_on
+      (RowsGoOn-cell o at unused line.row inside line.is_row);
   added = AddsText-row_line before.rows line.row _ _ _ before.added line.added;
 }
 
 -- lines were added, and then more
-pub GoesOn-both : (o : CellsInOrder) (from at to : ℕ) (old mid new : Lines) → GoesOn o from at old mid → GoesOn o at to mid new → GoesOn o from to old new
+pub GoesOn-both : (o : CellsInOrder) (from at to : ℕ) (old mid new : Lines) → GoesOn o from at old mid
+    → GoesOn o at to mid new → GoesOn o from to old new
 GoesOn-both o from at to old mid new first second = record {
   rows = first.rows ++ second.rows;
   go_on = RowsGoOn-both o from at to first.rows second.rows first.go_on second.go_on;
-  added = λ text h. rw (flat_map-append row_line first.rows second.rows, ← append_assoc text (flat_map row_line first.rows) (flat_map row_line second.rows)) (second.added _ (first.added text h));
+  added = λ text h. rw (
+    flat_map-append row_line first.rows second.rows,
+    ← append_assoc text (flat_map row_line first.rows) (flat_map row_line second.rows),
+  ) (second.added _ (first.added text h));
 }
 
 -- places past the last cell are the place behind it
-pub RowsGoOn-within : (o : CellsInOrder) (from to at end : ℕ) (rows : List Row) → at ≡ min from (length o.cells) → end ≡ min to (length o.cells) → RowsGoOn o at end rows → RowsGoOn o from to rows
+pub RowsGoOn-within : (o : CellsInOrder) (from to at end : ℕ) (rows : List Row) → at ≡ min from (length o.cells)
+    → end ≡ min to (length o.cells) → RowsGoOn o at end rows → RowsGoOn o from to rows
 RowsGoOn-within o from to at end rows start stop go_on before are =
     let first = take_min from o.cells in
     let last = take_min to o.cells in
     rw (← last, ← stop) (go_on before (rw (← first, ← start) at are))
 
 -- where a part ends that begins at a place
-pub end_of_part : (size which n at : ℕ) → at ≡ min (size * which) n → at + min (n - at) size ≡ min (size * (which + 1)) n
+pub end_of_part : (size which n at : ℕ) → at ≡ min (size * which) n
+    → at + min (n - at) size ≡ min (size * (which + 1)) n
 end_of_part size which n at start = omega (arith, mul-suc size which)
 
 -- the text of parts that stand one after the other, from the cells up to a place on
-pub text_of_parts : (o : CellsInOrder) (size from : ℕ) (before : List Row) (pieces : List (Vec ℕ)) → AllZip (IsRowOf o.aggregates) (take (size * from) o.cells) before
-    → ((i at : ℕ) (unused : Vec ℕ) → at ≡ from + i → i < length pieces → IsTextOfPart o (size * at) (size * (at + 1)) (get_or pieces i unused).items)
-    → (rows : List Row) × AllZip (IsRowOf o.aggregates) (take (size * (from + length pieces)) o.cells) (before ++ rows) × (text_of_pieces pieces ≡ flat_map row_line rows)
+pub text_of_parts : (o : CellsInOrder) (size from : ℕ) (before : List Row) (pieces : List (Vec ℕ))
+    → AllZip (IsRowOf o.aggregates) (take (size * from) o.cells) before
+    → ((i at : ℕ) (unused : Vec ℕ) → at ≡ from + i → i < length pieces
+    → IsTextOfPart o (size * at) (size * (at + 1)) (get_or pieces i unused).items)
+    → (rows : List Row) × AllZip (IsRowOf o.aggregates) (take (size * (from + length pieces)) o.cells) (before ++ rows)
+    × (text_of_pieces pieces ≡ flat_map row_line rows)
 text_of_parts o size from before [] are each = ([], rw (append-nil before, add-zero from) are, refl)
 text_of_parts o size from before (piece ∷ pieces) are each =
     let part = each 0 from piece (omega arith) (omega arith) in
     let next = part.go_on before are in
-    let rest = text_of_parts o size (from + 1) (before ++ part.rows) pieces next (λ i at unused e inside. each (suc i) at unused (omega (arith, e)) (omega (arith, inside))) in
+    let rest = text_of_parts o size (from + 1) (before ++ part.rows) pieces next
+    (λ i at unused e inside. each (suc i) at unused (omega (arith, e)) (omega (arith, inside))) in
     let count : from + 1 + length pieces ≡ from + suc (length pieces) = omega arith in (
       part.rows ++ rest.0,
       rw (← append_assoc before part.rows rest.0, ← count) rest.1,
-      ap (λ (l : List ℕ). l ++ text_of_pieces pieces) part.text_is ∙ ap (λ (l : List ℕ). flat_map row_line part.rows ++ l) rest.2 ∙ sym (flat_map-append row_line part.rows rest.0),
+      ap (λ (l : List ℕ). l ++ text_of_pieces pieces) part.text_is
+          ∙ ap (λ (l : List ℕ). flat_map row_line part.rows ++ l) rest.2
+          ∙ sym (flat_map-append row_line part.rows rest.0),
     )
 
 -- the rows of all cells
-pub RowsGoOn-all : (o : CellsInOrder) (n : ℕ) (rows : List Row) → n ≡ length o.cells → RowsGoOn o 0 n rows → AllZip (IsRowOf o.aggregates) o.cells rows
+pub RowsGoOn-all : (o : CellsInOrder) (n : ℕ) (rows : List Row) → n ≡ length o.cells → RowsGoOn o 0 n rows
+    → AllZip (IsRowOf o.aggregates) o.cells rows
 RowsGoOn-all o n rows whole go_on = rw (take_all n o.cells (omega (arith, whole))) at (go_on [] tt)

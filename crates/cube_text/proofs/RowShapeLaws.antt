@@ -16,14 +16,19 @@ use Rattle.cube_core.proofs.ListLaws.{AllZip-length, Contains-AllByRecursion}
 use Rattle.cube_core.proofs.CellKeyLaws.{is_cell-length}
 
 -- each row has a coordinate for each dimension, by its key, and an answer for each aggregate
-HasShapeOf-HasAnswers : (s : Layout) (facts : List Fact) (rows : List Row) → AllByRecursion (λ (key : Key). length key.coords ≡ length s.dimensions) (map key_of rows)
+HasShapeOf-HasAnswers : (s : Layout) (facts : List Fact) (rows : List Row)
+    → AllByRecursion (λ (key : Key). length key.coords ≡ length s.dimensions) (map key_of rows)
     → AllByRecursion (HasAnswers s.aggregates facts) rows → AllByRecursion (HasShapeOf s) rows
 HasShapeOf-HasAnswers s facts [] keys answers = tt
-HasShapeOf-HasAnswers s facts (row ∷ rows) keys answers =
-    (record { coords = keys.0; answers = sym (AllZip-length _ s.aggregates row.answers answers.0) }, HasShapeOf-HasAnswers s facts rows keys.1 answers.1)
+HasShapeOf-HasAnswers s facts (row ∷ rows) keys answers = (
+  record { coords = keys.0; answers = sym (AllZip-length _ s.aggregates row.answers answers.0) },
+  HasShapeOf-HasAnswers s facts rows keys.1 answers.1,
+)
 
--- each row of a cube over facts that fit has the schema's numbers of coordinates and answers, whatever test its key passes
-pub HasShapeOf-AreRowsWhere : (test : Key → Bool) (s : Layout) (facts : List Fact) (rows : List Row) → list_all (fits s) facts ≡ true
+-- each row of a cube over facts that fit has the schema's numbers of coordinates
+-- and answers, whatever test its key passes
+pub HasShapeOf-AreRowsWhere : (test : Key → Bool) (s : Layout) (facts : List Fact) (rows : List Row)
+    → list_all (fits s) facts ≡ true
     → AreRowsWhere test s.grouping_sets (length s.dimensions) s.aggregates facts rows → All (HasShapeOf s) rows
 HasShapeOf-AreRowsWhere test s facts rows fit are =
     All-from_recursion (HasShapeOf s) rows

@@ -30,7 +30,8 @@ pub record AddsRow (aggregates : List Agg) (cell : Key × Tally) (old new : Line
 
 -- put behind the rows of the first cells up to a place, these rows are those of the first cells up to another
 abbrev pub RowsGoOn : CellsInOrder → ℕ → ℕ → List Row → Type 0
-RowsGoOn o from to rows = (before : List Row) → AllZip (IsRowOf o.aggregates) (take from o.cells) before → AllZip (IsRowOf o.aggregates) (take to o.cells) (before ++ rows)
+RowsGoOn o from to rows = (before : List Row) → AllZip (IsRowOf o.aggregates) (take from o.cells) before
+    → AllZip (IsRowOf o.aggregates) (take to o.cells) (before ++ rows)
 
 -- the lines of the rows of the cells from a place to another were added
 pub record GoesOn (o : CellsInOrder) (from to : ℕ) (old new : Lines) : Type 0 where
@@ -50,7 +51,8 @@ IsAnswerOf aggregate tally a = (facts : List Fact) → IsTallyOf facts tally →
 
 -- the answers of an aggregate for the cells from a place on
 pub record IsColumn (aggregate : Agg) (cells : Cells) (from : ℕ) (column : List Answer) : Type 0 where
-  pub each : (i : ℕ) (unused : Key × Tally) → i < length column → IsAnswerOf aggregate (get_or cells (from + i) unused).1 (get_or column i answer.Null)
+  pub each : (i : ℕ) (unused : Key × Tally) → i < length column
+      → IsAnswerOf aggregate (get_or cells (from + i) unused).1 (get_or column i answer.Null)
 
 -- what columns of answers have at a place
 abbrev pub answers_at : List (Vec Answer) → ℕ → List Answer
@@ -59,4 +61,5 @@ answers_at columns i = map (λ column. get_or column.items i answer.Null) column
 -- columns of answers, one for each aggregate, for the cells from a place to another
 pub record AreColumns (aggregates : List Agg) (cells : Cells) (from to : ℕ) (columns : List (Vec Answer)) : Type 0 where
   pub long : All (λ column. from + length column.items ≡ to) columns
-  pub each : (i : ℕ) (unused : Key × Tally) → from + i < to → AreAnswersOf aggregates (get_or cells (from + i) unused).1 (answers_at columns i)
+  pub each : (i : ℕ) (unused : Key × Tally) → from + i < to
+      → AreAnswersOf aggregates (get_or cells (from + i) unused).1 (answers_at columns i)

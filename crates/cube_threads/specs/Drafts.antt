@@ -1,11 +1,11 @@
 -- Ledgers with cubes to be filled, and the builders that are made of them (this project's choice).
 use Rattle.std.specs.Prelude.{◌≡◌, ◌<◌, ℕ, List, [], length, slice_index_or}
 use Rattle.cube_core.specs.Arrival.{Arrivals}
-use Rattle.cube_core.specs.GroupingSet.{sets_of_part}
 use Rattle.cube_core.specs.Layout.{Layout}
 use Rattle.cube_cells.specs.Cube.{Lattice, SameSets}
 use Rattle.cube_engine.specs.Builder.{BuilderView, HasFacts}
 use Rattle.cube_engine.specs.Ledger.{LedgerView, LedgerStandsAt, all_facts}
+use Rattle.cube_engine.specs.Parted.{IsPartOver}
 use Rattle.cube_feeders.specs.declared.roster.Gatherer.{Gatherer}
 use Rattle.cube_threads.specs.declared.making.MadePart.{MadePart}
 
@@ -19,7 +19,8 @@ pub record IsDraft (ledger : LedgerView) (cube : Lattice) : Type 0 where
   pub schema : cube.schema ≡ ledger.schema
   pub empty : HasFacts [] cube
 
--- the ledger of a draft stands at an arrival list, with the schema and as many accounts as at first, and the cube is as it was
+-- the ledger of a draft stands at an arrival list,
+-- with the schema and as many accounts as at first, and the cube is as it was
 pub record StandsFrom (first draft : DraftView) (arrivals : Arrivals) : Type 0 where
   pub schema : draft.ledger.schema ≡ first.ledger.schema
   pub all : length draft.ledger.accounts ≡ length first.ledger.accounts
@@ -30,8 +31,7 @@ pub record StandsFrom (first draft : DraftView) (arrivals : Arrivals) : Type 0 w
 pub record IsNewDraft (s : Layout) (sources parts part : ℕ) (draft : DraftView) : Type 0 where
   pub schema : draft.ledger.schema ≡ s
   pub all : length draft.ledger.accounts ≡ sources
-  pub cube : draft.cube.schema ≡ s
-  pub sets : draft.cube.sets ≡ sets_of_part part parts s.grouping_sets
+  pub over : IsPartOver s parts part draft.cube
   pub stands_at : LedgerStandsAt draft.ledger []
 
 -- these are the drafts of the first so many parts
@@ -45,7 +45,8 @@ pub record IsMadeOf (draft : DraftView) (builder : BuilderView) : Type 0 where
   pub same : SameSets draft.cube builder.cube
   pub has : HasFacts (all_facts draft.ledger.accounts) builder.cube
 
--- a part was made of what was fed to its draft: its builder is made of the draft, and has the links by which the feeds came
+-- a part was made of what was fed to its draft:
+-- its builder is made of the draft, and has the links by which the feeds came
 pub record IsMadePart (gatherer : Gatherer DraftView) (part : MadePart) : Type 0 where
   pub builder : IsMadeOf gatherer.builder part.builder
   pub inlets : part.inlets.items ≡ gatherer.inlets.items

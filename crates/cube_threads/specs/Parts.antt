@@ -1,7 +1,6 @@
 -- The builders of a run, each over its part of the schema's grouping sets (this project's choice).
 use Rattle.std.specs.Prelude.{◌≡◌, ◌<◌, ◌≤◌, ℕ, Bool, List, [], ◌∷◌, length, slice_index_or, Option}
 use Rattle.cube_core.specs.Arrival.{Arrivals}
-use Rattle.cube_core.specs.GroupingSet.{sets_of_part}
 use Rattle.cube_core.specs.Layout.{Layout}
 use Rattle.cube_core.specs.Query.{AreRowsWhere}
 use Rattle.cube_core.specs.Run.{Told, AreGood, AreTaken}
@@ -13,6 +12,7 @@ use Rattle.cube_cells.specs.Cube.{Lattice, IsCubeOf}
 use Rattle.cube_cells.specs.Rows.{IsRowOver}
 use Rattle.cube_engine.specs.Builder.{BuilderView, StandsAt}
 use Rattle.cube_engine.specs.Ledger.{LedgerView, all_facts}
+use Rattle.cube_engine.specs.Parted.{IsPartOver}
 use Rattle.cube_link.specs.Link.{Receiving}
 use Rattle.cube_feeders.specs.FeedingAll.{HasReceived}
 use Rattle.cube_feeders.specs.declared.parcel.Parcel.{Parcel}
@@ -27,7 +27,16 @@ pub record BuiltView : Type 0 where
 -- the ledger of no source, under a schema of no dimension
 abbrev pub no_ledger : LedgerView
 no_ledger = record {
-  schema = record { dimensions = []; measures = []; aggregates = []; aggregate_texts = []; max_records = 0; grouping_sets = []; version = 1; shard = whole_feed };
+  schema = record {
+    dimensions = [];
+    measures = [];
+    aggregates = [];
+    aggregate_texts = [];
+    max_records = 0;
+    grouping_sets = [];
+    version = 1;
+    shard = whole_feed;
+  };
   accounts = [];
 }
 
@@ -44,34 +53,40 @@ schema_of_run built = (first_ledger built.builders).schema
 abbrev pub facts_of_run : BuiltView → List Fact
 facts_of_run built = all_facts (first_ledger built.builders).accounts
 
--- a cube is a part, of so many, of the cube of some facts under a schema: it is over the grouping sets of the part, and its cells are those of the facts
+-- a cube is a part, of so many, of the cube of some facts under a schema:
+-- it is over the grouping sets of the part, and its cells are those of the facts
 pub record IsPartOf (s : Layout) (facts : List Fact) (parts part : ℕ) (cube : Lattice) : Type 0 where
-  pub schema : cube.schema ≡ s
-  pub sets : cube.sets ≡ sets_of_part part parts s.grouping_sets
+  pub over : IsPartOver s parts part cube
   pub cells : IsCubeOf cube facts
 
--- what is true of the builders of a run: there is one, and the cube of each is the part of its place of the cube of the facts in builder 0's books
+-- what is true of the builders of a run:
+-- there is one, and the cube of each is the part of its place of the cube of the facts in builder 0's books
 pub record AreParts (builders : List BuilderView) : Type 0 where
   pub some : 1 ≤ length builders
   pub each : (part : ℕ) (d : BuilderView) → part < length builders
-      → IsPartOf (first_ledger builders).schema (all_facts (first_ledger builders).accounts) (length builders) part (slice_index_or builders part d).cube
+      → IsPartOf (first_ledger builders).schema (all_facts (first_ledger builders).accounts) (length builders) part
+      (slice_index_or builders part d).cube
 
 -- these are the rows of the cube of a run's facts, over all grouping sets of its schema, whose keys pass a test
 abbrev pub AreRowsOfRun : (Key → Bool) → BuiltView → List Row → Type 0
 AreRowsOfRun test built rows =
-    AreRowsWhere test (schema_of_run built).grouping_sets (length (schema_of_run built).dimensions) (schema_of_run built).aggregates (facts_of_run built) rows
+    AreRowsWhere test (schema_of_run built).grouping_sets (length (schema_of_run built).dimensions)
+    (schema_of_run built).aggregates (facts_of_run built) rows
 
 -- the row of a key of the cube of a run's facts, over all grouping sets of its schema, or none where the key is no cell
 abbrev pub IsRowOfRun : Key → BuiltView → Option Row → Type 0
 IsRowOfRun key built row =
-    IsRowOver (schema_of_run built).grouping_sets (length (schema_of_run built).dimensions) (schema_of_run built).aggregates (facts_of_run built) key row
+    IsRowOver (schema_of_run built).grouping_sets (length (schema_of_run built).dimensions)
+    (schema_of_run built).aggregates (facts_of_run built) key row
 
--- the builder of a part stands at an arrival list of so many sources, over the part's grouping sets, and from each link were received a line for each item of its source, and then the end. Where a builder stands is told by what the list has of each source, so one list serves builders to which items of different sources came in different orders
-pub record PartStandsAt (s : Layout) (sources parts part : ℕ) (arrivals : Arrivals) (builder : BuilderView) (inlets : List (Receiving Parcel)) : Type 0 where
+-- the builder of a part stands at an arrival list of so many sources, over the part's grouping sets, and from each link
+-- were received a line for each item of its source, and then the end. Where a builder stands is told by what the list
+-- has of each source, so one list serves builders to which items of different sources came in different orders
+pub record PartStandsAt (s : Layout) (sources parts part : ℕ) (arrivals : Arrivals) (builder : BuilderView)
+    (inlets : List (Receiving Parcel)) : Type 0 where
   pub schema : builder.ledger.schema ≡ s
-  pub cube_schema : builder.cube.schema ≡ s
   pub all : length builder.ledger.accounts ≡ sources
-  pub sets : builder.cube.sets ≡ sets_of_part part parts s.grouping_sets
+  pub over : IsPartOver s parts part builder.cube
   pub stands : StandsAt builder arrivals
   pub received : HasReceived sources arrivals inlets
 
@@ -80,9 +95,11 @@ pub record StandsInParts (s : Layout) (sources parts : ℕ) (built : BuiltView) 
   pub builders : length built.builders ≡ parts
   pub inlets : length built.inlets ≡ parts
   pub each : (part : ℕ) (d : BuilderView) → part < parts
-      → PartStandsAt s sources parts part arrivals (slice_index_or built.builders part d) (slice_index_or built.inlets part [])
+      → PartStandsAt s sources parts part arrivals (slice_index_or built.builders part d)
+      (slice_index_or built.inlets part [])
 
--- so many builders have taken the feeds of all sources: every feed is good, and they stand at an arrival list that has of each source its feed's items
+-- so many builders have taken the feeds of all sources:
+-- every feed is good, and they stand at an arrival list that has of each source its feed's items
 pub record BuildsParts (s : Layout) (sources : Told) (parts : ℕ) (built : BuiltView) : Type 0 where
   pub good : AreGood s sources
   pub arrivals : Arrivals
@@ -93,5 +110,7 @@ pub record BuildsParts (s : Layout) (sources : Told) (parts : ℕ) (built : Buil
 pub record AreAllMade (gatherers : List (Gatherer DraftView)) (built : BuiltView) : Type 0 where
   pub builders : length built.builders ≡ length gatherers
   pub inlets : length built.inlets ≡ length gatherers
-  pub made : (part : ℕ) (g : Gatherer DraftView) (d : BuilderView) → part < length gatherers → IsMadeOf (slice_index_or gatherers part g).builder (slice_index_or built.builders part d)
-  pub links : (part : ℕ) (g : Gatherer DraftView) → part < length gatherers → slice_index_or built.inlets part [] ≡ (slice_index_or gatherers part g).inlets.items
+  pub made : (part : ℕ) (g : Gatherer DraftView) (d : BuilderView) → part < length gatherers
+      → IsMadeOf (slice_index_or gatherers part g).builder (slice_index_or built.builders part d)
+  pub links : (part : ℕ) (g : Gatherer DraftView) → part < length gatherers
+      → slice_index_or built.inlets part [] ≡ (slice_index_or gatherers part g).inlets.items

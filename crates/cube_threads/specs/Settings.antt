@@ -1,7 +1,8 @@
 -- The settings of a build in threads (this project's choice).
 use Rattle.std.specs.Prelude.{◌≤◌, ℕ}
 
--- the room of each link in parcels, the number of builders, and the most threads that work side by side once the feeds have ended
+-- the room of each link in parcels, the number of builders,
+-- and the most threads that work side by side once the feeds have ended
 pub record SettingsView : Type 0 where
   pub capacity : ℕ
   pub builders : ℕ

@@ -42,7 +42,8 @@ use Rattle.cube_tool.proofs.RunLaws.{OfFeeds-first, OfFeeds-whole_first, Wrote-w
 -- ---- what writing a text comes to
 
 -- a text of which less is said
-pub Writes-weaker : {T : Type 0} {P Q : List ℕ → Type 0} (result : Result T TextFault) (old new : Option (List ℕ)) → ((text : List ℕ) → P text → Q text)
+pub Writes-weaker : {T : Type 0} {P Q : List ℕ → Type 0} (result : Result T TextFault) (old new : Option (List ℕ))
+    → ((text : List ℕ) → P text → Q text)
     → Writes P result old new → Writes Q result old new
 Writes-weaker (Ok value) old new to wrote = Wrote-weaker to wrote
 Writes-weaker (Err text_fault.Full) old new to same = same
@@ -50,75 +51,104 @@ Writes-weaker (Err (text_fault.Write sent)) old new to wrote = WroteFirst-weaker
 
 -- ---- what a fault of the build leaves
 
-pub Leaves-feeding : (question : Question) (s : Layout) (sources : Told) (why : FeedingFault) (old new : Option (List ℕ)) → new ≡ old → ExplainsFeeding s sources why
+pub Leaves-feeding : (question : Question) (s : Layout) (sources : Told) (why : FeedingFault)
+    (old new : Option (List ℕ)) → new ≡ old → ExplainsFeeding s sources why
     → Leaves (ExplainsRun s sources) question s sources (fault_of_feeding why) old new
-Leaves-feeding question s sources feeding_fault.Memory old new same explains = (same, record { why = feeding_fault.Memory; is = refl; explains = explains })
-Leaves-feeding question s sources feeding_fault.NoThread old new same explains = (same, record { why = feeding_fault.NoThread; is = refl; explains = explains })
-Leaves-feeding question s sources (feeding_fault.Feed source fault) old new same explains = (same, record { why = feeding_fault.Feed source fault; is = refl; explains = explains })
-Leaves-feeding question s sources feeding_fault.Full old new same explains = (same, record { why = feeding_fault.Full; is = refl; explains = explains })
-Leaves-feeding question s sources (feeding_fault.Unsealed source) old new same explains = (same, record { why = feeding_fault.Unsealed source; is = refl; explains = explains })
+Leaves-feeding question s sources feeding_fault.Memory old new same explains =
+    (same, record { why = feeding_fault.Memory; is = refl; explains = explains })
+Leaves-feeding question s sources feeding_fault.NoThread old new same explains =
+    (same, record { why = feeding_fault.NoThread; is = refl; explains = explains })
+Leaves-feeding question s sources (feeding_fault.Feed source fault) old new same explains =
+    (same, record { why = feeding_fault.Feed source fault; is = refl; explains = explains })
+Leaves-feeding question s sources feeding_fault.Full old new same explains =
+    (same, record { why = feeding_fault.Full; is = refl; explains = explains })
+Leaves-feeding question s sources (feeding_fault.Unsealed source) old new same explains =
+    (same, record { why = feeding_fault.Unsealed source; is = refl; explains = explains })
 
-pub Leaves-build : (question : Question) (s : Layout) (sources : Told) (why : BuildFault) (old new : Option (List ℕ)) → new ≡ old → ExplainsBuild s sources why
+pub Leaves-build : (question : Question) (s : Layout) (sources : Told) (why : BuildFault) (old new : Option (List ℕ))
+    → new ≡ old → ExplainsBuild s sources why
     → Leaves (ExplainsPlainRun s sources) question s sources (fault_of_build why) old new
-Leaves-build question s sources build_fault.Memory old new same explains = (same, record { why = build_fault.Memory; is = refl; explains = explains })
-Leaves-build question s sources (build_fault.Feed source fault) old new same explains = (same, record { why = build_fault.Feed source fault; is = refl; explains = explains })
-Leaves-build question s sources build_fault.Full old new same explains = (same, record { why = build_fault.Full; is = refl; explains = explains })
+Leaves-build question s sources build_fault.Memory old new same explains =
+    (same, record { why = build_fault.Memory; is = refl; explains = explains })
+Leaves-build question s sources (build_fault.Feed source fault) old new same explains =
+    (same, record { why = build_fault.Feed source fault; is = refl; explains = explains })
+Leaves-build question s sources build_fault.Full old new same explains =
+    (same, record { why = build_fault.Full; is = refl; explains = explains })
 
 -- ---- what a fault of the text leaves
 
-pub Leaves-text : (question : Question) {s : Layout} {sources : Told} {parts : ℕ} {built : BuiltView} (why : TextFault) (old new : Option (List ℕ)) → 1 ≤ length built.builders
-    → BuildsParts s sources parts built → Writes {T = Unit {0}} (Tells question s (facts_of_run built) (refusals_of_run built)) (Err why) old new
+pub Leaves-text : (question : Question) {s : Layout} {sources : Told} {parts : ℕ} {built : BuiltView} (why : TextFault)
+    (old new : Option (List ℕ)) → 1 ≤ length built.builders
+    → BuildsParts s sources parts built
+    → Writes {T = Unit {0}} (Tells question s (facts_of_run built) (refusals_of_run built)) (Err why) old new
     → Leaves (ExplainsRun s sources) question s sources (fault_of_text why) old new
-Leaves-text question text_fault.Full old new some builds same = (same, record { why = feeding_fault.Full; is = refl; explains = builds.good })
+Leaves-text question text_fault.Full old new some builds same =
+    (same, record { why = feeding_fault.Full; is = refl; explains = builds.good })
 Leaves-text question (text_fault.Write sent) old new some builds wrote = OfFeeds-first some builds wrote
 
-pub Leaves-plain_text : (question : Question) {s : Layout} {sources : Told} {builder : BuilderView} (why : TextFault) (old new : Option (List ℕ))
-    → BuildsWhole s sources builder → Writes {T = Unit {0}} (Tells question s (all_facts builder.ledger.accounts) (refusals_of_accounts builder.ledger.accounts)) (Err why) old new
+pub Leaves-plain_text : (question : Question) {s : Layout} {sources : Told} {builder : BuilderView} (why : TextFault)
+    (old new : Option (List ℕ))
+    → BuildsWhole s sources builder → Writes {T = Unit {0}}
+    (Tells question s (all_facts builder.ledger.accounts) (refusals_of_accounts builder.ledger.accounts))
+    (Err why) old new
     → Leaves (ExplainsPlainRun s sources) question s sources (fault_of_text why) old new
-Leaves-plain_text question text_fault.Full old new builds same = (same, record { why = build_fault.Full; is = refl; explains = tt })
+Leaves-plain_text question text_fault.Full old new builds same =
+    (same, record { why = build_fault.Full; is = refl; explains = tt })
 Leaves-plain_text question (text_fault.Write sent) old new builds wrote = OfFeeds-whole_first builds wrote
 
 -- ---- rows of what was built
 
 -- rows of what was built are rows over the schema
-rows-where : (test : Key → Bool) (s : Layout) (built : BuiltView) (rows : List Row) → schema_of_run built ≡ s → AreRowsOfRun test built rows
+rows-where : (test : Key → Bool) (s : Layout) (built : BuiltView) (rows : List Row) → schema_of_run built ≡ s
+    → AreRowsOfRun test built rows
     → AreRowsWhere test s.grouping_sets (length s.dimensions) s.aggregates (facts_of_run built) rows
 rows-where test s built rows schema are =
-    subst (λ (l : Layout). AreRowsWhere test l.grouping_sets (length l.dimensions) l.aggregates (facts_of_run built) rows) schema are
+    subst
+    (λ (l : Layout). AreRowsWhere test l.grouping_sets (length l.dimensions) l.aggregates (facts_of_run built) rows)
+    schema are
 
 -- they have the schema's shape
-pub shapes : (test : Key → Bool) (s : Layout) (built : BuiltView) (rows : List Row) → schema_of_run built ≡ s → AllFit (schema_of_run built) (facts_of_run built)
+pub shapes : (test : Key → Bool) (s : Layout) (built : BuiltView) (rows : List Row) → schema_of_run built ≡ s
+    → AllFit (schema_of_run built) (facts_of_run built)
     → AreRowsOfRun test built rows → All (HasShapeOf s) rows
 shapes test s built rows schema fit are =
     HasShapeOf-AreRowsWhere test s (facts_of_run built) rows
-    (list_all-from_AllPass (fits s) (facts_of_run built) (subst (λ (l : Layout). AllFit l (facts_of_run built)) schema fit))
+    (list_all-from_AllPass (fits s) (facts_of_run built)
+    (subst (λ (l : Layout). AllFit l (facts_of_run built)) schema fit))
     (rows-where test s built rows schema are)
 
 -- their text is that of the rows that pass the test
-pub IsTextWhere-rows : (test : Key → Bool) (s : Layout) (built : BuiltView) (rows : List Row) (text : List ℕ) → schema_of_run built ≡ s → AreRowsOfRun test built rows
+pub IsTextWhere-rows : (test : Key → Bool) (s : Layout) (built : BuiltView) (rows : List Row) (text : List ℕ)
+    → schema_of_run built ≡ s → AreRowsOfRun test built rows
     → text ≡ text_of_rows s rows → IsTextWhere test s (facts_of_run built) text
-IsTextWhere-rows test s built rows text schema are is = record { rows = rows; are_rows = rows-where test s built rows schema are; text_is = is }
+IsTextWhere-rows test s built rows text schema are is =
+    record { rows = rows; are_rows = rows-where test s built rows schema are; text_is = is }
 
 -- the row of a key, or none, is the list of its rows
-pub AreRowsOfRun-key : (key : Key) (built : BuiltView) (row : Option Row) → IsRowOfRun key built row → AreRowsOfRun (is_key key) built (option_to_list row)
+pub AreRowsOfRun-key : (key : Key) (built : BuiltView) (row : Option Row) → IsRowOfRun key built row
+    → AreRowsOfRun (is_key key) built (option_to_list row)
 AreRowsOfRun-key key built (Some row) is = AreRowsWhere-IsRowOver _ _ _ _ key row is
 AreRowsOfRun-key key built None none = AreRowsWhere-none _ _ _ _ key none
 
 -- ---- answers
 
 -- a question that isn't refused, and whose text wasn't written whole
-pub Answers-text : (question : Question) (s : Layout) (facts : List Fact) (refusals : List (List Refusal)) (why : TextFault) (old new : Option (List ℕ)) → question_fault s question ≡ None
-    → Writes {T = Unit {0}} (Tells question s facts refusals) (Err why) old new → Answers {T = Unit {0}} question s facts refusals (Err (failure.Run (fault_of_text why))) old new
+pub Answers-text : (question : Question) (s : Layout) (facts : List Fact) (refusals : List (List Refusal))
+    (why : TextFault) (old new : Option (List ℕ)) → question_fault s question ≡ None
+    → Writes {T = Unit {0}} (Tells question s facts refusals) (Err why) old new
+    → Answers {T = Unit {0}} question s facts refusals (Err (failure.Run (fault_of_text why))) old new
 Answers-text question s facts refusals text_fault.Full old new lawful same = (same, lawful)
 Answers-text question s facts refusals (text_fault.Write sent) old new lawful wrote = wrote
 
 -- rows that are given hold, and there is nothing for which they would be refused
-pub GivesUnless-Ok : {T : Type 0} (said : Option QueryFault) (Holds : T → Type 0) (value : T) → GivesUnless said Holds (Ok value) → (said ≡ None) × Holds value
+pub GivesUnless-Ok : {T : Type 0} (said : Option QueryFault) (Holds : T → Type 0) (value : T)
+    → GivesUnless said Holds (Ok value) → (said ≡ None) × Holds value
 GivesUnless-Ok None Holds value holds = (refl, holds)
 GivesUnless-Ok (Some fault) Holds value told = let bad : Ok value ≡ Err fault = told in cc
 
 -- the fault for which none are
-pub GivesUnless-Err : {T : Type 0} (said : Option QueryFault) (Holds : T → Type 0) (fault : QueryFault) → GivesUnless said Holds (Err fault) → IsToldOf said fault
+pub GivesUnless-Err : {T : Type 0} (said : Option QueryFault) (Holds : T → Type 0) (fault : QueryFault)
+    → GivesUnless said Holds (Err fault) → IsToldOf said fault
 GivesUnless-Err None Holds fault memory = memory
 GivesUnless-Err {T = T} (Some why) Holds fault told =
     let first : Result T QueryFault = Err fault in
@@ -131,11 +161,14 @@ pub record DrillsDown (dimension : ℕ) (key : Key) (s : Layout) (built : BuiltV
   pub lawful : drill_fault s.grouping_sets dimension key ≡ None
   pub are_rows : AreRowsOfRun (drills_down dimension key) built rows
 
-pub DrillsDown-given : (dimension : ℕ) (key : Key) (s : Layout) (built : BuiltView) (rows : Vec Row) → schema_of_run built ≡ s
-    → GivesUnless (drill_fault (schema_of_run built).grouping_sets dimension key) (λ (rows : Vec Row). AreRowsOfRun (drills_down dimension key) built rows.items) (Ok rows)
+pub DrillsDown-given : (dimension : ℕ) (key : Key) (s : Layout) (built : BuiltView) (rows : Vec Row)
+    → schema_of_run built ≡ s
+    → GivesUnless (drill_fault (schema_of_run built).grouping_sets dimension key)
+    (λ (rows : Vec Row). AreRowsOfRun (drills_down dimension key) built rows.items) (Ok rows)
     → DrillsDown dimension key s built rows.items
 DrillsDown-given dimension key s built rows schema gives =
-    let given = GivesUnless-Ok (drill_fault (schema_of_run built).grouping_sets dimension key) (λ (rows : Vec Row). AreRowsOfRun (drills_down dimension key) built rows.items) rows gives in
+    let given = GivesUnless-Ok (drill_fault (schema_of_run built).grouping_sets dimension key)
+    (λ (rows : Vec Row). AreRowsOfRun (drills_down dimension key) built rows.items) rows gives in
     record {
       lawful = subst (λ (l : Layout). drill_fault l.grouping_sets dimension key ≡ None) schema given.0;
       are_rows = given.1;
@@ -143,12 +176,16 @@ DrillsDown-given dimension key s built rows schema gives =
 
 -- ---- what a failure of a question over feeds leaves
 
-pub FailsToAnswer-Answers : {s : Layout} {sources : Told} {parts : ℕ} {built : BuiltView} (question : Question) (why : Failure) (old new : Option (List ℕ)) → 1 ≤ length built.builders
-    → BuildsParts s sources parts built → Answers {T = Unit {0}} question s (facts_of_run built) (refusals_of_run built) (Err why) old new
+pub FailsToAnswer-Answers : {s : Layout} {sources : Told} {parts : ℕ} {built : BuiltView} (question : Question)
+    (why : Failure) (old new : Option (List ℕ)) → 1 ≤ length built.builders
+    → BuildsParts s sources parts built
+    → Answers {T = Unit {0}} question s (facts_of_run built) (refusals_of_run built) (Err why) old new
     → FailsToAnswer question s sources why old new
 FailsToAnswer-Answers question (failure.Query fault) old new some builds answers = (answers.0, builds.good, answers.1)
-FailsToAnswer-Answers question (failure.Run run_fault.Full) old new some builds answers = (answers.0, record { why = feeding_fault.Full; is = refl; explains = builds.good })
-FailsToAnswer-Answers question (failure.Run (run_fault.Write sent)) old new some builds answers = OfFeeds-first some builds answers
+FailsToAnswer-Answers question (failure.Run run_fault.Full) old new some builds answers =
+    (answers.0, record { why = feeding_fault.Full; is = refl; explains = builds.good })
+FailsToAnswer-Answers question (failure.Run (run_fault.Write sent)) old new some builds answers =
+    OfFeeds-first some builds answers
 FailsToAnswer-Answers question (failure.Run run_fault.Memory) old new some builds answers = absurd answers
 FailsToAnswer-Answers question (failure.Run run_fault.NoThread) old new some builds answers = absurd answers
 FailsToAnswer-Answers question (failure.Run (run_fault.Feed source fault)) old new some builds answers = absurd answers

@@ -7,10 +7,14 @@ use Rattle.cube_merge.specs.Merging.{IsMergeOf}
 use Rattle.cube_merge.specs.declared.fault.MergeFault.TheVariants as fault
 use Rattle.cube_tool.specs.MergingCubes.{CanBeMerged, CheckFails, MergeLeaves}
 use Rattle.cube_tool.specs.declared.command.failure.Failure.{Failure}
-use Rattle.cube_tool.specs.declared.command.failure.Failure.TheVariants.{Unreadable, Schema, TooManyFeeds, InputTaken, NoRandomKey, FeedUnreadable, Query, UnknownCode, Run, Session, TooManyCubes, SamePath, Merge}
+use Rattle.cube_tool.specs.declared.command.failure.Failure.TheVariants.{Unreadable, Schema, TooManyFeeds, InputTaken}
+use Rattle.cube_tool.specs.declared.command.failure.Failure.TheVariants.{NoRandomKey, FeedUnreadable, Query}
+use Rattle.cube_tool.specs.declared.command.failure.Failure.TheVariants.{UnknownCode, Run, Session, TooManyCubes}
+use Rattle.cube_tool.specs.declared.command.failure.Failure.TheVariants.{SamePath, Merge}
 
 -- what was merged can be
-pub CanBeMerged-merged : (given wanted : Layout) (texts : List (Option (List ℕ))) (old new : Option (List ℕ)) → IsMergeOf given wanted texts old new → CanBeMerged given wanted texts
+pub CanBeMerged-merged : (given wanted : Layout) (texts : List (Option (List ℕ))) (old new : Option (List ℕ))
+    → IsMergeOf given wanted texts old new → CanBeMerged given wanted texts
 CanBeMerged-merged given wanted texts old new merged = (
   text_of_rows wanted merged.rows,
   record {
@@ -29,7 +33,8 @@ CanBeMerged-merged given wanted texts old new merged = (
 )
 
 -- what a merge that failed says of its texts
-pub CheckFails-leaves : (given wanted : Layout) (texts : List (Option (List ℕ))) (failure : Failure) (old new : Option (List ℕ)) → MergeLeaves given wanted texts failure old new → CheckFails given texts failure
+pub CheckFails-leaves : (given wanted : Layout) (texts : List (Option (List ℕ))) (failure : Failure)
+    (old new : Option (List ℕ)) → MergeLeaves given wanted texts failure old new → CheckFails given texts failure
 CheckFails-leaves given wanted texts (Merge fault.Memory) old new leaves = tt
 CheckFails-leaves given wanted texts (Merge fault.Aggregates) old new leaves = tt
 CheckFails-leaves given wanted texts (Merge (fault.Input why input number)) old new leaves = leaves.1
@@ -48,5 +53,6 @@ CheckFails-leaves given wanted texts TooManyCubes old new leaves = absurd leaves
 CheckFails-leaves given wanted texts (SamePath input) old new leaves = absurd leaves
 
 -- the text of the path at a place
-pub text-at : (paths : List (Bor (List ℕ))) (place : ℕ) (d : Bor (List ℕ)) → place < length paths → get_or (map (λ (path : Bor (List ℕ)). path.now) paths) place [] ≡ (get_or paths place d).now
+pub text-at : (paths : List (Bor (List ℕ))) (place : ℕ) (d : Bor (List ℕ)) → place < length paths
+    → get_or (map (λ (path : Bor (List ℕ)). path.now) paths) place [] ≡ (get_or paths place d).now
 text-at paths place d inside = get_or-map (λ (path : Bor (List ℕ)). path.now) paths place d [] inside

@@ -13,18 +13,23 @@ use Rattle.cube_core.specs.declared.query.QueryFault.TheVariants.{Fields}
 use Rattle.cube_live.proofs.RequestLaws.{IfOk-if_Err, key-length, spelled-length}
 
 -- under a schema it has a field for each dimension
-pattern-length : (s : Layout) (word : List ℕ) → IfOk (pattern_of s word) (λ pattern. length pattern ≡ length s.dimensions)
+pattern-length : (s : Layout) (word : List ℕ)
+    → IfOk (pattern_of s word) (λ pattern. length pattern ≡ length s.dimensions)
 pattern-length s word = go (only_one (records_of word))
   where
-    go : (record_found : Option (List (List ℕ))) → IfOk (option_map_or (spelled_under s) record_found (Err Fields)) (λ pattern. length pattern ≡ length s.dimensions)
+    go : (record_found : Option (List (List ℕ))) → IfOk (option_map_or (spelled_under s) record_found (Err Fields))
+        (λ pattern. length pattern ≡ length s.dimensions)
     go None = tt
     go (Some fields) =
         IfOk-if_Err _ (length fields == length s.dimensions) (spelled_by fields) Fields
         (λ same. IfOk-weaker (spelled_by fields) _ _ (λ pattern long. long ∙ eqb-true _ _ same) (spelled-length fields))
 
 -- so the cell that a word spells has a coordinate for each dimension
-pub cell-length : (s : Layout) (word : List ℕ) (pattern : Wanted) (key : Key) → Ok pattern ≡ pattern_of s word → Ok key ≡ cell_of pattern
+pub cell-length : (s : Layout) (word : List ℕ) (pattern : Wanted) (key : Key) → Ok pattern ≡ pattern_of s word
+    → Ok key ≡ cell_of pattern
     → length key.coords ≡ length s.dimensions
 cell-length s word pattern key spelled is =
-    subst (λ (r : Result Key QueryFault). IfOk r (λ key. length key.coords ≡ length pattern)) (sym is) (key-length pattern)
-    ∙ subst (λ (r : Result Wanted QueryFault). IfOk r (λ pattern. length pattern ≡ length s.dimensions)) (sym spelled) (pattern-length s word)
+    subst (λ (r : Result Key QueryFault). IfOk r (λ key. length key.coords ≡ length pattern)) (sym is)
+    (key-length pattern)
+    ∙ subst (λ (r : Result Wanted QueryFault). IfOk r (λ pattern. length pattern ≡ length s.dimensions)) (sym spelled)
+    (pattern-length s word)

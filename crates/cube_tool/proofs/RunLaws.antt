@@ -35,7 +35,8 @@ pub record StandsUnder (s : Layout) (sources : ℕ) (arrivals : Arrivals) (ledge
   pub stands : LedgerStandsAt ledger arrivals
 
 -- its facts survive together
-survives : {s : Layout} {sources : ℕ} {arrivals : Arrivals} {ledger : LedgerView} → StandsUnder s sources arrivals ledger
+survives : {s : Layout} {sources : ℕ} {arrivals : Arrivals} {ledger : LedgerView}
+    → StandsUnder s sources arrivals ledger
     → SurviveTogether s (of_sources sources arrivals) (all_facts ledger.accounts)
 survives {sources = sources} {arrivals = arrivals} {ledger = ledger} under =
     subst (λ (l : Layout). SurviveTogether l (of_sources sources arrivals) (all_facts ledger.accounts)) under.schema
@@ -43,29 +44,37 @@ survives {sources = sources} {arrivals = arrivals} {ledger = ledger} under =
     (SurviveTogether-stands ledger arrivals under.stands))
 
 -- its refusals are those of the feeds
-pub refused-under : {s : Layout} {sources : ℕ} {arrivals : Arrivals} {ledger : LedgerView} → StandsUnder s sources arrivals ledger
+pub refused-under : {s : Layout} {sources : ℕ} {arrivals : Arrivals} {ledger : LedgerView}
+    → StandsUnder s sources arrivals ledger
     → refusals_of_accounts ledger.accounts ≡ map (refusals_of s) (of_sources sources arrivals)
 refused-under {s = s} {sources = sources} {arrivals = arrivals} {ledger = ledger} under =
     refusals-each s (of_sources sources arrivals) ledger.accounts
     (subst (λ (l : Layout). AllZip (AccountStandsAt l) (of_sources sources arrivals) ledger.accounts) under.schema
-    (subst (λ (n : ℕ). AllZip (AccountStandsAt ledger.schema) (of_sources n arrivals) ledger.accounts) under.all under.stands))
+    (subst (λ (n : ℕ). AllZip (AccountStandsAt ledger.schema) (of_sources n arrivals) ledger.accounts)
+    under.all under.stands))
 
 -- a text that tells what is asked of its facts and refusals is that of the question over the feeds
-pub IsTextOf-Tells : {s : Layout} {sources : ℕ} {arrivals : Arrivals} {ledger : LedgerView} (question : Question) (text : List ℕ) → StandsUnder s sources arrivals ledger
-    → Tells question s (all_facts ledger.accounts) (refusals_of_accounts ledger.accounts) text → IsTextOf question s (of_sources sources arrivals) text
+pub IsTextOf-Tells : {s : Layout} {sources : ℕ} {arrivals : Arrivals} {ledger : LedgerView} (question : Question)
+    (text : List ℕ) → StandsUnder s sources arrivals ledger
+    → Tells question s (all_facts ledger.accounts) (refusals_of_accounts ledger.accounts) text
+    → IsTextOf question s (of_sources sources arrivals) text
 IsTextOf-Tells {s = s} {ledger = ledger} question text under tells = record {
   facts = all_facts ledger.accounts;
   survive = survives under;
-  tells = subst (λ (r : List (List Refusal)). Tells question s (all_facts ledger.accounts) r text) (refused-under under) tells;
+  tells = subst (λ (r : List (List Refusal)). Tells question s (all_facts ledger.accounts) r text)
+      (refused-under under) tells;
 }
 
 -- ---- what was written
 
-pub Wrote-weaker : {P Q : List ℕ → Type 0} {old new : Option (List ℕ)} → ((text : List ℕ) → P text → Q text) → Wrote P old new → Wrote Q old new
+pub Wrote-weaker : {P Q : List ℕ → Type 0} {old new : Option (List ℕ)} → ((text : List ℕ) → P text → Q text)
+    → Wrote P old new → Wrote Q old new
 Wrote-weaker to wrote = record { text = wrote.text; holds = to wrote.text wrote.holds; written = wrote.written }
 
-pub WroteFirst-weaker : {P Q : List ℕ → Type 0} {sent : ℕ} {old new : Option (List ℕ)} → ((text : List ℕ) → P text → Q text) → WroteFirst P sent old new → WroteFirst Q sent old new
-WroteFirst-weaker to wrote = record { text = wrote.text; holds = to wrote.text wrote.holds; within = wrote.within; written = wrote.written }
+pub WroteFirst-weaker : {P Q : List ℕ → Type 0} {sent : ℕ} {old new : Option (List ℕ)}
+    → ((text : List ℕ) → P text → Q text) → WroteFirst P sent old new → WroteFirst Q sent old new
+WroteFirst-weaker to wrote =
+    record { text = wrote.text; holds = to wrote.text wrote.holds; within = wrote.within; written = wrote.written }
 
 -- ---- the build in parts
 
@@ -83,7 +92,8 @@ StandsOver-arrivals Stands sources arrivals stands = record {
 }
 
 -- the ledger of builder 0 stands where its part does
-first-stands : (s : Layout) (sources parts : ℕ) (arrivals : Arrivals) (builders : List BuilderView) (inlets : List (List (Receiving Parcel))) → 1 ≤ length builders
+first-stands : (s : Layout) (sources parts : ℕ) (arrivals : Arrivals) (builders : List BuilderView)
+    (inlets : List (List (Receiving Parcel))) → 1 ≤ length builders
     → ((d : BuilderView) → PartStandsAt s sources parts 0 arrivals (get_or builders 0 d) (get_or inlets 0 []))
     → StandsUnder s sources arrivals (first_ledger builders)
 first-stands s sources parts arrivals [] inlets some stands = absurd (omega arith)
@@ -91,31 +101,40 @@ first-stands s sources parts arrivals (builder ∷ builders) inlets some stands 
     record { schema = (stands builder).schema; all = (stands builder).all; stands = (stands builder).stands.ledger }
 
 -- so it does after a build
-pub StandsUnder-BuildsParts : {s : Layout} {sources : Told} {parts : ℕ} {built : BuiltView} → 1 ≤ length built.builders → (builds : BuildsParts s sources parts built)
+pub StandsUnder-BuildsParts : {s : Layout} {sources : Told} {parts : ℕ} {built : BuiltView} → 1 ≤ length built.builders
+    → (builds : BuildsParts s sources parts built)
     → StandsUnder s (length sources) builds.arrivals (first_ledger built.builders)
 StandsUnder-BuildsParts {s = s} {sources = sources} {parts = parts} {built = built} some builds =
     let count = builds.stands.builders in
-    first-stands s (length sources) parts builds.arrivals built.builders built.inlets some (λ d. builds.stands.each 0 d (omega arith))
+    first-stands s (length sources) parts builds.arrivals built.builders built.inlets some
+    (λ d. builds.stands.each 0 d (omega arith))
 
-HasTaken-BuildsParts : {s : Layout} {sources : Told} {parts : ℕ} {built : BuiltView} → (builds : BuildsParts s sources parts built)
+HasTaken-BuildsParts : {s : Layout} {sources : Told} {parts : ℕ} {built : BuiltView}
+    → (builds : BuildsParts s sources parts built)
     → HasTaken s parts (of_sources (length sources) builds.arrivals) built
 HasTaken-BuildsParts {s = s} {sources = sources} {parts = parts} {built = built} builds =
     StandsOver-arrivals (λ n. StandsInParts s n parts built) (length sources) builds.arrivals builds.stands
 
 -- a text that tells what is asked of what was built was written: it is that of the feeds
-pub OfFeeds-BuildsParts : {s : Layout} {sources : Told} {parts : ℕ} {built : BuiltView} {question : Question} {old new : Option (List ℕ)} → 1 ≤ length built.builders
+pub OfFeeds-BuildsParts : {s : Layout} {sources : Told} {parts : ℕ} {built : BuiltView} {question : Question}
+    {old new : Option (List ℕ)} → 1 ≤ length built.builders
     → BuildsParts s sources parts built → Wrote (Tells question s (facts_of_run built) (refusals_of_run built)) old new
     → OfFeeds s sources (λ feeds. Wrote (IsTextOf question s feeds) old new × HasTaken s parts feeds built)
 OfFeeds-BuildsParts {sources = sources} {question = question} some builds wrote = record {
   feeds = of_sources (length sources) builds.arrivals;
   good = builds.good;
   items = builds.taken;
-  holds = (Wrote-weaker (λ text. IsTextOf-Tells question text (StandsUnder-BuildsParts some builds)) wrote, HasTaken-BuildsParts builds);
+  holds = (
+    Wrote-weaker (λ text. IsTextOf-Tells question text (StandsUnder-BuildsParts some builds)) wrote,
+    HasTaken-BuildsParts builds,
+  );
 }
 
 -- the first bytes of it
-pub OfFeeds-first : {s : Layout} {sources : Told} {parts : ℕ} {built : BuiltView} {question : Question} {sent : ℕ} {old new : Option (List ℕ)} → 1 ≤ length built.builders
-    → BuildsParts s sources parts built → WroteFirst (Tells question s (facts_of_run built) (refusals_of_run built)) sent old new
+pub OfFeeds-first : {s : Layout} {sources : Told} {parts : ℕ} {built : BuiltView} {question : Question} {sent : ℕ}
+    {old new : Option (List ℕ)} → 1 ≤ length built.builders
+    → BuildsParts s sources parts built
+    → WroteFirst (Tells question s (facts_of_run built) (refusals_of_run built)) sent old new
     → OfFeeds s sources (λ feeds. WroteFirst (IsTextOf question s feeds) sent old new)
 OfFeeds-first {sources = sources} {question = question} some builds wrote = record {
   feeds = of_sources (length sources) builds.arrivals;
@@ -125,26 +144,38 @@ OfFeeds-first {sources = sources} {question = question} some builds wrote = reco
 }
 
 -- the same with the status by the refusals
-pub OfFeeds-status : {s : Layout} {sources : Told} {parts : ℕ} {built : BuiltView} {question : Question} {status : Status} {old new : Option (List ℕ)} → 1 ≤ length built.builders
-    → BuildsParts s sources parts built → status ≡ status_after (refusals_of_run built) → Wrote (Tells question s (facts_of_run built) (refusals_of_run built)) old new
-    → OfFeeds s sources (λ feeds. Wrote (IsTextOf question s feeds) old new × (status ≡ status_over s feeds) × HasTaken s parts feeds built)
+pub OfFeeds-status : {s : Layout} {sources : Told} {parts : ℕ} {built : BuiltView} {question : Question}
+    {status : Status} {old new : Option (List ℕ)} → 1 ≤ length built.builders
+    → BuildsParts s sources parts built → status ≡ status_after (refusals_of_run built)
+    → Wrote (Tells question s (facts_of_run built) (refusals_of_run built)) old new
+    → OfFeeds s sources
+    (λ feeds. Wrote (IsTextOf question s feeds) old new × (status ≡ status_over s feeds) × HasTaken s parts feeds built)
 OfFeeds-status {sources = sources} {question = question} some builds status_is wrote =
     let under = StandsUnder-BuildsParts some builds in
     record {
       feeds = of_sources (length sources) builds.arrivals;
       good = builds.good;
       items = builds.taken;
-      holds = (Wrote-weaker (λ text. IsTextOf-Tells question text under) wrote, status_is ∙ ap status_after (refused-under under), HasTaken-BuildsParts builds);
+      holds = (
+        Wrote-weaker (λ text. IsTextOf-Tells question text under) wrote,
+        status_is ∙ ap status_after (refused-under under),
+        HasTaken-BuildsParts builds,
+      );
     }
 
 -- ---- the build on one thread
 
-StandsUnder-BuildsWhole : {s : Layout} {sources : Told} {builder : BuilderView} → (builds : BuildsWhole s sources builder)
+StandsUnder-BuildsWhole : {s : Layout} {sources : Told} {builder : BuilderView}
+    → (builds : BuildsWhole s sources builder)
     → StandsUnder s (length sources) builds.ledger.arrivals builder.ledger
-StandsUnder-BuildsWhole builds = record { schema = builds.ledger.schema; all = builds.ledger.all; stands = builds.ledger.stands }
+StandsUnder-BuildsWhole builds =
+    record { schema = builds.ledger.schema; all = builds.ledger.all; stands = builds.ledger.stands }
 
-pub OfFeeds-BuildsWhole : {s : Layout} {sources : Told} {builder : BuilderView} {question : Question} {old new : Option (List ℕ)}
-    → BuildsWhole s sources builder → Wrote (Tells question s (all_facts builder.ledger.accounts) (refusals_of_accounts builder.ledger.accounts)) old new
+pub OfFeeds-BuildsWhole : {s : Layout} {sources : Told} {builder : BuilderView} {question : Question}
+    {old new : Option (List ℕ)}
+    → BuildsWhole s sources builder
+    → Wrote (Tells question s (all_facts builder.ledger.accounts) (refusals_of_accounts builder.ledger.accounts))
+    old new
     → OfFeeds s sources (λ feeds. Wrote (IsTextOf question s feeds) old new × StandsOver (StandsAt builder) feeds)
 OfFeeds-BuildsWhole {sources = sources} {builder = builder} {question = question} builds wrote = record {
   feeds = of_sources (length sources) builds.ledger.arrivals;
@@ -152,12 +183,16 @@ OfFeeds-BuildsWhole {sources = sources} {builder = builder} {question = question
   items = builds.ledger.taken;
   holds = (
     Wrote-weaker (λ text. IsTextOf-Tells question text (StandsUnder-BuildsWhole builds)) wrote,
-    StandsOver-arrivals (λ n. StandsAt builder) (length sources) builds.ledger.arrivals (record { ledger = builds.ledger.stands; cube = builds.cube }),
+    StandsOver-arrivals (λ n. StandsAt builder) (length sources) builds.ledger.arrivals
+        (record { ledger = builds.ledger.stands; cube = builds.cube }),
   );
 }
 
-pub OfFeeds-whole_first : {s : Layout} {sources : Told} {builder : BuilderView} {question : Question} {sent : ℕ} {old new : Option (List ℕ)}
-    → BuildsWhole s sources builder → WroteFirst (Tells question s (all_facts builder.ledger.accounts) (refusals_of_accounts builder.ledger.accounts)) sent old new
+pub OfFeeds-whole_first : {s : Layout} {sources : Told} {builder : BuilderView} {question : Question} {sent : ℕ}
+    {old new : Option (List ℕ)}
+    → BuildsWhole s sources builder
+    → WroteFirst (Tells question s (all_facts builder.ledger.accounts) (refusals_of_accounts builder.ledger.accounts))
+    sent old new
     → OfFeeds s sources (λ feeds. WroteFirst (IsTextOf question s feeds) sent old new)
 OfFeeds-whole_first {sources = sources} {question = question} builds wrote = record {
   feeds = of_sources (length sources) builds.ledger.arrivals;
@@ -169,23 +204,36 @@ OfFeeds-whole_first {sources = sources} {question = question} builds wrote = rec
 -- ---- a builder that stands over feeds
 
 -- the refusals of a builder that stands over feeds are theirs
-pub refused-StandsOver : {s : Layout} {feeds : List (List Item)} {builder : BuilderView} → builder.ledger.schema ≡ s → length builder.ledger.accounts ≡ length feeds
+pub refused-StandsOver : {s : Layout} {feeds : List (List Item)} {builder : BuilderView} → builder.ledger.schema ≡ s
+    → length builder.ledger.accounts ≡ length feeds
     → StandsOver (StandsAt builder) feeds → refusals_of_accounts builder.ledger.accounts ≡ map (refusals_of s) feeds
 refused-StandsOver {s = s} {feeds = feeds} {builder = builder} schema all over =
-    let under : StandsUnder s (length feeds) over.arrivals builder.ledger = record { schema = schema; all = all; stands = over.stands.ledger } in
+    let under : StandsUnder s (length feeds) over.arrivals builder.ledger =
+    record { schema = schema; all = all; stands = over.stands.ledger } in
     refused-under under ∙ ap (map (refusals_of s)) over.same
 
 -- so is the status by its refusals, of a run over the sources of the sample
-pub OfFeeds-sample : {s : Layout} {sources : Told} {builder : BuilderView} {status : Status} {old new : Option (List ℕ)} (question : Question) (under : Layout) (told : Told) → under ≡ s → told ≡ sources
-    → builder.ledger.schema ≡ under → length builder.ledger.accounts ≡ length told → status ≡ status_after (refusals_of_accounts builder.ledger.accounts)
+pub OfFeeds-sample : {s : Layout} {sources : Told} {builder : BuilderView} {status : Status} {old new : Option (List ℕ)}
+    (question : Question) (under : Layout) (told : Told) → under ≡ s → told ≡ sources
+    → builder.ledger.schema ≡ under → length builder.ledger.accounts ≡ length told
+    → status ≡ status_after (refusals_of_accounts builder.ledger.accounts)
     → OfFeeds under told (λ feeds. Wrote (IsTextOf question under feeds) old new × StandsOver (StandsAt builder) feeds)
     → OfFeeds s sources (λ feeds. Wrote (IsTextOf question s feeds) old new × (status ≡ status_over s feeds))
-OfFeeds-sample {sources = sources} {builder = builder} {status = status} {old = old} {new = new} question under told schema_is told_is schema all status_is of =
-    let answers : OfFeeds under told (λ feeds. Wrote (IsTextOf question under feeds) old new × (status ≡ status_over under feeds)) = record {
+OfFeeds-sample {sources = sources} {builder = builder} {status = status} {old = old}
+    {new = new} question under told schema_is told_is schema all status_is of =
+    let answers :
+    OfFeeds under told (λ feeds. Wrote (IsTextOf question under feeds) old new × (status ≡ status_over under feeds)) =
+    record {
       feeds = of.feeds;
       good = of.good;
       items = of.items;
-      holds = (of.holds.0, status_is ∙ ap status_after (refused-StandsOver {builder = builder} schema (all ∙ AllZip-length (AreItemsOf under) told of.feeds of.items) of.holds.1));
+      holds = (
+        of.holds.0,
+        status_is ∙ ap status_after (refused-StandsOver {builder = builder} schema
+            (all ∙ AllZip-length (AreItemsOf under) told of.feeds of.items) of.holds.1),
+      );
     } in
-    subst (λ (l : Layout). OfFeeds l sources (λ feeds. Wrote (IsTextOf question l feeds) old new × (status ≡ status_over l feeds))) schema_is
-    (subst (λ (t : Told). OfFeeds under t (λ feeds. Wrote (IsTextOf question under feeds) old new × (status ≡ status_over under feeds))) told_is answers)
+    subst (λ (l : Layout).
+    OfFeeds l sources (λ feeds. Wrote (IsTextOf question l feeds) old new × (status ≡ status_over l feeds))) schema_is
+    (subst (λ (t : Told). OfFeeds under t
+    (λ feeds. Wrote (IsTextOf question under feeds) old new × (status ≡ status_over under feeds))) told_is answers)

@@ -17,11 +17,14 @@ use Rattle.cube_tool.specs.declared.command.status.Status.{Status}
 use Rattle.cube_tool.proofs.RunLaws.{StandsUnder, refused-under}
 
 -- a session that was opened over feeds and served to its end
-served-over : {s : Layout} {sources : Told} (before after : LiveView) (records : Option (List (List (List ℕ)))) (status : Status) (old new : Option (List ℕ))
-    → OpensOver s sources (LiveStandsAt before) → IsLive s after.ledger after.numbers → status ≡ status_after (refusals_of_accounts after.ledger.accounts)
+served-over : {s : Layout} {sources : Told} (before after : LiveView) (records : Option (List (List (List ℕ))))
+    (status : Status) (old new : Option (List ℕ))
+    → OpensOver s sources (LiveStandsAt before) → IsLive s after.ledger after.numbers
+    → status ≡ status_after (refusals_of_accounts after.ledger.accounts)
     → IfSome records (λ taken. Serves s taken before after old new)
     → OfFeeds s sources (λ feeds. IfSome records (λ taken. ServesOver s feeds taken status old new))
-served-over before after None status old new opens live is serves = record { feeds = opens.feeds; good = opens.good; items = opens.items; holds = tt }
+served-over before after None status old new opens live is serves =
+    record { feeds = opens.feeds; good = opens.good; items = opens.items; holds = tt }
 served-over {s = s} before after (Some taken) status old new opens live is serves =
     let served = serves opens.start opens.stands in
     let whole : take (length taken) taken ≡ taken = take_all (length taken) taken (omega arith) in
@@ -39,25 +42,31 @@ served-over {s = s} before after (Some taken) status old new opens live is serve
         starts = opens.starts;
         replied = record {
           text = served.0.text;
-          holds = subst (λ (rs : List (List (List ℕ))). AreReplies s opens.start rs served.0.text) whole served.0.replies;
+          holds =
+              subst (λ (rs : List (List (List ℕ))). AreReplies s opens.start rs served.0.text) whole served.0.replies;
           written = served.0.written;
         };
         status_is = is ∙ ap status_after (refused-under under);
       };
     }
 
-pub OfFeeds-served : {s : Layout} {sources : Told} (before after : LiveView) (records : Option (List (List (List ℕ)))) (status : Status) (old new : Option (List ℕ)) → before.schema ≡ s
-    → OpensOver s sources (LiveStandsAt before) → IsLive s after.ledger after.numbers → status ≡ status_after (refusals_of_accounts after.ledger.accounts)
+pub OfFeeds-served : {s : Layout} {sources : Told} (before after : LiveView) (records : Option (List (List (List ℕ))))
+    (status : Status) (old new : Option (List ℕ)) → before.schema ≡ s
+    → OpensOver s sources (LiveStandsAt before) → IsLive s after.ledger after.numbers
+    → status ≡ status_after (refusals_of_accounts after.ledger.accounts)
     → IfSome records (λ taken. Serves before.schema taken before after old new)
     → OfFeeds s sources (λ feeds. IfSome records (λ taken. ServesOver s feeds taken status old new))
 OfFeeds-served before after records status old new schema opens live is serves =
-    served-over before after records status old new opens live is (subst (λ (l : Layout). IfSome records (λ taken. Serves l taken before after old new)) schema serves)
+    served-over before after records status old new opens live is
+    (subst (λ (l : Layout). IfSome records (λ taken. Serves l taken before after old new)) schema serves)
 
 -- one that ended before its records did
-broken-over : {s : Layout} {sources : Told} (before : LiveView) (records : Option (List (List (List ℕ)))) (fault : SessionFault) (old new : Option (List ℕ))
+broken-over : {s : Layout} {sources : Told} (before : LiveView) (records : Option (List (List (List ℕ))))
+    (fault : SessionFault) (old new : Option (List ℕ))
     → OpensOver s sources (LiveStandsAt before) → IfSome records (λ taken. ServingFails s taken fault before old new)
     → OfFeeds s sources (λ feeds. IfSome records (λ taken. BreaksOver s feeds taken fault old new))
-broken-over before None fault old new opens fails = record { feeds = opens.feeds; good = opens.good; items = opens.items; holds = tt }
+broken-over before None fault old new opens fails =
+    record { feeds = opens.feeds; good = opens.good; items = opens.items; holds = tt }
 broken-over before (Some taken) fault old new opens fails = record {
   feeds = opens.feeds;
   good = opens.good;
@@ -65,8 +74,11 @@ broken-over before (Some taken) fault old new opens fails = record {
   holds = record { start = opens.start; starts = opens.starts; leaves = fails opens.start opens.stands };
 }
 
-pub OfFeeds-broken : {s : Layout} {sources : Told} (before : LiveView) (records : Option (List (List (List ℕ)))) (fault : SessionFault) (old new : Option (List ℕ)) → before.schema ≡ s
-    → OpensOver s sources (LiveStandsAt before) → IfSome records (λ taken. ServingFails before.schema taken fault before old new)
+pub OfFeeds-broken : {s : Layout} {sources : Told} (before : LiveView) (records : Option (List (List (List ℕ))))
+    (fault : SessionFault) (old new : Option (List ℕ)) → before.schema ≡ s
+    → OpensOver s sources (LiveStandsAt before)
+    → IfSome records (λ taken. ServingFails before.schema taken fault before old new)
     → OfFeeds s sources (λ feeds. IfSome records (λ taken. BreaksOver s feeds taken fault old new))
 OfFeeds-broken before records fault old new schema opens fails =
-    broken-over before records fault old new opens (subst (λ (l : Layout). IfSome records (λ taken. ServingFails l taken fault before old new)) schema fails)
+    broken-over before records fault old new opens
+    (subst (λ (l : Layout). IfSome records (λ taken. ServingFails l taken fault before old new)) schema fails)

@@ -27,7 +27,8 @@ use Rattle.cube_tool.specs.declared.command.failure.Failure.TheVariants.{Query, 
 abbrev pub refusals_of_run : BuiltView → List (List Refusal)
 refusals_of_run built = map (λ account. account.refusals) (first_ledger built.builders).accounts
 
--- a question can be asked under a schema: a drill-down or a roll-up is along one of its dimensions, from a key with a coordinate for each
+-- a question can be asked under a schema: a drill-down or a roll-up is along one of its dimensions,
+-- from a key with a coordinate for each
 abbrev pub Fits : Layout → Question → Type 0
 Fits s Cube = ⊤
 Fits s (Slice pattern) = ⊤
@@ -53,18 +54,22 @@ abbrev pub IsQueryFault : Layout → Question → QueryFault → Type 0
 IsQueryFault s (Drill key dimension) fault = IsToldOf (drill_fault s.grouping_sets dimension key) fault
 IsQueryFault s _ fault = ⊥
 
--- what writing a text of which this holds comes to: it was written whole, or its first bytes, as many as the fault says, or for want of memory nothing
+-- what writing a text of which this holds comes to:
+-- it was written whole, or its first bytes, as many as the fault says, or for want of memory nothing
 abbrev pub Writes : {T : Type 0} → (List ℕ → Type 0) → Result T TextFault → Option (List ℕ) → Option (List ℕ) → Type 0
 Writes Holds (Ok _) old new = Wrote Holds old new
 Writes Holds (Err text_fault.Full) old new = new ≡ old
 Writes Holds (Err (text_fault.Write sent)) old new = WroteFirst Holds sent old new
 
--- what answering a question over these facts and refusals comes to: its text was written whole, or its first bytes, as many as the failure says, or nothing, where the question is refused or memory ran out
-abbrev pub Answers : {T : Type 0} → Question → Layout → List Fact → List (List Refusal) → Result T Failure → Option (List ℕ) → Option (List ℕ) → Type 0
+-- what answering a question over these facts and refusals comes to: its text was written whole, or its first bytes,
+-- as many as the failure says, or nothing, where the question is refused or memory ran out
+abbrev pub Answers : {T : Type 0} → Question → Layout → List Fact → List (List Refusal) → Result T Failure
+    → Option (List ℕ) → Option (List ℕ) → Type 0
 Answers question s facts refusals (Ok _) old new = Wrote (Tells question s facts refusals) old new
 Answers question s facts refusals (Err (Query fault)) old new = (new ≡ old) × IsQueryFault s question fault
 Answers question s facts refusals (Err (Run run_fault.Full)) old new = (new ≡ old) × (question_fault s question ≡ None)
-Answers question s facts refusals (Err (Run (run_fault.Write sent))) old new = WroteFirst (Tells question s facts refusals) sent old new
+Answers question s facts refusals (Err (Run (run_fault.Write sent))) old new =
+    WroteFirst (Tells question s facts refusals) sent old new
 Answers question s facts refusals (Err _) old new = ⊥
 
 -- the status of a question over feeds that was answered: it tells whether a line of a feed was refused
@@ -75,7 +80,8 @@ status_over s feeds = status_after (map (refusals_of s) feeds)
 abbrev pub HasTaken : Layout → ℕ → List (List Item) → BuiltView → Type 0
 HasTaken s parts feeds built = StandsOver (StandsInParts s (length feeds) parts built) feeds
 
--- what a failure of a question over feeds leaves: nothing was written where the question is refused, and that is told only after all feeds were taken
+-- what a failure of a question over feeds leaves:
+-- nothing was written where the question is refused, and that is told only after all feeds were taken
 abbrev pub FailsToAnswer : Question → Layout → Told → Failure → Option (List ℕ) → Option (List ℕ) → Type 0
 FailsToAnswer question s sources (Run fault) old new = Leaves (ExplainsRun s sources) question s sources fault old new
 FailsToAnswer question s sources (Query fault) old new = (new ≡ old) × AreGood s sources × IsQueryFault s question fault
@@ -87,7 +93,8 @@ SampleLeaves s sources (Schema fault) old new = (fault ≡ schema_fault.Memory) 
 SampleLeaves s sources (Run fault) old new = Leaves (ExplainsPlainRun s sources) Cube s sources fault old new
 SampleLeaves s sources _ old new = ⊥
 
--- what showing a text comes to, of which nothing is said: it was written whole, or its first bytes, as many as the failure says, or for want of memory nothing
+-- what showing a text comes to, of which nothing is said:
+-- it was written whole, or its first bytes, as many as the failure says, or for want of memory nothing
 abbrev pub ShowsText : Result Status Failure → Option (List ℕ) → Option (List ℕ) → Type 0
 ShowsText (Ok status) old new = (status ≡ Done) × Wrote (λ text. ⊤) old new
 ShowsText (Err (Run run_fault.Full)) old new = new ≡ old

@@ -11,9 +11,13 @@ use Rattle.cube_core.specs.declared.schema_fault.SchemaFault.TheVariants as sche
 use Rattle.cube_live.specs.Request.{cell_by}
 use Rattle.cube_tool.specs.declared.fault.RunFault.TheVariants as run_fault
 use Rattle.cube_tool.specs.declared.command.status.Status.{Status}
-use Rattle.cube_tool.specs.declared.command.status.Status.TheVariants.{Done, Failed, WrongWords, WrongSchema, LinesRefused}
+use Rattle.cube_tool.specs.declared.command.status.Status.TheVariants.{Done, Failed, WrongWords, WrongSchema}
+use Rattle.cube_tool.specs.declared.command.status.Status.TheVariants.{LinesRefused}
 use Rattle.cube_tool.specs.declared.command.failure.Failure.{Failure}
-use Rattle.cube_tool.specs.declared.command.failure.Failure.TheVariants.{Unreadable, Schema, TooManyFeeds, InputTaken, NoRandomKey, FeedUnreadable, Query, UnknownCode, Run, Session, TooManyCubes, SamePath, Merge}
+use Rattle.cube_tool.specs.declared.command.failure.Failure.TheVariants.{Unreadable, Schema, TooManyFeeds, InputTaken}
+use Rattle.cube_tool.specs.declared.command.failure.Failure.TheVariants.{NoRandomKey, FeedUnreadable, Query}
+use Rattle.cube_tool.specs.declared.command.failure.Failure.TheVariants.{UnknownCode, Run, Session, TooManyCubes}
+use Rattle.cube_tool.specs.declared.command.failure.Failure.TheVariants.{SamePath, Merge}
 
 -- the number of a status
 abbrev pub status_code : Status → ℕ
@@ -49,7 +53,8 @@ status_after ((refusal ∷ refusals) ∷ sources) = LinesRefused
 abbrev pub schema_limit : ℕ
 schema_limit = 1048576
 
--- what may be answered to a schema file: what its bytes say where they aren't too many, that it couldn't be read, or that memory ran out
+-- what may be answered to a schema file:
+-- what its bytes say where they aren't too many, that it couldn't be read, or that memory ran out
 abbrev pub AnswersFile : List ℕ → Result Layout Failure → Type 0
 AnswersFile bytes (Ok schema) = (length bytes ≤ schema_limit) × AnswersBytes bytes (Ok schema)
 AnswersFile bytes (Err Unreadable) = ⊤
@@ -81,7 +86,8 @@ ok_line = codes "ok" ++ 10 ∷ []
 abbrev pub CheckLeaves : Option (List ℕ) → Failure → Option (List ℕ) → Option (List ℕ) → Type 0
 CheckLeaves file Unreadable old new = new ≡ old
 CheckLeaves file (Schema fault) old new = (new ≡ old) × IfSome file (λ bytes. AnswersFile bytes (Err (Schema fault)))
-CheckLeaves file (Run (run_fault.Write sent)) old new = (sent ≤ length ok_line) × Appends old new (take sent ok_line) × IfSome file IsRightFile
+CheckLeaves file (Run (run_fault.Write sent)) old new =
+    (sent ≤ length ok_line) × Appends old new (take sent ok_line) × IfSome file IsRightFile
 CheckLeaves file _ old new = ⊥
 
 -- what may be answered to a query's word: what is said of it, or that memory ran out

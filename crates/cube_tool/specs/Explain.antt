@@ -1,5 +1,6 @@
 -- What is said of codes: the notes of a table, and their text (this project's choice).
-use Rattle.std.specs.Prelude.{◌≡◌, ◌≤◌, ℕ, Bool, true, List, [], ◌∷◌, ◌++◌, length, filter, take, codes, Option, Some, None}
+use Rattle.std.specs.Prelude.{◌≡◌, ◌≤◌, ℕ, Bool, true, List, [], ◌∷◌, ◌++◌, length, filter, take, codes, Option, Some}
+use Rattle.std.specs.Prelude.{None}
 use Rattle.std.specs.Io.KnownBytes.{Appends}
 use Rattle.std.specs.List.{flat_map}
 use Rattle.std.specs.Str.{bytes_eq}
@@ -34,7 +35,8 @@ has_code (Some code) note = bytes_eq note.code.now code
 abbrev pub explained : List Note → Option (List ℕ) → List ℕ
 explained notes code = flat_map note_text (filter (has_code code) notes)
 
--- what a failed explanation leaves: nothing was written of a code that isn't there, nor for want of memory, and else the first bytes
+-- what a failed explanation leaves:
+-- nothing was written of a code that isn't there, nor for want of memory, and else the first bytes
 abbrev pub ExplainLeaves : List Note → Option (List ℕ) → Failure → Option (List ℕ) → Option (List ℕ) → Type 0
 ExplainLeaves notes code UnknownCode old new = (new ≡ old) × (explained notes code ≡ [])
 ExplainLeaves notes code (Run run_fault.Full) old new = new ≡ old

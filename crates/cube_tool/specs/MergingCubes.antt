@@ -35,5 +35,6 @@ StandsBefore texts place = (earlier : ℕ) × (earlier < place) × (get_or texts
 
 -- the first place whose text stands at an earlier place too; None where all texts differ
 abbrev pub IsFirstRepeated : List (List ℕ) → Option ℕ → Type 0
-IsFirstRepeated texts (Some place) = (place < length texts) × StandsBefore texts place × ((k : ℕ) → k < place → StandsBefore texts k → ⊥)
+IsFirstRepeated texts (Some place) =
+    (place < length texts) × StandsBefore texts place × ((k : ℕ) → k < place → StandsBefore texts k → ⊥)
 IsFirstRepeated texts None = (k : ℕ) → k < length texts → StandsBefore texts k → ⊥

@@ -1,4 +1,5 @@
--- What a question over the feeds of several sources writes, and what a fault of it leaves, by the definitions alone (this project's choice).
+-- What a question over the feeds of several sources writes, and what a fault of it leaves,
+-- by the definitions alone (this project's choice).
 use Rattle.std.specs.Prelude.{◌≡◌, ◌≤◌, ℕ, List, length, map, take, Option}
 use Rattle.std.specs.Io.KnownBytes.{Appends}
 use Rattle.std.specs.List.{AllZip}
@@ -31,7 +32,8 @@ pub record OfFeeds (s : Layout) (sources : Told) (Holds : List (List Item) → T
   pub items : AllZip (AreItemsOf s) sources feeds
   pub holds : Holds feeds
 
--- a text tells what is asked of these facts and of the refusals of each source: the printed cube, the rows that match, the rows that drill down, the row of the rolled-up key, or the refusals
+-- a text tells what is asked of these facts and of the refusals of each source:
+-- the printed cube, the rows that match, the rows that drill down, the row of the rolled-up key, or the refusals
 abbrev pub Tells : Question → Layout → List Fact → List (List Refusal) → List ℕ → Type 0
 Tells Cube s facts refusals text = IsPrinted s facts text
 Tells (Slice pattern) s facts refusals text = IsTextWhere (matches pattern) s facts text
@@ -39,7 +41,8 @@ Tells (Drill key dimension) s facts refusals text = IsTextWhere (drills_down dim
 Tells (RollUp key dimension) s facts refusals text = IsTextWhere (is_key (rolled_up dimension key)) s facts text
 Tells Refusals s facts refusals text = text ≡ text_of_refusals refusals
 
--- the text of a question over feeds: it tells what is asked of the facts that survive in all feeds and of the refusals of each
+-- the text of a question over feeds:
+-- it tells what is asked of the facts that survive in all feeds and of the refusals of each
 pub record IsTextOf (question : Question) (s : Layout) (feeds : List (List Item)) (text : List ℕ) : Type 0 where
   pub facts : List Fact
   pub survive : SurviveTogether s feeds facts
@@ -64,12 +67,16 @@ pub record StandsOver (Stands : Arrivals → Type 0) (feeds : List (List Item)) 
   pub same : of_sources (length feeds) arrivals ≡ feeds
   pub stands : Stands arrivals
 
--- what a fault of a question over feeds leaves, where this explains why it may come: of a failed write the first bytes of the text, so many of them, and of any other nothing
-abbrev pub Leaves : (RunFault → Type 0) → Question → Layout → Told → RunFault → Option (List ℕ) → Option (List ℕ) → Type 0
-Leaves Explains question s sources (run_fault.Write sent) old new = OfFeeds s sources (λ feeds. WroteFirst (IsTextOf question s feeds) sent old new)
+-- what a fault of a question over feeds leaves, where this explains why it may come:
+-- of a failed write the first bytes of the text, so many of them, and of any other nothing
+abbrev pub Leaves : (RunFault → Type 0) → Question → Layout → Told → RunFault → Option (List ℕ) → Option (List ℕ)
+    → Type 0
+Leaves Explains question s sources (run_fault.Write sent) old new =
+    OfFeeds s sources (λ feeds. WroteFirst (IsTextOf question s feeds) sent old new)
 Leaves Explains question s sources fault old new = (new ≡ old) × Explains fault
 
--- why a run over feeds wrote nothing: that for which they weren't taken; want of memory only before a record was read, or where all feeds are good
+-- why a run over feeds wrote nothing: that for which they weren't taken;
+-- want of memory only before a record was read, or where all feeds are good
 pub record ExplainsRun (s : Layout) (sources : Told) (fault : RunFault) : Type 0 where
   pub why : FeedingFault
   pub is : fault ≡ fault_of_feeding why

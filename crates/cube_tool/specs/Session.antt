@@ -1,4 +1,5 @@
--- What a session over feeds writes, how it ends, and what a failure of it leaves, by the definitions alone (this project's choice).
+-- What a session over feeds writes, how it ends, and what a failure of it leaves,
+-- by the definitions alone (this project's choice).
 use Rattle.std.specs.Prelude.{◌≡◌, ℕ, List, Option, IfSome}
 use Rattle.cube_core.specs.Arrival.{Arrivals, of_sources}
 use Rattle.cube_core.specs.Layout.{Layout}
@@ -14,21 +15,28 @@ use Rattle.cube_tool.specs.declared.command.failure.Failure.{Failure}
 use Rattle.cube_tool.specs.declared.command.failure.Failure.TheVariants.{Run, Session}
 use Rattle.cube_tool.specs.declared.command.status.Status.{Status}
 
--- a session over feeds was served to its end: the replies to its records were written, from an arrival list that has of each source with a feed the items of its feed and of the others nothing, and the status tells whether a line of a feed or a change was refused
-pub record ServesOver (s : Layout) (feeds : List (List Item)) (records : List (List (List ℕ))) (status : Status) (old new : Option (List ℕ)) : Type 0 where
+-- a session over feeds was served to its end: the replies to its records were written,
+-- from an arrival list that has of each source with a feed the items of its feed and of the others nothing,
+-- and the status tells whether a line of a feed or a change was refused
+pub record ServesOver (s : Layout) (feeds : List (List Item)) (records : List (List (List ℕ))) (status : Status)
+    (old new : Option (List ℕ)) : Type 0 where
   pub start : Arrivals
   pub starts : StartsOver feeds start
   pub replied : Wrote (AreReplies s start records) old new
   pub status_is : status ≡ status_over s (of_sources 64 (arrivals_after s start records))
 
 -- a session over feeds ended before its records did, and left from such an arrival list what its fault says
-pub record BreaksOver (s : Layout) (feeds : List (List Item)) (records : List (List (List ℕ))) (fault : SessionFault) (old new : Option (List ℕ)) : Type 0 where
+pub record BreaksOver (s : Layout) (feeds : List (List Item)) (records : List (List (List ℕ))) (fault : SessionFault)
+    (old new : Option (List ℕ)) : Type 0 where
   pub start : Arrivals
   pub starts : StartsOver feeds start
   pub leaves : Leaves s records start fault old new
 
--- what a failure of a session over feeds leaves, whose records are told where its input tells its bytes: nothing was written where the feeds weren't taken, and else what the session leaves
-abbrev pub FailsToServe : Layout → Told → Option (List (List (List ℕ))) → Failure → Option (List ℕ) → Option (List ℕ) → Type 0
+-- what a failure of a session over feeds leaves, whose records are told where its input tells its bytes:
+-- nothing was written where the feeds weren't taken, and else what the session leaves
+abbrev pub FailsToServe : Layout → Told → Option (List (List (List ℕ))) → Failure → Option (List ℕ) → Option (List ℕ)
+    → Type 0
 FailsToServe s sources records (Run fault) old new = (new ≡ old) × ExplainsRun s sources fault
-FailsToServe s sources records (Session fault) old new = OfFeeds s sources (λ feeds. IfSome records (λ taken. BreaksOver s feeds taken fault old new))
+FailsToServe s sources records (Session fault) old new =
+    OfFeeds s sources (λ feeds. IfSome records (λ taken. BreaksOver s feeds taken fault old new))
 FailsToServe s sources records _ old new = ⊥

@@ -10,7 +10,8 @@ use Rattle.cube_words.specs.declared.request.LiveWords.{LiveWords}
 use Rattle.cube_words.specs.declared.request.RunWords.{RunWords}
 
 -- what the reading of an option answers is the option's number
-pub IsNumberOf-TriesOne : (E : Type 0) (Gives : Text → Result ℕ E → Type 0) (found : Option Text) (result : Result (Option ℕ) E)
+pub IsNumberOf-TriesOne : (E : Type 0) (Gives : Text → Result ℕ E → Type 0) (found : Option Text)
+    (result : Result (Option ℕ) E)
     → ((text : Text) (r : Result ℕ E) → Gives text r → ParsesUnsigned 64 10 text r) → (found ≡ None → result ≡ Ok None)
     → ((text : Text) → found ≡ Some text → TriesOne Gives text result) → IfOk result (IsNumberOf found)
 IsNumberOf-TriesOne E Gives None result parses none value = rw (none refl) refl
@@ -21,13 +22,15 @@ IsNumberOf-TriesOne E Gives (Some text) (Ok (Some number)) parses none value =
 IsNumberOf-TriesOne E Gives (Some text) (Err e) parses none value = tt
 
 -- and it answers each number that is up to a bound
-pub IsNumberOf-read : (E : Type 0) (Gives : Text → Result ℕ E → Type 0) (found : Option Text) (result : Result (Option ℕ) E)
+pub IsNumberOf-read : (E : Type 0) (Gives : Text → Result ℕ E → Type 0) (found : Option Text)
+    (result : Result (Option ℕ) E)
     → ((text : Text) (r : Result ℕ E) → Gives text r → ParsesUnsigned 64 10 text r) → (found ≡ None → result ≡ Ok None)
     → ((text : Text) → found ≡ Some text → TriesOne Gives text result) → (most : ℕ) (number : Option ℕ) → most < 2 ^ 64
     → IsNumberOf found number → IfSome number (IsUpTo most) → result ≡ Ok number
 IsNumberOf-read E Gives None result parses none value most number fits is bounds = none refl ∙ ap Ok (sym is)
 IsNumberOf-read E Gives (Some text) result parses none value most None fits is bounds = absurd is
-IsNumberOf-read E Gives (Some text) (Ok None) parses none value most (Some number) fits is bounds = absurd (value text refl)
+IsNumberOf-read E Gives (Some text) (Ok None) parses none value most (Some number) fits is bounds =
+    absurd (value text refl)
 IsNumberOf-read E Gives (Some text) (Ok (Some other)) parses none value most (Some number) fits is bounds =
     let same : other ≡ number = (parses text (Ok other) (value text refl)).1 ∙ sym is.1 in
     rw same refl
@@ -35,12 +38,14 @@ IsNumberOf-read E Gives (Some text) (Err e) parses none value most (Some number)
     absurd (parses text (Err e) (value text refl) (is.0, omega (arith, is.1, bounds.1, fits)))
 
 -- a number that is given is up to the bound of what is given
-pub IsUpTo-given : (most number : ℕ) (given : Option ℕ) → Some number ≡ given → IfSome given (IsUpTo most) → IsUpTo most number
+pub IsUpTo-given : (most number : ℕ) (given : Option ℕ) → Some number ≡ given → IfSome given (IsUpTo most)
+    → IsUpTo most number
 IsUpTo-given most number given same bounds = subst (λ (o : Option ℕ). IfSome o (IsUpTo most)) (sym same) bounds
 
 -- what the reading of a flag answers, false where it answers nothing, is whether the flag is given
 pub is_given-ReadsOne : (E : Type 0) (found : Option Text) (read : Option Bool) → (found ≡ None → read ≡ None)
-    → ((text : Text) → found ≡ Some text → ReadsOne {E = E} ParsesBool text read) → unwrap_or read false ≡ is_given found
+    → ((text : Text) → found ≡ Some text → ReadsOne {E = E} ParsesBool text read)
+    → unwrap_or read false ≡ is_given found
 is_given-ReadsOne E None read none value = rw (none refl) refl
 is_given-ReadsOne E (Some text) (Some true) none value = let is : text ≡ codes "true" = value text refl in rw is refl
 is_given-ReadsOne E (Some text) (Some false) none value = let is : text ≡ codes "false" = value text refl in rw is refl
@@ -52,10 +57,20 @@ is_given-ReadsOne E (Some text) None none value = go (bytes_eq text (codes "true
 
 -- the words of a run that `live` has too
 abbrev pub live_of : RunWords → LiveWords
-live_of run = record { schema = run.schema; feeds = run.feeds; ring = run.ring; threads = run.threads; shard = run.shard; quiet = run.quiet; store = run.store; wary = run.wary }
+live_of run = record {
+  schema = run.schema;
+  feeds = run.feeds;
+  ring = run.ring;
+  threads = run.threads;
+  shard = run.shard;
+  quiet = run.quiet;
+  store = run.store;
+  wary = run.wary;
+}
 
 -- of the words of a run, those that `live` has too are its own
-pub AreLiveWords-AreRunWords : (rows : List Row) (run : RunWords) → AreRunWords rows run → AreLiveWords rows (live_of run)
+pub AreLiveWords-AreRunWords : (rows : List Row) (run : RunWords) → AreRunWords rows run
+    → AreLiveWords rows (live_of run)
 AreLiveWords-AreRunWords rows run are = record {
   shared = record {
     schema = are.schema;
@@ -71,4 +86,5 @@ AreLiveWords-AreRunWords rows run are = record {
 
 -- and their options are in their bounds
 pub LiveHasRoom-HasRoom : (run : RunWords) → HasRoom run → LiveHasRoom (live_of run)
-LiveHasRoom-HasRoom run room = record { least_ring = room.least_ring; most_ring = room.most_ring; threads = room.threads }
+LiveHasRoom-HasRoom run room =
+    record { least_ring = room.least_ring; most_ring = room.most_ring; threads = room.threads }

@@ -1,16 +1,19 @@
 -- The words that the program takes, as clap reads them, and the requests that they make (this project's choice).
-use Rattle.std.specs.Prelude.{◌≡◌, ◌≤◌, ◌==◌, ⊤, ℕ, Bool, false, true, List, [], ◌∷◌, Option, Some, None, IfSome, length, map, option_map, unwrap_or, codes}
+use Rattle.std.specs.Prelude.{◌≡◌, ◌≤◌, ◌==◌, ⊤, ℕ, Bool, false, true, List, [], ◌∷◌, Option, Some, None, IfSome}
+use Rattle.std.specs.Prelude.{length, map, option_map, unwrap_or, codes}
 use Rattle.std.specs.Str.{bytes_eq}
 use Rattle.std.specs.Str.Parse.{IsNumeral, digits_value, without_leading_plus}
 use Rattle.clap.specs.Lexer.{usize_max}
-use Rattle.clap.specs.Words.{App, Row, Rule, Text, all_of, first_of, new_app, new_rule, one_of, with_rule, with_subcommand}
+use Rattle.clap.specs.Words.{App, Row, Rule, Text, all_of, first_of, new_app, new_rule, one_of, with_rule}
+use Rattle.clap.specs.Words.{with_subcommand}
 use Rattle.clap.specs.declared.builder.action.ArgAction.TheVariants as action
 use Rattle.clap.specs.declared.builder.value_parser.ValueParser.TheVariants as value_parser
 use Rattle.cube_words.specs.declared.request.LiveWords.{LiveWords}
 use Rattle.cube_words.specs.declared.request.MergeWords.{MergeWords}
 use Rattle.cube_words.specs.declared.request.RunWords.{RunWords}
 use Rattle.cube_words.specs.declared.request.Request.{Request}
-use Rattle.cube_words.specs.declared.request.Request.TheVariants.{Sample, Check, Explain, Print, Refusals, Slice, Drill, RollUp, Live, Merge}
+use Rattle.cube_words.specs.declared.request.Request.TheVariants.{Sample, Check, Explain, Print, Refusals, Slice, Drill}
+use Rattle.cube_words.specs.declared.request.Request.TheVariants.{RollUp, Live, Merge}
 
 -- the program's own settings: `help` is no command, and `--version` is answered
 abbrev pub named_line : App
@@ -109,7 +112,9 @@ with_store line = with_rule (with_rule line store_option) wary_option
 
 -- a command with the feeds and the options of a run behind its words
 abbrev pub with_feeds : App → App
-with_feeds line = with_store (with_rule (with_rule (with_rule (with_rule (with_rule (with_rule line feed_words) ring_option) shard_option) builders_option) threads_option) quiet_option)
+with_feeds line = with_store (with_rule
+    (with_rule (with_rule (with_rule (with_rule (with_rule line feed_words) ring_option) shard_option) builders_option)
+    threads_option) quiet_option)
 
 -- each command and its words
 abbrev pub check_line : App
@@ -125,23 +130,30 @@ abbrev pub slice_line : App
 slice_line = with_feeds (with_rule (with_rule (new_app (codes "slice")) schema_word) cell_word)
 
 abbrev pub drill_line : App
-drill_line = with_feeds (with_rule (with_rule (with_rule (new_app (codes "drill")) schema_word) cell_word) dimension_word)
+drill_line =
+    with_feeds (with_rule (with_rule (with_rule (new_app (codes "drill")) schema_word) cell_word) dimension_word)
 
 abbrev pub rollup_line : App
-rollup_line = with_feeds (with_rule (with_rule (with_rule (new_app (codes "rollup")) schema_word) cell_word) dimension_word)
+rollup_line =
+    with_feeds (with_rule (with_rule (with_rule (new_app (codes "rollup")) schema_word) cell_word) dimension_word)
 
 abbrev pub live_line : App
-live_line = with_store (with_rule (with_rule (with_rule (with_rule (with_rule (with_rule (new_app (codes "live")) schema_word) feed_words) ring_option) shard_option) threads_option) quiet_option)
+live_line = with_store (with_rule (with_rule
+    (with_rule (with_rule (with_rule (with_rule (new_app (codes "live")) schema_word) feed_words) ring_option)
+    shard_option) threads_option) quiet_option)
 
 abbrev pub merge_line : App
-merge_line = with_rule (with_rule (with_rule (with_rule (with_rule (new_app (codes "merge")) schema_word) merged_words) partial_option) check_option) quiet_option
+merge_line = with_rule
+    (with_rule (with_rule (with_rule (with_rule (new_app (codes "merge")) schema_word) merged_words) partial_option)
+    check_option) quiet_option
 
 abbrev pub explain_line : App
 explain_line = with_rule (new_app (codes "explain")) code_word
 
 -- a command line with the commands that say whether a schema is right, what its cube is and what is refused
 abbrev pub with_prints : App → App
-with_prints line = with_subcommand (with_subcommand (with_subcommand line check_line.top) print_line.top) refusals_line.top
+with_prints line =
+    with_subcommand (with_subcommand (with_subcommand line check_line.top) print_line.top) refusals_line.top
 
 -- a command line with the commands for parts of a cube
 abbrev pub with_views : App → App
@@ -149,7 +161,8 @@ with_views line = with_subcommand (with_subcommand (with_subcommand line slice_l
 
 -- a command line with the commands for sessions, for printed cubes and for codes
 abbrev pub with_sessions : App → App
-with_sessions line = with_subcommand (with_subcommand (with_subcommand line live_line.top) merge_line.top) explain_line.top
+with_sessions line =
+    with_subcommand (with_subcommand (with_subcommand line live_line.top) merge_line.top) explain_line.top
 
 -- no words, or one of the commands
 abbrev pub command_line : App
@@ -170,11 +183,13 @@ abbrev pub AsksToExplain : Option Text → Request → Type 0
 AsksToExplain code (Explain asked) = option_map (λ text. text.now) asked ≡ code
 AsksToExplain code _ = ⊥
 
--- an option's text writes this number in decimal; there is none where there is no text, as the option is left out without a default
+-- an option's text writes this number in decimal;
+-- there is none where there is no text, as the option is left out without a default
 abbrev pub IsNumberOf : Option Text → Option ℕ → Type 0
 IsNumberOf None number = number ≡ None
 IsNumberOf (Some text) None = ⊥
-IsNumberOf (Some text) (Some number) = IsNumeral 10 (without_leading_plus text) × (number ≡ digits_value 10 (without_leading_plus text))
+IsNumberOf (Some text) (Some number) =
+    IsNumeral 10 (without_leading_plus text) × (number ≡ digits_value 10 (without_leading_plus text))
 
 -- a number is from 1 to this bound
 abbrev pub IsUpTo : ℕ → ℕ → Type 0
@@ -189,7 +204,8 @@ is_given (Some text) = bytes_eq text (codes "true")
 abbrev pub words_of : Text → List Row → List Text
 words_of name rows = unwrap_or (all_of name rows) []
 
--- the files and the options of a run are those that clap found, each under its name, and the feeds, if any, in their order
+-- the files and the options of a run are those that clap found, each under its name,
+-- and the feeds, if any, in their order
 pub record AreRunWords (rows : List Row) (run : RunWords) : Type 0 where
   pub schema : first_of (codes "SCHEMA") rows ≡ Some run.schema.now
   pub feeds : words_of (codes "FEED") rows ≡ map (λ path. path.now) run.feeds.items
@@ -201,7 +217,8 @@ pub record AreRunWords (rows : List Row) (run : RunWords) : Type 0 where
   pub store : option_map (λ text. text.now) run.store ≡ first_of (codes "store") rows
   pub is_wary : run.wary ≡ is_given (one_of (codes "wary") rows)
 
--- a run has at least one feed, but that over a store it may have none, and its options, where they are given, are in their bounds
+-- a run has at least one feed, but that over a store it may have none, and its options,
+-- where they are given, are in their bounds
 pub record HasRoom (run : RunWords) : Type 0 where
   pub feeds : run.store ≡ None → 1 ≤ length run.feeds.items
   pub least_ring : 1 ≤ run.ring
@@ -210,7 +227,8 @@ pub record HasRoom (run : RunWords) : Type 0 where
   pub most_builders : run.builders ≤ 8
   pub threads : IfSome run.threads (IsUpTo 16)
 
--- the files and the options that `live` has and each command with feeds too are those that clap found, each under its name, and the feeds, if any, in their order
+-- the files and the options that `live` has and each command with feeds too are those that clap found,
+-- each under its name, and the feeds, if any, in their order
 pub record AreSharedWords (rows : List Row) (live : LiveWords) : Type 0 where
   pub schema : first_of (codes "SCHEMA") rows ≡ Some live.schema.now
   pub feeds : words_of (codes "FEED") rows ≡ map (λ path. path.now) live.feeds.items
@@ -219,7 +237,8 @@ pub record AreSharedWords (rows : List Row) (live : LiveWords) : Type 0 where
   pub shard : option_map (λ text. text.now) live.shard ≡ first_of (codes "shard") rows
   pub is_quiet : live.quiet ≡ is_given (one_of (codes "quiet") rows)
 
--- the files and the options of `live` are those that clap found: those that it shares, the store, and whether to be wary of torn writes
+-- the files and the options of `live` are those that clap found:
+-- those that it shares, the store, and whether to be wary of torn writes
 pub record AreLiveWords (rows : List Row) (live : LiveWords) : Type 0 where
   pub shared : AreSharedWords rows live
   pub store : option_map (λ text. text.now) live.store ≡ first_of (codes "store") rows
@@ -239,7 +258,8 @@ pub record AreMergeWords (rows : List Row) (merge : MergeWords) : Type 0 where
   pub is_checked : merge.check ≡ is_given (one_of (codes "check") rows)
   pub is_quiet : merge.quiet ≡ is_given (one_of (codes "quiet") rows)
 
--- a request to run has at least one feed, or a store, and one to merge at least one cube, and the options are in their bounds
+-- a request to run has at least one feed, or a store, and one to merge at least one cube,
+-- and the options are in their bounds
 abbrev pub IsInBounds : Request → Type 0
 IsInBounds (Print run partial) = HasRoom run
 IsInBounds (Refusals run) = HasRoom run
@@ -257,22 +277,27 @@ IsRun name command rows run = (name ≡ command) × AreRunWords rows run × HasR
 -- a run of a command with this name from a cell along a dimension is had from what clap found
 abbrev pub IsStep : Text → Text → List Row → RunWords → Text → Text → Type 0
 IsStep name command rows run cell dimension =
-    IsRun name command rows run × (first_of (codes "CELL") rows ≡ Some cell) × (first_of (codes "DIM") rows ≡ Some dimension)
+    IsRun name command rows run × (first_of (codes "CELL") rows ≡ Some cell)
+    × (first_of (codes "DIM") rows ≡ Some dimension)
 
 -- a found command makes this request
 abbrev pub Makes : Text × List Row → Request → Type 0
 Makes found Sample = ⊥
 Makes found (Check schema) = (found.0 ≡ codes "check") × (first_of (codes "SCHEMA") found.1 ≡ Some schema.now)
-Makes found (Explain code) = (found.0 ≡ codes "explain") × (first_of (codes "CODE") found.1 ≡ option_map (λ text. text.now) code)
-Makes found (Print run partial) = IsRun found.0 (codes "print") found.1 run × (partial ≡ is_given (one_of (codes "partial") found.1))
+Makes found (Explain code) =
+    (found.0 ≡ codes "explain") × (first_of (codes "CODE") found.1 ≡ option_map (λ text. text.now) code)
+Makes found (Print run partial) =
+    IsRun found.0 (codes "print") found.1 run × (partial ≡ is_given (one_of (codes "partial") found.1))
 Makes found (Refusals run) = IsRun found.0 (codes "refusals") found.1 run
-Makes found (Slice run cell) = IsRun found.0 (codes "slice") found.1 run × (first_of (codes "CELL") found.1 ≡ Some cell.now)
+Makes found (Slice run cell) =
+    IsRun found.0 (codes "slice") found.1 run × (first_of (codes "CELL") found.1 ≡ Some cell.now)
 Makes found (Drill run cell dimension) = IsStep found.0 (codes "drill") found.1 run cell.now dimension.now
 Makes found (RollUp run cell dimension) = IsStep found.0 (codes "rollup") found.1 run cell.now dimension.now
 Makes found (Live live) = (found.0 ≡ codes "live") × AreLiveWords found.1 live × LiveHasRoom live
 Makes found (Merge merge) = (found.0 ≡ codes "merge") × AreMergeWords found.1 merge × (1 ≤ length merge.cubes.items)
 
--- what clap found makes this request: the sample run where it found no command, and none only where the command makes none
+-- what clap found makes this request:
+-- the sample run where it found no command, and none only where the command makes none
 abbrev pub IsRequest : Option (Text × List Row) → Option Request → Type 0
 IsRequest None request = request ≡ Some Sample
 IsRequest (Some found) (Some request) = Makes found request

@@ -25,7 +25,10 @@ use Rattle.cube_tool.specs.Command.{status_after}
 use Rattle.cube_tool.specs.Faults.{fault_of_feeding, fault_of_text}
 use Rattle.cube_tool.specs.Run.{OfFeeds, WroteFirst}
 use Rattle.cube_tool.specs.declared.command.failure.Failure.{Failure}
-use Rattle.cube_tool.specs.declared.command.failure.Failure.TheVariants.{Unreadable, Schema, TooManyFeeds, InputTaken, NoRandomKey, FeedUnreadable, Query, UnknownCode, Run, Session, TooManyCubes, SamePath, Merge}
+use Rattle.cube_tool.specs.declared.command.failure.Failure.TheVariants.{Unreadable, Schema, TooManyFeeds, InputTaken}
+use Rattle.cube_tool.specs.declared.command.failure.Failure.TheVariants.{NoRandomKey, FeedUnreadable, Query}
+use Rattle.cube_tool.specs.declared.command.failure.Failure.TheVariants.{UnknownCode, Run, Session, TooManyCubes}
+use Rattle.cube_tool.specs.declared.command.failure.Failure.TheVariants.{SamePath, Merge}
 use Rattle.cube_tool.specs.declared.command.status.Status.{Status}
 use Rattle.cube_tool.specs.declared.fault.RunFault.TheVariants as run_fault
 use Rattle.cube_tool.specs.declared.fault.TextFault.{TextFault}
@@ -46,31 +49,41 @@ CanAsk-asked s (RollUp key dimension) fits = fits
 CanAsk-asked s Refusals fits = tt
 
 -- a text that wasn't written whole is a failure of the question
-pub FailsAt-text : (question : Question) (s : Layout) (arrivals : Arrivals) (fault : TextFault) (old new : Option (List ℕ))
-    → Writes {T = Status} (ShowsAt question s arrivals) (Err fault) old new → FailsAt question s arrivals (Run (fault_of_text fault)) old new
+pub FailsAt-text : (question : Question) (s : Layout) (arrivals : Arrivals) (fault : TextFault)
+    (old new : Option (List ℕ))
+    → Writes {T = Status} (ShowsAt question s arrivals) (Err fault) old new
+    → FailsAt question s arrivals (Run (fault_of_text fault)) old new
 FailsAt-text question s arrivals text_fault.Full old new writes = writes
 FailsAt-text question s arrivals (text_fault.Write sent) old new writes = writes
 
 -- the status that the refusals of a cube's books tell is that of the items of all sources
-pub status-shown : (cube : LiveView) (arrivals : Arrivals) (status : Status) → IsLive cube.schema cube.ledger cube.numbers → LiveStandsAt cube arrivals
-    → status ≡ status_after (refusals_of_accounts cube.ledger.accounts) → status ≡ status_over cube.schema (of_sources 64 arrivals)
+pub status-shown : (cube : LiveView) (arrivals : Arrivals) (status : Status)
+    → IsLive cube.schema cube.ledger cube.numbers → LiveStandsAt cube arrivals
+    → status ≡ status_after (refusals_of_accounts cube.ledger.accounts)
+    → status ≡ status_over cube.schema (of_sources 64 arrivals)
 status-shown cube arrivals status is stands told =
-    let under : StandsUnder cube.schema 64 arrivals cube.ledger = record { schema = is.schema; all = is.sources; stands = stands.ledger } in
+    let under : StandsUnder cube.schema 64 arrivals cube.ledger =
+    record { schema = is.schema; all = is.sources; stands = stands.ledger } in
     told ∙ ap status_after (refused-under under)
 
 -- ---- what the store has
 
 -- notes that were made where the store had no row are those of the changes that it had
-pub Holds-noted : (was : View) (notes : List Entry) (db : Trees) → LeavesNotes was notes db → Holds db (stored_in was) notes
-Holds-noted was notes db leaves = subst (λ (es : List Entry). Holds db es notes) (sym (ap entries_in leaves.none_before.0)) leaves.holds
+pub Holds-noted : (was : View) (notes : List Entry) (db : Trees) → LeavesNotes was notes db
+    → Holds db (stored_in was) notes
+Holds-noted was notes db leaves =
+    subst (λ (es : List Entry). Holds db es notes) (sym (ap entries_in leaves.none_before.0)) leaves.holds
 
 -- a store that wasn't taken leaves what it left, or its changes with the notes
-pub LeavesSame-refused : (was : View) (notes : List Entry) (Before : Trees → Type 0) (db : Trees) → LeavesNotes was notes db ⊎ Before db → Holds db (stored_in was) notes ⊎ Before db
+pub LeavesSame-refused : (was : View) (notes : List Entry) (Before : Trees → Type 0) (db : Trees)
+    → LeavesNotes was notes db ⊎ Before db → Holds db (stored_in was) notes ⊎ Before db
 LeavesSame-refused was notes Before db (inl leaves) = inl (Holds-noted was notes db leaves)
 LeavesSame-refused was notes Before db (inr before) = inr before
 
-module _ {S : Type 0} (view : S → View) (recovers : S → Trees → Type 0) (was : View) (notes : List Entry) (begun : Batch S) (fresh : HasKept view recovers begun begun [] 0)
-    (stored : IsClean (view begun.store) → stored_in (view begun.store) ≡ stored_in was) (noted : IsClean (view begun.store) → noted_in (view begun.store) ≡ notes) where
+module _ {S : Type 0} (view : S → View) (recovers : S → Trees → Type 0) (was : View) (notes : List Entry)
+    (begun : Batch S) (fresh : HasKept view recovers begun begun [] 0)
+    (stored : IsClean (view begun.store) → stored_in (view begun.store) ≡ stored_in was)
+    (noted : IsClean (view begun.store) → noted_in (view begun.store) ≡ notes) where
   -- a journal that was told of nothing has the changes that were stored
   pub held-same : IsClean (view begun.store) → held_in (view begun.store) ≡ stored_in was
   held-same clean = (fresh.stands clean).held ∙ append-nil (stored_in (view begun.store)) ∙ stored clean
@@ -81,34 +94,46 @@ module _ {S : Type 0} (view : S → View) (recovers : S → Trees → Type 0) (w
       let part = (fresh.stands clean).leaves db may in
       let none : List Entry = [] in
       let same : stored_in (view begun.store) ++ take part.count none ≡ stored_in was =
-      ap (λ (es : List Entry). stored_in (view begun.store) ++ es) (take_all part.count none (omega arith)) ∙ append-nil (stored_in (view begun.store)) ∙ stored clean in
+      ap (λ (es : List Entry). stored_in (view begun.store) ++ es) (take_all part.count none (omega arith))
+      ∙ append-nil (stored_in (view begun.store)) ∙ stored clean in
       subst (λ (es : List Entry). Holds db es notes) same
-      (subst (λ (ns : List Entry). Holds db (stored_in (view begun.store) ++ take part.count none) ns) (noted clean) part.holds)
+      (subst (λ (ns : List Entry). Holds db (stored_in (view begun.store) ++ take part.count none) ns)
+      (noted clean) part.holds)
 
 -- ---- what was written
 
 -- feeds that weren't taken leave nothing written
-pub LeavesOfText-unopened : (question : Question) (s : Layout) (sources : Told) (was : View) (why : FeedingFault) (old : Option (List ℕ))
-    → ExplainsFeeding s sources why → LeavesOfText question s sources was (stored.Failure (Run (fault_of_feeding why))) old old
-LeavesOfText-unopened question s sources was feeding_fault.Memory old explains = (refl, record { why = feeding_fault.Memory; is = refl; explains = explains })
-LeavesOfText-unopened question s sources was feeding_fault.NoThread old explains = (refl, record { why = feeding_fault.NoThread; is = refl; explains = explains })
-LeavesOfText-unopened question s sources was (feeding_fault.Feed source fault) old explains = (refl, record { why = feeding_fault.Feed source fault; is = refl; explains = explains })
-LeavesOfText-unopened question s sources was feeding_fault.Full old explains = (refl, record { why = feeding_fault.Full; is = refl; explains = explains })
-LeavesOfText-unopened question s sources was (feeding_fault.Unsealed source) old explains = (refl, record { why = feeding_fault.Unsealed source; is = refl; explains = explains })
+pub LeavesOfText-unopened : (question : Question) (s : Layout) (sources : Told) (was : View) (why : FeedingFault)
+    (old : Option (List ℕ))
+    → ExplainsFeeding s sources why
+    → LeavesOfText question s sources was (stored.Failure (Run (fault_of_feeding why))) old old
+LeavesOfText-unopened question s sources was feeding_fault.Memory old explains =
+    (refl, record { why = feeding_fault.Memory; is = refl; explains = explains })
+LeavesOfText-unopened question s sources was feeding_fault.NoThread old explains =
+    (refl, record { why = feeding_fault.NoThread; is = refl; explains = explains })
+LeavesOfText-unopened question s sources was (feeding_fault.Feed source fault) old explains =
+    (refl, record { why = feeding_fault.Feed source fault; is = refl; explains = explains })
+LeavesOfText-unopened question s sources was feeding_fault.Full old explains =
+    (refl, record { why = feeding_fault.Full; is = refl; explains = explains })
+LeavesOfText-unopened question s sources was (feeding_fault.Unsealed source) old explains =
+    (refl, record { why = feeding_fault.Unsealed source; is = refl; explains = explains })
 
-module _ (s : Layout) (sources : Told) (was : View) (before after : LiveView) (opens : OpensOver s sources (LiveStandsAt before)) (schema : before.schema ≡ s)
+module _ (s : Layout) (sources : Told) (was : View) (before after : LiveView)
+    (opens : OpensOver s sources (LiveStandsAt before)) (schema : before.schema ≡ s)
     (taken : TakesAll TakesStored before (stored_in was) after) where
   -- where the stored changes come after the feeds
   abbrev there : Arrivals
   there = arrivals_from s opens.start (stored_in was)
 
   stands : LiveStandsAt after there
-  stands = subst (λ (l : Layout). LiveStandsAt after (arrivals_from l opens.start (stored_in was))) schema (TakesAll-stands before after (stored_in was) taken opens.start opens.stands)
+  stands = subst (λ (l : Layout). LiveStandsAt after (arrivals_from l opens.start (stored_in was))) schema
+      (TakesAll-stands before after (stored_in was) taken opens.start opens.stands)
 
   same : after.schema ≡ s
   same = TakesAll-schema before after (stored_in was) taken ∙ schema
 
-  after-feeds : (Stands : Arrivals → Type 0) → Stands there → OfFeeds s sources (λ feeds. AfterStored s feeds was Stands)
+  after-feeds : (Stands : Arrivals → Type 0) → Stands there
+      → OfFeeds s sources (λ feeds. AfterStored s feeds was Stands)
   after-feeds Stands holds = record {
     feeds = opens.feeds;
     good = opens.good;
@@ -116,7 +141,8 @@ module _ (s : Layout) (sources : Told) (was : View) (before after : LiveView) (o
     holds = record { start = opens.start; starts = opens.starts; holds = holds };
   }
 
-  pub OfFeeds-answered : (question : Question) (notes : List Entry) (status : Status) (now : View) (Leaves : Trees → Type 0) (old new : Option (List ℕ))
+  pub OfFeeds-answered : (question : Question) (notes : List Entry) (status : Status) (now : View)
+      (Leaves : Trees → Type 0) (old new : Option (List ℕ))
       → ((arrivals : Arrivals) → LiveStandsAt after arrivals → AnsweredAt question after.schema arrivals status old new)
       → held_in now ≡ stored_in was → ((db : Trees) → Leaves db → Holds db (stored_in was) notes)
       → OfFeeds s sources (λ feeds. AnswersStored question s feeds was notes status now Leaves old new)
@@ -131,7 +157,8 @@ module _ (s : Layout) (sources : Told) (was : View) (before after : LiveView) (o
       }
 
   -- what a failure of the question leaves, by which it is
-  leaves-of : (question : Question) (failure : Failure) (old new : Option (List ℕ)) → FailsAt question s there failure old new → LeavesOfText question s sources was (stored.Failure failure) old new
+  leaves-of : (question : Question) (failure : Failure) (old new : Option (List ℕ))
+      → FailsAt question s there failure old new → LeavesOfText question s sources was (stored.Failure failure) old new
   leaves-of question Unreadable old new fails = absurd fails
   leaves-of question (Schema fault) old new fails = absurd fails
   leaves-of question TooManyFeeds old new fails = absurd fails
@@ -143,16 +170,19 @@ module _ (s : Layout) (sources : Told) (was : View) (before after : LiveView) (o
   leaves-of question (Run run_fault.Memory) old new fails = absurd fails
   leaves-of question (Run run_fault.NoThread) old new fails = absurd fails
   leaves-of question (Run (run_fault.Feed source fault)) old new fails = absurd fails
-  leaves-of question (Run run_fault.Full) old new fails = (fails, record { why = feeding_fault.Full; is = refl; explains = opens.good })
+  leaves-of question (Run run_fault.Full) old new fails =
+      (fails, record { why = feeding_fault.Full; is = refl; explains = opens.good })
   leaves-of question (Run (run_fault.Unsealed source)) old new fails = absurd fails
-  leaves-of question (Run (run_fault.Write sent)) old new fails = after-feeds (λ arrivals. WroteFirst (ShowsAt question s arrivals) sent old new) fails
+  leaves-of question (Run (run_fault.Write sent)) old new fails =
+      after-feeds (λ arrivals. WroteFirst (ShowsAt question s arrivals) sent old new) fails
   leaves-of question (Session fault) old new fails = absurd fails
   leaves-of question TooManyCubes old new fails = absurd fails
   leaves-of question (SamePath input) old new fails = absurd fails
   leaves-of question (Merge fault) old new fails = absurd fails
 
   pub LeavesOfText-failed : (question : Question) (failure : Failure) (old new : Option (List ℕ)) → Fits s question
-      → ((arrivals : Arrivals) → LiveStandsAt after arrivals → Fits after.schema question → FailsAt question after.schema arrivals failure old new)
+      → ((arrivals : Arrivals) → LiveStandsAt after arrivals → Fits after.schema question
+      → FailsAt question after.schema arrivals failure old new)
       → LeavesOfText question s sources was (stored.Failure failure) old new
   LeavesOfText-failed question failure old new fits fails =
       leaves-of question failure old new

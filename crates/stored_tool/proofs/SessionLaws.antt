@@ -25,17 +25,22 @@ use Rattle.cube_tool.proofs.RunLaws.{StandsUnder, refused-under}
 use Rattle.stored_tool.specs.Stored.{BreaksStoredOver, FailsToServeStored, ServesStoredOver, failure_of}
 
 -- what holds of the records where something else does holds of them where that does
-given : {A : Type 0} {Clean : Type 0} (P : A → Type 0) (records : Option A) → IfSome records (λ taken. Clean → P taken) → Clean → IfSome records P
+given : {A : Type 0} {Clean : Type 0} (P : A → Type 0) (records : Option A) → IfSome records (λ taken. Clean → P taken)
+    → Clean → IfSome records P
 given P None holds clean = tt
 given P (Some taken) holds clean = holds clean
 
-module _ {s : Layout} {sources : Told} (was : View) (notes : List Entry) (Leaves : Trees → Type 0) (old new : Option (List ℕ)) (before : LiveView) (opens : OpensOver s sources (LiveStandsAt before)) where
+module _ {s : Layout} {sources : Told} (was : View) (notes : List Entry) (Leaves : Trees → Type 0)
+    (old new : Option (List ℕ)) (before : LiveView) (opens : OpensOver s sources (LiveStandsAt before)) where
   -- a session that was opened over feeds and served to its end
-  served-over : (after : LiveView) (now : View) (status : Status) (records : Option (List (List (List ℕ)))) → IsLive after.schema after.ledger after.numbers
+  served-over : (after : LiveView) (now : View) (status : Status) (records : Option (List (List (List ℕ))))
+      → IsLive after.schema after.ledger after.numbers
       → status ≡ status_after (refusals_of_accounts after.ledger.accounts) → IfSome records (λ taken. after.schema ≡ s)
       → IfSome records (λ taken. ServesStored s was notes taken before after now Leaves old new)
-      → OfFeeds s sources (λ feeds. IfSome records (λ taken. ServesStoredOver s feeds was notes taken status now Leaves old new))
-  served-over after now status None live is schema serves = record { feeds = opens.feeds; good = opens.good; items = opens.items; holds = tt }
+      → OfFeeds s sources
+      (λ feeds. IfSome records (λ taken. ServesStoredOver s feeds was notes taken status now Leaves old new))
+  served-over after now status None live is schema serves =
+      record { feeds = opens.feeds; good = opens.good; items = opens.items; holds = tt }
   served-over after now status (Some taken) live is schema serves =
       let start : Arrivals = arrivals_from s opens.start (stored_in was) in
       let answered = serves.answered opens.start opens.stands in
@@ -64,8 +69,10 @@ module _ {s : Layout} {sources : Told} (was : View) (notes : List Entry) (Leaves
       }
 
   -- one that ended before its records did
-  broken-over : (fault : SessionFault) (records : Option (List (List (List ℕ)))) → IfSome records (λ taken. BreaksSession s was notes taken before Leaves old new fault)
-      → OfFeeds s sources (λ feeds. IfSome records (λ taken. BreaksStoredOver s feeds was notes taken fault Leaves old new))
+  broken-over : (fault : SessionFault) (records : Option (List (List (List ℕ))))
+      → IfSome records (λ taken. BreaksSession s was notes taken before Leaves old new fault)
+      → OfFeeds s sources
+      (λ feeds. IfSome records (λ taken. BreaksStoredOver s feeds was notes taken fault Leaves old new))
   broken-over fault None breaks = record { feeds = opens.feeds; good = opens.good; items = opens.items; holds = tt }
   broken-over fault (Some taken) breaks = record {
     feeds = opens.feeds;
@@ -80,19 +87,25 @@ module _ {s : Layout} {sources : Told} (was : View) (notes : List Entry) (Leaves
     };
   }
 
-  pub OfFeeds-served : (after : LiveView) (now : View) (status : Status) (records : Option (List (List (List ℕ)))) (Clean : Type 0) → before.schema ≡ s → IsLive after.schema after.ledger after.numbers
-      → status ≡ status_after (refusals_of_accounts after.ledger.accounts) → IfSome records (λ taken. Clean → after.schema ≡ before.schema)
+  pub OfFeeds-served : (after : LiveView) (now : View) (status : Status) (records : Option (List (List (List ℕ))))
+      (Clean : Type 0) → before.schema ≡ s → IsLive after.schema after.ledger after.numbers
+      → status ≡ status_after (refusals_of_accounts after.ledger.accounts)
+      → IfSome records (λ taken. Clean → after.schema ≡ before.schema)
       → IfSome records (λ taken. Clean → ServesStored before.schema was notes taken before after now Leaves old new)
-      → Clean → OfFeeds s sources (λ feeds. IfSome records (λ taken. ServesStoredOver s feeds was notes taken status now Leaves old new))
+      → Clean → OfFeeds s sources
+      (λ feeds. IfSome records (λ taken. ServesStoredOver s feeds was notes taken status now Leaves old new))
   OfFeeds-served after now status records Clean schema live is same serves clean =
       served-over after now status records live is
       (subst (λ (l : Layout). IfSome records (λ taken. after.schema ≡ l)) schema (given _ records same clean))
-      (subst (λ (l : Layout). IfSome records (λ taken. ServesStored l was notes taken before after now Leaves old new)) schema (given _ records serves clean))
+      (subst (λ (l : Layout). IfSome records (λ taken. ServesStored l was notes taken before after now Leaves old new))
+      schema (given _ records serves clean))
 
-  pub FailsToServeStored-failed : (Before : Trees → Type 0) (fault : StoredFault) (records : Option (List (List (List ℕ)))) (Clean : Type 0) → before.schema ≡ s
+  pub FailsToServeStored-failed : (Before : Trees → Type 0) (fault : StoredFault)
+      (records : Option (List (List (List ℕ)))) (Clean : Type 0) → before.schema ≡ s
       → IfSome records (λ taken. Clean → BreaksStored before.schema was notes taken before Before Leaves old new fault)
       → Clean → FailsToServeStored s sources records was notes Before Leaves (failure_of fault) old new
   FailsToServeStored-failed Before (Store fault) records Clean schema breaks clean = given _ records breaks clean
   FailsToServeStored-failed Before (Session fault) records Clean schema breaks clean =
       broken-over fault records
-      (subst (λ (l : Layout). IfSome records (λ taken. BreaksSession l was notes taken before Leaves old new fault)) schema (given _ records breaks clean))
+      (subst (λ (l : Layout). IfSome records (λ taken. BreaksSession l was notes taken before Leaves old new fault))
+      schema (given _ records breaks clean))

@@ -36,12 +36,15 @@ asked_as Refusals = live.Refusals
 abbrev pub ShowsAt : Question → Layout → Arrivals → List ℕ → Type 0
 ShowsAt question s arrivals text = Shows (asked_as question) s (of_sources 64 arrivals) text
 
--- a question was answered at an arrival list: a text that shows it was written whole, and the status tells whether an item of it is refused
-pub record AnsweredAt (question : Question) (s : Layout) (arrivals : Arrivals) (status : Status) (old new : Option (List ℕ)) : Type 0 where
+-- a question was answered at an arrival list:
+-- a text that shows it was written whole, and the status tells whether an item of it is refused
+pub record AnsweredAt (question : Question) (s : Layout) (arrivals : Arrivals) (status : Status)
+    (old new : Option (List ℕ)) : Type 0 where
   pub wrote : Wrote (ShowsAt question s arrivals) old new
   pub status_is : status ≡ status_over s (of_sources 64 arrivals)
 
--- what a failure leaves of a question at an arrival list: nothing was written where the question is refused or memory ran out, and of a failed write the first bytes of the text, so many of them
+-- what a failure leaves of a question at an arrival list: nothing was written where the question is refused
+-- or memory ran out, and of a failed write the first bytes of the text, so many of them
 abbrev pub FailsAt : Question → Layout → Arrivals → Failure → Option (List ℕ) → Option (List ℕ) → Type 0
 FailsAt question s arrivals (Query fault) old new = (new ≡ old) × (question_fault s question ≡ Some fault)
 FailsAt question s arrivals (Run run_fault.Full) old new = new ≡ old
@@ -54,8 +57,10 @@ pub record AfterStored (s : Layout) (feeds : List (List Item)) (was : View) (Sta
   pub starts : StartsOver feeds start
   pub holds : Stands (arrivals_from s start (stored_in was))
 
--- a question over feeds and a store was answered over the items of the feeds and then the stored changes; the store has these, with the notes on the feeds, and so leaves each crash
-pub record AnswersStored (question : Question) (s : Layout) (feeds : List (List Item)) (was : View) (notes : List Entry) (status : Status) (now : View) (Leaves : Trees → Type 0) (old new : Option (List ℕ)) : Type 0 where
+-- a question over feeds and a store was answered over the items of the feeds and then the stored changes;
+-- the store has these, with the notes on the feeds, and so leaves each crash
+pub record AnswersStored (question : Question) (s : Layout) (feeds : List (List Item)) (was : View) (notes : List Entry)
+    (status : Status) (now : View) (Leaves : Trees → Type 0) (old new : Option (List ℕ)) : Type 0 where
   pub answered : AfterStored s feeds was (λ arrivals. AnsweredAt question s arrivals status old new)
   pub held : held_in now ≡ stored_in was
   pub leaves : (db : Trees) → Leaves db → Holds db (stored_in was) notes
@@ -64,11 +69,15 @@ pub record AnswersStored (question : Question) (s : Layout) (feeds : List (List 
 abbrev pub LeavesSame : View → List Entry → (Trees → Type 0) → (Trees → Type 0) → Type 0
 LeavesSame was notes Before Leaves = (db : Trees) → Leaves db → Holds db (stored_in was) notes ⊎ Before db
 
--- what was written where a question over feeds and a store wasn't answered: nothing where the feeds or the store weren't taken, the question is refused or memory ran out, and of a failed write the first bytes of the text, so many of them
+-- what was written where a question over feeds and a store wasn't answered:
+-- nothing where the feeds or the store weren't taken, the question is refused or memory ran out,
+-- and of a failed write the first bytes of the text, so many of them
 abbrev pub LeavesOfText : Question → Layout → Told → View → StoredFailure → Option (List ℕ) → Option (List ℕ) → Type 0
-LeavesOfText question s sources was (stored.Failure (Query fault)) old new = (new ≡ old) × AreGood s sources × (question_fault s question ≡ Some fault)
+LeavesOfText question s sources was (stored.Failure (Query fault)) old new =
+    (new ≡ old) × AreGood s sources × (question_fault s question ≡ Some fault)
 LeavesOfText question s sources was (stored.Failure (Run (run_fault.Write sent))) old new =
-    OfFeeds s sources (λ feeds. AfterStored s feeds was (λ arrivals. WroteFirst (ShowsAt question s arrivals) sent old new))
+    OfFeeds s sources
+    (λ feeds. AfterStored s feeds was (λ arrivals. WroteFirst (ShowsAt question s arrivals) sent old new))
 LeavesOfText question s sources was (stored.Failure (Run fault)) old new = (new ≡ old) × ExplainsRun s sources fault
 LeavesOfText question s sources was (stored.Failure _) old new = ⊥
 LeavesOfText question s sources was (stored.Store fault) old new = new ≡ old

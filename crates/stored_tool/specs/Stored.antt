@@ -36,26 +36,39 @@ abbrev pub status_of_stored : StoredFailure → Status
 status_of_stored (Failure failure) = status_of failure
 status_of_stored (Store fault) = Failed
 
--- a session over feeds and a store was served to its end: the replies to its records were written, from an arrival list that has the items of the feeds and then the stored changes; the store has the changes that it had and those of the session, and so leaves each crash
-pub record ServesStoredOver (s : Layout) (feeds : List (List Item)) (was : View) (notes : List Entry) (records : List (List (List ℕ))) (status : Status) (now : View) (Leaves : Trees → Type 0) (old new : Option (List ℕ)) : Type 0 where
+-- a session over feeds and a store was served to its end: the replies to its records were written,
+-- from an arrival list that has the items of the feeds and then the stored changes;
+-- the store has the changes that it had and those of the session, and so leaves each crash
+pub record ServesStoredOver (s : Layout) (feeds : List (List Item)) (was : View) (notes : List Entry)
+    (records : List (List (List ℕ))) (status : Status) (now : View) (Leaves : Trees → Type 0)
+    (old new : Option (List ℕ)) : Type 0 where
   pub start : Arrivals
   pub starts : StartsOver feeds start
   pub replied : Wrote (AreReplies s (arrivals_from s start (stored_in was)) records) old new
-  pub status_is : status ≡ status_over s (of_sources 64 (arrivals_after s (arrivals_from s start (stored_in was)) records))
+  pub status_is : status
+      ≡ status_over s (of_sources 64 (arrivals_after s (arrivals_from s start (stored_in was)) records))
   pub held : held_in now ≡ stored_in was ++ changes_in s records
   pub leaves : (db : Trees) → Leaves db → Holds db (stored_in was ++ changes_in s records) notes
 
--- one that ended before its records did left what its fault says of the replies, and a first part of its changes in the store
-pub record BreaksStoredOver (s : Layout) (feeds : List (List Item)) (was : View) (notes : List Entry) (records : List (List (List ℕ))) (fault : SessionFault) (Leaves : Trees → Type 0) (old new : Option (List ℕ)) : Type 0 where
+-- one that ended before its records did left what its fault says of the replies,
+-- and a first part of its changes in the store
+pub record BreaksStoredOver (s : Layout) (feeds : List (List Item)) (was : View) (notes : List Entry)
+    (records : List (List (List ℕ))) (fault : SessionFault) (Leaves : Trees → Type 0) (old new : Option (List ℕ))
+    : Type 0 where
   pub count : ℕ
   pub kept : LeavesFirst s was notes records count Leaves
   pub start : Arrivals
   pub starts : StartsOver feeds start
   pub leaves : LeavesAt s records (arrivals_from s start (stored_in was)) fault count old new
 
--- what a failure of a session over feeds and a store leaves: where the feeds or the store weren't taken nothing was written, and the store leaves what it left or, where it had no row, the notes alone
-abbrev pub FailsToServeStored : Layout → Told → Option (List (List (List ℕ))) → View → List Entry → (Trees → Type 0) → (Trees → Type 0) → StoredFailure → Option (List ℕ) → Option (List ℕ) → Type 0
-FailsToServeStored s sources records was notes Before Leaves (Failure (Run fault)) old new = (new ≡ old) × ExplainsRun s sources fault × ((db : Trees) → Leaves db → Before db)
-FailsToServeStored s sources records was notes Before Leaves (Failure (Session fault)) old new = OfFeeds s sources (λ feeds. IfSome records (λ taken. BreaksStoredOver s feeds was notes taken fault Leaves old new))
+-- what a failure of a session over feeds and a store leaves: where the feeds or the store weren't taken nothing was
+-- written, and the store leaves what it left or, where it had no row, the notes alone
+abbrev pub FailsToServeStored : Layout → Told → Option (List (List (List ℕ))) → View → List Entry → (Trees → Type 0)
+    → (Trees → Type 0) → StoredFailure → Option (List ℕ) → Option (List ℕ) → Type 0
+FailsToServeStored s sources records was notes Before Leaves (Failure (Run fault)) old new =
+    (new ≡ old) × ExplainsRun s sources fault × ((db : Trees) → Leaves db → Before db)
+FailsToServeStored s sources records was notes Before Leaves (Failure (Session fault)) old new =
+    OfFeeds s sources (λ feeds. IfSome records (λ taken. BreaksStoredOver s feeds was notes taken fault Leaves old new))
 FailsToServeStored s sources records was notes Before Leaves (Failure _) old new = ⊥
-FailsToServeStored s sources records was notes Before Leaves (Store fault) old new = IfSome records (λ taken. (new ≡ old) × ((db : Trees) → Leaves db → LeavesNotes was notes db ⊎ Before db))
+FailsToServeStored s sources records was notes Before Leaves (Store fault) old new =
+    IfSome records (λ taken. (new ≡ old) × ((db : Trees) → Leaves db → LeavesNotes was notes db ⊎ Before db))

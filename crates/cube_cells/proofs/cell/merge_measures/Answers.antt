@@ -12,7 +12,8 @@ merge-requires c =
     omega (
       arith,
       c.requires.fits c.loop-place.place,
-      size_of-AddsBags c.args.measures.now c.loop-place.measures c.args.more.now c.loop-place.place c.loop-place.invariant,
+      size_of-AddsBags c.args.measures.now c.loop-place.measures c.args.more.now c.loop-place.place
+          c.loop-place.invariant,
       ap size_of (get_or_default c.loop-place.measures c.loop-place.place [] c.index-measures-place.result inside),
       ap size_of c.index-more-place.is,
       ap size_of (get_or_default c.args.more.now c.loop-place.place [] c.index-more-place.result there),
@@ -21,15 +22,23 @@ merge-requires c =
 pub returns-in_err-merge-clause-sizes : goal.returns-in_err-merge-clause-sizes
 returns-in_err-merge-clause-sizes c =
     let inside : c.loop-place.place < length c.loop-place.measures = omega arith in
-    AddsBags-bound_set c.args.measures.now c.loop-place.measures c.args.more.now c.loop-place.place c.merge.new.self c.loop-place.invariant inside c.in_err-merge.ensures.err
+    AddsBags-bound_set c.args.measures.now c.loop-place.measures c.args.more.now c.loop-place.place c.merge.new.self
+    c.loop-place.invariant inside c.in_err-merge.ensures.err
 
 pub loop-place-preserved : goal.loop-place-preserved
 loop-place-preserved c =
     let there : c.loop-place.place < length c.args.more.now = omega arith in
     let inside : c.loop-place.place < length c.loop-place.measures = omega arith in
-    let added : AddsBag (bag_at c.loop-place.measures c.loop-place.place) c.merge.new.self (bag_at c.args.more.now c.loop-place.place) =
-    rw (get_or_default c.loop-place.measures c.loop-place.place [] c.index-measures-place.result inside, get_or_default c.args.more.now c.loop-place.place [] c.index-more-place.result there, ← c.index-more-place.is) c.in_ok-merge.ensures.merged in
-    AddsBags-more c.args.measures.now c.loop-place.measures c.args.more.now c.loop-place.place c.merge.new.self c.loop-place.invariant inside added
+    let added : AddsBag (bag_at c.loop-place.measures c.loop-place.place) c.merge.new.self
+    (bag_at c.args.more.now c.loop-place.place) =
+    rw (
+      get_or_default c.loop-place.measures c.loop-place.place [] c.index-measures-place.result inside,
+      get_or_default c.args.more.now c.loop-place.place [] c.index-more-place.result there,
+      ← c.index-more-place.is,
+    ) c.in_ok-merge.ensures.merged in
+    AddsBags-more c.args.measures.now c.loop-place.measures c.args.more.now c.loop-place.place c.merge.new.self
+    c.loop-place.invariant inside added
 
 pub returns-clause-sizes : goal.returns-clause-sizes
-returns-clause-sizes c = AddsBags-bound c.args.measures.now c.loop-place.measures c.args.more.now c.loop-place.place c.loop-place.invariant
+returns-clause-sizes c =
+    AddsBags-bound c.args.measures.now c.loop-place.measures c.args.more.now c.loop-place.place c.loop-place.invariant

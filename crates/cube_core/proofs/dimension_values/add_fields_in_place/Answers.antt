@@ -23,7 +23,8 @@ loop-len-preserved c =
     let lens = c.args.lens.now in
     let len = get_or lens loop.len-index 0 in
     let rest = drop (loop.len-index + 1) lens in
-    let next : drop loop.len-index lens ≡ len ∷ rest = rw (drop-cons lens loop.len-index 0 (omega (arith, c.loop-len-test.true)), add-one loop.len-index) refl in
+    let next : drop loop.len-index lens ≡ len ∷ rest =
+    rw (drop-cons lens loop.len-index 0 (omega (arith, c.loop-len-test.true)), add-one loop.len-index) refl in
     let ascii = loop.invariant.2 in
     let lies = rw c.as_slice.ensures.value at c.span_of.ensures.lies in
     let value = rw c.as_slice.ensures.value at c.span_of.ensures.value in (

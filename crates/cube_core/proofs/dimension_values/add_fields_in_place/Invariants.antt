@@ -12,5 +12,6 @@ invariant-loop-len l =
     × (length l.spans.items + length (drop l.len-index l.lens) ≤ 4)
     × IsAscii (drop l.end l.block.items)
     × (All (LiesIn l.fn.block.items) l.fn.spans.items → All (LiesIn l.block.items) l.spans.items
-    × (map (value_of l.block.items) l.spans.items ++ map dimension_of (parts_of (drop l.len-index l.lens) (drop l.end l.block.items))
+    × (map (value_of l.block.items) l.spans.items
+    ++ map dimension_of (parts_of (drop l.len-index l.lens) (drop l.end l.block.items))
     ≡ map (value_of l.fn.block.items) l.fn.spans.items ++ map dimension_of (parts_of l.lens l.text)))

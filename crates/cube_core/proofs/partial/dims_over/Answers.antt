@@ -5,7 +5,8 @@ use Rattle.cube_core.proofs.partial.dims_over.Goals.{in-Keep, in-Put}
 
 pub loop-i-preserved : goal.loop-i-preserved
 loop-i-preserved c =
-    let more = fields_over-take c.args.fields.now c.args.olds.now c.loop-i.i c.index-fields-i.result None c.loop-i-test.true c.requires in
+    let more = fields_over-take c.args.fields.now c.args.olds.now c.loop-i.i c.index-fields-i.result None
+    c.loop-i-test.true c.requires in
     let is = rw (← c.index-fields-i.is) at more in (
       c.requires,
       elim c.match-field.branch [

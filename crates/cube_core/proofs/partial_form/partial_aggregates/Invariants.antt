@@ -4,4 +4,5 @@ use Rattle.cube_core.proofs.partial_form.partial_aggregates.Given as goal
 
 -- the parts of the means to come make the whole list
 abbrev pub invariant-loop-aggregate : goal.invariant-loop-aggregate
-invariant-loop-aggregate l = fold with_parts l.all.items (drop l.aggregate-index l.aggregates) ≡ partial_aggregates l.aggregates
+invariant-loop-aggregate l =
+    fold with_parts l.all.items (drop l.aggregate-index l.aggregates) ≡ partial_aggregates l.aggregates

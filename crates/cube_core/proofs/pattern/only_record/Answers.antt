@@ -7,17 +7,6 @@ use Rattle.csv.specs.declared.parser.State.TheVariants as st
 use Rattle.cube_core.proofs.QueryLaws.{only_one-ReadRecord, option_map-if}
 use Rattle.cube_core.proofs.pattern.only_record.Goals as goal
 
-pub has_more-requires-clause-trims : goal.has_more-requires-clause-trims
-has_more-requires-clause-trims c =
-    let trims : reader_trim c.from_reader-reader.result ≡ trim.None = search rules in
-    let ready : Ready c.from_reader-reader.result = search rules in
-    (c.in-Ok.ensures.reads trims ready).3 ∙ trims
-
-pub has_more-requires-clause-ready : goal.has_more-requires-clause-ready
-has_more-requires-clause-ready c =
-    let trims : reader_trim c.from_reader-reader.result ≡ trim.None = search rules in
-    inl (c.in-Ok.ensures.ready trims)
-
 pub returns : goal.returns
 returns c =
     let reader = c.from_reader-reader.result in
@@ -26,7 +15,13 @@ returns c =
     let ready : Ready reader = search rules in
     let state : reader_state reader ≡ st.StartRecord = search rules in
     let first = c.in-Ok.ensures.reads trims ready in
-    let second = c.in_ok-more.ensures {u = tt} in
-    let only = only_one-ReadRecord (λ (s : Bor (List ℕ)). Some s.now) reader c.read_byte_record.new.self c.has_more.new.reader c.args.text.now c.in-Ok.found c.in_ok-more.more (fields_of c.read_byte_record.new.row) second.0 c.from_reader-reader.ensures.source config state first second.1 in
-    let answer : c.then_some.result ≡ (if c.in-Ok.found && not c.in_ok-more.more then Some c.read_byte_record.new.row else None) = search rules in
-    rw answer (option_map-if fields_of (c.in-Ok.found && not c.in_ok-more.more) c.read_byte_record.new.row ∙ sym only)
+    let second = c.in-Ok-read_byte_record.ensures.reads (first.3 ∙ trims) (inl (c.in-Ok.ensures.ready trims)) in
+    let only = only_one-ReadRecord (λ (s : Bor (List ℕ)). Some s.now) reader c.read_byte_record.new.self
+    c.read_byte_record-2.new.self c.args.text.now c.in-Ok.found c.in-Ok-read_byte_record.more
+    (fields_of c.read_byte_record.new.row)
+    (fields_of c.read_byte_record-2.new.row) c.from_reader-reader.ensures.source config state first second in
+    let answer : c.then_some.result
+    ≡ (if c.in-Ok.found && not c.in-Ok-read_byte_record.more then Some c.read_byte_record.new.row else None) =
+    search rules in
+    rw answer
+    (option_map-if fields_of (c.in-Ok.found && not c.in-Ok-read_byte_record.more) c.read_byte_record.new.row ∙ sym only)

@@ -7,5 +7,6 @@ use Rattle.cube_core.proofs.schema_toml.has_known_keys.Goals as goal
 
 pub loop-key-init : goal.loop-key-init
 loop-key-init c =
-    ap (list_all (λ key. is_listed (string_bytes key) known_keys)) (c.into_iter-key-iterator.ensures.into_iter_gives ∙ c.keys-key-items.ensures.rest)
+    ap (list_all (λ key. is_listed (string_bytes key) known_keys))
+    (c.into_iter-key-iterator.ensures.into_iter_gives ∙ c.keys-key-items.ensures.rest)
     ∙ sym (has_known_keys-view c.args.document.now.entries)

@@ -5,7 +5,8 @@ use Rattle.cube_core.proofs.SchemaLaws.{document-answered_by, max_records_in-bou
 use Rattle.cube_core.proofs.schema_toml.schema_of.Goals as goal
 
 pub schema_of_parts-requires-clause-records : goal.schema_of_parts-requires-clause-records
-schema_of_parts-requires-clause-records c = max_records_in-bounds (table_view c.args.document.now) _ c.max_records_in.ensures
+schema_of_parts-requires-clause-records c =
+    max_records_in-bounds (table_view c.args.document.now) _ c.max_records_in.ensures
 
 pub schema_of_parts-requires-clause-versions : goal.schema_of_parts-requires-clause-versions
 schema_of_parts-requires-clause-versions c = version_in-bounds (table_view c.args.document.now) _ c.version_in.ensures
@@ -17,4 +18,5 @@ returns c =
     let dimensions : c.in_ok-dimensions.dimensions.items ≡ dimensions_in document = search rules in
     let measures : c.in_ok-measures.measures.items ≡ measures_in document = search rules in
     let texts : c.in_ok-aggregate_texts.aggregate_texts.items ≡ spellings_in document = search rules in
-    document-answered_by document _ _ _ _ _ _ _ known dimensions measures texts c.max_records_in.ensures c.value_at.ensures c.version_in.ensures c.schema_of_parts.ensures
+    document-answered_by document _ _ _ _ _ _ _ known dimensions measures texts c.max_records_in.ensures
+    c.value_at.ensures c.version_in.ensures c.schema_of_parts.ensures

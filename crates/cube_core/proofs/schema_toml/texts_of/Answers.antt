@@ -11,12 +11,14 @@ pub loop-value-preserved : goal.loop-value-preserved
 loop-value-preserved c =
     let pushed : c.push.new.self.items ≡ c.loop-value.texts.items ++ c.in-Some.text.now ∷ [] = search rules in
     rw pushed
-    (texts_of-more c.args.values.now c.loop-value.value-index c.value-item.result c.in-Some.text.now c.loop-value.texts.items c.loop-value-test.true (c.in-Some.ensures ∙ ap (λ v. as_str (view v)) c.value-item.is)
+    (texts_of-more c.args.values.now c.loop-value.value-index c.value-item.result c.in-Some.text.now
+    c.loop-value.texts.items c.loop-value-test.true (c.in-Some.ensures ∙ ap (λ v. as_str (view v)) c.value-item.is)
     ∙ c.loop-value.invariant)
 
 pub returns-in_default : goal.returns-in_default
 returns-in_default c =
-    sym (texts_of-stop c.args.values.now c.loop-value.value-index c.value-item.result c.loop-value.texts.items c.loop-value-test.true (c.in_default.ensures {u = tt} ∙ ap (λ v. as_str (view v)) c.value-item.is))
+    sym (texts_of-stop c.args.values.now c.loop-value.value-index c.value-item.result c.loop-value.texts.items
+    c.loop-value-test.true (c.in_default.ensures {u = tt} ∙ ap (λ v. as_str (view v)) c.value-item.is))
     ∙ c.loop-value.invariant
 
 pub loop-value-init : goal.loop-value-init
@@ -24,7 +26,8 @@ loop-value-init c = rw c.in_ok-texts.ensures.items (option_map_id (texts_of (ite
 
 pub returns : goal.returns
 returns c =
-    let none : items_view (drop c.loop-value.value-index c.args.values.now) ≡ items_view [] = at_drop_all items_view c.args.values.now c.loop-value.value-index c.loop-value-test.false in
+    let none : items_view (drop c.loop-value.value-index c.args.values.now) ≡ items_view [] =
+    at_drop_all items_view c.args.values.now c.loop-value.value-index c.loop-value-test.false in
     sym (ap Some (append-nil c.loop-value.texts.items))
     ∙ sym (ap (λ items. option_map (λ texts. c.loop-value.texts.items ++ texts) (texts_of items)) none)
     ∙ c.loop-value.invariant

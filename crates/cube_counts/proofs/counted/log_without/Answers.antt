@@ -10,18 +10,22 @@ use Rattle.cube_counts.proofs.counted.log_without.Goals as goal
 pub take-requires-clause-held : goal.take-requires-clause-held
 take-requires-clause-held c =
     let fits : FitsSigned w64 c.args.value = c.ranges.value in
-    let same : SameHeld (once_each c.args.numbers.now) c.in_ok-log.log = SameHeld-AddsBag_nothing (once_each c.args.numbers.now) c.in_ok-log.log (search rules) in
-    rw (to_z-of_z w64 c.args.value fits) (held_of-paid (once_each c.args.numbers.now) c.in_ok-log.log c.args.value same c.requires.held)
+    let same : SameHeld (once_each c.args.numbers.now) c.in_ok-log.log =
+    SameHeld-AddsBag_nothing (once_each c.args.numbers.now) c.in_ok-log.log (search rules) in
+    rw (to_z-of_z w64 c.args.value fits)
+    (held_of-paid (once_each c.args.numbers.now) c.in_ok-log.log c.args.value same c.requires.held)
 
 pub take-requires-clause-fits : goal.take-requires-clause-fits
 take-requires-clause-fits c =
-    let same : SameHeld (once_each c.args.numbers.now) c.in_ok-log.log = SameHeld-AddsBag_nothing (once_each c.args.numbers.now) c.in_ok-log.log (search rules) in
+    let same : SameHeld (once_each c.args.numbers.now) c.in_ok-log.log =
+    SameHeld-AddsBag_nothing (once_each c.args.numbers.now) c.in_ok-log.log (search rules) in
     omega (arith, c.requires.fits, size_of_same (once_each c.args.numbers.now) c.in_ok-log.log same)
 
 pub returns : goal.returns
 returns c =
     let fits : FitsSigned w64 c.args.value = c.ranges.value in
-    let same : SameHeld (once_each c.args.numbers.now) c.in_ok-log.log = SameHeld-AddsBag_nothing (once_each c.args.numbers.now) c.in_ok-log.log (search rules) in
+    let same : SameHeld (once_each c.args.numbers.now) c.in_ok-log.log =
+    SameHeld-AddsBag_nothing (once_each c.args.numbers.now) c.in_ok-log.log (search rules) in
     let taken : AddsOne c.take.new.self c.in_ok-log.log c.args.value = search (rules, to_z-of_z) in
     let boxed : c.in_ok-log-2.log.value ≡ c.take.new.self = search rules in
     rw boxed (AddsOne-paid (once_each c.args.numbers.now) c.in_ok-log.log c.take.new.self c.args.value same taken)

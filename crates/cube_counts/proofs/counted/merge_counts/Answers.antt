@@ -11,7 +11,8 @@ add_value-requires-clause-fits c =
     let entry : ℤ × ℕ = (c.in-Some.value.now, c.in-Some.count.now) in
     let old = bag_of c.args.values.now in
     let now = bag_of c.loop-value.values in
-    let merging : IsMerging old c.args.counts.now.entries (entry ∷ c.next.new.self) now = rw c.in-Some.ensures.steps at c.loop-value.invariant.2 in
+    let merging : IsMerging old c.args.counts.now.entries (entry ∷ c.next.new.self) now =
+    rw c.in-Some.ensures.steps at c.loop-value.invariant.2 in
     omega (arith, c.requires.fits, IsMerging-room old c.args.counts.now.entries c.next.new.self now entry merging)
 
 pub loop-value-preserved : goal.loop-value-preserved
@@ -19,15 +20,23 @@ loop-value-preserved c =
     let entry : ℤ × ℕ = (c.in-Some.value.now, c.in-Some.count.now) in
     let old = bag_of c.args.values.now in
     let now = bag_of c.loop-value.values in
-    let merging : IsMerging old c.args.counts.now.entries (entry ∷ c.next.new.self) now = rw c.in-Some.ensures.steps at c.loop-value.invariant.2 in
-    let some : All (λ (e : ℤ × ℕ). 0 < e.1) (entry ∷ c.next.new.self) = rw c.in-Some.ensures.steps at c.loop-value.invariant.3 in
+    let merging : IsMerging old c.args.counts.now.entries (entry ∷ c.next.new.self) now =
+    rw c.in-Some.ensures.steps at c.loop-value.invariant.2 in
+    let some : All (λ (e : ℤ × ℕ). 0 < e.1) (entry ∷ c.next.new.self) =
+    rw c.in-Some.ensures.steps at c.loop-value.invariant.3 in
     let fits : FitsSigned w64 c.in-Some.value.now = search rules in
-    let added = simp to_z-of_z at c.in_ok-add_value.ensures.added in
-    (tt, tt, IsMerging-more old c.args.counts.now.entries c.next.new.self now (bag_of c.add_value.new.values) entry merging added, All-tail (λ (e : ℤ × ℕ). 0 < e.1) entry c.next.new.self some)
+    let added = simp to_z-of_z at c.in_ok-add_value.ensures.added in (
+      tt,
+      tt,
+      IsMerging-more old c.args.counts.now.entries c.next.new.self now
+          (bag_of c.add_value.new.values) entry merging added,
+      All-tail (λ (e : ℤ × ℕ). 0 < e.1) entry c.next.new.self some,
+    )
 
 pub returns : goal.returns
 returns c =
     let old = bag_of c.args.values.now in
     let now = bag_of c.loop-value.values in
-    let merging : IsMerging old c.args.counts.now.entries [] now = rw c.in-None.ensures.steps.0 at c.loop-value.invariant.2 in
+    let merging : IsMerging old c.args.counts.now.entries [] now =
+    rw c.in-None.ensures.steps.0 at c.loop-value.invariant.2 in
     IsMerging-AddsBag old c.args.counts.now.entries now merging

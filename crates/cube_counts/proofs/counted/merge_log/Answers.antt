@@ -1,4 +1,5 @@
-use Rattle.cube_counts.proofs.counted.merge_log.Goals.{in-One+in_ok-grown-in-One, in-Few+in_ok-grown-in-Few, in-Narrow+in_ok-grown-in-Narrow}
+use Rattle.cube_counts.proofs.counted.merge_log.Goals.{in-One+in_ok-grown-in-One, in-Few+in_ok-grown-in-Few}
+use Rattle.cube_counts.proofs.counted.merge_log.Goals.{in-Narrow+in_ok-grown-in-Narrow}
 use Rattle.std.proofs.Common.{rules}
 use Rattle.cube_counts.proofs.counted.merge_log.Goals as goal
 

@@ -5,4 +5,5 @@ use Rattle.cube_counts.proofs.BagLaws.{IsMerging}
 use Rattle.cube_counts.proofs.counted.merge_numbers.Given as goal
 
 abbrev pub invariant-loop-number : goal.invariant-loop-number
-invariant-loop-number l = IsMerging (bag_of l.initial.values) (once_each l.numbers) (drop l.number-index (once_each l.numbers)) (bag_of l.values)
+invariant-loop-number l = IsMerging (bag_of l.initial.values) (once_each l.numbers)
+    (drop l.number-index (once_each l.numbers)) (bag_of l.values)

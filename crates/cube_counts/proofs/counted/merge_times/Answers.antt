@@ -6,14 +6,22 @@ use Rattle.cube_counts.proofs.BagLaws.{weight_of-times, AddsTimes-more}
 use Rattle.cube_counts.proofs.counted.merge_times.Goals as goal
 
 pub add_value-requires-clause-fits : goal.add_value-requires-clause-fits
-add_value-requires-clause-fits c = omega (arith, c.requires, weight_of-times (λ _. 1) (bag_of c.args.values.now) (bag_of c.loop-time.values) c.args.pair.0 c.loop-time._time c.loop-time.invariant)
+add_value-requires-clause-fits c = omega (
+  arith,
+  c.requires,
+  weight_of-times (λ _. 1) (bag_of c.args.values.now)
+      (bag_of c.loop-time.values) c.args.pair.0 c.loop-time._time c.loop-time.invariant,
+)
 
 pub loop-time-preserved : goal.loop-time-preserved
 loop-time-preserved c =
-    let added : AddsTimes (bag_of c.loop-time.values) (bag_of c.add_value.new.values) c.args.pair.0 1 = search (rules, to_z-of_z) in
-    AddsTimes-more (bag_of c.args.values.now) (bag_of c.loop-time.values) (bag_of c.add_value.new.values) c.args.pair.0 c.loop-time._time c.loop-time.invariant added
+    let added : AddsTimes (bag_of c.loop-time.values) (bag_of c.add_value.new.values) c.args.pair.0 1 =
+    search (rules, to_z-of_z) in
+    AddsTimes-more (bag_of c.args.values.now) (bag_of c.loop-time.values)
+    (bag_of c.add_value.new.values) c.args.pair.0 c.loop-time._time c.loop-time.invariant added
 
 pub returns : goal.returns
 returns c =
     let all : c.loop-time._time ≡ c.args.pair.1 = omega arith in
-    subst (λ n. AddsTimes (bag_of c.args.values.now) (bag_of c.loop-time.values) c.args.pair.0 n) all c.loop-time.invariant
+    subst (λ n. AddsTimes (bag_of c.args.values.now) (bag_of c.loop-time.values) c.args.pair.0 n)
+    all c.loop-time.invariant

@@ -14,4 +14,5 @@ pub returns : goal.returns
 returns c =
     let same : SameHeld c.args.log.now c.in_ok-settled.settled.items = search rules in
     let table = rw c.deref.ensures.value at c.of_pairs-2.ensures in
-    IfOk-weaker c.of_pairs-2.result (SameHeld c.in_ok-settled.settled.items) (SameHeld c.args.log.now) (λ made held. SameHeld-both c.args.log.now c.in_ok-settled.settled.items made same held) table
+    IfOk-weaker c.of_pairs-2.result (SameHeld c.in_ok-settled.settled.items) (SameHeld c.args.log.now)
+    (λ made held. SameHeld-both c.args.log.now c.in_ok-settled.settled.items made same held) table

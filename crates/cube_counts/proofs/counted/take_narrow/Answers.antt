@@ -12,4 +12,5 @@ returns-then-count-le1-clause-other c =
     rw c.numbers-count.ensures (takes_last numbers c.none.result c.args.value few held c.none.ensures.held)
 
 pub take-requires-clause-more : goal.take-requires-clause-more
-take-requires-clause-more c = rw c.numbers-count.ensures (omega (arith, size_of-once_each c.numbers-count.result.now, c.if-count-le1.false))
+take-requires-clause-more c =
+    rw c.numbers-count.ensures (omega (arith, size_of-once_each c.numbers-count.result.now, c.if-count-le1.false))

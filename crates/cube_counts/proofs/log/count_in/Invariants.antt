@@ -3,4 +3,5 @@ use Rattle.cube_counts.specs.Log.{times_in}
 use Rattle.cube_counts.proofs.log.count_in.Given as goal
 
 abbrev pub invariant-loop-number : goal.invariant-loop-number
-invariant-loop-number l = (l.count ≤ l.number-index) × (l.count + times_in (drop l.number-index l.numbers) l.value ≡ times_in l.numbers l.value)
+invariant-loop-number l = (l.count ≤ l.number-index)
+    × (l.count + times_in (drop l.number-index l.numbers) l.value ≡ times_in l.numbers l.value)

@@ -5,4 +5,5 @@ use Rattle.cube_counts.proofs.LogLaws.{SameHeld-filter}
 use Rattle.cube_counts.proofs.log.drop_uncounted.Goals as goal
 
 pub returns : goal.returns
-returns c = rw (filter_same _ (λ e. nat_lt 0 e.1) _ (λ x b f' k. search rules) _ _ c.retain.ensures.filtered) (SameHeld-filter c.args.pairs.now.items)
+returns c = rw (filter_same _ (λ e. nat_lt 0 e.1) _ (λ x b f' k. search rules) _ _ c.retain.ensures.filtered)
+    (SameHeld-filter c.args.pairs.now.items)

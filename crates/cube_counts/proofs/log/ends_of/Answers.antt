@@ -7,4 +7,7 @@ pub returns-in-Some-Some-clause-some : goal.returns-in-Some-Some-clause-some
 returns-in-Some-Some-clause-some c =
     let low : FitsSigned w64 c.in-Some-Some.least = search rules in
     let high : FitsSigned w64 c.in-Some-Some.greatest = search rules in
-    rw (to_z-of_z w64 c.in-Some-Some.least low, to_z-of_z w64 c.in-Some-Some.greatest high) (HasEnds-keys_of c.args.pairs.now c.in-Some-Some.least c.in-Some-Some.greatest c.requires c.in-Some-Some.ensures.held c.in-Some-Some.ensures.least c.in-Some-Some.ensures'.held c.in-Some-Some.ensures'.greatest)
+    rw (to_z-of_z w64 c.in-Some-Some.least low, to_z-of_z w64 c.in-Some-Some.greatest high)
+    (HasEnds-keys_of c.args.pairs.now c.in-Some-Some.least c.in-Some-Some.greatest c.requires
+    c.in-Some-Some.ensures.held c.in-Some-Some.ensures.least c.in-Some-Some.ensures'.held
+    c.in-Some-Some.ensures'.greatest)

@@ -12,4 +12,6 @@ returns-in_err-place-clause-none c =
 pub returns-clause-greatest : goal.returns-clause-greatest
 returns-clause-greatest c =
     let fits : FitsSigned w64 (get_or c.args.pairs.now c.in_ok-place.place (pos 0, 0)).0 = search rules in
-    rw (to_z-of_z w64 (get_or c.args.pairs.now c.in_ok-place.place (pos 0, 0)).0 fits) (HasGreatest-Rises c.args.pairs.now c.in_ok-place.place (pos 0, 0) c.requires c.in_ok-place.ensures.within c.in_ok-place.ensures.found c.in_ok-place.ensures.after)
+    rw (to_z-of_z w64 (get_or c.args.pairs.now c.in_ok-place.place (pos 0, 0)).0 fits)
+    (HasGreatest-Rises c.args.pairs.now c.in_ok-place.place (pos 0, 0)
+    c.requires c.in_ok-place.ensures.within c.in_ok-place.ensures.found c.in_ok-place.ensures.after)

@@ -12,4 +12,6 @@ returns-in_err-place-clause-none c =
 pub returns-clause-least : goal.returns-clause-least
 returns-clause-least c =
     let fits : FitsSigned w64 (get_or c.args.pairs.now c.in_ok-place.place (pos 0, 0)).0 = search rules in
-    rw (to_z-of_z w64 (get_or c.args.pairs.now c.in_ok-place.place (pos 0, 0)).0 fits) (HasLeast-Rises c.args.pairs.now c.in_ok-place.place (pos 0, 0) c.requires c.in_ok-place.ensures.within c.in_ok-place.ensures.found c.in_ok-place.ensures.before)
+    rw (to_z-of_z w64 (get_or c.args.pairs.now c.in_ok-place.place (pos 0, 0)).0 fits)
+    (HasLeast-Rises c.args.pairs.now c.in_ok-place.place (pos 0, 0)
+    c.requires c.in_ok-place.ensures.within c.in_ok-place.ensures.found c.in_ok-place.ensures.before)

@@ -13,16 +13,19 @@ pub returns-then-number-value-clause-absent : goal.returns-then-number-value-cla
 returns-then-number-value-clause-absent c =
     let fits : FitsSigned w64 c.args.value = c.ranges.value in
     let cut = simp to_z-of_z at c.place_past-past.ensures in
-    held_of-IsCut_other c.args.pairs.now c.args.value c.place_past-past.result (pos 0, 0) c.requires cut (search rules) (λ same. c.if-number-value.true (ap (of_z w64) same))
+    held_of-IsCut_other c.args.pairs.now c.args.value c.place_past-past.result (pos 0, 0) c.requires cut (search rules)
+    (λ same. c.if-number-value.true (ap (of_z w64) same))
 
 pub returns-then-count-eq0-clause-absent : goal.returns-then-count-eq0-clause-absent
 returns-then-count-eq0-clause-absent c =
     let fits : FitsSigned w64 c.args.value = c.ranges.value in
     let cut = simp to_z-of_z at c.place_past-past.ensures in
-    held_of-IsCut c.args.pairs.now c.args.value c.place_past-past.result (pos 0, 0) c.requires cut (search rules) (search rules) ∙ c.if-count-eq0.true
+    held_of-IsCut c.args.pairs.now c.args.value c.place_past-past.result (pos 0, 0) c.requires cut (search rules)
+    (search rules) ∙ c.if-count-eq0.true
 
 pub returns-clause-found : goal.returns-clause-found
 returns-clause-found c =
     let fits : FitsSigned w64 c.args.value = c.ranges.value in
     let cut = simp to_z-of_z at c.place_past-past.ensures in
-    IsCut-IsLastOf c.args.pairs.now c.args.value c.place_past-past.result (pos 0, 0) c.requires cut (search rules) (search rules) (omega (arith, c.if-count-eq0.false))
+    IsCut-IsLastOf c.args.pairs.now c.args.value c.place_past-past.result (pos 0, 0) c.requires cut (search rules)
+    (search rules) (omega (arith, c.if-count-eq0.false))

@@ -6,5 +6,7 @@ use Rattle.cube_counts.proofs.log.place_past.Goals as goal
 
 pub returns : goal.returns
 returns c =
-    let point = IsPartitionPoint-from_clause (λ e. not (int_lt c.args.value e.0)) c.args.pairs.now _ c.partition_point.ensures.partitioned (Rises-IsPartitionedBy c.args.pairs.now c.args.value c.requires) (λ a r q k. search rules) in
+    let point = IsPartitionPoint-from_clause (λ e. not (int_lt c.args.value e.0))
+    c.args.pairs.now _ c.partition_point.ensures.partitioned
+    (Rises-IsPartitionedBy c.args.pairs.now c.args.value c.requires) (λ a r q k. search rules) in
     IsPartitionPoint-IsCut c.args.pairs.now c.args.value c.partition_point.result c.partition_point.ensures.bound point

@@ -9,11 +9,13 @@ returns-clause-ordered c =
     let fits : FitsSigned w64 c.args.value = c.ranges.value in
     let last = simp to_z-of_z at c.in-Some.ensures.found in
     let e : ℤ × ℕ = get_or c.args.pairs.now c.in-Some.place (pos 0, 0) in
-    IsOrdered-set_from_IsLastOf c.args.pairs.now c.args.value c.in-Some.place e (get_or_default c.args.pairs.now c.in-Some.place (pos 0, 0) e last.within) last c.requires
+    IsOrdered-set_from_IsLastOf c.args.pairs.now c.args.value c.in-Some.place e
+    (get_or_default c.args.pairs.now c.in-Some.place (pos 0, 0) e last.within) last c.requires
 
 pub returns-clause-taken : goal.returns-clause-taken
 returns-clause-taken c =
     let fits : FitsSigned w64 c.args.value = c.ranges.value in
     let last = simp to_z-of_z at c.in-Some.ensures.found in
     let e : ℤ × ℕ = get_or c.args.pairs.now c.in-Some.place (pos 0, 0) in
-    AddsOne-set_from_IsLastOf c.args.pairs.now c.args.value c.in-Some.place e (get_or_default c.args.pairs.now c.in-Some.place (pos 0, 0) e last.within) last
+    AddsOne-set_from_IsLastOf c.args.pairs.now c.args.value c.in-Some.place e
+    (get_or_default c.args.pairs.now c.in-Some.place (pos 0, 0) e last.within) last

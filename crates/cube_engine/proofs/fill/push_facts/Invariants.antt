@@ -6,4 +6,5 @@ abbrev pub invariant-loop-fact : goal.invariant-loop-fact
 invariant-loop-fact l =
     (goal.iterator-loop-fact).can_next l.fact-iterator
     × (goal.iterator-loop-fact).is_finite l.fact-iterator
-    × map (λ fact. fact.now) l.facts.items ++ l.fact-iterator ≡ map (λ fact. fact.now) l.initial.facts.items ++ facts_of l.book
+    × map (λ fact. fact.now) l.facts.items ++ l.fact-iterator
+    ≡ map (λ fact. fact.now) l.initial.facts.items ++ facts_of l.book

@@ -6,7 +6,8 @@ pub fill-requires-2-clause-facts : goal.fill-requires-2-clause-facts
 fill-requires-2-clause-facts c =
     let facts = all_facts c.args.ledger.now.accounts in (
       facts,
-      IsCubeOfAll-gained c.args.ledger.now.schema facts c.args.cube.now c.in_ok-finest.finest c.fill.new.cube _ c.requires.fit c.requires.schema c.in_ok-finest.ensures.new c.in_ok-finest.ensures.cube
+      IsCubeOfAll-gained c.args.ledger.now.schema facts c.args.cube.now c.in_ok-finest.finest c.fill.new.cube _
+          c.requires.fit c.requires.schema c.in_ok-finest.ensures.new c.in_ok-finest.ensures.cube
           c.in_ok-fill.ensures,
     )
 
@@ -15,6 +16,7 @@ returns c =
     let facts = all_facts c.args.ledger.now.accounts in
     record {
       same = c.in_ok-fill-2.ensures.same;
-      has = HasFacts-filled c.args.ledger.now.schema facts c.args.cube.now c.in_ok-finest.finest c.fill.new.cube c.fill-2.new.self _ c.requires.fit c.requires.schema c.in_ok-finest.ensures.new c.in_ok-finest.ensures.cube
+      has = HasFacts-filled c.args.ledger.now.schema facts c.args.cube.now c.in_ok-finest.finest c.fill.new.cube
+          c.fill-2.new.self _ c.requires.fit c.requires.schema c.in_ok-finest.ensures.new c.in_ok-finest.ensures.cube
           c.in_ok-fill.ensures c.in_ok-fill-2.ensures.facts;
     }

@@ -10,8 +10,10 @@ loop-part-preserved c =
     let made = c.in_ok-cube.ensures.new in
     let next : Part = record { cube = c.in_ok-cube.cube; is_spent = false } in
     let is : IsPartOver s c.args.parts (length c.loop-part.new.items) next.cube =
-    rw (c.loop-part.invariant.long) (record { schema = made.schema_is ∙ ap (λ (x : _). x) (search rules); sets = made.sets_are ∙ search rules }) in
+    rw (c.loop-part.invariant.long)
+    (record { schema = made.schema_is ∙ ap (λ (x : _). x) (search rules); sets = made.sets_are ∙ search rules }) in
     record {
       long = search rules;
-      over = rw (c.in_ok-push.ensures.items) (ArePartsOver-more s c.args.parts c.loop-part.new.items next is c.loop-part.invariant.over);
+      over = rw (c.in_ok-push.ensures.items)
+          (ArePartsOver-more s c.args.parts c.loop-part.new.items next is c.loop-part.invariant.over);
     }

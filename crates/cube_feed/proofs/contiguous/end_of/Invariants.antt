@@ -9,4 +9,5 @@ abbrev pub invariant-loop-place : goal.invariant-loop-place
 invariant-loop-place l =
     BeginsAt l.row l.place l.stop
     × (l.begin + sum_by (λ len. len) l.lens.items ≡ l.stop)
-    × (parts_of l.lens.items (slice_range (text_of l.row) l.begin l.stop) ≡ slice_range (fields_of l.row) l.fn.start l.place)
+    × (parts_of l.lens.items (slice_range (text_of l.row) l.begin l.stop)
+    ≡ slice_range (fields_of l.row) l.fn.start l.place)

@@ -6,4 +6,5 @@ use Rattle.cube_feed.proofs.line.has_keep_text.Given as goal
 
 abbrev pub invariant-loop-place : goal.invariant-loop-place
 invariant-loop-place l =
-    list_any (λ field. bytes_eq field keep_text) (drop l.place l.fields) ≡ list_any (λ field. bytes_eq field keep_text) (drop 2 l.fields)
+    list_any (λ field. bytes_eq field keep_text) (drop l.place l.fields)
+    ≡ list_any (λ field. bytes_eq field keep_text) (drop 2 l.fields)

@@ -5,5 +5,6 @@ use Rattle.cube_feeders.proofs.copies.fill_copies.Goals as goal
 pub loop-preserved : goal.loop-preserved
 loop-preserved c = (
   search rules,
-  rw c.in_ok-push.ensures.items (All-push (λ copy. copy ≡ c.args.item.now) c.loop.copies.items c.in_ok-copy.copy c.loop.invariant.1 c.in_ok-copy.ensures),
+  rw c.in_ok-push.ensures.items (All-push (λ copy. copy ≡ c.args.item.now)
+      c.loop.copies.items c.in_ok-copy.copy c.loop.invariant.1 c.in_ok-copy.ensures),
 )

@@ -4,4 +4,5 @@ use Rattle.cube_feeders.specs.declared.parcel.FeederEnd.{FeederEnd}
 use Rattle.cube_feeders.proofs.ends.first_stop.Given as goal
 
 abbrev pub invariant-loop-end : goal.invariant-loop-end
-invariant-loop-end l = (l.source ≡ l.end-index + 1) × ((i : ℕ) (d : FeederEnd) → i < l.end-index → HasNoStop (get_or l.ends i d))
+invariant-loop-end l =
+    (l.source ≡ l.end-index + 1) × ((i : ℕ) (d : FeederEnd) → i < l.end-index → HasNoStop (get_or l.ends i d))

@@ -13,6 +13,13 @@ returns g c =
     let sent = c.send_all-stop in
     let all = sent.ensures in
     let same : length sent.new.outlets ≡ c.args.outlets.len =
-    omega (arith, ap length all.sent, length-map c.as_mut_slice.result.now (sends (parcels_of all.items)), c.as_mut_slice.ensures.len) in
-    let receipts = subst (λ (xs : List (Sending Parcel)). AreReceipts xs c.finish_all.result) (take-written_back sent.new.outlets _ c.args.outlets.len same) c.finish_all.ensures in
-    feeds-sends_all c.args.feed.to_come c.args.outlets.items sent.new.outlets _ (rw c.as_mut_slice.ensures.value at all) receipts
+    omega (
+      arith,
+      ap length all.sent,
+      length-map c.as_mut_slice.result.now (sends (parcels_of all.items)),
+      c.as_mut_slice.ensures.len,
+    ) in
+    let receipts = subst (λ (xs : List (Sending Parcel)). AreReceipts xs c.finish_all.result)
+    (take-written_back sent.new.outlets _ c.args.outlets.len same) c.finish_all.ensures in
+    feeds-sends_all c.args.feed.to_come c.args.outlets.items sent.new.outlets _
+    (rw c.as_mut_slice.ensures.value at all) receipts

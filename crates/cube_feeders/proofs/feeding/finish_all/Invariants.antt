@@ -8,8 +8,10 @@ abbrev pub invariant-loop-outlet : goal.invariant-loop-outlet
 invariant-loop-outlet l =
     (length l.receipts ≡ 8)
     × (vec_len l.outlets ≤ vec_len l.fn.outlets)
-    × ((j : ℕ) (d : Sending Parcel) → j < vec_len l.outlets → get_or l.outlets.items j d ≡ get_or l.fn.outlets.items j d)
-    × ((j : ℕ) (d : Sending Parcel) → vec_len l.outlets ≤ j → j < vec_len l.fn.outlets → IfSome (get_or l.receipts j None) (IsReceiptOf (get_or l.fn.outlets.items j d)))
+    ×
+    ((j : ℕ) (d : Sending Parcel) → j < vec_len l.outlets → get_or l.outlets.items j d ≡ get_or l.fn.outlets.items j d)
+    × ((j : ℕ) (d : Sending Parcel) → vec_len l.outlets ≤ j → j < vec_len l.fn.outlets
+    → IfSome (get_or l.receipts j None) (IsReceiptOf (get_or l.fn.outlets.items j d)))
     × ((j : ℕ) → vec_len l.fn.outlets ≤ j → get_or l.receipts j None ≡ None)
 
 abbrev pub decreases-loop-outlet : goal.decreases-loop-outlet

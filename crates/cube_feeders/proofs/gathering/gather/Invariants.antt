@@ -5,4 +5,5 @@ use Rattle.cube_feeders.proofs.gathering.gather.Given as goal
 abbrev pub invariant-loop : goal.invariant-loop
 invariant-loop g l =
     (g.B.TakesItems.sources l.builder ≡ g.B.TakesItems.sources l.initial.builder)
-    × Gathering (g.B.TakesItems.stands l.initial.builder) l.initial.inlets l.inlets (ended_of l.taken) l.builder l.wanting
+    × Gathering (g.B.TakesItems.stands l.initial.builder) l.initial.inlets l.inlets
+    (ended_of l.taken) l.builder l.wanting

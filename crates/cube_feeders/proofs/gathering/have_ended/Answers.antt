@@ -8,5 +8,6 @@ pub loop-i-preserved : goal.loop-i-preserved
 loop-i-preserved c =
     let i = c.loop-i.i in
     let nothing : Taken = record { parcels = 0; ended = false } in
-    let here : get_or (ended_of c.args.taken.now) i false ≡ true = get_or-map (λ (t : Taken). t.ended) c.args.taken.now i nothing false (omega arith) ∙ c.if-not-taken-i.false in
+    let here : get_or (ended_of c.args.taken.now) i false ≡ true =
+    get_or-map (λ (t : Taken). t.ended) c.args.taken.now i nothing false (omega arith) ∙ c.if-not-taken-i.false in
     λ k below. grind (arith, here, c.loop-i.invariant k)

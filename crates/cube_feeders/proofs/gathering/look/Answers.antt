@@ -10,8 +10,10 @@ returns-in_default-clause-looks g c =
     record {
       items = [];
       link = ap (λ (inlet : Receiving Parcel). inlet.link) same;
-      received = rw c.requires.open (ap (λ (inlet : Receiving Parcel). inlet.received) same ∙ sym (append-nil c.args.inlet.now.received));
-      stands_on = λ first arrivals at. stands-nothing (g.B.TakesItems.stands first) c.args.builder.now c.args.wanting.now arrivals at;
+      received = rw c.requires.open
+          (ap (λ (inlet : Receiving Parcel). inlet.received) same ∙ sym (append-nil c.args.inlet.now.received));
+      stands_on = λ first arrivals at.
+          stands-nothing (g.B.TakesItems.stands first) c.args.builder.now c.args.wanting.now arrivals at;
     }
 
 pub returns-in-Line-clause-looks : goal.returns-in-Line-clause-looks
@@ -27,5 +29,6 @@ returns-in-End-clause-looks g c = record {
   items = [];
   link = c.take.ensures.link;
   received = rw c.in-End.is at c.in-Some.ensures.received;
-  stands_on = λ first arrivals at. stands-nothing (g.B.TakesItems.stands first) c.args.builder.now c.args.wanting.now arrivals at;
+  stands_on = λ first arrivals at.
+      stands-nothing (g.B.TakesItems.stands first) c.args.builder.now c.args.wanting.now arrivals at;
 }

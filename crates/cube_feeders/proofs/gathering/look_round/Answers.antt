@@ -14,11 +14,14 @@ loop-i-preserved g c =
           let nothing : Taken = record { parcels = 0; ended = false } in
           let running : (get_or loop.taken loop.i nothing).ended ≡ false = search rules in record {
             sources = search rules;
-            places = ap length w.taken-is ∙ length-set loop.taken loop.i w.visit-found.new.taken ∙ loop.invariant.places;
+            places =
+                ap length w.taken-is ∙ length-set loop.taken loop.i w.visit-found.new.taken ∙ loop.invariant.places;
             gathering = λ first start was.
                 rw (w.inlets-is, w.taken-is, w.builder-is, w.wanting-is)
-                (gathering-look g.B.TakesItems.stands first start loop.inlets loop.taken loop.builder w.visit-found.new.builder loop.wanting w.visit-found.new.wanting loop.i w.index-inlets-i.result
-                w.visit-found.new.inlet nothing w.visit-found.new.taken below within running w.visit-found.ensures.looks (loop.invariant.gathering first start was));
+                (gathering-look g.B.TakesItems.stands first start loop.inlets loop.taken loop.builder
+                w.visit-found.new.builder loop.wanting w.visit-found.new.wanting loop.i w.index-inlets-i.result
+                w.visit-found.new.inlet nothing w.visit-found.new.taken below within running w.visit-found.ensures.looks
+                (loop.invariant.gathering first start was));
           }
       | else-not-taken-i w ↦ search rules
     ]

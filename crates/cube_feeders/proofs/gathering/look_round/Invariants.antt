@@ -9,6 +9,7 @@ invariant-loop-i g l = record {
   sources : g.B.TakesItems.sources l.builder ≡ g.B.TakesItems.sources l.initial.builder;
   places : length l.taken ≡ 64;
   gathering : (first : _) (start : List (Receiving Parcel)) →
-      Gathering (g.B.TakesItems.stands first) start l.initial.inlets (ended_of l.initial.taken) l.initial.builder l.initial.wanting →
+      Gathering (g.B.TakesItems.stands first) start l.initial.inlets
+      (ended_of l.initial.taken) l.initial.builder l.initial.wanting →
       Gathering (g.B.TakesItems.stands first) start l.inlets (ended_of l.taken) l.builder l.wanting;
 }

@@ -5,4 +5,5 @@ use Rattle.cube_feeders.proofs.gathering.visit.Given as goal
 abbrev pub invariant-loop : goal.invariant-loop
 invariant-loop g l =
     (g.B.TakesItems.sources l.builder ≡ g.B.TakesItems.sources l.initial.builder)
-    × Looks g.B.TakesItems.stands l.link.source l.initial.inlet l.inlet l.taken.ended l.initial.builder l.builder l.initial.wanting l.wanting
+    × Looks g.B.TakesItems.stands l.link.source l.initial.inlet l.inlet l.taken.ended l.initial.builder l.builder
+    l.initial.wanting l.wanting

@@ -5,4 +5,5 @@ use Rattle.cube_feeders.proofs.PlaceLaws.{first_mapped}
 use Rattle.cube_feeders.proofs.offering.offer_end.Given as goal
 
 abbrev pub invariant-loop-outlet : goal.invariant-loop-outlet
-invariant-loop-outlet g l = (l.builder ≡ l.outlet-index) × (l.outlets ≡ first_mapped (sends (End ∷ [])) l.outlet-index l.initial.outlets)
+invariant-loop-outlet g l =
+    (l.builder ≡ l.outlet-index) × (l.outlets ≡ first_mapped (sends (End ∷ [])) l.outlet-index l.initial.outlets)

@@ -12,15 +12,20 @@ feeders_of-requires-clause-none g c = rw c.as_mut_slice.ensures.value c.in_ok-ga
 pub returns-clause-linked : goal.returns-clause-linked
 returns-clause-linked g c =
     let new = c.feeders_of.new.gatherers in
-    let count : length new ≡ c.in_ok-gatherers.gatherers.len = omega (arith, c.feeders_of.auto.gatherers, c.as_mut_slice.ensures.len) in
-    rw (take-written_back new (drop (length new) c.in_ok-gatherers.gatherers.items) c.in_ok-gatherers.gatherers.len count) c.in_ok-feeders.ensures.linked
+    let count : length new ≡ c.in_ok-gatherers.gatherers.len =
+    omega (arith, c.feeders_of.auto.gatherers, c.as_mut_slice.ensures.len) in
+    rw
+    (take-written_back new (drop (length new) c.in_ok-gatherers.gatherers.items) c.in_ok-gatherers.gatherers.len count)
+    c.in_ok-feeders.ensures.linked
 
 pub returns-clause-builders : goal.returns-clause-builders
 returns-clause-builders g c =
     let f = λ (gatherer : Gatherer g.row.B.Denot). gatherer.builder in
     let new = c.feeders_of.new.gatherers in
-    let count : length new ≡ c.in_ok-gatherers.gatherers.len = omega (arith, c.feeders_of.auto.gatherers, c.as_mut_slice.ensures.len) in
-    ap (map f) (take-written_back new (drop (length new) c.in_ok-gatherers.gatherers.items) c.in_ok-gatherers.gatherers.len count)
+    let count : length new ≡ c.in_ok-gatherers.gatherers.len =
+    omega (arith, c.feeders_of.auto.gatherers, c.as_mut_slice.ensures.len) in
+    ap (map f)
+    (take-written_back new (drop (length new) c.in_ok-gatherers.gatherers.items) c.in_ok-gatherers.gatherers.len count)
     ∙ c.in_ok-feeders.ensures.builders
     ∙ ap (map f) c.as_mut_slice.ensures.value
     ∙ c.in_ok-gatherers.ensures.builders
@@ -28,14 +33,26 @@ returns-clause-builders g c =
 pub returns-clause-count : goal.returns-clause-count
 returns-clause-count g c =
     let f = λ (gatherer : Gatherer g.row.B.Denot). gatherer.builder in
-    omega (arith, ap length c.in_ok-gatherers.ensures.builders, length-map c.in_ok-gatherers.gatherers.items f, c.in_ok-gatherers.gatherers.ok.0, c.args.builders.ok.0)
+    omega (
+      arith,
+      ap length c.in_ok-gatherers.ensures.builders,
+      length-map c.in_ok-gatherers.gatherers.items f,
+      c.in_ok-gatherers.gatherers.ok.0,
+      c.args.builders.ok.0,
+    )
 
 pub returns-clause-start : goal.returns-clause-start
 returns-clause-start g c =
     let f = λ (gatherer : Gatherer g.row.B.Denot). gatherer.builder in
     let h = λ (feeder : Feeder g.row.R.Denot). feeder.feed.to_come in
     let count : c.in_ok-gatherers.gatherers.len ≡ c.args.builders.len =
-    omega (arith, ap length c.in_ok-gatherers.ensures.builders, length-map c.in_ok-gatherers.gatherers.items f, c.in_ok-gatherers.gatherers.ok.0, c.args.builders.ok.0) in
+    omega (
+      arith,
+      ap length c.in_ok-gatherers.ensures.builders,
+      length-map c.in_ok-gatherers.gatherers.items f,
+      c.in_ok-gatherers.gatherers.ok.0,
+      c.args.builders.ok.0,
+    ) in
     let feeds : c.in_ok-feeders.feeders.len ≡ c.args.readers.len =
     omega (
       arith,

@@ -10,7 +10,8 @@ unwrap-feeder-requires g c = c.pop.ensures.variant.1 (omega (arith, c.requires.s
 pub spawn_with-started-requires-clause-runs : goal.spawn_with-started-requires-clause-runs
 spawn_with-started-requires-clause-runs g c κs within =
     let whole = rw c.unwrap-feeder.ensures at c.pop.ensures.items in
-    All-append_last (λ feeder. (1 ≤ vec_len feeder.outlets) × (vec_len feeder.outlets ≤ 8)) c.pop.new.self.items c.unwrap-feeder.result (rw whole at c.requires.outlets)
+    All-append_last (λ feeder. (1 ≤ vec_len feeder.outlets) × (vec_len feeder.outlets ≤ 8))
+    c.pop.new.self.items c.unwrap-feeder.result (rw whole at c.requires.outlets)
 
 pub returns : goal.returns
 returns g c = record {
@@ -18,5 +19,9 @@ returns g c = record {
   split = rw c.unwrap-feeder.ensures at c.pop.ensures.items;
   promises =
       ok-holds c.spawn_with-started.result c.ok.result _ c.ok.ensures.value
-      (IfOk-weaker c.spawn_with-started.result _ _ (λ child same. (ap (λ p. p.feed.value) same ∙ c.of.ensures, ap (λ p. p.outlets.value) same ∙ c.of-2.ensures)) c.spawn_with-started.ensures.ok);
+      (IfOk-weaker c.spawn_with-started.result _ _
+      (λ child same. (
+        ap (λ p. p.feed.value) same ∙ c.of.ensures,
+        ap (λ p. p.outlets.value) same ∙ c.of-2.ensures,
+      )) c.spawn_with-started.ensures.ok);
 }

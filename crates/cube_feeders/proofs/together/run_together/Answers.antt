@@ -6,4 +6,9 @@ use Rattle.cube_feeders.proofs.together.run_together.Goals as goal
 pub scoped-requires : goal.scoped-requires
 scoped-requires g c =
     let r = c.requires in
-    record { at = λ s. (r.outlets, (r.start, (r.ready, (search sendable depth 20, search sendable depth 20, search rules, search rules)))) }
+    record {
+      at = λ s. (
+        r.outlets,
+        (r.start, (r.ready, (search sendable depth 20, search sendable depth 20, search rules, search rules))),
+      );
+    }

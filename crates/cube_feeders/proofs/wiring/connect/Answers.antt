@@ -6,7 +6,8 @@ pub loop-gatherer-preserved : goal.loop-gatherer-preserved
 loop-gatherer-preserved g c =
     let loop = c.loop-gatherer in
     rw c.in_ok-push-2.ensures.items
-    (connects-more loop.gatherer-index c.args.gatherers.now loop.gatherers loop.outlets.items c.gatherer-item.result _ c.in_ok-outlet.outlet loop.invariant (omega arith)
+    (connects-more loop.gatherer-index c.args.gatherers.now loop.gatherers loop.outlets.items c.gatherer-item.result _
+    c.in_ok-outlet.outlet loop.invariant (omega arith)
     (record {
       inlet = c.in_ok-outlet.inlet;
       inlets = c.in_ok-push.ensures.items;

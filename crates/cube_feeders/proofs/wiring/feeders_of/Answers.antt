@@ -13,16 +13,20 @@ pub loop-reader-preserved : goal.loop-reader-preserved
 loop-reader-preserved g c =
     let loop = c.loop-reader in
     let connects = c.in_ok-outlets.ensures in
-    let more = linked-more _ loop.gatherers c.connect.new.gatherers c.in_ok-outlets.outlets.items loop.invariant.0 connects in (
+    let more =
+    linked-more _ loop.gatherers c.connect.new.gatherers c.in_ok-outlets.outlets.items loop.invariant.0 connects in (
       rw (c.in_ok-push.ensures.items, map-append) more,
       rw (c.in_ok-push.ensures.items, map-append, map-append, loop.invariant.1) (search rules),
-      builders-connects loop.gatherers c.connect.new.gatherers c.in_ok-outlets.outlets.items connects ∙ loop.invariant.2,
+      builders-connects loop.gatherers c.connect.new.gatherers c.in_ok-outlets.outlets.items connects
+          ∙ loop.invariant.2,
     )
 
 pub returns-clause-feeds : goal.returns-clause-feeds
 returns-clause-feeds g c =
     let loop = c.loop-reader in
     let gives = c.into_iter-reader-iterator.ensures.into_iter_gives in
-    let ends = YieldsList-end (YieldsList-from_vec c.args.readers.items (search (rules, gives)) (search (rules, gives))) loop.yielded loop.reader-iterator loop.yielded_by c.next.result c.next.new.self c.in-None.is c.next.ensures.steps in
+    let ends = YieldsList-end (YieldsList-from_vec c.args.readers.items (search (rules, gives)) (search (rules, gives)))
+    loop.yielded loop.reader-iterator loop.yielded_by c.next.result c.next.new.self c.in-None.is c.next.ensures.steps in
     let all : loop.yielded ≡ c.args.readers.items = sym (map-id loop.yielded) ∙ ends.0 in
-    loop.invariant.1 ∙ ap (λ readers. map (λ reader. coming_of c.args.schema.now (g.R.Read.remaining reader)) readers) all
+    loop.invariant.1
+    ∙ ap (λ readers. map (λ reader. coming_of c.args.schema.now (g.R.Read.remaining reader)) readers) all

@@ -5,5 +5,6 @@ use Rattle.cube_feeders.proofs.wiring.feeders_of.Given as goal
 abbrev pub invariant-loop-reader : goal.invariant-loop-reader
 invariant-loop-reader g l =
     AreLinked (map (λ feeder. feeder.outlets.items) l.feeders.items) l.gatherers
-    × (map (λ feeder. feeder.feed.to_come) l.feeders.items ≡ map (λ reader. coming_of l.schema (g.R.Read.remaining reader)) l.yielded)
+    × (map (λ feeder. feeder.feed.to_come) l.feeders.items
+    ≡ map (λ reader. coming_of l.schema (g.R.Read.remaining reader)) l.yielded)
     × (map (λ gatherer. gatherer.builder) l.gatherers ≡ map (λ gatherer. gatherer.builder) l.initial.gatherers)

@@ -9,20 +9,26 @@ use Rattle.cube_journal.proofs.crash.crash_and_open.Goals as goal
 pub returns-in-Ok-clause-found : goal.returns-in-Ok-clause-found
 returns-in-Ok-clause-found g c = λ clean.
     let mid = g.S.Store.view c.crash_and_reopen.new.self in
-    let midway : IsClean mid = omega (arith, c.in-Ok.ensures.quiet.clean) in
-    (mid.committed, rw c.into_store-store.ensures.value at (c.in_default.ensures.found midway), (c.in-Ok.ensures.found clean).stored, (c.in-Ok.ensures.found clean).held)
+    let midway : IsClean mid = omega (arith, c.in-Ok.ensures.quiet.clean) in (
+      mid.committed,
+      rw c.into_store-store.ensures.value at (c.in_default.ensures.found midway),
+      (c.in-Ok.ensures.found clean).stored,
+      (c.in-Ok.ensures.found clean).held,
+    )
 
 pub returns-in-Ok-clause-last : goal.returns-in-Ok-clause-last
 returns-in-Ok-clause-last g c = λ clean is_open.
     let old = c.args.journal.store in
     let mid = g.S.Store.view c.crash_and_reopen.new.self in
     let midway : IsClean mid = omega (arith, c.in-Ok.ensures.quiet.clean) in
-    let same = g.met.S.Store.settled old mid.committed is_open (rw c.into_store-store.ensures.value at (c.in_default.ensures.found midway)) in
+    let same = g.met.S.Store.settled old mid.committed is_open
+    (rw c.into_store-store.ensures.value at (c.in_default.ensures.found midway)) in
     (c.in-Ok.ensures.found clean).stored ∙ ap (λ (t : Trees). entries_in (t 0)) same
 
 pub returns-in-Ok-clause-taken : goal.returns-in-Ok-clause-taken
 returns-in-Ok-clause-taken g c = λ clean.
-    subst (λ es. TakesAll g.K.ChangeSink.takes c.args.sink.now es c.open.new.sink) (sym (c.in-Ok.ensures.found clean).stored) (c.in-Ok.ensures.taken clean)
+    subst (λ es. TakesAll g.K.ChangeSink.takes c.args.sink.now es c.open.new.sink)
+    (sym (c.in-Ok.ensures.found clean).stored) (c.in-Ok.ensures.taken clean)
 
 pub returns-in-Err-open-clause-accepts : goal.returns-in-Err-open-clause-accepts
 returns-in-Err-open-clause-accepts g c = λ clean all.
@@ -38,6 +44,8 @@ returns-in-Err-open-clause-accepts g c = λ clean all.
     let fresh : IsReopened was view = rw same at c.in_default.ensures.fresh in
     let up : g.S.Store.faults old ≤ g.S.Store.faults mid = rw same at c.crash_and_reopen.ensures.counts in
     let tables : IsClean was → HasTables was = c.into_store-store.ensures.tables in
-    let store = laws.reopened_store was view (entries_of c.args.notes.now) tables before midway fresh (g.met.S.Store.broken_if_shut mid)
+    let store = laws.reopened_store was view (entries_of c.args.notes.now) tables before midway fresh
+    (g.met.S.Store.broken_if_shut mid)
     (λ sound e. (g.met.S.Store.unaltered mid sound e).0) (all view.committed left) in
-    laws.failed_since (g.S.Store.faults old) (g.S.Store.faults mid) (g.S.Store.faults c.in-Err-open.refused.1) c.in-Err-open.refused.0 up (c.in-Err-open.ensures.accepts clean store)
+    laws.failed_since (g.S.Store.faults old) (g.S.Store.faults mid)
+    (g.S.Store.faults c.in-Err-open.refused.1) c.in-Err-open.refused.0 up (c.in-Err-open.ensures.accepts clean store)

@@ -5,8 +5,11 @@ use Rattle.cube_journal.proofs.cursor.begin.Goals as goal
 
 pub returns-clause-ok : goal.returns-clause-ok
 returns-clause-ok g c =
-    on_ok_weaker c.seek.result (λ h clean. laws.begins (g.S.Store.view c.args.store.now) (g.S.Store.view c.seek.new.self) c.args.tree c.clear.new.self c.clear.ensures (h clean)) c.seek.ensures.ok
+    on_ok_weaker c.seek.result (λ h clean. laws.begins (g.S.Store.view c.args.store.now)
+    (g.S.Store.view c.seek.new.self) c.args.tree c.clear.new.self c.clear.ensures (h clean)) c.seek.ensures.ok
 
 pub returns-clause-cause : goal.returns-clause-cause
 returns-clause-cause g c = λ clean. IfErr-weaker c.seek.result _ _
-    (λ e h. laws.read_cause (g.S.Store.view c.args.store.now) (MoreFaults (g.S.Store.faults c.args.store.now) (g.S.Store.faults c.seek.new.self)) e h) (c.seek.ensures.cause clean)
+    (λ e h. laws.read_cause (g.S.Store.view c.args.store.now)
+    (MoreFaults (g.S.Store.faults c.args.store.now) (g.S.Store.faults c.seek.new.self)) e h)
+    (c.seek.ensures.cause clean)

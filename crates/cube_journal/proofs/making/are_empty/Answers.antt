@@ -6,7 +6,8 @@ use Rattle.cube_journal.proofs.OpenLaws as opening
 use Rattle.cube_journal.proofs.making.are_empty.Goals as goal
 
 pub returns-then-not-branch-clause-found : goal.returns-then-not-branch-clause-found
-returns-then-not-branch-clause-found g c = λ clean both. (rw c.if-not-branch.true at (c.in_ok-is_empty.ensures.found clean)) both.0
+returns-then-not-branch-clause-found g c =
+    λ clean both. (rw c.if-not-branch.true at (c.in_ok-is_empty.ensures.found clean)) both.0
 
 pub returns-clause-found : goal.returns-clause-found
 returns-clause-found g c =
@@ -14,7 +15,8 @@ returns-clause-found g c =
     let mid = g.S.Store.view c.is_empty.new.store in
     IfOk-weaker c.is_empty-2.result _ _ (λ b h clean.
     let midway : IsClean mid = omega (arith, c.is_empty-2.ensures.quiet.clean) in
-    laws.both_empty old mid b (c.in_ok-is_empty.ensures.reads midway) (rw c.if-not-branch.false at (c.in_ok-is_empty.ensures.found midway)) (h clean)) c.is_empty-2.ensures.found
+    laws.both_empty old mid b (c.in_ok-is_empty.ensures.reads midway)
+    (rw c.if-not-branch.false at (c.in_ok-is_empty.ensures.found midway)) (h clean)) c.is_empty-2.ensures.found
 
 pub returns-clause-cause : goal.returns-clause-cause
 returns-clause-cause g c = λ clean.
@@ -22,5 +24,6 @@ returns-clause-cause g c = λ clean.
     let mid = c.is_empty.new.store in
     let now = c.is_empty-2.new.store in
     let midway : IsClean (g.S.Store.view mid) = omega (arith, c.is_empty-2.ensures.quiet.clean) in
-    IfErr-weaker c.is_empty-2.result _ _ (λ e h. opening.cause_since (g.S.Store.view old) (g.S.Store.view mid) (g.S.Store.faults old) (g.S.Store.faults mid) (g.S.Store.faults now) e
+    IfErr-weaker c.is_empty-2.result _ _ (λ e h. opening.cause_since (g.S.Store.view old) (g.S.Store.view mid)
+    (g.S.Store.faults old) (g.S.Store.faults mid) (g.S.Store.faults now) e
     c.is_empty.ensures.quiet.counts (c.in_ok-is_empty.ensures.reads midway) h) (c.is_empty-2.ensures.cause clean)

@@ -9,11 +9,13 @@ returns-then-branch-clause-found g c = λ clean.
     let old = g.S.Store.view c.args.store.now in
     let mid = g.S.Store.view c.begin.new.store in
     let midway : IsClean mid = omega (arith, c.step.ensures.quiet.clean) in
-    laws.has_row old mid c.args.tree c.step.new.row (left_of (g.S.Store.view c.step.new.store) 0) (c.in_ok-begin.ensures.ok midway) (rw c.if-branch.true at (c.in_ok-step.ensures.ok clean)).1
+    laws.has_row old mid c.args.tree c.step.new.row (left_of (g.S.Store.view c.step.new.store) 0)
+    (c.in_ok-begin.ensures.ok midway) (rw c.if-branch.true at (c.in_ok-step.ensures.ok clean)).1
 
 pub returns-clause-found : goal.returns-clause-found
 returns-clause-found g c = λ clean.
     let old = g.S.Store.view c.args.store.now in
     let mid = g.S.Store.view c.begin.new.store in
     let midway : IsClean mid = omega (arith, c.step.ensures.quiet.clean) in
-    laws.has_none old mid c.args.tree (c.in_ok-begin.ensures.ok midway) (rw c.if-branch.false at (c.in_ok-step.ensures.ok clean)).1
+    laws.has_none old mid c.args.tree (c.in_ok-begin.ensures.ok midway)
+    (rw c.if-branch.false at (c.in_ok-step.ensures.ok clean)).1

@@ -9,7 +9,8 @@ invariant-notes g l =
     let now = g.S.Store.view l.store in
     record {
       others : IsClean now → OnlyWrites old now;
-      rows : IsClean now → old.trees 1 ≡ [] → (now.trees 0 ≡ old.trees 0) × (now.trees 1 ≡ rows_from 0 (take l.at (entries_of l.notes)));
+      rows : IsClean now → old.trees 1 ≡ []
+          → (now.trees 0 ≡ old.trees 0) × (now.trees 1 ≡ rows_from 0 (take l.at (entries_of l.notes)));
       schema : KeepsSchema old now;
       quiet : IsQuiet g.S.Store.view g.S.Store.faults g.S.Store.recovers g.S.Store.is_shielded l.fn.store l.store;
     }

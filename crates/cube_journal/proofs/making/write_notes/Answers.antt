@@ -14,7 +14,9 @@ returns-clause-made g c = λ clean.
     let midway : IsClean mid = omega (arith, c.put_notes.ensures.quiet.clean) in
     let none = rw c.if-not-branch.false at (c.in_ok-are_empty.ensures.found midway) in
     let reads = c.in_ok-are_empty.ensures.reads midway in
-    laws.made_is old mid put (entries_of c.args.notes.now) reads none (c.in_ok-put_notes.ensures.rows put_clean (ap (λ (v : View). v.trees 1) reads ∙ none.1)) (g.S.Store.view c.commit.new.self) (c.in_ok-commit.ensures.ok clean)
+    laws.made_is old mid put (entries_of c.args.notes.now) reads none
+    (c.in_ok-put_notes.ensures.rows put_clean (ap (λ (v : View). v.trees 1) reads ∙ none.1))
+    (g.S.Store.view c.commit.new.self) (c.in_ok-commit.ensures.ok clean)
     (c.has_tables.ensures.0 c.if-not-has_tables.false)
 
 pub returns-clause-crash : goal.returns-clause-crash
@@ -24,12 +26,15 @@ returns-clause-crash g c = λ db h.
     let put = g.S.Store.view c.put_notes.new.store in
     elim (c.commit.ensures.crash db h) [
       | inl both ↦ (
-          let put_clean = clean_if_open put (g.met.S.Store.shut_if_dirty c.put_notes.new.store) (open_if_sound put (g.met.S.Store.broken_if_shut c.put_notes.new.store) both.0) in
+          let put_clean = clean_if_open put (g.met.S.Store.shut_if_dirty c.put_notes.new.store)
+          (open_if_sound put (g.met.S.Store.broken_if_shut c.put_notes.new.store) both.0) in
           let midway : IsClean mid = omega (arith, c.put_notes.ensures.quiet.clean) in
           let before : IsClean old = omega (arith, c.are_empty.ensures.quiet.clean) in
           let none = rw c.if-not-branch.false at (c.in_ok-are_empty.ensures.found midway) in
           let reads = c.in_ok-are_empty.ensures.reads midway in
-          inl (laws.puts_notes old mid put (entries_of c.args.notes.now) reads none (c.in_ok-put_notes.ensures.rows put_clean (ap (λ (v : View). v.trees 1) reads ∙ none.1)) db before both.0 both.1))
+          inl (laws.puts_notes old mid put (entries_of c.args.notes.now) reads none
+          (c.in_ok-put_notes.ensures.rows put_clean (ap (λ (v : View). v.trees 1) reads ∙ none.1))
+          db before both.0 both.1))
       | inr earlier ↦ inr (c.are_empty.ensures.quiet.outcomes db (c.put_notes.ensures.quiet.outcomes db earlier))
     ]
 
@@ -40,11 +45,14 @@ returns-in_err-commit-clause-crash g c = λ db h.
     let put = g.S.Store.view c.put_notes.new.store in
     elim (c.commit.ensures.crash db h) [
       | inl both ↦ (
-          let put_clean = clean_if_open put (g.met.S.Store.shut_if_dirty c.put_notes.new.store) (open_if_sound put (g.met.S.Store.broken_if_shut c.put_notes.new.store) both.0) in
+          let put_clean = clean_if_open put (g.met.S.Store.shut_if_dirty c.put_notes.new.store)
+          (open_if_sound put (g.met.S.Store.broken_if_shut c.put_notes.new.store) both.0) in
           let midway : IsClean mid = omega (arith, c.put_notes.ensures.quiet.clean) in
           let before : IsClean old = omega (arith, c.are_empty.ensures.quiet.clean) in
           let none = rw c.if-not-branch.false at (c.in_ok-are_empty.ensures.found midway) in
           let reads = c.in_ok-are_empty.ensures.reads midway in
-          inl (laws.puts_notes old mid put (entries_of c.args.notes.now) reads none (c.in_ok-put_notes.ensures.rows put_clean (ap (λ (v : View). v.trees 1) reads ∙ none.1)) db before both.0 both.1))
+          inl (laws.puts_notes old mid put (entries_of c.args.notes.now) reads none
+          (c.in_ok-put_notes.ensures.rows put_clean (ap (λ (v : View). v.trees 1) reads ∙ none.1))
+          db before both.0 both.1))
       | inr earlier ↦ inr (c.are_empty.ensures.quiet.outcomes db (c.put_notes.ensures.quiet.outcomes db earlier))
     ]

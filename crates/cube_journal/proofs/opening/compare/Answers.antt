@@ -14,10 +14,13 @@ notes-preserved g c =
     let within : c.notes.at < length c.args.notes.now = omega arith in
     record {
       live = search rules;
-      reads = λ clean. laws.reads_then old before now (c.notes.invariant.reads (back clean)) (rw c.if-not-branch.false at (c.in_ok-step.ensures.ok clean)).0;
+      reads = λ clean. laws.reads_then old before now (c.notes.invariant.reads (back clean))
+          (rw c.if-not-branch.false at (c.in_ok-step.ensures.ok clean)).0;
       quiet = search rules;
-      passed = λ clean. compare.passed_more (old.trees 1) c.args.notes.now c.notes.at _ c.step.new.row (left_of before 0) (left_of now 0) within
-          (compare.index_is c.args.notes.now c.notes.at _ within) (c.notes.invariant.passed (back clean)) (rw c.if-not-branch.false at (c.in_ok-step.ensures.ok clean)).1
+      passed = λ clean. compare.passed_more (old.trees 1) c.args.notes.now c.notes.at _ c.step.new.row
+          (left_of before 0) (left_of now 0) within
+          (compare.index_is c.args.notes.now c.notes.at _ within) (c.notes.invariant.passed (back clean))
+          (rw c.if-not-branch.false at (c.in_ok-step.ensures.ok clean)).1
           (c.is_note.ensures.0 c.if-not-is_note.false);
       sound = λ clean. c.notes.invariant.sound (back clean);
     }
@@ -30,7 +33,8 @@ returns-then-not-branch-clause-cause g c = λ clean.
     let within : c.notes.at < length c.args.notes.now = omega arith in
     let note = compare.some_note c.args.notes.now c.notes.at within in (
       c.notes.invariant.sound back,
-      compare.ends_before (old.trees 1) c.args.notes.now c.notes.at note.0 (left_of before 0) within note.1 (c.notes.invariant.passed back)
+      compare.ends_before (old.trees 1) c.args.notes.now c.notes.at note.0 (left_of before 0) within note.1
+          (c.notes.invariant.passed back)
           (rw c.if-not-branch.true at (c.in_ok-step.ensures.ok clean)).1,
     )
 
@@ -42,8 +46,10 @@ returns-then-not-is_note-clause-cause g c = λ clean.
     let back : IsClean before = omega (arith, c.step.ensures.quiet.clean) in
     let within : c.notes.at < length c.args.notes.now = omega arith in (
       c.notes.invariant.sound back,
-      compare.differs (old.trees 1) c.args.notes.now c.notes.at _ c.step.new.row (left_of before 0) (left_of now 0) within
-          (compare.index_is c.args.notes.now c.notes.at _ within) (c.notes.invariant.passed back) (rw c.if-not-branch.false at (c.in_ok-step.ensures.ok clean)).1
+      compare.differs (old.trees 1) c.args.notes.now c.notes.at _ c.step.new.row (left_of before 0)
+          (left_of now 0) within
+          (compare.index_is c.args.notes.now c.notes.at _ within) (c.notes.invariant.passed back)
+          (rw c.if-not-branch.false at (c.in_ok-step.ensures.ok clean)).1
           (λ same. true≢false (sym (c.is_note.ensures.1 same) ∙ c.if-not-is_note.true)),
     )
 
@@ -55,6 +61,7 @@ returns-then-branch-clause-cause g c = λ clean.
     let back : IsClean before = omega (arith, c.step-2.ensures.quiet.clean) in
     let end : c.notes.at ≡ length c.args.notes.now = omega arith in (
       c.notes.invariant.sound back,
-      compare.one_left (old.trees 1) c.args.notes.now c.notes.at c.step-2.new.row (left_of before 0) (left_of now 0) end (c.notes.invariant.passed back)
+      compare.one_left (old.trees 1) c.args.notes.now c.notes.at c.step-2.new.row (left_of before 0) (left_of now 0) end
+          (c.notes.invariant.passed back)
           (rw c.if-branch.true at (c.in_ok-step-2.ensures.ok clean)).1,
     )

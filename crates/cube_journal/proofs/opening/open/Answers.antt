@@ -14,8 +14,10 @@ invariant_of-result g c =
     let mid = g.S.Store.view c.rollback.new.self in
     let now = g.S.Store.view c.read_all.new.store in
     let to_mid : IsClean now → IsClean mid = λ h. omega (arith, c.read_all.ensures.quiet.clean) in
-    opening.open_is was mid now c.in-Ok.count (entries_of c.args.notes.now) c.rollback.ensures.undone to_mid c.in-Ok.ensures.reads c.in-Ok.ensures.sound c.in-Ok.ensures.changes c.in-Ok.ensures.same
-    (g.met.S.Store.broken_if_shut c.rollback.new.self) c.in-Ok.ensures.few c.in-Ok.ensures.tables (λ s e. (g.met.S.Store.unaltered c.rollback.new.self s (ap (λ t. t catalog_tree) e)).0)
+    opening.open_is was mid now c.in-Ok.count (entries_of c.args.notes.now) c.rollback.ensures.undone to_mid
+    c.in-Ok.ensures.reads c.in-Ok.ensures.sound c.in-Ok.ensures.changes c.in-Ok.ensures.same
+    (g.met.S.Store.broken_if_shut c.rollback.new.self) c.in-Ok.ensures.few c.in-Ok.ensures.tables
+    (λ s e. (g.met.S.Store.unaltered c.rollback.new.self s (ap (λ t. t catalog_tree) e)).0)
     (g.met.S.Store.shut_if_dirty c.read_all.new.store)
 
 pub returns-in-Ok-clause-found : goal.returns-in-Ok-clause-found
@@ -24,7 +26,8 @@ returns-in-Ok-clause-found g c =
     let mid = g.S.Store.view c.rollback.new.self in
     let now = g.S.Store.view c.read_all.new.store in
     let to_mid : IsClean now → IsClean mid = λ h. omega (arith, c.read_all.ensures.quiet.clean) in
-    opening.open_finds was mid now c.in-Ok.count (entries_of c.args.notes.now) c.rollback.ensures.undone to_mid c.in-Ok.ensures.reads c.in-Ok.ensures.sound c.in-Ok.ensures.changes c.in-Ok.ensures.same
+    opening.open_finds was mid now c.in-Ok.count (entries_of c.args.notes.now) c.rollback.ensures.undone to_mid
+    c.in-Ok.ensures.reads c.in-Ok.ensures.sound c.in-Ok.ensures.changes c.in-Ok.ensures.same
     (g.met.S.Store.broken_if_shut c.rollback.new.self)
 
 pub returns-in-Ok-clause-noted : goal.returns-in-Ok-clause-noted
@@ -33,7 +36,8 @@ returns-in-Ok-clause-noted g c =
     let mid = g.S.Store.view c.rollback.new.self in
     let now = g.S.Store.view c.read_all.new.store in
     let to_mid : IsClean now → IsClean mid = λ h. omega (arith, c.read_all.ensures.quiet.clean) in
-    opening.open_noted was mid now c.in-Ok.count (entries_of c.args.notes.now) c.rollback.ensures.undone to_mid c.in-Ok.ensures.reads c.in-Ok.ensures.sound c.in-Ok.ensures.changes c.in-Ok.ensures.same
+    opening.open_noted was mid now c.in-Ok.count (entries_of c.args.notes.now) c.rollback.ensures.undone to_mid
+    c.in-Ok.ensures.reads c.in-Ok.ensures.sound c.in-Ok.ensures.changes c.in-Ok.ensures.same
     (g.met.S.Store.broken_if_shut c.rollback.new.self)
 
 pub returns-in-Ok-clause-taken : goal.returns-in-Ok-clause-taken
@@ -41,21 +45,27 @@ returns-in-Ok-clause-taken g c = λ clean.
     let was = g.S.Store.view c.args.store in
     let mid = g.S.Store.view c.rollback.new.self in
     subst (λ (t : Trees). TakesAll g.K.ChangeSink.takes c.args.sink.now (entries_in (t 0)) c.read_all.new.sink)
-    (opening.same_trees was mid c.rollback.ensures.undone (g.met.S.Store.broken_if_shut c.rollback.new.self) (c.in-Ok.ensures.sound clean)) (c.in-Ok.ensures.taken clean)
+    (opening.same_trees was mid c.rollback.ensures.undone (g.met.S.Store.broken_if_shut c.rollback.new.self)
+    (c.in-Ok.ensures.sound clean)) (c.in-Ok.ensures.taken clean)
 
 pub returns-in-Err-clause-cause : goal.returns-in-Err-clause-cause
 returns-in-Err-clause-cause g c = λ clean.
     let mid = c.rollback.new.self in
     let now = c.read_all.new.store in
     let midway : IsClean (g.S.Store.view mid) = omega (arith, c.read_all.ensures.quiet.clean) in
-    opening.explains_before (g.S.Store.view c.args.store) (g.S.Store.view mid) (g.S.Store.faults c.args.store) (g.S.Store.faults mid) (g.S.Store.faults now) (entries_of c.args.notes.now) c.in-Err.fault
-    c.rollback.ensures.undone (g.met.S.Store.broken_if_shut mid) midway c.rollback.ensures.quiet.counts c.read_all.ensures.quiet.counts (c.rollback.ensures.quiet.closes midway) (c.in-Err.ensures.cause clean)
+    opening.explains_before (g.S.Store.view c.args.store) (g.S.Store.view mid) (g.S.Store.faults c.args.store)
+    (g.S.Store.faults mid) (g.S.Store.faults now) (entries_of c.args.notes.now) c.in-Err.fault
+    c.rollback.ensures.undone (g.met.S.Store.broken_if_shut mid) midway c.rollback.ensures.quiet.counts
+    c.read_all.ensures.quiet.counts (c.rollback.ensures.quiet.closes midway) (c.in-Err.ensures.cause clean)
 
 pub returns-in-Err-clause-accepts : goal.returns-in-Err-clause-accepts
 returns-in-Err-clause-accepts g c = λ clean store.
     let mid = c.rollback.new.self in
     let now = c.read_all.new.store in
     let midway : IsClean (g.S.Store.view mid) = omega (arith, c.read_all.ensures.quiet.clean) in
-    opening.accepts (MoreFaults (g.S.Store.faults c.args.store) (g.S.Store.faults now)) (g.S.Store.view c.args.store) (entries_of c.args.notes.now) c.in-Err.fault store
-    (opening.explains_before (g.S.Store.view c.args.store) (g.S.Store.view mid) (g.S.Store.faults c.args.store) (g.S.Store.faults mid) (g.S.Store.faults now) (entries_of c.args.notes.now) c.in-Err.fault
-    c.rollback.ensures.undone (g.met.S.Store.broken_if_shut mid) midway c.rollback.ensures.quiet.counts c.read_all.ensures.quiet.counts (c.rollback.ensures.quiet.closes midway) (c.in-Err.ensures.cause clean))
+    opening.accepts (MoreFaults (g.S.Store.faults c.args.store) (g.S.Store.faults now)) (g.S.Store.view c.args.store)
+    (entries_of c.args.notes.now) c.in-Err.fault store
+    (opening.explains_before (g.S.Store.view c.args.store) (g.S.Store.view mid) (g.S.Store.faults c.args.store)
+    (g.S.Store.faults mid) (g.S.Store.faults now) (entries_of c.args.notes.now) c.in-Err.fault
+    c.rollback.ensures.undone (g.met.S.Store.broken_if_shut mid) midway c.rollback.ensures.quiet.counts
+    c.read_all.ensures.quiet.counts (c.rollback.ensures.quiet.closes midway) (c.in-Err.ensures.cause clean))

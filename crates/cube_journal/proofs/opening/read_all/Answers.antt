@@ -15,7 +15,8 @@ pub returns-clause-changes : goal.returns-clause-changes
 returns-clause-changes g c = λ clean.
     let mid = g.S.Store.view c.compare.new.store in
     let midway : IsClean mid = omega (arith, c.replay.ensures.quiet.clean) in
-    subst (λ (t : Trees). AreChanges (t 0) c.in_ok-count.count) (ap (λ (v : View). v.trees) (c.in_ok-compare.ensures.reads midway)) (c.in_ok-count.ensures.changes clean)
+    subst (λ (t : Trees). AreChanges (t 0) c.in_ok-count.count)
+    (ap (λ (v : View). v.trees) (c.in_ok-compare.ensures.reads midway)) (c.in_ok-count.ensures.changes clean)
 
 pub returns-clause-same : goal.returns-clause-same
 returns-clause-same g c = λ clean.
@@ -27,7 +28,8 @@ pub returns-clause-taken : goal.returns-clause-taken
 returns-clause-taken g c = λ clean.
     let mid = g.S.Store.view c.compare.new.store in
     let midway : IsClean mid = omega (arith, c.replay.ensures.quiet.clean) in
-    subst (λ (t : Trees). TakesAll g.K.ChangeSink.takes c.args.sink.now (entries_in (t 0)) c.replay.new.sink) (ap (λ (v : View). v.trees) (c.in_ok-compare.ensures.reads midway))
+    subst (λ (t : Trees). TakesAll g.K.ChangeSink.takes c.args.sink.now (entries_in (t 0)) c.replay.new.sink)
+    (ap (λ (v : View). v.trees) (c.in_ok-compare.ensures.reads midway))
     (c.in_ok-count.ensures.taken clean)
 
 pub returns-clause-reads : goal.returns-clause-reads
@@ -50,8 +52,10 @@ returns-in_err-compare-clause-cause g c = λ clean.
     let old = c.args.store.now in
     let view = g.S.Store.view old in
     let fault = MoreFaults (g.S.Store.faults old) (g.S.Store.faults c.compare.new.store) in
-    rw (p.1, p.2) (opening.explains_then fault fault (IsTrue view.is_broken) (IsTrue view.is_broken) (view.is_broken ≡ false) (view.is_broken ≡ false) ⊤ ((view.shape 0 ≡ Table) × (view.shape 1 ≡ Table))
-    view.trees view.trees (entries_of c.args.notes.now) _ (λ x. x) (λ x. x) (λ x. x) (λ _. tt) (λ _. refl) (c.in_err-compare.ensures.cause clean))
+    rw (p.1, p.2) (opening.explains_then fault fault (IsTrue view.is_broken) (IsTrue view.is_broken)
+    (view.is_broken ≡ false) (view.is_broken ≡ false) ⊤ ((view.shape 0 ≡ Table) × (view.shape 1 ≡ Table))
+    view.trees view.trees (entries_of c.args.notes.now) _ (λ x. x) (λ x. x) (λ x. x) (λ _. tt) (λ _. refl)
+    (c.in_err-compare.ensures.cause clean))
 
 pub returns-in_err-count-clause-cause : goal.returns-in_err-count-clause-cause
 returns-in_err-count-clause-cause g c = λ clean.
@@ -65,7 +69,10 @@ returns-in_err-count-clause-cause g c = λ clean.
     let reads = c.in_ok-compare.ensures.reads midway in
     let broken : view.is_broken ≡ was.is_broken = ap (λ (v : View). v.is_broken) reads in
     let up : g.S.Store.faults old ≤ g.S.Store.faults mid = c.compare.ensures.quiet.counts in
-    let wide : MoreFaults (g.S.Store.faults mid) (g.S.Store.faults now) → MoreFaults (g.S.Store.faults old) (g.S.Store.faults now) = λ f. omega arith in
-    rw (p.1, p.2) (opening.explains_then (MoreFaults (g.S.Store.faults mid) (g.S.Store.faults now)) (MoreFaults (g.S.Store.faults old) (g.S.Store.faults now)) (IsTrue view.is_broken) (IsTrue was.is_broken)
-    (view.is_broken ≡ false) (was.is_broken ≡ false) ⊤ ((was.shape 0 ≡ Table) × (was.shape 1 ≡ Table)) view.trees was.trees (entries_of c.args.notes.now) _ wide (λ b. sym broken ∙ b) (λ b. sym broken ∙ b) (λ _. tt)
+    let wide : MoreFaults (g.S.Store.faults mid) (g.S.Store.faults now)
+    → MoreFaults (g.S.Store.faults old) (g.S.Store.faults now) = λ f. omega arith in
+    rw (p.1, p.2) (opening.explains_then (MoreFaults (g.S.Store.faults mid) (g.S.Store.faults now))
+    (MoreFaults (g.S.Store.faults old) (g.S.Store.faults now)) (IsTrue view.is_broken) (IsTrue was.is_broken)
+    (view.is_broken ≡ false) (was.is_broken ≡ false) ⊤ ((was.shape 0 ≡ Table) × (was.shape 1 ≡ Table))
+    view.trees was.trees (entries_of c.args.notes.now) _ wide (λ b. sym broken ∙ b) (λ b. sym broken ∙ b) (λ _. tt)
     (λ _. ap (λ (v : View). v.trees) reads) (c.in_err-count.ensures.cause clean (entries_of c.args.notes.now)))

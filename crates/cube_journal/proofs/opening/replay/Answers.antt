@@ -16,10 +16,13 @@ changes-preserved g c =
     let back : IsClean now → IsClean before = λ h. omega (arith, c.step.ensures.quiet.clean) in
     record {
       live = search rules;
-      reads = λ clean. laws.reads_then old before now (c.changes.invariant.reads (back clean)) (rw c.if-not-branch.false at (c.in_ok-step.ensures.ok clean)).0;
+      reads = λ clean. laws.reads_then old before now (c.changes.invariant.reads (back clean))
+          (rw c.if-not-branch.false at (c.in_ok-step.ensures.ok clean)).0;
       quiet = search rules;
-      taken = λ clean. laws.one_taken g.K.ChangeSink.takes (old.trees 0) (left_of before 0) (left_of now 0) row c.changes.at c.args.sink.now c.changes.sink c.take.new.self change
-          (c.changes.invariant.taken (back clean)) (rw c.if-not-branch.false at (c.in_ok-step.ensures.ok clean)).1 c.in-Some.ensures.some c.in-Some.ensures.source
+      taken = λ clean. laws.one_taken g.K.ChangeSink.takes (old.trees 0) (left_of before 0)
+          (left_of now 0) row c.changes.at c.args.sink.now c.changes.sink c.take.new.self change
+          (c.changes.invariant.taken (back clean)) (rw c.if-not-branch.false at (c.in_ok-step.ensures.ok clean)).1
+          c.in-Some.ensures.some c.in-Some.ensures.source
           (rw (c.bytes_of.ensures, c.get.ensures) at c.in_ok-take-in-Some.ensures);
       sound = λ clean. c.changes.invariant.sound (back clean);
     }
@@ -29,14 +32,16 @@ returns-then-not-branch-clause-changes g c = λ clean.
     let old = g.S.Store.view c.args.store.now in
     let before = g.S.Store.view c.changes.store in
     let back : IsClean before = omega (arith, c.step.ensures.quiet.clean) in
-    (laws.all_taken g.K.ChangeSink.takes (old.trees 0) (left_of before 0) c.changes.at c.args.sink.now c.changes.sink (c.changes.invariant.taken back) (rw c.if-not-branch.true at (c.in_ok-step.ensures.ok clean)).1).0
+    (laws.all_taken g.K.ChangeSink.takes (old.trees 0) (left_of before 0) c.changes.at c.args.sink.now c.changes.sink
+    (c.changes.invariant.taken back) (rw c.if-not-branch.true at (c.in_ok-step.ensures.ok clean)).1).0
 
 pub returns-then-not-branch-clause-taken : goal.returns-then-not-branch-clause-taken
 returns-then-not-branch-clause-taken g c = λ clean.
     let old = g.S.Store.view c.args.store.now in
     let before = g.S.Store.view c.changes.store in
     let back : IsClean before = omega (arith, c.step.ensures.quiet.clean) in
-    (laws.all_taken g.K.ChangeSink.takes (old.trees 0) (left_of before 0) c.changes.at c.args.sink.now c.changes.sink (c.changes.invariant.taken back) (rw c.if-not-branch.true at (c.in_ok-step.ensures.ok clean)).1).1
+    (laws.all_taken g.K.ChangeSink.takes (old.trees 0) (left_of before 0) c.changes.at c.args.sink.now c.changes.sink
+    (c.changes.invariant.taken back) (rw c.if-not-branch.true at (c.in_ok-step.ensures.ok clean)).1).1
 
 pub returns-then-not-branch-clause-reads : goal.returns-then-not-branch-clause-reads
 returns-then-not-branch-clause-reads g c = λ clean.
@@ -44,7 +49,8 @@ returns-then-not-branch-clause-reads g c = λ clean.
     let before = g.S.Store.view c.changes.store in
     let now = g.S.Store.view c.step.new.store in
     let back : IsClean before = omega (arith, c.step.ensures.quiet.clean) in
-    laws.reads_then old before now (c.changes.invariant.reads back) (rw c.if-not-branch.true at (c.in_ok-step.ensures.ok clean)).0
+    laws.reads_then old before now (c.changes.invariant.reads back)
+    (rw c.if-not-branch.true at (c.in_ok-step.ensures.ok clean)).0
 
 pub returns-in-None-clause-cause : goal.returns-in-None-clause-cause
 returns-in-None-clause-cause g c = λ clean notes.
@@ -53,14 +59,17 @@ returns-in-None-clause-cause g c = λ clean notes.
     let now = g.S.Store.view c.step.new.store in
     let back : IsClean before = omega (arith, c.step.ensures.quiet.clean) in (
       c.changes.invariant.sound back,
-      laws.foreign_next g.K.ChangeSink.takes (old.trees 0) (left_of before 0) (left_of now 0) c.step.new.row c.changes.at c.args.sink.now c.changes.sink
-          (c.changes.invariant.taken back) (rw c.if-not-branch.false at (c.in_ok-step.ensures.ok clean)).1 c.in-None.ensures.none,
+      laws.foreign_next g.K.ChangeSink.takes (old.trees 0) (left_of before 0)
+          (left_of now 0) c.step.new.row c.changes.at c.args.sink.now c.changes.sink
+          (c.changes.invariant.taken back)
+          (rw c.if-not-branch.false at (c.in_ok-step.ensures.ok clean)).1 c.in-None.ensures.none,
     )
 
 pub returns-clause-cause : goal.returns-clause-cause
 returns-clause-cause g c = λ clean notes.
     let old = g.S.Store.view c.args.store.now in
     let now = g.S.Store.view c.changes.store in
-    let passed : c.changes.at ≤ length (old.trees 0) = laws.taken_length g.K.ChangeSink.takes (old.trees 0) (left_of now 0) c.changes.at c.args.sink.now c.changes.sink (c.changes.invariant.taken clean) in
+    let passed : c.changes.at ≤ length (old.trees 0) = laws.taken_length g.K.ChangeSink.takes (old.trees 0)
+    (left_of now 0) c.changes.at c.args.sink.now c.changes.sink (c.changes.invariant.taken clean) in
     let many : 2 ^ 62 < length (old.trees 0) = omega arith in
     (c.changes.invariant.sound clean, many)

@@ -8,4 +8,5 @@ use Rattle.cube_laws.proofs.sets.rows_are_those_of_the_whole_cube.Goals as goal
 pub returns : goal.returns
 returns c s facts rows whole is are are_whole =
     AreRowsOver-unique s.grouping_sets (length s.dimensions) s.aggregates facts rows (rows_in s.grouping_sets whole) are
-    (AreRowsOver-AreAmong (length s.dimensions) s.aggregates facts whole (all_sets (length s.dimensions)) s.grouping_sets (IsSchema-AreAmong s is) are_whole)
+    (AreRowsOver-AreAmong (length s.dimensions) s.aggregates facts whole
+    (all_sets (length s.dimensions)) s.grouping_sets (IsSchema-AreAmong s is) are_whole)

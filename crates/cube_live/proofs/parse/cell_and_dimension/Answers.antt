@@ -7,7 +7,8 @@ use Rattle.cube_live.proofs.parse.cell_and_dimension.Goals as goal
 pub returns-in-Err : goal.returns-in-Err
 returns-in-Err c =
     let spelled = c.in_ok-pattern.ensures (spelled_by (fields_of c.in_ok-rest.rest)) c.of_record.ensures in
-    at-no_pattern c.args.schema.now (fields_of c.args.fields.now) c.in-Err.fault (sym (ap spelled_by c.in_ok-rest.ensures) ∙ sym spelled ∙ c.in-Err.is)
+    at-no_pattern c.args.schema.now (fields_of c.args.fields.now) c.in-Err.fault
+    (sym (ap spelled_by c.in_ok-rest.ensures) ∙ sym spelled ∙ c.in-Err.is)
 
 pub returns-in-Err-2 : goal.returns-in-Err-2
 returns-in-Err-2 c =

@@ -7,26 +7,31 @@ pub returns-in-Ok : goal.returns-in-Ok
 returns-in-Ok c =
     let s = c.args.schema.now in
     let fields = fields_of c.args.fields.now in
-    let width : length fields ≡ 2 + length s.dimensions = sym c.len.ensures ∙ c.if-len-dimensions.false ∙ ap (λ (l : List (List ℕ)). 2 + length l) c.dimensions.ensures.value in
-    c.drill_by.ensures ∙ drill-found s fields (Ok (c.in-Ok.key, c.in-Ok.dimension)) width (sym c.in-Ok.is ∙ c.in_ok-key.ensures)
+    let width : length fields ≡ 2 + length s.dimensions = sym c.len.ensures ∙ c.if-len-dimensions.false
+    ∙ ap (λ (l : List (List ℕ)). 2 + length l) c.dimensions.ensures.value in
+    c.drill_by.ensures
+    ∙ drill-found s fields (Ok (c.in-Ok.key, c.in-Ok.dimension)) width (sym c.in-Ok.is ∙ c.in_ok-key.ensures)
 
 pub returns-in-Err : goal.returns-in-Err
 returns-in-Err c =
     let s = c.args.schema.now in
     let fields = fields_of c.args.fields.now in
-    let width : length fields ≡ 2 + length s.dimensions = sym c.len.ensures ∙ c.if-len-dimensions.false ∙ ap (λ (l : List (List ℕ)). 2 + length l) c.dimensions.ensures.value in
+    let width : length fields ≡ 2 + length s.dimensions = sym c.len.ensures ∙ c.if-len-dimensions.false
+    ∙ ap (λ (l : List (List ℕ)). 2 + length l) c.dimensions.ensures.value in
     drill-found s fields (Err c.in-Err.fault) width (sym c.in-Err.is ∙ c.in_ok-key.ensures)
 
 pub drill_by-requires-clause-width : goal.drill_by-requires-clause-width
 drill_by-requires-clause-width c =
     let s = c.args.schema.now in
     let fields = fields_of c.args.fields.now in
-    let width : length fields ≡ 2 + length s.dimensions = sym c.len.ensures ∙ c.if-len-dimensions.false ∙ ap (λ (l : List (List ℕ)). 2 + length l) c.dimensions.ensures.value in
+    let width : length fields ≡ 2 + length s.dimensions = sym c.len.ensures ∙ c.if-len-dimensions.false
+    ∙ ap (λ (l : List (List ℕ)). 2 + length l) c.dimensions.ensures.value in
     (found-sound s fields (c.in-Ok.key, c.in-Ok.dimension) width (sym c.in-Ok.is ∙ c.in_ok-key.ensures)).1
 
 pub drill_by-requires-clause-dimension : goal.drill_by-requires-clause-dimension
 drill_by-requires-clause-dimension c =
     let s = c.args.schema.now in
     let fields = fields_of c.args.fields.now in
-    let width : length fields ≡ 2 + length s.dimensions = sym c.len.ensures ∙ c.if-len-dimensions.false ∙ ap (λ (l : List (List ℕ)). 2 + length l) c.dimensions.ensures.value in
+    let width : length fields ≡ 2 + length s.dimensions = sym c.len.ensures ∙ c.if-len-dimensions.false
+    ∙ ap (λ (l : List (List ℕ)). 2 + length l) c.dimensions.ensures.value in
     (found-sound s fields (c.in-Ok.key, c.in-Ok.dimension) width (sym c.in-Ok.is ∙ c.in_ok-key.ensures)).0

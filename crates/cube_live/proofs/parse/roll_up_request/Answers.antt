@@ -7,12 +7,14 @@ pub returns-in-Ok : goal.returns-in-Ok
 returns-in-Ok c =
     let s = c.args.schema.now in
     let fields = fields_of c.args.fields.now in
-    let width : length fields ≡ 2 + length s.dimensions = sym c.len.ensures ∙ c.if-len-dimensions.false ∙ ap (λ (l : List (List ℕ)). 2 + length l) c.dimensions.ensures.value in
+    let width : length fields ≡ 2 + length s.dimensions = sym c.len.ensures ∙ c.if-len-dimensions.false
+    ∙ ap (λ (l : List (List ℕ)). 2 + length l) c.dimensions.ensures.value in
     roll_up-found s fields (Ok (c.in-Ok.key, c.in-Ok.dimension)) width (sym c.in-Ok.is ∙ c.in_ok-key.ensures)
 
 pub returns-in-Err : goal.returns-in-Err
 returns-in-Err c =
     let s = c.args.schema.now in
     let fields = fields_of c.args.fields.now in
-    let width : length fields ≡ 2 + length s.dimensions = sym c.len.ensures ∙ c.if-len-dimensions.false ∙ ap (λ (l : List (List ℕ)). 2 + length l) c.dimensions.ensures.value in
+    let width : length fields ≡ 2 + length s.dimensions = sym c.len.ensures ∙ c.if-len-dimensions.false
+    ∙ ap (λ (l : List (List ℕ)). 2 + length l) c.dimensions.ensures.value in
     roll_up-found s fields (Err c.in-Err.fault) width (sym c.in-Err.is ∙ c.in_ok-key.ensures)

@@ -8,7 +8,8 @@ pub returns-in-Ok : goal.returns-in-Ok
 returns-in-Ok c =
     let s = c.args.schema.now in
     let fields = fields_of c.args.fields.now in
-    let width : length fields ≡ 1 + length s.dimensions = sym c.len.ensures ∙ c.if-len-dimensions.false ∙ ap (λ (l : List (List ℕ)). 1 + length l) c.dimensions.ensures.value in
+    let width : length fields ≡ 1 + length s.dimensions = sym c.len.ensures ∙ c.if-len-dimensions.false
+    ∙ ap (λ (l : List (List ℕ)). 1 + length l) c.dimensions.ensures.value in
     let spelled = c.in_ok-pattern.ensures (spelled_by (fields_of c.in_ok-rest.rest)) c.of_record.ensures in
     slice-Ok s fields c.in-Ok.pattern width (sym (ap spelled_by c.in_ok-rest.ensures) ∙ sym spelled ∙ c.in-Ok.is)
 
@@ -16,6 +17,7 @@ pub returns : goal.returns
 returns c =
     let s = c.args.schema.now in
     let fields = fields_of c.args.fields.now in
-    let width : length fields ≡ 1 + length s.dimensions = sym c.len.ensures ∙ c.if-len-dimensions.false ∙ ap (λ (l : List (List ℕ)). 1 + length l) c.dimensions.ensures.value in
+    let width : length fields ≡ 1 + length s.dimensions = sym c.len.ensures ∙ c.if-len-dimensions.false
+    ∙ ap (λ (l : List (List ℕ)). 1 + length l) c.dimensions.ensures.value in
     let spelled = c.in_ok-pattern.ensures (spelled_by (fields_of c.in_ok-rest.rest)) c.of_record.ensures in
     slice-Err s fields c.in-Err.fault width (sym (ap spelled_by c.in_ok-rest.ensures) ∙ sym spelled ∙ c.in-Err.is)

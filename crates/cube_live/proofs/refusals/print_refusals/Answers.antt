@@ -8,4 +8,5 @@ pub returns : goal.returns
 returns c =
     let header = c.in_ok-put_refusal_header.ensures [] c.no_lines-lines.ensures in
     let all = c.in_ok-put_all_refusals.ensures _ header in
-    IfOk-weaker c.into_text.result _ _ (λ bytes holds. holds (text_of_refusals (refusals_of_accounts c.args.ledger.now.accounts)) all) c.into_text.ensures
+    IfOk-weaker c.into_text.result _ _
+    (λ bytes holds. holds (text_of_refusals (refusals_of_accounts c.args.ledger.now.accounts)) all) c.into_text.ensures

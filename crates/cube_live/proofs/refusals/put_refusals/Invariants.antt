@@ -5,4 +5,5 @@ use Rattle.cube_text.specs.Lines.{AddsText}
 use Rattle.cube_live.proofs.refusals.put_refusals.Given as goal
 
 abbrev pub invariant-loop-refusal : goal.invariant-loop-refusal
-invariant-loop-refusal l = AddsText (flat_map (refusal_line l.source) (take l.refusal-index l.refusals)) l.initial.lines l.lines
+invariant-loop-refusal l =
+    AddsText (flat_map (refusal_line l.source) (take l.refusal-index l.refusals)) l.initial.lines l.lines

@@ -8,4 +8,5 @@ use Rattle.cube_live.proofs.refusals.put_refusals_after.Given as goal
 
 abbrev pub invariant-loop-refusal : goal.invariant-loop-refusal
 invariant-loop-refusal l =
-    AddsText (flat_map (refusal_line l.source) (filter (is_after l.number) (take l.refusal-index l.refusals))) l.initial.lines l.lines
+    AddsText (flat_map (refusal_line l.source) (filter (is_after l.number) (take l.refusal-index l.refusals)))
+    l.initial.lines l.lines

@@ -7,8 +7,10 @@ returns c =
     let s = c.args.schema.now in
     let is = rw c.aggregates.ensures.value at c.in_ok-row.ensures in
     IfOk-weaker c.one_row.result _ _ (λ rows one. λ facts of.
-    rw one (rows-one s c.args.cube.now facts c.args.key c.in-Some.cell.now c.in_ok-row.row c.requires of c.in-Some.ensures.cell is))
+    rw one (rows-one s c.args.cube.now facts c.args.key c.in-Some.cell.now c.in_ok-row.row c.requires of
+    c.in-Some.ensures.cell is))
     c.one_row.ensures
 
 pub returns-in_default : goal.returns-in_default
-returns-in_default c = λ facts of. rw c.new.ensures.items (rows-none c.args.schema.now c.args.cube.now facts c.args.key c.requires of c.in_default.ensures.cell)
+returns-in_default c = λ facts of. rw c.new.ensures.items
+    (rows-none c.args.schema.now c.args.cube.now facts c.args.key c.requires of c.in_default.ensures.cell)

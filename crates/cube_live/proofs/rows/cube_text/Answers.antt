@@ -11,6 +11,7 @@ returns c =
     let s = c.args.schema.now in
     let facts = all_facts c.args.parted.now.accounts in
     IfOk-weaker c.print_cells.result _ _ (λ text is.
-    let are : AreRows s facts is.rows = rw c.requires at (c.in_ok-cells.ensures c.args.parted.now c.in-Some.ensures.parts is.rows is.are_rows) in
+    let are : AreRows s facts is.rows =
+    rw c.requires at (c.in_ok-cells.ensures c.args.parted.now c.in-Some.ensures.parts is.rows is.are_rows) in
     record { rows = is.rows; are_rows = are; text_is = is.text_is })
     c.print_cells.ensures

@@ -14,7 +14,8 @@ loop-part-init c = λ ledger with.
     let is : part ≡ get_or parts 0 part = get_or_default parts 0 c.index-parts-0.result part below in
     let schema = part-schema ledger.schema (all_facts ledger.accounts) parts 0 part below is with in (
       c.in_ok-cells.ensures.aggregates ∙ ap (λ (s : Layout). s.aggregates) schema,
-      cells-first (builders_of ledger parts) (builder_of ledger part) part.cube c.in_ok-cells.cells (parts-are ledger parts with) (cube-of ledger parts 0 part below is) c.in_ok-cells.ensures.cube,
+      cells-first (builders_of ledger parts) (builder_of ledger part) part.cube c.in_ok-cells.cells
+          (parts-are ledger parts with) (cube-of ledger parts 0 part below is) c.in_ok-cells.ensures.cube,
     )
 
 pub append-requires : goal.append-requires
@@ -24,9 +25,11 @@ append-requires c =
     let parts = c.args.parts.now in
     let inside : c.loop-part.part < length parts = search rules in
     let part = get_or parts c.loop-part.part c.index-parts-part.result in
-    let is : part ≡ get_or parts c.loop-part.part part = get_or_default parts c.loop-part.part c.index-parts-part.result part inside in
+    let is : part ≡ get_or parts c.loop-part.part part =
+    get_or_default parts c.loop-part.part c.index-parts-part.result part inside in
     let schema = part-schema ledger.schema (all_facts ledger.accounts) parts c.loop-part.part part inside is with in
-    c.in_ok-ordered.ensures.aggregates ∙ ap (λ (s : Layout). s.aggregates) schema ∙ sym (c.loop-part.invariant ledger with).0
+    c.in_ok-ordered.ensures.aggregates ∙ ap (λ (s : Layout). s.aggregates) schema
+    ∙ sym (c.loop-part.invariant ledger with).0
 
 pub loop-part-preserved : goal.loop-part-preserved
 loop-part-preserved c = λ ledger with.
@@ -34,13 +37,18 @@ loop-part-preserved c = λ ledger with.
     let at = c.loop-part.invariant ledger with in
     let inside : c.loop-part.part < length parts = search rules in
     let part = get_or parts c.loop-part.part c.index-parts-part.result in
-    let is : part ≡ get_or parts c.loop-part.part part = get_or_default parts c.loop-part.part c.index-parts-part.result part inside in
-    let below : c.loop-part.part < length (builders_of ledger parts) = let count = length-map parts (builder_of ledger) in omega (arith, count, inside) in
+    let is : part ≡ get_or parts c.loop-part.part part =
+    get_or_default parts c.loop-part.part c.index-parts-part.result part inside in
+    let below : c.loop-part.part < length (builders_of ledger parts) =
+    let count = length-map parts (builder_of ledger) in
+    omega (arith, count, inside) in
     let schema = part-schema ledger.schema (all_facts ledger.accounts) parts c.loop-part.part part inside is with in
     let same = c.in_ok-ordered.ensures.aggregates ∙ ap (λ (s : Layout). s.aggregates) schema ∙ sym at.0 in (
       c.append.ensures.aggregates ∙ at.0,
-      cells-more (builders_of ledger parts) c.loop-part.part (builder_of ledger part) part.cube c.loop-part.cells c.in_ok-ordered.field-0 c.append.new.self (parts-are ledger parts with) below
-          (cube-of ledger parts c.loop-part.part part inside is) c.in_ok-ordered.ensures.cube same c.append.ensures.aggregates c.in_ok-append.ensures.cells at.1,
+      cells-more (builders_of ledger parts) c.loop-part.part (builder_of ledger part)
+          part.cube c.loop-part.cells c.in_ok-ordered.field-0 c.append.new.self (parts-are ledger parts with) below
+          (cube-of ledger parts c.loop-part.part part inside is)
+          c.in_ok-ordered.ensures.cube same c.append.ensures.aggregates c.in_ok-append.ensures.cells at.1,
     )
 
 pub returns : goal.returns
@@ -49,5 +57,6 @@ returns c = λ ledger with rows are.
     let at = c.loop-part.invariant ledger with in
     let end : c.loop-part.part ≡ length parts = search rules in
     rows-of-ledger ledger parts rows with.some
-    (cells-all (builders_of ledger parts) c.loop-part.part c.loop-part.cells c.sort.new.self (parts-are ledger parts with) (end ∙ sym (length-map parts (builder_of ledger))) at.1
+    (cells-all (builders_of ledger parts) c.loop-part.part c.loop-part.cells c.sort.new.self
+    (parts-are ledger parts with) (end ∙ sym (length-map parts (builder_of ledger))) at.1
     c.sort.ensures.aggregates c.sort.ensures.same c.in_ok-sort.ensures.order rows are)

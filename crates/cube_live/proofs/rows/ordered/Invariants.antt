@@ -7,4 +7,5 @@ use Rattle.cube_live.proofs.rows.ordered.Given as goal
 
 abbrev pub invariant-loop-part : goal.invariant-loop-part
 invariant-loop-part l =
-    (ledger : LedgerView) → ArePartsWith ledger.schema (all_facts ledger.accounts) l.parts → (l.cells.aggregates ≡ ledger.schema.aggregates) × AreCellsOfParts l.part (builders_of ledger l.parts) l.cells
+    (ledger : LedgerView) → ArePartsWith ledger.schema (all_facts ledger.accounts) l.parts
+    → (l.cells.aggregates ≡ ledger.schema.aggregates) × AreCellsOfParts l.part (builders_of ledger l.parts) l.cells

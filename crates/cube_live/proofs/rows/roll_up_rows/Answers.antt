@@ -9,11 +9,14 @@ returns-in-Some c =
     let cube = c.args.cube.now in
     let over = rw c.in-Some.is at c.in_ok-row.ensures.cube in
     IfOk-weaker c.one_row.result _ _ (λ rows one. λ facts of.
-    rw one (AreRowsWhere-IsRowOver cube.sets (length cube.schema.dimensions) cube.schema.aggregates facts (rolled_up c.args.dimension c.args.key.now) c.in-Some.row (over facts of)))
+    rw one (AreRowsWhere-IsRowOver cube.sets (length cube.schema.dimensions) cube.schema.aggregates facts
+    (rolled_up c.args.dimension c.args.key.now) c.in-Some.row (over facts of)))
     c.one_row.ensures
 
 pub returns-in-None : goal.returns-in-None
 returns-in-None c =
     let cube = c.args.cube.now in
     let over = rw c.in-None.is at c.in_ok-row.ensures.cube in
-    λ facts of. rw c.new.ensures.items (AreRowsWhere-none cube.sets (length cube.schema.dimensions) cube.schema.aggregates facts (rolled_up c.args.dimension c.args.key.now) (over facts of))
+    λ facts of. rw c.new.ensures.items
+    (AreRowsWhere-none cube.sets (length cube.schema.dimensions) cube.schema.aggregates facts
+    (rolled_up c.args.dimension c.args.key.now) (over facts of))

@@ -8,4 +8,5 @@ use Rattle.cube_live.proofs.rows.rows_of_parts.Given as goal
 abbrev pub invariant-loop-part : goal.invariant-loop-part
 invariant-loop-part l =
     (facts : List Fact) → ArePartsWith l.schema facts l.parts
-    → AreRowsBelow l.part-index (length l.parts) (asks_for l.question) l.schema.grouping_sets (length l.schema.dimensions) l.schema.aggregates facts l.rows.items
+    → AreRowsBelow l.part-index (length l.parts) (asks_for l.question) l.schema.grouping_sets
+    (length l.schema.dimensions) l.schema.aggregates facts l.rows.items

@@ -7,7 +7,8 @@ use Rattle.cube_live.specs.Shows.{asks_for}
 use Rattle.cube_live.proofs.rows.rows_text.Goals as goal
 
 pub rows_of_parts-requires-clause-parts : goal.rows_of_parts-requires-clause-parts
-rows_of_parts-requires-clause-parts c = (all_facts c.args.parted.now.accounts, rw c.requires.schema at c.in-Some.ensures.parts)
+rows_of_parts-requires-clause-parts c =
+    (all_facts c.args.parted.now.accounts, rw c.requires.schema at c.in-Some.ensures.parts)
 
 pub print_rows-requires : goal.print_rows-requires
 print_rows-requires c =
@@ -15,10 +16,16 @@ print_rows-requires c =
     let facts = all_facts c.args.parted.now.accounts in
     let are = c.in_ok-rows.ensures facts (rw c.requires.schema at c.in-Some.ensures.parts) in
     rw c.deref.ensures.value
-    (HasShapeOf-AreRowsWhere (asks_for c.args.question.now) s facts c.in_ok-rows.rows.items (list_all-from_AllPass (fits s) facts (rw c.requires.schema at c.in-Some.ensures.fit)) are)
+    (HasShapeOf-AreRowsWhere (asks_for c.args.question.now) s facts c.in_ok-rows.rows.items
+    (list_all-from_AllPass (fits s) facts (rw c.requires.schema at c.in-Some.ensures.fit)) are)
 
 pub returns : goal.returns
 returns c =
     let facts = all_facts c.args.parted.now.accounts in
     let are = c.in_ok-rows.ensures facts (rw c.requires.schema at c.in-Some.ensures.parts) in
-    IfOk-weaker c.print_rows.result _ _ (λ text is. record { rows = c.in_ok-rows.rows.items; are_rows = are; text_is = rw c.deref.ensures.value at is }) c.print_rows.ensures
+    IfOk-weaker c.print_rows.result _ _
+    (λ text is. record {
+      rows = c.in_ok-rows.rows.items;
+      are_rows = are;
+      text_is = rw c.deref.ensures.value at is;
+    }) c.print_rows.ensures

@@ -9,5 +9,6 @@ returns-in-Ok c =
     let pattern = c.args.pattern.now in
     let key = c.in-Ok.key in
     IfOk-weaker c.cell_rows.result _ _ (λ rows are. λ facts of.
-    AreRowsWhere-alike (is_key key) (matches pattern) _ _ _ facts rows.items (λ other. matches-cell pattern key other c.in-Ok.ensures) (are facts of))
+    AreRowsWhere-alike (is_key key) (matches pattern) _ _ _ facts rows.items
+    (λ other. matches-cell pattern key other c.in-Ok.ensures) (are facts of))
     c.cell_rows.ensures

@@ -12,36 +12,51 @@ use Rattle.cube_merge.proofs.cubes.merge.Goals as goal
 pub returns-clause-ok : goal.returns-clause-ok
 returns-clause-ok g c =
     let first = line (header_fields c.args.given.now) in
-    let header : c.as_slice.result.now ≡ first = c.as_slice.ensures.value ∙ c.in_ok-push_header.ensures {u = tt} ∙ ap (λ t. t ++ first) c.new-header.ensures.items in
-    let taken = subst (λ h. AllZip (HasTaken g.R.Read.remaining h) c.args.readers.items c.in_ok-inputs.inputs.items) header c.in_ok-inputs.ensures.ok in
+    let header : c.as_slice.result.now ≡ first =
+    c.as_slice.ensures.value ∙ c.in_ok-push_header.ensures {u = tt} ∙ ap (λ t. t ++ first) c.new-header.ensures.items in
+    let taken = subst (λ h. AllZip (HasTaken g.R.Read.remaining h) c.args.readers.items c.in_ok-inputs.inputs.items)
+    header c.in_ok-inputs.ensures.ok in
     on_ok_weaker c.merge_inputs.result (λ merges.
-    IsMergeOf-ends g.R.Read.remaining c.args.given.now c.args.wanted.now c.args.readers.items c.in_ok-inputs.inputs.items (g.W.Write.contents c.args.w.now) (g.W.Write.contents c.merge_inputs.new.w) taken
+    IsMergeOf-ends g.R.Read.remaining c.args.given.now c.args.wanted.now c.args.readers.items
+    c.in_ok-inputs.inputs.items (g.W.Write.contents c.args.w.now) (g.W.Write.contents c.merge_inputs.new.w) taken
     (rw c.as_mut_slice.ensures.value at merges)) c.merge_inputs.ensures.ok
 
 pub returns-clause-err : goal.returns-clause-err
 returns-clause-err g c =
     let first = line (header_fields c.args.given.now) in
-    let header : c.as_slice.result.now ≡ first = c.as_slice.ensures.value ∙ c.in_ok-push_header.ensures {u = tt} ∙ ap (λ t. t ++ first) c.new-header.ensures.items in
-    let taken = subst (λ h. AllZip (HasTaken g.R.Read.remaining h) c.args.readers.items c.in_ok-inputs.inputs.items) header c.in_ok-inputs.ensures.ok in
-    IfErr-weaker c.merge_inputs.result _ _ (λ fault fails. FailsToMerge-inputs g.R.Read.remaining c.args.given.now c.args.wanted.now c.args.readers.items c.in_ok-inputs.inputs.items taken _ _ fault
+    let header : c.as_slice.result.now ≡ first =
+    c.as_slice.ensures.value ∙ c.in_ok-push_header.ensures {u = tt} ∙ ap (λ t. t ++ first) c.new-header.ensures.items in
+    let taken = subst (λ h. AllZip (HasTaken g.R.Read.remaining h) c.args.readers.items c.in_ok-inputs.inputs.items)
+    header c.in_ok-inputs.ensures.ok in
+    IfErr-weaker c.merge_inputs.result _ _ (λ fault fails. FailsToMerge-inputs g.R.Read.remaining c.args.given.now
+    c.args.wanted.now c.args.readers.items c.in_ok-inputs.inputs.items taken _ _ fault
     (rw c.as_mut_slice.ensures.value at fails)) c.merge_inputs.ensures.err
 
 pub returns-in_err-inputs-clause-err : goal.returns-in_err-inputs-clause-err
 returns-in_err-inputs-clause-err g c =
     let first = line (header_fields c.args.given.now) in
-    let header : c.as_slice.result.now ≡ first = c.as_slice.ensures.value ∙ c.in_ok-push_header.ensures {u = tt} ∙ ap (λ t. t ++ first) c.new-header.ensures.items in
+    let header : c.as_slice.result.now ≡ first =
+    c.as_slice.ensures.value ∙ c.in_ok-push_header.ensures {u = tt} ∙ ap (λ t. t ++ first) c.new-header.ensures.items in
     let p = err_from_is_err_and c.from_residual-in_err-inputs.result c.from_residual-in_err-inputs.ensures.1 in
-    rw (p.1, p.2) (FailsToMerge-open g.R.Read.remaining c.args.given.now c.args.wanted.now c.args.readers.items c.in_err-inputs.field-0.0 _ _ refl (subst (λ h. FailsToOpenAll h (map g.R.Read.remaining c.args.readers.items) c.in_err-inputs.field-0.0) header c.in_err-inputs.ensures.err))
+    rw (p.1, p.2) (FailsToMerge-open g.R.Read.remaining c.args.given.now
+    c.args.wanted.now c.args.readers.items c.in_err-inputs.field-0.0 _ _ refl
+    (subst (λ h. FailsToOpenAll h (map g.R.Read.remaining c.args.readers.items) c.in_err-inputs.field-0.0)
+    header c.in_err-inputs.ensures.err))
 
 pub returns-clause-lacks : goal.returns-clause-lacks
 returns-clause-lacks g c =
     let first = line (header_fields c.args.given.now) in
-    let header : c.as_slice.result.now ≡ first = c.as_slice.ensures.value ∙ c.in_ok-push_header.ensures {u = tt} ∙ ap (λ t. t ++ first) c.new-header.ensures.items in
-    let taken = subst (λ h. AllZip (HasTaken g.R.Read.remaining h) c.args.readers.items c.in_ok-inputs.inputs.items) header c.in_ok-inputs.ensures.ok in
-    IfErr-weaker c.merge_inputs.result _ _ (λ fault fails. tells-inputs g.R.Read.remaining c.args.given.now c.args.wanted.now c.args.readers.items c.in_ok-inputs.inputs.items taken _ _ c.args.given.now.aggregates c.args.wanted.now.aggregates fault
+    let header : c.as_slice.result.now ≡ first =
+    c.as_slice.ensures.value ∙ c.in_ok-push_header.ensures {u = tt} ∙ ap (λ t. t ++ first) c.new-header.ensures.items in
+    let taken = subst (λ h. AllZip (HasTaken g.R.Read.remaining h) c.args.readers.items c.in_ok-inputs.inputs.items)
+    header c.in_ok-inputs.ensures.ok in
+    IfErr-weaker c.merge_inputs.result _ _ (λ fault fails.
+    tells-inputs g.R.Read.remaining c.args.given.now c.args.wanted.now c.args.readers.items c.in_ok-inputs.inputs.items
+    taken _ _ c.args.given.now.aggregates c.args.wanted.now.aggregates fault
     (rw c.as_mut_slice.ensures.value at fails)) c.merge_inputs.ensures.err
 
 pub returns-in_err-inputs-clause-lacks : goal.returns-in_err-inputs-clause-lacks
 returns-in_err-inputs-clause-lacks g c =
     let p = err_from_is_err_and c.from_residual-in_err-inputs.result c.from_residual-in_err-inputs.ensures.1 in
-    rw (p.1, p.2) (tells-open _ _ c.args.given.now.aggregates c.args.wanted.now.aggregates c.in_err-inputs.field-0.0 c.in_err-inputs.ensures.err)
+    rw (p.1, p.2) (tells-open _ _ c.args.given.now.aggregates c.args.wanted.now.aggregates c.in_err-inputs.field-0.0
+    c.in_err-inputs.ensures.err)

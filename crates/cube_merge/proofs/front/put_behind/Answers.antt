@@ -10,5 +10,7 @@ loop-place-preserved g c =
     let pushed : c.push.new.self.items ≡ flags ++ b ∷ [] = search rules in
     record {
       long = rw (pushed, length-append flags (b ∷ [])) (omega (arith, so_far.long));
-      above = rw pushed (AreAbove-push c.args.bound.now flags c.args.inputs.now b c.index-inputs-place.result c.loop-place.place so_far.long c.loop-place-test.true c.index-inputs-place.is c.is_above.ensures so_far.above);
+      above = rw pushed
+          (AreAbove-push c.args.bound.now flags c.args.inputs.now b c.index-inputs-place.result c.loop-place.place
+          so_far.long c.loop-place-test.true c.index-inputs-place.is c.is_above.ensures so_far.above);
     }

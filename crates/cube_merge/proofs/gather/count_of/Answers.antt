@@ -4,4 +4,6 @@ use Rattle.cube_core.specs.Merged.{count_of}
 use Rattle.cube_merge.proofs.gather.count_of.Goals as goal
 
 pub returns-clause-fits : goal.returns-clause-fits
-returns-clause-fits c = subst (λ n. n < 2 ^ 64) (c.loop-place.invariant.sum ∙ ap count_of (take_all c.loop-place.place c.args.answers.now c.loop-place-test.false)) c.loop-place.invariant.fits
+returns-clause-fits c = subst (λ n. n < 2 ^ 64)
+    (c.loop-place.invariant.sum ∙ ap count_of (take_all c.loop-place.place c.args.answers.now c.loop-place-test.false))
+    c.loop-place.invariant.fits

@@ -10,18 +10,29 @@ returns-in_default c = Joins-Max-none c.args.made.now c.args.answer.now (search 
 pub returns-in_default-number_in : goal.returns-in_default-number_in
 returns-in_default-number_in c =
     let fits : FitsSigned w128 c.in-Some.number = search rules in
-    rw (to_z-of_z w128 c.in-Some.number fits) (Joins-Max-one c.args.made.now c.args.answer.now c.in-Some.number (search rules) (search rules))
+    rw (to_z-of_z w128 c.in-Some.number fits)
+    (Joins-Max-one c.args.made.now c.args.answer.now c.in-Some.number (search rules) (search rules))
 
 pub returns-then-number-best : goal.returns-then-number-best
 returns-then-number-best c =
     let fits : FitsSigned w128 c.in-Some.number = search rules in
     let fits_best : FitsSigned w128 c.in-Some-number_in.best = search rules in
-    let test = simp (to_z-of_z w128 c.in-Some.number fits, to_z-of_z w128 c.in-Some-number_in.best fits_best) at c.if-number-best.true in
-    rw (to_z-of_z w128 c.in-Some-number_in.best fits_best) (Joins-Max-stays c.args.made.now c.args.answer.now c.in-Some-number_in.best c.in-Some.number (search rules) (search rules) (omega (arith, ints, test)))
+    let test = simp (
+      to_z-of_z w128 c.in-Some.number fits,
+      to_z-of_z w128 c.in-Some-number_in.best fits_best,
+    ) at c.if-number-best.true in
+    rw (to_z-of_z w128 c.in-Some-number_in.best fits_best)
+    (Joins-Max-stays c.args.made.now c.args.answer.now c.in-Some-number_in.best c.in-Some.number (search rules)
+    (search rules) (omega (arith, ints, test)))
 
 pub returns-else-number-best : goal.returns-else-number-best
 returns-else-number-best c =
     let fits : FitsSigned w128 c.in-Some.number = search rules in
     let fits_best : FitsSigned w128 c.in-Some-number_in.best = search rules in
-    let test = simp (to_z-of_z w128 c.in-Some.number fits, to_z-of_z w128 c.in-Some-number_in.best fits_best) at c.if-number-best.false in
-    rw (to_z-of_z w128 c.in-Some.number fits) (Joins-Max-new c.args.made.now c.args.answer.now c.in-Some-number_in.best c.in-Some.number (search rules) (search rules) (omega (arith, ints, test)))
+    let test = simp (
+      to_z-of_z w128 c.in-Some.number fits,
+      to_z-of_z w128 c.in-Some-number_in.best fits_best,
+    ) at c.if-number-best.false in
+    rw (to_z-of_z w128 c.in-Some.number fits)
+    (Joins-Max-new c.args.made.now c.args.answer.now c.in-Some-number_in.best c.in-Some.number (search rules)
+    (search rules) (omega (arith, ints, test)))

@@ -10,18 +10,29 @@ returns-in_default c = Joins-Min-none c.args.made.now c.args.answer.now (search 
 pub returns-in_default-number_in : goal.returns-in_default-number_in
 returns-in_default-number_in c =
     let fits : FitsSigned w128 c.in-Some.number = search rules in
-    rw (to_z-of_z w128 c.in-Some.number fits) (Joins-Min-one c.args.made.now c.args.answer.now c.in-Some.number (search rules) (search rules))
+    rw (to_z-of_z w128 c.in-Some.number fits)
+    (Joins-Min-one c.args.made.now c.args.answer.now c.in-Some.number (search rules) (search rules))
 
 pub returns-then-best-number : goal.returns-then-best-number
 returns-then-best-number c =
     let fits : FitsSigned w128 c.in-Some.number = search rules in
     let fits_best : FitsSigned w128 c.in-Some-number_in.best = search rules in
-    let test = simp (to_z-of_z w128 c.in-Some.number fits, to_z-of_z w128 c.in-Some-number_in.best fits_best) at c.if-best-number.true in
-    rw (to_z-of_z w128 c.in-Some-number_in.best fits_best) (Joins-Min-stays c.args.made.now c.args.answer.now c.in-Some-number_in.best c.in-Some.number (search rules) (search rules) (omega (arith, ints, test)))
+    let test = simp (
+      to_z-of_z w128 c.in-Some.number fits,
+      to_z-of_z w128 c.in-Some-number_in.best fits_best,
+    ) at c.if-best-number.true in
+    rw (to_z-of_z w128 c.in-Some-number_in.best fits_best)
+    (Joins-Min-stays c.args.made.now c.args.answer.now c.in-Some-number_in.best c.in-Some.number (search rules)
+    (search rules) (omega (arith, ints, test)))
 
 pub returns-else-best-number : goal.returns-else-best-number
 returns-else-best-number c =
     let fits : FitsSigned w128 c.in-Some.number = search rules in
     let fits_best : FitsSigned w128 c.in-Some-number_in.best = search rules in
-    let test = simp (to_z-of_z w128 c.in-Some.number fits, to_z-of_z w128 c.in-Some-number_in.best fits_best) at c.if-best-number.false in
-    rw (to_z-of_z w128 c.in-Some.number fits) (Joins-Min-new c.args.made.now c.args.answer.now c.in-Some-number_in.best c.in-Some.number (search rules) (search rules) (omega (arith, ints, test)))
+    let test = simp (
+      to_z-of_z w128 c.in-Some.number fits,
+      to_z-of_z w128 c.in-Some-number_in.best fits_best,
+    ) at c.if-best-number.false in
+    rw (to_z-of_z w128 c.in-Some.number fits)
+    (Joins-Min-new c.args.made.now c.args.answer.now c.in-Some-number_in.best c.in-Some.number (search rules)
+    (search rules) (omega (arith, ints, test)))

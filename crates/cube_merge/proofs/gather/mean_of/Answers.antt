@@ -13,7 +13,9 @@ pub returns : goal.returns
 returns c sums counts is_sum is_count =
     let fits : FitsSigned w128 c.total_in.result = search rules in
     let fits_p : FitsSigned w128 c.reduced-p.result.0 = search rules in
-    let values : count_of counts ≡ c.count_in-values.result = sym (ap count_in is_count) ∙ sym c.count_in-values.ensures in
+    let values : count_of counts ≡ c.count_in-values.result =
+    sym (ap count_in is_count) ∙ sym c.count_in-values.ensures in
     let lowest = simp (to_z-of_z w128 c.total_in.result fits) at c.reduced-p.ensures in
     let some : 0 < c.count_in-values.result = omega (arith, c.if-values-eq0.false) in
-    rw (c.total_in.ensures sums is_sum, values, to_z-of_z w128 c.reduced-p.result.0 fits_p) (IsMeanOf-fraction c.total_in.result c.count_in-values.result c.reduced-p.result.0 c.reduced-p.result.1 some lowest)
+    rw (c.total_in.ensures sums is_sum, values, to_z-of_z w128 c.reduced-p.result.0 fits_p)
+    (IsMeanOf-fraction c.total_in.result c.count_in-values.result c.reduced-p.result.0 c.reduced-p.result.1 some lowest)

@@ -11,4 +11,5 @@ returns-in_default c sums is = IsSum-total_none (numbers_of sums) c.args.sum.now
 pub returns : goal.returns
 returns c sums is =
     let fits : FitsSigned w128 c.in-Some.total = search rules in
-    rw (to_z-of_z w128 c.in-Some.total fits) (IsSum-total (numbers_of sums) c.args.sum.now c.in-Some.total is (search rules))
+    rw (to_z-of_z w128 c.in-Some.total fits)
+    (IsSum-total (numbers_of sums) c.args.sum.now c.in-Some.total is (search rules))

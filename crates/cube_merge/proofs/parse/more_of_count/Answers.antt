@@ -8,5 +8,7 @@ loop-place-preserved c =
     let is : c.in_ok-number.number ≡ c.loop-place.number * 10 + c.in-Some.digit = search (rules, arith) in
     record {
       some = omega (arith, is, before.some);
-      read = rw is (digits-more (decimal c.args.front) c.args.text.now c.loop-place.number c.in-Some.digit c.loop-place.place _ c.loop-place-test.true (search rules) c.in-Some.ensures.digit c.in-Some.ensures.small before.some (search (rules, arith)) before.read);
+      read = rw is (digits-more (decimal c.args.front)
+          c.args.text.now c.loop-place.number c.in-Some.digit c.loop-place.place _ c.loop-place-test.true (search rules)
+          c.in-Some.ensures.digit c.in-Some.ensures.small before.some (search (rules, arith)) before.read);
     }

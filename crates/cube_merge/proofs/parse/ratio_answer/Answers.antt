@@ -16,5 +16,7 @@ returns c =
     let one : text ≡ signed_decimal p ++ c.in_ok-p.slash.now = search rules in
     let two : c.in_ok-p.slash.now ≡ 47 ∷ c.in_ok-after.field-0.now = search rules in
     let three : c.in_ok-after.field-0.now ≡ decimal q ++ c.in_ok-q.end.now = search rules in
-    let begins = fraction-begins text (signed_decimal p) c.in_ok-p.slash.now c.in_ok-after.field-0.now (decimal q) c.in_ok-q.end.now one two three in
-    rw (to_z-of_z w128 p fits) (plain-ends text _ c.in_ok-q.end.now c.in_ok-after-2.field-0.now (plain-fraction p q fits small) begins (search rules))
+    let begins = fraction-begins text (signed_decimal p) c.in_ok-p.slash.now c.in_ok-after.field-0.now
+    (decimal q) c.in_ok-q.end.now one two three in
+    rw (to_z-of_z w128 p fits) (plain-ends text _ c.in_ok-q.end.now c.in_ok-after-2.field-0.now
+    (plain-fraction p q fits small) begins (search rules))

@@ -16,8 +16,17 @@ loop-at-preserved c =
     elim c.if-byte-eq34.branch [
       | then-byte-eq34+else-at-text+else-text-at-ne34 w ↦
           let inside : at + 1 < length text = omega (arith, c.loop-at-test.true, w.if-at-text.false) in
-          let quote : c.push.new.self.items ≡ c.loop-at.field.items ++ 34 ∷ [] = pushed ∙ ap (λ b. c.loop-at.field.items ++ b ∷ []) w.if-byte-eq34.true in
-          rw w.at-is record { inside = omega (arith, inside); inner = inner-quote text c.loop-at.field.items c.push.new.self.items at inside w.if-byte-eq34.true w.if-text-at-ne34.false quote before.inner }
+          let quote : c.push.new.self.items ≡ c.loop-at.field.items ++ 34 ∷ [] =
+          pushed ∙ ap (λ b. c.loop-at.field.items ++ b ∷ []) w.if-byte-eq34.true in
+          rw w.at-is record {
+            inside = omega (arith, inside);
+            inner = inner-quote text c.loop-at.field.items c.push.new.self.items at inside w.if-byte-eq34.true
+                w.if-text-at-ne34.false quote before.inner;
+          }
       | else-byte-eq34 w ↦
-          rw w.at-is record { inside = omega (arith, c.loop-at-test.true); inner = inner-plain text c.loop-at.field.items c.push.new.self.items at (get_or text at 0) c.loop-at-test.true (search rules) w.if-byte-eq34.false pushed before.inner }
+          rw w.at-is record {
+            inside = omega (arith, c.loop-at-test.true);
+            inner = inner-plain text c.loop-at.field.items c.push.new.self.items at
+                (get_or text at 0) c.loop-at-test.true (search rules) w.if-byte-eq34.false pushed before.inner;
+          }
     ]

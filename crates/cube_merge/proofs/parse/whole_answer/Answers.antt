@@ -11,4 +11,6 @@ returns c =
     let z = c.in_ok-number.number in
     let fits : FitsSigned w128 z = search rules in
     let is : c.args.text.now ≡ signed_decimal z ++ c.in_ok-number.end.now = search rules in
-    rw (to_z-of_z w128 z fits) (plain-ends c.args.text.now (signed_decimal z) c.in_ok-number.end.now c.in_ok-after.field-0.now (plain-signed_decimal z fits) is (search rules))
+    rw (to_z-of_z w128 z fits)
+    (plain-ends c.args.text.now (signed_decimal z) c.in_ok-number.end.now c.in_ok-after.field-0.now
+    (plain-signed_decimal z fits) is (search rules))

@@ -12,5 +12,6 @@ returns-clause-line c =
     let ended = (c.in_ok-end_by_comma.ensures {u = tt}) on in
     let shown : c.end_by_comma.new.line.items ≡ parts (row_fields row) = search rules in
     let of_schema : IsRowOf c.args.schema.now row = search rules in
-    let some : 1 ≤ length row.key.coords = omega (arith, of_schema.coords, c.dimensions.ensures.schema.some_dimension) in
+    let some : 1 ≤ length row.key.coords =
+    omega (arith, of_schema.coords, c.dimensions.ensures.schema.some_dimension) in
     line-of_parts row c.args.line.now.items c.end_by_comma.new.line.items ended.0 some ended.1 ended.2 shown

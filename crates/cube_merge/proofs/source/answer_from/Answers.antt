@@ -5,9 +5,11 @@ use Rattle.cube_merge.proofs.source.answer_from.Goals as goal
 
 pub returns-in-Made : goal.returns-in-Made
 returns-in-Made c given rows agg made is =
-    rw c.answer_at.ensures (IsMerged-Made given rows agg c.args.made.now c.in-Made.place made (subst (IsSourceOf given agg) c.in-Made.is is))
+    rw c.answer_at.ensures
+    (IsMerged-Made given rows agg c.args.made.now c.in-Made.place made (subst (IsSourceOf given agg) c.in-Made.is is))
 
 pub returns-in-Mean : goal.returns-in-Mean
 returns-in-Mean c given rows agg made is =
-    IsMerged-Mean given rows agg c.args.made.now c.in-Mean.sums c.in-Mean.counts c.mean_of.result made (subst (IsSourceOf given agg) c.in-Mean.is is)
+    IsMerged-Mean given rows agg c.args.made.now c.in-Mean.sums c.in-Mean.counts c.mean_of.result made
+    (subst (IsSourceOf given agg) c.in-Mean.is is)
     (rw (c.answer_at-in-Mean.ensures, c.answer_at-in-Mean-2.ensures) at c.mean_of.ensures)

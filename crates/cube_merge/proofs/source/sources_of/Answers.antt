@@ -4,4 +4,7 @@ use Rattle.cube_merge.proofs.source.sources_of.Goals as goal
 
 pub loop-aggregate-preserved : goal.loop-aggregate-preserved
 loop-aggregate-preserved c =
-    rw (c.in_ok-push.ensures.items) (AllZip-take (IsSourceOf c.args.given.now) c.args.wanted.now c.loop-aggregate.sources.items c.loop-aggregate.aggregate-index _ c.in-Some.source c.loop-aggregate-test.true c.loop-aggregate.invariant (c.in-Some.ensures.some))
+    rw (c.in_ok-push.ensures.items)
+    (AllZip-take (IsSourceOf c.args.given.now) c.args.wanted.now c.loop-aggregate.sources.items
+    c.loop-aggregate.aggregate-index _ c.in-Some.source c.loop-aggregate-test.true c.loop-aggregate.invariant
+    (c.in-Some.ensures.some))

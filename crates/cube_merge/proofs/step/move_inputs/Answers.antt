@@ -20,7 +20,8 @@ loop-place-preserved g c =
     let moved : Moves s (get_or used place false) old new = search rules in
     record {
       long = length-set olds place new ∙ before.long;
-      done = AllMove-more s used start olds place old new (get_or used place false) inside c.index-inputs-place.is refl moved before.done before.rest;
+      done = AllMove-more s used start olds place old new
+          (get_or used place false) inside c.index-inputs-place.is refl moved before.done before.rest;
       rest = AllMove-rest start olds place new before.rest;
     }
 
@@ -34,11 +35,16 @@ returns-in-Err-clause-err g c =
     let old = c.index-inputs-place.result in
     let new = c.move_on.new.self in
     let inside : place < length olds = omega (arith, before.long, c.loop-place-test.true) in
-    let lines : c.lines.result ≡ new.lines = c.lines.ensures ∙ ap (λ i. i.lines) (get_or-set_same olds place new c.index-inputs-place-in-Err.result inside) in
+    let lines : c.lines.result ≡ new.lines =
+    c.lines.ensures ∙ ap (λ i. i.lines) (get_or-set_same olds place new c.index-inputs-place-in-Err.result inside) in
     let failed = (c.in-Err.ensures {u = tt}).err in
-    HasFault-told s c.args.used.now start c.in-Err.fault place c.lines.result c.fault_of.result c.fault_of.ensures (omega (arith, c.loop-place-test.true, c.loop-place.auto.place-end)) failed.0
-    (subst (λ (i : InputView). FailsToMove s i c.in-Err.fault c.lines.result) (sym (get_or_default olds place nothing_left old inside) ∙ before.rest place (omega arith)) (subst (FailsToMove s (get_or olds place old) c.in-Err.fault) (sym lines) failed.1))
+    HasFault-told s c.args.used.now start c.in-Err.fault place c.lines.result c.fault_of.result c.fault_of.ensures
+    (omega (arith, c.loop-place-test.true, c.loop-place.auto.place-end)) failed.0
+    (subst (λ (i : InputView). FailsToMove s i c.in-Err.fault c.lines.result)
+    (sym (get_or_default olds place nothing_left old inside) ∙ before.rest place (omega arith))
+    (subst (FailsToMove s (get_or olds place old) c.in-Err.fault) (sym lines) failed.1))
 
 pub returns-clause-ok : goal.returns-clause-ok
 returns-clause-ok g c =
-    AllMove-all c.args.schema.now c.args.used.now c.args.inputs.now c.loop-place.inputs c.loop-place.place c.requires c.loop-place.auto.inputs c.loop-place-test.false c.loop-place.invariant.done
+    AllMove-all c.args.schema.now c.args.used.now c.args.inputs.now c.loop-place.inputs c.loop-place.place c.requires
+    c.loop-place.auto.inputs c.loop-place-test.false c.loop-place.invariant.done

@@ -11,6 +11,8 @@ returns-in-Some g c =
     let inputs = c.args.inputs.now in
     let place = c.in-Some.place.now in
     let found = (c.in-Some.ensures {u = tt}).lookup in
-    let has = subst (λ p. (p < length inputs) × HasRow (get_or inputs p nothing_left)) (sym (found.3.1 0)) (HaveRows-in inputs c.args.places.now c.args.which c.requires found.3.0) in
+    let has = subst (λ p. (p < length inputs) × HasRow (get_or inputs p nothing_left)) (sym (found.3.1 0))
+    (HaveRows-in inputs c.args.places.now c.args.which c.requires found.3.0) in
     TellsOverflow-told inputs place c.lines.result c.fault_of.result c.fault_of.ensures has.0 has.1
-    (c.lines.ensures ∙ ap (λ i. i.lines) (sym (at_place inputs place c.index-inputs-place.result has.0 c.index-inputs-place.is)))
+    (c.lines.ensures
+    ∙ ap (λ i. i.lines) (sym (at_place inputs place c.index-inputs-place.result has.0 c.index-inputs-place.is)))

@@ -16,11 +16,15 @@ pub loop-source-preserved : goal.loop-source-preserved
 loop-source-preserved c given wanted rows made sources =
     let i = c.loop-source.source-index in
     let at = get_or c.args.sources.now i (source.Made 0) in
-    let all : AllZip (IsSourceOf given) wanted (take i c.args.sources.now ++ at ∷ []) = rw (sym (take_more c.args.sources.now i (source.Made 0) c.loop-source-test.true)) sources in
+    let all : AllZip (IsSourceOf given) wanted (take i c.args.sources.now ++ at ∷ []) =
+    rw (sym (take_more c.args.sources.now i (source.Made 0) c.loop-source-test.true)) sources in
     let last = AllZip-last (IsSourceOf given) wanted (take i c.args.sources.now) at all in
     let pushed : c.push.new.self.items ≡ c.loop-source.answers.items ++ c.answer_from.result ∷ [] = search rules in
-    rw (pushed, last.2) (AllZip-push (IsMerged given rows) last.0 c.loop-source.answers.items last.1 c.answer_from.result (c.loop-source.invariant given last.0 rows made last.3) (c.answer_from.ensures given rows last.1 made last.4))
+    rw (pushed, last.2)
+    (AllZip-push (IsMerged given rows) last.0 c.loop-source.answers.items last.1 c.answer_from.result
+    (c.loop-source.invariant given last.0 rows made last.3) (c.answer_from.ensures given rows last.1 made last.4))
 
 pub returns : goal.returns
 returns c given wanted rows made sources =
-    c.loop-source.invariant given wanted rows made (subst (AllZip (IsSourceOf given) wanted) (sym (take_all c.loop-source.source-index c.args.sources.now c.loop-source-test.false)) sources)
+    c.loop-source.invariant given wanted rows made (subst (AllZip (IsSourceOf given) wanted)
+    (sym (take_all c.loop-source.source-index c.args.sources.now c.loop-source-test.false)) sources)

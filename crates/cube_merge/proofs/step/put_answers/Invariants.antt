@@ -8,4 +8,6 @@ use Rattle.cube_merge.specs.Source.{IsSourceOf}
 use Rattle.cube_merge.proofs.step.put_answers.Given as goal
 
 abbrev pub invariant-loop-source : goal.invariant-loop-source
-invariant-loop-source l = (given wanted : List Agg) (rows : List Row) → AreMade given rows l.made → AllZip (IsSourceOf given) wanted (take l.source-index l.sources) → AllZip (IsMerged given rows) wanted l.answers.items
+invariant-loop-source l = (given wanted : List Agg) (rows : List Row) → AreMade given rows l.made
+    → AllZip (IsSourceOf given) wanted (take l.source-index l.sources)
+    → AllZip (IsMerged given rows) wanted l.answers.items

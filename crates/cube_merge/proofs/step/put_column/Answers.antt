@@ -14,9 +14,11 @@ loop-place-preserved g c =
     let i = c.loop-place.place-index in
     c.in_ok-push_answer.ensures {u = tt}
     ∙ ap (λ r. c.loop-place.answers.items ++ column at (option_to_list r)) c.row_at.ensures
-    ∙ ap (λ t. t ++ column at (option_to_list (get_or inputs (get_or places i 0) nothing_left).row)) c.loop-place.invariant
+    ∙ ap (λ t. t ++ column at (option_to_list (get_or inputs (get_or places i 0) nothing_left).row))
+    c.loop-place.invariant
     ∙ sym (column-more at inputs places i c.loop-place-test.true)
 
 pub returns : goal.returns
 returns g c =
-    c.loop-place.invariant ∙ ap (λ ps. column c.args.at (rows_of c.args.inputs.now ps)) (take_all c.loop-place.place-index c.args.places.now c.loop-place-test.false)
+    c.loop-place.invariant ∙ ap (λ ps. column c.args.at (rows_of c.args.inputs.now ps))
+    (take_all c.loop-place.place-index c.args.places.now c.loop-place-test.false)

@@ -8,4 +8,5 @@ loop-byte-init c = sym (ap (λ t. c.args.text.now.items ++ t) escaped-none ∙ a
 
 pub loop-byte-preserved : goal.loop-byte-preserved
 loop-byte-preserved c =
-    escaped-more c.args.field.now c.loop-byte.byte-index 0 c.args.text.now.items c.loop-byte.text.items c.push_byte.new.text.items c.loop-byte-test.true c.loop-byte.invariant (search rules)
+    escaped-more c.args.field.now c.loop-byte.byte-index 0 c.args.text.now.items c.loop-byte.text.items
+    c.push_byte.new.text.items c.loop-byte-test.true c.loop-byte.invariant (search rules)

@@ -6,5 +6,9 @@ use Rattle.cube_merge.proofs.text.push_grouping_names.Goals as goal
 
 pub loop-dimension-preserved : goal.loop-dimension-preserved
 loop-dimension-preserved c =
-    let adds : AddsParts (grouping_name c.dimension-item.result ∷ []) c.loop-dimension.text.items c.push_field.new.text.items = search rules in
-    AddsParts-more grouping_name c.args.dimensions.now c.loop-dimension.dimension-index c.dimension-item.result c.args.text.now.items c.loop-dimension.text.items c.push_field.new.text.items c.loop-dimension-test.true c.dimension-item.is c.loop-dimension.invariant adds
+    let adds :
+    AddsParts (grouping_name c.dimension-item.result ∷ []) c.loop-dimension.text.items c.push_field.new.text.items =
+    search rules in
+    AddsParts-more grouping_name c.args.dimensions.now c.loop-dimension.dimension-index c.dimension-item.result
+    c.args.text.now.items c.loop-dimension.text.items c.push_field.new.text.items c.loop-dimension-test.true
+    c.dimension-item.is c.loop-dimension.invariant adds

@@ -10,5 +10,7 @@ returns c =
     let first : c.extend_from_slice.new.self.items ≡ c.args.text.now.items ++ c.args.key.now = search rules in
     on_ok_weaker c.end_line.result
     (λ ended of some shown.
-    EndsLine-keyed (map coord_text of.coords) (map grouping_text of.coords) (map answer_text c.args.answers.now) _ c.args.key.now _ _ c.end_line.new.text.items
-    (rw (length-map of.coords coord_text) some) (rw (length-map of.coords grouping_text) some) shown first c.in_ok-push_answers.ensures ended) c.end_line.ensures
+    EndsLine-keyed (map coord_text of.coords) (map grouping_text of.coords)
+    (map answer_text c.args.answers.now) _ c.args.key.now _ _ c.end_line.new.text.items
+    (rw (length-map of.coords coord_text) some)
+    (rw (length-map of.coords grouping_text) some) shown first c.in_ok-push_answers.ensures ended) c.end_line.ensures

@@ -7,4 +7,8 @@ use Rattle.cube_merge.proofs.text.push_number.Goals as goal
 pub push_plain-requires : goal.push_plain-requires
 push_plain-requires c =
     let fits : FitsSigned w128 c.args.value = search rules in
-    rw (c.as_bytes.ensures.value, c.format.ensures.text, to_z-of_z w128 c.args.value fits) (plain-signed_decimal c.args.value fits)
+    rw (
+      c.as_bytes.ensures.value,
+      c.format.ensures.text,
+      to_z-of_z w128 c.args.value fits,
+    ) (plain-signed_decimal c.args.value fits)

@@ -14,7 +14,8 @@ returns-in-Ok-finish-clause-found g c = λ clean.
     record {
       is_open = made.is_open;
       tables = made.tables;
-      found = inr (made, λ held. rw c.in-Refused.is at (c.in-Err.ensures.cause (c.in-Ok-finish.ensures.honest clean) held));
+      found =
+          inr (made, λ held. rw c.in-Refused.is at (c.in-Err.ensures.cause (c.in-Ok-finish.ensures.honest clean) held));
     }
 
 pub returns-in-Ok-finish-clause-honest : goal.returns-in-Ok-finish-clause-honest

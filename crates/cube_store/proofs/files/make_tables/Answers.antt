@@ -18,4 +18,5 @@ pub returns-in-Ok-clause-honest : goal.returns-in-Ok-clause-honest
 returns-in-Ok-clause-honest g c = λ clean. c.in-Ok.ensures.honest (clean_of _ clean)
 
 pub returns-in-Err-clause-falls : goal.returns-in-Err-clause-falls
-returns-in-Err-clause-falls g c = λ clean. c.in-Err.ensures.falls (laws.left_is_clean c.in-Err.left c.close.result.log c.close.result.db c.close.ensures clean)
+returns-in-Err-clause-falls g c = λ clean.
+    c.in-Err.ensures.falls (laws.left_is_clean c.in-Err.left c.close.result.log c.close.result.db c.close.ensures clean)

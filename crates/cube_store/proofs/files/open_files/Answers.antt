@@ -26,10 +26,13 @@ pub returns-in-Ok-open_held-clause-found : goal.returns-in-Ok-open_held-clause-f
 returns-in-Ok-open_held-clause-found g c = λ clean.
     let now = c.hold_none.new.files in
     let was = c.args.files in
-    subst (λ i. IsFound i (view c.in-Ok-open_held.store)) (laws.same_seen now.log now.db was.log was.db c.hold_none.ensures.log c.hold_none.ensures.db) (c.in-Ok-open_held.ensures.found clean)
+    subst (λ i. IsFound i (view c.in-Ok-open_held.store))
+    (laws.same_seen now.log now.db was.log was.db c.hold_none.ensures.log c.hold_none.ensures.db)
+    (c.in-Ok-open_held.ensures.found clean)
 
 pub returns-in-Err-open_held-clause-accepts : goal.returns-in-Err-open_held-clause-accepts
 returns-in-Err-open_held-clause-accepts g c = λ clean held.
     let now = c.hold_none.new.files in
     let was = c.args.files in
-    c.in-Err-open_held.ensures.accepts clean (subst StoreIn (sym (laws.same_seen now.log now.db was.log was.db c.hold_none.ensures.log c.hold_none.ensures.db)) held)
+    c.in-Err-open_held.ensures.accepts clean (subst StoreIn
+    (sym (laws.same_seen now.log now.db was.log was.db c.hold_none.ensures.log c.hold_none.ensures.db)) held)

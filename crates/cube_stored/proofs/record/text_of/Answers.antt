@@ -8,4 +8,5 @@ use Rattle.cube_stored.proofs.record.text_of.Goals as goal
 pub returns-clause-back : goal.returns-clause-back
 returns-clause-back c =
     let fields = fields_of c.args.fields.now in
-    IfOk-weaker c.line_text.result _ _ (λ text is. subst (ReadsBack fields) (sym is) (laws.ReadsBack-text fields)) c.line_text.ensures
+    IfOk-weaker c.line_text.result _ _
+    (λ text is. subst (ReadsBack fields) (sym is) (laws.ReadsBack-text fields)) c.line_text.ensures

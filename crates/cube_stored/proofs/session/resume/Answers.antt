@@ -12,18 +12,22 @@ returns-in-Ok-clause-taken g c = λ clean.
     let fine : IsClean (view c.in-Ok.journal.store) = subst (λ s. IsClean (view s)) c.new.ensures.store clean in
     subst (λ l. TakesAll TakesStored l (stored_in (view c.args.store)) c.into_live.result) c.new-replay.ensures
     (subst (λ l. TakesAll TakesStored c.new-replay.result (stored_in (view c.args.store)) l) (sym c.into_live.ensures)
-    (subst (λ es. TakesAll TakesStored c.new-replay.result es c.start.new.sink) (laws.Starts-stored (entries_of c.args.notes.now) (view c.args.store) (view c.in-Ok.journal.store) (c.in-Ok.ensures.found fine))
+    (subst (λ es. TakesAll TakesStored c.new-replay.result es c.start.new.sink)
+    (laws.Starts-stored (entries_of c.args.notes.now) (view c.args.store) (view c.in-Ok.journal.store)
+    (c.in-Ok.ensures.found fine))
     (c.in-Ok.ensures.taken fine)))
 
 pub returns-in-Ok-clause-stored : goal.returns-in-Ok-clause-stored
 returns-in-Ok-clause-stored g c = λ clean.
     let fine : IsClean (view c.in-Ok.journal.store) = subst (λ s. IsClean (view s)) c.new.ensures.store clean in
-    ap (λ s. stored_in (view s)) c.new.ensures.store ∙ laws.Starts-stored (entries_of c.args.notes.now) (view c.args.store) (view c.in-Ok.journal.store) (c.in-Ok.ensures.found fine)
+    ap (λ s. stored_in (view s)) c.new.ensures.store ∙ laws.Starts-stored (entries_of c.args.notes.now)
+    (view c.args.store) (view c.in-Ok.journal.store) (c.in-Ok.ensures.found fine)
 
 pub returns-in-Ok-clause-noted : goal.returns-in-Ok-clause-noted
 returns-in-Ok-clause-noted g c = λ clean.
     let fine : IsClean (view c.in-Ok.journal.store) = subst (λ s. IsClean (view s)) c.new.ensures.store clean in
-    ap (λ s. noted_in (view s)) c.new.ensures.store ∙ laws.Starts-noted (entries_of c.args.notes.now) (view c.args.store) (view c.in-Ok.journal.store) (c.in-Ok.ensures.found fine)
+    ap (λ s. noted_in (view s)) c.new.ensures.store ∙ laws.Starts-noted (entries_of c.args.notes.now)
+    (view c.args.store) (view c.in-Ok.journal.store) (c.in-Ok.ensures.found fine)
 
 pub returns-in-Ok-clause-kept : goal.returns-in-Ok-clause-kept
 returns-in-Ok-clause-kept g c = c.new.ensures.kept (λ clean.

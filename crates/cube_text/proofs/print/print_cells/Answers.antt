@@ -10,4 +10,8 @@ returns c =
     let part = c.in_ok-put_cells.ensures in
     let all = part.added _ header in
     let are = RowsGoOn-all c.args.cells.now _ part.rows c.len.ensures part.go_on in
-    IfOk-weaker c.into_text.result _ _ (λ bytes holds. record { rows = part.rows; are_rows = are; text_is = holds (text_of_rows c.args.schema.now part.rows) all }) c.into_text.ensures
+    IfOk-weaker c.into_text.result _ _ (λ bytes holds. record {
+      rows = part.rows;
+      are_rows = are;
+      text_is = holds (text_of_rows c.args.schema.now part.rows) all;
+    }) c.into_text.ensures

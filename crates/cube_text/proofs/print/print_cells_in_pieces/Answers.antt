@@ -19,13 +19,17 @@ returns g c =
     let some : 0 < parts = search rules in
     IfOk-weaker c.gather.result _ _ (λ text gathers.
     let results = c.in_ok-texts.texts.items in
-    let count : length gathers.pieces ≡ parts = sym (length-map gathers.pieces Ok) ∙ ap (λ (l : List (Result (Vec ℕ) AllocError)). length l) gathers.are ∙ c.in_ok-texts.ensures.long in
+    let count : length gathers.pieces ≡ parts = sym (length-map gathers.pieces Ok)
+    ∙ ap (λ (l : List (Result (Vec ℕ) AllocError)). length l) gathers.are ∙ c.in_ok-texts.ensures.long in
     let made = text_of_parts o size 0 [] gathers.pieces (rw (mul-zero size) tt) (λ i at unused e inside.
-    let one : get_or results i (Ok unused) ≡ Ok (get_or gathers.pieces i unused) = rw (← gathers.are) (get_or-map Ok gathers.pieces i unused (Ok unused) inside) in
+    let one : get_or results i (Ok unused) ≡ Ok (get_or gathers.pieces i unused) =
+    rw (← gathers.are) (get_or-map Ok gathers.pieces i unused (Ok unused) inside) in
     rw (e, zero-add i) (rw one at (c.in_ok-texts.ensures.each i (Ok unused) (omega (arith, inside, count))))) in
-    let covers : length o.cells ≤ size * (0 + length gathers.pieces) = rw (count, zero-add parts, ← c.len.ensures, c.div_ceil-size.ensures) (div_ceil_times c.len.result parts some).0 in
+    let covers : length o.cells ≤ size * (0 + length gathers.pieces) =
+    rw (count, zero-add parts, ← c.len.ensures, c.div_ceil-size.ensures) (div_ceil_times c.len.result parts some).0 in
     record {
       rows = made.0;
       are_rows = rw (take_all _ o.cells covers) at made.1;
-      text_is = gathers.text_is ∙ ap (λ (l : List ℕ). l ++ text_of_pieces gathers.pieces) c.in_ok-header.ensures ∙ ap (λ (l : List ℕ). line (header_fields c.args.schema.now) ++ l) made.2;
+      text_is = gathers.text_is ∙ ap (λ (l : List ℕ). l ++ text_of_pieces gathers.pieces) c.in_ok-header.ensures
+          ∙ ap (λ (l : List ℕ). line (header_fields c.args.schema.now) ++ l) made.2;
     }) c.gather.ensures

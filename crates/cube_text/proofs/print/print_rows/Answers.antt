@@ -7,4 +7,5 @@ pub returns : goal.returns
 returns c =
     let header = c.in_ok-put_header.ensures [] c.no_lines-lines.ensures in
     let all = c.in_ok-put_rows.ensures _ header in
-    IfOk-weaker c.into_text.result _ _ (λ bytes holds. holds (text_of_rows c.args.schema.now c.args.rows.now) all) c.into_text.ensures
+    IfOk-weaker c.into_text.result _ _
+    (λ bytes holds. holds (text_of_rows c.args.schema.now c.args.rows.now) all) c.into_text.ensures

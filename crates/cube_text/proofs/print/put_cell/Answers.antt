@@ -11,9 +11,14 @@ pub returns : goal.returns
 returns c =
     let key = c.cell_at-cell.result.0 in
     let answers = answers_at c.args.columns.now c.args.at in
-    let line = AddsText-row_text (map coord_text key.coords) (map grouping_text key.coords) (map answer_text answers) _ _ _ _ c.end_line.new.lines c.in_ok-put_key.ensures c.in_ok-put_key_groupings.ensures c.in_ok-put_answers_at.ensures in
+    let line =
+    AddsText-row_text (map coord_text key.coords) (map grouping_text key.coords) (map answer_text answers) _ _ _ _
+    c.end_line.new.lines c.in_ok-put_key.ensures c.in_ok-put_key_groupings.ensures c.in_ok-put_answers_at.ensures in
     on_ok_weaker c.end_line.result (λ ended unused. record {
       row = record { key = key; answers = answers };
-      is_row = record { key = ap (λ (cell : Key × Tally). cell.0) (c.cell_at-cell.ensures.cell unused); answers = c.requires.answers unused };
+      is_row = record {
+        key = ap (λ (cell : Key × Tally). cell.0) (c.cell_at-cell.ensures.cell unused);
+        answers = c.requires.answers unused;
+      };
       added = line ended;
     }) c.end_line.ensures

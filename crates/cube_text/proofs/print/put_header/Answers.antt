@@ -10,5 +10,6 @@ returns c =
     let dimensions = rw c.dimensions.ensures.value at c.in_ok-put_texts.ensures in
     let groupings = rw c.dimensions-2.ensures.value at c.in_ok-put_grouping_names.ensures in
     let aggregates = rw c.aggregate_texts.ensures.value at c.in_ok-put_texts-2.ensures in
-    let line = AddsText-row_text s.dimensions (map grouping_name s.dimensions) s.aggregate_texts _ _ _ _ c.end_line.new.lines dimensions groupings aggregates in
+    let line = AddsText-row_text s.dimensions
+    (map grouping_name s.dimensions) s.aggregate_texts _ _ _ _ c.end_line.new.lines dimensions groupings aggregates in
     on_ok_weaker c.end_line.result line c.end_line.ensures

@@ -10,5 +10,6 @@ returns c =
     let texts = rw c.as_slice-coords.ensures at c.in_ok-put_coords.ensures in
     let groupings = rw c.as_slice-coords.ensures at c.in_ok-put_groupings.ensures in
     let answers = rw c.as_slice.ensures at c.in_ok-put_answers.ensures in
-    let line = AddsText-row_text (map coord_text row.key.coords) (map grouping_text row.key.coords) (map answer_text row.answers) _ _ _ _ c.end_line.new.lines texts groupings answers in
+    let line = AddsText-row_text (map coord_text row.key.coords) (map grouping_text row.key.coords)
+    (map answer_text row.answers) _ _ _ _ c.end_line.new.lines texts groupings answers in
     on_ok_weaker c.end_line.result line c.end_line.ensures

@@ -6,4 +6,5 @@ use Rattle.cube_text.proofs.print.text_of_header.Goals as goal
 pub returns : goal.returns
 returns c =
     let all = c.in_ok-put_header.ensures [] c.no_lines-lines.ensures in
-    IfOk-weaker c.into_text.result _ _ (λ bytes holds. holds (line (header_fields c.args.schema.now)) all) c.into_text.ensures
+    IfOk-weaker c.into_text.result _ _
+    (λ bytes holds. holds (line (header_fields c.args.schema.now)) all) c.into_text.ensures

@@ -14,6 +14,13 @@ returns c =
     let from = c.place_within-from.result in
     let part = c.in_ok-put_cells.ensures in
     let all = part.added [] c.no_lines-lines.ensures in
-    let end : from + c.min.result ≡ min (size * (which + 1)) (length o.cells) = rw (c.min.ensures, c.len.ensures) (end_of_part size which (length o.cells) from c.place_within-from.ensures) in
-    let on = RowsGoOn-within o (size * which) (size * (which + 1)) from _ part.rows c.place_within-from.ensures end part.go_on in
-    IfOk-weaker c.into_text.result _ _ (λ bytes holds. record { rows = part.rows; go_on = on; text_is = holds (flat_map row_line part.rows) all }) c.into_text.ensures
+    let end : from + c.min.result ≡ min (size * (which + 1)) (length o.cells) =
+    rw (c.min.ensures, c.len.ensures) (end_of_part size which (length o.cells) from c.place_within-from.ensures) in
+    let on =
+    RowsGoOn-within o (size * which) (size * (which + 1)) from _ part.rows c.place_within-from.ensures end part.go_on in
+    IfOk-weaker c.into_text.result _ _
+    (λ bytes holds. record {
+      rows = part.rows;
+      go_on = on;
+      text_is = holds (flat_map row_line part.rows) all;
+    }) c.into_text.ensures

@@ -18,7 +18,16 @@ overflow_add-result g c =
     let long = length-pieces pieces c.loop-piece.piece-index c.piece-item.result c.loop-piece-test.true in
     let all = ap (λ (l : List ℕ). length l) c.pieces-piece-items.ensures.text in
     let read = ap (λ (l : List ℕ). length l) c.deref.ensures.value in
-    omega (arith, c.in-Err.ensures.within, read, size, long, all, c.loop-piece.invariant.0, c.pieces-piece-items.ensures.long)
+    omega (
+      arith,
+      c.in-Err.ensures.within,
+      read,
+      size,
+      long,
+      all,
+      c.loop-piece.invariant.0,
+      c.pieces-piece-items.ensures.long,
+    )
 
 pub returns-in-Err-clause-within : goal.returns-in-Err-clause-within
 returns-in-Err-clause-within g c =
@@ -32,6 +41,8 @@ returns-in-Err-clause-within g c =
 pub returns-in-Err-clause-part : goal.returns-in-Err-clause-part
 returns-in-Err-clause-part g c =
     let pieces = c.pieces-piece-items.result.now in
-    let items : c.deref.result.now ≡ (get_or pieces c.loop-piece.piece-index c.piece-item.result).items = c.deref.ensures.value ∙ ap (λ (p : Vec ℕ). p.items) c.piece-item.is in
+    let items : c.deref.result.now ≡ (get_or pieces c.loop-piece.piece-index c.piece-item.result).items =
+    c.deref.ensures.value ∙ ap (λ (p : Vec ℕ). p.items) c.piece-item.is in
     rw (← c.pieces-piece-items.ensures.text, c.loop-piece.invariant.0)
-    (Appends-pieces _ _ _ pieces c.loop-piece.piece-index c.in-Err.fault.sent c.piece-item.result c.loop-piece-test.true (rw items at c.in-Err.ensures.within) c.loop-piece.invariant.1 (rw items at c.in-Err.ensures.part))
+    (Appends-pieces _ _ _ pieces c.loop-piece.piece-index c.in-Err.fault.sent c.piece-item.result c.loop-piece-test.true
+    (rw items at c.in-Err.ensures.within) c.loop-piece.invariant.1 (rw items at c.in-Err.ensures.part))

@@ -5,4 +5,5 @@ use Rattle.cube_text.proofs.write.write_pieces.Given as goal
 
 abbrev pub invariant-loop-piece : goal.invariant-loop-piece
 invariant-loop-piece g l = (l.sent ≡ length (text_of_pieces (take l.piece-index l.piece-items)))
-    × Appends (g.W.Write.contents l.initial.w) (g.W.Write.contents l.w) (text_of_pieces (take l.piece-index l.piece-items))
+    × Appends (g.W.Write.contents l.initial.w) (g.W.Write.contents l.w)
+    (text_of_pieces (take l.piece-index l.piece-items))

@@ -5,4 +5,5 @@ pub loop-part-preserved : goal.loop-part-preserved
 loop-part-preserved c =
     let loop = c.loop-part in
     rw c.in_ok-push.ensures.items
-    (new-more c.args.schema.now c.args.sources c.args.parts loop.part loop.drafts.items c.in_ok-new_part.field-0 loop.invariant c.in_ok-new_part.ensures)
+    (new-more c.args.schema.now c.args.sources c.args.parts loop.part loop.drafts.items c.in_ok-new_part.field-0
+    loop.invariant c.in_ok-new_part.ensures)

@@ -4,4 +4,5 @@ use Rattle.cube_cells.proofs.RankLaws.{IsSortedBy-key}
 use Rattle.cube_threads.proofs.joining.in_key_order.Goals as goal
 
 pub returns-clause-order : goal.returns-clause-order
-returns-clause-order c = IsSortedBy-key key_cmp-IsTotalOrder (λ row. row.key) c.sort_by.new.self.items c.in_ok-sort_by.ensures.sorted (λ a r q k. search rules)
+returns-clause-order c = IsSortedBy-key key_cmp-IsTotalOrder
+    (λ row. row.key) c.sort_by.new.self.items c.in_ok-sort_by.ensures.sorted (λ a r q k. search rules)

@@ -3,4 +3,5 @@ use Rattle.cube_engine.specs.Ledger.{AllFit, LedgerView, all_facts}
 use Rattle.cube_tool.proofs.answers.facts_fit.Goals as goal
 
 pub returns : goal.returns
-returns c = subst (λ (l : LedgerView). AllFit l.schema (all_facts l.accounts)) c.first_builder.ensures c.cube-cube.ensures.fit
+returns c =
+    subst (λ (l : LedgerView). AllFit l.schema (all_facts l.accounts)) c.first_builder.ensures c.cube-cube.ensures.fit

@@ -6,13 +6,17 @@ use Rattle.cube_tool.proofs.answers.write_slice.Goals as goal
 
 pub write_rows-requires : goal.write_rows-requires
 write_rows-requires g c =
-    rw c.deref.ensures.value (shapes (matches c.args.pattern.now) c.args.schema.now c.args.built.now c.in_ok-rows.rows.items c.requires c.facts_fit.ensures c.in_ok-rows.ensures)
+    rw c.deref.ensures.value (shapes (matches c.args.pattern.now)
+    c.args.schema.now c.args.built.now c.in_ok-rows.rows.items c.requires c.facts_fit.ensures c.in_ok-rows.ensures)
 
 pub returns-in_err-rows : goal.returns-in_err-rows
-returns-in_err-rows g c = let p = err_from_is_err_and c.from_residual.result c.from_residual.ensures.1 in rw (p.1, p.2) refl
+returns-in_err-rows g c =
+    let p = err_from_is_err_and c.from_residual.result c.from_residual.ensures.1 in
+    rw (p.1, p.2) refl
 
 pub returns : goal.returns
 returns g c =
     Writes-weaker c.write_rows.result _ _
-    (λ text is. IsTextWhere-rows (matches c.args.pattern.now) c.args.schema.now c.args.built.now c.in_ok-rows.rows.items text c.requires c.in_ok-rows.ensures (rw c.deref.ensures.value at is))
+    (λ text is. IsTextWhere-rows (matches c.args.pattern.now) c.args.schema.now c.args.built.now c.in_ok-rows.rows.items
+    text c.requires c.in_ok-rows.ensures (rw c.deref.ensures.value at is))
     c.write_rows.ensures

@@ -13,7 +13,8 @@ returns-in_err-built-clause-err g c =
 pub returns-in_err-write_cube-clause-err : goal.returns-in_err-write_cube-clause-err
 returns-in_err-write_cube-clause-err g c =
     let p = err_from_is_err_and c.from_residual-in_err-write_cube.result c.from_residual-in_err-write_cube.ensures.1 in
-    rw (p.1, p.2) (Leaves-text Cube c.in_err-write_cube.field-0.0 _ _ c.has_builder.ensures c.in_ok-built.ensures.ok c.in_err-write_cube.ensures)
+    rw (p.1, p.2) (Leaves-text Cube c.in_err-write_cube.field-0.0 _ _ c.has_builder.ensures c.in_ok-built.ensures.ok
+    c.in_err-write_cube.ensures)
 
 pub returns-clause-ok : goal.returns-clause-ok
 returns-clause-ok g c = OfFeeds-BuildsParts c.has_builder.ensures c.in_ok-built.ensures.ok c.in_ok-write_cube.ensures

@@ -12,7 +12,8 @@ returns-in_err-builder-clause-err g c =
 
 pub returns-in_err-write_plain_cube-clause-err : goal.returns-in_err-write_plain_cube-clause-err
 returns-in_err-write_plain_cube-clause-err g c =
-    let p = err_from_is_err_and c.from_residual-in_err-write_plain_cube.result c.from_residual-in_err-write_plain_cube.ensures.1 in
+    let p = err_from_is_err_and c.from_residual-in_err-write_plain_cube.result
+    c.from_residual-in_err-write_plain_cube.ensures.1 in
     rw (p.1, p.2) (Leaves-plain_text Cube _ _ _ c.in_ok-builder.ensures.ok c.in_err-write_plain_cube.ensures)
 
 pub returns-clause-ok : goal.returns-clause-ok

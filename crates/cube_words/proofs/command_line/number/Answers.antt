@@ -6,4 +6,5 @@ use Rattle.cube_words.proofs.command_line.number.Goals as goal
 pub returns-clause-rule : goal.returns-clause-rule
 returns-clause-rule c =
     let parsed = c.value_parser.ensures.given.1 ∙ ap Some c.value_parser.ensures.given.2 in
-    rw c.value_parser.ensures.others (ap₂ (λ (rule : Rule) (parser : Option ValueParser). record rule { parser = parser }) c.text.ensures.rule parsed)
+    rw c.value_parser.ensures.others
+    (ap₂ (λ (rule : Rule) (parser : Option ValueParser). record rule { parser = parser }) c.text.ensures.rule parsed)

@@ -12,4 +12,5 @@ known (Some range) all is = ap Some is
 pub returns-clause-rule : goal.returns-clause-rule
 returns-clause-rule c =
     let ranged = known c.num_args.result.num_vals _ c.num_args.ensures.1 in
-    rw (c.num_args.ensures.0, c.help.ensures) (ap₂ (λ (rule : Rule) (range : Option ValueRange). record rule { range = range }) c.new.ensures.rule ranged)
+    rw (c.num_args.ensures.0, c.help.ensures)
+    (ap₂ (λ (rule : Rule) (range : Option ValueRange). record rule { range = range }) c.new.ensures.rule ranged)

@@ -7,8 +7,10 @@ use Rattle.cube_words.proofs.command_line.with_sessions.Goals as goal
 
 pub returns : goal.returns
 returns c =
-    let first = with_known c.live_command.result c.in_ok-living.living c.args.line live_line c.in_ok-living.ensures c.live_command.ensures.line in
-    let next = with_known c.merge_command.result c.in_ok-merging.merging c.in_ok-living.living merge_line c.in_ok-merging.ensures c.merge_command.ensures.line in
+    let first = with_known c.live_command.result c.in_ok-living.living c.args.line live_line c.in_ok-living.ensures
+    c.live_command.ensures.line in
+    let next = with_known c.merge_command.result c.in_ok-merging.merging c.in_ok-living.living merge_line
+    c.in_ok-merging.ensures c.merge_command.ensures.line in
     let second = next ∙ ap (λ (line : App). with_subcommand line merge_line.top) first in
     IfOk-weaker c.with_command-3.result _ _
     (λ all made.

@@ -7,10 +7,12 @@ use Rattle.cube_words.proofs.request.all_words.Goals as goal
 
 pub returns-in_default : goal.returns-in_default
 returns-in_default c =
-    let are = ap (λ (o : Option (List Text)). unwrap_or o []) (c.get_strs.ensures ∙ raw_values-rows (found_of c.args.words.now) c.args.name.now) in
+    let are = ap (λ (o : Option (List Text)). unwrap_or o [])
+    (c.get_strs.ensures ∙ raw_values-rows (found_of c.args.words.now) c.args.name.now) in
     grind (arith, common_steps)
 
 pub returns : goal.returns
 returns c =
-    let are = ap (λ (o : Option (List Text)). unwrap_or o []) (c.get_strs.ensures ∙ raw_values-rows (found_of c.args.words.now) c.args.name.now) in
+    let are = ap (λ (o : Option (List Text)). unwrap_or o [])
+    (c.get_strs.ensures ∙ raw_values-rows (found_of c.args.words.now) c.args.name.now) in
     grind (arith, common_steps)

@@ -6,6 +6,7 @@ use Rattle.cube_words.proofs.request.run_words.Goals as goal
 
 pub returns-in_default-clause-none : goal.returns-in_default-clause-none
 returns-in_default-clause-none c run are room =
-    let live = c.live_words.ensures.none (live_of run) (AreLiveWords-AreRunWords (rows_of (found_of c.args.words.now)) run are) (LiveHasRoom-HasRoom run room) in
+    let live = c.live_words.ensures.none (live_of run)
+    (AreLiveWords-AreRunWords (rows_of (found_of c.args.words.now)) run are) (LiveHasRoom-HasRoom run room) in
     let built = c.number_of.ensures.err (Some run.builders) are.builders (room.least_builders, room.most_builders) in
     grind (arith, common_steps)

@@ -6,4 +6,5 @@ use Rattle.cube_words.proofs.words.parse_words.Goals as goal
 pub returns-clause-err : goal.returns-clause-err
 returns-clause-err g c =
     let same = ap (λ line. takes line (map g.S.AsStr.text c.args.words.now)) c.in_ok-program.ensures in
-    IfErr-weaker c.try_get_matches_from.result _ _ (λ error passes taken. passes (same ∙ taken)) c.try_get_matches_from.ensures.passes
+    IfErr-weaker c.try_get_matches_from.result _ _
+    (λ error passes taken. passes (same ∙ taken)) c.try_get_matches_from.ensures.passes

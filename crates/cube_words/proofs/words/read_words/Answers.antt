@@ -5,7 +5,9 @@ use Rattle.clap.specs.Words.{subcommand_rows_of, takes}
 use Rattle.cube_words.specs.CommandLine.{IsRequest, command_line}
 use Rattle.cube_words.specs.declared.request.Request.{Request}
 use Rattle.std.proofs.lemmas.Result.{IfOk-weaker}
-use Rattle.cube_words.proofs.CommandLineLaws.{takes-no_words, takes-check, takes-explain, takes-explain_code, request-no_words, request-check, request-explain, request-explain_code, IsRequest-HasMatchesOf, request-taken, IsInBounds-IsRequest}
+use Rattle.cube_words.proofs.CommandLineLaws.{takes-no_words, takes-check, takes-explain, takes-explain_code}
+use Rattle.cube_words.proofs.CommandLineLaws.{request-no_words, request-check, request-explain, request-explain_code}
+use Rattle.cube_words.proofs.CommandLineLaws.{IsRequest-HasMatchesOf, request-taken, IsInBounds-IsRequest}
 use Rattle.cube_words.proofs.words.read_words.Goals as goal
 
 pub returns-in_err-matches-clause-no_words : goal.returns-in_err-matches-clause-no_words
@@ -32,15 +34,18 @@ returns-in_err-matches-clause-explain_code g c name code plain are =
 pub returns-clause-no_words : goal.returns-clause-no_words
 returns-clause-no_words g c few =
     let words = map g.S.AsStr.text c.args.words.now in
-    let done = request-no_words words c.in_ok-matches.matches c.in_ok-request_of.field-0 c.complete.result (rw length-map few)
+    let done =
+    request-no_words words c.in_ok-matches.matches c.in_ok-request_of.field-0 c.complete.result (rw length-map few)
     c.in_ok-matches.ensures.ok c.in_ok-request_of.ensures c.complete.ensures.some in
     rw done
 
 pub returns-clause-asked : goal.returns-clause-asked
 returns-clause-asked g c =
     IfOk-weaker c.complete.result _ _
-    (λ request is. IsRequest-HasMatchesOf (map g.S.AsStr.text c.args.words.now) c.in_ok-matches.matches request c.in_ok-matches.ensures.ok
-    (subst (λ (asked : Option Request). IsRequest (subcommand_rows_of c.in_ok-matches.matches) asked) is c.in_ok-request_of.ensures))
+    (λ request is. IsRequest-HasMatchesOf (map g.S.AsStr.text c.args.words.now)
+    c.in_ok-matches.matches request c.in_ok-matches.ensures.ok
+    (subst (λ (asked : Option Request). IsRequest (subcommand_rows_of c.in_ok-matches.matches) asked)
+    is c.in_ok-request_of.ensures))
     c.complete.ensures.ok
 
 pub returns-clause-check : goal.returns-clause-check
@@ -62,10 +67,12 @@ pub returns-clause-bounds : goal.returns-clause-bounds
 returns-clause-bounds g c =
     IfOk-weaker c.complete.result _ _
     (λ request is. IsInBounds-IsRequest (subcommand_rows_of c.in_ok-matches.matches) request
-    (subst (λ (asked : Option Request). IsRequest (subcommand_rows_of c.in_ok-matches.matches) asked) is c.in_ok-request_of.ensures))
+    (subst (λ (asked : Option Request). IsRequest (subcommand_rows_of c.in_ok-matches.matches) asked)
+    is c.in_ok-request_of.ensures))
     c.complete.ensures.ok
 
 pub returns-clause-taken : goal.returns-clause-taken
 returns-clause-taken g c request taken makes =
-    request-taken _ (map g.S.AsStr.text c.args.words.now) c.in_ok-matches.matches request c.in_ok-request_of.field-0 c.complete.result
+    request-taken _
+    (map g.S.AsStr.text c.args.words.now) c.in_ok-matches.matches request c.in_ok-request_of.field-0 c.complete.result
     c.in_ok-matches.ensures.ok makes c.in_ok-request_of.ensures c.complete.ensures.some

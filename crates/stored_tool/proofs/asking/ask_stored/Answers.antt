@@ -6,7 +6,9 @@ use Rattle.stored_tool.proofs.asking.ask_stored.Goals as goal
 
 pub returns-in-Err-clause-written : goal.returns-in-Err-clause-written
 returns-in-Err-clause-written g c = rw c.from.ensures
-    (λ clean. laws.LeavesOfText-unopened c.args.question c.args.schema.now (map g.R.Read.remaining c.args.feeds.readers.items) (view {D = g.row.D.Denot} {g = g.D.Disk} c.args.feeds.store) c.in-Err.fault (g.W.Write.contents c.args.out.now) c.in-Err.ensures.err)
+    (λ clean. laws.LeavesOfText-unopened c.args.question c.args.schema.now
+    (map g.R.Read.remaining c.args.feeds.readers.items) (view {D = g.row.D.Denot} {g = g.D.Disk} c.args.feeds.store)
+    c.in-Err.fault (g.W.Write.contents c.args.out.now) c.in-Err.ensures.err)
 
 pub returns-in-Err-clause-unharmed : goal.returns-in-Err-clause-unharmed
 returns-in-Err-clause-unharmed g c = λ clean db may. inr may
@@ -16,26 +18,40 @@ returns-in-Ok-ask_resumed-clause-ok g c =
     let now = c.in-Ok-resume.journal in
     let was = view {D = g.row.D.Denot} {g = g.D.Disk} c.args.feeds.store in
     rw c.in-Ok-ask_resumed.ensures.store
-    (λ clean. laws.OfFeeds-answered c.args.schema.now (map g.R.Read.remaining c.args.feeds.readers.items) was c.in-Ok.live c.in-Ok-resume.live c.in-Ok.ensures.ok c.in-Ok.ensures.schema (c.in-Ok-resume.ensures.taken clean)
-    c.args.question (entries_of c.args.feeds.notes.items) c.in-Ok-ask_resumed.ended.0 (view {D = g.row.D.Denot} {g = g.D.Disk} now.store) (recovers {D = g.row.D.Denot} {g = g.D.Disk} now.store) (g.W.Write.contents c.args.out.now) (g.W.Write.contents c.ask_resumed.new.out)
+    (λ clean. laws.OfFeeds-answered c.args.schema.now (map g.R.Read.remaining c.args.feeds.readers.items)
+    was c.in-Ok.live c.in-Ok-resume.live c.in-Ok.ensures.ok c.in-Ok.ensures.schema (c.in-Ok-resume.ensures.taken clean)
+    c.args.question (entries_of c.args.feeds.notes.items) c.in-Ok-ask_resumed.ended.0
+    (view {D = g.row.D.Denot} {g = g.D.Disk} now.store) (recovers {D = g.row.D.Denot} {g = g.D.Disk} now.store)
+    (g.W.Write.contents c.args.out.now) (g.W.Write.contents c.ask_resumed.new.out)
     c.in-Ok-ask_resumed.ensures.ok
-    (laws.held-same (view {D = g.row.D.Denot} {g = g.D.Disk}) (recovers {D = g.row.D.Denot} {g = g.D.Disk}) was (entries_of c.args.feeds.notes.items) now c.in-Ok-resume.ensures.kept c.in-Ok-resume.ensures.stored (rw c.deref.ensures.value at c.in-Ok-resume.ensures.noted) clean)
-    (laws.leaves-same (view {D = g.row.D.Denot} {g = g.D.Disk}) (recovers {D = g.row.D.Denot} {g = g.D.Disk}) was (entries_of c.args.feeds.notes.items) now c.in-Ok-resume.ensures.kept c.in-Ok-resume.ensures.stored (rw c.deref.ensures.value at c.in-Ok-resume.ensures.noted) clean))
+    (laws.held-same (view {D = g.row.D.Denot} {g = g.D.Disk}) (recovers {D = g.row.D.Denot} {g = g.D.Disk}) was
+    (entries_of c.args.feeds.notes.items) now c.in-Ok-resume.ensures.kept c.in-Ok-resume.ensures.stored
+    (rw c.deref.ensures.value at c.in-Ok-resume.ensures.noted) clean)
+    (laws.leaves-same (view {D = g.row.D.Denot} {g = g.D.Disk}) (recovers {D = g.row.D.Denot} {g = g.D.Disk}) was
+    (entries_of c.args.feeds.notes.items) now c.in-Ok-resume.ensures.kept c.in-Ok-resume.ensures.stored
+    (rw c.deref.ensures.value at c.in-Ok-resume.ensures.noted) clean))
 
 pub returns-in-Ok-resume-clause-written : goal.returns-in-Ok-resume-clause-written
 returns-in-Ok-resume-clause-written g c =
     let was = view {D = g.row.D.Denot} {g = g.D.Disk} c.args.feeds.store in
     rw c.in-Err-ask_resumed.ensures.err_store
-    (λ clean. laws.LeavesOfText-failed c.args.schema.now (map g.R.Read.remaining c.args.feeds.readers.items) was c.in-Ok.live c.in-Ok-resume.live c.in-Ok.ensures.ok c.in-Ok.ensures.schema (c.in-Ok-resume.ensures.taken clean)
-    c.args.question c.in-Err-ask_resumed.failure (g.W.Write.contents c.args.out.now) (g.W.Write.contents c.ask_resumed.new.out) c.requires.question c.in-Err-ask_resumed.ensures.err)
+    (λ clean. laws.LeavesOfText-failed c.args.schema.now (map g.R.Read.remaining c.args.feeds.readers.items)
+    was c.in-Ok.live c.in-Ok-resume.live c.in-Ok.ensures.ok c.in-Ok.ensures.schema (c.in-Ok-resume.ensures.taken clean)
+    c.args.question c.in-Err-ask_resumed.failure (g.W.Write.contents c.args.out.now)
+    (g.W.Write.contents c.ask_resumed.new.out) c.requires.question c.in-Err-ask_resumed.ensures.err)
 
 pub returns-in-Ok-resume-clause-unharmed : goal.returns-in-Ok-resume-clause-unharmed
 returns-in-Ok-resume-clause-unharmed g c =
     let now = c.in-Ok-resume.journal in
     rw c.in-Err-ask_resumed.ensures.err_store
-    (λ clean db may. inl (laws.leaves-same (view {D = g.row.D.Denot} {g = g.D.Disk}) (recovers {D = g.row.D.Denot} {g = g.D.Disk}) (view {D = g.row.D.Denot} {g = g.D.Disk} c.args.feeds.store) (entries_of c.args.feeds.notes.items) now
-    c.in-Ok-resume.ensures.kept c.in-Ok-resume.ensures.stored (rw c.deref.ensures.value at c.in-Ok-resume.ensures.noted) clean db may))
+    (λ clean db may.
+    inl (laws.leaves-same (view {D = g.row.D.Denot} {g = g.D.Disk}) (recovers {D = g.row.D.Denot} {g = g.D.Disk})
+    (view {D = g.row.D.Denot} {g = g.D.Disk} c.args.feeds.store) (entries_of c.args.feeds.notes.items) now
+    c.in-Ok-resume.ensures.kept c.in-Ok-resume.ensures.stored
+    (rw c.deref.ensures.value at c.in-Ok-resume.ensures.noted) clean db may))
 
 pub returns-clause-unharmed : goal.returns-clause-unharmed
 returns-clause-unharmed g c = λ clean db may.
-    laws.LeavesSame-refused (view {D = g.row.D.Denot} {g = g.D.Disk} c.args.feeds.store) (entries_of c.args.feeds.notes.items) (recovers {D = g.row.D.Denot} {g = g.D.Disk} c.args.feeds.store) db (rw c.deref.ensures.value at (c.in-Err-resume.ensures.unharmed db may))
+    laws.LeavesSame-refused (view {D = g.row.D.Denot} {g = g.D.Disk} c.args.feeds.store)
+    (entries_of c.args.feeds.notes.items) (recovers {D = g.row.D.Denot} {g = g.D.Disk} c.args.feeds.store) db
+    (rw c.deref.ensures.value at (c.in-Err-resume.ensures.unharmed db may))

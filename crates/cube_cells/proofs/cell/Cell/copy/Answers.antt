@@ -7,7 +7,13 @@ pub merge_measures-requires-clause-fits : goal.merge_measures-requires-clause-fi
 merge_measures-requires-clause-fits c =
     let few : c.count-facts.result < 2 ^ 64 = search rules in
     let is : c.count-facts.result ≡ c.self.inside.facts = search rules in
-    rw (c.deref_mut.ensures.value, c.deref.ensures.value) (λ m. omega (arith, few, is, AreWithin-room_empty c.self.inside.facts c.in_ok-measures.measures.items c.self.inside.measures.items c.in_ok-measures.ensures.empty c.self.invariant m))
+    rw (c.deref_mut.ensures.value, c.deref.ensures.value) (λ m. omega (
+      arith,
+      few,
+      is,
+      AreWithin-room_empty c.self.inside.facts c.in_ok-measures.measures.items c.self.inside.measures.items
+          c.in_ok-measures.ensures.empty c.self.invariant m,
+    ))
 
 pub invariant_of-result : goal.invariant_of-result
 invariant_of-result c =
@@ -18,7 +24,8 @@ invariant_of-result c =
     let width = rw c.deref_mut.ensures.value at c.in_ok-merge_measures.ensures.width in
     let same = take-append-drop empty new c.in_ok-measures.measures.len (search rules) width in
     let is : c.count-facts.result ≡ c.self.inside.facts = search rules in
-    rw (same, is) (AreWithin-both_empty c.self.inside.facts empty new more c.in_ok-measures.ensures.empty c.self.invariant sizes)
+    rw (same, is)
+    (AreWithin-both_empty c.self.inside.facts empty new more c.in_ok-measures.ensures.empty c.self.invariant sizes)
 
 pub returns : goal.returns
 returns c =
@@ -29,4 +36,7 @@ returns c =
     let width = rw c.deref_mut.ensures.value at c.in_ok-merge_measures.ensures.width in
     let same = take-append-drop empty new c.in_ok-measures.measures.len (search rules) width in
     let is : c.count-facts.result ≡ c.self.inside.facts = search rules in
-    rw (← c.self.view_is, same) (record { facts = sym is; bags = AddsBags-SameBags empty new more (search rules) c.in_ok-measures.ensures.empty adds })
+    rw (← c.self.view_is, same) (record {
+      facts = sym is;
+      bags = AddsBags-SameBags empty new more (search rules) c.in_ok-measures.ensures.empty adds;
+    })

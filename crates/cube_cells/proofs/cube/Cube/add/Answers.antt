@@ -4,28 +4,41 @@ use Rattle.cube_cells.specs.Coded.{lattice_of}
 use Rattle.cube_cells.specs.Cube.{AddsFact, SameCells}
 use Rattle.cube_cells.proofs.CubeLaws.{IsCubeOf-AddsFact, IsCubeOf-SameCells}
 use Rattle.cube_cells.proofs.GrowthLaws.{AreGrown-MayAddTexts, AreGrown-AddsTexts}
-use Rattle.cube_cells.proofs.LeveledLaws.{All-HasRoomInLevel, IsLeveled-AddsFact, IsLeveled-SameCells, IsLeveled-SameCells_from_AreGrown}
+use Rattle.cube_cells.proofs.LeveledLaws.{All-HasRoomInLevel, IsLeveled-AddsFact, IsLeveled-SameCells}
+use Rattle.cube_cells.proofs.LeveledLaws.{IsLeveled-SameCells_from_AreGrown}
 use Rattle.cube_cells.proofs.StepLaws.{HasNewCodes}
 use Rattle.cube_cells.proofs.ValueLaws.{take-append-drop}
 use Rattle.cube_cells.proofs.WalkLaws.{OnErr-always}
-use Rattle.cube_cells.proofs.cube.Cube.add.Goals.{After-add_codes, After-add_to_sets, In_err-codes, In_ok-codes, In_err-add_to_sets, In_ok-add_to_sets}
+use Rattle.cube_cells.proofs.cube.Cube.add.Goals.{After-add_codes, After-add_to_sets, In_err-codes, In_ok-codes}
+use Rattle.cube_cells.proofs.cube.Cube.add.Goals.{In_err-add_to_sets, In_ok-add_to_sets}
 use Rattle.cube_cells.specs.Levels.{IsLeveled, cells_of}
 use Rattle.cube_cells.specs.declared.cube.levels.Level.{Level}
 use Rattle.cube_cells.proofs.cube.Cube.add.Goals as goal
 
 -- the dictionaries of the cube are the changed ones
-back : (c : After-add_codes) → take c.self.inside.dictionaries.len (c.add_codes.new.dictionaries ++ drop (length c.add_codes.new.dictionaries) c.self.inside.dictionaries.items) ≡ c.add_codes.new.dictionaries
-back c = take-append-drop c.self.inside.dictionaries.items c.add_codes.new.dictionaries c.self.inside.dictionaries.len (search rules) (omega (arith, ap length c.deref_mut.ensures.value))
+back : (c : After-add_codes) → take c.self.inside.dictionaries.len
+    (c.add_codes.new.dictionaries ++ drop (length c.add_codes.new.dictionaries) c.self.inside.dictionaries.items)
+    ≡ c.add_codes.new.dictionaries
+back c = take-append-drop c.self.inside.dictionaries.items c.add_codes.new.dictionaries c.self.inside.dictionaries.len
+    (search rules) (omega (arith, ap length c.deref_mut.ensures.value))
 
 -- so are its levels
-back_levels : (c : After-add_to_sets) → take c.self.inside.levels.len (c.add_to_sets.new.levels ++ drop (length c.add_to_sets.new.levels) c.self.inside.levels.items) ≡ c.add_to_sets.new.levels
-back_levels c = take-append-drop c.self.inside.levels.items c.add_to_sets.new.levels c.self.inside.levels.len (search rules) (omega (arith, ap (λ (l : List Level). length l) c.deref_mut-2.ensures.value))
+back_levels : (c : After-add_to_sets) → take c.self.inside.levels.len
+    (c.add_to_sets.new.levels ++ drop (length c.add_to_sets.new.levels) c.self.inside.levels.items)
+    ≡ c.add_to_sets.new.levels
+back_levels c = take-append-drop c.self.inside.levels.items c.add_to_sets.new.levels c.self.inside.levels.len
+    (search rules) (omega (arith, ap (λ (l : List Level). length l) c.deref_mut-2.ensures.value))
 
 -- ---- no room for a text
-refused : (c : In_err-codes) → IsLeveled c.self.inside.schema c.self.inside.sets.items c.self.inside.facts c.add_codes.new.dictionaries c.self.inside.levels.items × SameCells c.args.self.now (lattice_of c.self.inside.schema c.self.inside.sets.items c.self.inside.facts c.add_codes.new.dictionaries (cells_of c.self.inside.levels.items))
+refused : (c : In_err-codes) → IsLeveled c.self.inside.schema c.self.inside.sets.items c.self.inside.facts
+    c.add_codes.new.dictionaries c.self.inside.levels.items × SameCells c.args.self.now
+    (lattice_of c.self.inside.schema c.self.inside.sets.items c.self.inside.facts c.add_codes.new.dictionaries
+    (cells_of c.self.inside.levels.items))
 refused c =
-    let grown = AreGrown-MayAddTexts c.args.fact.now.dims c.self.inside.dictionaries.items c.add_codes.new.dictionaries (omega (arith, ap length c.deref_mut.ensures.value)) (rw c.deref_mut.ensures.value at c.in_err-codes.ensures.err) in
-    rw (← c.self.view_is) (IsLeveled-SameCells_from_AreGrown c.add_codes.new.dictionaries c.self.invariant grown ((rw c.deref_mut.ensures.value at c.in_err-codes.ensures.dictionaries) c.self.invariant.coded.texts))
+    let grown = AreGrown-MayAddTexts c.args.fact.now.dims c.self.inside.dictionaries.items c.add_codes.new.dictionaries
+    (omega (arith, ap length c.deref_mut.ensures.value)) (rw c.deref_mut.ensures.value at c.in_err-codes.ensures.err) in
+    rw (← c.self.view_is) (IsLeveled-SameCells_from_AreGrown c.add_codes.new.dictionaries c.self.invariant grown
+    ((rw c.deref_mut.ensures.value at c.in_err-codes.ensures.dictionaries) c.self.invariant.coded.texts))
 
 pub invariant_of-self : goal.invariant_of-self
 invariant_of-self c = let at = goal.at.invariant_of-self c in rw (back at.After-add_codes) (refused at.In_err-codes).0
@@ -37,12 +50,16 @@ returns-in_err-codes-clause-err c =
 
 pub returns-in_err-codes-clause-err_cube : goal.returns-in_err-codes-clause-err_cube
 returns-in_err-codes-clause-err_cube c =
-    on_err_weaker c.from_residual.result (λ same. λ facts cube. IsCubeOf-SameCells c.args.self.now _ facts same cube) (returns-in_err-codes-clause-err c)
+    on_err_weaker c.from_residual.result (λ same. λ facts cube. IsCubeOf-SameCells c.args.self.now _ facts same cube)
+    (returns-in_err-codes-clause-err c)
 
 -- ---- each text of the fact has a code
-coded : (c : In_ok-codes) → HasNewCodes c.self.inside.dictionaries.items c.add_codes.new.dictionaries c.args.fact.now c.in_ok-codes.codes
+coded : (c : In_ok-codes)
+    → HasNewCodes c.self.inside.dictionaries.items c.add_codes.new.dictionaries c.args.fact.now c.in_ok-codes.codes
 coded c = record {
-  grown = AreGrown-AddsTexts c.args.fact.now.dims c.self.inside.dictionaries.items c.add_codes.new.dictionaries (omega (arith, ap length c.deref_mut.ensures.value)) (rw c.deref_mut.ensures.value at c.in_ok-codes.ensures.texts);
+  grown = AreGrown-AddsTexts c.args.fact.now.dims c.self.inside.dictionaries.items c.add_codes.new.dictionaries
+      (omega (arith, ap length c.deref_mut.ensures.value))
+      (rw c.deref_mut.ensures.value at c.in_ok-codes.ensures.texts);
   all = (rw c.deref_mut.ensures.value at c.in_ok-codes.ensures.dictionaries) c.self.invariant.coded.texts;
   has = record { are = c.in_ok-codes.ensures.codes; eight = c.in_ok-codes.ensures.eight };
   valid = c.in_ok-codes.ensures.valid;
@@ -51,39 +68,65 @@ coded c = record {
 pub add_to_sets-requires : goal.add_to_sets-requires
 add_to_sets-requires c =
     let has = coded (goal.at.add_to_sets-requires c).In_ok-codes in
-    let can = All-HasRoomInLevel c.self.invariant (rw (← c.self.view_is) at c.requires.fits) (rw (← c.self.view_is) at c.requires.room) has in
+    let can = All-HasRoomInLevel c.self.invariant (rw (← c.self.view_is) at c.requires.fits)
+    (rw (← c.self.view_is) at c.requires.room) has in
     rw (c.deref_mut-2.ensures.value, c.as_slice-values.ensures) can
 
 -- ---- no room for a cell
-refused_cells : (c : In_err-add_to_sets) → HasNewCodes c.self.inside.dictionaries.items c.add_codes.new.dictionaries c.args.fact.now c.in_ok-codes.codes → IsLeveled c.self.inside.schema c.self.inside.sets.items c.self.inside.facts c.add_codes.new.dictionaries c.add_to_sets.new.levels × SameCells c.args.self.now (lattice_of c.self.inside.schema c.self.inside.sets.items c.self.inside.facts c.add_codes.new.dictionaries (cells_of c.add_to_sets.new.levels))
+refused_cells : (c : In_err-add_to_sets)
+    → HasNewCodes c.self.inside.dictionaries.items c.add_codes.new.dictionaries c.args.fact.now c.in_ok-codes.codes
+    → IsLeveled c.self.inside.schema c.self.inside.sets.items c.self.inside.facts c.add_codes.new.dictionaries
+    c.add_to_sets.new.levels × SameCells c.args.self.now
+    (lattice_of c.self.inside.schema c.self.inside.sets.items c.self.inside.facts c.add_codes.new.dictionaries
+    (cells_of c.add_to_sets.new.levels))
 refused_cells c has =
-    rw (← c.self.view_is) (IsLeveled-SameCells c.add_to_sets.new.levels c.self.invariant (rw (← c.self.view_is) at c.requires.fits) has (rw c.deref_mut-2.ensures.value at c.in_err-add_to_sets.ensures.err))
+    rw (← c.self.view_is) (IsLeveled-SameCells c.add_to_sets.new.levels c.self.invariant
+    (rw (← c.self.view_is) at c.requires.fits) has (rw c.deref_mut-2.ensures.value at c.in_err-add_to_sets.ensures.err))
 
 pub invariant_of-self-in_err-add_to_sets : goal.invariant_of-self-in_err-add_to_sets
 invariant_of-self-in_err-add_to_sets c =
     let at = goal.at.invariant_of-self-in_err-add_to_sets c in
-    rw (back at.After-add_codes, back_levels at.After-add_to_sets) (refused_cells at.In_err-add_to_sets (coded at.In_ok-codes)).0
+    rw (
+      back at.After-add_codes,
+      back_levels at.After-add_to_sets,
+    ) (refused_cells at.In_err-add_to_sets (coded at.In_ok-codes)).0
 
 pub returns-in_err-add_to_sets-clause-err : goal.returns-in_err-add_to_sets-clause-err
 returns-in_err-add_to_sets-clause-err c =
     let at = goal.at.returns-in_err-add_to_sets-clause-err c in
-    OnErr-always c.from_residual-in_err-add_to_sets.result (rw (back at.After-add_codes, back_levels at.After-add_to_sets) (refused_cells at.In_err-add_to_sets (coded at.In_ok-codes)).1)
+    OnErr-always c.from_residual-in_err-add_to_sets.result (rw (
+      back at.After-add_codes,
+      back_levels at.After-add_to_sets,
+    ) (refused_cells at.In_err-add_to_sets (coded at.In_ok-codes)).1)
 
 pub returns-in_err-add_to_sets-clause-err_cube : goal.returns-in_err-add_to_sets-clause-err_cube
 returns-in_err-add_to_sets-clause-err_cube c =
-    on_err_weaker c.from_residual-in_err-add_to_sets.result (λ same. λ facts cube. IsCubeOf-SameCells c.args.self.now _ facts same cube) (returns-in_err-add_to_sets-clause-err c)
+    on_err_weaker c.from_residual-in_err-add_to_sets.result
+    (λ same. λ facts cube. IsCubeOf-SameCells c.args.self.now _ facts same cube)
+    (returns-in_err-add_to_sets-clause-err c)
 
 -- ---- the fact is added
-added : (c : In_ok-add_to_sets) → HasNewCodes c.self.inside.dictionaries.items c.add_codes.new.dictionaries c.args.fact.now c.in_ok-codes.codes → IsLeveled c.self.inside.schema c.self.inside.sets.items (c.self.inside.facts + 1) c.add_codes.new.dictionaries c.add_to_sets.new.levels × AddsFact c.args.fact.now c.args.self.now (lattice_of c.self.inside.schema c.self.inside.sets.items (c.self.inside.facts + 1) c.add_codes.new.dictionaries (cells_of c.add_to_sets.new.levels))
+added : (c : In_ok-add_to_sets)
+    → HasNewCodes c.self.inside.dictionaries.items c.add_codes.new.dictionaries c.args.fact.now c.in_ok-codes.codes
+    → IsLeveled c.self.inside.schema c.self.inside.sets.items (c.self.inside.facts + 1)
+    c.add_codes.new.dictionaries c.add_to_sets.new.levels × AddsFact c.args.fact.now c.args.self.now
+    (lattice_of c.self.inside.schema c.self.inside.sets.items (c.self.inside.facts + 1) c.add_codes.new.dictionaries
+    (cells_of c.add_to_sets.new.levels))
 added c has =
     let adds = rw (c.deref_mut-2.ensures.value, c.as_slice-values.ensures) at c.in_ok-add_to_sets.ensures.added in
-    rw (← c.self.view_is) (IsLeveled-AddsFact c.add_to_sets.new.levels c.self.invariant (rw (← c.self.view_is) at c.requires.fits) has adds)
+    rw (← c.self.view_is)
+    (IsLeveled-AddsFact c.add_to_sets.new.levels c.self.invariant (rw (← c.self.view_is) at c.requires.fits) has adds)
 
 pub invariant_of-self-2 : goal.invariant_of-self-2
-invariant_of-self-2 c = let at = goal.at.invariant_of-self-2 c in rw (back at.After-add_codes, back_levels at.After-add_to_sets) (added at.In_ok-add_to_sets (coded at.In_ok-codes)).0
+invariant_of-self-2 c =
+    let at = goal.at.invariant_of-self-2 c in
+    rw (back at.After-add_codes, back_levels at.After-add_to_sets) (added at.In_ok-add_to_sets (coded at.In_ok-codes)).0
 
 pub returns-clause-added : goal.returns-clause-added
-returns-clause-added c = let at = goal.at.returns-clause-added c in rw (back at.After-add_codes, back_levels at.After-add_to_sets) (added at.In_ok-add_to_sets (coded at.In_ok-codes)).1
+returns-clause-added c =
+    let at = goal.at.returns-clause-added c in
+    rw (back at.After-add_codes, back_levels at.After-add_to_sets) (added at.In_ok-add_to_sets (coded at.In_ok-codes)).1
 
 pub returns-clause-cube : goal.returns-clause-cube
-returns-clause-cube c = λ facts cube. IsCubeOf-AddsFact c.args.fact.now c.args.self.now _ facts c.requires.fits (returns-clause-added c) cube
+returns-clause-cube c = λ facts cube.
+    IsCubeOf-AddsFact c.args.fact.now c.args.self.now _ facts c.requires.fits (returns-clause-added c) cube

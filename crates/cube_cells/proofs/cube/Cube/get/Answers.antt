@@ -7,13 +7,24 @@ use Rattle.cube_cells.proofs.cube.Cube.get.Goals as goal
 pub returns-then-len-clause-cell : goal.returns-then-len-clause-cell
 returns-then-len-clause-cell c =
     let len : length c.self.inside.dictionaries.items ≡ c.self.inside.dictionaries.len = search rules in
-    rw (← c.self.view_is) (sym (no_cell-width c.self.inside.dictionaries.items (cells_of c.self.inside.levels.items) c.args.key.now (λ same. c.if-len.true (c.len.ensures ∙ same ∙ len ∙ sym c.len-2.ensures))))
+    rw (← c.self.view_is)
+    (sym (no_cell-width c.self.inside.dictionaries.items (cells_of c.self.inside.levels.items) c.args.key.now
+    (λ same. c.if-len.true (c.len.ensures ∙ same ∙ len ∙ sym c.len-2.ensures))))
 
 pub returns-clause-cell : goal.returns-clause-cell
 returns-clause-cell c =
     let are = rw (c.deref.ensures.value, c.as_slice.ensures) at c.codes_of_coords-codes.ensures.codes in
-    let has : HasCodes c.self.inside.dictionaries.items c.args.key.now c.codes_of_coords-codes.result = record { are = are; eight = c.codes_of_coords-codes.ensures.eight } in
-    rw (← c.self.view_is) (rw c.deref-2.ensures.value at c.find_cell.ensures ∙ sym (coded_at-IsLeveled c.codes_of_coords-codes.result c.self.invariant) ∙ sym (look_up-coded c.self.inside.dictionaries.items (length c.self.inside.schema.measures) (cells_of c.self.inside.levels.items) c.args.key.now c.codes_of_coords-codes.result has c.self.invariant.coded.each))
+    let has : HasCodes c.self.inside.dictionaries.items c.args.key.now c.codes_of_coords-codes.result =
+    record { are = are; eight = c.codes_of_coords-codes.ensures.eight } in
+    rw (← c.self.view_is) (rw c.deref-2.ensures.value at c.find_cell.ensures
+    ∙ sym (coded_at-IsLeveled c.codes_of_coords-codes.result c.self.invariant) ∙ sym (look_up-coded
+    c.self.inside.dictionaries.items (length c.self.inside.schema.measures) (cells_of c.self.inside.levels.items)
+    c.args.key.now c.codes_of_coords-codes.result has c.self.invariant.coded.each))
 
 pub returns-clause-width : goal.returns-clause-width
-returns-clause-width c = rw (← c.self.view_is) (IfSome-option_copied (λ t. length t.bags ≡ length c.self.inside.schema.measures) c.find_cell.result _ (rw c.deref-2.ensures.value at c.find_cell.ensures ∙ sym (coded_at-IsLeveled c.codes_of_coords-codes.result c.self.invariant)) (coded_at-width c.self.inside.dictionaries.items (length c.self.inside.schema.measures) (cells_of c.self.inside.levels.items) c.codes_of_coords-codes.result c.self.invariant.coded.each))
+returns-clause-width c = rw (← c.self.view_is)
+    (IfSome-option_copied (λ t. length t.bags ≡ length c.self.inside.schema.measures) c.find_cell.result _
+    (rw c.deref-2.ensures.value at c.find_cell.ensures
+    ∙ sym (coded_at-IsLeveled c.codes_of_coords-codes.result c.self.invariant))
+    (coded_at-width c.self.inside.dictionaries.items (length c.self.inside.schema.measures)
+    (cells_of c.self.inside.levels.items) c.codes_of_coords-codes.result c.self.invariant.coded.each))

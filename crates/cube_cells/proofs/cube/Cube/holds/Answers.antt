@@ -16,12 +16,18 @@ returns-clause-held c =
     let cells = (cells_of c.self.inside.levels.items) in
     let codes = c.codes_of_values-codes.result in
     let fit : fits schema c.args.fact.now ≡ true = sym c.if-not-fits.ensures in
-    let has : HasFactCodes dictionaries c.args.fact.now codes = record { are = rw c.deref.ensures.value at c.codes_of_values-codes.ensures.codes; eight = c.codes_of_values-codes.ensures.eight } in
-    let of = IsCodedFact-IsCoded schema sets facts dictionaries dictionaries cells c.args.fact.now codes c.self.invariant.coded fit refl c.self.invariant.coded.texts has in
-    let is = cell_holds-HoldsFact schema sets facts dictionaries cells c.args.fact.now codes c.self.invariant.coded fit (omega arith) of in
+    let has : HasFactCodes dictionaries c.args.fact.now codes = record {
+      are = rw c.deref.ensures.value at c.codes_of_values-codes.ensures.codes;
+      eight = c.codes_of_values-codes.ensures.eight;
+    } in
+    let of = IsCodedFact-IsCoded schema sets facts dictionaries dictionaries cells c.args.fact.now codes
+    c.self.invariant.coded fit refl c.self.invariant.coded.texts has in
+    let is = cell_holds-HoldsFact schema sets facts dictionaries cells c.args.fact.now codes c.self.invariant.coded fit
+    (omega arith) of in
     let result = rw (c.as_slice.ensures, c.deref-2.ensures.value) at c.hold_in_sets.ensures in
     let each = list_all-level_holds c.self.invariant fit has in
     rw (← c.self.view_is, result, each) is
 
 pub returns-clause-cube : goal.returns-clause-cube
-returns-clause-cube c = λ facts fit cube some. (returns-clause-held c).1 (HoldsFact-IsCubeOf c.args.fact.now c.args.self.now facts fit some cube)
+returns-clause-cube c = λ facts fit cube some.
+    (returns-clause-held c).1 (HoldsFact-IsCubeOf c.args.fact.now c.args.self.now facts fit some cube)

@@ -4,7 +4,10 @@ use Rattle.cube_cells.proofs.NewLaws.{sets_of_part-below, sets_of_part-IsStrictl
 use Rattle.cube_cells.proofs.cube.Cube.new_part.Goals as goal
 
 pub over-requires-clause-within : goal.over-requires-clause-within
-over-requires-clause-within c = rw c.in_ok-sets.ensures (sets_of_part-below c.in_ok-schema.schema c.args.part c.args.of (subst IsSchema c.schema.view_is c.schema.invariant))
+over-requires-clause-within c = rw c.in_ok-sets.ensures (sets_of_part-below c.in_ok-schema.schema c.args.part c.args.of
+    (subst IsSchema c.schema.view_is c.schema.invariant))
 
 pub over-requires-clause-ascending : goal.over-requires-clause-ascending
-over-requires-clause-ascending c = rw c.in_ok-sets.ensures (sets_of_part-IsStrictlySortedBy c.in_ok-schema.schema c.args.part c.args.of (subst IsSchema c.schema.view_is c.schema.invariant))
+over-requires-clause-ascending c = rw c.in_ok-sets.ensures
+    (sets_of_part-IsStrictlySortedBy c.in_ok-schema.schema c.args.part c.args.of
+    (subst IsSchema c.schema.view_is c.schema.invariant))

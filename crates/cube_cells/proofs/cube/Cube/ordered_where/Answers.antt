@@ -10,19 +10,30 @@ use Rattle.cube_cells.proofs.cube.Cube.ordered_where.Goals as goal
 pub places_in_order-requires-clause-ranks : goal.places_in_order-requires-clause-ranks
 places_in_order-requires-clause-ranks g c =
     let dictionaries = c.self.inside.dictionaries.items in
-    let long = AllZip-long AreRanks dictionaries c.in_ok-ranks.ranks.items (rw c.deref.ensures.value at c.in_ok-ranks.ensures) in
-    omega (arith, long, ap (λ (xs : List (List ℕ)). length xs) c.deref-2.ensures.value, c.self.invariant.coded.lattice.dictionaries, c.self.invariant.coded.lattice.schema.dimensions_at_most)
+    let long =
+    AllZip-long AreRanks dictionaries c.in_ok-ranks.ranks.items (rw c.deref.ensures.value at c.in_ok-ranks.ensures) in
+    omega (
+      arith,
+      long,
+      ap (λ (xs : List (List ℕ)). length xs) c.deref-2.ensures.value,
+      c.self.invariant.coded.lattice.dictionaries,
+      c.self.invariant.coded.lattice.schema.dimensions_at_most,
+    )
 
 pub of-requires-clause-aggregates : goal.of-requires-clause-aggregates
 of-requires-clause-aggregates g c =
-    rw (c.deref-5.ensures.value, c.aggregates.ensures.value) (is_aggregate_of-IsPermutation c.args.wants.now (λ place. (place.codes.now, place.cell.now)) c.in_ok-places.places.items c.self.invariant.coded (rw c.deref-3.ensures.value at c.in_ok-places.ensures.cells))
+    rw (c.deref-5.ensures.value, c.aggregates.ensures.value)
+    (is_aggregate_of-IsPermutation c.args.wants.now (λ place. (place.codes.now, place.cell.now))
+    c.in_ok-places.places.items c.self.invariant.coded (rw c.deref-3.ensures.value at c.in_ok-places.ensures.cells))
 
 pub returns-clause-rows : goal.returns-clause-rows
 returns-clause-rows g c =
     rw (← c.self.view_is) (IfOk-weaker c.of.result _ _ (λ ordered is. λ test are rows in_order.
     let zipped : AllZip (IsRowOf ordered.aggregates) ordered.cells rows = in_order in
-    AreRowsOf-ranks_of c.in_ok-ranks.ranks.items test c.args.wants.now (λ place. (place.codes.now, place.cell.now)) (λ place. place.ranks) c.in_ok-places.places.items rows c.self.invariant.coded
+    AreRowsOf-ranks_of c.in_ok-ranks.ranks.items test c.args.wants.now (λ place. (place.codes.now, place.cell.now))
+    (λ place. place.ranks) c.in_ok-places.places.items rows c.self.invariant.coded
     (rw c.deref.ensures.value at c.in_ok-ranks.ensures) are
-    (rw c.deref-3.ensures.value at c.in_ok-places.ensures.cells) (rw c.deref-2.ensures.value at c.in_ok-places.ensures.ranks) c.in_ok-places.ensures.order
+    (rw c.deref-3.ensures.value at c.in_ok-places.ensures.cells)
+    (rw c.deref-2.ensures.value at c.in_ok-places.ensures.ranks) c.in_ok-places.ensures.order
     (rw (is.0, is.1, c.aggregates.ensures.value, c.deref-4.ensures.value, c.deref-5.ensures.value) at zipped))
     c.of.ensures)

@@ -12,29 +12,50 @@ use Rattle.cube_cells.specs.Levels.{TakesInLevel}
 use Rattle.cube_cells.proofs.cube.Cube.remove.Goals.{After-codes_of_values-codes, After-take_from_sets}
 use Rattle.cube_cells.proofs.cube.Cube.remove.Goals as goal
 
-coded : (c : After-codes_of_values-codes) → HasFactCodes c.self.inside.dictionaries.items c.args.fact.now c.codes_of_values-codes.result
-coded c = record { are = rw c.deref.ensures.value at c.codes_of_values-codes.ensures.codes; eight = c.codes_of_values-codes.ensures.eight }
+coded : (c : After-codes_of_values-codes)
+    → HasFactCodes c.self.inside.dictionaries.items c.args.fact.now c.codes_of_values-codes.result
+coded c = record {
+  are = rw c.deref.ensures.value at c.codes_of_values-codes.ensures.codes;
+  eight = c.codes_of_values-codes.ensures.eight;
+}
 
 pub take_from_sets-requires-clause-held : goal.take_from_sets-requires-clause-held
 take_from_sets-requires-clause-held c =
-    let held = All-level_holds c.self.invariant (rw (← c.self.view_is) at c.requires) (coded (goal.at.take_from_sets-requires-clause-held c).After-codes_of_values-codes) in
+    let held = All-level_holds c.self.invariant (rw (← c.self.view_is) at c.requires)
+    (coded (goal.at.take_from_sets-requires-clause-held c).After-codes_of_values-codes) in
     rw (c.deref_mut.ensures.value, c.as_slice.ensures) (λ i unused inside. held i unused (omega (arith, inside)))
 
 -- the levels of the cube are the changed ones
-back : (c : After-take_from_sets) → take c.self.inside.levels.len (c.take_from_sets.new.levels ++ drop (length c.take_from_sets.new.levels) c.self.inside.levels.items) ≡ c.take_from_sets.new.levels
-back c = take-append-drop c.self.inside.levels.items c.take_from_sets.new.levels c.self.inside.levels.len (search rules) (omega (arith, ap (λ (l : List Level). length l) c.deref_mut.ensures.value))
+back : (c : After-take_from_sets) → take c.self.inside.levels.len
+    (c.take_from_sets.new.levels ++ drop (length c.take_from_sets.new.levels) c.self.inside.levels.items)
+    ≡ c.take_from_sets.new.levels
+back c = take-append-drop c.self.inside.levels.items c.take_from_sets.new.levels c.self.inside.levels.len (search rules)
+    (omega (arith, ap (λ (l : List Level). length l) c.deref_mut.ensures.value))
 
-taken : (c : After-take_from_sets) → HasFactCodes c.self.inside.dictionaries.items c.args.fact.now c.codes_of_values-codes.result → IsLeveled c.self.inside.schema c.self.inside.sets.items (c.self.inside.facts - 1) c.self.inside.dictionaries.items c.take_from_sets.new.levels × TakesFact c.args.fact.now c.args.self.now (lattice_of c.self.inside.schema c.self.inside.sets.items (c.self.inside.facts - 1) c.self.inside.dictionaries.items (cells_of c.take_from_sets.new.levels))
+taken : (c : After-take_from_sets)
+    → HasFactCodes c.self.inside.dictionaries.items c.args.fact.now c.codes_of_values-codes.result
+    → IsLeveled c.self.inside.schema c.self.inside.sets.items (c.self.inside.facts - 1)
+    c.self.inside.dictionaries.items c.take_from_sets.new.levels × TakesFact c.args.fact.now c.args.self.now
+    (lattice_of c.self.inside.schema c.self.inside.sets.items (c.self.inside.facts - 1) c.self.inside.dictionaries.items
+    (cells_of c.take_from_sets.new.levels))
 taken c has =
     let takes = rw (c.deref_mut.ensures.value, c.as_slice.ensures) at c.take_from_sets.ensures in
-    let all = AllZip-ChangesFirst (TakesInLevel c.codes_of_values-codes.result c.args.fact.now.measures) c.self.inside.levels.items c.take_from_sets.new.levels c.len-number.result (omega (arith, c.len-number.ensures)) takes in
-    rw (← c.self.view_is) (IsLeveled-TakesFact c.take_from_sets.new.levels c.self.invariant (rw (← c.self.view_is) at c.requires) has all)
+    let all = AllZip-ChangesFirst (TakesInLevel c.codes_of_values-codes.result c.args.fact.now.measures)
+    c.self.inside.levels.items c.take_from_sets.new.levels c.len-number.result
+    (omega (arith, c.len-number.ensures)) takes in
+    rw (← c.self.view_is)
+    (IsLeveled-TakesFact c.take_from_sets.new.levels c.self.invariant (rw (← c.self.view_is) at c.requires) has all)
 
 pub invariant_of-self : goal.invariant_of-self
-invariant_of-self c = let at = goal.at.invariant_of-self c in rw (back at.After-take_from_sets) (taken at.After-take_from_sets (coded at.After-codes_of_values-codes)).0
+invariant_of-self c =
+    let at = goal.at.invariant_of-self c in
+    rw (back at.After-take_from_sets) (taken at.After-take_from_sets (coded at.After-codes_of_values-codes)).0
 
 pub returns-clause-taken : goal.returns-clause-taken
-returns-clause-taken c = let at = goal.at.returns-clause-taken c in rw (back at.After-take_from_sets) (taken at.After-take_from_sets (coded at.After-codes_of_values-codes)).1
+returns-clause-taken c =
+    let at = goal.at.returns-clause-taken c in
+    rw (back at.After-take_from_sets) (taken at.After-take_from_sets (coded at.After-codes_of_values-codes)).1
 
 pub returns-clause-cube : goal.returns-clause-cube
-returns-clause-cube c = λ facts cube. IsCubeOf-TakesFact c.args.fact.now c.args.self.now _ facts (returns-clause-taken c) cube
+returns-clause-cube c =
+    λ facts cube. IsCubeOf-TakesFact c.args.fact.now c.args.self.now _ facts (returns-clause-taken c) cube

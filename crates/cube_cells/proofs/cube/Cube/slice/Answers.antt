@@ -11,25 +11,39 @@ pub returns-then-wanted-len-clause-rows : goal.returns-then-wanted-len-clause-ro
 returns-then-wanted-len-clause-rows c =
     let pattern = c.args.pattern.now in
     rw (← c.self.view_is, c.new.ensures.items) (AreRowsOf-nil (matches pattern) c.self.invariant.coded
-    (λ codes. matches-length c.self.inside.dictionaries.items pattern codes (λ same. c.if-wanted-len.true (omega (arith, ap (λ ws. length ws) c.wanted-wanted.ensures, same, c.len.ensures)))))
+    (λ codes. matches-length c.self.inside.dictionaries.items pattern codes
+    (λ same. c.if-wanted-len.true (omega (arith, ap (λ ws. length ws) c.wanted-wanted.ensures, same, c.len.ensures)))))
 
 pub returns-then-wanted-len-clause-cube : goal.returns-then-wanted-len-clause-cube
-returns-then-wanted-len-clause-cube c = λ facts cube. AreRowsWhere-IsCubeOf (matches c.args.pattern.now) c.args.self.now facts c.new.result.items cube (returns-then-wanted-len-clause-rows c)
+returns-then-wanted-len-clause-cube c =
+    λ facts cube. AreRowsWhere-IsCubeOf (matches c.args.pattern.now) c.args.self.now facts c.new.result.items cube
+    (returns-then-wanted-len-clause-rows c)
 
 pub wants_of-requires : goal.wants_of-requires
-wants_of-requires c = omega (arith, c.if-wanted-len.false, c.len.ensures, ap (λ (ts : List (List (List ℕ))). length ts) c.deref.ensures.value)
+wants_of-requires c = omega (
+  arith,
+  c.if-wanted-len.false,
+  c.len.ensures,
+  ap (λ (ts : List (List (List ℕ))). length ts) c.deref.ensures.value,
+)
 
 pub returns-clause-rows : goal.returns-clause-rows
 returns-clause-rows c =
     let dictionaries = c.self.inside.dictionaries.items in
     let pattern = c.args.pattern.now in
     let wants = c.in_ok-wants.wants.items in
-    let wide : length pattern ≡ length dictionaries = omega (arith, ap (λ ws. length ws) c.wanted-wanted.ensures, c.if-wanted-len.false, c.len.ensures) in
+    let wide : length pattern ≡ length dictionaries =
+    omega (arith, ap (λ ws. length ws) c.wanted-wanted.ensures, c.if-wanted-len.false, c.len.ensures) in
     let long : length wants ≡ length dictionaries = rw c.deref.ensures.value at c.in_ok-wants.ensures.long in
-    let matched : AreWantsMatched dictionaries pattern wants = rw (c.deref.ensures.value, c.wanted-wanted.ensures) at c.in_ok-wants.ensures.wants in
-    let are : AreWantsOf c.args.self.now.dictionaries (matches pattern) wants = rw (← c.self.view_is) (AreWantsOf-AreWantsMatched dictionaries pattern wants wide long matched) in
-    IfOk-weaker c.rows_where.result _ _ (λ rows given. given (matches pattern) (rw c.deref-2.ensures.value are)) c.rows_where.ensures
+    let matched : AreWantsMatched dictionaries pattern wants =
+    rw (c.deref.ensures.value, c.wanted-wanted.ensures) at c.in_ok-wants.ensures.wants in
+    let are : AreWantsOf c.args.self.now.dictionaries (matches pattern) wants =
+    rw (← c.self.view_is) (AreWantsOf-AreWantsMatched dictionaries pattern wants wide long matched) in
+    IfOk-weaker c.rows_where.result _ _
+    (λ rows given. given (matches pattern) (rw c.deref-2.ensures.value are)) c.rows_where.ensures
 
 pub returns-clause-cube : goal.returns-clause-cube
 returns-clause-cube c =
-    IfOk-weaker c.rows_where.result _ _ (λ rows are. λ facts cube. AreRowsWhere-IsCubeOf (matches c.args.pattern.now) c.args.self.now facts rows.items cube are) (returns-clause-rows c)
+    IfOk-weaker c.rows_where.result _ _ (λ rows are.
+    λ facts cube. AreRowsWhere-IsCubeOf (matches c.args.pattern.now) c.args.self.now facts rows.items cube are)
+    (returns-clause-rows c)

@@ -17,4 +17,5 @@ returns-clause-width c =
       new = c.in_ok-cells.ensures;
       fills = c.in_ok-fill_set.ensures;
     } in
-    rw c.shrink_cells.ensures (AreMadeFrom-width c.args.measures c.args.set c.args.finer.now.entries c.fill_set.new.cells.entries c.requires made)
+    rw c.shrink_cells.ensures
+    (AreMadeFrom-width c.args.measures c.args.set c.args.finer.now.entries c.fill_set.new.cells.entries c.requires made)

@@ -23,11 +23,17 @@ loop-done-preserved g c =
     let within : end ≤ length order = rw whole at c.end_of_layer-end.ensures.within in
     let after : done < end = c.end_of_layer-end.ensures.after in
     let split : drop done order ≡ layer ++ drop end order = drop_split order done end (omega (arith, after)) in
-    let each : (i : ℕ) (unused : Result Level AllocError) → i < length layer → IfOk (get_or results i unused) (IsMadeLevel c.args.measures c.args.finest.now old (get_or layer i 0)) = rw (there, sets) at c.in_ok-made.ensures.each in
+    let each : (i : ℕ) (unused : Result Level AllocError) → i < length layer
+    → IfOk (get_or results i unused) (IsMadeLevel c.args.measures c.args.finest.now old (get_or layer i 0)) =
+    rw (there, sets) at c.in_ok-made.ensures.each in
     let count : length results ≡ length layer = rw sets at c.in_ok-made.ensures.long in
-    let long : length pushed.levels ≡ length layer = sym (length-map pushed.levels Ok) ∙ ap (λ (l : List (Result Level AllocError)). length l) pushed.are ∙ count in
-    let making : IsMakingLevels c.args.measures c.args.finest.now order (layer ++ drop end order) old = rw split at c.loop-done.invariant.1 in
-    let next = IsMakingLevels-next c.args.measures c.args.finest.now order layer (drop end order) old pushed.levels making long (λ i unused inside.
-    let one : get_or results i (Ok unused) ≡ Ok (get_or pushed.levels i unused) = rw (← pushed.are) (get_or-map Ok pushed.levels i unused (Ok unused) (omega (arith, inside, long))) in
+    let long : length pushed.levels ≡ length layer =
+    sym (length-map pushed.levels Ok) ∙ ap (λ (l : List (Result Level AllocError)). length l) pushed.are ∙ count in
+    let making : IsMakingLevels c.args.measures c.args.finest.now order (layer ++ drop end order) old =
+    rw split at c.loop-done.invariant.1 in
+    let next = IsMakingLevels-next c.args.measures c.args.finest.now order layer
+    (drop end order) old pushed.levels making long (λ i unused inside.
+    let one : get_or results i (Ok unused) ≡ Ok (get_or pushed.levels i unused) =
+    rw (← pushed.are) (get_or-map Ok pushed.levels i unused (Ok unused) (omega (arith, inside, long))) in
     rw one at (each i (Ok unused) inside)) in
     (within, rw pushed.pushed next)

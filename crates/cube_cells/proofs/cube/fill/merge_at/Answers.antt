@@ -11,4 +11,5 @@ returns-in-Some-clause-merges c =
     let new = (c.get_mut.follows.lender c.merge_counted.new.cell).entries in
     let found : coded_at old c.args.codes ≡ Some c.in-Some.cell.now = search rules in
     let is : new ≡ set_value (same_codes c.args.codes) old c.merge_counted.new.cell = search rules in
-    on_ok_weaker c.merge_counted.result (λ plus. MergesIn-set_value c.args.codes old new c.in-Some.cell.now c.merge_counted.new.cell c.args.more.now found is plus) c.merge_counted.ensures
+    on_ok_weaker c.merge_counted.result (λ plus. MergesIn-set_value c.args.codes old new c.in-Some.cell.now
+    c.merge_counted.new.cell c.args.more.now found is plus) c.merge_counted.ensures

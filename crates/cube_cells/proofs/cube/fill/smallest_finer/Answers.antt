@@ -6,10 +6,14 @@ use Rattle.cube_cells.proofs.cube.fill.smallest_finer.Goals.{then-is_finer+then-
 
 pub loop-level-preserved : goal.loop-level-preserved
 loop-level-preserved c =
-    let P : Level → Type 0 = λ level. Contains (c.args.finest.now ∷ c.args.levels.now) level × IsFiner level.set c.args.set in
+    let P : Level → Type 0 =
+    λ level. Contains (c.args.finest.now ∷ c.args.levels.now) level × IsFiner level.set c.args.set in
     elim c.if-is_finer.branch [
       | then-is_finer+then-len w ↦
-          let here : P c.level-item.result = ((suc c.loop-level.level-index, omega (arith, c.loop-level-test.true), sym c.level-item.is), c.is_finer.ensures.0 w.if-is_finer.true) in
+          let here : P c.level-item.result = (
+            (suc c.loop-level.level-index, omega (arith, c.loop-level-test.true), sym c.level-item.is),
+            c.is_finer.ensures.0 w.if-is_finer.true,
+          ) in
           subst P (sym (ap (λ level. level.now) w.smallest-is)) here
       | else-is_finer w ↦ subst P (sym (ap (λ level. level.now) w.smallest-is)) c.loop-level.invariant
     ]

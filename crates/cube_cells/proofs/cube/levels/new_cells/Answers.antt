@@ -5,7 +5,10 @@ use Rattle.cube_cells.proofs.NewLaws.{AreNewCells-nil}
 use Rattle.cube_cells.proofs.cube.levels.new_cells.Goals as goal
 
 pub returns-then-has_total : goal.returns-then-has_total
-returns-then-has_total c = subst (λ (b : Bool). IfOk c.total_cells.result (λ cells. AreNewCells b c.args.measures cells.entries)) (sym c.if-has_total.true) c.total_cells.ensures
+returns-then-has_total c =
+    subst (λ (b : Bool). IfOk c.total_cells.result (λ cells. AreNewCells b c.args.measures cells.entries))
+    (sym c.if-has_total.true) c.total_cells.ensures
 
 pub returns-else-has_total : goal.returns-else-has_total
-returns-else-has_total c = AreNewCells-nil c.args.has_total c.args.measures c.new.result.entries c.if-has_total.false c.new.ensures.empty
+returns-else-has_total c =
+    AreNewCells-nil c.args.has_total c.args.measures c.new.result.entries c.if-has_total.false c.new.ensures.empty

@@ -11,6 +11,8 @@ loop-set-preserved c =
     let sets = c.args.sets.now in
     let inside : i < length sets = omega (arith, c.loop-set-test.true) in
     let level : Level = record { set = get_or sets i 0; cells = c.in_ok-cells.cells } in
-    let is : IsNewLevel c.args.measures (get_or sets i 0) level = record { set_is = refl; new = c.in_ok-cells.ensures } in
+    let is : IsNewLevel c.args.measures (get_or sets i 0) level =
+    record { set_is = refl; new = c.in_ok-cells.ensures } in
     rw (c.in_ok-push.ensures.items, take_more sets i 0 inside)
-    (AllZip-push (IsNewLevel c.args.measures) (take i sets) c.loop-set.levels.items (get_or sets i 0) level c.loop-set.invariant is)
+    (AllZip-push (IsNewLevel c.args.measures) (take i sets) c.loop-set.levels.items
+    (get_or sets i 0) level c.loop-set.invariant is)

@@ -10,4 +10,6 @@ loop-aggregate-preserved c =
     let i = c.loop-aggregate.aggregate-index in
     let aggregates = c.args.aggregates.now in
     let inside : i < length aggregates = omega arith in
-    λ facts tally. rw (c.in_ok-push.ensures.items, take_more aggregates i CountAll inside) (AllZip-push (IsAnswer facts) (take i aggregates) c.loop-aggregate.answers.items (get_or aggregates i CountAll) c.answer.result (c.loop-aggregate.invariant facts tally) (c.answer.ensures facts tally))
+    λ facts tally. rw (c.in_ok-push.ensures.items, take_more aggregates i CountAll inside)
+    (AllZip-push (IsAnswer facts) (take i aggregates) c.loop-aggregate.answers.items (get_or aggregates i CountAll)
+    c.answer.result (c.loop-aggregate.invariant facts tally) (c.answer.ensures facts tally))

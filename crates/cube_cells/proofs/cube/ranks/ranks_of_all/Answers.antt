@@ -10,5 +10,8 @@ loop-dictionary-preserved c =
     let dictionaries = c.args.dictionaries.now in
     let inside : i < length dictionaries = omega arith in
     let item = get_or_read dictionaries i c.dictionary-item.result inside c.dictionary-item.is [] in
-    let are : AreRanks (get_or dictionaries i []) c.in_ok-new.field-0 = subst (λ (texts : List (List ℕ)). AreRanks texts c.in_ok-new.field-0) item c.in_ok-new.ensures in
-    rw (c.in_ok-push.ensures.items, take_more dictionaries i [] inside) (AllZip-push AreRanks (take i dictionaries) c.loop-dictionary.ranks.items (get_or dictionaries i []) c.in_ok-new.field-0 c.loop-dictionary.invariant are)
+    let are : AreRanks (get_or dictionaries i []) c.in_ok-new.field-0 =
+    subst (λ (texts : List (List ℕ)). AreRanks texts c.in_ok-new.field-0) item c.in_ok-new.ensures in
+    rw (c.in_ok-push.ensures.items, take_more dictionaries i [] inside)
+    (AllZip-push AreRanks (take i dictionaries) c.loop-dictionary.ranks.items
+    (get_or dictionaries i []) c.in_ok-new.field-0 c.loop-dictionary.invariant are)

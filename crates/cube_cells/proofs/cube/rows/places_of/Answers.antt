@@ -18,11 +18,13 @@ loop-level-preserved c =
     let inside : i < length levels = omega (arith, c.loop-level-test.true) in
     let wanted = filter (λ (cell : Codes × Tally). are_wanted_codes c.args.wants.now cell.0.codes) in
     let more : cells_of (take (i + 1) levels) ≡ cells_of (take i levels) ++ level.cells.entries =
-    cells_of-take_more levels i level inside ∙ ap (λ (l : Level). cells_of (take i levels) ++ l.cells.entries) (sym c.level-item.is) in
+    cells_of-take_more levels i level inside
+    ∙ ap (λ (l : Level). cells_of (take i levels) ++ l.cells.entries) (sym c.level-item.is) in
     record {
       cells_are = c.in_ok-push_places.ensures.cells
           ∙ ap (λ (cells : CodedCells). cells ++ wanted level.cells.entries) c.loop-level.invariant.cells_are
-          ∙ sym (filter-append (λ (cell : Codes × Tally). are_wanted_codes c.args.wants.now cell.0.codes) (cells_of (take i levels)) level.cells.entries)
+          ∙ sym (filter-append (λ (cell : Codes × Tally). are_wanted_codes c.args.wants.now cell.0.codes)
+          (cells_of (take i levels)) level.cells.entries)
           ∙ ap wanted (sym more);
       ranks_are = c.in_ok-push_places.ensures.ranks c.loop-level.invariant.ranks_are;
     }

@@ -6,6 +6,10 @@ use Rattle.cube_cells.proofs.cube.rows.push_places.Given as goal
 
 abbrev pub invariant-loop-codes : goal.invariant-loop-codes
 invariant-loop-codes l = record {
-  cells : map (λ place. (place.codes.now, place.cell.now)) l.places.items ++ filter (λ cell. are_wanted_codes l.wants cell.0.codes) l.codes-iterator ≡ map (λ place. (place.codes.now, place.cell.now)) l.initial.places.items ++ filter (λ cell. are_wanted_codes l.wants cell.0.codes) l.cells.entries;
-  ranks : All (λ place. place.ranks ≡ ranks_of l.ranks place.codes.now.codes) l.initial.places.items → All (λ place. place.ranks ≡ ranks_of l.ranks place.codes.now.codes) l.places.items;
+  cells : map (λ place. (place.codes.now, place.cell.now)) l.places.items
+      ++ filter (λ cell. are_wanted_codes l.wants cell.0.codes) l.codes-iterator
+      ≡ map (λ place. (place.codes.now, place.cell.now)) l.initial.places.items
+      ++ filter (λ cell. are_wanted_codes l.wants cell.0.codes) l.cells.entries;
+  ranks : All (λ place. place.ranks ≡ ranks_of l.ranks place.codes.now.codes) l.initial.places.items
+      → All (λ place. place.ranks ≡ ranks_of l.ranks place.codes.now.codes) l.places.items;
 }

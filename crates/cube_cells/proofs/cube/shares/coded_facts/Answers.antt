@@ -7,5 +7,10 @@ pub returns-clause-coded : goal.returns-clause-coded
 returns-clause-coded g c =
     let facts = map (λ fact. fact.now) c.args.facts.now in
     let made = c.in_ok-made.ensures.made in
-    let each = made_each (λ d. IsColumnOf d facts) c.in_ok-columns.columns.items c.in_ok-made.made.items (length c.args.schema.now.dimensions) c.in_ok-columns.ensures made in
-    rw c.in_ok-copy.ensures (record { is_schema = c.made_columns.ensures.schema; fit = c.requires; columns = record { long = each.0; each = each.1 } })
+    let each = made_each (λ d. IsColumnOf d facts) c.in_ok-columns.columns.items c.in_ok-made.made.items
+    (length c.args.schema.now.dimensions) c.in_ok-columns.ensures made in
+    rw c.in_ok-copy.ensures (record {
+      is_schema = c.made_columns.ensures.schema;
+      fit = c.requires;
+      columns = record { long = each.0; each = each.1 };
+    })

@@ -11,7 +11,11 @@ returns g c =
     let made = c.in_ok-made.ensures in
     let pushed = c.in_ok-push_levels.ensures in
     let empty : c.in_ok-levels.levels.items ≡ [] = c.in_ok-levels.ensures.items in
-    let levels : c.push_levels.new.levels.items ≡ pushed.levels = pushed.pushed ∙ ap (λ (ls : List Level). ls ++ pushed.levels) empty in
-    let each = made_each (IsShare coded c.args.threads) pushed.levels c.in_ok-made.made.items c.args.threads pushed.are made in
+    let levels : c.push_levels.new.levels.items ≡ pushed.levels =
+    pushed.pushed ∙ ap (λ (ls : List Level). ls ++ pushed.levels) empty in
+    let each =
+    made_each (IsShare coded c.args.threads) pushed.levels c.in_ok-made.made.items c.args.threads pushed.are made in
     IfOk-weaker c.joined.result _ (λ cells. AreFinestCells coded (facts_coded coded) cells.entries)
-    (λ cells joins. AreFinestCells-Joins coded c.args.threads pushed.levels cells.entries c.requires.threads c.requires.coded each.0 each.1 (subst (λ (ls : List Level). AreJoined ls cells.entries) levels joins)) c.joined.ensures
+    (λ cells joins. AreFinestCells-Joins coded c.args.threads pushed.levels cells.entries c.requires.threads
+    c.requires.coded each.0 each.1 (subst (λ (ls : List Level). AreJoined ls cells.entries) levels joins))
+    c.joined.ensures

@@ -12,7 +12,8 @@ loop-codes-preserved-in_ok-insert c =
     let now = c.loop-codes.cells.entries in
     let new = c.insert.new.self.entries in
     let moving = rw c.in-Some.ensures.steps at c.loop-codes.invariant.2 in
-    let put : coded_at now cell.0 ≡ None → IsPermutation (cell ∷ now) new = λ none. rw (c.in_ok-insert.ensures.old ∙ none) at c.in_ok-insert.ensures.entries in
+    let put : coded_at now cell.0 ≡ None → IsPermutation (cell ∷ now) new =
+    λ none. rw (c.in_ok-insert.ensures.old ∙ none) at c.in_ok-insert.ensures.entries in
     (tt, tt, IsMoving-more c.args.more.entries c.next.new.self c.args.cells.now.entries now new cell moving put)
 
 pub loop-codes-preserved : goal.loop-codes-preserved
@@ -21,5 +22,6 @@ loop-codes-preserved c =
     let now = c.loop-codes.cells.entries in
     let new = c.insert.new.self.entries in
     let moving = rw c.in-Some.ensures.steps at c.loop-codes.invariant.2 in
-    let put : coded_at now cell.0 ≡ None → IsPermutation (cell ∷ now) new = λ none. rw (c.in_ok-insert.ensures.old ∙ none) at c.in_ok-insert.ensures.entries in
+    let put : coded_at now cell.0 ≡ None → IsPermutation (cell ∷ now) new =
+    λ none. rw (c.in_ok-insert.ensures.old ∙ none) at c.in_ok-insert.ensures.entries in
     (tt, tt, IsMoving-more c.args.more.entries c.next.new.self c.args.cells.now.entries now new cell moving put)

@@ -11,7 +11,8 @@ returns-in-Some-clause-added c =
     let new = (c.get_mut.follows.lender c.plus.new.self).entries in
     let found : coded_at old c.args.codes ≡ Some c.in-Some.cell.now = search rules in
     let is : new ≡ set_value (same_codes c.args.codes) old c.plus.new.self = search rules in
-    OnOk-both c.plus.result (λ plus holds. AddsIn-set_value c.args.codes c.args.values.now old new c.in-Some.cell.now c.plus.new.self found is plus holds) c.plus.ensures.added c.plus.ensures.held
+    OnOk-both c.plus.result (λ plus holds. AddsIn-set_value c.args.codes c.args.values.now old new c.in-Some.cell.now
+    c.plus.new.self found is plus holds) c.plus.ensures.added c.plus.ensures.held
 
 pub returns-in-Some-clause-err : goal.returns-in-Some-clause-err
 returns-in-Some-clause-err c =
@@ -19,4 +20,6 @@ returns-in-Some-clause-err c =
     let new = (c.get_mut.follows.lender c.plus.new.self).entries in
     let found : coded_at old c.args.codes ≡ Some c.in-Some.cell.now = search rules in
     let is : new ≡ set_value (same_codes c.args.codes) old c.plus.new.self = search rules in
-    on_err_weaker c.plus.result (λ same. SameCoded-set_value c.args.codes old new c.in-Some.cell.now c.plus.new.self found is same) c.plus.ensures.err
+    on_err_weaker c.plus.result
+    (λ same. SameCoded-set_value c.args.codes old new c.in-Some.cell.now c.plus.new.self found is same)
+    c.plus.ensures.err

@@ -10,4 +10,5 @@ loop-own-init c =
 pub loop-own-preserved : goal.loop-own-preserved
 loop-own-preserved c =
     rw c.in_ok-append.ensures.items
-    (rw (← c.in_ok-own.was) at (ArePutTogether-more c.loop-own.yielded c.loop-own.places.items c.in_ok-own.own c.loop-own.invariant))
+    (rw (← c.in_ok-own.was) at
+    (ArePutTogether-more c.loop-own.yielded c.loop-own.places.items c.in_ok-own.own c.loop-own.invariant))

@@ -10,5 +10,8 @@ pub returns-clause-order : goal.returns-clause-order
 returns-clause-order g c =
     let old = c.args.places.now in
     let new = c.par_sort_by.new.s in
-    let whole : take old.len (new ++ drop (length new) old.items) ≡ new = take-append-drop old.items new old.len (search rules) (c.par_sort_by.ensures.len ∙ ap (λ (l : List Place). length l) c.as_mut_slice.ensures.value) in
-    rw whole (on_ok_weaker c.par_sort_by.result (λ sorted. IsSortedBy-key nat_list_cmp_total (λ place. place.ranks) new sorted (λ a r q k. search rules)) c.par_sort_by.ensures.sorted)
+    let whole : take old.len (new ++ drop (length new) old.items) ≡ new = take-append-drop old.items new old.len
+    (search rules) (c.par_sort_by.ensures.len ∙ ap (λ (l : List Place). length l) c.as_mut_slice.ensures.value) in
+    rw whole (on_ok_weaker c.par_sort_by.result
+    (λ sorted. IsSortedBy-key nat_list_cmp_total (λ place. place.ranks) new sorted (λ a r q k. search rules))
+    c.par_sort_by.ensures.sorted)

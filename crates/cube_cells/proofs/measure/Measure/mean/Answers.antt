@@ -17,4 +17,5 @@ returns c = λ values is.
     let some : 0 < size_of c.self.inside.values = grind (arith, nat_tests) in
     let quotient_fits : FitsSigned w128 c.reduced-p.result.0 = search rules in
     let lowest = rw c.len.ensures.len at (simp to_z-of_z at c.reduced-p.ensures) in
-    simp to_z-of_z (IsMean-Ratio values c.self.inside.values c.self.inside.sum c.reduced-p.result.0 c.reduced-p.result.1 (rw c.self.view_is is) c.self.invariant some lowest)
+    simp to_z-of_z (IsMean-Ratio values c.self.inside.values c.self.inside.sum c.reduced-p.result.0 c.reduced-p.result.1
+    (rw c.self.view_is is) c.self.invariant some lowest)

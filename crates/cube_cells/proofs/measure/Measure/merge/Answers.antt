@@ -17,8 +17,16 @@ sum_of_both-self-inside-requires c =
     let mine : FitsSigned w128 c.self.inside.sum = search rules in
     let other : FitsSigned w128 c.more.inside.sum = search rules in
     let adds : AddsBag c.self.inside.values c.merge.new.self c.more.inside.values = search rules in
-    let few : size_of c.merge.new.self < 2 ^ 64 = omega (arith, c.requires, ap size_of c.self.view_is, ap size_of c.more.view_is, size_of-bag c.self.inside.values c.merge.new.self c.more.inside.values adds) in
-    simp to_z-of_z (IsSumOf-FitsSigned c.merge.new.self (c.self.inside.sum +ℤ c.more.inside.sum) (IsSumOf-join c.self.inside.values c.merge.new.self c.more.inside.values c.self.inside.sum c.more.inside.sum c.self.invariant c.more.invariant adds) few)
+    let few : size_of c.merge.new.self < 2 ^ 64 = omega (
+      arith,
+      c.requires,
+      ap size_of c.self.view_is,
+      ap size_of c.more.view_is,
+      size_of-bag c.self.inside.values c.merge.new.self c.more.inside.values adds,
+    ) in
+    simp to_z-of_z (IsSumOf-FitsSigned c.merge.new.self (c.self.inside.sum +ℤ c.more.inside.sum)
+    (IsSumOf-join c.self.inside.values c.merge.new.self c.more.inside.values c.self.inside.sum c.more.inside.sum
+    c.self.invariant c.more.invariant adds) few)
 
 pub invariant_of-self-2 : goal.invariant_of-self-2
 invariant_of-self-2 c =
@@ -27,4 +35,5 @@ invariant_of-self-2 c =
     let adds : AddsBag c.self.inside.values c.merge.new.self c.more.inside.values = search rules in
     let result_fits : FitsSigned w128 c.sum_of_both-self-inside.result = search rules in
     let is = simp to_z-of_z at c.sum_of_both-self-inside.ensures in
-    simp to_z-of_z (rw is (IsSumOf-join c.self.inside.values c.merge.new.self c.more.inside.values c.self.inside.sum c.more.inside.sum c.self.invariant c.more.invariant adds))
+    simp to_z-of_z (rw is (IsSumOf-join c.self.inside.values c.merge.new.self c.more.inside.values c.self.inside.sum
+    c.more.inside.sum c.self.invariant c.more.invariant adds))

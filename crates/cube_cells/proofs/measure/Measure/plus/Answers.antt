@@ -12,8 +12,14 @@ sum_with-self-inside-requires c =
     let fits : FitsSigned w64 c.in-Some.value = search rules in
     let before : FitsSigned w128 c.self.inside.sum = search rules in
     let adds : AddsOne c.self.inside.values c.add.new.self c.in-Some.value = search rules in
-    let few : size_of c.add.new.self < 2 ^ 64 = omega (arith, c.requires, ap size_of c.self.view_is, size_of_one c.self.inside.values c.add.new.self c.in-Some.value adds) in
-    simp to_z-of_z (IsSumOf-FitsSigned c.add.new.self (c.self.inside.sum +ℤ c.in-Some.value) (IsSumOf-add c.self.inside.values c.add.new.self c.self.inside.sum c.in-Some.value c.self.invariant fits adds) few)
+    let few : size_of c.add.new.self < 2 ^ 64 = omega (
+      arith,
+      c.requires,
+      ap size_of c.self.view_is,
+      size_of_one c.self.inside.values c.add.new.self c.in-Some.value adds,
+    ) in
+    simp to_z-of_z (IsSumOf-FitsSigned c.add.new.self (c.self.inside.sum +ℤ c.in-Some.value)
+    (IsSumOf-add c.self.inside.values c.add.new.self c.self.inside.sum c.in-Some.value c.self.invariant fits adds) few)
 
 pub invariant_of-self-in-Some : goal.invariant_of-self-in-Some
 invariant_of-self-in-Some c =
@@ -22,4 +28,5 @@ invariant_of-self-in-Some c =
     let result_fits : FitsSigned w128 c.sum_with-self-inside.result = search rules in
     let before : FitsSigned w128 c.self.inside.sum = search rules in
     let is = simp to_z-of_z at c.sum_with-self-inside.ensures in
-    simp to_z-of_z (rw is (IsSumOf-add c.self.inside.values c.add.new.self c.self.inside.sum c.in-Some.value c.self.invariant fits adds))
+    simp to_z-of_z (rw is
+    (IsSumOf-add c.self.inside.values c.add.new.self c.self.inside.sum c.in-Some.value c.self.invariant fits adds))

@@ -15,4 +15,5 @@ pub returns-else-is_empty : goal.returns-else-is_empty
 returns-else-is_empty c = λ values is.
     let fits : FitsSigned w128 c.self.inside.sum = search rules in
     let some : 0 < size_of c.self.inside.values = grind (arith, nat_tests) in
-    simp to_z-of_z (IsSum-Whole values c.self.inside.values c.self.inside.sum (rw c.self.view_is is) c.self.invariant some)
+    simp to_z-of_z
+    (IsSum-Whole values c.self.inside.values c.self.inside.sum (rw c.self.view_is is) c.self.invariant some)

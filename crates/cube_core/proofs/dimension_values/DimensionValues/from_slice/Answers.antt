@@ -10,6 +10,10 @@ now = option_map (λ text. text.now)
 
 pub returns : goal.returns
 returns c =
-    let collected : map now c.in_ok-texts.texts.items ≡ map (λ value. value) c.args.values.now = IfOk-at_ok _ c.in_ok-texts.was (map_from_collect _ c.collect.ensures.ran (YieldsList-from_map_by _ now (λ value. value) (YieldsList-from_slice c.args.values.now cc) c.map.ensures.closure (λ x r q k. search rules))) in
-    let texts : map now c.deref.result.now ≡ c.args.values.now = ap (map now) c.deref.ensures.value ∙ collected ∙ map-id c.args.values.now in
+    let collected : map now c.in_ok-texts.texts.items ≡ map (λ value. value) c.args.values.now =
+    IfOk-at_ok _ c.in_ok-texts.was (map_from_collect _ c.collect.ensures.ran
+    (YieldsList-from_map_by _ now (λ value. value) (YieldsList-from_slice c.args.values.now cc) c.map.ensures.closure
+    (λ x r q k. search rules))) in
+    let texts : map now c.deref.result.now ≡ c.args.values.now =
+    ap (map now) c.deref.ensures.value ∙ collected ∙ map-id c.args.values.now in
     rw (← texts) (search rules)

@@ -19,7 +19,9 @@ invariant_of-result c =
     let dimensions : c.in_ok-copy_texts.field-0.items ≡ s.dimensions = search rules in
     let measures : c.in_ok-copy_texts-2.field-0.items ≡ s.measures = search rules in
     let aggregates : c.in_ok-aggregates.aggregates.items ≡ partial_aggregates s.aggregates = search rules in
-    let texts : c.in_ok-spellings_of.field-0.items ≡ map (spelling_of c.in_ok-copy_texts-2.field-0.items) c.in_ok-aggregates.aggregates.items = search (rules, measures) in
+    let texts : c.in_ok-spellings_of.field-0.items
+    ≡ map (spelling_of c.in_ok-copy_texts-2.field-0.items) c.in_ok-aggregates.aggregates.items =
+    search (rules, measures) in
     let sets : c.in_ok-from_slice.field-0.items ≡ s.grouping_sets = search rules in
     let few : length c.in_ok-aggregates.aggregates.items ≤ 24 = search rules in
     copied-IsSchema s _ _ _ _ _ c.self.invariant dimensions measures aggregates texts sets few

@@ -4,4 +4,9 @@ use Rattle.cube_core.proofs.schema_toml.grouping.all_sets.Goals as goal
 
 pub loop-set-preserved : goal.loop-set-preserved
 loop-set-preserved c =
-    rw (c.in_ok-push.ensures.items, c.loop-set.invariant, range_with_len-more 0 c.loop-set.set, zero-add c.loop-set.set) refl
+    rw (
+      c.in_ok-push.ensures.items,
+      c.loop-set.invariant,
+      range_with_len-more 0 c.loop-set.set,
+      zero-add c.loop-set.set,
+    ) refl

@@ -21,8 +21,11 @@ invariant_of-self-2 c =
     let sum : c.in-Some.total ≡ c.in-Some-Some.total + c.args.times = search rules in
     let sum_fits : c.in-Some.total < 2 ^ 64 = search rules in
     let adds = AddsBag-without taken pairs more owes.covered in (
-      rw items (Owes-append pairs more taken c.in-Some-Some.total c.args.times c.in-Some.total owes (omega (arith, weight_of-cons (λ _. 1) (c.args.value, c.args.times) [])) sum sum_fits),
-      rw (items, low, high) (HasEnds-AddsBag (without taken pairs) (without taken (pairs ++ more)) more c.in-Some-Some.ends.least c.in-Some-Some.ends.greatest c.args.value c.args.value adds old (HasEnds-pair c.args.value c.args.times c.requires)),
+      rw items (Owes-append pairs more taken c.in-Some-Some.total c.args.times c.in-Some.total owes
+          (omega (arith, weight_of-cons (λ _. 1) (c.args.value, c.args.times) [])) sum sum_fits),
+      rw (items, low, high) (HasEnds-AddsBag (without taken pairs) (without taken (pairs ++ more))
+          more c.in-Some-Some.ends.least c.in-Some-Some.ends.greatest c.args.value c.args.value adds old
+          (HasEnds-pair c.args.value c.args.times c.requires)),
       tt,
     )
 
@@ -33,4 +36,5 @@ returns-clause-added c =
     let more : Bag = (c.args.value, c.args.times) ∷ [] in
     let owes : Owes pairs taken (Some c.in-Some-Some.total) = search rules in
     let items : c.push.new.self.items ≡ pairs ++ more = search rules in
-    λ h. rw (items, ← c.self.view_is) (AddsTimes-AddsBag_pair (without taken pairs) (without taken (pairs ++ more)) c.args.value c.args.times (AddsBag-without taken pairs more owes.covered))
+    λ h. rw (items, ← c.self.view_is) (AddsTimes-AddsBag_pair (without taken pairs)
+    (without taken (pairs ++ more)) c.args.value c.args.times (AddsBag-without taken pairs more owes.covered))

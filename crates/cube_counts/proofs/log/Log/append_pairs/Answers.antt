@@ -16,8 +16,11 @@ invariant_of-self-2 c =
     let sum : c.in-Some.total ≡ c.in-Some-Some.total + c.args.more_total = search rules in
     let sum_fits : c.in-Some.total < 2 ^ 64 = search rules in
     let adds = AddsBag-without taken pairs more owes.covered in (
-      rw items (Owes-append pairs more taken c.in-Some-Some.total c.args.more_total c.in-Some.total owes c.requires.total sum sum_fits),
-      rw (items, c.joined.ensures.least, c.joined.ensures.greatest) (HasEnds-AddsBag (without taken pairs) (without taken (pairs ++ more)) more c.in-Some-Some.ends.least c.in-Some-Some.ends.greatest c.args.more_ends.least c.args.more_ends.greatest adds old c.requires.ends),
+      rw items (Owes-append pairs more taken c.in-Some-Some.total c.args.more_total c.in-Some.total owes
+          c.requires.total sum sum_fits),
+      rw (items, c.joined.ensures.least, c.joined.ensures.greatest)
+          (HasEnds-AddsBag (without taken pairs) (without taken (pairs ++ more)) more c.in-Some-Some.ends.least
+          c.in-Some-Some.ends.greatest c.args.more_ends.least c.args.more_ends.greatest adds old c.requires.ends),
       tt,
     )
 

@@ -5,5 +5,11 @@ use Rattle.cube_counts.proofs.log.Log.greatest.Goals as goal
 
 pub returns-in-Some-clause-none : goal.returns-in-Some-clause-none
 returns-in-Some-clause-none c =
-    let ends : HasEnds (without c.self.inside.taken.items c.self.inside.pairs.items) c.in-Some.ends.least c.in-Some.ends.greatest = search rules in
-    rw (← c.self.view_is) (λ h. cc, λ none. absurd (held_of-size_of (without c.self.inside.taken.items c.self.inside.pairs.items) c.in-Some.ends.greatest ends.greatest.held none))
+    let ends :
+    HasEnds (without c.self.inside.taken.items c.self.inside.pairs.items) c.in-Some.ends.least c.in-Some.ends.greatest =
+    search rules in
+    rw (← c.self.view_is) (
+      λ h. cc,
+      λ none. absurd (held_of-size_of (without c.self.inside.taken.items c.self.inside.pairs.items)
+          c.in-Some.ends.greatest ends.greatest.held none),
+    )

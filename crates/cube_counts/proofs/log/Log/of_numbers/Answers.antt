@@ -7,4 +7,5 @@ use Rattle.cube_counts.proofs.log.Log.of_numbers.Goals as goal
 pub of_pairs-requires : goal.of_pairs-requires
 of_pairs-requires c =
     let items : c.extend_from_slice.new.self.items ≡ once_each c.args.numbers.now ++ c.args.few.now = search rules in
-    rw items (All-append (λ e. 0 < e.1) (once_each c.args.numbers.now) c.args.few.now (some_once_each c.args.numbers.now) c.requires)
+    rw items (All-append (λ e. 0 < e.1) (once_each c.args.numbers.now) c.args.few.now
+    (some_once_each c.args.numbers.now) c.requires)

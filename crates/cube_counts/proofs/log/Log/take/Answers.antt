@@ -14,10 +14,12 @@ invariant_of-self c =
     let new : Bag = c.take_held.new.pairs in
     let none : c.self.inside.ends ≡ None = search rules in
     let settled : IsSettled pairs c.self.inside.taken.items = search rules in
-    let items = written_back new pairs c.self.inside.pairs.len c.self.inside.pairs.ok.0 (c.take_held.auto.pairs ∙ c.deref_mut.ensures.len) in
+    let items = written_back new pairs c.self.inside.pairs.len c.self.inside.pairs.ok.0
+    (c.take_held.auto.pairs ∙ c.deref_mut.ensures.len) in
     let taken : AddsOne new pairs c.args.value = search (rules, to_z-of_z) in
     rw (items, none, settled.none) (
-      Owes-nothing pairs new c.self.inside.taken.items c.self.inside.total c.self.invariant.0 (omega (arith, size_of_one new pairs c.args.value taken)),
+      Owes-nothing pairs new c.self.inside.taken.items c.self.inside.total c.self.invariant.0
+          (omega (arith, size_of_one new pairs c.args.value taken)),
       tt,
       record { ordered = c.take_held.ensures.ordered; none = refl },
     )
@@ -35,7 +37,8 @@ invariant_of-self-else-not-owe c =
     let below : c.args.value <ℤ c.in-Some.ends.greatest = search (rules, to_z-of_z) in
     rw (items, c.in-Some.is) (
       Owes-owed pairs owed c.args.value c.self.inside.total c.self.invariant.0 some held,
-      HasEnds-taken (without owed pairs) (without (owed ++ c.args.value ∷ []) pairs) c.args.value c.in-Some.ends.least c.in-Some.ends.greatest old (AddsOne-owed owed pairs c.args.value held) above below,
+      HasEnds-taken (without owed pairs) (without (owed ++ c.args.value ∷ []) pairs) c.args.value c.in-Some.ends.least
+          c.in-Some.ends.greatest old (AddsOne-owed owed pairs c.args.value held) above below,
       tt,
     )
 

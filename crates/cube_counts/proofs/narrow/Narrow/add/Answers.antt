@@ -9,9 +9,12 @@ invariant_of-self-2 c =
     let old : List ℤ = c.self.inside.numbers.items in
     let number : ℤ = c.in-Some.number in
     let items : c.push.new.self.items ≡ old ++ number ∷ [] = search rules in
-    let low : to_z w32 (of_z w32 c.min-self-inside.result) ≡ int_min c.self.inside.least number = search (rules, to_z-of_z) in
-    let high : to_z w32 (of_z w32 c.max-self-inside.result) ≡ int_max c.self.inside.greatest number = search (rules, to_z-of_z) in
-    rw (items, low, high) (HasEnds-once_each_push old number c.self.inside.least c.self.inside.greatest c.self.invariant)
+    let low : to_z w32 (of_z w32 c.min-self-inside.result) ≡ int_min c.self.inside.least number =
+    search (rules, to_z-of_z) in
+    let high : to_z w32 (of_z w32 c.max-self-inside.result) ≡ int_max c.self.inside.greatest number =
+    search (rules, to_z-of_z) in
+    rw (items, low, high)
+    (HasEnds-once_each_push old number c.self.inside.least c.self.inside.greatest c.self.invariant)
 
 pub returns-clause-added : goal.returns-clause-added
 returns-clause-added c =

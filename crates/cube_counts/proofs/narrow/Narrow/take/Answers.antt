@@ -24,11 +24,15 @@ invariant_of-self c =
     let above : All (λ x. x ≤ℤ c.in-Some-Some.greatest) left = search rules in
     let low_fits : FitsSigned w32 c.in-Some-Some.least = search rules in
     let high_fits : FitsSigned w32 c.in-Some-Some.greatest = search rules in
-    rw (to_z-of_z w32 c.in-Some-Some.least low_fits, to_z-of_z w32 c.in-Some-Some.greatest high_fits) (HasEnds-numbers left c.in-Some-Some.least c.in-Some-Some.greatest low below high above)
+    rw (
+      to_z-of_z w32 c.in-Some-Some.least low_fits,
+      to_z-of_z w32 c.in-Some-Some.greatest high_fits,
+    ) (HasEnds-numbers left c.in-Some-Some.least c.in-Some-Some.greatest low below high above)
 
 pub returns-in-Some-Some : goal.returns-in-Some-Some
 returns-in-Some-Some c =
     let numbers : List ℤ = c.self.inside.numbers.items in
     let within : c.in-Some.place < length numbers = search rules in
     let found : HoldsAt (λ x. x ≡ c.args.value) numbers c.in-Some.place = search rules in
-    rw (c.swap_remove.ensures.items, ← c.self.view_is) (takes_once numbers c.in-Some.place c.swap_remove.result c.args.value within c.swap_remove.ensures.value found)
+    rw (c.swap_remove.ensures.items, ← c.self.view_is)
+    (takes_once numbers c.in-Some.place c.swap_remove.result c.args.value within c.swap_remove.ensures.value found)

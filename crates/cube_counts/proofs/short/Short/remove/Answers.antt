@@ -13,4 +13,6 @@ pub returns-else-index-gt1-clause-taken : goal.returns-else-index-gt1-clause-tak
 returns-else-index-gt1-clause-taken c =
     let within : c.in-Some.place < length c.self.inside.pairs.items = search rules in
     let found : HoldsAt (λ e. e.0 ≡ c.args.value) c.self.inside.pairs.items c.in-Some.place = search rules in
-    rw (c.swap_remove.ensures.items, ← c.self.view_is) (takes_pair c.self.inside.pairs.items c.in-Some.place c.swap_remove.result c.index.result.now c.args.value within c.swap_remove.ensures.value c.index.ensures found c.if-index-gt1.false c.self.invariant)
+    rw (c.swap_remove.ensures.items, ← c.self.view_is)
+    (takes_pair c.self.inside.pairs.items c.in-Some.place c.swap_remove.result c.index.result.now c.args.value within
+    c.swap_remove.ensures.value c.index.ensures found c.if-index-gt1.false c.self.invariant)

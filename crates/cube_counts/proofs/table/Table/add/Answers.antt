@@ -7,5 +7,9 @@ use Rattle.cube_counts.proofs.table.Table.add.Goals as goal
 pub returns-in-Some-clause-added : goal.returns-in-Some-clause-added
 returns-in-Some-clause-added c =
     let found : lookup (int_eq c.args.value) c.self.inside.counts.entries ≡ Some c.in-Some.count.now = search rules in
-    let is : (c.get_mut.follows.lender (c.in-Some.count.now + c.args.times)).entries ≡ set_value (int_eq c.args.value) c.self.inside.counts.entries (c.in-Some.count.now + c.args.times) = search rules in
-    rw (← c.self.view_is) (adds_found c.self.inside.counts.entries (c.get_mut.follows.lender (c.in-Some.count.now + c.args.times)).entries c.args.value c.in-Some.count.now c.args.times found is)
+    let is : (c.get_mut.follows.lender (c.in-Some.count.now + c.args.times)).entries
+    ≡ set_value (int_eq c.args.value) c.self.inside.counts.entries (c.in-Some.count.now + c.args.times) =
+    search rules in
+    rw (← c.self.view_is)
+    (adds_found c.self.inside.counts.entries (c.get_mut.follows.lender (c.in-Some.count.now + c.args.times)).entries
+    c.args.value c.in-Some.count.now c.args.times found is)

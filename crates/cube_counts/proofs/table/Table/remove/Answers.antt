@@ -13,7 +13,9 @@ returns-in_default-clause-absent c =
 
 pub invariant_of-self-else-count-gt1 : goal.invariant_of-self-else-count-gt1
 invariant_of-self-else-count-gt1 c =
-    let moved : IsPermutation (remove_entry (int_eq c.args.value) c.self.inside.counts.entries) c.take_out.new.counts.entries = search (rules, to_z-of_z) in
+    let moved :
+    IsPermutation (remove_entry (int_eq c.args.value) c.self.inside.counts.entries) c.take_out.new.counts.entries =
+    search (rules, to_z-of_z) in
     some_left c.self.inside.counts.entries c.take_out.new.counts.entries c.args.value moved c.self.invariant
 
 pub returns-else-count-gt1-clause-taken : goal.returns-else-count-gt1-clause-taken
@@ -21,4 +23,6 @@ returns-else-count-gt1-clause-taken c =
     let fits : FitsSigned w64 c.args.value = c.ranges.value in
     let moved = simp to_z-of_z at c.take_out.ensures in
     let found = simp to_z-of_z at c.in-Some.ensures in
-    rw (← c.self.view_is) (takes_entry c.self.inside.counts.entries c.take_out.new.counts.entries c.args.value c.in-Some.count (sym found) c.if-count-gt1.false c.self.invariant moved)
+    rw (← c.self.view_is)
+    (takes_entry c.self.inside.counts.entries c.take_out.new.counts.entries c.args.value c.in-Some.count
+    (sym found) c.if-count-gt1.false c.self.invariant moved)

@@ -8,7 +8,8 @@ use Rattle.cube_engine.proofs.account.Account.enter.Goals as goal
 use Rattle.cube_engine.proofs.account.Account.enter.Goals.{in-Ok-enter, in-Err-Present, in-Err-Absent, in-Err-Memory}
 
 pub enter-requires : goal.enter-requires
-enter-requires c = AmendsAlike-takes c.args.schema.now _ _ (rw c.in-Ok.is at c.requires.taken) (rw (← c.self.view_is) at c.requires.all_fit)
+enter-requires c = AmendsAlike-takes c.args.schema.now _ _ (rw c.in-Ok.is at c.requires.taken)
+    (rw (← c.self.view_is) at c.requires.all_fit)
 
 pub returns-clause-enters : goal.returns-clause-enters
 returns-clause-enters c =
@@ -16,16 +17,21 @@ returns-clause-enters c =
     elim c.match-enter.branch [
       | in-Ok-enter w ↦
           rw (w.result-is, w.self-is, ← c.self.view_is)
-          (Enters-Makes c.args.schema.now c.args.item _ _ c.in-Ok.change _ c.in-Ok.is taken w.in-Ok-enter.ensures.made refl)
+          (Enters-Makes c.args.schema.now c.args.item _ _ c.in-Ok.change _ c.in-Ok.is taken
+          w.in-Ok-enter.ensures.made refl)
       | in-Err-Present w ↦
           rw (w.result-is, w.self-is, ← c.self.view_is)
           (on_ok_weaker w.refuse-in-Err-Present.result
-          (Enters-refused c.args.schema.now c.args.item _ _ _ c.in-Ok.change Present _ c.in-Ok.is taken (rw w.in-Err-Present.field-0-is at w.in-Err-Present.ensures.refused) w.in-Err-Present.ensures.unchanged refl w.present_code.ensures)
+          (Enters-refused c.args.schema.now c.args.item _ _ _ c.in-Ok.change Present _ c.in-Ok.is taken
+          (rw w.in-Err-Present.field-0-is at w.in-Err-Present.ensures.refused)
+          w.in-Err-Present.ensures.unchanged refl w.present_code.ensures)
           w.refuse-in-Err-Present.ensures.ok)
       | in-Err-Absent w ↦
           rw (w.result-is, w.self-is, ← c.self.view_is)
           (on_ok_weaker w.refuse-in-Err-Absent.result
-          (Enters-refused c.args.schema.now c.args.item _ _ _ c.in-Ok.change Absent _ c.in-Ok.is taken (rw w.in-Err-Absent.field-0-is at w.in-Err-Absent.ensures.refused) w.in-Err-Absent.ensures.unchanged refl w.absent_code.ensures)
+          (Enters-refused c.args.schema.now c.args.item _ _ _ c.in-Ok.change Absent _ c.in-Ok.is taken
+          (rw w.in-Err-Absent.field-0-is at w.in-Err-Absent.ensures.refused)
+          w.in-Err-Absent.ensures.unchanged refl w.absent_code.ensures)
           w.refuse-in-Err-Absent.ensures.ok)
       | in-Err-Memory w ↦ rw w.result-is tt
     ]

@@ -3,7 +3,8 @@ use Rattle.cube_engine.proofs.FitLaws.{AmendsAlike-takes, RulingFits-Settles}
 use Rattle.cube_engine.proofs.account.Account.rule.Goals as goal
 
 pub settle-requires-clause-alike : goal.settle-requires-clause-alike
-settle-requires-clause-alike c = AmendsAlike-takes c.args.schema.now _ _ (rw c.in-Ok.is at c.requires.taken) c.requires.all_fit
+settle-requires-clause-alike c =
+    AmendsAlike-takes c.args.schema.now _ _ (rw c.in-Ok.is at c.requires.taken) c.requires.all_fit
 
 pub returns-in-None-clause-fits : goal.returns-in-None-clause-fits
 returns-in-None-clause-fits c =

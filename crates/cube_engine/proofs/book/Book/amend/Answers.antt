@@ -14,8 +14,10 @@ returns-clause-made c =
           let put = w.replace.new.dest in
           let fact = w.in-Ok.ensures in
           rw (w.result-is, w.self-inside-is, ← c.self.view_is)
-          (Makes-amend old (c.get_mut.follows.lender put).entries c.args.id.now c.args.part.now put c.in-Some.place.now w.replace.result found
-          w.replace.ensures.value (w.replace.ensures.after ∙ fact) (((c.get_mut.follows.holds put).3 (search rules)).0) (c.get_mut.follows.holds put).0 (c.get_mut.follows.holds put).4)
+          (Makes-amend old (c.get_mut.follows.lender put).entries c.args.id.now c.args.part.now put c.in-Some.place.now
+          w.replace.result found
+          w.replace.ensures.value (w.replace.ensures.after ∙ fact) (((c.get_mut.follows.holds put).3 (search rules)).0)
+          (c.get_mut.follows.holds put).0 (c.get_mut.follows.holds put).4)
       | in-Err w ↦ rw w.result-is tt
     ]
 
@@ -25,5 +27,6 @@ returns-clause-unchanged c =
     let found : fact_at old c.args.id.now ≡ Some c.in-Some.place.now = search rules in
     elim c.match-over.branch [
       | in-Ok w ↦ rw w.result-is tt
-      | in-Err w ↦ rw (w.result-is, w.self-inside-is, ← c.self.view_is) ((c.get_mut.follows.holds c.in-Some.place.now).0 ∙ set_value_same _ old c.in-Some.place.now found)
+      | in-Err w ↦ rw (w.result-is, w.self-inside-is, ← c.self.view_is)
+          ((c.get_mut.follows.holds c.in-Some.place.now).0 ∙ set_value_same _ old c.in-Some.place.now found)
     ]

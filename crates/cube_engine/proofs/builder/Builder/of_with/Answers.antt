@@ -9,7 +9,8 @@ returns-clause-has g c =
 
 pub invariant_of-result : goal.invariant_of-result
 invariant_of-result g c =
-    let fit : AllFit c.args.ledger.schema (all_facts c.args.ledger.accounts) = subst (λ (l : LedgerView). AllFit l.schema (all_facts l.accounts)) c.ledger.view_is c.ledger.invariant.all_fit in
+    let fit : AllFit c.args.ledger.schema (all_facts c.args.ledger.accounts) =
+    subst (λ (l : LedgerView). AllFit l.schema (all_facts l.accounts)) c.ledger.view_is c.ledger.invariant.all_fit in
     record {
       schema = c.in_ok-fill_with.ensures.same.schema ∙ c.requires.schema;
       fit = fit;

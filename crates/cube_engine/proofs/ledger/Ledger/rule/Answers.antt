@@ -10,4 +10,5 @@ rule-requires-clause-all_fit c =
     let is : c.index-account.result.now ≡ get_or c.self.inside.accounts.items (c.args.source - 1) new_account =
     account-at c.self.inside.accounts.items _ _ below c.index-account.ensures in
     subst (λ (account : AccountView). AllFit c.self.inside.schema (facts_of account.book)) (sym is)
-    (AllFit-account c.self.inside.schema c.self.inside.accounts.items (c.args.source - 1) c.self.invariant.all_fit below)
+    (AllFit-account c.self.inside.schema c.self.inside.accounts.items
+    (c.args.source - 1) c.self.invariant.all_fit below)

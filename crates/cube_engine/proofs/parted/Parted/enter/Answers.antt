@@ -9,7 +9,8 @@ use Rattle.cube_engine.proofs.parted.Parted.enter.Goals as goal
 pub invariant_of-self : goal.invariant_of-self
 invariant_of-self c = λ fresh.
     let last : c.args.source ≤ length c.self.inside.ledger.accounts = rw (← c.self.view_is) at c.requires.last in
-    AreBehind-refused c.self.inside.ledger c.refuse.new.self c.self.inside.parts.items c.self.inside.come.items c.self.inside.gone.items c.args.source c.args.item.number c.in-Refuse.code c.refuse.result
+    AreBehind-refused c.self.inside.ledger c.refuse.new.self c.self.inside.parts.items c.self.inside.come.items
+    c.self.inside.gone.items c.args.source c.args.item.number c.in-Refuse.code c.refuse.result
     c.requires.first last c.refuse.ensures.ok c.refuse.ensures.err (c.self.invariant fresh)
 
 pub returns-in-Refuse-clause-stands : goal.returns-in-Refuse-clause-stands

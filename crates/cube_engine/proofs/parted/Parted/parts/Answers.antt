@@ -9,4 +9,5 @@ returns-clause-parts c =
     let none_come : length come ≡ 0 = search rules in
     let none_gone : length gone ≡ 0 = search rules in
     rw (← c.self.view_is, c.as_slice.ensures.value)
-    (ArePartsWith-behind c.self.inside.ledger c.self.inside.parts.items come gone (none-of come none_come) (none-of gone none_gone) (c.self.invariant c.if-self.false))
+    (ArePartsWith-behind c.self.inside.ledger c.self.inside.parts.items come gone (none-of come none_come)
+    (none-of gone none_gone) (c.self.invariant c.if-self.false))

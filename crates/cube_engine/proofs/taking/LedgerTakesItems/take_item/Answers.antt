@@ -5,7 +5,10 @@ use Rattle.cube_engine.proofs.taking.LedgerTakesItems.take_item.Goals as goal
 
 pub returns-clause-stands : goal.returns-clause-stands
 returns-clause-stands c =
-    OnOk-both c.apply.result (λ at stands. ledger-further c.args.self.now c.apply.new.self c.args.source c.args.item at stands) c.apply.ensures.enters c.apply.ensures.stands
+    OnOk-both c.apply.result
+    (λ at stands. ledger-further c.args.self.now c.apply.new.self c.args.source c.args.item at stands)
+    c.apply.ensures.enters c.apply.ensures.stands
 
 pub returns-clause-unchanged : goal.returns-clause-unchanged
-returns-clause-unchanged c = on_err_weaker c.apply.result (λ same. ledger-same c.args.self.now c.apply.new.self same) c.apply.ensures.err
+returns-clause-unchanged c =
+    on_err_weaker c.apply.result (λ same. ledger-same c.args.self.now c.apply.new.self same) c.apply.ensures.err

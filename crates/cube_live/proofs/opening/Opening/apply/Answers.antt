@@ -5,7 +5,9 @@ use Rattle.cube_live.proofs.opening.Opening.apply.Goals as goal
 
 pub returns-clause-stands : goal.returns-clause-stands
 returns-clause-stands c =
-    let old : OpeningView = record { ledger = c.self.inside.ledger; feeds = c.self.inside.feeds; numbers = c.self.inside.numbers.items } in
+    let old : OpeningView =
+    record { ledger = c.self.inside.ledger; feeds = c.self.inside.feeds; numbers = c.self.inside.numbers.items } in
     let within = rw (← c.self.view_is) at c.requires in
-    rw (← c.self.view_is) (λ first arrivals stands. OpeningStandsAt-more first old _ arrivals c.args.source c.args.item within.0 within.1 c.self.invariant.feeds_at_most c.self.invariant.numbered
+    rw (← c.self.view_is) (λ first arrivals stands. OpeningStandsAt-more first old _ arrivals c.args.source c.args.item
+    within.0 within.1 c.self.invariant.feeds_at_most c.self.invariant.numbered
     c.in_ok-apply.ensures.enters.schema refl (c.in_ok-apply.ensures.stands arrivals) refl stands)

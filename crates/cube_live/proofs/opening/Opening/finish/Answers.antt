@@ -5,6 +5,8 @@ use Rattle.cube_live.proofs.opening.Opening.finish.Goals as goal
 
 pub returns-clause-stands : goal.returns-clause-stands
 returns-clause-stands c =
-    let opening : OpeningView = record { ledger = c.self.inside.ledger; feeds = c.self.inside.feeds; numbers = c.self.inside.numbers.items } in
+    let opening : OpeningView =
+    record { ledger = c.self.inside.ledger; feeds = c.self.inside.feeds; numbers = c.self.inside.numbers.items } in
     rw (← c.self.view_is)
-    (λ first arrivals. LiveStandsAt-made first opening c.new.result arrivals (c.new.ensures.ledger ∙ c.of.ensures) c.new.ensures.numbers)
+    (λ first arrivals.
+    LiveStandsAt-made first opening c.new.result arrivals (c.new.ensures.ledger ∙ c.of.ensures) c.new.ensures.numbers)

@@ -10,12 +10,21 @@ pub returns-in_default-2-clause-err : goal.returns-in_default-2-clause-err
 returns-in_default-2-clause-err g c =
     let some : 0 < length c.read_line.new.line.items = search (rules, arith) in (
       search rules,
-      subst (λ (i : InputView). HasMore i) c.self.view_is (more-taken _ _ c.read_line.new.line.items c.in_ok-read_line.ensures.taken some),
+      subst (λ (i : InputView). HasMore i) c.self.view_is
+          (more-taken _ _ c.read_line.new.line.items c.in_ok-read_line.ensures.taken some),
     )
 
 pub returns-then-not-is_after-clause-err : goal.returns-then-not-is_after-clause-err
 returns-then-not-is_after-clause-err g c =
     let is : row_line c.in-Some-2.row ≡ c.read_line.new.line.items = search rules in (
       search rules,
-      subst (λ (i : InputView). HasRowBelow c.args.schema.now (record { left = i.left; row = c.args.before.now; lines = i.lines })) c.self.view_is (record { row = c.in-Some-2.row; left = _; taken = subst (Consumes _ _) (sym is) c.in_ok-read_line.ensures.taken; of_schema = search rules; below = c.is_after.ensures.below c.if-not-is_after.true }),
+      subst (λ (i : InputView). HasRowBelow c.args.schema.now
+          (record { left = i.left; row = c.args.before.now; lines = i.lines })) c.self.view_is
+          (record {
+            row = c.in-Some-2.row;
+            left = _;
+            taken = subst (Consumes _ _) (sym is) c.in_ok-read_line.ensures.taken;
+            of_schema = search rules;
+            below = c.is_after.ensures.below c.if-not-is_after.true;
+          }),
     )

@@ -7,11 +7,13 @@ returns-in_err-commit-clause-broken g c =
     let old : Batch g.row.S.Denot = record { store = c.self.inside.journal.store; waiting = c.self.inside.waiting } in
     let new : Batch g.row.S.Denot = record { store = c.commit.new.self.store; waiting = c.self.inside.waiting } in
     rw (← c.self.view_is) (laws.OnErr-always c.from_residual.result (λ first changes sure kept.
-    laws.HasBroken-commit g.S.Store.view g.S.Store.recovers g.S.Store.faults first old new changes sure kept c.commit.ensures.on c.commit.ensures.crash))
+    laws.HasBroken-commit g.S.Store.view g.S.Store.recovers g.S.Store.faults first old new changes sure kept
+    c.commit.ensures.on c.commit.ensures.crash))
 
 pub returns-clause-kept : goal.returns-clause-kept
 returns-clause-kept g c =
     let old : Batch g.row.S.Denot = record { store = c.self.inside.journal.store; waiting = c.self.inside.waiting } in
     let new : Batch g.row.S.Denot = record { store = c.commit.new.self.store; waiting = 0 } in
     rw (← c.self.view_is) (λ first changes sure kept.
-    laws.HasKept-commit g.S.Store.view g.S.Store.recovers g.S.Store.faults first old new changes sure kept c.commit.ensures.on c.in_ok-commit.ensures.ok c.in_ok-commit.ensures.durable)
+    laws.HasKept-commit g.S.Store.view g.S.Store.recovers g.S.Store.faults first old new changes sure kept
+    c.commit.ensures.on c.in_ok-commit.ensures.ok c.in_ok-commit.ensures.durable)

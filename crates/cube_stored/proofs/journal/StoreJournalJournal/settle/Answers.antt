@@ -9,6 +9,7 @@ pub returns-clause-ok : goal.returns-clause-ok
 returns-clause-ok g c = elim c.match-settle.branch [
   | in-Ok w ↦
       rw (w.result-is, ← c.self.view_is) (λ first k kept.
-      subst (λ n. HasKept g.S.Store.view g.S.Store.recovers first c.settle.new.self (stored_all k.told) n) (length-map k.told stored_as) (w.in-Ok.ensures.kept first (stored_all k.told) k.sure kept))
+      subst (λ n. HasKept g.S.Store.view g.S.Store.recovers first c.settle.new.self (stored_all k.told) n)
+      (length-map k.told stored_as) (w.in-Ok.ensures.kept first (stored_all k.told) k.sure kept))
   | in-Err w ↦ rw w.result-is tt
 ]

@@ -12,7 +12,9 @@ returns-in_err-built-clause-err g c =
 pub returns-in_err-answer-clause-err : goal.returns-in_err-answer-clause-err
 returns-in_err-answer-clause-err g c =
     let p = err_from_is_err_and c.from_residual-in_err-answer.result c.from_residual-in_err-answer.ensures.1 in
-    rw (p.1, p.2) (FailsToAnswer-Answers c.args.question.now _ _ _ c.has_builder.ensures c.in_ok-built.ensures.ok c.in_err-answer.ensures)
+    rw (p.1, p.2) (FailsToAnswer-Answers c.args.question.now _ _ _ c.has_builder.ensures c.in_ok-built.ensures.ok
+    c.in_err-answer.ensures)
 
 pub returns-clause-ok : goal.returns-clause-ok
-returns-clause-ok g c = OfFeeds-status c.has_builder.ensures c.in_ok-built.ensures.ok c.status_of_run.ensures c.in_ok-answer.ensures
+returns-clause-ok g c =
+    OfFeeds-status c.has_builder.ensures c.in_ok-built.ensures.ok c.status_of_run.ensures c.in_ok-answer.ensures

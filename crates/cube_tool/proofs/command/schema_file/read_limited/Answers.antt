@@ -8,5 +8,6 @@ returns-in-Ok-clause-all g c =
     let bytes = c.read_to_end.new.buf in
     elim (cases_lt c.args.limit (length bytes.items)) [
       | inl long ↦ rw (c.unless_longer.ensures.longer long) tt
-      | inr short ↦ rw (c.unless_longer.ensures.kept short) (IfSome-take_short c.args.limit (g.R.Read.remaining c.args.file) bytes.items (search rules) short)
+      | inr short ↦ rw (c.unless_longer.ensures.kept short)
+          (IfSome-take_short c.args.limit (g.R.Read.remaining c.args.file) bytes.items (search rules) short)
     ]

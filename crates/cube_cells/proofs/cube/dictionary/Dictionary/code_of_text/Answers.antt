@@ -1,6 +1,7 @@
 use Rattle.std.proofs.Common.{arith, subst, sym, ◌∙◌}
 use Rattle.cube_cells.specs.Codes.{IsDictionary}
-use Rattle.cube_cells.proofs.DictionaryLaws.{StandsAt-position, is_listed-position, is_listed-StandsAt, IsCodeOf-StandsAt, IsCodeOf-no_code, no_code-place}
+use Rattle.cube_cells.proofs.DictionaryLaws.{StandsAt-position, is_listed-position, is_listed-StandsAt}
+use Rattle.cube_cells.proofs.DictionaryLaws.{IsCodeOf-StandsAt, IsCodeOf-no_code, no_code-place}
 use Rattle.cube_cells.proofs.cube.dictionary.Dictionary.code_of_text.Goals as goal
 
 pub overflow_cast-result : goal.overflow_cast-result
@@ -24,5 +25,6 @@ returns-in-Some c =
     let stands = StandsAt-position c.args.text.now c.args.self.now c.in-Some.place (sym c.in-Some.ensures) in
     record {
       code = IsCodeOf-StandsAt c.args.self.now c.args.text.now c.in-Some.place is stands;
-      listed = is_listed-StandsAt c.args.text.now c.args.self.now c.in-Some.place stands ∙ no_code-place c.args.self.now c.in-Some.place is stands.below;
+      listed = is_listed-StandsAt c.args.text.now c.args.self.now c.in-Some.place stands
+          ∙ no_code-place c.args.self.now c.in-Some.place is stands.below;
     }

@@ -9,5 +9,6 @@ pub returns-clause-valid : goal.returns-clause-valid
 returns-clause-valid c =
     let is : IsDictionary c.args.self.now = subst IsDictionary c.self.view_is c.self.invariant in
     let code = c.code_of_text-code.result in
-    let listed : is_listed c.in-Some.text.now c.args.self.now ≡ true = c.code_of_text-code.ensures.listed ∙ not_from_false (code == no_code) (ne_eqb code no_code c.if-code.false) in
+    let listed : is_listed c.in-Some.text.now c.args.self.now ≡ true =
+    c.code_of_text-code.ensures.listed ∙ not_from_false (code == no_code) (ne_eqb code no_code c.if-code.false) in
     is_code-is_listed c.args.self.now c.in-Some.text.now code is c.code_of_text-code.ensures.code listed

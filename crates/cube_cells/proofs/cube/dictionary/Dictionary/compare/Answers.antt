@@ -2,7 +2,10 @@ use Rattle.std.proofs.Common.{◌≤◌, arith, inl, inr, ◌∙◌}
 use Rattle.cube_cells.specs.Codes.{all_code}
 use Rattle.cube_cells.proofs.TextLaws.{compared_high}
 use Rattle.cube_cells.proofs.cube.dictionary.Dictionary.compare.Goals as goal
-use Rattle.cube_cells.proofs.cube.dictionary.Dictionary.compare.Goals.{then-left-ge-NULL-via-then-left-ge-NULL, then-left-ge-NULL-via-else-left-ge-NULL+then-right-ge-NULL}
+use Rattle.cube_cells.proofs.cube.dictionary.Dictionary.compare.Goals.{
+  then-left-ge-NULL-via-then-left-ge-NULL,
+  then-left-ge-NULL-via-else-left-ge-NULL+then-right-ge-NULL,
+}
 
 pub returns-then-left-ge-NULL : goal.returns-then-left-ge-NULL
 returns-then-left-ge-NULL c =
@@ -13,6 +16,8 @@ returns-then-left-ge-NULL c =
     let small_a : a ≤ all_code = omega (arith, c.ranges.left.fits) in
     let small_b : b ≤ all_code = omega (arith, c.ranges.right.fits) in
     c.cmp.ensures ∙ elim c.then-left-ge-NULL.branch [
-      | then-left-ge-NULL-via-then-left-ge-NULL w ↦ compared_high texts others a b small_a small_b (inl w.if-left-ge-NULL.true)
-      | then-left-ge-NULL-via-else-left-ge-NULL+then-right-ge-NULL w ↦ compared_high texts others a b small_a small_b (inr w.if-right-ge-NULL.true)
+      | then-left-ge-NULL-via-then-left-ge-NULL w ↦
+          compared_high texts others a b small_a small_b (inl w.if-left-ge-NULL.true)
+      | then-left-ge-NULL-via-else-left-ge-NULL+then-right-ge-NULL w ↦
+          compared_high texts others a b small_a small_b (inr w.if-right-ge-NULL.true)
     ]

@@ -10,16 +10,19 @@ invariant_of-self-2 c =
     let texts = map string_bytes c.self.inside.texts.keys in
     let unlisted : is_listed c.args.text.now texts ≡ false = rw c.self.view_is c.requires in
     let bytes : string_bytes c.in_ok-text.text ≡ c.args.text.now = c.in_ok-text.ensures.ok in
-    let pushed = map-insert_key c.in_ok-text.text c.self.inside.texts.keys c.insert_full.new.self.keys c.args.text.now c.in_ok-insert_full.ensures.keys bytes unlisted in
+    let pushed = map-insert_key c.in_ok-text.text c.self.inside.texts.keys c.insert_full.new.self.keys c.args.text.now
+    c.in_ok-insert_full.ensures.keys bytes unlisted in
     let room = no_code-next c.len.result c.in-Some.code c.in-Some.ensures in
-    rw pushed (IsDictionary-push texts c.args.text.now c.self.invariant unlisted (omega (arith, room.0, c.len.ensures.len, length-map c.self.inside.texts.keys string_bytes)))
+    rw pushed (IsDictionary-push texts c.args.text.now c.self.invariant unlisted
+    (omega (arith, room.0, c.len.ensures.len, length-map c.self.inside.texts.keys string_bytes)))
 
 pub returns-clause-texts : goal.returns-clause-texts
 returns-clause-texts c =
     let texts = map string_bytes c.self.inside.texts.keys in
     let unlisted : is_listed c.args.text.now texts ≡ false = rw c.self.view_is c.requires in
     let bytes : string_bytes c.in_ok-text.text ≡ c.args.text.now = c.in_ok-text.ensures.ok in
-    let pushed = map-insert_key c.in_ok-text.text c.self.inside.texts.keys c.insert_full.new.self.keys c.args.text.now c.in_ok-insert_full.ensures.keys bytes unlisted in
+    let pushed = map-insert_key c.in_ok-text.text c.self.inside.texts.keys c.insert_full.new.self.keys c.args.text.now
+    c.in_ok-insert_full.ensures.keys bytes unlisted in
     rw (← c.self.view_is) pushed
 
 pub returns-clause-dictionary : goal.returns-clause-dictionary

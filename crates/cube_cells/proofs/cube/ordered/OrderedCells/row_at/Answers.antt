@@ -13,8 +13,10 @@ key_in-requires c =
     let coded = c.index-coded.result.now in
     let cell_of : Coded → Key × Tally = λ p. (key_at p.dictionaries.now p.codes.now.codes, p.cell.now) in
     let long = length-map cells cell_of in
-    let inside : c.args.place < length cells = omega (arith, long, ap (λ (o : CellsInOrder). length o.cells) c.self.view_is, c.requires) in
-    rw (get_or_read cells c.args.place coded inside c.index-coded.ensures coded) (c.self.invariant c.args.place coded inside).0
+    let inside : c.args.place < length cells =
+    omega (arith, long, ap (λ (o : CellsInOrder). length o.cells) c.self.view_is, c.requires) in
+    rw (get_or_read cells c.args.place coded inside c.index-coded.ensures coded)
+    (c.self.invariant c.args.place coded inside).0
 
 pub row_of-requires : goal.row_of-requires
 row_of-requires c =
@@ -22,5 +24,7 @@ row_of-requires c =
     let coded = c.index-coded.result.now in
     let cell_of : Coded → Key × Tally = λ p. (key_at p.dictionaries.now p.codes.now.codes, p.cell.now) in
     let long = length-map cells cell_of in
-    let inside : c.args.place < length cells = omega (arith, long, ap (λ (o : CellsInOrder). length o.cells) c.self.view_is, c.requires) in
-    rw (get_or_read cells c.args.place coded inside c.index-coded.ensures coded) (c.self.invariant c.args.place coded inside).1
+    let inside : c.args.place < length cells =
+    omega (arith, long, ap (λ (o : CellsInOrder). length o.cells) c.self.view_is, c.requires) in
+    rw (get_or_read cells c.args.place coded inside c.index-coded.ensures coded)
+    (c.self.invariant c.args.place coded inside).1

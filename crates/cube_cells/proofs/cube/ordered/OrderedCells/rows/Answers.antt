@@ -14,4 +14,5 @@ loop-place-preserved c =
     let inside : i < length cells = omega arith in
     let unused : Key × Tally = (record { coords = [] }, record { facts = 0; bags = [] }) in
     rw (c.in_ok-push.ensures.items, take_more cells i unused inside)
-    (AllZip-push (IsRowOf aggregates) (take i cells) c.loop-place.rows.items (get_or cells i unused) c.in_ok-row_at.field-0 c.loop-place.invariant (c.in_ok-row_at.ensures unused))
+    (AllZip-push (IsRowOf aggregates) (take i cells) c.loop-place.rows.items
+    (get_or cells i unused) c.in_ok-row_at.field-0 c.loop-place.invariant (c.in_ok-row_at.ensures unused))

@@ -11,5 +11,8 @@ loop-set-preserved c =
     let i = c.loop-set.set-index in
     let layer = c.args.layer.now in
     let inside : i < length layer = omega (arith, c.loop-set-test.true) in
-    let is : IsMadeLevel c.args.measures c.args.finest.now c.args.levels.now (get_or layer i 0) c.in_ok-level_from.field-0 = c.in_ok-level_from.ensures in
-    rw c.in_ok-push.ensures.items (AreMadeLevels-more c.args.measures c.args.finest.now c.args.levels.now layer c.loop-set.made.items i c.in_ok-level_from.field-0 inside c.loop-set.invariant is)
+    let is :
+    IsMadeLevel c.args.measures c.args.finest.now c.args.levels.now (get_or layer i 0) c.in_ok-level_from.field-0 =
+    c.in_ok-level_from.ensures in
+    rw c.in_ok-push.ensures.items (AreMadeLevels-more c.args.measures c.args.finest.now c.args.levels.now layer
+    c.loop-set.made.items i c.in_ok-level_from.field-0 inside c.loop-set.invariant is)
