@@ -9,7 +9,9 @@ use Rattle.cube_engine.specs.Builder.{BuilderView, StandsAt}
 abbrev pub sale : Option (List ℕ) → List ℕ → ℤ → Fact
 sale city product cents = record { dims = city ∷ Some product ∷ []; measures = Some cents ∷ [] }
 
--- a builder takes a change as the item of this number, of source 1: where it stood at items before, it stands at these and that one
+-- a builder takes a change as the item of this number, of source 1:
+-- where it stood at items before, it stands at these and that one
 abbrev pub TakesChange : ℕ → Change → BuilderView → BuilderView → Type 0
 TakesChange number change old new =
-    (arrivals : Arrivals) → StandsAt old arrivals → StandsAt new (arrivals ++ (1, record { number = number; what = Ok change }) ∷ [])
+    (arrivals : Arrivals) → StandsAt old arrivals
+    → StandsAt new (arrivals ++ (1, record { number = number; what = Ok change }) ∷ [])
