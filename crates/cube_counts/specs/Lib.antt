@@ -1,4 +1,5 @@
 pub mod Bag
 pub mod Log
 pub mod Narrow
+pub mod Summary
 pub mod Values
