@@ -61,22 +61,24 @@ pub record AreMadeFrom (finer : CodedCells) (set measures : ℕ) (cells : CodedC
   pub fills : FillsSet set finer start cells
 
 -- levels are made one after another, each from a finer one: the finest, or one that is there
-abbrev pub MakesLevels : ℕ → Level → List ℕ → List Level → List Level → Type 0
-MakesLevels measures finest [] old new = new ≡ old
-MakesLevels measures finest (set ∷ sets) old new =
-    (finer : Level) × (level : Level) × Contains (finest ∷ old) finer × IsFiner finer.set set × (level.set ≡ set)
+abbrev pub MakesLevels : {N : Type 0} → ℕ → Level N → List ℕ → List (Level N) → List (Level N) → Type 0
+MakesLevels {N} measures finest [] old new = new ≡ old
+MakesLevels {N} measures finest (set ∷ sets) old new =
+    (finer : Level N) × (level : Level N) × Contains (finest ∷ old) finer × IsFiner finer.set set × (level.set ≡ set)
     × AreMadeFrom finer.cells.entries set measures level.cells.entries
     × MakesLevels measures finest sets (old ++ level ∷ []) new
 
 -- levels of these sets are made, in some order of them
-pub record MakesLevelsOf (measures : ℕ) (finest : Level) (sets : List ℕ) (levels : List Level) : Type 0 where
+pub record MakesLevelsOf {N : Type 0} (measures : ℕ) (finest : Level N) (sets : List ℕ)
+    (levels : List (Level N)) : Type 0 where
   pub order : List ℕ
   pub moved : IsPermutation sets order
   pub makes : MakesLevels measures finest order [] levels
 
 -- the level of a set is made from the finest or one that is there
-pub record IsMadeLevel (measures : ℕ) (finest : Level) (levels : List Level) (set : ℕ) (level : Level) : Type 0 where
-  pub finer : Level
+pub record IsMadeLevel {N : Type 0} (measures : ℕ) (finest : Level N) (levels : List (Level N)) (set : ℕ)
+    (level : Level N) : Type 0 where
+  pub finer : Level N
   pub there : Contains (finest ∷ levels) finer
   pub is_finer : IsFiner finer.set set
   pub set_is : level.set ≡ set
@@ -89,21 +91,24 @@ pub record AreMade {X : Type 0} (is : ℕ → X → Type 0) (number : ℕ) (made
   pub each : (i : ℕ) (unused : Result X AllocError) → i < number → IfOk (get_or made i unused) (is i)
 
 -- for each set of a layer a result: its level
-abbrev pub AreMadeLevels : ℕ → Level → List Level → List ℕ → List (Result Level AllocError) → Type 0
+abbrev pub AreMadeLevels : {N : Type 0} → ℕ → Level N → List (Level N) → List ℕ → List
+    (Result (Level N) AllocError) → Type 0
 AreMadeLevels measures finest levels layer =
     AreMade (λ i. IsMadeLevel measures finest levels (get_or layer i 0)) (length layer)
 
 -- each of these results is a level, and they were put behind others
-pub record ArePushed (results : List (Result Level AllocError)) (old new : List Level) : Type 0 where
-  pub levels : List Level
+pub record ArePushed {N : Type 0} (results : List (Result (Level N) AllocError))
+    (old new : List (Level N)) : Type 0 where
+  pub levels : List (Level N)
   pub are : map Ok levels ≡ results
   pub pushed : new ≡ old ++ levels
 
 -- these are the levels of the sets, in their order: the finest one where it is kept, and those made from it
-pub record AreFilled (finest : Level) (sets : List ℕ) (measures : ℕ) (levels : List Level) : Type 0 where
+pub record AreFilled {N : Type 0} (finest : Level N) (sets : List ℕ) (measures : ℕ)
+    (levels : List (Level N)) : Type 0 where
   pub keeps_finest : Bool
   pub coarser : List ℕ
-  pub made : List Level
+  pub made : List (Level N)
   pub coarser_are : sets ≡ coarser ++ (if keeps_finest then finest.set ∷ [] else [])
   pub makes : MakesLevelsOf measures finest coarser made
   pub moved : IsPermutation (made ++ (if keeps_finest then finest ∷ [] else [])) levels

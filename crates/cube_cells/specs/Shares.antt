@@ -1,6 +1,6 @@
 -- Filling the cells of the finest grouping set in shares:
 -- each dimension is coded by itself, and each share has the facts whose codes are its own (this project's choice).
-use Rattle.std.specs.Prelude.{◌≡◌, ◌<◌, ◌+◌, ◌-◌, ◌%◌, ◌==◌, ◌++◌, ℕ, suc, Bool, true, List, [], ◌∷◌, length, map}
+use Rattle.std.specs.Prelude.{◌≡◌, ◌<◌, ◌-◌, ◌%◌, ◌==◌, ◌++◌, ℕ, suc, Bool, true, List, [], ◌∷◌, length, map}
 use Rattle.std.specs.Prelude.{get_or, replicate, sum_by, Option, None, All, if◌then◌else◌}
 use Rattle.std.specs.List.Sorted.{IsPermutation}
 use Rattle.cube_core.specs.Layout.{IsSchema}
@@ -87,7 +87,7 @@ pub record HasShare (coded : CodedFacts) (of share : ℕ) (facts : List Fact) (c
   pub own : All (λ cell. share_of of cell.0 ≡ share) cells
 
 -- a level has the cells of a share
-abbrev pub IsShare : CodedFacts → ℕ → ℕ → Level → Type 0
+abbrev pub IsShare : {N : Type 0} → CodedFacts → ℕ → ℕ → Level N → Type 0
 IsShare coded of share level = HasShare coded of share (facts_coded coded) level.cells.entries
 
 -- cells of other codes are put to these
@@ -95,5 +95,5 @@ abbrev pub Joins : CodedCells → CodedCells → CodedCells → Type 0
 Joins more old new = AreApart (more ++ old) → IsPermutation (more ++ old) new
 
 -- these are the cells of levels, where their codes differ
-abbrev pub AreJoined : List Level → CodedCells → Type 0
+abbrev pub AreJoined : {N : Type 0} → List (Level N) → CodedCells → Type 0
 AreJoined levels cells = AreApart (cells_of levels) → IsPermutation (cells_of levels) cells

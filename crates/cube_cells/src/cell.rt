@@ -1,5 +1,5 @@
 //! The cell of a cube.
-ghost use Rattle.std.specs.Prelude.{◌≡◌, ◌<◌, ◌≤◌, ◌+◌, ◌^◌, [], ℕ, List, length, All, IsTrue, IfOk, OnOk, OnErr};
+ghost use Rattle.std.specs.Prelude.{◌≡◌, ◌<◌, ◌≤◌, ◌+◌, ◌^◌, [], ℕ, List, length, All, IsTrue, IfOk, IfErr, OnOk, OnErr, take};
 ghost use Rattle.std.specs.Option.{ForSome};
 ghost use Rattle.cube_core.specs.Answer.{IsAnswer};
 ghost use Rattle.cube_core.specs.Layout.{is_aggregate_of};
@@ -9,19 +9,21 @@ ghost use Rattle.cube_cells.specs.Tally.{IsTallyOf, AddsBags, AddsValues, PlusFa
 
 use crate::measure::Measure;
 use cube_core::{Agg, Answer};
+use cube_counts::{Counted, Numbers};
 use std::alloc::{AllocError, Global};
 use std::marker::Model;
 
 /// The tally of a group of facts: how many they are, and for each measure its values with their sum.
 ///
-/// A null is no value: it counts as a fact alone.
+/// A null is no value: it counts as a fact alone. How the values are kept is the parameter's: [`Counted`] keeps each of
+/// them, so that facts can be taken away too; [`Summary`](crate::Summary) keeps what the answers need alone.
 #[derive(Drop)]
-pub struct Cell {
+pub struct Cell<N: Numbers = Counted> {
     facts: u64,
-    measures: Vec<Measure>,
+    measures: Vec<Measure<N>>,
 }
 
-impl Model for Cell {
+impl<N: Numbers> Model for Cell<N> {
     ghost use Rattle.std.specs.Prelude.{◌≤◌, All};
     ghost use Rattle.cube_counts.specs.Bag.{size_of};
     ghost use Rattle.cube_cells.specs.Tally.{Tally};
@@ -39,17 +41,7 @@ impl Cell {
         ensures tally { IfOk result (IsTallyOf []) }
         ensures measures { IfOk result (λ cell. length cell.bags ≡ measures) }
     {
-        Ok(Cell {
-            facts: 0,
-            measures: empty_measures(alloc, measures)?,
-        })
-    }
-
-    /// How many facts the cell has.
-    pub fn count(&self) -> u64
-        ensures { result ≡ self.now.facts }
-    {
-        self.facts
+        Cell::empty(alloc, measures)
     }
 
     /// Adds a fact by its values, a value or null for each measure. Where memory is wanting, the cell counts what
@@ -64,35 +56,6 @@ impl Cell {
         add_values(&mut self.measures, values)?;
         self.facts += 1;
         Ok(())
-    }
-
-    /// A cell of the same facts. The only error is want of memory.
-    pub fn copy(&self, alloc: Global) -> Result<Cell, AllocError>
-        ensures { IfOk result (SameTally self.now) }
-    {
-        let facts = self.count();
-        let mut measures = empty_measures(alloc, self.measures.len())?;
-        merge_measures(&mut measures, &self.measures)?;
-        Ok(Cell { facts, measures })
-    }
-
-    /// Adds the facts of another cell. Where memory is wanting, the cell has lost some of its values.
-    pub fn merge(&mut self, more: &Cell) -> Result<(), AllocError>
-        requires width { length more.now.bags ≡ length self.old.bags }
-        requires fits { self.old.facts + more.now.facts < 2 ^ 64 }
-        ensures { OnOk result (PlusTally self.old self.new more.now) }
-    {
-        self.facts += more.facts;
-        merge_measures(&mut self.measures, &more.measures)
-    }
-
-    /// Gives back the room beyond the values of each measure, which a cell of one fact has none of. It takes no memory.
-    pub fn shrink_to_fit(&mut self)
-        ensures { self.new ≡ self.old }
-    {
-        if self.facts > 1 {
-            shrink_measures(&mut self.measures);
-        }
     }
 
     /// Whether the cell has a fact, and for each measure holds the value given; a null is held where some fact of
@@ -110,6 +73,70 @@ impl Cell {
     {
         take_values(&mut self.measures, values);
         self.facts -= 1;
+    }
+}
+
+impl<N: Numbers> Cell<N> {
+    /// The cell of no fact.
+    pub fn empty(alloc: Global, measures: usize) -> Result<Cell<N>, AllocError>
+        ensures tally { IfOk result (IsTallyOf []) }
+        ensures measures { IfOk result (λ cell. length cell.bags ≡ measures) }
+    {
+        Ok(Cell {
+            facts: 0,
+            measures: empty_measures(alloc, measures)?,
+        })
+    }
+
+    /// How many facts the cell has.
+    pub fn count(&self) -> u64
+        ensures { result ≡ self.now.facts }
+    {
+        self.facts
+    }
+
+    /// Adds a fact by its values, a value or null for each measure. Where memory is wanting, the cell has some of the
+    /// values too.
+    pub fn gather(&mut self, values: &[Option<i64>]) -> Result<(), AllocError>
+        requires width { length values.now ≡ length self.old.bags }
+        requires fits { self.old.facts + 1 < 2 ^ 64 }
+        ensures added { OnOk result (PlusFact values.now self.old self.new) }
+        ensures held { OnOk result (IsTrue (holds_fact self.new values.now)) }
+    {
+        self.facts += 1;
+        let Err(_) = gather_values(&mut self.measures, values) else {
+            return Ok(());
+        };
+        Err(AllocError)
+    }
+
+    /// A cell of the same facts. The only error is want of memory.
+    pub fn copy(&self, alloc: Global) -> Result<Cell<N>, AllocError>
+        ensures { IfOk result (SameTally self.now) }
+    {
+        let facts = self.count();
+        let mut measures = empty_measures(alloc, self.measures.len())?;
+        merge_measures(&mut measures, &self.measures)?;
+        Ok(Cell { facts, measures })
+    }
+
+    /// Adds the facts of another cell. Where memory is wanting, the cell has lost some of its values.
+    pub fn merge(&mut self, more: &Cell<N>) -> Result<(), AllocError>
+        requires width { length more.now.bags ≡ length self.old.bags }
+        requires fits { self.old.facts + more.now.facts < 2 ^ 64 }
+        ensures { OnOk result (PlusTally self.old self.new more.now) }
+    {
+        self.facts += more.facts;
+        merge_measures(&mut self.measures, &more.measures)
+    }
+
+    /// Gives back the room beyond the values of each measure, which a cell of one fact has none of. It takes no memory.
+    pub fn shrink_to_fit(&mut self)
+        ensures { self.new ≡ self.old }
+    {
+        if self.facts > 1 {
+            shrink_measures(&mut self.measures);
+        }
     }
 
     /// The answer of an aggregate over any facts that this is the tally of. `count`, `sum` and `avg` are kept;
@@ -129,7 +156,7 @@ impl Cell {
     }
 }
 
-fn empty_measures(alloc: Global, count: usize) -> Result<Vec<Measure>, AllocError>
+fn empty_measures<N: Numbers>(alloc: Global, count: usize) -> Result<Vec<Measure<N>>, AllocError>
     ensures length { IfOk result (λ measures. length measures.items ≡ count) }
     ensures empty { IfOk result (λ measures. All (λ bag. size_of bag ≡ 0) measures.items) }
 {
@@ -141,24 +168,44 @@ fn empty_measures(alloc: Global, count: usize) -> Result<Vec<Measure>, AllocErro
 }
 
 // Adds the values of a fact, or none of them.
-fn add_values(measures: &mut [Measure], values: &[Option<i64>]) -> Result<(), AllocError>
+fn add_values(measures: &mut [Measure<Counted>], values: &[Option<i64>]) -> Result<(), AllocError>
     requires width { length values.now ≡ length measures.old }
     requires fits { All (λ bag. size_of bag + 1 < 2 ^ 64) measures.old }
     ensures added { OnOk result (AddsValues measures.old measures.new values.now) }
     ensures err { OnErr result (SameBags measures.old measures.new) }
 {
+    let Err(added) = gather_values(measures, values) else {
+        return Ok(());
+    };
+    take_values(measures, &values[..added]);
+    Err(AllocError)
+}
+
+// Adds the values of a fact. Where memory is wanting, the error is how many of them were added, from the first.
+fn gather_values<N: Numbers>(
+    measures: &mut [Measure<N>],
+    values: &[Option<i64>],
+) -> Result<(), usize>
+    requires width { length values.now ≡ length measures.old }
+    requires fits { All (λ bag. size_of bag + 1 < 2 ^ 64) measures.old }
+    ensures added { OnOk result (AddsValues measures.old measures.new values.now) }
+    ensures within { IfErr result (λ added. added ≤ length values.now) }
+    ensures some { IfErr result (λ added. AddsValues measures.old measures.new (take added values.now)) }
+{
     for (place, value) in values.iter().enumerate() {
         let measure = &mut measures[place];
-        if let Err(error) = measure.plus(*value) {
-            take_values(measures, &values[..place]);
-            return Err(error);
-        }
+        let Ok(()) = measure.plus(*value) else {
+            return Err(place);
+        };
     }
     Ok(())
 }
 
 // Adds the values of other measures.
-fn merge_measures(measures: &mut [Measure], more: &[Measure]) -> Result<(), AllocError>
+fn merge_measures<N: Numbers>(
+    measures: &mut [Measure<N>],
+    more: &[Measure<N>],
+) -> Result<(), AllocError>
     requires width { length more.now ≡ length measures.old }
     requires fits { (m : ℕ) → size_of (bag_at measures.old m) + size_of (bag_at more.now m) < 2 ^ 64 }
     ensures merged { OnOk result (AddsBags measures.old measures.new more.now) }
@@ -173,7 +220,7 @@ fn merge_measures(measures: &mut [Measure], more: &[Measure]) -> Result<(), Allo
     Ok(())
 }
 
-fn shrink_measures(measures: &mut [Measure])
+fn shrink_measures<N: Numbers>(measures: &mut [Measure<N>])
     ensures { measures.new ≡ measures.old }
 {
     for measure in measures.iter_mut() {
@@ -182,7 +229,7 @@ fn shrink_measures(measures: &mut [Measure])
 }
 
 // Takes the values of a fact away.
-fn take_values(measures: &mut [Measure], values: &[Option<i64>])
+fn take_values(measures: &mut [Measure<Counted>], values: &[Option<i64>])
     requires width { length values.now ≤ length measures.old }
     requires held { (m : ℕ) → ForSome (value_at values.now m) (λ v. 0 < held_of (bag_at measures.old m) v) }
     ensures { AddsValues measures.new measures.old values.now }
@@ -193,7 +240,7 @@ fn take_values(measures: &mut [Measure], values: &[Option<i64>])
     }
 }
 
-fn hold_values(measures: &[Measure], values: &[Option<i64>], facts: u64) -> bool
+fn hold_values(measures: &[Measure<Counted>], values: &[Option<i64>], facts: u64) -> bool
     ensures { result ≡ hold_values facts measures.now values.now }
 {
     let Some((measure, other_measures)) = measures.split_first() else {

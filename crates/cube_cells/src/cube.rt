@@ -27,6 +27,7 @@ mod workers;
 use crate::cell::Cell;
 use codes::{ALL, Codes};
 use cube_core::{Coord, DimensionValues, Fact, HashKey, Key, Schema};
+use cube_counts::{Counted, Numbers};
 use dictionary::Dictionary;
 pub use keyed::KeyedCell;
 use levels::{Level, new_levels};
@@ -40,18 +41,19 @@ use walk::{add_to_sets, find_cell, hold_in_sets, take_from_sets};
 ///
 /// Each kept set has a table of its own, in which each of its cells is found in one hashed look-up. A text gets a code
 /// at the first `add` of a fact that has it, and keeps it. Where an `add` finds no memory, the cells count what they
-/// counted.
+/// counted. How the numbers of cells are kept is the parameter's: [`Counted`] keeps each, so that facts can be removed;
+/// [`Summary`](crate::Summary) keeps what the answers need alone, and cubes of it are filled and sorted by several threads.
 #[derive(Drop)]
-pub struct Cube {
+pub struct Cube<N: Numbers = Counted> {
     schema: Schema,
     sets: Vec<u8>,
     facts: u64,
     dictionaries: Vec<Dictionary>,
-    levels: Vec<Level>,
+    levels: Vec<Level<N>>,
     alloc: Global,
 }
 
-impl Model for Cube {
+impl<N: Numbers> Model for Cube<N> {
     ghost use Rattle.cube_cells.specs.Cube.{Lattice};
     ghost use Rattle.cube_cells.specs.Coded.{lattice_of};
     ghost use Rattle.cube_cells.specs.Levels.{IsLeveled, cells_of};
@@ -82,28 +84,7 @@ impl Cube {
             (IsNewLattice schema.now (sets_of_part part of schema.now.grouping_sets)) }
         ensures cube { IfOk result (λ cube. IsCubeOf cube []) }
     {
-        let schema = schema.copy(alloc)?;
-        let sets = kept_sets(alloc, &schema, part, of)?;
-        Cube::over(alloc, schema, sets)
-    }
-
-    // The cube of no fact over these grouping sets.
-    fn over(alloc: Global, schema: Schema, sets: Vec<u8>) -> Result<Cube, AllocError>
-        requires within { All (λ set. set < 2 ^ length schema.dimensions) sets.items }
-        requires ascending { IsStrictlySortedBy nat_cmp sets.items }
-        ensures new { IfOk result (IsNewLattice schema sets.items) }
-        ensures cube { IfOk result (λ cube. IsCubeOf cube []) }
-    {
-        let dictionaries = new_dictionaries(alloc, schema.hash_key(), schema.dimensions().len())?;
-        let levels = new_levels(alloc, schema.measures().len(), &sets)?;
-        Ok(Cube {
-            schema,
-            sets,
-            facts: 0,
-            dictionaries,
-            levels,
-            alloc,
-        })
+        Cube::of_part(alloc, schema, part, of)
     }
 
     /// Adds a fact that fits, to each cell of a kept set that covers it.
@@ -156,6 +137,46 @@ impl Cube {
         take_from_sets(&mut self.levels, number, &codes, fact.measures.as_slice());
         self.facts -= 1;
     }
+}
+
+impl<N: Numbers> Cube<N> {
+    /// The cube of no fact over the grouping sets of a part of the schema's: those of which the mask and its whole
+    /// quotient by `of`, added, are `part` modulo `of` (this project's choice). The grand total is in part 0.
+    pub fn of_part(
+        alloc: Global,
+        schema: &Schema,
+        part: u32,
+        of: u32,
+    ) -> Result<Cube<N>, AllocError>
+        requires parts { of ≤ 8 }
+        requires part { part < of }
+        ensures new { IfOk result
+            (IsNewLattice schema.now (sets_of_part part of schema.now.grouping_sets)) }
+        ensures cube { IfOk result (λ cube. IsCubeOf cube []) }
+    {
+        let schema = schema.copy(alloc)?;
+        let sets = kept_sets(alloc, &schema, part, of)?;
+        Cube::over(alloc, schema, sets)
+    }
+
+    // The cube of no fact over these grouping sets.
+    fn over(alloc: Global, schema: Schema, sets: Vec<u8>) -> Result<Cube<N>, AllocError>
+        requires within { All (λ set. set < 2 ^ length schema.dimensions) sets.items }
+        requires ascending { IsStrictlySortedBy nat_cmp sets.items }
+        ensures new { IfOk result (IsNewLattice schema sets.items) }
+        ensures cube { IfOk result (λ cube. IsCubeOf cube []) }
+    {
+        let dictionaries = new_dictionaries(alloc, schema.hash_key(), schema.dimensions().len())?;
+        let levels = new_levels(alloc, schema.measures().len(), &sets)?;
+        Ok(Cube {
+            schema,
+            sets,
+            facts: 0,
+            dictionaries,
+            levels,
+            alloc,
+        })
+    }
 
     /// How many facts there are: those added, less those removed. The counts of the cells of each kept set add up
     /// to it.
@@ -175,7 +196,7 @@ impl Cube {
     }
 
     /// The cell of a key, `None` where it is none. It takes no memory.
-    pub fn get(&self, key: &Key) -> Option<&Cell>
+    pub fn get(&self, key: &Key) -> Option<&Cell<N>>
         ensures cell { option_map (λ cell. cell.now) result ≡ cell_at self.now.cells key.now }
         ensures width { IfSome result (λ cell. length cell.now.bags ≡ length self.now.schema.measures) }
     {

@@ -1,6 +1,7 @@
 //! The cells of a data cube.
 //!
-//! [`Counted`] is a multiset of numbers, which makes the least and the greatest value right under deletes.
+//! [`Counted`] is a multiset of numbers, which makes the least and the greatest value right under deletes; [`Summary`] keeps
+//! these two and the size alone, and [`Numbers`] is what both have in common.
 //! [`Cell`] is the tally of a group of facts, which answers every aggregate of them.
 //! [`Cube`] is the cells of all kept grouping sets, kept right under adds and removes.
 //! [`OrderedCells`] are its cells in key order, each a [`KeyedCell`].
@@ -14,4 +15,4 @@ mod measure;
 pub use cell::Cell;
 pub use cube::{Cube, KeyedCell, OrderedCells, row_of};
 pub use cube_core::{CoordRef, reduced};
-pub use cube_counts::Counted;
+pub use cube_counts::{Counted, Numbers, Summary};

@@ -8,37 +8,37 @@ ghost use Rattle.cube_counts.specs.Bag.{AddsBag, size_of, held_of};
 ghost use Rattle.cube_cells.specs.Tally.{AddsValue, IsBagOf, holds_value};
 
 use cube_core::{Answer, reduced};
-use cube_counts::Counted;
+use cube_counts::{Counted, Numbers};
 use std::alloc::{AllocError, Global};
 use std::marker::Model;
 
 /// The values of one measure, nulls left out, with their sum.
 #[derive(Drop)]
-pub struct Measure {
+pub struct Measure<N: Numbers = Counted> {
     sum: i128,
-    values: Counted,
+    values: N,
 }
 
-impl Model for Measure {
+impl<N: Numbers> Model for Measure<N> {
     ghost use Rattle.cube_counts.specs.Bag.{Bag};
     ghost use Rattle.cube_cells.specs.Sum.{IsSumOf};
 
     ghost Value = { Bag };
 
-    ghost view = { λ m. m.values };
+    ghost view = { λ m. N.bag m.values };
 
-    ghost invariant = { λ m. IsSumOf m.values m.sum };
+    ghost invariant = { λ m. IsSumOf (N.bag m.values) m.sum };
 }
 
-impl Measure {
+impl<N: Numbers> Measure<N> {
     /// No value; it takes no memory.
-    pub fn new(alloc: Global) -> Measure
+    pub fn new(alloc: Global) -> Measure<N>
         ensures held { (x : ℤ) → held_of result x ≡ 0 }
         ensures size { size_of result ≡ 0 }
     {
         Measure {
             sum: 0,
-            values: Counted::new(alloc),
+            values: N::new(alloc),
         }
     }
 
@@ -56,7 +56,7 @@ impl Measure {
     }
 
     /// Adds the values of another measure. Where memory is wanting, no value is left.
-    pub fn merge(&mut self, more: &Measure) -> Result<(), AllocError>
+    pub fn merge(&mut self, more: &Measure<N>) -> Result<(), AllocError>
         requires { size_of self.old + size_of more.now < 2 ^ 64 }
         ensures merged { OnOk result (AddsBag self.old self.new more.now) }
         ensures err { OnErr result (size_of self.new ≡ 0) }
@@ -74,27 +74,6 @@ impl Measure {
         ensures { self.new ≡ self.old }
     {
         self.values.shrink_to_fit();
-    }
-
-    /// Takes a value away; a null changes nothing. Where memory is wanting, it does without.
-    pub fn minus(&mut self, value: Option<i64>)
-        requires { ForSome value (λ v. 0 < held_of self.old v) }
-        ensures { AddsValue self.new self.old value }
-    {
-        if let Some(value) = value {
-            self.values.take(value);
-            self.sum = sum_without(self.sum, value);
-        }
-    }
-
-    /// Whether the value is held; a null is, where there are more facts than values.
-    pub fn holds(&self, value: Option<i64>, facts: u64) -> bool
-        ensures { result ≡ holds_value facts self.now value }
-    {
-        match value {
-            Some(value) => self.values.holds(value),
-            None => self.values.len() < facts,
-        }
     }
 
     /// How many values there are.
@@ -138,6 +117,29 @@ impl Measure {
         }
         let (p, q) = reduced(self.sum, self.values.len());
         Answer::Ratio { p, q }
+    }
+}
+
+impl Measure {
+    /// Takes a value away; a null changes nothing. Where memory is wanting, it does without.
+    pub fn minus(&mut self, value: Option<i64>)
+        requires { ForSome value (λ v. 0 < held_of self.old v) }
+        ensures { AddsValue self.new self.old value }
+    {
+        if let Some(value) = value {
+            self.values.take(value);
+            self.sum = sum_without(self.sum, value);
+        }
+    }
+
+    /// Whether the value is held; a null is, where there are more facts than values.
+    pub fn holds(&self, value: Option<i64>, facts: u64) -> bool
+        ensures { result ≡ holds_value facts self.now value }
+    {
+        match value {
+            Some(value) => self.values.holds(value),
+            None => self.values.len() < facts,
+        }
     }
 }
 

@@ -73,7 +73,7 @@ impl Dictionary {
 
     /// How the coordinate of a code stands to that of a code of another dictionary: texts by their bytes, then null,
     /// then ALL.
-    #[tactic(auto, using(crate::proofs::TextLaws::compared_high, crate::proofs::TextLaws::compared_texts))]
+    #[tactic(auto, using(crate::proofs::Codes::TextLaws::compared_high, crate::proofs::Codes::TextLaws::compared_texts))]
     pub fn compare(&self, left: u32, other: &Dictionary, right: u32) -> Ordering
         ensures { result ≡ coord_cmp (coord_at self.now left) (coord_at other.now right) }
     {
@@ -109,7 +109,7 @@ impl Dictionary {
     }
 
     /// The code of a value or of null.
-    #[tactic(auto, using(crate::proofs::DictionaryLaws::code_of_null))]
+    #[tactic(auto, using(crate::proofs::Codes::DictionaryLaws::code_of_null))]
     pub fn code_of_value(&self, value: Option<&str>) -> u32
         ensures { IsCodeOf self.now
             (coord_of_value (option_map (λ text. text.now) value.entry)) result }
@@ -122,7 +122,7 @@ impl Dictionary {
     }
 
     /// The code of a coordinate.
-    #[tactic(auto, using(crate::proofs::DictionaryLaws::code_of_null, crate::proofs::DictionaryLaws::code_of_all))]
+    #[tactic(auto, using(crate::proofs::Codes::DictionaryLaws::code_of_null, crate::proofs::Codes::DictionaryLaws::code_of_all))]
     pub fn code_of_coord(&self, coord: &Coord) -> u32
         ensures { IsCodeOf self.now coord.now result }
     {
@@ -185,7 +185,7 @@ impl Dictionary {
 }
 
 /// How the keys of codes stand to each other, dimension by dimension, each by its own dictionaries.
-#[tactic(auto, using(crate::proofs::TextLaws::first_coord))]
+#[tactic(auto, using(crate::proofs::Codes::TextLaws::first_coord))]
 pub fn compare_keys(
     dictionaries: &[Dictionary],
     left: &[u32],

@@ -15,14 +15,15 @@ use super::codes::Codes;
 use super::levels::{Level, new_cells};
 use super::workers::{Alone, Several, Workers};
 use crate::cell::Cell;
+use cube_counts::{Numbers, Summary};
 use std::alloc::{AllocError, Global};
 use std::collections::HashMap;
 use std::thread::Threads;
 
-impl Cube {
+impl<N: Numbers> Cube<N> {
     /// The cube of no fact over the finest grouping set alone, that of all dimensions, with the same schema. The
     /// only error is want of memory.
-    pub fn finest(&self) -> Result<Cube, AllocError>
+    pub fn finest(&self) -> Result<Cube<N>, AllocError>
         ensures new { IfOk result (IsNewLattice self.now.schema
             (finest_set (length self.now.schema.dimensions) ∷ [])) }
         ensures cube { IfOk result (λ cube. IsCubeOf cube []) }
@@ -37,7 +38,7 @@ impl Cube {
     /// no text that has none there.
     ///
     /// Where memory is wanting, or numbers to count the facts with, it stays as it was.
-    pub fn fill(&mut self, finest: Cube) -> Result<(), AllocError>
+    pub fn fill(&mut self, finest: Cube<N>) -> Result<(), AllocError>
         requires schema { finest.schema ≡ self.old.schema }
         requires sets { finest.sets ≡ finest_set (length finest.schema.dimensions) ∷ [] }
         requires facts { (facts : List Fact) × IsCubeOfAll facts finest }
@@ -50,31 +51,8 @@ impl Cube {
         self.fill_by(&Alone, finest)
     }
 
-    /// Fills the cube as [`Cube::fill`] does, by as many threads as this says: sets of as many dimensions are made side
-    /// by side. With one thread, or none, no thread is started.
-    pub fn fill_with<T: Threads + Sync>(
-        &mut self,
-        rt: &T,
-        threads: usize,
-        finest: Cube,
-    ) -> Result<(), AllocError>
-        requires schema { finest.schema ≡ self.old.schema }
-        requires sets { finest.sets ≡ finest_set (length finest.schema.dimensions) ∷ [] }
-        requires facts { (facts : List Fact) × IsCubeOfAll facts finest }
-        ensures same { OnOk result (SameSets self.old self.new) }
-        ensures texts { OnOk result (self.new.dictionaries ≡ finest.dictionaries) }
-        ensures facts { OnOk result
-            ((facts : List Fact) → IsCubeOfAll facts finest → IsCubeOfAll facts self.new) }
-        ensures err { OnErr result (self.new ≡ self.old) }
-    {
-        if threads < 2 {
-            return self.fill(finest);
-        }
-        self.fill_by(&Several { rt, threads }, finest)
-    }
-
     // Fills the cube by these workers.
-    fn fill_by<W: Workers>(&mut self, workers: &W, finest: Cube) -> Result<(), AllocError>
+    fn fill_by<W: Workers<N>>(&mut self, workers: &W, finest: Cube<N>) -> Result<(), AllocError>
         requires shared { W.is_shared workers.now }
         requires schema { finest.schema ≡ self.old.schema }
         requires sets { finest.sets ≡ finest_set (length finest.schema.dimensions) ∷ [] }
@@ -101,6 +79,31 @@ impl Cube {
     }
 }
 
+impl Cube<Summary> {
+    /// Fills the cube as [`Cube::fill`] does, by as many threads as this says: sets of as many dimensions are made side
+    /// by side. With one thread, or none, no thread is started.
+    pub fn fill_with<T: Threads + Sync>(
+        &mut self,
+        rt: &T,
+        threads: usize,
+        finest: Cube<Summary>,
+    ) -> Result<(), AllocError>
+        requires schema { finest.schema ≡ self.old.schema }
+        requires sets { finest.sets ≡ finest_set (length finest.schema.dimensions) ∷ [] }
+        requires facts { (facts : List Fact) × IsCubeOfAll facts finest }
+        ensures same { OnOk result (SameSets self.old self.new) }
+        ensures texts { OnOk result (self.new.dictionaries ≡ finest.dictionaries) }
+        ensures facts { OnOk result
+            ((facts : List Fact) → IsCubeOfAll facts finest → IsCubeOfAll facts self.new) }
+        ensures err { OnErr result (self.new ≡ self.old) }
+    {
+        if threads < 2 {
+            return self.fill(finest);
+        }
+        self.fill_by(&Several { rt, threads }, finest)
+    }
+}
+
 // The grouping set of all of so many dimensions.
 pub(super) fn finest_of(dimensions: usize) -> u8
     requires { dimensions ≤ 8 }
@@ -110,13 +113,13 @@ pub(super) fn finest_of(dimensions: usize) -> u8
 }
 
 // The levels of the sets, made from the finest one.
-fn filled_levels<W: Workers>(
+fn filled_levels<W: Workers<N>, N: Numbers>(
     workers: &W,
     alloc: Global,
-    finest: Level,
+    finest: Level<N>,
     sets: &[u8],
     measures: usize,
-) -> Result<Vec<Level>, AllocError>
+) -> Result<Vec<Level<N>>, AllocError>
     requires shared { W.is_shared workers.now }
     requires width { All (λ cell. length cell.1.bags ≡ measures) finest.cells.entries }
     requires within { All (λ set. bit_and finest.set set ≡ set) sets.now }
@@ -137,7 +140,7 @@ fn filled_levels<W: Workers>(
 }
 
 // The levels in the order of their sets.
-fn in_order(levels: Vec<Level>) -> Vec<Level>
+fn in_order<N: Numbers>(levels: Vec<Level<N>>) -> Vec<Level<N>>
     ensures same { IsPermutation levels.items result.items }
     ensures order { IsNonDecreasingBy (λ level. level.set) result.items }
 {
@@ -148,13 +151,13 @@ fn in_order(levels: Vec<Level>) -> Vec<Level>
 
 // The levels of grouping sets that the finest one is finer than, layer after layer: those of a layer have the same
 // number of dimensions, and are made from those of the layers before.
-fn levels_from<W: Workers>(
+fn levels_from<W: Workers<N>, N: Numbers>(
     workers: &W,
     alloc: Global,
-    finest: &Level,
+    finest: &Level<N>,
     sets: &[u8],
     measures: usize,
-) -> Result<Vec<Level>, AllocError>
+) -> Result<Vec<Level<N>>, AllocError>
     requires shared { W.is_shared workers.now }
     requires width { All (λ cell. length cell.1.bags ≡ measures) finest.now.cells.entries }
     requires finer { All (IsFiner finest.now.set) sets.now }
@@ -199,13 +202,13 @@ fn end_of_layer(order: &[u8], from: usize) -> usize
 }
 
 /// The level of a set, made from one of those that are finer.
-pub fn level_from(
+pub fn level_from<N: Numbers>(
     alloc: Global,
-    finest: &Level,
-    levels: &[Level],
+    finest: &Level<N>,
+    levels: &[Level<N>],
     set: u8,
     measures: usize,
-) -> Result<Level, AllocError>
+) -> Result<Level<N>, AllocError>
     requires finer { IsFiner finest.now.set set }
     requires first { All (λ cell. length cell.1.bags ≡ measures) finest.now.cells.entries }
     requires widths { All (λ level. All (λ cell. length cell.1.bags ≡ measures) level.cells.entries) levels.now }
@@ -217,9 +220,9 @@ pub fn level_from(
 }
 
 // Puts the levels at the end, if each of them was made.
-pub(super) fn push_levels(
-    levels: &mut Vec<Level>,
-    made: Vec<Result<Level, AllocError>>,
+pub(super) fn push_levels<N: Numbers>(
+    levels: &mut Vec<Level<N>>,
+    made: Vec<Result<Level<N>, AllocError>>,
 ) -> Result<(), AllocError>
     ensures { OnOk result (ArePushed made.items levels.old.items levels.new.items) }
 {
@@ -230,7 +233,11 @@ pub(super) fn push_levels(
 }
 
 // One of the levels that are finer than a set; which one is a matter of speed alone.
-fn smallest_finer<'a>(finest: &'a Level, levels: &'a [Level], set: u8) -> &'a Level
+fn smallest_finer<'a, N: Numbers>(
+    finest: &'a Level<N>,
+    levels: &'a [Level<N>],
+    set: u8,
+) -> &'a Level<N>
     requires { IsFiner finest.now.set set }
     ensures made { Contains (finest.now ∷ levels.now) result.now }
     ensures finer { IsFiner result.now.set set }
@@ -252,12 +259,12 @@ fn is_finer(finer: u8, set: u8) -> bool
 }
 
 // The cells of a set, made from those of a finer one.
-fn cells_from(
+fn cells_from<N: Numbers>(
     alloc: Global,
-    finer: &HashMap<Codes, Cell>,
+    finer: &HashMap<Codes, Cell<N>>,
     set: u8,
     measures: usize,
-) -> Result<HashMap<Codes, Cell>, AllocError>
+) -> Result<HashMap<Codes, Cell<N>>, AllocError>
     requires { All (λ cell. length cell.1.bags ≡ measures) finer.now.entries }
     ensures made { IfOk result (λ cells.
         AreMadeFrom finer.now.entries set measures cells.entries) }
@@ -271,7 +278,7 @@ fn cells_from(
 }
 
 // Gives back the room beyond the values of each cell.
-fn shrink_cells(cells: &mut HashMap<Codes, Cell>)
+fn shrink_cells<N: Numbers>(cells: &mut HashMap<Codes, Cell<N>>)
     ensures { cells.new.entries ≡ cells.old.entries }
 {
     cells.retain(|_, cell| {
@@ -281,10 +288,10 @@ fn shrink_cells(cells: &mut HashMap<Codes, Cell>)
 }
 
 // Merges the cells of a finer set into those of a set.
-fn fill_set(
+fn fill_set<N: Numbers>(
     alloc: Global,
-    cells: &mut HashMap<Codes, Cell>,
-    finer: &HashMap<Codes, Cell>,
+    cells: &mut HashMap<Codes, Cell<N>>,
+    finer: &HashMap<Codes, Cell<N>>,
     set: u8,
 ) -> Result<(), AllocError>
     requires { HaveOneWidth finer.now.entries cells.old.entries }
@@ -297,11 +304,11 @@ fn fill_set(
 }
 
 // Merges a cell into that of a key, which is made where there is none.
-fn merge_at(
+fn merge_at<N: Numbers>(
     alloc: Global,
-    cells: &mut HashMap<Codes, Cell>,
+    cells: &mut HashMap<Codes, Cell<N>>,
     codes: Codes,
-    more: &Cell,
+    more: &Cell<N>,
 ) -> Result<(), AllocError>
     requires { IfSome (coded_at cells.old.entries codes)
         (λ t. length t.bags ≡ length more.now.bags) }
@@ -316,11 +323,11 @@ fn merge_at(
 }
 
 // Puts a copy of a cell in.
-fn put_copy(
+fn put_copy<N: Numbers>(
     alloc: Global,
-    cells: &mut HashMap<Codes, Cell>,
+    cells: &mut HashMap<Codes, Cell<N>>,
     codes: Codes,
-    more: &Cell,
+    more: &Cell<N>,
 ) -> Result<(), AllocError>
     requires { coded_at cells.old.entries codes ≡ None }
     ensures merges { OnOk result
@@ -333,7 +340,7 @@ fn put_copy(
 }
 
 // Merges a cell, unless its facts couldn't be counted.
-fn merge_counted(cell: &mut Cell, more: &Cell) -> Result<(), AllocError>
+fn merge_counted<N: Numbers>(cell: &mut Cell<N>, more: &Cell<N>) -> Result<(), AllocError>
     requires { length more.now.bags ≡ length cell.old.bags }
     ensures { OnOk result (PlusTally cell.old cell.new more.now) }
 {

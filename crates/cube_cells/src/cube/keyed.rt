@@ -12,17 +12,18 @@ use super::codes::Codes;
 use super::dictionary::Dictionary;
 use crate::cell::Cell;
 use cube_core::{Agg, Answer, CoordRef};
+use cube_counts::{Counted, Numbers};
 use std::marker::Model;
 
 /// A cell and its key. No text is copied, and no answer is kept.
 #[derive(Drop)]
-pub struct KeyedCell<'c> {
+pub struct KeyedCell<'c, N: Numbers = Counted> {
     pub(super) dictionaries: &'c [Dictionary],
     pub(super) codes: &'c Codes,
-    pub(super) cell: &'c Cell,
+    pub(super) cell: &'c Cell<N>,
 }
 
-impl<'c> Model for KeyedCell<'c> {
+impl<'c, N: Numbers> Model for KeyedCell<'c, N> {
     ghost use Rattle.std.specs.Prelude.{◌≤◌, length};
     ghost use Rattle.cube_core.specs.declared.key.Key.{Key};
     ghost use Rattle.cube_cells.specs.Codes.{key_at};
@@ -35,7 +36,7 @@ impl<'c> Model for KeyedCell<'c> {
     ghost invariant = { λ k. length k.dictionaries.now ≤ 8 };
 }
 
-impl<'c> KeyedCell<'c> {
+impl<'c, N: Numbers> KeyedCell<'c, N> {
     /// How many coordinates the key has.
     pub fn dimensions(&self) -> usize
         ensures { result ≡ length self.now.0.coords }

@@ -6,18 +6,23 @@ ghost use Rattle.cube_cells.specs.Levels.{IsNewLevel};
 
 use super::codes::Codes;
 use crate::cell::Cell;
+use cube_counts::{Counted, Numbers};
 use std::alloc::{AllocError, Global};
 use std::collections::HashMap;
 
 /// A grouping set with its cells.
 #[derive(Drop)]
-pub struct Level {
+pub struct Level<N: Numbers = Counted> {
     pub set: u8,
-    pub cells: HashMap<Codes, Cell>,
+    pub cells: HashMap<Codes, Cell<N>>,
 }
 
 /// The levels of these sets over no fact.
-pub fn new_levels(alloc: Global, measures: usize, sets: &[u8]) -> Result<Vec<Level>, AllocError>
+pub fn new_levels<N: Numbers>(
+    alloc: Global,
+    measures: usize,
+    sets: &[u8],
+) -> Result<Vec<Level<N>>, AllocError>
     ensures { IfOk result (λ levels. AllZip (IsNewLevel measures) sets.now levels.items) }
 {
     let mut levels = Vec::with_capacity(alloc, sets.len())?;
@@ -29,7 +34,7 @@ pub fn new_levels(alloc: Global, measures: usize, sets: &[u8]) -> Result<Vec<Lev
 }
 
 /// The level of one set alone.
-pub fn one_level(alloc: Global, level: Level) -> Result<Vec<Level>, AllocError>
+pub fn one_level<N: Numbers>(alloc: Global, level: Level<N>) -> Result<Vec<Level<N>>, AllocError>
     ensures { IfOk result (λ levels. levels.items ≡ level ∷ []) }
 {
     let mut levels = Vec::with_capacity(alloc, 1)?;
@@ -38,11 +43,11 @@ pub fn one_level(alloc: Global, level: Level) -> Result<Vec<Level>, AllocError>
 }
 
 /// The cells of no fact: the grand total, where its set is kept.
-pub fn new_cells(
+pub fn new_cells<N: Numbers>(
     alloc: Global,
     measures: usize,
     has_total: bool,
-) -> Result<HashMap<Codes, Cell>, AllocError>
+) -> Result<HashMap<Codes, Cell<N>>, AllocError>
     ensures { IfOk result (λ cells. AreNewCells has_total measures cells.entries) }
 {
     if has_total {
@@ -53,10 +58,13 @@ pub fn new_cells(
 }
 
 // The cell of the grand total over no facts.
-fn total_cells(alloc: Global, measures: usize) -> Result<HashMap<Codes, Cell>, AllocError>
+fn total_cells<N: Numbers>(
+    alloc: Global,
+    measures: usize,
+) -> Result<HashMap<Codes, Cell<N>>, AllocError>
     ensures { IfOk result (λ cells. AreNewCells true measures cells.entries) }
 {
     let mut cells = HashMap::new(alloc);
-    cells.insert(Codes::total(), Cell::new(alloc, measures)?)?;
+    cells.insert(Codes::total(), Cell::empty(alloc, measures)?)?;
     Ok(cells)
 }

@@ -16,36 +16,37 @@ use super::dictionary::{Dictionary, compare_keys};
 use super::keyed::KeyedCell;
 use crate::cell::Cell;
 use cube_core::{Agg, Key, Row, Sequence};
+use cube_counts::{Counted, Numbers};
 use std::alloc::{AllocError, Global};
 use std::marker::Model;
 
 /// Where a row comes from: a cell, and the ranks of its key.
 #[derive(Drop)]
-pub struct Place<'c> {
+pub struct Place<'c, N: Numbers = Counted> {
     pub ranks: [u32; 8],
     pub codes: &'c Codes,
-    pub cell: &'c Cell,
+    pub cell: &'c Cell<N>,
 }
 
 // A cell, and the codes of its key by these dictionaries.
 #[derive(Drop)]
-struct Coded<'c> {
+struct Coded<'c, N: Numbers> {
     dictionaries: &'c [Dictionary],
     codes: &'c Codes,
-    cell: &'c Cell,
+    cell: &'c Cell<N>,
 }
 
 /// Cells of a cube, or of several, in the order of their keys, with the aggregates that their rows answer.
 ///
 /// It holds no row: each cell and its key are read where they lie.
 #[derive(Drop)]
-pub struct OrderedCells<'c> {
+pub struct OrderedCells<'c, N: Numbers = Counted> {
     alloc: Global,
     aggregates: &'c [Agg],
-    cells: Vec<Coded<'c>>,
+    cells: Vec<Coded<'c, N>>,
 }
 
-impl<'c> Model for OrderedCells<'c> {
+impl<'c, N: Numbers> Model for OrderedCells<'c, N> {
     ghost use Rattle.std.specs.Prelude.{[], ◌≡◌, ◌≤◌, true, All, length, map};
     ghost use Rattle.std.specs.List.{list_all};
     ghost use Rattle.cube_core.specs.Layout.{is_aggregate_of};
@@ -64,14 +65,14 @@ impl<'c> Model for OrderedCells<'c> {
         × (list_all (is_aggregate_of (length coded.cell.now.bags)) o.aggregates.now ≡ true)) o.cells.items };
 }
 
-impl<'c> OrderedCells<'c> {
+impl<'c, N: Numbers> OrderedCells<'c, N> {
     /// The cells of these places. The only error is want of memory.
     pub(super) fn of(
         alloc: Global,
         aggregates: &'c [Agg],
         dictionaries: &'c [Dictionary],
-        places: &[Place<'c>],
-    ) -> Result<OrderedCells<'c>, AllocError>
+        places: &[Place<'c, N>],
+    ) -> Result<OrderedCells<'c, N>, AllocError>
         requires dictionaries { length dictionaries.now ≤ 8 }
         requires aggregates { All (λ place. list_all
             (is_aggregate_of (length place.cell.now.bags)) aggregates.now ≡ true) places.now }
@@ -88,7 +89,7 @@ impl<'c> OrderedCells<'c> {
     }
 
     /// Puts the cells of another cube after these, to be sorted with them. The only error is want of memory.
-    pub fn append(&mut self, other: OrderedCells<'c>) -> Result<(), AllocError>
+    pub fn append(&mut self, other: OrderedCells<'c, N>) -> Result<(), AllocError>
         requires { other.aggregates ≡ self.old.aggregates }
         ensures aggregates { self.new.aggregates ≡ self.old.aggregates }
         ensures cells { OnOk result (self.new.cells ≡ self.old.cells ++ other.entry.cells) }
@@ -133,7 +134,7 @@ impl<'c> OrderedCells<'c> {
     }
 
     /// The cell at a place, counted from 0, with its key.
-    pub fn cell_at(&self, place: usize) -> KeyedCell<'_>
+    pub fn cell_at(&self, place: usize) -> KeyedCell<'_, N>
         requires { place < length self.now.cells }
         ensures cell { (unused : Key × Tally) → result ≡ get_or self.now.cells place unused }
         ensures aggregates { list_all (is_aggregate_of (length result.1.bags)) self.now.aggregates ≡ true }
@@ -171,11 +172,11 @@ impl<'c> OrderedCells<'c> {
 
 // The cells of places. Neither a cell nor its codes are read, which lie in memory that no cache holds: who prints reads both
 // at once, and several print.
-fn coded_cells<'c>(
+fn coded_cells<'c, N: Numbers>(
     alloc: Global,
     dictionaries: &'c [Dictionary],
-    places: &[Place<'c>],
-) -> Result<Vec<Coded<'c>>, AllocError>
+    places: &[Place<'c, N>],
+) -> Result<Vec<Coded<'c, N>>, AllocError>
     ensures { IfOk result (λ cells. map {B = Dictionaries × (Codes × Tally)}
         (λ coded. (coded.dictionaries.now, (coded.codes.now, coded.cell.now))) cells.items
         ≡ map (λ place. (dictionaries.now, (place.codes.now, place.cell.now))) places.now) }
@@ -206,7 +207,12 @@ fn key_in(alloc: Global, dictionaries: &[Dictionary], codes: &Codes) -> Result<K
 }
 
 /// The row of a key with a cell. The only error is want of memory.
-pub fn row_of(alloc: Global, aggregates: &[Agg], key: Key, cell: &Cell) -> Result<Row, AllocError>
+pub fn row_of<N: Numbers>(
+    alloc: Global,
+    aggregates: &[Agg],
+    key: Key,
+    cell: &Cell<N>,
+) -> Result<Row, AllocError>
     requires { list_all (is_aggregate_of (length cell.now.bags)) aggregates.now ≡ true }
     ensures { IfOk result (IsRowOf aggregates.now (key, cell.now)) }
 {

@@ -12,9 +12,10 @@ use super::dictionary::Dictionary;
 use super::ordered::row_of;
 use super::rows::Want;
 use cube_core::{Coord, Key, Pattern, QueryFault, Row, Sequence};
+use cube_counts::Numbers;
 use std::alloc::{AllocError, Global};
 
-impl Cube {
+impl<N: Numbers> Cube<N> {
     /// The rows of the cells whose keys a pattern matches, in key order. The only error is want of memory.
     pub fn slice(&self, pattern: &Pattern) -> Result<Vec<Row>, AllocError>
         ensures rows { IfOk result (λ rows. AreRowsOf (matches pattern.now)

@@ -25,6 +25,7 @@ use super::ranks::{Ranks, ranks_of, ranks_of_all};
 use super::workers::{Alone, Several, Workers};
 use crate::cell::Cell;
 use cube_core::Row;
+use cube_counts::{Numbers, Summary};
 use std::alloc::{AllocError, Global};
 use std::collections::HashMap;
 use std::thread::Threads;
@@ -37,7 +38,7 @@ pub enum Want {
     Not(u32),
 }
 
-impl Cube {
+impl<N: Numbers> Cube<N> {
     /// The rows of all cells in key order: dimension by dimension, texts by their bytes, then null, then ALL.
     pub fn rows(&self) -> Result<Vec<Row>, AllocError>
         ensures rows { IfOk result (λ rows.
@@ -50,7 +51,7 @@ impl Cube {
     }
 
     /// The cells in the order of their keys, for rows that are made one at a time. The only error is want of memory.
-    pub fn ordered(&self) -> Result<OrderedCells<'_>, AllocError>
+    pub fn ordered(&self) -> Result<OrderedCells<'_, N>, AllocError>
         ensures rows { IfOk result (λ ordered. (rows : List Row) → AreRowsInOrder ordered rows →
             AreRowsOf (λ key. true) self.now.schema.aggregates self.now.cells rows) }
         ensures cube { IfOk result (λ ordered. (rows : List Row) → AreRowsInOrder ordered rows →
@@ -63,30 +64,12 @@ impl Cube {
         self.ordered_by(&Alone)
     }
 
-    /// The same as [`Cube::ordered`], sorted by several threads. With one thread, or none, no thread is started.
-    pub fn ordered_with<T: Threads + Sync>(
-        &self,
-        rt: &T,
-        threads: usize,
-    ) -> Result<OrderedCells<'_>, AllocError>
-        ensures rows { IfOk result (λ ordered. (rows : List Row) → AreRowsInOrder ordered rows →
-            AreRowsOf (λ key. true) self.now.schema.aggregates self.now.cells rows) }
-        ensures cube { IfOk result (λ ordered. (rows : List Row) → AreRowsInOrder ordered rows →
-            (facts : List Fact) → IsCubeOf self.now facts →
-            AreRowsOver self.now.sets (length self.now.schema.dimensions)
-            self.now.schema.aggregates facts rows) }
-        ensures aggregates { IfOk result (λ ordered.
-            ordered.aggregates ≡ self.now.schema.aggregates) }
-    {
-        if threads < 2 {
-            return self.ordered();
-        }
-        self.ordered_by(&Several { rt, threads })
-    }
-
     // The cells in the order of their keys, sorted by these workers.
-    fn ordered_by<W: Workers>(&self, workers: &W) -> Result<OrderedCells<'_>, AllocError>
-        requires { W.is_shared workers.now }
+    fn ordered_by<'c, W: Workers<N>>(
+        &'c self,
+        workers: &W,
+    ) -> Result<OrderedCells<'c, N>, AllocError>
+        requires shared { W.is_shared workers.now }
         ensures rows { IfOk result (λ ordered. (rows : List Row) → AreRowsInOrder ordered rows →
             AreRowsOf (λ key. true) self.now.schema.aggregates self.now.cells rows) }
         ensures cube { IfOk result (λ ordered. (rows : List Row) → AreRowsInOrder ordered rows →
@@ -120,12 +103,12 @@ impl Cube {
     }
 
     // The cells whose codes are wanted, sorted by these workers.
-    fn ordered_where<W: Workers>(
-        &self,
+    fn ordered_where<'c, W: Workers<N>>(
+        &'c self,
         workers: &W,
         wants: &[Want],
-    ) -> Result<OrderedCells<'_>, AllocError>
-        requires { W.is_shared workers.now }
+    ) -> Result<OrderedCells<'c, N>, AllocError>
+        requires shared { W.is_shared workers.now }
         ensures rows { IfOk result (λ ordered. (test : Key → Bool) →
             AreWantsOf self.now.dictionaries test wants.now →
             (rows : List Row) → AreRowsInOrder ordered rows →
@@ -144,13 +127,36 @@ impl Cube {
     }
 }
 
+impl Cube<Summary> {
+    /// The same as [`Cube::ordered`], sorted by several threads. With one thread, or none, no thread is started.
+    pub fn ordered_with<T: Threads + Sync>(
+        &self,
+        rt: &T,
+        threads: usize,
+    ) -> Result<OrderedCells<'_, Summary>, AllocError>
+        ensures rows { IfOk result (λ ordered. (rows : List Row) → AreRowsInOrder ordered rows →
+            AreRowsOf (λ key. true) self.now.schema.aggregates self.now.cells rows) }
+        ensures cube { IfOk result (λ ordered. (rows : List Row) → AreRowsInOrder ordered rows →
+            (facts : List Fact) → IsCubeOf self.now facts →
+            AreRowsOver self.now.sets (length self.now.schema.dimensions)
+            self.now.schema.aggregates facts rows) }
+        ensures aggregates { IfOk result (λ ordered.
+            ordered.aggregates ≡ self.now.schema.aggregates) }
+    {
+        if threads < 2 {
+            return self.ordered();
+        }
+        self.ordered_by(&Several { rt, threads })
+    }
+}
+
 // The cells whose codes are wanted, by their keys.
-fn few_places_in_order<'c>(
+fn few_places_in_order<'c, N: Numbers>(
     alloc: Global,
     dictionaries: &[Dictionary],
-    levels: &'c [Level],
+    levels: &'c [Level<N>],
     wants: &[Want],
-) -> Result<Vec<Place<'c>>, AllocError>
+) -> Result<Vec<Place<'c, N>>, AllocError>
     ensures cells { IfOk result (λ places. IsPermutation
         (filter (λ cell. are_wanted_codes wants.now cell.0.codes) (cells_of levels.now))
         (map (λ place. (place.codes.now, place.cell.now)) places.items)) }
@@ -166,13 +172,13 @@ fn few_places_in_order<'c>(
 }
 
 // The cells whose codes are wanted, by the ranks of their keys.
-fn places_in_order<'c, W: Workers>(
+fn places_in_order<'c, W: Workers<N>, N: Numbers>(
     workers: &W,
     alloc: Global,
     ranks: &[Ranks],
-    levels: &'c [Level],
+    levels: &'c [Level<N>],
     wants: &[Want],
-) -> Result<Vec<Place<'c>>, AllocError>
+) -> Result<Vec<Place<'c, N>>, AllocError>
     requires shared { W.is_shared workers.now }
     requires ranks { length ranks.now ≤ 8 }
     ensures cells { IfOk result (λ places. IsPermutation
@@ -189,12 +195,12 @@ fn places_in_order<'c, W: Workers>(
 }
 
 /// The cells whose codes are wanted.
-pub fn places_of<'c>(
+pub fn places_of<'c, N: Numbers>(
     alloc: Global,
     ranks: &[Ranks],
-    levels: &'c [Level],
+    levels: &'c [Level<N>],
     wants: &[Want],
-) -> Result<Vec<Place<'c>>, AllocError>
+) -> Result<Vec<Place<'c, N>>, AllocError>
     requires { length ranks.now ≤ 8 }
     ensures { IfOk result (λ places. ArePlacesOf ranks.now wants.now (cells_of levels.now) places.items) }
 {
@@ -206,12 +212,12 @@ pub fn places_of<'c>(
 }
 
 /// The cells of a level whose codes are wanted.
-pub fn places_of_level<'c>(
+pub fn places_of_level<'c, N: Numbers>(
     alloc: Global,
     ranks: &[Ranks],
-    level: &'c Level,
+    level: &'c Level<N>,
     wants: &[Want],
-) -> Result<Vec<Place<'c>>, AllocError>
+) -> Result<Vec<Place<'c, N>>, AllocError>
     requires { length ranks.now ≤ 8 }
     ensures { IfOk result (λ places. ArePlacesOf ranks.now wants.now level.now.cells.entries places.items) }
 {
@@ -221,10 +227,10 @@ pub fn places_of_level<'c>(
 }
 
 // Puts the cells of a table whose codes are wanted at the end.
-fn push_places<'c>(
-    places: &mut Vec<Place<'c>>,
+fn push_places<'c, N: Numbers>(
+    places: &mut Vec<Place<'c, N>>,
     ranks: &[Ranks],
-    cells: &'c HashMap<Codes, Cell>,
+    cells: &'c HashMap<Codes, Cell<N>>,
     wants: &[Want],
 ) -> Result<(), AllocError>
     requires { length ranks.now ≤ 8 }

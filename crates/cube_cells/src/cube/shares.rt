@@ -10,9 +10,10 @@ use super::codes::{ALL, Codes};
 use super::dictionary::Dictionary;
 use super::fill::{finest_of, push_levels};
 use super::levels::{Level, one_level};
-use super::walk::add_to_cell;
+use super::walk::gather_at;
 use crate::cell::Cell;
 use cube_core::{Fact, Schema};
+use cube_counts::Numbers;
 use std::alloc::{AllocError, Global};
 use std::collections::HashMap;
 use std::thread::{Threads, map_indices};
@@ -32,18 +33,18 @@ pub struct CodedFacts<'f> {
     pub columns: Vec<Column>,
 }
 
-impl Cube {
+impl<N: Numbers + Send + Sync> Cube<N> {
     /// The cube of these facts over the finest grouping set alone, with the same schema, made by as many threads as
     /// this says. Each text has the code that it would have if the facts were added one by one.
     ///
-    /// The dimensions are coded side by side; then each thread fills a share of the cells. The only error is want of
-    /// memory.
+    /// The dimensions are coded side by side; then each thread fills a share of the cells. With one thread no thread is
+    /// started. The only error is want of memory.
     pub fn finest_of<T: Threads + Sync>(
         &self,
         rt: &T,
         threads: usize,
         facts: &[&Fact],
-    ) -> Result<Cube, AllocError>
+    ) -> Result<Cube<N>, AllocError>
         requires threads { 0 < threads }
         requires fit { All (λ fact. fits self.now.schema fact ≡ true) (map (λ fact. fact.now) facts.now) }
         ensures schema { IfOk result (λ cube. cube.schema ≡ self.now.schema) }
@@ -51,7 +52,7 @@ impl Cube {
             cube.sets ≡ finest_set (length cube.schema.dimensions) ∷ []) }
         ensures facts { IfOk result (IsCubeOfAll (map (λ fact. fact.now) facts.now)) }
     {
-        let coded = coded_facts(rt, self.alloc, &self.schema, facts)?;
+        let coded = coded_facts(rt, threads, self.alloc, &self.schema, facts)?;
         let cells = finest_cells(rt, threads, self.alloc, &coded)?;
         let set = finest_of(self.schema.dimensions().len());
         let mut sets = Vec::with_capacity(self.alloc, 1)?;
@@ -75,6 +76,7 @@ impl Cube {
 // The facts with their codes; the dimensions are coded side by side. The only error is want of memory.
 fn coded_facts<'f, T: Threads + Sync>(
     rt: &T,
+    threads: usize,
     alloc: Global,
     schema: &Schema,
     facts: &'f [&'f Fact],
@@ -84,7 +86,7 @@ fn coded_facts<'f, T: Threads + Sync>(
     ensures facts { IfOk result (λ coded. coded.facts.now ≡ facts.now) }
     ensures coded { IfOk result AreCoded }
 {
-    let made = made_columns(rt, alloc, schema, facts)?;
+    let made = made_columns(rt, threads, alloc, schema, facts)?;
     let columns = columns_of(alloc, made)?;
     Ok(CodedFacts {
         schema: schema.copy(alloc)?,
@@ -93,9 +95,10 @@ fn coded_facts<'f, T: Threads + Sync>(
     })
 }
 
-// For each dimension the codes of the facts, unless memory is wanting.
+// For each dimension the codes of the facts, unless memory is wanting. With one thread no thread is started.
 fn made_columns<T: Threads + Sync>(
     rt: &T,
+    threads: usize,
     alloc: Global,
     schema: &Schema,
     facts: &[&Fact],
@@ -106,12 +109,35 @@ fn made_columns<T: Threads + Sync>(
         AreMade (λ dimension. IsColumnOf dimension (map (λ fact. fact.now) facts.now))
         (length schema.now.dimensions) made.items) }
 {
+    let dimensions = schema.dimensions().len();
+    if threads < 2 {
+        return columns_in_turn(alloc, schema, facts);
+    }
     map_indices(
         rt,
         alloc,
-        schema.dimensions().len(),
+        dimensions,
         &|dimension| column_of(alloc, schema, facts, dimension),
     )
+}
+
+// The same, one dimension after another.
+fn columns_in_turn(
+    alloc: Global,
+    schema: &Schema,
+    facts: &[&Fact],
+) -> Result<Vec<Result<Column, AllocError>>, AllocError>
+    requires { All (λ fact. fits schema.now fact ≡ true) (map (λ fact. fact.now) facts.now) }
+    ensures { IfOk result (λ made.
+        AreMade (λ dimension. IsColumnOf dimension (map (λ fact. fact.now) facts.now))
+        (length schema.now.dimensions) made.items) }
+{
+    let dimensions = schema.dimensions().len();
+    let mut made = Vec::with_capacity(alloc, dimensions)?;
+    for dimension in 0..dimensions {
+        made.push(column_of(alloc, schema, facts, dimension))?;
+    }
+    Ok(made)
 }
 
 // The columns, if each of them was made.
@@ -159,16 +185,19 @@ fn dictionaries_of(alloc: Global, columns: Vec<Column>) -> Result<Vec<Dictionary
 }
 
 // The cells of coded facts over the finest grouping set, filled by as many threads as this says, each its share.
-fn finest_cells<T: Threads + Sync>(
+fn finest_cells<T: Threads + Sync, N: Numbers + Send + Sync>(
     rt: &T,
     threads: usize,
     alloc: Global,
     coded: &CodedFacts<'_>,
-) -> Result<HashMap<Codes, Cell>, AllocError>
+) -> Result<HashMap<Codes, Cell<N>>, AllocError>
     requires threads { 0 < threads }
     requires coded { AreCoded coded.now }
     ensures { IfOk result (λ cells. AreFinestCells coded.now (facts_coded coded.now) cells.entries) }
 {
+    if threads < 2 {
+        return Ok(share_cells(alloc, coded, 0, 1)?.cells);
+    }
     let made = made_shares(rt, alloc, coded, threads)?;
     let mut levels = Vec::with_capacity(alloc, threads)?;
     push_levels(&mut levels, made)?;
@@ -176,7 +205,10 @@ fn finest_cells<T: Threads + Sync>(
 }
 
 // The cells of all shares in one table, which has room for all of them at once.
-fn joined(alloc: Global, shares: Vec<Level>) -> Result<HashMap<Codes, Cell>, AllocError>
+fn joined<N: Numbers>(
+    alloc: Global,
+    shares: Vec<Level<N>>,
+) -> Result<HashMap<Codes, Cell<N>>, AllocError>
     ensures { IfOk result (λ cells. AreJoined shares.items cells.entries) }
 {
     let mut cells = HashMap::new(alloc);
@@ -188,7 +220,7 @@ fn joined(alloc: Global, shares: Vec<Level>) -> Result<HashMap<Codes, Cell>, All
 }
 
 // How many cells the levels have, or as many as the type can say.
-fn number_of_cells(levels: &[Level]) -> usize {
+fn number_of_cells<N: Numbers>(levels: &[Level<N>]) -> usize {
     let mut number: usize = 0;
     for level in levels {
         number = number.saturating_add(level.cells.len());
@@ -197,9 +229,9 @@ fn number_of_cells(levels: &[Level]) -> usize {
 }
 
 // Moves cells to others of other codes.
-fn move_cells(
-    cells: &mut HashMap<Codes, Cell>,
-    more: HashMap<Codes, Cell>,
+fn move_cells<N: Numbers>(
+    cells: &mut HashMap<Codes, Cell<N>>,
+    more: HashMap<Codes, Cell<N>>,
 ) -> Result<(), AllocError>
     ensures { OnOk result (Joins more.entries cells.old.entries cells.new.entries) }
 {
@@ -210,12 +242,12 @@ fn move_cells(
 }
 
 // For each share, of so many, its cells, unless memory is wanting.
-fn made_shares<T: Threads + Sync>(
+fn made_shares<T: Threads + Sync, N: Numbers + Send + Sync>(
     rt: &T,
     alloc: Global,
     coded: &CodedFacts<'_>,
     shares: usize,
-) -> Result<Vec<Result<Level, AllocError>>, AllocError>
+) -> Result<Vec<Result<Level<N>, AllocError>>, AllocError>
     requires shares { 0 < shares }
     requires coded { AreCoded coded.now }
     ensures { IfOk result (λ made. AreMade (IsShare coded.now shares) shares made.items) }
@@ -229,12 +261,12 @@ fn made_shares<T: Threads + Sync>(
 }
 
 // The cells of a share, of so many.
-fn share_cells(
+fn share_cells<N: Numbers>(
     alloc: Global,
     coded: &CodedFacts<'_>,
     share: u64,
     of: u64,
-) -> Result<Level, AllocError>
+) -> Result<Level<N>, AllocError>
     requires some { 0 < of }
     requires coded { AreCoded coded.now }
     ensures { IfOk result (IsShare coded.now of share) }
@@ -245,7 +277,7 @@ fn share_cells(
     for (place, fact) in coded.facts.iter().enumerate() {
         if share_at(columns, place, of) == share {
             let codes = codes_at(columns, place);
-            add_to_cell(alloc, &mut cells, codes, fact.measures.as_slice())?;
+            gather_at(alloc, &mut cells, codes, fact.measures.as_slice())?;
         }
     }
     Ok(Level { set, cells })

@@ -2,6 +2,7 @@
 ghost use Rattle.std.specs.Prelude.{◌≡◌, ◌≤◌, ◌<◌, [], ◌∷◌, ℕ, All, IsTrue, OnOk, OnErr, None, length, get_or};
 ghost use Rattle.std.specs.List.{list_all, AllZip};
 ghost use Rattle.std.specs.Option.{option_map};
+ghost use Rattle.cube_counts.specs.Bag.{Bag};
 ghost use Rattle.cube_cells.specs.Coded.{coded_at};
 ghost use Rattle.cube_cells.specs.Cube.{cell_holds};
 ghost use Rattle.cube_cells.specs.Levels.{HasRoomInLevel, level_holds, table_at, AddsInLevel, TakesInLevel, SameInLevel, ChangesFirst};
@@ -11,6 +12,7 @@ ghost use Rattle.cube_cells.specs.Walk.{LosesFact, HasRoom, AddsIn, TakesIn, Sam
 use super::codes::Codes;
 use super::levels::Level;
 use crate::cell::Cell;
+use cube_counts::Numbers;
 use std::alloc::{AllocError, Global};
 use std::collections::HashMap;
 
@@ -37,7 +39,7 @@ pub fn add_to_sets(
 /// Takes a fact with these codes and measures from its cell of each of the first levels.
 pub fn take_from_sets(levels: &mut [Level], number: usize, codes: &Codes, values: &[Option<i64>])
     requires within { number ≤ length levels.old }
-    requires held { (i : ℕ) (unused : Level) → i < number →
+    requires held { (i : ℕ) (unused : Level Bag) → i < number →
         IsTrue (level_holds codes.now values.now (get_or levels.old i unused)) }
     ensures { ChangesFirst (TakesInLevel codes.now values.now) number levels.old levels.new }
 {
@@ -54,7 +56,7 @@ pub fn hold_in_sets(levels: &[Level], codes: &Codes, values: &[Option<i64>]) -> 
 }
 
 /// The cell with these codes: it is in the level of their set.
-pub fn find_cell<'c>(levels: &'c [Level], codes: &Codes) -> Option<&'c Cell>
+pub fn find_cell<'c, N: Numbers>(levels: &'c [Level<N>], codes: &Codes) -> Option<&'c Cell<N>>
     ensures { option_map (λ cell. cell.now) result ≡ coded_at (table_at levels.now codes.now) codes.now }
 {
     let set = codes.mask();
@@ -117,10 +119,27 @@ pub fn add_to_cell(
     put_cell(alloc, cells, codes, values)
 }
 
-// Puts a cell of one fact in.
-fn put_cell(
+/// Adds to the cell of a key, where the cells are no longer asked if memory is wanting.
+pub fn gather_at<N: Numbers>(
     alloc: Global,
-    cells: &mut HashMap<Codes, Cell>,
+    cells: &mut HashMap<Codes, Cell<N>>,
+    codes: Codes,
+    values: &[Option<i64>],
+) -> Result<(), AllocError>
+    requires { HasRoom values.now codes (coded_at cells.old.entries codes) }
+    ensures added { OnOk result (AddsIn (codes ∷ []) values.now cells.old.entries cells.new.entries) }
+    ensures apart { AreApart cells.old.entries → AreApart cells.new.entries }
+{
+    if let Some(cell) = cells.get_mut(&codes) {
+        return cell.gather(values);
+    }
+    put_cell(alloc, cells, codes, values)
+}
+
+// Puts a cell of one fact in.
+fn put_cell<N: Numbers>(
+    alloc: Global,
+    cells: &mut HashMap<Codes, Cell<N>>,
     codes: Codes,
     values: &[Option<i64>],
 ) -> Result<(), AllocError>
@@ -129,8 +148,8 @@ fn put_cell(
     ensures err { OnErr result (cells.new.entries ≡ cells.old.entries) }
     ensures apart { AreApart cells.old.entries → AreApart cells.new.entries }
 {
-    let mut cell = Cell::new(alloc, values.len())?;
-    cell.plus(values)?;
+    let mut cell = Cell::empty(alloc, values.len())?;
+    cell.gather(values)?;
     cells.insert(codes, cell)?;
     Ok(())
 }

@@ -13,18 +13,19 @@ use super::levels::Level;
 use super::ordered::Place;
 use super::ranks::Ranks;
 use super::rows::{Want, places_of, places_of_level};
+use cube_counts::{Numbers, Summary};
 use rayon::prelude::*;
 use std::alloc::{AllocError, Global};
 use std::thread::{Threads, for_each_mut};
 
 /// Who finds places, sorts them, and makes levels.
-pub trait Workers {
+pub trait Workers<N: Numbers> {
     // Threads may share what they need.
     ghost is_shared: { Self → Type 0 };
 
     /// Sorts places by their ranks.
-    fn sort_places(&self, alloc: Global, places: &mut Vec<Place<'_>>) -> Result<(), AllocError>
-        requires { is_shared self.now }
+    fn sort_places(&self, alloc: Global, places: &mut Vec<Place<'_, N>>) -> Result<(), AllocError>
+        requires shared { is_shared self.now }
         ensures same { IsPermutation places.old.items places.new.items }
         ensures order { OnOk result (IsSortedBy
             (λ a b. is_lt (slice_cmp nat_cmp a.ranks b.ranks)) places.new.items) };
@@ -34,9 +35,9 @@ pub trait Workers {
         &self,
         alloc: Global,
         ranks: &[Ranks],
-        levels: &'c [Level],
+        levels: &'c [Level<N>],
         wants: &[Want],
-    ) -> Result<Vec<Place<'c>>, AllocError>
+    ) -> Result<Vec<Place<'c, N>>, AllocError>
         requires shared { is_shared self.now }
         requires ranks { length ranks.now ≤ 8 }
         ensures { IfOk result (λ places. ArePlacesOf ranks.now wants.now (cells_of levels.now) places.items) };
@@ -45,11 +46,11 @@ pub trait Workers {
     fn levels_of_layer(
         &self,
         alloc: Global,
-        finest: &Level,
-        levels: &[Level],
+        finest: &Level<N>,
+        levels: &[Level<N>],
         layer: &[u8],
         measures: usize,
-    ) -> Result<Vec<Result<Level, AllocError>>, AllocError>
+    ) -> Result<Vec<Result<Level<N>, AllocError>>, AllocError>
         requires shared { is_shared self.now }
         requires finer { All (IsFiner finest.now.set) layer.now }
         requires first { All (λ cell. length cell.1.bags ≡ measures) finest.now.cells.entries }
@@ -69,10 +70,14 @@ pub struct Several<'r, T> {
     pub threads: usize,
 }
 
-impl Workers for Alone {
+impl<N: Numbers> Workers<N> for Alone {
     ghost is_shared = { λ _. Unit {0} };
 
-    fn sort_places(&self, _alloc: Global, places: &mut Vec<Place<'_>>) -> Result<(), AllocError> {
+    fn sort_places(
+        &self,
+        _alloc: Global,
+        places: &mut Vec<Place<'_, N>>,
+    ) -> Result<(), AllocError> {
         places.sort_unstable_by(|a, b| a.ranks.cmp(&b.ranks));
         Ok(())
     }
@@ -81,20 +86,20 @@ impl Workers for Alone {
         &self,
         alloc: Global,
         ranks: &[Ranks],
-        levels: &'c [Level],
+        levels: &'c [Level<N>],
         wants: &[Want],
-    ) -> Result<Vec<Place<'c>>, AllocError> {
+    ) -> Result<Vec<Place<'c, N>>, AllocError> {
         places_of(alloc, ranks, levels, wants)
     }
 
     fn levels_of_layer(
         &self,
         alloc: Global,
-        finest: &Level,
-        levels: &[Level],
+        finest: &Level<N>,
+        levels: &[Level<N>],
         layer: &[u8],
         measures: usize,
-    ) -> Result<Vec<Result<Level, AllocError>>, AllocError> {
+    ) -> Result<Vec<Result<Level<N>, AllocError>>, AllocError> {
         let mut made = Vec::with_capacity(alloc, layer.len())?;
         for set in layer {
             made.push(Ok(level_from(alloc, finest, levels, *set, measures)?))?;
@@ -103,10 +108,14 @@ impl Workers for Alone {
     }
 }
 
-impl<'r, T: Threads + Sync> Workers for Several<'r, T> {
+impl<'r, T: Threads + Sync> Workers<Summary> for Several<'r, T> {
     ghost is_shared = { λ _. IsSync T.row };
 
-    fn sort_places(&self, alloc: Global, places: &mut Vec<Place<'_>>) -> Result<(), AllocError> {
+    fn sort_places(
+        &self,
+        alloc: Global,
+        places: &mut Vec<Place<'_, Summary>>,
+    ) -> Result<(), AllocError> {
         sort_by_several(self.rt, alloc, places)
     }
 
@@ -114,9 +123,9 @@ impl<'r, T: Threads + Sync> Workers for Several<'r, T> {
         &self,
         alloc: Global,
         ranks: &[Ranks],
-        levels: &'c [Level],
+        levels: &'c [Level<Summary>],
         wants: &[Want],
-    ) -> Result<Vec<Place<'c>>, AllocError> {
+    ) -> Result<Vec<Place<'c, Summary>>, AllocError> {
         let made = places_by_several(self.rt, self.threads, alloc, ranks, levels, wants)?;
         put_together(alloc, made)
     }
@@ -124,11 +133,11 @@ impl<'r, T: Threads + Sync> Workers for Several<'r, T> {
     fn levels_of_layer(
         &self,
         alloc: Global,
-        finest: &Level,
-        levels: &[Level],
+        finest: &Level<Summary>,
+        levels: &[Level<Summary>],
         layer: &[u8],
         measures: usize,
-    ) -> Result<Vec<Result<Level, AllocError>>, AllocError> {
+    ) -> Result<Vec<Result<Level<Summary>, AllocError>>, AllocError> {
         levels_by_several(
             self.rt,
             self.threads,
@@ -145,7 +154,7 @@ impl<'r, T: Threads + Sync> Workers for Several<'r, T> {
 fn sort_by_several<T: Threads + Sync>(
     rt: &T,
     alloc: Global,
-    places: &mut Vec<Place<'_>>,
+    places: &mut Vec<Place<'_, Summary>>,
 ) -> Result<(), AllocError>
     ensures same { IsPermutation places.old.items places.new.items }
     ensures order { OnOk result (IsSortedBy
@@ -165,9 +174,9 @@ fn places_by_several<'c, T: Threads + Sync>(
     threads: usize,
     alloc: Global,
     ranks: &[Ranks],
-    levels: &'c [Level],
+    levels: &'c [Level<Summary>],
     wants: &[Want],
-) -> Result<Vec<Result<Vec<Place<'c>>, AllocError>>, AllocError>
+) -> Result<Vec<Result<Vec<Place<'c, Summary>>, AllocError>>, AllocError>
     requires { length ranks.now ≤ 8 }
     ensures { IfOk result (λ made.
         AreMade (ArePlacesAt ranks.now wants.now levels.now) (length levels.now) made.items) }
@@ -185,10 +194,10 @@ fn places_by_several<'c, T: Threads + Sync>(
 }
 
 // The places of all levels, those of each behind those of the one before it.
-fn put_together<'c>(
+fn put_together<'c, N: Numbers>(
     alloc: Global,
-    made: Vec<Result<Vec<Place<'c>>, AllocError>>,
-) -> Result<Vec<Place<'c>>, AllocError>
+    made: Vec<Result<Vec<Place<'c, N>>, AllocError>>,
+) -> Result<Vec<Place<'c, N>>, AllocError>
     ensures { IfOk result (λ places. ArePutTogether made.entry.items places.items) }
 {
     let mut places = Vec::new(alloc);
@@ -204,11 +213,11 @@ fn levels_by_several<T: Threads + Sync>(
     rt: &T,
     threads: usize,
     alloc: Global,
-    finest: &Level,
-    levels: &[Level],
+    finest: &Level<Summary>,
+    levels: &[Level<Summary>],
     layer: &[u8],
     measures: usize,
-) -> Result<Vec<Result<Level, AllocError>>, AllocError>
+) -> Result<Vec<Result<Level<Summary>, AllocError>>, AllocError>
     requires finer { All (IsFiner finest.now.set) layer.now }
     requires first { All (λ cell. length cell.1.bags ≡ measures) finest.now.cells.entries }
     requires widths { All (λ level. All (λ cell. length cell.1.bags ≡ measures) level.cells.entries) levels.now }

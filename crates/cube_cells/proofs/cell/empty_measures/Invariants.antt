@@ -4,7 +4,7 @@ use Rattle.cube_counts.specs.Bag.{size_of}
 use Rattle.cube_cells.proofs.cell.empty_measures.Given as goal
 
 abbrev pub invariant-loop : goal.invariant-loop
-invariant-loop l = record {
+invariant-loop g l = record {
   so_many : length l.measures.items ≡ l.counter;
   empty : All (λ bag. size_of bag ≡ 0) l.measures.items;
 }

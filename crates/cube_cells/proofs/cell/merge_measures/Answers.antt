@@ -2,11 +2,11 @@ use Rattle.std.proofs.Common.{arith, ap, length, ◌<◌, []}
 use Rattle.std.proofs.lemmas.List.{get_or_default}
 use Rattle.cube_counts.specs.Bag.{AddsBag, size_of}
 use Rattle.cube_cells.specs.Tally.{bag_at}
-use Rattle.cube_cells.proofs.MergeLaws.{AddsBags-more, size_of-AddsBags, AddsBags-bound, AddsBags-bound_set}
+use Rattle.cube_cells.proofs.Tallies.MergeLaws.{AddsBags-more, size_of-AddsBags, AddsBags-bound, AddsBags-bound_set}
 use Rattle.cube_cells.proofs.cell.merge_measures.Goals as goal
 
 pub merge-requires : goal.merge-requires
-merge-requires c =
+merge-requires g c =
     let there : c.loop-place.place < length c.args.more.now = omega arith in
     let inside : c.loop-place.place < length c.loop-place.measures = omega arith in
     omega (
@@ -20,13 +20,13 @@ merge-requires c =
     )
 
 pub returns-in_err-merge-clause-sizes : goal.returns-in_err-merge-clause-sizes
-returns-in_err-merge-clause-sizes c =
+returns-in_err-merge-clause-sizes g c =
     let inside : c.loop-place.place < length c.loop-place.measures = omega arith in
     AddsBags-bound_set c.args.measures.now c.loop-place.measures c.args.more.now c.loop-place.place c.merge.new.self
     c.loop-place.invariant inside c.in_err-merge.ensures.err
 
 pub loop-place-preserved : goal.loop-place-preserved
-loop-place-preserved c =
+loop-place-preserved g c =
     let there : c.loop-place.place < length c.args.more.now = omega arith in
     let inside : c.loop-place.place < length c.loop-place.measures = omega arith in
     let added : AddsBag (bag_at c.loop-place.measures c.loop-place.place) c.merge.new.self
@@ -40,5 +40,5 @@ loop-place-preserved c =
     c.loop-place.invariant inside added
 
 pub returns-clause-sizes : goal.returns-clause-sizes
-returns-clause-sizes c =
+returns-clause-sizes g c =
     AddsBags-bound c.args.measures.now c.loop-place.measures c.args.more.now c.loop-place.place c.loop-place.invariant

@@ -4,8 +4,8 @@ use Rattle.std.proofs.lemmas.List.{get_or_default, get_or-map, get_or-set_same, 
 use Rattle.std.proofs.lemmas.List.Elements.{All-set}
 use Rattle.cube_core.specs.declared.key.Coord.TheVariants as coord
 use Rattle.cube_cells.specs.Codes.{IsCodeOf, IsDictionary, is_code, coord_of_value, texts_with}
-use Rattle.cube_cells.proofs.CodeLaws.{AreCodesOf-more, AreCodesOf-set, are_codes-more, are_codes-set}
-use Rattle.cube_cells.proofs.CodeLaws.{AddsTextsBelow-more}
+use Rattle.cube_cells.proofs.Codes.CodeLaws.{AreCodesOf-more, AreCodesOf-set, are_codes-more, are_codes-set}
+use Rattle.cube_cells.proofs.Codes.CodeLaws.{AddsTextsBelow-more}
 use Rattle.cube_cells.proofs.cube.add_codes.Goals as goal
 
 pub loop-place-preserved : goal.loop-place-preserved

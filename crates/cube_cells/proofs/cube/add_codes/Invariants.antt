@@ -1,7 +1,7 @@
 use Rattle.std.proofs.Common.{◌≡◌, length, map, take, true}
 use Rattle.std.specs.Prelude.{All}
 use Rattle.cube_cells.specs.Codes.{AreCodesOf, IsDictionary, are_codes, coord_of_value}
-use Rattle.cube_cells.proofs.CodeLaws.{AddsTextsBelow}
+use Rattle.cube_cells.proofs.Codes.CodeLaws.{AddsTextsBelow}
 use Rattle.cube_cells.proofs.cube.add_codes.Given as goal
 
 abbrev pub invariant-loop-place : goal.invariant-loop-place

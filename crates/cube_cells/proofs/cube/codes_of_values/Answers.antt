@@ -2,7 +2,7 @@ use Rattle.std.proofs.Common.{◌<◌, ◌∙◌, length, get_or, map, None, [],
 use Rattle.std.proofs.lemmas.List.{get_or_read, get_or-map, length-map, length-set}
 use Rattle.cube_core.specs.declared.key.Coord.TheVariants as coord
 use Rattle.cube_cells.specs.Codes.{IsCodeOf, coord_of_value}
-use Rattle.cube_cells.proofs.CodeLaws.{AreCodesOf-more, AreCodesOf-all}
+use Rattle.cube_cells.proofs.Codes.CodeLaws.{AreCodesOf-more, AreCodesOf-all}
 use Rattle.cube_cells.proofs.cube.codes_of_values.Goals as goal
 
 pub loop-place-preserved : goal.loop-place-preserved

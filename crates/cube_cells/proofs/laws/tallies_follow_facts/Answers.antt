@@ -1,5 +1,6 @@
-use Rattle.cube_cells.proofs.FactLaws.{IsTallyOf-cons, IsTallyOf-tail, IsTallyOf-SameTally, IsTallyOf-permutation}
-use Rattle.cube_cells.proofs.FactLaws.{holds_fact-IsTallyOf}
+use Rattle.cube_cells.proofs.Tallies.FactLaws.{IsTallyOf-cons, IsTallyOf-tail, IsTallyOf-SameTally}
+use Rattle.cube_cells.proofs.Tallies.FactLaws.{IsTallyOf-permutation}
+use Rattle.cube_cells.proofs.Tallies.FactLaws.{holds_fact-IsTallyOf}
 use Rattle.cube_cells.proofs.laws.tallies_follow_facts.Goals as goal
 
 pub returns : goal.returns

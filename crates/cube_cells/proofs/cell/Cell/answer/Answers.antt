@@ -3,11 +3,11 @@ use Rattle.std.proofs.lemmas.List.{get_or_default}
 use Rattle.cube_core.specs.Group.{values_of}
 use Rattle.cube_counts.specs.Bag.{size_of}
 use Rattle.cube_cells.specs.Tally.{bag_at}
-use Rattle.cube_cells.proofs.TallyLaws.{size_of-IsBagOf}
+use Rattle.cube_cells.proofs.Tallies.TallyLaws.{size_of-IsBagOf}
 use Rattle.cube_cells.proofs.cell.Cell.answer.Goals as goal
 
 pub returns-in-Count : goal.returns-in-Count
-returns-in-Count c = λ facts is.
+returns-in-Count g c = λ facts is.
     let inside : c.in-Count.measure < length c.self.inside.measures.items = search rules in
     let tally = rw (← c.self.view_is) at is in
     let read : c.index.result.now ≡ bag_at c.self.inside.measures.items c.in-Count.measure =

@@ -1,10 +1,10 @@
 use Rattle.std.proofs.Common.{rules, arith, ◌≡◌, ◌<◌, ◌^◌, sym}
-use Rattle.cube_cells.proofs.MergeLaws.{AddsBags-SameBags, AreWithin-room_empty, AreWithin-both_empty}
-use Rattle.cube_cells.proofs.ValueLaws.{take-append-drop}
+use Rattle.cube_cells.proofs.Tallies.MergeLaws.{AddsBags-SameBags, AreWithin-room_empty, AreWithin-both_empty}
+use Rattle.cube_cells.proofs.Tallies.ValueLaws.{take-append-drop}
 use Rattle.cube_cells.proofs.cell.Cell.copy.Goals as goal
 
 pub merge_measures-requires-clause-fits : goal.merge_measures-requires-clause-fits
-merge_measures-requires-clause-fits c =
+merge_measures-requires-clause-fits g c =
     let few : c.count-facts.result < 2 ^ 64 = search rules in
     let is : c.count-facts.result ≡ c.self.inside.facts = search rules in
     rw (c.deref_mut.ensures.value, c.deref.ensures.value) (λ m. omega (
@@ -16,7 +16,7 @@ merge_measures-requires-clause-fits c =
     ))
 
 pub invariant_of-result : goal.invariant_of-result
-invariant_of-result c =
+invariant_of-result g c =
     let empty = c.in_ok-measures.measures.items in
     let new = c.merge_measures.new.measures in
     let more = c.self.inside.measures.items in
@@ -28,7 +28,7 @@ invariant_of-result c =
     (AreWithin-both_empty c.self.inside.facts empty new more c.in_ok-measures.ensures.empty c.self.invariant sizes)
 
 pub returns : goal.returns
-returns c =
+returns g c =
     let empty = c.in_ok-measures.measures.items in
     let new = c.merge_measures.new.measures in
     let more = c.self.inside.measures.items in

@@ -1,6 +1,7 @@
 use Rattle.std.proofs.Common.{rules, arith, sym, length, ◌≤◌}
 use Rattle.cube_cells.specs.Tally.{Tally}
-use Rattle.cube_cells.proofs.ValueLaws.{holds_fact-length, holds_fact-value_at, AreWithin-holds_fact, take-append-drop}
+use Rattle.cube_cells.proofs.Tallies.ValueLaws.{holds_fact-length, holds_fact-value_at, AreWithin-holds_fact}
+use Rattle.cube_cells.proofs.Tallies.ValueLaws.{take-append-drop}
 use Rattle.cube_cells.proofs.cell.Cell.minus.Goals as goal
 
 pub take_values-requires-clause-width : goal.take_values-requires-clause-width

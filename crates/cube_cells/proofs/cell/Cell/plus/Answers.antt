@@ -1,6 +1,6 @@
 use Rattle.std.proofs.Common.{rules, sym}
-use Rattle.cube_cells.proofs.ValueLaws.{AreWithin-AddsValues, AreWithin-SameBags, take-append-drop}
-use Rattle.cube_cells.proofs.FactLaws.{holds_fact-AddsValues}
+use Rattle.cube_cells.proofs.Tallies.ValueLaws.{AreWithin-AddsValues, AreWithin-SameBags, take-append-drop}
+use Rattle.cube_cells.proofs.Tallies.FactLaws.{holds_fact-AddsValues}
 use Rattle.cube_cells.proofs.cell.Cell.plus.Goals as goal
 
 pub invariant_of-self : goal.invariant_of-self

@@ -2,13 +2,13 @@ use Rattle.std.proofs.Common.{List, ◌≡◌, ◌+◌, ◌++◌, ap, arith, dro
 use Rattle.std.proofs.lemmas.Result.{on_err_weaker}
 use Rattle.cube_cells.specs.Coded.{lattice_of}
 use Rattle.cube_cells.specs.Cube.{AddsFact, SameCells}
-use Rattle.cube_cells.proofs.CubeLaws.{IsCubeOf-AddsFact, IsCubeOf-SameCells}
-use Rattle.cube_cells.proofs.GrowthLaws.{AreGrown-MayAddTexts, AreGrown-AddsTexts}
-use Rattle.cube_cells.proofs.LeveledLaws.{All-HasRoomInLevel, IsLeveled-AddsFact, IsLeveled-SameCells}
-use Rattle.cube_cells.proofs.LeveledLaws.{IsLeveled-SameCells_from_AreGrown}
-use Rattle.cube_cells.proofs.StepLaws.{HasNewCodes}
-use Rattle.cube_cells.proofs.ValueLaws.{take-append-drop}
-use Rattle.cube_cells.proofs.WalkLaws.{OnErr-always}
+use Rattle.cube_cells.proofs.Cells.CubeLaws.{IsCubeOf-AddsFact, IsCubeOf-SameCells}
+use Rattle.cube_cells.proofs.Codes.GrowthLaws.{AreGrown-MayAddTexts, AreGrown-AddsTexts}
+use Rattle.cube_cells.proofs.Cells.LeveledLaws.{All-HasRoomInLevel, IsLeveled-AddsFact, IsLeveled-SameCells}
+use Rattle.cube_cells.proofs.Cells.LeveledLaws.{IsLeveled-SameCells_from_AreGrown}
+use Rattle.cube_cells.proofs.Cells.StepLaws.{HasNewCodes}
+use Rattle.cube_cells.proofs.Tallies.ValueLaws.{take-append-drop}
+use Rattle.cube_cells.proofs.Cells.WalkLaws.{OnErr-always}
 use Rattle.cube_cells.proofs.cube.Cube.add.Goals.{After-add_codes, After-add_to_sets, In_err-codes, In_ok-codes}
 use Rattle.cube_cells.proofs.cube.Cube.add.Goals.{In_err-add_to_sets, In_ok-add_to_sets}
 use Rattle.cube_cells.specs.Levels.{IsLeveled, cells_of}
@@ -27,7 +27,7 @@ back_levels : (c : After-add_to_sets) → take c.self.inside.levels.len
     (c.add_to_sets.new.levels ++ drop (length c.add_to_sets.new.levels) c.self.inside.levels.items)
     ≡ c.add_to_sets.new.levels
 back_levels c = take-append-drop c.self.inside.levels.items c.add_to_sets.new.levels c.self.inside.levels.len
-    (search rules) (omega (arith, ap (λ (l : List Level). length l) c.deref_mut-2.ensures.value))
+    (search rules) (omega (arith, ap (λ (l : List (Level _)). length l) c.deref_mut-2.ensures.value))
 
 -- ---- no room for a text
 refused : (c : In_err-codes) → IsLeveled c.self.inside.schema c.self.inside.sets.items c.self.inside.facts

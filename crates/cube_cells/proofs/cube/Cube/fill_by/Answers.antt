@@ -6,8 +6,8 @@ use Rattle.cube_cells.specs.Coded.{IsCoded, IsCodedCell, lattice_of}
 use Rattle.cube_cells.specs.Fill.{AreFilled, IsCubeOfAll, finest_set}
 use Rattle.cube_cells.specs.Levels.{IsLeveled, cells_of}
 use Rattle.cube_cells.specs.declared.cube.levels.Level.{Level}
-use Rattle.cube_cells.proofs.LevelLaws.{IsCubeOfAll-AreFilled, bit_and-finest_set}
-use Rattle.cube_cells.proofs.LeveledLaws.{sole_level}
+use Rattle.cube_cells.proofs.Filling.LevelLaws.{IsCubeOfAll-AreFilled, bit_and-finest_set}
+use Rattle.cube_cells.proofs.Cells.LeveledLaws.{sole_level}
 use Rattle.cube_cells.proofs.cube.Cube.fill_by.Goals.{In_ok-self-inside}
 use Rattle.cube_cells.proofs.cube.Cube.fill_by.Goals as goal
 
@@ -45,7 +45,7 @@ filled : (g : _) (c : In_ok-self-inside g) (facts : List Fact) → IsCubeOfAll f
     (lattice_of c.self.inside.schema c.self.inside.sets.items c.finest.inside.facts c.finest.inside.dictionaries.items
     (cells_of c.in_ok-self-inside.field-0.items))
 filled g c facts of =
-    let finest : Level = record { set = c.remove-finest.result.set; cells = c.shrink_cells.new.cells } in
+    let finest : Level _ = record { set = c.remove-finest.result.set; cells = c.shrink_cells.new.cells } in
     let same : c.finest.inside.schema ≡ c.self.inside.schema =
     rw (← c.finest.view_is, ← c.self.view_is) at c.requires.schema in
     let only : c.finest.inside.sets.items ≡ finest_set (length c.self.inside.schema.dimensions) ∷ [] =

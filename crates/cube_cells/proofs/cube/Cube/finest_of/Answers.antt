@@ -3,13 +3,13 @@ use Rattle.std.proofs.lemmas.List.{length-map}
 use Rattle.cube_cells.specs.Fill.{finest_set}
 use Rattle.cube_cells.specs.Shares.{facts_coded}
 use Rattle.cube_cells.specs.declared.cube.levels.Level.{Level}
-use Rattle.cube_cells.proofs.ShareLaws.{IsLeveled-AreFinestCells}
+use Rattle.cube_cells.proofs.Filling.ShareLaws.{IsLeveled-AreFinestCells}
 use Rattle.cube_cells.proofs.cube.Cube.finest_of.Goals as goal
 
 pub invariant_of-result : goal.invariant_of-result
 invariant_of-result g c =
     let coded = c.in_ok-coded.coded in
-    let level : Level = record { set = c.finest_of-set.result; cells = c.in_ok-cells.cells } in
+    let level : Level _ = record { set = c.finest_of-set.result; cells = c.in_ok-cells.cells } in
     let set : c.finest_of-set.result ≡ finest_set (length coded.schema.dimensions) =
     rw c.in_ok-coded.ensures.schema (search rules) in
     let sets : c.push.new.self.items ≡ c.finest_of-set.result ∷ [] =

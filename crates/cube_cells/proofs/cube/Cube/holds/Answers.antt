@@ -1,9 +1,9 @@
 use Rattle.std.proofs.Common.{arith, refl, sym, ◌≡◌, true}
 use Rattle.cube_core.specs.Takes.{fits}
-use Rattle.cube_cells.proofs.CubeLaws.{HoldsFact-IsCubeOf}
-use Rattle.cube_cells.proofs.KeyLaws.{HasFactCodes}
-use Rattle.cube_cells.proofs.LeveledLaws.{list_all-level_holds}
-use Rattle.cube_cells.proofs.CodedLaws.{IsCodedFact-IsCoded, cell_holds-HoldsFact}
+use Rattle.cube_cells.proofs.Cells.CubeLaws.{HoldsFact-IsCubeOf}
+use Rattle.cube_cells.proofs.Codes.KeyLaws.{HasFactCodes}
+use Rattle.cube_cells.proofs.Cells.LeveledLaws.{list_all-level_holds}
+use Rattle.cube_cells.proofs.Cells.CodedLaws.{IsCodedFact-IsCoded, cell_holds-HoldsFact}
 use Rattle.cube_cells.specs.Levels.{cells_of}
 use Rattle.cube_cells.proofs.cube.Cube.holds.Goals as goal
 

@@ -1,7 +1,7 @@
 use Rattle.std.proofs.Common.{ℕ, List, subst}
 use Rattle.std.specs.Prelude.{IfOk}
 use Rattle.cube_cells.specs.Cube.{IsNewLattice}
-use Rattle.cube_cells.proofs.NewLaws.{sets_of_part-one}
+use Rattle.cube_cells.proofs.Cells.NewLaws.{sets_of_part-one}
 use Rattle.cube_cells.proofs.cube.Cube.new.Goals as goal
 
 pub returns-clause-new : goal.returns-clause-new

@@ -1,6 +1,6 @@
 use Rattle.std.proofs.Common.{refl, true}
 use Rattle.std.proofs.lemmas.Result.{IfOk-weaker}
-use Rattle.cube_cells.proofs.RowLaws.{AreRowsOver-IsCubeOf}
+use Rattle.cube_cells.proofs.Rows.RowLaws.{AreRowsOver-IsCubeOf}
 use Rattle.cube_cells.proofs.cube.Cube.ordered_by.Goals as goal
 
 pub returns-clause-rows : goal.returns-clause-rows

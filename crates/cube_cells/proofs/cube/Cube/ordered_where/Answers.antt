@@ -4,7 +4,7 @@ use Rattle.std.proofs.lemmas.Result.{IfOk-weaker}
 use Rattle.std.proofs.lemmas.Slice.Zip.{AllZip-long}
 use Rattle.cube_cells.specs.Ranks.{AreRanks}
 use Rattle.cube_cells.specs.Rows.{IsRowOf}
-use Rattle.cube_cells.proofs.RowLaws.{AreRowsOf-ranks_of, is_aggregate_of-IsPermutation}
+use Rattle.cube_cells.proofs.Rows.RowLaws.{AreRowsOf-ranks_of, is_aggregate_of-IsPermutation}
 use Rattle.cube_cells.proofs.cube.Cube.ordered_where.Goals as goal
 
 pub places_in_order-requires-clause-ranks : goal.places_in_order-requires-clause-ranks

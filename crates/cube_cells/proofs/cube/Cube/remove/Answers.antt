@@ -3,11 +3,11 @@ use Rattle.cube_cells.specs.Coded.{lattice_of}
 use Rattle.cube_cells.specs.Cube.{TakesFact}
 use Rattle.cube_cells.specs.Levels.{IsLeveled, cells_of}
 use Rattle.cube_cells.specs.declared.cube.levels.Level.{Level}
-use Rattle.cube_cells.proofs.ValueLaws.{take-append-drop}
-use Rattle.cube_cells.proofs.CubeLaws.{IsCubeOf-TakesFact}
-use Rattle.cube_cells.proofs.KeyLaws.{HasFactCodes}
-use Rattle.cube_cells.proofs.LeveledLaws.{All-level_holds, IsLeveled-TakesFact}
-use Rattle.cube_cells.proofs.TableLaws.{AllZip-ChangesFirst}
+use Rattle.cube_cells.proofs.Tallies.ValueLaws.{take-append-drop}
+use Rattle.cube_cells.proofs.Cells.CubeLaws.{IsCubeOf-TakesFact}
+use Rattle.cube_cells.proofs.Codes.KeyLaws.{HasFactCodes}
+use Rattle.cube_cells.proofs.Cells.LeveledLaws.{All-level_holds, IsLeveled-TakesFact}
+use Rattle.cube_cells.proofs.Cells.TableLaws.{AllZip-ChangesFirst}
 use Rattle.cube_cells.specs.Levels.{TakesInLevel}
 use Rattle.cube_cells.proofs.cube.Cube.remove.Goals.{After-codes_of_values-codes, After-take_from_sets}
 use Rattle.cube_cells.proofs.cube.Cube.remove.Goals as goal
@@ -30,7 +30,7 @@ back : (c : After-take_from_sets) → take c.self.inside.levels.len
     (c.take_from_sets.new.levels ++ drop (length c.take_from_sets.new.levels) c.self.inside.levels.items)
     ≡ c.take_from_sets.new.levels
 back c = take-append-drop c.self.inside.levels.items c.take_from_sets.new.levels c.self.inside.levels.len (search rules)
-    (omega (arith, ap (λ (l : List Level). length l) c.deref_mut.ensures.value))
+    (omega (arith, ap (λ (l : List (Level _)). length l) c.deref_mut.ensures.value))
 
 taken : (c : After-take_from_sets)
     → HasFactCodes c.self.inside.dictionaries.items c.args.fact.now c.codes_of_values-codes.result

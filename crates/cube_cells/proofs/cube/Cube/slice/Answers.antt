@@ -2,25 +2,25 @@ use Rattle.std.proofs.Common.{◌≡◌, length, arith, ap, List, ℕ}
 use Rattle.std.proofs.lemmas.Result.{IfOk-weaker}
 use Rattle.cube_core.specs.Query.{matches}
 use Rattle.cube_cells.specs.Rows.{AreWantsOf, AreWantsMatched}
-use Rattle.cube_cells.proofs.RowLaws.{AreRowsOf-nil, AreRowsWhere-IsCubeOf}
-use Rattle.cube_cells.proofs.SliceLaws.{matches-length, AreWantsOf-AreWantsMatched}
+use Rattle.cube_cells.proofs.Rows.RowLaws.{AreRowsOf-nil, AreRowsWhere-IsCubeOf}
+use Rattle.cube_cells.proofs.Rows.SliceLaws.{matches-length, AreWantsOf-AreWantsMatched}
 use Rattle.cube_cells.proofs.cube.Cube.slice.Goals as goal
 
 -- a pattern of another width matches no cell
 pub returns-then-wanted-len-clause-rows : goal.returns-then-wanted-len-clause-rows
-returns-then-wanted-len-clause-rows c =
+returns-then-wanted-len-clause-rows g c =
     let pattern = c.args.pattern.now in
     rw (← c.self.view_is, c.new.ensures.items) (AreRowsOf-nil (matches pattern) c.self.invariant.coded
     (λ codes. matches-length c.self.inside.dictionaries.items pattern codes
     (λ same. c.if-wanted-len.true (omega (arith, ap (λ ws. length ws) c.wanted-wanted.ensures, same, c.len.ensures)))))
 
 pub returns-then-wanted-len-clause-cube : goal.returns-then-wanted-len-clause-cube
-returns-then-wanted-len-clause-cube c =
+returns-then-wanted-len-clause-cube g c =
     λ facts cube. AreRowsWhere-IsCubeOf (matches c.args.pattern.now) c.args.self.now facts c.new.result.items cube
-    (returns-then-wanted-len-clause-rows c)
+    (returns-then-wanted-len-clause-rows g c)
 
 pub wants_of-requires : goal.wants_of-requires
-wants_of-requires c = omega (
+wants_of-requires g c = omega (
   arith,
   c.if-wanted-len.false,
   c.len.ensures,
@@ -28,7 +28,7 @@ wants_of-requires c = omega (
 )
 
 pub returns-clause-rows : goal.returns-clause-rows
-returns-clause-rows c =
+returns-clause-rows g c =
     let dictionaries = c.self.inside.dictionaries.items in
     let pattern = c.args.pattern.now in
     let wants = c.in_ok-wants.wants.items in
@@ -43,7 +43,7 @@ returns-clause-rows c =
     (λ rows given. given (matches pattern) (rw c.deref-2.ensures.value are)) c.rows_where.ensures
 
 pub returns-clause-cube : goal.returns-clause-cube
-returns-clause-cube c =
+returns-clause-cube g c =
     IfOk-weaker c.rows_where.result _ _ (λ rows are.
     λ facts cube. AreRowsWhere-IsCubeOf (matches c.args.pattern.now) c.args.self.now facts rows.items cube are)
-    (returns-clause-rows c)
+    (returns-clause-rows g c)

@@ -1,6 +1,6 @@
 use Rattle.std.proofs.Common.{◌≡◌, ◌≤◌, ◌∷◌, ◌==◌, ap, arith, rules, length, ℕ, List}
 use Rattle.cube_cells.specs.Codes.{all_code}
-use Rattle.cube_cells.proofs.TableLaws.{mask_of_codes-below, if_bit}
+use Rattle.cube_cells.proofs.Cells.TableLaws.{mask_of_codes-below, if_bit}
 use Rattle.cube_cells.proofs.cube.codes.+mask_of.Goals as goal
 
 pub overflow_mul-result : goal.overflow_mul-result

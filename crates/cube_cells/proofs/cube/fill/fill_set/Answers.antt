@@ -1,10 +1,10 @@
 use Rattle.cube_cells.specs.Tally.{Tally}
 use Rattle.cube_cells.specs.declared.cube.codes.Codes.{Codes}
-use Rattle.cube_cells.proofs.FillLaws.{IsFillingSet-more}
+use Rattle.cube_cells.proofs.Filling.FillLaws.{IsFillingSet-more}
 use Rattle.cube_cells.proofs.cube.fill.fill_set.Goals as goal
 
 pub loop-codes-preserved : goal.loop-codes-preserved
-loop-codes-preserved c =
+loop-codes-preserved g c =
     let cell : Codes × Tally = (c.in-Some.codes.now, c.in-Some.cell.now) in
     let filling = rw c.in-Some.ensures.steps at c.loop-codes.invariant.2 in
     let merges = rw c.kept.ensures at c.in_ok-merge_at.ensures.merges in (

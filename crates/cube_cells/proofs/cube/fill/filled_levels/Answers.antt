@@ -2,7 +2,7 @@ use Rattle.std.proofs.Common.{rules, ◌≡◌, ◌++◌, ◌∷◌, [], ℕ, Li
 use Rattle.std.proofs.lemmas.List.{append-nil}
 use Rattle.std.specs.List.Sorted.{IsPermutation}
 use Rattle.cube_cells.specs.declared.cube.levels.Level.{Level}
-use Rattle.cube_cells.proofs.LevelLaws.{AreFilled-in_order, IsFiner-before, IsFiner-all}
+use Rattle.cube_cells.proofs.Filling.LevelLaws.{AreFilled-in_order, IsFiner-before, IsFiner-all}
 use Rattle.cube_cells.proofs.cube.fill.filled_levels.Goals as goal
 use Rattle.cube_cells.proofs.cube.fill.filled_levels.Goals.{in_default-via-in-Some+else-last-finest}
 use Rattle.cube_cells.proofs.cube.fill.filled_levels.Goals.{in_default-via-in_default}
@@ -37,7 +37,7 @@ pub returns-in_ok-levels-in_default : goal.returns-in_ok-levels-in_default
 returns-in_ok-levels-in_default g c =
     let made = c.in_ok-levels-in_default.levels.items in
     let moved : IsPermutation (made ++ []) c.in_order-in_default.result.items =
-    subst (λ (ls : List Level). IsPermutation ls c.in_order-in_default.result.items)
+    subst (λ (ls : List (Level _)). IsPermutation ls c.in_order-in_default.result.items)
     (sym (append-nil made)) c.in_order-in_default.ensures.same in
     AreFilled-in_order c.args.finest c.args.sets.now c.args.sets.now c.args.measures false made
     c.in_order-in_default.result.items c.requires.ascending

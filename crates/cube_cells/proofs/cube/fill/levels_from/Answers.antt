@@ -5,7 +5,7 @@ use Rattle.std.specs.declared.alloc.AllocError.{AllocError}
 use Rattle.std.proofs.lemmas.List.{length-map, get_or-map}
 use Rattle.cube_cells.specs.Fill.{IsMadeLevel}
 use Rattle.cube_cells.specs.declared.cube.levels.Level.{Level}
-use Rattle.cube_cells.proofs.FillLaws.{IsMakingLevels, IsMakingLevels-next}
+use Rattle.cube_cells.proofs.Filling.FillLaws.{IsMakingLevels, IsMakingLevels-next}
 use Rattle.cube_cells.proofs.cube.fill.levels_from.Goals as goal
 
 pub loop-done-preserved : goal.loop-done-preserved
@@ -23,12 +23,12 @@ loop-done-preserved g c =
     let within : end ≤ length order = rw whole at c.end_of_layer-end.ensures.within in
     let after : done < end = c.end_of_layer-end.ensures.after in
     let split : drop done order ≡ layer ++ drop end order = drop_split order done end (omega (arith, after)) in
-    let each : (i : ℕ) (unused : Result Level AllocError) → i < length layer
+    let each : (i : ℕ) (unused : Result (Level _) AllocError) → i < length layer
     → IfOk (get_or results i unused) (IsMadeLevel c.args.measures c.args.finest.now old (get_or layer i 0)) =
     rw (there, sets) at c.in_ok-made.ensures.each in
     let count : length results ≡ length layer = rw sets at c.in_ok-made.ensures.long in
     let long : length pushed.levels ≡ length layer =
-    sym (length-map pushed.levels Ok) ∙ ap (λ (l : List (Result Level AllocError)). length l) pushed.are ∙ count in
+    sym (length-map pushed.levels Ok) ∙ ap (λ (l : List (Result (Level _) AllocError)). length l) pushed.are ∙ count in
     let making : IsMakingLevels c.args.measures c.args.finest.now order (layer ++ drop end order) old =
     rw split at c.loop-done.invariant.1 in
     let next = IsMakingLevels-next c.args.measures c.args.finest.now order layer

@@ -1,5 +1,5 @@
 use Rattle.std.proofs.Common.{◌≤◌, ◌-◌, length, drop}
-use Rattle.cube_cells.proofs.FillLaws.{IsMakingLevels}
+use Rattle.cube_cells.proofs.Filling.FillLaws.{IsMakingLevels}
 use Rattle.cube_cells.proofs.cube.fill.levels_from.Given as goal
 
 abbrev pub invariant-loop-done : goal.invariant-loop-done

@@ -2,11 +2,11 @@ use Rattle.std.proofs.Common.{rules, ◌≡◌, Some}
 use Rattle.std.specs.Map.{set_value}
 use Rattle.std.proofs.lemmas.Result.{on_ok_weaker}
 use Rattle.cube_cells.specs.Coded.{coded_at, same_codes}
-use Rattle.cube_cells.proofs.FillLaws.{MergesIn-set_value}
+use Rattle.cube_cells.proofs.Filling.FillLaws.{MergesIn-set_value}
 use Rattle.cube_cells.proofs.cube.fill.merge_at.Goals as goal
 
 pub returns-in-Some-clause-merges : goal.returns-in-Some-clause-merges
-returns-in-Some-clause-merges c =
+returns-in-Some-clause-merges g c =
     let old = c.args.cells.now.entries in
     let new = (c.get_mut.follows.lender c.merge_counted.new.cell).entries in
     let found : coded_at old c.args.codes ≡ Some c.in-Some.cell.now = search rules in

@@ -8,5 +8,5 @@ map-pairs {K = K} {X = X} [] = refl
 map-pairs {K = K} {X = X} (e ∷ es) = ap (λ (l : List (K × X)). e ∷ l) (map-pairs es)
 
 pub returns : goal.returns
-returns c = map_same_pairs _ (λ v. v) _ (λ k v b w f' t. search rules) _ _ c.retain.ensures.filtered
+returns g c = map_same_pairs _ (λ v. v) _ (λ k v b w f' t. search rules) _ _ c.retain.ensures.filtered
     ∙ map-pairs c.args.cells.now.entries

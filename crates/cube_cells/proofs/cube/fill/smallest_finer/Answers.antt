@@ -5,8 +5,8 @@ use Rattle.cube_cells.proofs.cube.fill.smallest_finer.Goals as goal
 use Rattle.cube_cells.proofs.cube.fill.smallest_finer.Goals.{then-is_finer+then-len, else-is_finer}
 
 pub loop-level-preserved : goal.loop-level-preserved
-loop-level-preserved c =
-    let P : Level → Type 0 =
+loop-level-preserved g c =
+    let P : Level _ → Type 0 =
     λ level. Contains (c.args.finest.now ∷ c.args.levels.now) level × IsFiner level.set c.args.set in
     elim c.if-is_finer.branch [
       | then-is_finer+then-len w ↦

@@ -6,11 +6,11 @@ use Rattle.cube_cells.specs.declared.cube.levels.Level.{Level}
 use Rattle.cube_cells.proofs.cube.levels.new_levels.Goals as goal
 
 pub loop-set-preserved : goal.loop-set-preserved
-loop-set-preserved c =
+loop-set-preserved g c =
     let i = c.loop-set.set-index in
     let sets = c.args.sets.now in
     let inside : i < length sets = omega (arith, c.loop-set-test.true) in
-    let level : Level = record { set = get_or sets i 0; cells = c.in_ok-cells.cells } in
+    let level : Level _ = record { set = get_or sets i 0; cells = c.in_ok-cells.cells } in
     let is : IsNewLevel c.args.measures (get_or sets i 0) level =
     record { set_is = refl; new = c.in_ok-cells.ensures } in
     rw (c.in_ok-push.ensures.items, take_more sets i 0 inside)

@@ -4,4 +4,4 @@ use Rattle.cube_cells.specs.Levels.{IsNewLevel}
 use Rattle.cube_cells.proofs.cube.levels.new_levels.Given as goal
 
 abbrev pub invariant-loop-set : goal.invariant-loop-set
-invariant-loop-set l = AllZip (IsNewLevel l.measures) (take l.set-index l.sets) l.levels.items
+invariant-loop-set g l = AllZip (IsNewLevel l.measures) (take l.set-index l.sets) l.levels.items

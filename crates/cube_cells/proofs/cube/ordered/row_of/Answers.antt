@@ -6,7 +6,7 @@ use Rattle.cube_core.proofs.ListLaws.{AllZip-push}
 use Rattle.cube_cells.proofs.cube.ordered.row_of.Goals as goal
 
 pub loop-aggregate-preserved : goal.loop-aggregate-preserved
-loop-aggregate-preserved c =
+loop-aggregate-preserved g c =
     let i = c.loop-aggregate.aggregate-index in
     let aggregates = c.args.aggregates.now in
     let inside : i < length aggregates = omega arith in

@@ -3,7 +3,7 @@ use Rattle.std.specs.List.{range_with_len}
 use Rattle.std.specs.List.Sorted.{IsPermutation}
 use Rattle.std.proofs.lemmas.Cmp.{nat_list_cmp_total}
 use Rattle.cube_core.proofs.SetLaws.{range_with_len-more}
-use Rattle.cube_cells.proofs.RankLaws.{AreInOrder-IsSortedBy, IsSortedBy-key}
+use Rattle.cube_cells.proofs.Codes.RankLaws.{AreInOrder-IsSortedBy, IsSortedBy-key}
 use Rattle.cube_cells.proofs.cube.ranks.places_in_order.Goals as goal
 
 pub loop-place-preserved : goal.loop-place-preserved

@@ -1,6 +1,6 @@
 use Rattle.std.proofs.Common.{length, map}
 use Rattle.cube_cells.specs.Shares.{IsColumnOf}
-use Rattle.cube_cells.proofs.ShareLaws.{made_each}
+use Rattle.cube_cells.proofs.Filling.ShareLaws.{made_each}
 use Rattle.cube_cells.proofs.cube.shares.coded_facts.Goals as goal
 
 pub returns-clause-coded : goal.returns-clause-coded

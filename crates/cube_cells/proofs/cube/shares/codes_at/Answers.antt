@@ -3,7 +3,7 @@ use Rattle.std.proofs.Common.{map, take}
 use Rattle.std.proofs.lemmas.List.{get_or_read, length-map, length-take-le, map_more}
 use Rattle.std.proofs.lemmas.Grind.{get_or_default_zero}
 use Rattle.cube_cells.specs.declared.cube.shares.Column.{Column}
-use Rattle.cube_cells.proofs.ShareLaws.{codes-set}
+use Rattle.cube_cells.proofs.Filling.ShareLaws.{codes-set}
 use Rattle.cube_cells.proofs.cube.shares.codes_at.Goals as goal
 
 pub loop-dimension-preserved : goal.loop-dimension-preserved

@@ -1,7 +1,7 @@
 use Rattle.std.proofs.Common.{arith, ◌≡◌, ◌<◌, ◌+◌, ◌++◌, ◌∷◌, [], List, ap, ◌∙◌, sym, length, get_or, map, take}
 use Rattle.std.proofs.lemmas.List.{get_or_read, get_or-map, length-map, take_all, take_more}
 use Rattle.cube_core.specs.declared.fact.Fact.{Fact}
-use Rattle.cube_cells.proofs.ShareLaws.{AreCodedIn-more}
+use Rattle.cube_cells.proofs.Filling.ShareLaws.{AreCodedIn-more}
 use Rattle.cube_cells.proofs.cube.shares.column_of.Goals as goal
 
 pub loop-fact-preserved : goal.loop-fact-preserved

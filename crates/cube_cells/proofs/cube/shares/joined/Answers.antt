@@ -1,16 +1,16 @@
 use Rattle.std.proofs.Common.{rules, ◌≡◌, ◌∷◌, []}
-use Rattle.cube_cells.proofs.ShareLaws.{IsJoining, IsJoining-more, IsJoining-none}
+use Rattle.cube_cells.proofs.Filling.ShareLaws.{IsJoining, IsJoining-more, IsJoining-none}
 use Rattle.cube_cells.proofs.cube.shares.joined.Goals as goal
 
 pub loop-share-init : goal.loop-share-init
-loop-share-init c =
+loop-share-init g c =
     let all : c.into_iter-share-iterator.result.rest.items ≡ c.args.shares.items = search rules in
     let none : c.new-cells.result.entries ≡ [] = search rules in
     IsJoining-none c.args.shares.items c.into_iter-share-iterator.result.rest.items c.reserve.new.self.entries all
     (rw none at c.reserve.ensures.entries.0)
 
 pub loop-share-preserved : goal.loop-share-preserved
-loop-share-preserved c =
+loop-share-preserved g c =
     let step : c.loop-share.share-iterator.rest.items ≡ c.in-Some.share ∷ c.next.new.self.rest.items = search rules in
     let joining :
     IsJoining c.args.shares.items (c.in-Some.share ∷ c.next.new.self.rest.items) c.loop-share.cells.entries =

@@ -2,18 +2,19 @@ use Rattle.std.proofs.Common.{rules, arith, ◌≡◌, ◌<◌, [], ap, ◌∙�
 use Rattle.std.proofs.lemmas.List.{get_or_read, get_or-map, length-map}
 use Rattle.cube_cells.specs.Shares.{codes_at, facts_coded, set_of, share_at, share_of}
 use Rattle.cube_cells.specs.Walk.{key_in}
-use Rattle.cube_cells.proofs.ShareLaws.{key_in-codes_at, HasRoom-HasShare, HasShare-all, HasShare-more, HasShare-none}
-use Rattle.cube_cells.proofs.ShareLaws.{HasShare-other}
-use Rattle.cube_cells.proofs.cube.shares.share_cells.Goals.{then-share_at-share+in_ok-add_to_cell, else-share_at-share}
+use Rattle.cube_cells.proofs.Filling.ShareLaws.{key_in-codes_at, HasRoom-HasShare, HasShare-all, HasShare-more}
+use Rattle.cube_cells.proofs.Filling.ShareLaws.{HasShare-none}
+use Rattle.cube_cells.proofs.Filling.ShareLaws.{HasShare-other}
+use Rattle.cube_cells.proofs.cube.shares.share_cells.Goals.{then-share_at-share+in_ok-gather_at, else-share_at-share}
 use Rattle.cube_cells.proofs.cube.shares.share_cells.Goals as goal
 
 pub loop-place-init : goal.loop-place-init
-loop-place-init c =
+loop-place-init g c =
     let none : c.new-cells.result.entries ≡ [] = search rules in
     rw none (HasShare-none c.args.coded.now c.args.of c.args.share c.requires.coded)
 
-pub add_to_cell-requires : goal.add_to_cell-requires
-add_to_cell-requires c =
+pub gather_at-requires : goal.gather_at-requires
+gather_at-requires g c =
     let coded = c.args.coded.now in
     let place = c.loop-place.place in
     let fact = c.fact-item.result in
@@ -31,7 +32,7 @@ add_to_cell-requires c =
     rw (c.codes_at-codes.ensures ∙ key, c.as_slice.ensures) (rw at at room)
 
 pub loop-place-preserved : goal.loop-place-preserved
-loop-place-preserved c =
+loop-place-preserved g c =
     let coded = c.args.coded.now in
     let place = c.loop-place.place in
     let fact = c.fact-item.result in
@@ -48,16 +49,16 @@ loop-place-preserved c =
     let share : c.share_at.result ≡ share_at coded c.args.of place =
     c.share_at.ensures ∙ ap (λ columns. share_of c.args.of (codes_at columns place)) columns in
     elim c.if-share_at-share.branch [
-      | then-share_at-share+in_ok-add_to_cell w ↦
-          let adds = rw (w.codes_at-codes.ensures ∙ key, w.as_slice.ensures) at w.in_ok-add_to_cell.ensures.added in
+      | then-share_at-share+in_ok-gather_at w ↦
+          let adds = rw (w.codes_at-codes.ensures ∙ key, w.as_slice.ensures) at w.in_ok-gather_at.ensures.added in
           rw w.cells-is (HasShare-more coded c.args.of c.args.share place c.loop-place.cells.entries
-          w.add_to_cell.new.cells.entries fact.now c.requires.coded within
-          (sym share ∙ w.if-share_at-share.true) c.loop-place.invariant w.in_ok-add_to_cell.ensures.apart (rw at adds))
+          w.gather_at.new.cells.entries fact.now c.requires.coded within
+          (sym share ∙ w.if-share_at-share.true) c.loop-place.invariant w.in_ok-gather_at.ensures.apart (rw at adds))
       | else-share_at-share w ↦ rw w.cells-is
           (HasShare-other coded c.args.of c.args.share place c.loop-place.cells.entries fact.now within
           (λ same. w.if-share_at-share.false (share ∙ same)) c.loop-place.invariant)
     ]
 
 pub returns : goal.returns
-returns c = HasShare-all c.args.coded.now c.args.of c.args.share c.loop-place.place c.loop-place.cells.entries
+returns g c = HasShare-all c.args.coded.now c.args.of c.args.share c.loop-place.place c.loop-place.cells.entries
     (omega (arith, length-map c.args.coded.now.facts.now (λ fact. fact.now))) c.loop-place.invariant

@@ -2,7 +2,7 @@ use Rattle.std.proofs.Common.{rules, ◌≡◌, Some}
 use Rattle.std.proofs.lemmas.Result.{on_err_weaker}
 use Rattle.cube_cells.specs.Coded.{coded_at, same_codes}
 use Rattle.std.specs.Map.{set_value}
-use Rattle.cube_cells.proofs.WalkLaws.{AddsIn-set_value, SameCoded-set_value, OnOk-both}
+use Rattle.cube_cells.proofs.Cells.WalkLaws.{AddsIn-set_value, SameCoded-set_value, OnOk-both}
 use Rattle.cube_cells.proofs.cube.walk.add_to_cell.Goals as goal
 
 pub returns-in-Some-clause-added : goal.returns-in-Some-clause-added

@@ -1,7 +1,7 @@
 use Rattle.std.proofs.Common.{arith, sym, ◌≡◌, ◌||◌, true, nat_lt}
 use Rattle.std.proofs.lemmas.Bool.{or_left, or_right, lt-ltb}
 use Rattle.cube_cells.specs.Coded.{is_total_code}
-use Rattle.cube_cells.proofs.WalkLaws.{TakesIn-set_value, TakesIn-remove_entry}
+use Rattle.cube_cells.proofs.Cells.WalkLaws.{TakesIn-set_value, TakesIn-remove_entry}
 use Rattle.cube_cells.proofs.cube.walk.take_from_cell.Goals as goal
 use Rattle.cube_cells.proofs.cube.walk.take_from_cell.Goals.{else-minus_at-eq0-via-then-minus_at-eq0+else-not-is_total}
 use Rattle.cube_cells.proofs.cube.walk.take_from_cell.Goals.{else-minus_at-eq0-via-else-minus_at-eq0}

@@ -3,19 +3,22 @@ use Rattle.std.specs.Int.{w128}
 use Rattle.std.proofs.lemmas.Bool.Decides.{nat_tests}
 use Rattle.std.proofs.lemmas.Int.{to_z-of_z}
 use Rattle.cube_counts.specs.Bag.{size_of}
-use Rattle.cube_cells.proofs.TallyLaws.{IsMean-Null, IsMean-Ratio}
+use Rattle.cube_cells.proofs.Tallies.TallyLaws.{IsMean-Null, IsMean-Ratio}
 use Rattle.cube_cells.proofs.measure.Measure.mean.Goals as goal
 
 pub returns-then-is_empty : goal.returns-then-is_empty
-returns-then-is_empty c = λ values is.
-    let none : size_of c.self.inside.values ≡ 0 = grind (arith, nat_tests) in
-    IsMean-Null values c.self.inside.values (rw c.self.view_is is) none
+returns-then-is_empty g c = λ values is.
+    let bag = g.N.Numbers.bag in
+    let none : size_of (bag c.self.inside.values) ≡ 0 = grind (arith, nat_tests) in
+    IsMean-Null values (bag c.self.inside.values) (rw c.self.view_is is) none
 
 pub returns : goal.returns
-returns c = λ values is.
+returns g c = λ values is.
+    let bag = g.N.Numbers.bag in
     let fits : FitsSigned w128 c.self.inside.sum = search rules in
-    let some : 0 < size_of c.self.inside.values = grind (arith, nat_tests) in
+    let some : 0 < size_of (bag c.self.inside.values) = grind (arith, nat_tests) in
     let quotient_fits : FitsSigned w128 c.reduced-p.result.0 = search rules in
-    let lowest = rw c.len.ensures.len at (simp to_z-of_z at c.reduced-p.ensures) in
-    simp to_z-of_z (IsMean-Ratio values c.self.inside.values c.self.inside.sum c.reduced-p.result.0 c.reduced-p.result.1
+    let lowest = rw c.len.ensures at (simp to_z-of_z at c.reduced-p.ensures) in
+    simp to_z-of_z
+    (IsMean-Ratio values (bag c.self.inside.values) c.self.inside.sum c.reduced-p.result.0 c.reduced-p.result.1
     (rw c.self.view_is is) c.self.invariant some lowest)

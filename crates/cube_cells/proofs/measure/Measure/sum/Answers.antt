@@ -3,17 +3,19 @@ use Rattle.std.specs.Int.{w128}
 use Rattle.std.proofs.lemmas.Bool.Decides.{nat_tests}
 use Rattle.std.proofs.lemmas.Int.{to_z-of_z}
 use Rattle.cube_counts.specs.Bag.{size_of}
-use Rattle.cube_cells.proofs.TallyLaws.{IsSum-Null, IsSum-Whole}
+use Rattle.cube_cells.proofs.Tallies.TallyLaws.{IsSum-Null, IsSum-Whole}
 use Rattle.cube_cells.proofs.measure.Measure.sum.Goals as goal
 
 pub returns-then-is_empty : goal.returns-then-is_empty
-returns-then-is_empty c = λ values is.
-    let none : size_of c.self.inside.values ≡ 0 = grind (arith, nat_tests) in
-    IsSum-Null values c.self.inside.values (rw c.self.view_is is) none
+returns-then-is_empty g c = λ values is.
+    let bag = g.N.Numbers.bag in
+    let none : size_of (bag c.self.inside.values) ≡ 0 = grind (arith, nat_tests) in
+    IsSum-Null values (bag c.self.inside.values) (rw c.self.view_is is) none
 
 pub returns-else-is_empty : goal.returns-else-is_empty
-returns-else-is_empty c = λ values is.
+returns-else-is_empty g c = λ values is.
+    let bag = g.N.Numbers.bag in
     let fits : FitsSigned w128 c.self.inside.sum = search rules in
-    let some : 0 < size_of c.self.inside.values = grind (arith, nat_tests) in
+    let some : 0 < size_of (bag c.self.inside.values) = grind (arith, nat_tests) in
     simp to_z-of_z
-    (IsSum-Whole values c.self.inside.values c.self.inside.sum (rw c.self.view_is is) c.self.invariant some)
+    (IsSum-Whole values (bag c.self.inside.values) c.self.inside.sum (rw c.self.view_is is) c.self.invariant some)

@@ -1,7 +1,7 @@
 use Rattle.std.proofs.Common.{◌∙◌}
 use Rattle.std.specs.Str.{bytes_eq}
 use Rattle.std.specs.String.{string_bytes}
-use Rattle.cube_cells.proofs.DictionaryLaws.{position-map}
+use Rattle.cube_cells.proofs.Codes.DictionaryLaws.{position-map}
 use Rattle.cube_cells.proofs.cube.dictionary.Dictionary.code_of.Goals as goal
 
 pub returns : goal.returns

@@ -1,7 +1,7 @@
 use Rattle.std.proofs.Common.{arith, subst, sym, ◌∙◌}
 use Rattle.cube_cells.specs.Codes.{IsDictionary}
-use Rattle.cube_cells.proofs.DictionaryLaws.{StandsAt-position, is_listed-position, is_listed-StandsAt}
-use Rattle.cube_cells.proofs.DictionaryLaws.{IsCodeOf-StandsAt, IsCodeOf-no_code, no_code-place}
+use Rattle.cube_cells.proofs.Codes.DictionaryLaws.{StandsAt-position, is_listed-position, is_listed-StandsAt}
+use Rattle.cube_cells.proofs.Codes.DictionaryLaws.{IsCodeOf-StandsAt, IsCodeOf-no_code, no_code-place}
 use Rattle.cube_cells.proofs.cube.dictionary.Dictionary.code_of_text.Goals as goal
 
 pub overflow_cast-result : goal.overflow_cast-result

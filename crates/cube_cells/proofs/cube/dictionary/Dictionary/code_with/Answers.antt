@@ -2,7 +2,7 @@ use Rattle.std.proofs.Common.{◌≡◌, ◌==◌, ◌∙◌, subst, true}
 use Rattle.std.proofs.lemmas.Bool.{not_from_false, ne_eqb}
 use Rattle.cube_core.specs.Layout.{is_listed}
 use Rattle.cube_cells.specs.Codes.{IsDictionary, no_code}
-use Rattle.cube_cells.proofs.DictionaryLaws.{is_code-is_listed}
+use Rattle.cube_cells.proofs.Codes.DictionaryLaws.{is_code-is_listed}
 use Rattle.cube_cells.proofs.cube.dictionary.Dictionary.code_with.Goals as goal
 
 pub returns-clause-valid : goal.returns-clause-valid

@@ -1,6 +1,6 @@
 use Rattle.std.proofs.Common.{◌≤◌, arith, inl, inr, ◌∙◌}
 use Rattle.cube_cells.specs.Codes.{all_code}
-use Rattle.cube_cells.proofs.TextLaws.{compared_high}
+use Rattle.cube_cells.proofs.Codes.TextLaws.{compared_high}
 use Rattle.cube_cells.proofs.cube.dictionary.Dictionary.compare.Goals as goal
 use Rattle.cube_cells.proofs.cube.dictionary.Dictionary.compare.Goals.{
   then-left-ge-NULL-via-then-left-ge-NULL,

@@ -1,7 +1,7 @@
 use Rattle.std.proofs.Common.{arith, ◌≡◌, map, false}
 use Rattle.std.specs.String.{string_bytes}
 use Rattle.cube_core.specs.Layout.{is_listed}
-use Rattle.cube_cells.proofs.DictionaryLaws.{IsDictionary-push, no_code-next, map-insert_key}
+use Rattle.cube_cells.proofs.Codes.DictionaryLaws.{IsDictionary-push, no_code-next, map-insert_key}
 use Rattle.std.proofs.lemmas.List.{length-map}
 use Rattle.cube_cells.proofs.cube.dictionary.Dictionary.push.Goals as goal
 

@@ -8,10 +8,10 @@ use Rattle.cube_cells.specs.declared.cube.ordered.Coded.{Coded}
 use Rattle.cube_cells.proofs.cube.ordered.OrderedCells.row_at.Goals as goal
 
 pub key_in-requires : goal.key_in-requires
-key_in-requires c =
+key_in-requires g c =
     let cells = c.self.inside.cells.items in
     let coded = c.index-coded.result.now in
-    let cell_of : Coded → Key × Tally = λ p. (key_at p.dictionaries.now p.codes.now.codes, p.cell.now) in
+    let cell_of : Coded _ → Key × Tally = λ p. (key_at p.dictionaries.now p.codes.now.codes, p.cell.now) in
     let long = length-map cells cell_of in
     let inside : c.args.place < length cells =
     omega (arith, long, ap (λ (o : CellsInOrder). length o.cells) c.self.view_is, c.requires) in
@@ -19,10 +19,10 @@ key_in-requires c =
     (c.self.invariant c.args.place coded inside).0
 
 pub row_of-requires : goal.row_of-requires
-row_of-requires c =
+row_of-requires g c =
     let cells = c.self.inside.cells.items in
     let coded = c.index-coded.result.now in
-    let cell_of : Coded → Key × Tally = λ p. (key_at p.dictionaries.now p.codes.now.codes, p.cell.now) in
+    let cell_of : Coded _ → Key × Tally = λ p. (key_at p.dictionaries.now p.codes.now.codes, p.cell.now) in
     let long = length-map cells cell_of in
     let inside : c.args.place < length cells =
     omega (arith, long, ap (λ (o : CellsInOrder). length o.cells) c.self.view_is, c.requires) in

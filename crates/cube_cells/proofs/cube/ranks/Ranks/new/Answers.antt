@@ -1,4 +1,4 @@
-use Rattle.cube_cells.proofs.RankLaws.{AreRanks-LeadBack}
+use Rattle.cube_cells.proofs.Codes.RankLaws.{AreRanks-LeadBack}
 use Rattle.cube_cells.proofs.cube.ranks.Ranks.new.Goals as goal
 
 pub returns : goal.returns

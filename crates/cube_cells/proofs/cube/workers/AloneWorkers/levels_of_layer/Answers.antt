@@ -1,13 +1,14 @@
 use Rattle.std.proofs.Common.{◌<◌, length, get_or, arith}
 use Rattle.cube_cells.specs.Fill.{IsMadeLevel}
-use Rattle.cube_cells.proofs.FillLaws.{AreMadeLevels-none, AreMadeLevels-more}
+use Rattle.cube_cells.proofs.Filling.FillLaws.{AreMadeLevels-none, AreMadeLevels-more}
 use Rattle.cube_cells.proofs.cube.workers.AloneWorkers.levels_of_layer.Goals as goal
 
 pub loop-set-init : goal.loop-set-init
-loop-set-init c = rw c.in_ok-made.ensures.items (AreMadeLevels-none c.args.measures c.args.finest.now c.args.levels.now)
+loop-set-init g c = rw c.in_ok-made.ensures.items
+    (AreMadeLevels-none c.args.measures c.args.finest.now c.args.levels.now)
 
 pub loop-set-preserved : goal.loop-set-preserved
-loop-set-preserved c =
+loop-set-preserved g c =
     let i = c.loop-set.set-index in
     let layer = c.args.layer.now in
     let inside : i < length layer = omega (arith, c.loop-set-test.true) in

@@ -1,0 +1,135 @@
+-- Laws of tallies that are joined: the bags of one added to those of another, and the tally of the facts of both.
+use Rattle.std.specs.Prelude.{ℤ, All}
+use Rattle.std.proofs.Common.{◌≡◌, ℕ, ◌+◌, ◌<◌, ◌≤◌, List, [], arith, ap, sym, ◌∙◌, subst, length, set, take}
+use Rattle.std.proofs.lemmas.Bool.{cases_lt, cases_eq}
+use Rattle.std.proofs.Math.Logic.{⊎_elim}
+use Rattle.std.proofs.lemmas.List.{get_or-set_same, get_or-set_other, get_or-take, get_or_default, get_or_past}
+use Rattle.std.proofs.lemmas.List.{length-set, length-take}
+use Rattle.cube_counts.specs.Bag.{Bag, AddsBag, held_of, size_of}
+use Rattle.cube_cells.specs.Tally.{bag_at, AddsBags, SameBags}
+use Rattle.cube_counts.proofs.BagLaws.{held_le_size, size_of-bag}
+use Rattle.cube_cells.proofs.Tallies.ValueLaws.{AreWithin}
+
+-- past the first bags there is none
+bag_at-take_past : (bags : List Bag) (i m : ℕ) → i ≤ m → bag_at (take i bags) m ≡ []
+bag_at-take_past bags i m past = get_or_past (take i bags) m [] (omega (arith, length-take i bags))
+
+bag_at-take_other : (bags : List Bag) (i m : ℕ) → (m ≡ i → ⊥) → bag_at (take (i + 1) bags) m ≡ bag_at (take i bags) m
+bag_at-take_other bags i m apart = ⊎_elim
+    (λ below. get_or-take (i + 1) bags m [] (omega arith) ∙ sym (get_or-take i bags m [] below))
+    (λ past. bag_at-take_past bags (i + 1) m (omega arith) ∙ sym (bag_at-take_past bags i m past))
+    (cases_lt m i)
+
+-- a bag is as it was where nothing was added yet
+AddsBags-bag_at : (old bags more : List Bag) (i : ℕ) → AddsBags old bags (take i more)
+    → AddsBag (bag_at old i) (bag_at bags i) []
+AddsBags-bag_at old bags more i adds =
+    subst (AddsBag (bag_at old i) (bag_at bags i)) (bag_at-take_past more i i (omega arith)) (adds.each i)
+
+AddsBag-after_nil : (old bag new more : Bag) → AddsBag old bag [] → AddsBag bag new more → AddsBag old new more
+AddsBag-after_nil old bag new more first second = record { held = λ x. omega (arith, first.held x, second.held x) }
+
+-- the bag at i is added after those before it
+pub AddsBags-more : (old bags more : List Bag) (i : ℕ) (bag : Bag) → AddsBags old bags (take i more) → i < length bags
+    → AddsBag (bag_at bags i) bag (bag_at more i) → AddsBags old (set bags i bag) (take (i + 1) more)
+AddsBags-more old bags more i bag adds inside adds_here = record {
+  same_length = omega (arith, length-set bags i bag, adds.same_length);
+  each = λ m. ⊎_elim
+      (λ same.
+      subst (λ k. AddsBag (bag_at old k) (bag_at (set bags i bag) k) (bag_at (take (i + 1) more) k)) (sym same) here)
+      (λ apart. rw (get_or-set_other bags i m bag [] apart, bag_at-take_other more i m apart) (adds.each m))
+      (cases_eq m i);
+} where
+  here : AddsBag (bag_at old i) (bag_at (set bags i bag) i) (bag_at (take (i + 1) more) i)
+  here = rw (get_or-set_same bags i bag [] inside, get_or-take (i + 1) more i [] (omega arith))
+      (AddsBag-after_nil (bag_at old i) (bag_at bags i) bag (bag_at more i)
+      (AddsBags-bag_at old bags more i adds) adds_here)
+
+-- the bag at i is as large as it was
+pub size_of-AddsBags : (old bags more : List Bag) (i : ℕ) → AddsBags old bags (take i more)
+    → size_of (bag_at bags i) ≡ size_of (bag_at old i)
+size_of-AddsBags old bags more i adds =
+    omega (arith, size_of-bag (bag_at old i) (bag_at bags i) [] (AddsBags-bag_at old bags more i adds))
+
+-- no bag is larger than both
+size_of-take : (more : List Bag) (i m : ℕ) → size_of (bag_at (take i more) m) ≤ size_of (bag_at more m)
+size_of-take more i m = ⊎_elim
+    (λ below. omega (arith, ap size_of (get_or-take i more m [] below)))
+    (λ past. omega (arith, ap size_of (bag_at-take_past more i m past)))
+    (cases_lt m i)
+
+pub AddsBags-bound : (old bags more : List Bag) (i : ℕ) → AddsBags old bags (take i more) → (m : ℕ)
+    → size_of (bag_at bags m) ≤ size_of (bag_at old m) + size_of (bag_at more m)
+AddsBags-bound old bags more i adds m = omega (
+  arith,
+  size_of-bag (bag_at old m) (bag_at bags m) (bag_at (take i more) m) (adds.each m),
+  size_of-take more i m,
+)
+
+-- also where the bag at i was lost
+pub AddsBags-bound_set : (old bags more : List Bag) (i : ℕ) (bag : Bag) → AddsBags old bags (take i more)
+    → i < length bags → size_of bag ≡ 0 → (m : ℕ)
+    → size_of (bag_at (set bags i bag) m) ≤ size_of (bag_at old m) + size_of (bag_at more m)
+AddsBags-bound_set old bags more i bag adds inside empty m = ⊎_elim
+    (λ same. omega (
+      arith,
+      ap (λ k. size_of (bag_at (set bags i bag) k)) same,
+      ap size_of (get_or-set_same bags i bag [] inside),
+      empty,
+    ))
+    (λ apart. omega (arith, ap size_of (get_or-set_other bags i m bag [] apart), AddsBags-bound old bags more i adds m))
+    (cases_eq m i)
+
+-- the size of a bag at most the facts, also past the last bag
+AreWithin-bag_at : (facts : ℕ) (bags : List Bag) (m : ℕ) → AreWithin facts bags → size_of (bag_at bags m) ≤ facts
+AreWithin-bag_at facts bags m within = ⊎_elim
+    (λ inside. within m [] inside)
+    (λ past. omega (arith, ap size_of (get_or_past bags m [] past)))
+    (cases_lt m (length bags))
+
+-- no bag of both is larger than the facts of both
+pub AreWithin-both : (facts others : ℕ) (old new more : List Bag) → AreWithin facts old → AreWithin others more
+    → ((m : ℕ) → size_of (bag_at new m) ≤ size_of (bag_at old m) + size_of (bag_at more m))
+    → AreWithin (facts + others) new
+AreWithin-both facts others old new more within_old within_more sizes = λ k d inside.
+    omega (
+      arith,
+      sizes k,
+      AreWithin-bag_at facts old k within_old,
+      AreWithin-bag_at others more k within_more,
+      ap size_of (get_or_default new k d [] inside),
+    )
+
+-- and both fit where the facts do
+pub AreWithin-room : (facts others : ℕ) (old more : List Bag) → AreWithin facts old → AreWithin others more → (m : ℕ)
+    → size_of (bag_at old m) + size_of (bag_at more m) ≤ facts + others
+AreWithin-room facts others old more within_old within_more m =
+    omega (arith, AreWithin-bag_at facts old m within_old, AreWithin-bag_at others more m within_more)
+
+-- bags that were added to empty ones are the same
+pub AddsBags-SameBags : (empty new more : List Bag) → length empty ≡ length more → All (λ bag. size_of bag ≡ 0) empty
+    → AddsBags empty new more → SameBags more new
+AddsBags-SameBags empty new more widths none adds = record {
+  same_length = omega (arith, widths, adds.same_length);
+  bags = λ m. record { held = λ x. omega (arith, (adds.each m).held x, nothing m x) };
+} where
+  nothing : (m : ℕ) (x : ℤ) → held_of (bag_at empty m) x ≡ 0
+  nothing m x = ⊎_elim
+      (λ inside. omega (arith, held_le_size (bag_at empty m) x, none m [] inside))
+      (λ past. ap (λ (bag : Bag). held_of bag x) (get_or_past empty m [] past))
+      (cases_lt m (length empty))
+
+-- and no larger than the facts
+pub AreWithin-both_empty : (facts : ℕ) (empty new more : List Bag) → All (λ bag. size_of bag ≡ 0) empty
+    → AreWithin facts more → ((m : ℕ) → size_of (bag_at new m) ≤ size_of (bag_at empty m) + size_of (bag_at more m))
+    → AreWithin facts new
+AreWithin-both_empty facts empty new more none within sizes =
+    let nothing : AreWithin 0 empty = λ k d inside. omega (arith, none k d inside) in
+    λ k d inside. omega (arith, AreWithin-both 0 facts empty new more nothing within sizes k d inside)
+
+-- and both fit where the facts do
+pub AreWithin-room_empty : (facts : ℕ) (empty more : List Bag) → All (λ bag. size_of bag ≡ 0) empty
+    → AreWithin facts more → (m : ℕ) → size_of (bag_at empty m) + size_of (bag_at more m) ≤ facts
+AreWithin-room_empty facts empty more none within m =
+    let nothing : AreWithin 0 empty = λ k d inside. omega (arith, none k d inside) in
+    omega (arith, AreWithin-room 0 facts empty more nothing within m)

@@ -1,0 +1,15 @@
+use Rattle.std.proofs.Common.{rules}
+use Rattle.cube_cells.proofs.Tallies.MergeLaws.{AreWithin-both}
+use Rattle.cube_cells.proofs.Tallies.ValueLaws.{take-append-drop}
+use Rattle.cube_cells.proofs.cell.Cell.merge.Goals as goal
+
+pub invariant_of-self : goal.invariant_of-self
+invariant_of-self g c =
+    let old = c.self.inside.measures.items in
+    let new = c.merge_measures.new.measures in
+    let more = c.more.inside.measures.items in
+    let sizes = rw (c.deref_mut.ensures.value, c.deref.ensures.value) at c.merge_measures.ensures.sizes in
+    let width = rw c.deref_mut.ensures.value at c.merge_measures.ensures.width in
+    let same = take-append-drop old new c.self.inside.measures.len (search rules) width in
+    rw same (AreWithin-both c.self.inside.facts c.more.inside.facts old new more c.self.invariant c.more.invariant
+    sizes)

@@ -1,5 +1,0 @@
-use Rattle.cube_cells.proofs.ValueLaws.{IsTallyOf-nil}
-use Rattle.cube_cells.proofs.cell.Cell.new.Goals as goal
-
-pub returns-clause-tally : goal.returns-clause-tally
-returns-clause-tally c = IsTallyOf-nil c.in_ok-empty_measures.field-0.items c.in_ok-empty_measures.ensures.empty
