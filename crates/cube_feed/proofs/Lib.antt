@@ -6,3 +6,4 @@ pub mod LineLaws
 pub mod HeaderLaws
 pub mod FeedLaws
 pub mod FaultLaws
+pub mod TurnLaws

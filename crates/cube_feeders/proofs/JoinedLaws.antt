@@ -156,6 +156,25 @@ tell-joined stands s sources comings outs ends old mid linked come joined gather
           };
     }
 
+-- what ends tell of the feeds alone
+pub tell-ends : (s : Layout) (sources : Told) (comings : List Ahead) (outs : List (List (Sending Parcel)))
+    (ends : List FeederEnd) → comings ≡ map (coming_of s) sources → EndsOf comings outs ends
+    → AllTell s sources [] ends
+tell-ends s sources comings outs ends come joined =
+    let too = joined.same_comings in
+    let told : length comings ≡ length sources = ap length come ∙ length-map sources (coming_of s) in
+    record {
+      all = omega arith;
+      links = λ j inside. absurd (omega arith);
+      each = λ k e below.
+          let f = joined.each k e below in
+          record {
+            items = f.items;
+            stops = rw (← get_or-map (coming_of s) sources k None None (omega arith), ← come) f.stops;
+            names = λ j d inside. absurd (omega arith);
+          };
+    }
+
 -- settled builders have all taken the same feeds
 pub takes-settled : {B : Type 0} (stands : B → B → Arrivals → Type 0) (s : Layout) (sources : Told)
     (outs : List (List (Sending Parcel))) (ends : List FeederEnd) (builders : List B)
@@ -204,7 +223,7 @@ takes-settled {B} stands s sources outs ends builders old mid new linked as_many
           (settles.enough j d low) kept));
     }
 
-map-told : {A B C : Type 0} (f : A → B) (g : B → C) (xs : List A) → map (λ x. g (f x)) xs ≡ map g (map f xs)
+pub map-told : {A B C : Type 0} (f : A → B) (g : B → C) (xs : List A) → map (λ x. g (f x)) xs ≡ map g (map f xs)
 map-told f g [] = refl
 map-told f g (x ∷ xs) = ap (λ rest. g (f x) ∷ rest) (map-told f g xs)
 

@@ -5,3 +5,4 @@ pub mod WireLaws
 pub mod TakeLaws
 pub mod SettleLaws
 pub mod JoinedLaws
+pub mod ShareLaws

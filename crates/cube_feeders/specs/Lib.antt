@@ -6,3 +6,4 @@ pub mod Starting
 pub mod Wiring
 pub mod Settling
 pub mod FeedingAll
+pub mod Shares

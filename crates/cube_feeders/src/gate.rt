@@ -1,4 +1,5 @@
 //! Where a caller may watch the links of a run, and hold it.
+use crate::roster::Place;
 
 /// What is called around the parcels of a run (this project's choice). A gate that doesn't return holds its thread.
 ///
@@ -22,10 +23,19 @@ impl Gate for OpenGate {
     fn after_take(&self, _source: u32, _builder: u32, _k: u64) {}
 }
 
-/// A link, by its source and its builder, with the gate that is called around its parcels.
+/// A link, by the number that its builder has for its source and by the builder's place, with the gate that is called
+/// around its parcels.
 #[derive(Drop)]
 pub(crate) struct GatedLink<'g, G: Gate> {
     pub source: u32,
-    pub builder: u32,
+    pub place: Place,
     pub gate: &'g G,
+}
+
+impl<'g, G: Gate> GatedLink<'g, G> {
+    /// Tells the gate that the link's `k`-th parcel was taken.
+    pub(crate) fn tell(&self, k: u64) {
+        let source = self.place.before.saturating_add(self.source);
+        self.gate.after_take(source, self.place.builder, k);
+    }
 }

@@ -8,6 +8,7 @@ ghost use Rattle.cube_feeders.specs.declared.parcel.Parcel.{Parcel as TheParcel}
 use crate::gate::{Gate, GatedLink};
 use crate::parcel::Parcel;
 use crate::patience::EmptyRounds;
+use crate::roster::Place;
 use cube_core::Item;
 use cube_feed::TakesItems;
 use cube_link::Inlet;
@@ -73,8 +74,7 @@ fn look<W: Wait, B: TakesItems, G: Gate>(
         return false;
     };
     taken.parcels = taken.parcels.saturating_add(1);
-    link.gate
-        .after_take(link.source, link.builder, taken.parcels);
+    link.tell(taken.parcels);
     match parcel {
         Parcel::Line(item) => accept(rt, builder, link.source, item, wanting),
         Parcel::End => taken.ended = true,
@@ -110,7 +110,7 @@ fn visit<W: Wait, B: TakesItems, G: Gate>(
 // Visits each link that hasn't ended. Whether a parcel was in any of them.
 fn look_round<W: Wait, B: TakesItems, G: Gate>(
     rt: &W,
-    number: u32,
+    place: Place,
     builder: &mut B,
     inlets: &mut [Inlet<Parcel>],
     taken: &mut [Taken; MOST_SOURCES],
@@ -129,7 +129,7 @@ fn look_round<W: Wait, B: TakesItems, G: Gate>(
         if !taken[i].ended {
             let link = GatedLink {
                 source: i as u32 + 1,
-                builder: number,
+                place,
                 gate,
             };
             found |= visit(rt, &link, builder, &mut inlets[i], &mut taken[i], wanting);
@@ -153,7 +153,7 @@ fn have_ended(taken: &[Taken; MOST_SOURCES], count: usize) -> bool
 }
 
 /// Takes from the links of all sources, inlet s - 1 from source s, until each has given its end, and applies each item to
-/// the builder as it comes; `number` is the builder's, handed to the gate.
+/// the builder as it comes; the gate is told each source by the builder's place.
 ///
 /// It goes round the links and takes up to 32 parcels from each. After rounds in which nothing was found it yields, 200 times
 /// at most, and then naps, for a microsecond at first and twice as long each time, up to half a millisecond; where the links
@@ -161,7 +161,7 @@ fn have_ended(taken: &[Taken; MOST_SOURCES], count: usize) -> bool
 /// goes on taking, and drops what comes. Where the builder is full it waits for good.
 pub fn gather<W: Wait, B: TakesItems, G: Gate>(
     rt: &W,
-    number: u32,
+    place: Place,
     builder: &mut B,
     inlets: &mut [Inlet<Parcel>],
     gate: &G,
@@ -184,7 +184,7 @@ pub fn gather<W: Wait, B: TakesItems, G: Gate>(
         if have_ended(&taken, inlets.len()) {
             return if wanting { Err(AllocError) } else { Ok(()) };
         }
-        if look_round(rt, number, builder, inlets, &mut taken, &mut wanting, gate) {
+        if look_round(rt, place, builder, inlets, &mut taken, &mut wanting, gate) {
             empty = EmptyRounds::none();
         } else {
             empty.wait(rt, inlets);

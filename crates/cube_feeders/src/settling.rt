@@ -7,7 +7,6 @@ use crate::ends::{first_stop, first_unsealed};
 use crate::fault::FeedingFault;
 use crate::parcel::{FeederEnd, Parcel};
 use crate::roster::Gatherer;
-use cube_feed::TakesItems;
 use cube_link::Inlet;
 
 // Holds the receipt of the link to a builder, if one was given, against the link's inlet.
@@ -37,7 +36,7 @@ fn hold_builder(builder: usize, ends: &mut Vec<FeederEnd>, inlets: &mut Vec<Inle
 }
 
 // Holds all receipts against the builders' inlets.
-fn hold_all<B: TakesItems>(ends: Vec<FeederEnd>, gatherers: Vec<Gatherer<B>>) -> Vec<Gatherer<B>>
+fn hold_all<B: Drop>(ends: Vec<FeederEnd>, gatherers: Vec<Gatherer<B>>) -> Vec<Gatherer<B>>
     requires few { vec_len gatherers ≤ 8 }
     requires fit { AllFit ends.items (map received_by gatherers.items) }
     ensures kept { map kept_of result.items ≡ map kept_of gatherers.items }
@@ -52,7 +51,7 @@ fn hold_all<B: TakesItems>(ends: Vec<FeederEnd>, gatherers: Vec<Gatherer<B>>) ->
 }
 
 // Whether memory was wanting for a builder.
-fn is_wanting<B: TakesItems>(gatherers: &[Gatherer<B>]) -> bool
+fn is_wanting<B: Drop>(gatherers: &[Gatherer<B>]) -> bool
     ensures { IsFalse result → All (λ gatherer. gatherer.wanting ≡ false) gatherers.now }
 {
     for gatherer in gatherers {
@@ -68,7 +67,7 @@ fn is_wanting<B: TakesItems>(gatherers: &[Gatherer<B>]) -> bool
 ///
 /// The first fault of these: the lowest source that stopped, want of memory, the lowest source that lacks a receipt.
 /// A link that gave its end has nothing left that its receipt names.
-pub(crate) fn settle<B: TakesItems>(
+pub(crate) fn settle<B: Drop>(
     ends: Vec<FeederEnd>,
     gatherers: Vec<Gatherer<B>>,
 ) -> Result<Vec<Gatherer<B>>, FeedingFault>

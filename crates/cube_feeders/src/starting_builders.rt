@@ -29,7 +29,6 @@ impl<B: TakesItems> Promise<Option<Gatherer<B>>> for PromisesGather<B> {
 
 fn gather_on_word<W: Wait, B: TakesItems, G: Gate>(
     rt: &W,
-    number: u32,
     post: Inlet<Word>,
     gatherer: Gatherer<B>,
     gate: &G,
@@ -40,7 +39,7 @@ fn gather_on_word<W: Wait, B: TakesItems, G: Gate>(
     let mut gatherer = gatherer;
     match wait_for_word(rt, post) {
         Word::Go => {
-            gather_all(rt, number, &mut gatherer, gate);
+            gather_all(rt, &mut gatherer, gate);
             Some(gatherer)
         }
         Word::Stop => None,
@@ -98,7 +97,6 @@ pub(crate) fn with_builders<
         keep(gatherer, roster);
         return Ok(());
     }
-    let number = builders.len() as u32;
     let post = roster.posts.pop().unwrap();
     let promise = PromisesGather {
         old: Snapshot::of(&gatherer),
@@ -108,7 +106,7 @@ pub(crate) fn with_builders<
         move || -> Option<Gatherer<B>>
             requires { IsReady B.sources B.stands gatherer }
             ensures { IfSome result (HasGathered B.stands gatherer) }
-        { gather_on_word(rt, number, post, gatherer, gate) },
+        { gather_on_word(rt, post, gatherer, gate) },
     );
     let Ok(child) = started else {
         tell_all(&mut roster.words, Word::Stop);

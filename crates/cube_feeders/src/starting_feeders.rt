@@ -50,7 +50,6 @@ fn feed_on_word<W: Wait, R: Read + Drop, G: Gate>(
 /// Gathers from all links of a builder, and notes whether memory was wanting.
 pub(crate) fn gather_all<W: Wait, B: TakesItems, G: Gate>(
     rt: &W,
-    number: u32,
     gatherer: &mut Gatherer<B>,
     gate: &G,
 )
@@ -59,7 +58,7 @@ pub(crate) fn gather_all<W: Wait, B: TakesItems, G: Gate>(
 {
     let answer = gather(
         rt,
-        number,
+        gatherer.place,
         &mut gatherer.builder,
         gatherer.inlets.as_mut_slice(),
         gate,
@@ -143,7 +142,7 @@ pub(crate) fn with_feeders<
 {
     if feeders.is_empty() {
         tell_all(&mut roster.words, Word::Go);
-        gather_all(rt, 0, own, gate);
+        gather_all(rt, own, gate);
         return Ok(());
     }
     let post = roster.posts.pop().unwrap();

@@ -4,16 +4,16 @@ ghost use Rattle.std.specs.List.{All};
 ghost use Rattle.cube_feeders.specs.Wiring.{coming_of, Connects, AreLinked};
 
 use crate::parcel::Parcel;
-use crate::roster::{Feeder, Gatherer};
+use crate::roster::{Feeder, Gatherer, Place};
 use crate::words::Word;
 use cube_core::Schema;
-use cube_feed::{Feed, TakesItems};
+use cube_feed::Feed;
 use cube_link::{Inlet, Outlet, link};
 use std::alloc::{AllocError, Global};
 use std::io::Read;
 
 // A link from one source to each builder.
-fn connect<B: TakesItems>(
+fn connect<B: Drop>(
     alloc: Global,
     capacity: usize,
     gatherers: &mut [Gatherer<B>],
@@ -31,7 +31,7 @@ fn connect<B: TakesItems>(
 }
 
 /// The feeders of all readers, each linked to every builder.
-pub(crate) fn feeders_of<'e, R: Read + Drop, B: TakesItems>(
+pub(crate) fn feeders_of<'e, R: Read + Drop, B: Drop>(
     alloc: Global,
     schema: &'e Schema,
     readers: Vec<R>,
@@ -57,11 +57,12 @@ pub(crate) fn feeders_of<'e, R: Read + Drop, B: TakesItems>(
 }
 
 /// The builders, each with room for a link from each source.
-pub(crate) fn gatherers_of<B: TakesItems>(
+pub(crate) fn gatherers_of<B: Drop>(
     alloc: Global,
     builders: Vec<B>,
     sources: usize,
 ) -> Result<Vec<Gatherer<B>>, AllocError>
+    requires { vec_len builders ≤ 8 }
     ensures builders { IfOk result (λ gatherers.
         map (λ gatherer. gatherer.builder) gatherers.items ≡ builders.items) }
     ensures none { IfOk result (λ gatherers.
@@ -70,8 +71,13 @@ pub(crate) fn gatherers_of<B: TakesItems>(
     let mut gatherers = Vec::with_capacity(alloc, builders.len())?;
     for builder in builders {
         let inlets = Vec::with_capacity(alloc, sources)?;
+        let place = Place {
+            builder: gatherers.len() as u32,
+            before: 0,
+        };
         gatherers.push(Gatherer {
             builder,
+            place,
             inlets,
             wanting: false,
         })?;

@@ -35,6 +35,7 @@ loop-builder-preserved g c =
     loop.gatherers.items was
     (record {
       builder = was.builder;
+      place = was.place;
       inlets = c.hold_builder.new.inlets;
       wanting = was.wanting;
     }) held below c.index_mut.ensures.value c.hold_builder.ensures.ends

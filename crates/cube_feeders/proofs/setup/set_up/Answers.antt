@@ -1,34 +1,9 @@
-use Rattle.std.proofs.Common.{arith, ◌≡◌, ◌∙◌, ap, length, map, drop}
+use Rattle.std.proofs.Common.{arith, ◌≡◌, ap, length}
 use Rattle.std.proofs.lemmas.List.{length-map}
 use Rattle.cube_feeders.specs.Wiring.{coming_of}
 use Rattle.cube_feeders.specs.declared.roster.Feeder.{Feeder}
 use Rattle.cube_feeders.specs.declared.roster.Gatherer.{Gatherer}
-use Rattle.cube_feeders.proofs.PlaceLaws.{take-written_back}
 use Rattle.cube_feeders.proofs.setup.set_up.Goals as goal
-
-pub feeders_of-requires-clause-none : goal.feeders_of-requires-clause-none
-feeders_of-requires-clause-none g c = rw c.as_mut_slice.ensures.value c.in_ok-gatherers.ensures.none
-
-pub returns-clause-linked : goal.returns-clause-linked
-returns-clause-linked g c =
-    let new = c.feeders_of.new.gatherers in
-    let count : length new ≡ c.in_ok-gatherers.gatherers.len =
-    omega (arith, c.feeders_of.auto.gatherers, c.as_mut_slice.ensures.len) in
-    rw
-    (take-written_back new (drop (length new) c.in_ok-gatherers.gatherers.items) c.in_ok-gatherers.gatherers.len count)
-    c.in_ok-feeders.ensures.linked
-
-pub returns-clause-builders : goal.returns-clause-builders
-returns-clause-builders g c =
-    let f = λ (gatherer : Gatherer g.row.B.Denot). gatherer.builder in
-    let new = c.feeders_of.new.gatherers in
-    let count : length new ≡ c.in_ok-gatherers.gatherers.len =
-    omega (arith, c.feeders_of.auto.gatherers, c.as_mut_slice.ensures.len) in
-    ap (map f)
-    (take-written_back new (drop (length new) c.in_ok-gatherers.gatherers.items) c.in_ok-gatherers.gatherers.len count)
-    ∙ c.in_ok-feeders.ensures.builders
-    ∙ ap (map f) c.as_mut_slice.ensures.value
-    ∙ c.in_ok-gatherers.ensures.builders
 
 pub returns-clause-count : goal.returns-clause-count
 returns-clause-count g c =
@@ -53,13 +28,13 @@ returns-clause-start g c =
       c.in_ok-gatherers.gatherers.ok.0,
       c.args.builders.ok.0,
     ) in
-    let feeds : c.in_ok-feeders.feeders.len ≡ c.args.readers.len =
+    let feeds : c.in_ok-gatherers.feeders.len ≡ c.args.readers.len =
     omega (
       arith,
-      ap length c.in_ok-feeders.ensures.feeds,
-      length-map c.in_ok-feeders.feeders.items h,
+      ap length c.in_ok-gatherers.ensures.feeds,
+      length-map c.in_ok-gatherers.feeders.items h,
       length-map c.args.readers.items (λ reader. coming_of c.args.schema.now (g.R.Read.remaining reader)),
-      c.in_ok-feeders.feeders.ok.0,
+      c.in_ok-gatherers.feeders.ok.0,
       c.args.readers.ok.0,
     ) in
     let sources = c.len-sources.ensures in
