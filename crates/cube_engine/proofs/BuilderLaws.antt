@@ -12,7 +12,7 @@ use Rattle.cube_core.specs.Takes.{fits}
 use Rattle.cube_core.specs.declared.change.Item.{Item}
 use Rattle.cube_core.specs.declared.fact.Fact.{Fact}
 use Rattle.cube_cells.specs.Cube.{Lattice, AddsFact, HoldsFact, IsCubeOf, IsNewLattice, SameCells, SameSets, TakesFact}
-use Rattle.cube_cells.proofs.CubeLaws.{IsCubeOf-permutation, SameCells-IsCubeOf, HoldsFact-IsCubeOf}
+use Rattle.cube_cells.proofs.Cells.CubeLaws.{IsCubeOf-permutation, SameCells-IsCubeOf, HoldsFact-IsCubeOf}
 use Rattle.cube_engine.specs.Book.{facts_of}
 use Rattle.cube_engine.specs.Builder.{BuilderView, HasFacts, IsBuilder, StandsAt}
 use Rattle.cube_engine.specs.Ledger.{AccountView, AllFit, AtSource, Enters, Exchanges, LedgerView, account_of}

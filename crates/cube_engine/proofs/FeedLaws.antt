@@ -1,5 +1,5 @@
 -- A feed taken into a ledger, item by item: what was taken, and what is to come.
-use Rattle.std.proofs.Common.{◌≡◌, ℕ, List, [], ◌∷◌, ◌++◌, length, map, refl, sym, ap, ◌∙◌, subst, append_assoc}
+use Rattle.std.proofs.Common.{◌≡◌, ℕ, List, [], ◌∷◌, ◌++◌, length, refl, sym, ap, ◌∙◌, subst, append_assoc}
 use Rattle.std.specs.Prelude.{⊤, Option, Some, None, option_map, Ok}
 use Rattle.std.proofs.Math.ListN.{length-set}
 use Rattle.std.proofs.lemmas.List.{append-nil, map-append}
@@ -10,6 +10,7 @@ use Rattle.cube_core.specs.Items.{Coming, items_of}
 use Rattle.cube_core.specs.declared.change.Item.{Item}
 use Rattle.cube_feed.specs.Feed.{Ahead, FeedView, Gives, to_come}
 use Rattle.cube_feed.specs.declared.fault.FeedFault.{FeedFault}
+use Rattle.cube_feed.proofs.TurnLaws.{from_source}
 use Rattle.cube_engine.specs.Ledger.{LedgerView, AtSource, Enters, LedgerStandsAt}
 
 -- what is to come of a feed at its start, where its bytes are told
@@ -21,10 +22,6 @@ abbrev pub LeftOf : Ahead → List Item → Ahead → Type 0
 LeftOf None done now = ⊤
 LeftOf (Some all) done now =
     (rest : Coming (Option FeedFault)) × (now ≡ Some rest) × (all.items ≡ done ++ rest.items) × (all.end ≡ rest.end)
-
--- items, each with the number of their source
-abbrev pub from_source : ℕ → List Item → Arrivals
-from_source source items = map (λ item. (source, item)) items
 
 -- how far a feed was taken: a ledger that stood at an arrival list stands at the items done after it
 pub record HasTaken (s : Layout) (bytes : Option (List ℕ)) (source : ℕ) (old : LedgerView) (feed : FeedView)

@@ -1,13 +1,16 @@
 -- What a change of one account does to the facts of all sources.
-use Rattle.std.proofs.Common.{◌≡◌, ◌<◌, ◌≤◌, ℕ, zero, suc, true, List, [], ◌∷◌, ◌++◌, length, get_or, replicate, refl}
-use Rattle.std.proofs.Common.{sym, ap, ◌∙◌, subst, arith, append_assoc}
+use Rattle.std.proofs.Common.{◌≡◌, ◌<◌, ◌≤◌, ◌+◌, ℕ, zero, suc, Bool, true, false, List, []}
+use Rattle.std.proofs.Common.{◌∷◌, ◌++◌, length, get_or, replicate, refl}
+use Rattle.std.proofs.Common.{sym, ap, ◌∙◌, subst, arith, append_assoc, length-append}
 use Rattle.std.specs.Prelude.{Option, Some, None, All, IfSome, slice_set, Result, Ok, Err, IfOk, OnOk, OnErr}
+use Rattle.std.specs.Prelude.{if◌then◌else◌}
 use Rattle.std.specs.Option.{option_to_list}
 use Rattle.std.specs.List.Sorted.{IsPermutation}
 use Rattle.std.proofs.Math.ListN.{length-set}
 use Rattle.std.proofs.Math.Seq.{take-append_seam}
 use Rattle.std.proofs.lemmas.List.{length-replicate}
-use Rattle.std.proofs.lemmas.List.Elements.{All-nil, All-cons, All-tail, All-take}
+use Rattle.std.proofs.lemmas.Grind.{flat_map-append}
+use Rattle.std.proofs.lemmas.List.Elements.{All-append, All-nil, All-cons, All-tail, All-take}
 use Rattle.std.proofs.lemmas.List.Sorted.{IsPermutation-refl, IsPermutation-trans, IsPermutation-append_left}
 use Rattle.std.proofs.lemmas.List.Sorted.{IsPermutation-append_right, IsPermutation-append_comm, All-permutation}
 use Rattle.cube_core.specs.Layout.{Layout}
@@ -178,4 +181,17 @@ pub IsLedger-new : (s : Layout) (accounts : List AccountView) (sources : ℕ) �
 IsLedger-new s accounts sources are few = record {
   sources_at_most = omega (arith, ap length are, length-replicate sources new_account);
   all_fit = subst (AllFit s) (sym (ap all_facts are ∙ all_facts-new sources)) (All-nil (λ fact. fits s fact ≡ true));
+}
+
+-- the accounts of two ledgers of one schema, or those of the first alone
+pub IsLedger-append : (s t : Layout) (accounts more : List AccountView) (ok : Bool) → t ≡ s
+    → length accounts + length more ≤ 64 → IsLedger s accounts → IsLedger t more
+    → IsLedger s (if ok then accounts ++ more else accounts)
+IsLedger-append s t accounts more false same most is also = is
+IsLedger-append s t accounts more true same most is also = record {
+  sources_at_most = omega (arith, length-append accounts more, most);
+  all_fit =
+      subst (AllFit s) (sym (flat_map-append (λ (account : AccountView). facts_of account.book) accounts more))
+      (All-append (λ fact. fits s fact ≡ true) (all_facts accounts) (all_facts more) is.all_fit
+      (subst (λ l. AllFit l (all_facts more)) same also.all_fit));
 }

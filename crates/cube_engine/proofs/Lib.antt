@@ -11,3 +11,6 @@ pub mod BuilderLaws
 pub mod FillLaws
 pub mod TakingLaws
 pub mod PartedLaws
+pub mod JoinLaws
+pub mod OrderLaws
+pub mod WholeLaws

@@ -4,7 +4,7 @@ use Rattle.cube_core.specs.Arrival.{Arrivals}
 use Rattle.cube_core.specs.declared.change.Item.{Item}
 use Rattle.cube_core.specs.declared.fact.Fact.{Fact}
 use Rattle.cube_cells.specs.Cube.{Lattice, SameCells, SameSets}
-use Rattle.cube_cells.proofs.CubeLaws.{IsCubeOf-SameCells}
+use Rattle.cube_cells.proofs.Cells.CubeLaws.{IsCubeOf-SameCells}
 use Rattle.cube_engine.specs.Builder.{BuilderView, HasFacts, SameBuilder, StandsAt}
 use Rattle.cube_engine.specs.Ledger.{AtSource, Enters, LedgerView, LedgerStandsAt, all_facts}
 use Rattle.cube_engine.specs.Taking.{LedgerStandsFrom, BuilderStandsFrom}

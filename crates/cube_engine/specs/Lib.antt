@@ -4,3 +4,4 @@ pub mod Builder
 pub mod Build
 pub mod Taking
 pub mod Parted
+pub mod Joined

@@ -75,11 +75,17 @@ pub record IsPartWith (s : Layout) (facts : List Fact) (parts part : ℕ) (cube 
   pub over : IsPartOver s parts part cube
   pub has : HasFacts facts cube
 
--- the cubes of all parts, of which there is one at least, have these facts under a schema
-pub record ArePartsWith (s : Layout) (facts : List Fact) (parts : List Part) : Type 0 where
+-- what has a cube each, and is at least one, are the parts of the cube of some facts under a schema:
+-- the cube of each is over the grouping sets of the part of its place, and has the facts
+pub record ArePartsOf {Holder : Type 0} (cube_of : Holder → Lattice) (s : Layout) (facts : List Fact)
+    (parts : List Holder) : Type 0 where
   pub some : 1 ≤ length parts
-  pub each : (part : ℕ) (d : Part) → part < length parts
-      → IsPartWith s facts (length parts) part (get_or parts part d).cube
+  pub each : (part : ℕ) (d : Holder) → part < length parts
+      → IsPartWith s facts (length parts) part (cube_of (get_or parts part d))
+
+-- the cubes of all parts, of which there is one at least, have these facts under a schema
+abbrev pub ArePartsWith : Layout → List Fact → List Part → Type 0
+ArePartsWith s facts parts = ArePartsOf (λ part. part.cube) s facts parts
 
 -- of these parts, each that isn't spent has settled
 abbrev pub AllSettle : List Fact → List Fact → List Part → List Part → Type 0

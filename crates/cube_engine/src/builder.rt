@@ -9,9 +9,10 @@ ghost use Rattle.cube_engine.specs.Builder.{HasFacts, SameBuilder, StandsAt};
 ghost use Rattle.cube_engine.specs.Ledger.{AllFit, AtSource, Enters, Exchanges, IsRemoval, account_of, all_facts};
 
 use crate::fill::{fill, finest_with};
+use crate::joined::HoldsCube;
 use crate::ledger::Ledger;
 use crate::ruling::Ruling;
-use cube_cells::Cube;
+use cube_cells::{Counted, Cube, Numbers, Summary};
 use cube_core::{Fact, Item, Refusal, Schema, Text};
 use std::alloc::{AllocError, Global};
 use std::marker::Model;
@@ -19,14 +20,15 @@ use std::thread::Threads;
 
 /// What 1 to 64 sources have sent so far: the books and the refusals of each, and the cube of the facts in all books.
 ///
-/// It always stands at the arrival list that it was given (this project's choice).
+/// It always stands at the arrival list that it was given (this project's choice). How the numbers of the cube's cells are
+/// kept is the parameter's: where each is kept, the builder takes items.
 #[derive(Drop)]
-pub struct Builder {
+pub struct Builder<N: Numbers = Counted> {
     ledger: Ledger,
-    cube: Cube,
+    cube: Cube<N>,
 }
 
-impl Model for Builder {
+impl<N: Numbers> Model for Builder<N> {
     ghost use Rattle.cube_engine.specs.Builder.{BuilderView, IsBuilder};
 
     ghost Value = { BuilderView };
@@ -34,6 +36,14 @@ impl Model for Builder {
     ghost view = { λ b. record { ledger = b.ledger; cube = b.cube } };
 
     ghost invariant = { λ b. IsBuilder b.ledger b.cube };
+}
+
+impl<N: Numbers> HoldsCube<N> for Builder<N> {
+    ghost lattice = { λ b. b.cube };
+
+    fn held(&self) -> &Cube<N> {
+        &self.cube
+    }
 }
 
 impl Builder {
@@ -84,29 +94,6 @@ impl Builder {
         fill(&mut finest, &ledger)?;
         let mut cube = cube;
         cube.fill(finest)?;
-        Ok(Builder { ledger, cube })
-    }
-
-    /// The builder of a ledger as [`Builder::of`] makes it, with the cube's cells made by as many threads as this says.
-    /// With one thread, or none, no thread is started.
-    pub fn of_with<T: Threads + Sync>(
-        rt: &T,
-        threads: usize,
-        ledger: Ledger,
-        cube: Cube,
-    ) -> Result<Builder, AllocError>
-        requires schema { cube.schema ≡ ledger.schema }
-        requires empty { HasFacts [] cube }
-        ensures ledger { IfOk result (λ builder. builder.ledger ≡ ledger) }
-        ensures same { IfOk result (λ builder. SameSets cube builder.cube) }
-        ensures has { IfOk result (λ builder. HasFacts (all_facts ledger.accounts) builder.cube) }
-    {
-        if threads < 2 {
-            return Builder::of(ledger, cube);
-        }
-        let finest = finest_with(rt, threads, &cube, &ledger)?;
-        let mut cube = cube;
-        cube.fill_with(rt, threads, finest)?;
         Ok(Builder { ledger, cube })
     }
 
@@ -186,7 +173,31 @@ impl Builder {
             None => {}
         }
     }
+}
 
+impl Builder<Summary> {
+    /// The builder of a ledger as [`Builder::of`] makes it, with the cube's cells made by as many threads as this says.
+    /// With one thread, or none, no thread is started.
+    pub fn of_with<T: Threads + Sync>(
+        rt: &T,
+        threads: usize,
+        ledger: Ledger,
+        cube: Cube<Summary>,
+    ) -> Result<Builder<Summary>, AllocError>
+        requires schema { cube.schema ≡ ledger.schema }
+        requires empty { HasFacts [] cube }
+        ensures ledger { IfOk result (λ builder. builder.ledger ≡ ledger) }
+        ensures same { IfOk result (λ builder. SameSets cube builder.cube) }
+        ensures has { IfOk result (λ builder. HasFacts (all_facts ledger.accounts) builder.cube) }
+    {
+        let finest = finest_with(rt, threads.max(1), &cube, &ledger)?;
+        let mut cube = cube;
+        cube.fill_with(rt, threads, finest)?;
+        Ok(Builder { ledger, cube })
+    }
+}
+
+impl<N: Numbers> Builder<N> {
     /// How many sources there are, numbered from 1.
     pub fn sources(&self) -> u32
         ensures { result ≡ length self.now.ledger.accounts }
@@ -210,7 +221,7 @@ impl Builder {
     }
 
     /// The cube of the facts that are present in the books of all sources.
-    pub fn cube(&self) -> &Cube
+    pub fn cube(&self) -> &Cube<N>
         ensures cube { result.now ≡ self.now.cube }
         ensures has { HasFacts (all_facts self.now.ledger.accounts) result.now }
         ensures fit { AllFit self.now.ledger.schema (all_facts self.now.ledger.accounts) }

@@ -8,7 +8,7 @@ ghost use Rattle.cube_engine.specs.Ledger.{AllFit, all_facts};
 
 use crate::book::Book;
 use crate::ledger::Ledger;
-use cube_cells::Cube;
+use cube_cells::{Cube, Summary};
 use cube_core::Fact;
 use std::alloc::AllocError;
 use std::thread::Threads;
@@ -48,13 +48,13 @@ pub fn add_counted(cube: &mut Cube, fact: &Fact) -> Result<(), AllocError>
 }
 
 /// The cube of the facts of all books of a ledger over the finest grouping set, with the schema of a cube, made by as
-/// many threads as this says. The only error is want of memory.
+/// many threads as this says. With one thread no thread is started. The only error is want of memory.
 pub fn finest_with<T: Threads + Sync>(
     rt: &T,
     threads: usize,
-    cube: &Cube,
+    cube: &Cube<Summary>,
     ledger: &Ledger,
-) -> Result<Cube, AllocError>
+) -> Result<Cube<Summary>, AllocError>
     requires threads { 0 < threads }
     requires schema { cube.now.schema ≡ ledger.now.schema }
     ensures schema { IfOk result (λ finest. finest.schema ≡ cube.now.schema) }

@@ -1,5 +1,5 @@
 //! The books and the refusals of all sources.
-ghost use Rattle.std.specs.Prelude.{◌≡◌, ◌≤◌, ◌++◌, ◌∷◌, [], None, Some, true, length, map, IfOk, IfErr, OnOk, OnErr, IfSome, replicate};
+ghost use Rattle.std.specs.Prelude.{◌≡◌, ◌≤◌, ◌+◌, ◌++◌, ◌∷◌, [], None, Some, true, length, map, IfOk, IfErr, OnOk, OnErr, IfSome, replicate};
 ghost use Rattle.std.specs.Option.{option_map};
 ghost use Rattle.cube_core.specs.Arrival.{Arrivals};
 ghost use Rattle.cube_core.specs.Takes.{fits};
@@ -47,7 +47,7 @@ impl Ledger {
     }
 
     /// The schema.
-    pub(crate) fn schema(&self) -> &Schema
+    pub fn schema(&self) -> &Schema
         ensures value { result.now ≡ self.now.schema }
         ensures fit { AllFit self.now.schema (all_facts self.now.accounts) }
     {
@@ -156,6 +156,24 @@ impl Ledger {
         ensures err { OnErr result (self.new ≡ self.old) }
     {
         self.enter_taken(source, item)
+    }
+
+    /// Puts the accounts of another ledger, which has the same schema, after its own; at most 64 sources in all. Nothing
+    /// of them is copied. Where memory is wanting, the ledger is as it was, and the other is given up.
+    pub fn append(&mut self, other: Ledger) -> Result<(), AllocError>
+        requires schema { other.schema ≡ self.old.schema }
+        requires most { length self.old.accounts + length other.accounts ≤ 64 }
+        ensures schema { self.new.schema ≡ self.old.schema }
+        ensures accounts { OnOk result (self.new.accounts ≡ self.old.accounts ++ other.accounts) }
+        ensures err { OnErr result (self.new ≡ self.old) }
+    {
+        let Ledger {
+            alloc: _,
+            schema: _,
+            accounts,
+        } = other;
+        let mut accounts = accounts;
+        self.accounts.append(&mut accounts)
     }
 
     // What an item does to the account of its source.

@@ -10,9 +10,10 @@ ghost use Rattle.cube_engine.specs.Parted.{AllFill, AllSettle, ArePartsOver, Are
 ghost use Rattle.cube_engine.specs.declared.parted.Part.{Part as ThePart};
 
 use crate::fill::{add_counted, fill};
+use crate::joined::HoldsCube;
 use crate::ledger::Ledger;
 use crate::ruling::Ruling;
-use cube_cells::Cube;
+use cube_cells::{Counted, Cube};
 use cube_core::{Fact, Item, Text};
 use std::alloc::{AllocError, Global};
 use std::marker::Model;
@@ -29,6 +30,14 @@ const MANY: usize = 10_000;
 pub struct Part {
     pub cube: Cube,
     pub is_spent: bool,
+}
+
+impl HoldsCube<Counted> for Part {
+    ghost lattice = { λ part. part.cube };
+
+    fn held(&self) -> &Cube {
+        &self.cube
+    }
 }
 
 /// What 1 to 64 sources have sent so far: the books and the refusals of each, and the cubes of the facts in all books, each

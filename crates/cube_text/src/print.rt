@@ -14,7 +14,7 @@ ghost use Rattle.cube_text.specs.Shape.{HasShapeOf};
 
 use crate::lines::{Lines, end_line, into_text, no_lines, put_field};
 use crate::pieces::{Pieces, gather};
-use cube_cells::{CoordRef, KeyedCell, OrderedCells};
+use cube_cells::{CoordRef, KeyedCell, Numbers, OrderedCells, Summary};
 use cube_core::{Agg, Answer, Coord, Row, Schema, Text};
 use itoa::Buffer;
 use std::alloc::{AllocError, Global};
@@ -39,10 +39,10 @@ pub fn print_rows(alloc: Global, schema: &Schema, rows: &[Row]) -> Result<Vec<u8
 /// The header line of the schema, and a line for the row of each cell in the order given, with no list of the rows.
 ///
 /// The only error is want of memory.
-pub fn print_cells(
+pub fn print_cells<N: Numbers>(
     alloc: Global,
     schema: &Schema,
-    cells: &OrderedCells,
+    cells: &OrderedCells<'_, N>,
 ) -> Result<Vec<u8>, AllocError>
     ensures { IfOk result (λ text. IsTextOfCells schema.now cells.now text.items) }
 {
@@ -60,7 +60,7 @@ pub fn print_cells_in_pieces<T: Threads + Sync>(
     rt: &T,
     alloc: Global,
     schema: &Schema,
-    cells: &OrderedCells,
+    cells: &OrderedCells<'_, Summary>,
     threads: usize,
 ) -> Result<Pieces, AllocError>
     ensures { IfOk result (IsTextOfCells schema.now cells.now) }
@@ -76,7 +76,7 @@ pub fn print_cells_in_pieces<T: Threads + Sync>(
 fn texts_of_parts<T: Threads + Sync>(
     rt: &T,
     alloc: Global,
-    cells: &OrderedCells,
+    cells: &OrderedCells<'_, Summary>,
     size: usize,
     parts: usize,
 ) -> Result<Vec<Result<Vec<u8>, AllocError>>, AllocError>
@@ -103,9 +103,9 @@ fn text_of_header(alloc: Global, schema: &Schema) -> Result<Vec<u8>, AllocError>
 }
 
 // The lines of the cells of a part, where each part but the last has as many cells as the size says.
-fn text_of_part(
+fn text_of_part<N: Numbers>(
     alloc: Global,
-    cells: &OrderedCells,
+    cells: &OrderedCells<'_, N>,
     size: usize,
     which: usize,
 ) -> Result<Vec<u8>, AllocError>
@@ -125,7 +125,7 @@ fn text_of_part(
 }
 
 // The place at which a part begins.
-fn place_within(cells: &OrderedCells, size: usize, which: usize) -> usize
+fn place_within<N: Numbers>(cells: &OrderedCells<'_, N>, size: usize, which: usize) -> usize
     ensures { result ≡ min (size * which) (length cells.now.cells) }
 {
     size.saturating_mul(which).min(cells.len())
@@ -186,10 +186,10 @@ fn put_rows(alloc: Global, lines: &mut Lines, rows: &[Row]) -> Result<(), AllocE
 }
 
 // Puts the lines of the cells from a place to another, a block at a time.
-fn put_cells(
+fn put_cells<N: Numbers>(
     alloc: Global,
     lines: &mut Lines,
-    cells: &OrderedCells,
+    cells: &OrderedCells<'_, N>,
     from: usize,
     to: usize,
 ) -> Result<(), AllocError>
@@ -208,11 +208,11 @@ fn put_cells(
 }
 
 // Puts the lines of the cells from a place to another, whose answers are found first.
-fn put_block(
+fn put_block<N: Numbers>(
     alloc: Global,
     lines: &mut Lines,
     fraction: &mut Vec<u8>,
-    cells: &OrderedCells,
+    cells: &OrderedCells<'_, N>,
     from: usize,
     to: usize,
 ) -> Result<(), AllocError>
@@ -228,9 +228,9 @@ fn put_block(
 }
 
 // The answers for the cells from a place to another, aggregate by aggregate.
-fn columns_of(
+fn columns_of<N: Numbers>(
     alloc: Global,
-    cells: &OrderedCells,
+    cells: &OrderedCells<'_, N>,
     from: usize,
     to: usize,
 ) -> Result<Vec<Vec<Answer>>, AllocError>
@@ -248,9 +248,9 @@ fn columns_of(
 
 // The answers of one of the aggregates for the cells from a place to another. Cells lie anywhere in memory, and nothing
 // is waited for between one and the next, so that several are fetched at a time.
-fn column_of(
+fn column_of<N: Numbers>(
     alloc: Global,
-    cells: &OrderedCells,
+    cells: &OrderedCells<'_, N>,
     which: usize,
     from: usize,
     to: usize,
@@ -272,10 +272,10 @@ fn column_of(
 
 // Puts the line of the cell at a place, whose answers the columns have at a place of theirs. The buffer is for
 // fractions, and what it holds doesn't matter.
-fn put_cell(
+fn put_cell<N: Numbers>(
     lines: &mut Lines,
     fraction: &mut Vec<u8>,
-    cells: &OrderedCells,
+    cells: &OrderedCells<'_, N>,
     place: usize,
     columns: &[Vec<Answer>],
     at: usize,
@@ -294,7 +294,7 @@ fn put_cell(
     end_line(lines)
 }
 
-fn put_key(lines: &mut Lines, cell: &KeyedCell) -> Result<(), AllocError>
+fn put_key<N: Numbers>(lines: &mut Lines, cell: &KeyedCell<'_, N>) -> Result<(), AllocError>
     ensures { OnOk result (AddsFields (map coord_text cell.now.0.coords) lines.old lines.new) }
 {
     for dimension in 0..cell.dimensions() {
@@ -303,7 +303,10 @@ fn put_key(lines: &mut Lines, cell: &KeyedCell) -> Result<(), AllocError>
     Ok(())
 }
 
-fn put_key_groupings(lines: &mut Lines, cell: &KeyedCell) -> Result<(), AllocError>
+fn put_key_groupings<N: Numbers>(
+    lines: &mut Lines,
+    cell: &KeyedCell<'_, N>,
+) -> Result<(), AllocError>
     ensures { OnOk result (AddsFields (map grouping_text cell.now.0.coords) lines.old lines.new) }
 {
     for dimension in 0..cell.dimensions() {

@@ -5,7 +5,7 @@ use Rattle.cube_text.proofs.PartLaws.{RowsGoOn-all}
 use Rattle.cube_text.proofs.print.print_cells.Goals as goal
 
 pub returns : goal.returns
-returns c =
+returns g c =
     let header = c.in_ok-put_header.ensures [] c.no_lines-lines.ensures in
     let part = c.in_ok-put_cells.ensures in
     let all = part.added _ header in

@@ -4,4 +4,4 @@ use Rattle.cube_text.specs.Lines.{AddsFields}
 use Rattle.cube_text.proofs.print.put_key_groupings.Given as goal
 
 abbrev pub invariant-loop-dimension : goal.invariant-loop-dimension
-invariant-loop-dimension l = AddsFields (map grouping_text (take l.dimension l.cell.0.coords)) l.initial.lines l.lines
+invariant-loop-dimension g l = AddsFields (map grouping_text (take l.dimension l.cell.0.coords)) l.initial.lines l.lines

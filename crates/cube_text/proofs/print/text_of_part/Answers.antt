@@ -7,7 +7,7 @@ use Rattle.cube_text.proofs.PartLaws.{RowsGoOn-within, end_of_part}
 use Rattle.cube_text.proofs.print.text_of_part.Goals as goal
 
 pub returns : goal.returns
-returns c =
+returns g c =
     let o = c.args.cells.now in
     let size = c.args.size in
     let which = c.args.which in

@@ -5,7 +5,7 @@ use Rattle.cube_engine.proofs.RulingLaws.{AtSource-Obeys, AtSource-length, AtSou
 use Rattle.cube_engine.proofs.RulingLaws.{IsRemoval-refused, IsRemoval-puts}
 use Rattle.cube_engine.specs.Ledger.{account_of}
 use Rattle.cube_engine.specs.declared.ruling.Ruling.TheVariants.{Refuse, Put, Take}
-use Rattle.cube_cells.proofs.WalkLaws.{OnOk-both}
+use Rattle.cube_cells.proofs.Cells.WalkLaws.{OnOk-both}
 use Rattle.cube_engine.proofs.builder.Builder.apply.Goals as goal
 
 pub invariant_of-self : goal.invariant_of-self

@@ -1,6 +1,6 @@
 use Rattle.std.proofs.Common.{◌≡◌, ℕ, List, subst}
 use Rattle.std.specs.Prelude.{IfOk}
-use Rattle.cube_cells.proofs.NewLaws.{sets_of_part-one}
+use Rattle.cube_cells.proofs.Cells.NewLaws.{sets_of_part-one}
 use Rattle.cube_engine.proofs.builder.Builder.new.Goals as goal
 
 pub returns-clause-sets : goal.returns-clause-sets

@@ -1,5 +1,5 @@
 use Rattle.std.proofs.Common.{◌≡◌, ◌<◌, ◌++◌, ◌∙◌, ℕ, false, take, drop, length, get_or, ap, rules}
-use Rattle.cube_cells.proofs.ValueLaws.{take-append-drop}
+use Rattle.cube_cells.proofs.Tallies.ValueLaws.{take-append-drop}
 use Rattle.cube_engine.specs.Parted.{AllSettle}
 use Rattle.cube_engine.specs.declared.parted.Part.{Part}
 use Rattle.cube_engine.proofs.PartedLaws.{AreBehind-settled}

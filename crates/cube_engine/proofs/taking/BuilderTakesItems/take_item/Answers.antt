@@ -1,6 +1,6 @@
 use Rattle.std.specs.Prelude.{OnOk}
 use Rattle.std.proofs.lemmas.Result.{on_err_weaker}
-use Rattle.cube_cells.proofs.WalkLaws.{OnOk-both}
+use Rattle.cube_cells.proofs.Cells.WalkLaws.{OnOk-both}
 use Rattle.cube_engine.proofs.TakingLaws.{TakesOne, builder-further, builder-same}
 use Rattle.cube_engine.proofs.taking.BuilderTakesItems.take_item.Goals as goal
 

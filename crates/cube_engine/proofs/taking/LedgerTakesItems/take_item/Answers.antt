@@ -1,5 +1,5 @@
 use Rattle.std.proofs.lemmas.Result.{on_err_weaker}
-use Rattle.cube_cells.proofs.WalkLaws.{OnOk-both}
+use Rattle.cube_cells.proofs.Cells.WalkLaws.{OnOk-both}
 use Rattle.cube_engine.proofs.TakingLaws.{ledger-further, ledger-same}
 use Rattle.cube_engine.proofs.taking.LedgerTakesItems.take_item.Goals as goal
 
