@@ -7,4 +7,3 @@ pub mod RowLaws
 pub mod RefusalLaws
 pub mod ShowsLaws
 pub mod OpeningLaws
-pub mod PartLaws

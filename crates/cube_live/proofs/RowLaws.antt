@@ -127,16 +127,6 @@ AreRows-AreRowsOver s cube facts rows schema sets are =
     (subst (λ (kept : List ℕ). AreRowsOver kept (length cube.schema.dimensions) cube.schema.aggregates facts rows)
     sets are)
 
--- so are those whose keys pass a test
-pub AreRowsWhere-kept : (test : Key → Bool) (s : Layout) (cube : Lattice) (facts : List Fact) (rows : List Row)
-    → cube.schema ≡ s → cube.sets ≡ s.grouping_sets
-    → AreRowsWhere test cube.sets (length cube.schema.dimensions) cube.schema.aggregates facts rows
-    → AreRowsWhere test s.grouping_sets (length s.dimensions) s.aggregates facts rows
-AreRowsWhere-kept test s cube facts rows schema sets are =
-    subst (λ (l : Layout). AreRowsWhere test s.grouping_sets (length l.dimensions) l.aggregates facts rows) schema
-    (subst (λ (kept : List ℕ). AreRowsWhere test kept (length cube.schema.dimensions) cube.schema.aggregates facts rows)
-    sets are)
-
 -- the row of a key, or none, is the list of its rows
 pub AreRowsWhere-IsRowOver : (sets : List ℕ) (dimensions : ℕ) (aggregates : List Agg) (facts : List Fact) (key : Key)
     (row : Row)
@@ -162,14 +152,6 @@ cell-HasAnswers cube facts aggregates key tally row of found is = (
 pub no_cell : (cube : Lattice) (facts : List Fact) (key : Key) → IsCubeOf cube facts → cell_at cube.cells key ≡ None
     → is_cell cube.sets (length cube.schema.dimensions) facts key ≡ false
 no_cell cube facts key of none = sym (of.keys key) ∙ ap is_some none
-
--- rows over sets that are the schema's
-pub AreRowsWhere-sets : (test : Key → Bool) (s : Layout) (sets : List ℕ) (facts : List Fact) (rows : List Row)
-    → sets ≡ s.grouping_sets
-    → AreRowsWhere test sets (length s.dimensions) s.aggregates facts rows
-    → AreRowsWhere test s.grouping_sets (length s.dimensions) s.aggregates facts rows
-AreRowsWhere-sets test s sets facts rows same are =
-    subst (λ (kept : List ℕ). AreRowsWhere test kept (length s.dimensions) s.aggregates facts rows) same are
 
 -- the row of a key's cell is the list of its rows
 pub rows-one : (s : Layout) (cube : Lattice) (facts : List Fact) (key : Key) (tally : Tally) (row : Row)

@@ -198,6 +198,7 @@ fn fed<T: Threads + Wait + Sync, R: Read + Drop + Send, G: Gate + Sync>(
     let mut gatherers = feed_all(rt, alloc, schema, readers, capacity, openings, gate)?;
     let Gatherer {
         builder: fed,
+        place: _,
         inlets,
         wanting: _,
     } = gatherers.swap_remove(0);

@@ -1,21 +1,17 @@
 //! The texts of rows that questions are answered by.
 ghost use Rattle.std.specs.Prelude.{◌≡◌, ◌<◌, [], ◌∷◌, List, length, IfOk};
-ghost use Rattle.cube_core.specs.Cube.{AreRows};
 ghost use Rattle.cube_core.specs.Printed.{IsPrinted};
-ghost use Rattle.cube_core.specs.Query.{AreRowsWhere, drills_down, matches, rolled_up};
+ghost use Rattle.cube_core.specs.Query.{AreRowsWhere, matches, rolled_up};
 ghost use Rattle.cube_core.specs.declared.fact.Fact.{Fact};
-ghost use Rattle.cube_core.specs.declared.key.Row.{Row as TheRow};
 ghost use Rattle.cube_cells.specs.Cube.{IsCubeOf};
-ghost use Rattle.cube_cells.specs.Rows.{AreRowsInOrder};
-ghost use Rattle.cube_engine.specs.Ledger.{LedgerView, all_facts};
-ghost use Rattle.cube_engine.specs.Parted.{ArePartsWith};
+ghost use Rattle.cube_engine.specs.Ledger.{all_facts};
 ghost use Rattle.cube_live.specs.Live.{CanAsk};
 ghost use Rattle.cube_live.specs.Shows.{AsksRows, IsTextWhere, asks_for, is_key};
 
 use crate::request::Question;
-use cube_cells::{Cube, OrderedCells, row_of};
+use cube_cells::{Counted, Cube, row_of};
 use cube_core::{Key, Pattern, QueryFault, Row, Schema};
-use cube_engine::{Part, Parted};
+use cube_engine::{AsksCube, DrillDown, Parted, ordered_parts, rows_of_parts};
 use cube_text::{print_cells, print_rows};
 use std::alloc::{AllocError, Global};
 
@@ -28,24 +24,8 @@ pub fn cube_text(alloc: Global, schema: &Schema, parted: &Parted) -> Result<Vec<
     let Some(parts) = parted.parts() else {
         return Err(AllocError);
     };
-    let cells = ordered(parts)?;
+    let cells = ordered_parts(parts)?;
     print_cells(alloc, schema, &cells)
-}
-
-// The cells of all parts in key order.
-fn ordered(parts: &[Part]) -> Result<OrderedCells<'_>, AllocError>
-    requires { (ledger : LedgerView) × ArePartsWith ledger.schema (all_facts ledger.accounts) parts.now }
-    ensures { IfOk result (λ cells. (ledger : LedgerView) →
-        ArePartsWith ledger.schema (all_facts ledger.accounts) parts.now →
-        (rows : List TheRow) → AreRowsInOrder cells rows →
-        AreRows ledger.schema (all_facts ledger.accounts) rows) }
-{
-    let mut cells = parts[0].cube.ordered()?;
-    for part in 1..parts.len() {
-        cells.append(parts[part].cube.ordered()?)?;
-    }
-    cells.sort()?;
-    Ok(cells)
 }
 
 /// The rows that a question asks for, as text: those of a slice without an open dimension and of a roll-up by a look-up in
@@ -65,66 +45,37 @@ pub fn rows_text(
     let Some(parts) = parted.parts() else {
         return Err(AllocError);
     };
-    let rows = rows_of_parts(alloc, schema, parts, question)?;
+    let asked = Asked {
+        alloc,
+        schema,
+        question,
+    };
+    let rows = rows_of_parts(parts, &asked)?;
     print_rows(alloc, schema, &rows)
 }
 
-// The rows of all parts that a question asks for, in key order.
-fn rows_of_parts(
+// A question of rows, asked of cubes.
+#[derive(Drop)]
+struct Asked<'q> {
     alloc: Global,
-    schema: &Schema,
-    parts: &[Part],
-    question: &Question,
-) -> Result<Vec<Row>, AllocError>
-    requires parts { (facts : List Fact) × ArePartsWith schema.now facts parts.now }
-    requires rows { AsksRows question.now }
-    requires can_ask { CanAsk schema.now question.now }
-    ensures { IfOk result (λ rows. (facts : List Fact) → ArePartsWith schema.now facts parts.now →
-        AreRowsWhere (asks_for question.now) schema.now.grouping_sets
-        (length schema.now.dimensions) schema.now.aggregates facts rows.items) }
-{
-    let mut rows = Vec::new(alloc);
-    for part in parts {
-        rows.append(&mut rows_of_cube(alloc, schema, &part.cube, question)?)?;
-    }
-    rows.sort_by(|a, b| a.key.compare(&b.key))?;
-    Ok(rows)
+    schema: &'q Schema,
+    question: &'q Question,
 }
 
-// The rows of a cube that a question asks for.
-fn rows_of_cube(
-    alloc: Global,
-    schema: &Schema,
-    cube: &Cube,
-    question: &Question,
-) -> Result<Vec<Row>, AllocError>
-    requires schema { cube.now.schema ≡ schema.now }
-    requires rows { AsksRows question.now }
-    requires can_ask { CanAsk schema.now question.now }
-    ensures { IfOk result (λ rows. (facts : List Fact) → IsCubeOf cube.now facts →
-        AreRowsWhere (asks_for question.now) cube.now.sets (length schema.now.dimensions)
-        schema.now.aggregates facts rows.items) }
-{
-    match question {
-        Question::Slice(pattern) => slice_rows(alloc, schema, cube, pattern),
-        Question::Drill(key, dimension) => drill_rows(cube, key, *dimension),
-        Question::RollUp(key, dimension) => roll_up_rows(alloc, cube, key, *dimension),
-        Question::Print | Question::Refusals | Question::RefusalsAfter(_, _) | Question::Sync =>
-            Err(AllocError),
-    }
-}
+impl<'q> AsksCube<Counted> for Asked<'q> {
+    ghost test = { λ asked. asks_for asked.question.now };
 
-// The rows that drill down from a key along a dimension.
-fn drill_rows(cube: &Cube, key: &Key, dimension: usize) -> Result<Vec<Row>, AllocError>
-    requires dimension { dimension < length cube.now.schema.dimensions }
-    requires width { length key.now.coords ≡ length cube.now.schema.dimensions }
-    ensures { IfOk result (λ rows. (facts : List Fact) → IsCubeOf cube.now facts →
-        AreRowsWhere (drills_down dimension key.now) cube.now.sets
-        (length cube.now.schema.dimensions) cube.now.schema.aggregates facts rows.items) }
-{
-    match cube.drill_down(key, dimension) {
-        Ok(rows) => Ok(rows),
-        Err(_) => Err(AllocError),
+    ghost can_ask = { λ asked s. (asked.schema.now ≡ s)
+        × AsksRows asked.question.now × CanAsk s asked.question.now };
+
+    fn rows_of(&self, cube: &Cube) -> Result<Vec<Row>, AllocError> {
+        match self.question {
+            Question::Slice(pattern) => slice_rows(self.alloc, self.schema, cube, pattern),
+            Question::Drill(key, dim) => DrillDown { key, dim: *dim }.rows_of(cube),
+            Question::RollUp(key, dim) => roll_up_rows(self.alloc, cube, key, *dim),
+            Question::Print | Question::Refusals | Question::RefusalsAfter(_, _) | Question::Sync =>
+                Err(AllocError),
+        }
     }
 }
 

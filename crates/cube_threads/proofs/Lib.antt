@@ -1,5 +1,3 @@
 pub mod DraftLaws
 pub mod PartLaws
-pub mod JoinLaws
-pub mod OrderLaws
-pub mod QueryLaws
+pub mod ShareLaws

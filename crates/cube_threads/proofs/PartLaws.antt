@@ -19,11 +19,12 @@ use Rattle.cube_core.specs.Layout.{Layout}
 use Rattle.cube_core.specs.Run.{Told}
 use Rattle.cube_core.specs.declared.fact.Fact.{Fact}
 use Rattle.cube_core.specs.declared.change.Item.{Item}
-use Rattle.cube_cells.proofs.CubeLaws.{IsCubeOf-permutation}
 use Rattle.cube_engine.specs.Book.{Entries, IsBook, fact_at, facts_of}
 use Rattle.cube_engine.specs.Builder.{BuilderView}
+use Rattle.cube_engine.specs.Joined.{ArePartsOfOne, EachSchema}
 use Rattle.cube_engine.specs.Ledger.{AccountView, LedgerView, AccountStandsAt, LedgerStandsAt, all_facts}
 use Rattle.cube_threads.specs.Parts.{BuiltView, first_ledger, schema_of_run, AreParts, StandsInParts, BuildsParts}
+use Rattle.cube_engine.proofs.BuilderLaws.{HasFacts-permutation}
 use Rattle.cube_feeders.proofs.WireLaws.{some_of}
 
 -- an entry of a book isn't among those after it
@@ -119,10 +120,10 @@ are-parts s sources parts built arrivals some stands =
           rw (first-is built.builders d (omega arith), first.schema, count)
           (record {
             over = own.over;
-            cells = IsCubeOf-permutation (get_or built.builders part d).cube _ _
+            has = HasFacts-permutation _ _ (get_or built.builders part d).cube
                 (ledgers-alike s sources arrivals (get_or built.builders part d).ledger (get_or built.builders 0
                 d).ledger own.schema first.schema own.all first.all own.stands.ledger first.stands.ledger)
-                own.stands.cube.cells;
+                own.stands.cube;
           });
     }
 
@@ -134,3 +135,16 @@ schema-run s sources parts built some builds =
     let d = some_of built.builders 0 (omega arith) in
     ap (λ (l : LedgerView). l.schema) (first-is built.builders d (omega arith))
     ∙ (builds.stands.each 0 d (omega arith)).schema
+
+-- the builders of a run are the parts of one cube
+pub of-one : {builders : List BuilderView} → AreParts builders → ArePartsOfOne (λ builder. builder.cube) builders
+of-one {builders} parts = record {
+  schema = (first_ledger builders).schema;
+  facts = all_facts (first_ledger builders).accounts;
+  are = parts;
+}
+
+-- what is true of the run's schema is true of that of each builder's cube
+pub each-schema : {builders : List BuilderView} (Is : Layout → Type 0) → AreParts builders
+    → Is (first_ledger builders).schema → EachSchema (λ builder. builder.cube) Is builders
+each-schema Is parts is = λ part d below. subst Is (sym (parts.each part d below).over.schema) is

@@ -1,5 +1,6 @@
 -- Ledgers with cubes to be filled, and the builders that are made of them (this project's choice).
-use Rattle.std.specs.Prelude.{◌≡◌, ◌<◌, ℕ, List, [], length, slice_index_or}
+use Rattle.std.specs.Prelude.{◌≡◌, ◌<◌, ◌∷◌, ℕ, List, [], flat_map, length, slice_index_or}
+use Rattle.std.specs.Global.{Vec}
 use Rattle.cube_core.specs.Arrival.{Arrivals}
 use Rattle.cube_core.specs.Layout.{Layout}
 use Rattle.cube_cells.specs.Cube.{Lattice, SameSets}
@@ -38,6 +39,20 @@ pub record IsNewDraft (s : Layout) (sources parts part : ℕ) (draft : DraftView
 pub record AreNewDrafts (s : Layout) (sources parts count : ℕ) (drafts : List DraftView) : Type 0 where
   pub counted : length drafts ≡ count
   pub each : (part : ℕ) (d : DraftView) → part < count → IsNewDraft s sources parts part (slice_index_or drafts part d)
+
+-- the draft over all grouping sets of the ledgers of shares: its ledger has their accounts, in their order
+pub record IsDraftOf (s : Layout) (ledgers : List LedgerView) (draft : DraftView) : Type 0 where
+  pub schema : draft.ledger.schema ≡ s
+  pub accounts : draft.ledger.accounts ≡ flat_map (λ ledger. ledger.accounts) ledgers
+  pub over : IsPartOver s 1 0 draft.cube
+
+-- one builder alone: the draft of the ledgers of shares, with the links of all sources
+pub record IsDrafted (s : Layout) (whole : Gatherer (Vec LedgerView)) (gatherers : List (Gatherer DraftView))
+    : Type 0 where
+  pub gatherer : Gatherer DraftView
+  pub one : gatherers ≡ gatherer ∷ []
+  pub draft : IsDraftOf s whole.builder.items gatherer.builder
+  pub inlets : gatherer.inlets ≡ whole.inlets
 
 -- a builder is made of a draft: its cube, over the same sets, has the facts of the ledger's books
 pub record IsMadeOf (draft : DraftView) (builder : BuilderView) : Type 0 where

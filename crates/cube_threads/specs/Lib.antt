@@ -1,3 +1,4 @@
 pub mod Settings
 pub mod Drafts
 pub mod Parts
+pub mod Shares

@@ -1,5 +1,5 @@
 -- The builders of a run, each over its part of the schema's grouping sets (this project's choice).
-use Rattle.std.specs.Prelude.{◌≡◌, ◌<◌, ◌≤◌, ℕ, Bool, List, [], ◌∷◌, length, slice_index_or, Option}
+use Rattle.std.specs.Prelude.{◌≡◌, ◌<◌, ℕ, Bool, List, [], ◌∷◌, length, slice_index_or, Option}
 use Rattle.cube_core.specs.Arrival.{Arrivals}
 use Rattle.cube_core.specs.Layout.{Layout}
 use Rattle.cube_core.specs.Query.{AreRowsWhere}
@@ -8,11 +8,10 @@ use Rattle.cube_core.specs.Shard.{whole_feed}
 use Rattle.cube_core.specs.declared.fact.Fact.{Fact}
 use Rattle.cube_core.specs.declared.key.Key.{Key}
 use Rattle.cube_core.specs.declared.key.Row.{Row}
-use Rattle.cube_cells.specs.Cube.{Lattice, IsCubeOf}
 use Rattle.cube_cells.specs.Rows.{IsRowOver}
 use Rattle.cube_engine.specs.Builder.{BuilderView, StandsAt}
 use Rattle.cube_engine.specs.Ledger.{LedgerView, all_facts}
-use Rattle.cube_engine.specs.Parted.{IsPartOver}
+use Rattle.cube_engine.specs.Parted.{ArePartsOf, IsPartOver}
 use Rattle.cube_link.specs.Link.{Receiving}
 use Rattle.cube_feeders.specs.FeedingAll.{HasReceived}
 use Rattle.cube_feeders.specs.declared.parcel.Parcel.{Parcel}
@@ -53,19 +52,11 @@ schema_of_run built = (first_ledger built.builders).schema
 abbrev pub facts_of_run : BuiltView → List Fact
 facts_of_run built = all_facts (first_ledger built.builders).accounts
 
--- a cube is a part, of so many, of the cube of some facts under a schema:
--- it is over the grouping sets of the part, and its cells are those of the facts
-pub record IsPartOf (s : Layout) (facts : List Fact) (parts part : ℕ) (cube : Lattice) : Type 0 where
-  pub over : IsPartOver s parts part cube
-  pub cells : IsCubeOf cube facts
-
 -- what is true of the builders of a run:
 -- there is one, and the cube of each is the part of its place of the cube of the facts in builder 0's books
-pub record AreParts (builders : List BuilderView) : Type 0 where
-  pub some : 1 ≤ length builders
-  pub each : (part : ℕ) (d : BuilderView) → part < length builders
-      → IsPartOf (first_ledger builders).schema (all_facts (first_ledger builders).accounts) (length builders) part
-      (slice_index_or builders part d).cube
+abbrev pub AreParts : List BuilderView → Type 0
+AreParts builders = ArePartsOf (λ builder. builder.cube) (first_ledger builders).schema
+    (all_facts (first_ledger builders).accounts) builders
 
 -- these are the rows of the cube of a run's facts, over all grouping sets of its schema, whose keys pass a test
 abbrev pub AreRowsOfRun : (Key → Bool) → BuiltView → List Row → Type 0

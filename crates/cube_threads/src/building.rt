@@ -1,13 +1,14 @@
 //! The build: builders of the feeds of all sources, in threads.
 ghost use Rattle.std.specs.Prelude.{◌≡◌, ◌≤◌, [], map, option_map, vec_len, IfOk, IfErr, OnOk, Some};
 ghost use Rattle.cube_feeders.specs.FeedingAll.{ExplainsFeeding};
-ghost use Rattle.cube_threads.specs.Drafts.{AreNewDrafts};
 ghost use Rattle.cube_threads.specs.Parts.{AreAllMade, BuildsParts, schema_of_run};
+ghost use Rattle.cube_threads.specs.Shares.{TakenInParts};
 
 use crate::built::Built;
 use crate::draft::{Draft, new_drafts};
 use crate::making::{Making, make_all};
 use crate::settings::Settings;
+use crate::shares::feed_in_shares;
 use cube_core::Schema;
 use cube_feeders::{FeedingFault, Gate, Gatherer, feed_all};
 use std::alloc::{AllocError, Global};
@@ -15,22 +16,37 @@ use std::io::Read;
 use std::sync::Wait;
 use std::thread::Threads;
 
-// The drafts of so many parts, and room for their builders.
-fn start(
+// Feeds all sources to the drafts of as many parts as the settings have builders, or in shares where they have one, and
+// more threads.
+fn feed_parts<T: Threads + Wait + Sync, R: Read + Drop + Send, G: Gate + Sync>(
+    rt: &T,
     alloc: Global,
     schema: &Schema,
-    sources: u32,
-    parts: u32,
-) -> Result<(Vec<Draft>, Making), AllocError>
-    requires sources { sources ≤ 64 }
-    requires parts { parts ≤ 8 }
-    ensures drafts { IfOk result (λ made. AreNewDrafts schema.now sources parts parts made.0.items) }
-    ensures builders { IfOk result (λ made. made.1.builders.items ≡ []) }
-    ensures links { IfOk result (λ made. made.1.links.items ≡ []) }
+    readers: Vec<R>,
+    settings: &Settings,
+    gate: &G,
+) -> Result<Vec<Gatherer<Draft>>, FeedingFault>
+    requires readers { (1 ≤ vec_len readers) × (vec_len readers ≤ 64) }
+    ensures taken { IfOk result (λ gatherers. TakenInParts schema.now
+        (map R.Read.remaining readers.items) settings.now.builders gatherers.items) }
+    ensures err { IfErr result (ExplainsFeeding schema.now (map R.Read.remaining readers.items)) }
 {
-    let drafts = new_drafts(alloc, schema, sources, parts)?;
-    let making = Making::with_room(alloc, parts as usize)?;
-    Ok((drafts, making))
+    let parts = settings.builders();
+    if parts == 1 && settings.threads() > 1 {
+        return feed_in_shares(rt, alloc, schema, readers, settings, gate);
+    }
+    let Ok(drafts) = new_drafts(alloc, schema, readers.len() as u32, parts) else {
+        return Err(FeedingFault::Memory);
+    };
+    feed_all(
+        rt,
+        alloc,
+        schema,
+        readers,
+        settings.capacity(),
+        drafts,
+        gate,
+    )
 }
 
 // Makes the builder of each part, by so many threads, and keeps them all. The only error is want of memory.
@@ -55,7 +71,9 @@ fn complete<T: Threads + Sync>(
 /// of the schema's grouping sets.
 ///
 /// A feeder on a thread of its own reads each source, builder 0 gathers on the caller's thread, each other on its own,
-/// and the cubes are filled side by side once the feeds have ended. The first of these faults that holds is the answer:
+/// and the cubes are filled side by side once the feeds have ended. One builder gathers in as many shares of consecutive
+/// sources as there are threads, 8 at most, the first on the caller's thread, each other on its own; their ledgers are
+/// put together once the feeds have ended. The first of these faults that holds is the answer:
 /// `Memory` or `NoThread`, where no record was read; `Feed` of the lowest source whose feed is at fault; `Full` where a
 /// growth was refused in building; `Unsealed` of the lowest source of which a link gave no receipt.
 pub fn build<T: Threads + Wait + Sync, R: Read + Drop + Send, G: Gate + Sync>(
@@ -72,20 +90,10 @@ pub fn build<T: Threads + Wait + Sync, R: Read + Drop + Send, G: Gate + Sync>(
     ensures schema { IfOk result (λ built. schema_of_run built ≡ schema.now) }
     ensures err { IfErr result (ExplainsFeeding schema.now (map R.Read.remaining readers.items)) }
 {
-    let sources = readers.len() as u32;
-    let Ok(started) = start(alloc, schema, sources, settings.builders()) else {
+    let Ok(mut making) = Making::with_room(alloc, settings.builders() as usize) else {
         return Err(FeedingFault::Memory);
     };
-    let (drafts, mut making) = started;
-    let gatherers = feed_all(
-        rt,
-        alloc,
-        schema,
-        readers,
-        settings.capacity(),
-        drafts,
-        gate,
-    )?;
+    let gatherers = feed_parts(rt, alloc, schema, readers, settings, gate)?;
     match complete(rt, settings.threads(), gatherers, &mut making) {
         Ok(()) => Ok(Built::of(making)),
         Err(_) => Err(FeedingFault::Full),

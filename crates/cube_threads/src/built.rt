@@ -6,11 +6,10 @@ ghost use Rattle.cube_core.specs.declared.key.Row.{Row};
 ghost use Rattle.cube_cells.specs.Rows.{AreRowsInOrder, GivesUnless};
 ghost use Rattle.cube_threads.specs.Parts.{AreParts, AreRowsOfRun, IsRowOfRun, schema_of_run, facts_of_run};
 
-use crate::joining::in_key_order;
 use crate::making::{Links, Making};
-use cube_cells::OrderedCells;
-use cube_core::{Key, Pattern, QueryFault, Row};
-use cube_engine::Builder;
+use cube_cells::{OrderedCells, Summary};
+use cube_core::{Key, Pattern, QueryFault, Row, Schema};
+use cube_engine::{Builder, DrillDown, Slice, ordered_parts_with, row_above, rows_of_parts};
 use cube_feeders::Parcel;
 use cube_link::Inlet;
 use std::alloc::AllocError;
@@ -23,7 +22,7 @@ use std::thread::Threads;
 /// all grouping sets of their schema. The queries answer as that cube would.
 #[derive(Drop)]
 pub struct Built {
-    builders: Vec<Builder>,
+    builders: Vec<Builder<Summary>>,
     links: Vec<Links>,
 }
 
@@ -55,18 +54,25 @@ impl Built {
     }
 
     /// The builder of part 0.
-    pub fn builder(&self) -> &Builder
+    pub fn builder(&self) -> &Builder<Summary>
         ensures { result.now ≡ slice_index_or self.now.builders 0 result.now }
     {
         &self.builders[0]
     }
 
     /// The builders, in the order of their parts.
-    pub fn builders(&self) -> &[Builder]
+    pub fn builders(&self) -> &[Builder<Summary>]
         ensures builders { result.now ≡ self.now.builders }
         ensures parts { AreParts result.now }
     {
         self.builders.as_slice()
+    }
+
+    // The schema of the run.
+    fn schema(&self) -> &Schema
+        ensures { result.now ≡ schema_of_run self.now }
+    {
+        self.builders()[0].ledger().schema()
     }
 
     /// The inlets of a builder, counted from 0; inlet s - 1 is source s.
@@ -83,19 +89,11 @@ impl Built {
         &self,
         rt: &T,
         threads: usize,
-    ) -> Result<OrderedCells<'_>, AllocError>
+    ) -> Result<OrderedCells<'_, Summary>, AllocError>
         ensures { IfOk result (λ ordered. (rows : List Row) → AreRowsInOrder ordered rows →
             AreRows (schema_of_run self.now) (facts_of_run self.now) rows) }
     {
-        if self.builders.len() == 1 {
-            return self.builders[0].cube().ordered_with(rt, threads);
-        }
-        let mut cells = self.builders[0].cube().ordered_with(rt, threads)?;
-        for part in 1..self.builders.len() {
-            cells.append(self.builders[part].cube().ordered_with(rt, threads)?)?;
-        }
-        cells.sort()?;
-        Ok(cells)
+        ordered_parts_with(rt, threads, self.builders())
     }
 
     /// The rows of all parts whose keys a pattern matches, in key order. The only error is want of memory.
@@ -103,14 +101,7 @@ impl Built {
         ensures { IfOk result (λ rows.
             AreRowsOfRun (matches pattern.now) self.now rows.items) }
     {
-        if self.builders.len() == 1 {
-            return self.builders[0].cube().slice(pattern);
-        }
-        let mut rows = self.builders[0].cube().slice(pattern)?;
-        for part in 1..self.builders.len() {
-            rows.append(&mut self.builders[part].cube().slice(pattern)?)?;
-        }
-        in_key_order(rows)
+        rows_of_parts(self.builders(), &Slice { pattern })
     }
 
     /// The row of a key with ALL in a dimension, counted from 0, by a look-up in each part; `None` exactly where that is
@@ -120,12 +111,7 @@ impl Built {
         requires width { length key.now.coords ≡ length (schema_of_run self.now).dimensions }
         ensures { IfOk result (IsRowOfRun (rolled_up dim key.now) self.now) }
     {
-        for part in 0..self.builders.len() {
-            if let Some(row) = self.builders[part].cube().roll_up(key, dim)? {
-                return Ok(Some(row));
-            }
-        }
-        Ok(None)
+        row_above(self.builders(), key, dim)
     }
 
     /// The rows of all parts whose keys drill down from a key along a dimension, counted from 0, in key order.
@@ -138,14 +124,10 @@ impl Built {
         ensures { GivesUnless (drill_fault (schema_of_run self.now).grouping_sets dim key.now)
             (λ rows. AreRowsOfRun (drills_down dim key.now) self.now rows.items) result }
     {
-        if self.builders.len() == 1 {
-            return self.builders[0].cube().drill_down(key, dim);
+        if let Some(fault) = self.schema().drill_fault(key, dim) {
+            return Err(fault);
         }
-        let mut rows = self.builders[0].cube().drill_down(key, dim)?;
-        for part in 1..self.builders.len() {
-            rows.append(&mut self.builders[part].cube().drill_down(key, dim)?)?;
-        }
-        let rows = in_key_order(rows)?;
+        let rows = rows_of_parts(self.builders(), &DrillDown { key, dim })?;
         Ok(rows)
     }
 }

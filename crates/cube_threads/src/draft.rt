@@ -1,9 +1,10 @@
 //! What all sources are fed to before a builder is made of it.
-ghost use Rattle.std.specs.Prelude.{◌≡◌, ◌≤◌, ◌<◌, ◌++◌, ◌∷◌, [], length, IfOk, OnOk, OnErr};
+ghost use Rattle.std.specs.Prelude.{◌≡◌, ◌≤◌, ◌<◌, ◌++◌, ◌∷◌, [], flat_map, length, sum_by, IfOk, OnOk, OnErr};
+ghost use Rattle.std.specs.List.{All};
 ghost use Rattle.cube_core.specs.Arrival.{Arrivals};
-ghost use Rattle.cube_threads.specs.Drafts.{DraftView, StandsFrom, IsNewDraft, AreNewDrafts, IsMadeOf};
+ghost use Rattle.cube_threads.specs.Drafts.{DraftView, StandsFrom, IsNewDraft, AreNewDrafts, IsDraftOf, IsMadeOf};
 
-use cube_cells::Cube;
+use cube_cells::{Cube, Summary};
 use cube_core::{Item, Schema};
 use cube_engine::{Builder, Ledger};
 use cube_feed::TakesItems;
@@ -15,7 +16,7 @@ use std::thread::Threads;
 #[derive(Drop)]
 pub(crate) struct Draft {
     ledger: Ledger,
-    cube: Cube,
+    cube: Cube<Summary>,
 }
 
 impl Model for Draft {
@@ -66,7 +67,23 @@ impl Draft {
         ensures { IfOk result (IsNewDraft schema.now sources parts part) }
     {
         let ledger = Ledger::new(alloc, schema, sources)?;
-        let cube = Cube::new_part(alloc, schema, part, parts)?;
+        let cube = Cube::of_part(alloc, schema, part, parts)?;
+        Ok(Draft { ledger, cube })
+    }
+
+    /// The draft over all grouping sets of the ledgers of shares, with their accounts in their order. The only error is
+    /// want of memory.
+    pub fn of_shares(
+        alloc: Global,
+        schema: &Schema,
+        ledgers: Vec<Ledger>,
+    ) -> Result<Draft, AllocError>
+        requires schema { All (λ ledger. ledger.schema ≡ schema.now) ledgers.items }
+        requires most { sum_by (λ ledger. length ledger.accounts) ledgers.items ≤ 64 }
+        ensures { IfOk result (IsDraftOf schema.now ledgers.items) }
+    {
+        let ledger = put_together(alloc, schema, ledgers)?;
+        let cube = Cube::of_part(alloc, schema, 0, 1)?;
         Ok(Draft { ledger, cube })
     }
 
@@ -84,7 +101,11 @@ impl Draft {
     }
 
     /// The builder of the ledger, with the cube filled by so many threads. The only error is want of memory.
-    pub fn finish<T: Threads + Sync>(self, rt: &T, threads: usize) -> Result<Builder, AllocError>
+    pub fn finish<T: Threads + Sync>(
+        self,
+        rt: &T,
+        threads: usize,
+    ) -> Result<Builder<Summary>, AllocError>
         ensures { IfOk result (IsMadeOf self) }
     {
         Builder::of_with(rt, threads, self.ledger, self.cube)
@@ -107,4 +128,19 @@ pub(crate) fn new_drafts(
         drafts.push(Draft::new_part(alloc, schema, sources, part, parts)?)?;
     }
     Ok(drafts)
+}
+
+// A ledger with the accounts of these, which have its schema, in their order. The only error is want of memory.
+fn put_together(alloc: Global, schema: &Schema, ledgers: Vec<Ledger>) -> Result<Ledger, AllocError>
+    requires schema { All (λ ledger. ledger.schema ≡ schema.now) ledgers.items }
+    requires most { sum_by (λ ledger. length ledger.accounts) ledgers.items ≤ 64 }
+    ensures schema { IfOk result (λ whole. whole.schema ≡ schema.now) }
+    ensures accounts { IfOk result (λ whole.
+        whole.accounts ≡ flat_map (λ ledger. ledger.accounts) ledgers.items) }
+{
+    let mut whole = Ledger::new(alloc, schema, 0)?;
+    for ledger in ledgers {
+        whole.append(ledger)?;
+    }
+    Ok(whole)
 }

@@ -6,9 +6,9 @@
 mod building;
 mod built;
 mod draft;
-mod joining;
 mod making;
 mod settings;
+mod shares;
 
 pub use building::build;
 pub use built::Built;

@@ -3,6 +3,7 @@ ghost use Rattle.std.specs.Prelude.{◌≡◌, ◌≤◌, ◌<◌, ◌++◌, ◌
 ghost use Rattle.cube_threads.specs.Drafts.{IsMadePart};
 
 use crate::draft::Draft;
+use cube_cells::Summary;
 use cube_engine::Builder;
 use cube_feeders::{Gatherer, Parcel};
 use cube_link::Inlet;
@@ -13,7 +14,7 @@ use std::thread::Threads;
 /// The builder of a part, with the inlets by which the feeds came.
 #[derive(Drop)]
 pub(crate) struct MadePart {
-    pub builder: Builder,
+    pub builder: Builder<Summary>,
     pub inlets: Vec<Inlet<Parcel>>,
 }
 
@@ -23,6 +24,7 @@ fn make<T: Threads + Sync>(rt: &T, threads: usize, gatherer: Gatherer<Draft>) ->
 {
     let Gatherer {
         builder: draft,
+        place: _,
         inlets,
         wanting: _,
     } = gatherer;
@@ -55,7 +57,7 @@ pub(crate) struct Links {
 /// The builders of the first parts, in their order, with their inlets.
 #[derive(Drop)]
 pub(crate) struct Making {
-    pub builders: Vec<Builder>,
+    pub builders: Vec<Builder<Summary>>,
     pub links: Vec<Links>,
 }
 

@@ -26,7 +26,8 @@ impl Model for Settings {
 
 impl Settings {
     /// Settings of links with room for 1 to 65536 parcels, 1 to 8 builders, and 1 to 16 threads that work side by
-    /// side once the feeds have ended; `None` where a number is out of these bounds.
+    /// side once the feeds have ended, and take the feeds where there is one builder; `None` where a number is out of
+    /// these bounds.
     pub fn new(capacity: usize, builders: u32, threads: usize) -> Option<Settings>
         ensures some { IfSome result (λ settings. (settings.capacity ≡ capacity)
             × (settings.builders ≡ builders) × (settings.threads ≡ threads)) }
@@ -62,7 +63,7 @@ impl Settings {
         self.builders
     }
 
-    /// The most threads that work side by side once the feeds have ended.
+    /// The most threads that work side by side once the feeds have ended, and that take the feeds for one builder.
     pub fn threads(&self) -> usize
         ensures value { result ≡ self.now.threads }
         ensures bounds { (1 ≤ result) × (result ≤ 16) }

@@ -14,6 +14,7 @@ use crate::command::Failure;
 use crate::fault::TextFault;
 use crate::question::Question;
 use crate::reporter::Reporter;
+use cube_cells::Summary;
 use cube_core::{Key, Pattern, Row, Schema};
 use cube_engine::Builder;
 use cube_live::print_refusals;
@@ -209,7 +210,7 @@ pub(crate) fn has_builder(built: &Built)
 }
 
 /// The builder whose books and refusals are those of what was built.
-pub(crate) fn first_builder(built: &Built) -> &Builder
+pub(crate) fn first_builder(built: &Built) -> &Builder<Summary>
     ensures { result.now.ledger ≡ first_ledger built.now.builders }
 {
     &built.builders()[0]

@@ -1,28 +1,43 @@
+use Rattle.std.proofs.Common.{sym, subst, ◌∙◌}
 use Rattle.std.proofs.lemmas.List.Sums.{list_all-from_AllPass}
 use Rattle.std.proofs.lemmas.Result.{IfOk-weaker}
+use Rattle.cube_core.specs.Layout.{Layout}
 use Rattle.cube_core.specs.Takes.{fits}
 use Rattle.cube_engine.specs.Ledger.{all_facts}
 use Rattle.cube_text.proofs.RowShapeLaws.{HasShapeOf-AreRowsWhere}
+use Rattle.cube_live.specs.Live.{CanAsk}
 use Rattle.cube_live.specs.Shows.{asks_for}
 use Rattle.cube_live.proofs.rows.rows_text.Goals as goal
 
 pub rows_of_parts-requires-clause-parts : goal.rows_of_parts-requires-clause-parts
-rows_of_parts-requires-clause-parts c =
-    (all_facts c.args.parted.now.accounts, rw c.requires.schema at c.in-Some.ensures.parts)
+rows_of_parts-requires-clause-parts c = record {
+  schema = c.args.parted.now.schema;
+  facts = all_facts c.args.parted.now.accounts;
+  are = c.in-Some.ensures.parts;
+}
+
+pub rows_of_parts-requires-clause-can_ask : goal.rows_of_parts-requires-clause-can_ask
+rows_of_parts-requires-clause-can_ask c = λ part d below.
+    let same = sym ((c.in-Some.ensures.parts.each part d below).over.schema ∙ c.requires.schema) in (
+      same,
+      c.requires.rows,
+      subst (λ (s : Layout). CanAsk s c.args.question.now) same c.requires.can_ask,
+    )
 
 pub print_rows-requires : goal.print_rows-requires
 print_rows-requires c =
     let s = c.args.schema.now in
     let facts = all_facts c.args.parted.now.accounts in
-    let are = c.in_ok-rows.ensures facts (rw c.requires.schema at c.in-Some.ensures.parts) in
+    let are = c.in_ok-rows.ensures s facts (rw c.requires.schema at c.in-Some.ensures.parts) in
     rw c.deref.ensures.value
     (HasShapeOf-AreRowsWhere (asks_for c.args.question.now) s facts c.in_ok-rows.rows.items
     (list_all-from_AllPass (fits s) facts (rw c.requires.schema at c.in-Some.ensures.fit)) are)
 
 pub returns : goal.returns
 returns c =
+    let s = c.args.schema.now in
     let facts = all_facts c.args.parted.now.accounts in
-    let are = c.in_ok-rows.ensures facts (rw c.requires.schema at c.in-Some.ensures.parts) in
+    let are = c.in_ok-rows.ensures s facts (rw c.requires.schema at c.in-Some.ensures.parts) in
     IfOk-weaker c.print_rows.result _ _
     (λ text is. record {
       rows = c.in_ok-rows.rows.items;

@@ -1,8 +1,6 @@
-use Rattle.std.proofs.Common.{◌≡◌, ◌≤◌, ℕ, arith, map, length, sym, subst, ◌∙◌, vec_len}
-use Rattle.std.proofs.lemmas.List.{length-map}
-use Rattle.cube_threads.specs.Drafts.{AreNewDrafts}
+use Rattle.std.proofs.Common.{◌≤◌, arith, map}
 use Rattle.cube_threads.specs.Parts.{BuildsParts}
-use Rattle.cube_threads.proofs.DraftLaws.{builds-parts, builds-seen, new-drafts}
+use Rattle.cube_threads.proofs.DraftLaws.{builds-parts, builds-seen}
 use Rattle.cube_threads.proofs.PartLaws.{are-parts, schema-run}
 use Rattle.cube_threads.proofs.building.build.Given.{Over}
 use Rattle.cube_threads.proofs.building.build.Goals.{In-Ok, In-Ok-complete, After-of}
@@ -11,15 +9,6 @@ use Rattle.cube_threads.proofs.building.build.Goals as goal
 -- the settings have a builder
 some : (g : Over) (c : In-Ok g) → 1 ≤ c.args.settings.now.builders
 some g c = omega (arith, c.builders.ensures.bounds.0, c.builders.ensures.value)
-
--- the drafts are new, of the readers' sources
-new : (g : Over) (c : In-Ok g) → AreNewDrafts c.args.schema.now
-    (vec_len c.args.readers) c.args.settings.now.builders c.args.settings.now.builders c.in-Ok.started.0.items
-new g c =
-    subst (λ (n : ℕ). AreNewDrafts c.args.schema.now (vec_len c.args.readers) n n c.in-Ok.started.0.items)
-    c.builders.ensures.value
-    (subst (λ (n : ℕ). AreNewDrafts c.args.schema.now n c.builders.result c.builders.result c.in-Ok.started.0.items)
-    c.len-sources.ensures c.in-Ok.ensures.drafts)
 
 -- the builders that were made have taken the feeds
 built : (g : Over) (c : In-Ok-complete g)
@@ -30,14 +19,10 @@ built : (g : Over) (c : In-Ok-complete g)
     })
 built g c =
     let at = goal.at.In-Ok-complete g c in
-    let told = map g.R.Read.remaining c.args.readers.items in
-    let count : vec_len c.args.readers ≡ length told =
-    c.args.readers.ok.0 ∙ sym (length-map c.args.readers.items g.R.Read.remaining) in
-    let known = c.in_ok-gatherers.ensures in
-    builds-parts c.args.schema.now told c.args.settings.now.builders c.in-Ok.started.0.items
-    c.in_ok-gatherers.gatherers.items _ known.good (some g at.In-Ok)
-    (subst (λ (n : ℕ). AreNewDrafts c.args.schema.now n c.args.settings.now.builders c.args.settings.now.builders
-    c.in-Ok.started.0.items) count (new g at.In-Ok)) known.taken c.in-Ok-complete.ensures
+    let taken = c.in_ok-gatherers.ensures.taken in
+    builds-parts c.args.schema.now (map g.R.Read.remaining c.args.readers.items) c.args.settings.now.builders
+    taken.drafts c.in_ok-gatherers.gatherers.items _ taken.good (some g at.In-Ok) taken.new taken.taken
+    c.in-Ok-complete.ensures
 
 pub of-requires : goal.of-requires
 of-requires g c =
@@ -59,8 +44,3 @@ pub returns-in-Ok-complete-clause-schema : goal.returns-in-Ok-complete-clause-sc
 returns-in-Ok-complete-clause-schema g c =
     schema-run c.args.schema.now _ c.args.settings.now.builders c.of.result (some g (goal.at.After-of g c).In-Ok)
     (given g c)
-
-pub feed_all-requires-clause-new : goal.feed_all-requires-clause-new
-feed_all-requires-clause-new g c κs within =
-    new-drafts c.args.schema.now (vec_len c.args.readers) c.args.settings.now.builders c.in-Ok.started.0.items
-    (new g (goal.at.feed_all-requires-clause-new g c).In-Ok)

@@ -1,5 +1,5 @@
 use Rattle.std.proofs.Common.{◌≡◌, ◌∙◌, sym, arith, length, map}
-use Rattle.cube_cells.proofs.WalkLaws.{OnOk-both}
+use Rattle.cube_cells.proofs.Cells.WalkLaws.{OnOk-both}
 use Rattle.cube_threads.specs.Parts.{BuiltView}
 use Rattle.cube_threads.proofs.DraftLaws.{all-made}
 use Rattle.cube_threads.proofs.building.complete.Goals as goal

@@ -1,23 +1,22 @@
-use Rattle.std.proofs.Common.{◌≡◌, rules}
-use Rattle.std.specs.Prelude.{None}
-use Rattle.cube_core.specs.Query.{rolled_up}
-use Rattle.cube_threads.proofs.QueryLaws.{parts-of, row-found, no-row-more, no-row}
+use Rattle.std.proofs.Common.{◌≡◌, ◌<◌, length}
+use Rattle.std.proofs.lemmas.Result.{IfOk-weaker}
+use Rattle.cube_threads.proofs.PartLaws.{each-schema, of-one}
 use Rattle.cube_threads.proofs.built.Built.roll_up.Goals as goal
 
-pub returns-in-Some : goal.returns-in-Some
-returns-in-Some c =
-    row-found c.args.self.now.builders c.loop-part.part c.index.result.now c.cube.result.now
-    (rolled_up c.args.dim c.args.key.now) c.in-Some.row (parts-of c.self.view_is c.self.invariant) (search rules)
-    (search rules)
-    (rw c.in-Some.is at c.in_ok-row.ensures.cube)
+pub row_above-requires-clause-parts : goal.row_above-requires-clause-parts
+row_above-requires-clause-parts c = of-one c.builders.ensures.parts
 
-pub loop-part-preserved : goal.loop-part-preserved
-loop-part-preserved c =
-    let none : c.in_ok-row.field-0 ≡ None = search rules in
-    no-row-more c.args.self.now.builders c.loop-part.part c.index.result.now c.cube.result.now
-    (rolled_up c.args.dim c.args.key.now) (parts-of c.self.view_is c.self.invariant) (search rules) (search rules)
-    (rw none at c.in_ok-row.ensures.cube) c.loop-part.invariant
+pub row_above-requires-clause-dim : goal.row_above-requires-clause-dim
+row_above-requires-clause-dim c =
+    each-schema (λ s. c.args.dim < length s.dimensions) c.builders.ensures.parts
+    (rw c.builders.ensures.builders c.requires.dim)
+
+pub row_above-requires-clause-width : goal.row_above-requires-clause-width
+row_above-requires-clause-width c =
+    each-schema (λ s. length c.args.key.now.coords ≡ length s.dimensions) c.builders.ensures.parts
+    (rw c.builders.ensures.builders c.requires.width)
 
 pub returns : goal.returns
-returns c = no-row c.args.self.now.builders c.loop-part.part (rolled_up c.args.dim c.args.key.now)
-    (parts-of c.self.view_is c.self.invariant) (search rules) c.loop-part.invariant
+returns c =
+    IfOk-weaker c.row_above.result _ _ (λ row whole.
+    rw (← c.builders.ensures.builders) (whole _ _ c.builders.ensures.parts)) c.row_above.ensures
