@@ -15,7 +15,7 @@ dimensions. Each feed is a CSV file of inserts, updates and deletes; the cube is
 which are present in the end.";
 
 /// The program's version, by the rules of Semantic Versioning 2.0.0. It stands here alone.
-const VERSION: &str = "1.9.0";
+const VERSION: &str = "1.10.0";
 
 /// The forms of a command line.
 const USAGE: &str = "datacube < FEED
