@@ -1,7 +1,7 @@
 #!/bin/sh
 # Proves the program and what it stands on from nothing, builds it, and says whether its bytes are the released ones.
 #
-#   scripts/build.sh [--jobs N]    N checks side by side; as many as there are processors and memory, where left out
+#   scripts/build.sh [--jobs N]    N checks side by side; as many as there are processors, and memory for, where left out
 #
 # The work is done on a copy of the sources, so nothing that lies in a crate's out/ is read, and an edit meanwhile does
 # no harm. The program goes to crates/datacube/out, beside a record of the sources that it was built from. The status is
@@ -11,6 +11,8 @@ root=$(dirname -- "$(dirname -- "$(readlink -f -- "$0")")")
 . "$root/scripts/programs.sh"
 if [ "${1-}" = --jobs ]; then
     export RT_JOBS="$2"
+else
+    export RT_JOBS="${RT_JOBS-$(checks_side_by_side)}"
 fi
 out=$root/crates/datacube/out
 if ! mkdir -p "$out" || [ ! -w "$out" ]; then

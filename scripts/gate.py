@@ -147,6 +147,7 @@ def prove(tally, is_anew):
     sources, start = shell(f"sources_of {ROOT}"), time.time()
     sampler = Sampler()
     sampler.start()
+    os.environ.setdefault("RT_JOBS", shell("checks_side_by_side"))
     tally.add(stream(ci))
     sampler.ended.set()
     sampler.join()

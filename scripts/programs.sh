@@ -67,6 +67,15 @@ is_whole() {
     [ -x "$1/datacube" ] && [ "$(recorded "$1" program)" = "$(sum_of "$1/datacube")" ]
 }
 
+# How many checks may run side by side: one for each processor, where each finds 4 GiB of free memory, more than any
+# check of a crate takes; nothing where there is less, and then the kit plans by the most that a check might take.
+checks_side_by_side() {
+    free=$(awk '/^MemAvailable:/ { print int($2 / 4194304) }' /proc/meminfo)
+    if [ "${free:-0}" -ge "$(nproc)" ]; then
+        nproc
+    fi
+}
+
 # Writes the record of the program in a folder, which was built from sources with this checksum by the kit on the PATH.
 record() {
     {

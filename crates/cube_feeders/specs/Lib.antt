@@ -7,3 +7,4 @@ pub mod Wiring
 pub mod Settling
 pub mod FeedingAll
 pub mod Shares
+pub mod Settings

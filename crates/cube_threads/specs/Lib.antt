@@ -1,4 +1,3 @@
-pub mod Settings
 pub mod Drafts
 pub mod Parts
 pub mod Shares

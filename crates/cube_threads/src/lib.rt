@@ -7,10 +7,8 @@ mod building;
 mod built;
 mod draft;
 mod making;
-mod settings;
 mod shares;
 
 pub use building::build;
 pub use built::Built;
-pub use cube_feeders::{FeedingFault, Gate, OpenGate, Parcel};
-pub use settings::Settings;
+pub use cube_feeders::{FeedingFault, Gate, OpenGate, Parcel, Settings};

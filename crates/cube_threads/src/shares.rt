@@ -6,10 +6,9 @@ ghost use Rattle.cube_threads.specs.Drafts.{IsDrafted};
 ghost use Rattle.cube_threads.specs.Shares.{AreNewLedgers, TakenInParts};
 
 use crate::draft::Draft;
-use crate::settings::Settings;
 use cube_core::Schema;
 use cube_engine::Ledger;
-use cube_feeders::{FeedingFault, Gate, Gatherer, feed_shares};
+use cube_feeders::{FeedingFault, Gate, Gatherer, Settings, feed_shares};
 use std::alloc::{AllocError, Global};
 use std::io::Read;
 use std::sync::Wait;

@@ -1,6 +1,6 @@
 //! How a build in threads is made.
 ghost use Rattle.std.specs.Prelude.{◌≡◌, ◌≤◌, IfNone, IfSome};
-ghost use Rattle.cube_threads.specs.Settings.{AreSettings};
+ghost use Rattle.cube_feeders.specs.Settings.{AreSettings};
 
 use std::marker::Model;
 
@@ -15,7 +15,7 @@ pub struct Settings {
 }
 
 impl Model for Settings {
-    ghost use Rattle.cube_threads.specs.Settings.{SettingsView, AreSettings};
+    ghost use Rattle.cube_feeders.specs.Settings.{SettingsView, AreSettings};
 
     ghost Value = { SettingsView };
 
