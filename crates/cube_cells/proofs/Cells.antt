@@ -1,10 +1,10 @@
 -- Laws of the cells of a cube as they are kept, and what a step does to them.
-pub mod CodedLaws
+mod CodedLaws
 pub mod WalkLaws
 pub mod NewLaws
-pub mod KeptLaws
-pub mod StepLaws
+mod KeptLaws
+mod StepLaws
 pub mod CubeLaws
-pub mod JoinLaws
-pub mod TableLaws
-pub mod LeveledLaws
+mod JoinLaws
+mod TableLaws
+mod LeveledLaws

@@ -1,7 +1,7 @@
 -- Laws of codes, keys, and the order of keys.
-pub mod CodeLaws
-pub mod DictionaryLaws
-pub mod KeyLaws
-pub mod GrowthLaws
+mod CodeLaws
+mod DictionaryLaws
+mod KeyLaws
+mod GrowthLaws
 pub mod RankLaws
-pub mod TextLaws
+mod TextLaws

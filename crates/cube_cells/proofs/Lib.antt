@@ -1,5 +1,5 @@
 pub mod Tallies
 pub mod Codes
 pub mod Cells
-pub mod Filling
-pub mod Rows
+mod Filling
+mod Rows

@@ -1,7 +1,7 @@
 -- Laws of the tallies of groups of facts.
-pub mod SumLaws
-pub mod TallyLaws
-pub mod MergeLaws
+mod SumLaws
+mod TallyLaws
+mod MergeLaws
 pub mod ValueLaws
-pub mod FactLaws
-pub mod GroupLaws
+mod FactLaws
+mod GroupLaws

@@ -4,11 +4,11 @@ mod ValueLaws
 pub mod ArrivalLaws
 pub mod CommonDivisorLaws
 mod ReducedFractionLaws
-pub mod SchemaReadingLaws
-pub mod GroupingReadingLaws
+mod SchemaReadingLaws
+mod GroupingReadingLaws
 pub mod GroupingLaws
 pub mod SchemaSpellingLaws
-pub mod SchemaLaws
+mod SchemaLaws
 pub mod AmendmentLaws
 pub mod ItemLaws
 pub mod LifeLaws
@@ -18,4 +18,4 @@ pub mod AncestorLaws
 pub mod CellKeyLaws
 pub mod SetLaws
 pub mod QueryLaws
-pub mod PartialFormLaws
+mod PartialFormLaws

@@ -1,5 +1,5 @@
 pub mod BagLaws
-pub mod LogLaws
-pub mod NarrowLaws
-pub mod OwedLaws
-pub mod SummaryLaws
+mod LogLaws
+mod NarrowLaws
+mod OwedLaws
+mod SummaryLaws

@@ -1,16 +1,16 @@
-pub mod BookLaws
-pub mod FitLaws
-pub mod LedgerLaws
+mod BookLaws
+mod FitLaws
+mod LedgerLaws
 pub mod StandLaws
 pub mod SurvivorLaws
-pub mod SurvivorFitLaws
-pub mod FeedLaws
-pub mod BuildLaws
-pub mod RulingLaws
+mod SurvivorFitLaws
+mod FeedLaws
+mod BuildLaws
+mod RulingLaws
 pub mod BuilderLaws
-pub mod FillLaws
-pub mod TakingLaws
-pub mod PartedLaws
-pub mod JoinLaws
-pub mod OrderLaws
-pub mod WholeLaws
+mod FillLaws
+mod TakingLaws
+mod PartedLaws
+mod JoinLaws
+mod OrderLaws
+mod WholeLaws

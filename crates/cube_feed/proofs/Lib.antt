@@ -1,9 +1,9 @@
-pub mod RecordLaws
+mod RecordLaws
 pub mod NumberLaws
 pub mod FieldLaws
-pub mod ContiguousLaws
-pub mod LineLaws
-pub mod HeaderLaws
-pub mod FeedLaws
+mod ContiguousLaws
+mod LineLaws
+mod HeaderLaws
+mod FeedLaws
 pub mod FaultLaws
 pub mod TurnLaws

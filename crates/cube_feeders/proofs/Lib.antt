@@ -1,8 +1,8 @@
-pub mod PlaceLaws
-pub mod SendLaws
-pub mod GatherLaws
+mod PlaceLaws
+mod SendLaws
+mod GatherLaws
 pub mod WireLaws
 pub mod TakeLaws
-pub mod SettleLaws
-pub mod JoinedLaws
-pub mod ShareLaws
+mod SettleLaws
+mod JoinedLaws
+mod ShareLaws

@@ -1,7 +1,7 @@
-pub mod CompareLaws
-pub mod CrashLaws
-pub mod MakeLaws
-pub mod OpenLaws
-pub mod ReadingLaws
-pub mod RowLaws
-pub mod ViewLaws
+mod CompareLaws
+mod CrashLaws
+mod MakeLaws
+mod OpenLaws
+mod ReadingLaws
+mod RowLaws
+mod ViewLaws

@@ -1,9 +1,9 @@
 pub mod RequestLaws
-pub mod ReplyLaws
-pub mod ServingLaws
+mod ReplyLaws
+mod ServingLaws
 pub mod KeepingLaws
-pub mod LiveLaws
+mod LiveLaws
 pub mod RowLaws
 pub mod RefusalLaws
 pub mod ShowsLaws
-pub mod OpeningLaws
+mod OpeningLaws

@@ -1,5 +1,5 @@
-pub mod ClosingLaws
-pub mod CodeLaws
-pub mod FileLaws
-pub mod KeepingLaws
-pub mod NotingLaws
+mod ClosingLaws
+mod CodeLaws
+mod FileLaws
+mod KeepingLaws
+mod NotingLaws

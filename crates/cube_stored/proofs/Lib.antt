@@ -1,6 +1,6 @@
-pub mod PieceLaws
-pub mod RecordLaws
-pub mod KeepingLaws
+mod PieceLaws
+mod RecordLaws
+mod KeepingLaws
 pub mod ReplayLaws
-pub mod StartLaws
-pub mod StoredLaws
+mod StartLaws
+mod StoredLaws

@@ -1,6 +1,6 @@
 mod AppendLaws
 mod ColumnLaws
 pub mod LineLaws
-pub mod PartLaws
-pub mod PieceLaws
+mod PartLaws
+mod PieceLaws
 pub mod RowShapeLaws

@@ -1,3 +1,3 @@
-pub mod DraftLaws
-pub mod PartLaws
-pub mod ShareLaws
+mod DraftLaws
+mod PartLaws
+mod ShareLaws

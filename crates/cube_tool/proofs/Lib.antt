@@ -1,7 +1,7 @@
-pub mod RefusalLaws
+mod RefusalLaws
 pub mod RunLaws
 mod CommandLaws
 mod MergingLaws
-pub mod QueryWordLaws
+mod QueryWordLaws
 mod AnsweringLaws
 mod SessionLaws
