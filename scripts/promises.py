@@ -14,7 +14,7 @@ import sys
 ROOT = os.path.dirname(os.path.dirname(os.path.realpath(__file__)))
 # the crates of the library, from the values up
 CRATES = ["cube_core", "cube_feed", "cube_counts", "cube_cells", "cube_engine", "cube_link", "cube_feeders",
-          "cube_threads", "cube_words", "cube_text", "cube_tool", "cube_live", "cube_merge",
+          "cube_threads", "cube_words", "cube_text", "cube_tool", "cube_live", "cube_merge", "cube_library",
           "cube_journal", "cube_store", "cube_stored", "stored_tool"]
 PLACE = re.compile(r"(<!-- promises -->\n).*?(<!-- end of promises -->)", re.DOTALL)
 
@@ -191,14 +191,16 @@ def error_told(call):
 def tables_of(crate):
     """The tables of a crate."""
     made = [f"## `{crate.name}`", "", sentences(crate.modules[""].about)[0], ""]
-    made += ["| Call | What it does | Asks | Promises | Error |", "|---|---|---|---|---|"]
+    if crate.calls:
+        made += ["| Call | What it does | Asks | Promises | Error |", "|---|---|---|---|---|"]
     for name, call in crate.calls:
         if not call.doc:
             sys.exit(f"{crate.name}: {name} has no documentation")
         named = f"`{name}`" + " (waits)" * call.waits
         cells = [named, sentences(call.doc)[0], clauses(call.asks), clauses(call.promises), error_told(call)]
         made.append("| " + " | ".join(map(cell, cells)) + " |")
-    made.append("")
+    if crate.calls:
+        made.append("")
     for other, names in crate.given_on.items():
         made += [f"It gives on from `{other}`: " + ", ".join(f"`{it}`" for it in names) + ".", ""]
     errors = {it for _, call in crate.calls for it in [call.error]}

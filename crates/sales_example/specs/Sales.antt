@@ -1,9 +1,9 @@
 -- What the sales of a shop are in the words of the library (this project's choice).
 use Rattle.std.specs.Prelude.{◌≡◌, ◌++◌, ◌∷◌, [], ℕ, ℤ, List, Option, Some, Ok}
-use Rattle.cube_core.specs.Arrival.{Arrivals}
-use Rattle.cube_core.specs.declared.change.Change.{Change}
-use Rattle.cube_core.specs.declared.fact.Fact.{Fact}
-use Rattle.cube_engine.specs.Builder.{BuilderView, StandsAt}
+use Rattle.cube_library.specs.Arrival.{Arrivals}
+use Rattle.cube_library.specs.Change.{Change}
+use Rattle.cube_library.specs.Fact.{Fact}
+use Rattle.cube_library.specs.Builder.{BuilderView, StandsAt}
 
 -- the fact of a sale: the values of its dimensions and of its measure
 abbrev pub sale : Option (List ℕ) → List ℕ → ℤ → Fact

@@ -10,29 +10,32 @@ mod sales;
 mod text;
 
 use anyhow::Result;
-use cube_cells::Cube;
-use cube_core::{CoordRef, Key, Pattern, Refusal};
+use cube_library::{CoordRef, Cube, Key, Pattern, Refusal, Row};
 use sales::{PRODUCT, Sales};
 use std::alloc::Global;
 use text::text_of;
 
 fn main(rt: HostRuntime) -> Result<()> {
-    let alloc = rt.alloc();
-    let mut sales = Sales::new(alloc)?;
+    let mut sales = Sales::new(rt.alloc())?;
+    keep_shop(&rt, rt.alloc(), &mut sales)
+}
+
+// A few changes, with questions in between.
+fn keep_shop(rt: &impl Print, alloc: Global, sales: &mut Sales) -> Result<()> {
     sales.insert("a1", Some("York"), "tea", 350)?;
     sales.insert("a2", Some("York"), "coffee", 900)?;
     sales.insert("a3", None, "tea", 1200)?;
-    print_city(&rt, alloc, sales.cube(), "York")?;
+    print_city(rt, alloc, sales.cube(), "York")?;
 
     // Coffee was cheaper.
     sales.update("a2", Some("York"), "coffee", 450)?;
-    print_above(&rt, alloc, sales.cube(), "York", "coffee")?;
+    print_above(rt, alloc, sales.cube(), "York", "coffee")?;
 
     // The first sale is taken back, and once more, which is refused.
     sales.delete("a1")?;
     sales.delete("a1")?;
-    print_cities(&rt, alloc, &sales)?;
-    print_refusals(&rt, sales.refusals())
+    print_cities(rt, alloc, sales)?;
+    print_refusals(rt, sales.refusals())
 }
 
 // A cell, by its key: a city over all products.
@@ -56,10 +59,14 @@ fn print_above(rt: &impl Print, alloc: Global, cube: &Cube, city: &str, product:
 
 // A slice: each city over all products.
 fn print_cities(rt: &impl Print, alloc: Global, sales: &Sales) -> Result<()> {
-    let cities = Pattern::parse(alloc, sales.schema(), "?,\\A")?;
-    let rows = sales.cube().slice(&cities)?;
+    let rows = rows_of_cities(alloc, sales)?;
     print!(rt; "each city:\n{}", text_of(alloc, &rows)?)?;
     Ok(())
+}
+
+fn rows_of_cities(alloc: Global, sales: &Sales) -> Result<Vec<Row>> {
+    let cities = Pattern::parse(alloc, sales.schema(), "?,\\A")?;
+    Ok(sales.cube().slice(&cities)?)
 }
 
 fn print_refusals(rt: &impl Print, refusals: &[Refusal]) -> Result<()> {

@@ -1,14 +1,11 @@
 //! The sales of a shop, and their cube.
 ghost use Rattle.std.specs.Prelude.{◌≡◌, [], IfOk, OnOk, length, option_map};
-ghost use Rattle.cube_core.specs.declared.change.Change.TheVariants.{Insert, Update, Delete};
-ghost use Rattle.cube_engine.specs.Builder.{StandsAt};
-ghost use Rattle.cube_engine.specs.Ledger.{account_of};
+ghost use Rattle.cube_library.specs.Builder.{StandsAt};
+ghost use Rattle.cube_library.specs.Ledger.{account_of};
 ghost use Rattle.sales_example.specs.Sales.{TakesChange, sale};
 
 use anyhow::{Result, ensure};
-use cube_cells::Cube;
-use cube_core::{Change, Fact, Item, Refusal, Schema, Text};
-use cube_engine::Builder;
+use cube_library::{Builder, Change, Cube, Fact, Item, Refusal, Schema, Text};
 use std::alloc::{AllocError, Global};
 
 /// The place of the dimension `product` among those of the schema.
@@ -53,7 +50,7 @@ impl Sales {
     /// Something was sold; `city` is null where nobody knows it.
     pub fn insert(&mut self, id: &str, city: Option<&str>, product: &str, cents: i64) -> Result<()>
         ensures { OnOk result (TakesChange self.new.changes
-            (Insert id.now (sale (option_map (λ text. text.now) city.entry) product.now cents))
+            (Change.Insert id.now (sale (option_map (λ text. text.now) city.entry) product.now cents))
             self.old.builder self.new.builder) }
     {
         let id = Text::from_str(self.alloc, id)?;
@@ -64,7 +61,7 @@ impl Sales {
     /// What was noted of a sale is put right.
     pub fn update(&mut self, id: &str, city: Option<&str>, product: &str, cents: i64) -> Result<()>
         ensures { OnOk result (TakesChange self.new.changes
-            (Update id.now (sale (option_map (λ text. text.now) city.entry) product.now cents))
+            (Change.Update id.now (sale (option_map (λ text. text.now) city.entry) product.now cents))
             self.old.builder self.new.builder) }
     {
         let id = Text::from_str(self.alloc, id)?;
@@ -74,7 +71,7 @@ impl Sales {
 
     /// A sale is taken back.
     pub fn delete(&mut self, id: &str) -> Result<()>
-        ensures { OnOk result (TakesChange self.new.changes (Delete id.now) self.old.builder self.new.builder) }
+        ensures { OnOk result (TakesChange self.new.changes (Change.Delete id.now) self.old.builder self.new.builder) }
     {
         let id = Text::from_str(self.alloc, id)?;
         self.take(Change::Delete { id })

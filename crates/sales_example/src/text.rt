@@ -1,5 +1,5 @@
 //! Rows as text.
-use cube_core::{Answer, Coord, Row};
+use cube_library::{Answer, Coord, Row};
 use std::alloc::{AllocError, Global};
 
 /// A line for each row: its coordinates, and its answers. The only error is want of memory.

@@ -1,0 +1,12 @@
+pub use Rattle.cube_core.specs.Answer
+pub use Rattle.cube_core.specs.Arrival
+pub use Rattle.cube_core.specs.Items
+pub use Rattle.cube_core.specs.Layout
+pub use Rattle.cube_core.specs.Life
+pub use Rattle.cube_core.specs.Query
+pub use Rattle.cube_core.specs.Refusals
+pub use Rattle.cube_core.specs.Takes
+pub use Rattle.cube_core.specs.declared.change.Change
+pub use Rattle.cube_core.specs.declared.fact.Fact
+pub use Rattle.cube_engine.specs.Builder
+pub use Rattle.cube_engine.specs.Ledger
