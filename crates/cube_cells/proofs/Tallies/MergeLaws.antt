@@ -1,30 +1,20 @@
 -- Laws of tallies that are joined: the bags of one added to those of another, and the tally of the facts of both.
 use Rattle.std.specs.Prelude.{ℤ, All}
-use Rattle.std.proofs.Common.{◌≡◌, ℕ, ◌+◌, ◌<◌, ◌≤◌, List, [], arith, ap, sym, ◌∙◌, subst, length, set, take}
+use Rattle.std.proofs.Common.{◌≡◌, ℕ, ◌+◌, ◌<◌, ◌≤◌, List, [], arith, ap, subst, length, set, take}
 use Rattle.std.proofs.lemmas.Bool.{cases_lt, cases_eq}
 use Rattle.std.proofs.Math.Logic.{⊎_elim}
 use Rattle.std.proofs.lemmas.List.{get_or-set_same, get_or-set_other, get_or-take, get_or_default, get_or_past}
-use Rattle.std.proofs.lemmas.List.{length-set, length-take}
+use Rattle.std.proofs.lemmas.List.{length-set}
 use Rattle.cube_counts.specs.Bag.{Bag, AddsBag, held_of, size_of}
 use Rattle.cube_cells.specs.Tally.{bag_at, AddsBags, SameBags}
 use Rattle.cube_counts.proofs.BagLaws.{held_le_size, size_of-bag}
-use Rattle.cube_cells.proofs.Tallies.ValueLaws.{AreWithin}
-
--- past the first bags there is none
-bag_at-take_past : (bags : List Bag) (i m : ℕ) → i ≤ m → bag_at (take i bags) m ≡ []
-bag_at-take_past bags i m past = get_or_past (take i bags) m [] (omega (arith, length-take i bags))
-
-bag_at-take_other : (bags : List Bag) (i m : ℕ) → (m ≡ i → ⊥) → bag_at (take (i + 1) bags) m ≡ bag_at (take i bags) m
-bag_at-take_other bags i m apart = ⊎_elim
-    (λ below. get_or-take (i + 1) bags m [] (omega arith) ∙ sym (get_or-take i bags m [] below))
-    (λ past. bag_at-take_past bags (i + 1) m (omega arith) ∙ sym (bag_at-take_past bags i m past))
-    (cases_lt m i)
+use Rattle.cube_cells.proofs.Tallies.ValueLaws.{AreWithin, each-set, get_or-take_past}
 
 -- a bag is as it was where nothing was added yet
 AddsBags-bag_at : (old bags more : List Bag) (i : ℕ) → AddsBags old bags (take i more)
     → AddsBag (bag_at old i) (bag_at bags i) []
 AddsBags-bag_at old bags more i adds =
-    subst (AddsBag (bag_at old i) (bag_at bags i)) (bag_at-take_past more i i (omega arith)) (adds.each i)
+    subst (AddsBag (bag_at old i) (bag_at bags i)) (get_or-take_past more [] i i (omega arith)) (adds.each i)
 
 AddsBag-after_nil : (old bag new more : Bag) → AddsBag old bag [] → AddsBag bag new more → AddsBag old new more
 AddsBag-after_nil old bag new more first second = record { held = λ x. omega (arith, first.held x, second.held x) }
@@ -34,16 +24,10 @@ pub AddsBags-more : (old bags more : List Bag) (i : ℕ) (bag : Bag) → AddsBag
     → AddsBag (bag_at bags i) bag (bag_at more i) → AddsBags old (set bags i bag) (take (i + 1) more)
 AddsBags-more old bags more i bag adds inside adds_here = record {
   same_length = omega (arith, length-set bags i bag, adds.same_length);
-  each = λ m. ⊎_elim
-      (λ same.
-      subst (λ k. AddsBag (bag_at old k) (bag_at (set bags i bag) k) (bag_at (take (i + 1) more) k)) (sym same) here)
-      (λ apart. rw (get_or-set_other bags i m bag [] apart, bag_at-take_other more i m apart) (adds.each m))
-      (cases_eq m i);
-} where
-  here : AddsBag (bag_at old i) (bag_at (set bags i bag) i) (bag_at (take (i + 1) more) i)
-  here = rw (get_or-set_same bags i bag [] inside, get_or-take (i + 1) more i [] (omega arith))
-      (AddsBag-after_nil (bag_at old i) (bag_at bags i) bag (bag_at more i)
-      (AddsBags-bag_at old bags more i adds) adds_here)
+  each = each-set (λ m new of. AddsBag (bag_at old m) new of) bags more [] i bag inside adds.each
+      (AddsBag-after_nil (bag_at old i) (bag_at bags i) bag (bag_at more i) (AddsBags-bag_at old bags more i adds)
+      adds_here);
+}
 
 -- the bag at i is as large as it was
 pub size_of-AddsBags : (old bags more : List Bag) (i : ℕ) → AddsBags old bags (take i more)
@@ -55,7 +39,7 @@ size_of-AddsBags old bags more i adds =
 size_of-take : (more : List Bag) (i m : ℕ) → size_of (bag_at (take i more) m) ≤ size_of (bag_at more m)
 size_of-take more i m = ⊎_elim
     (λ below. omega (arith, ap size_of (get_or-take i more m [] below)))
-    (λ past. omega (arith, ap size_of (bag_at-take_past more i m past)))
+    (λ past. omega (arith, ap size_of (get_or-take_past more [] i m past)))
     (cases_lt m i)
 
 pub AddsBags-bound : (old bags more : List Bag) (i : ℕ) → AddsBags old bags (take i more) → (m : ℕ)

@@ -1,6 +1,6 @@
 -- Laws of the values of facts: bags that these are added to and taken from, and the tally of the facts.
 use Rattle.std.proofs.Common.{◌≡◌, ℕ, suc, zero, ◌+◌, ◌-◌, ◌<◌, ◌≤◌, List, [], ◌∷◌, true, refl, arith, ap, sym, ◌∙◌}
-use Rattle.std.proofs.Common.{subst, length, set, take, drop, ◌++◌}
+use Rattle.std.proofs.Common.{subst, length, get_or, set, take, drop, ◌++◌}
 use Rattle.std.specs.Prelude.{ℤ, nat_lt, All, Option, Some, None}
 use Rattle.std.specs.Option.{ForSome}
 use Rattle.std.proofs.lemmas.Bool.{cases_lt, cases_eq, and_parts, ltb-true}
@@ -22,17 +22,28 @@ size_of-value old new (Some v) adds =
     let more = size_of_one old new v (record { held = adds.held }) in
     (omega arith, omega arith)
 
--- what a fact has past its first values
-value_at-take_past : (values : List (Option ℤ)) (i m : ℕ) → i ≤ m → value_at (take i values) m ≡ None
-value_at-take_past values i m past = get_or_past (take i values) m None (omega (arith, length-take i values))
+-- of a list's first elements there is none past them
+pub get_or-take_past : {X : Type 0} (more : List X) (none : X) (i m : ℕ) → i ≤ m → get_or (take i more) m none ≡ none
+get_or-take_past more none i m past = get_or_past (take i more) m none (omega (arith, length-take i more))
 
--- of one value more, only the place of that value tells
-value_at-take_other : (values : List (Option ℤ)) (i m : ℕ) → (m ≡ i → ⊥)
-    → value_at (take (i + 1) values) m ≡ value_at (take i values) m
-value_at-take_other values i m apart = ⊎_elim
-    (λ below. get_or-take (i + 1) values m None (omega arith) ∙ sym (get_or-take i values m None below))
-    (λ past. value_at-take_past values (i + 1) m (omega arith) ∙ sym (value_at-take_past values i m past))
+-- of one element more, only its own place tells
+get_or-take_other : {X : Type 0} (more : List X) (none : X) (i m : ℕ) → (m ≡ i → ⊥)
+    → get_or (take (i + 1) more) m none ≡ get_or (take i more) m none
+get_or-take_other more none i m apart = ⊎_elim
+    (λ below. get_or-take (i + 1) more m none (omega arith) ∙ sym (get_or-take i more m none below))
+    (λ past. get_or-take_past more none (i + 1) m (omega arith) ∙ sym (get_or-take_past more none i m past))
     (cases_lt m i)
+
+-- what holds of each bag and what was put to it holds still where the bag at i is put in its place
+pub each-set : {X : Type 0} (Holds : ℕ → Bag → X → Type 0) (bags : List Bag) (more : List X) (none : X) (i : ℕ)
+    (bag : Bag) → i < length bags → ((m : ℕ) → Holds m (bag_at bags m) (get_or (take i more) m none))
+    → Holds i bag (get_or more i none)
+    → (m : ℕ) → Holds m (bag_at (set bags i bag) m) (get_or (take (i + 1) more) m none)
+each-set Holds bags more none i bag inside others here m = ⊎_elim
+    (λ same. subst (λ k. Holds k (bag_at (set bags i bag) k) (get_or (take (i + 1) more) k none)) (sym same)
+        (rw (get_or-set_same bags i bag [] inside, get_or-take (i + 1) more i none (omega arith)) here))
+    (λ apart. rw (get_or-set_other bags i m bag [] apart, get_or-take_other more none i m apart) (others m))
+    (cases_eq m i)
 
 -- two changes of a bag, the first of no value
 AddsValue-after_none : (old bag new : Bag) (first_value value : Option ℤ) → first_value ≡ None
@@ -51,16 +62,10 @@ pub AddsValues-more : (old bags : List Bag) (values : List (Option ℤ)) (i : �
     → AddsValues old (set bags i bag) (take (i + 1) values)
 AddsValues-more old bags values i bag adds inside value = record {
   same_length = omega (arith, length-set bags i bag, adds.same_length);
-  each = λ m. ⊎_elim
-      (λ same. subst (λ k. AddsValue (bag_at old k) (bag_at (set bags i bag) k) (value_at (take (i + 1) values) k))
-      (sym same) here)
-      (λ apart. rw (get_or-set_other bags i m bag [] apart, value_at-take_other values i m apart) (adds.each m))
-      (cases_eq m i);
-} where
-  here : AddsValue (bag_at old i) (bag_at (set bags i bag) i) (value_at (take (i + 1) values) i)
-  here = rw (get_or-set_same bags i bag [] inside, get_or-take (i + 1) values i None (omega arith))
+  each = each-set (λ m new of. AddsValue (bag_at old m) new of) bags values None i bag inside adds.each
       (AddsValue-after_none (bag_at old i) (bag_at bags i) bag (value_at (take i values) i) (value_at values i)
-      (value_at-take_past values i i (omega arith)) (adds.each i) value)
+      (get_or-take_past values None i i (omega arith)) (adds.each i) value);
+}
 
 -- the value at i is taken after those before it
 pub AddsValues-less : (old bags : List Bag) (values : List (Option ℤ)) (i : ℕ) (bag : Bag)
@@ -68,29 +73,23 @@ pub AddsValues-less : (old bags : List Bag) (values : List (Option ℤ)) (i : �
     → AddsValues (set bags i bag) old (take (i + 1) values)
 AddsValues-less old bags values i bag adds inside value = record {
   same_length = omega (arith, length-set bags i bag, adds.same_length);
-  each = λ m. ⊎_elim
-      (λ same. subst (λ k. AddsValue (bag_at (set bags i bag) k) (bag_at old k) (value_at (take (i + 1) values) k))
-      (sym same) here)
-      (λ apart. rw (get_or-set_other bags i m bag [] apart, value_at-take_other values i m apart) (adds.each m))
-      (cases_eq m i);
-} where
-  here : AddsValue (bag_at (set bags i bag) i) (bag_at old i) (value_at (take (i + 1) values) i)
-  here = rw (get_or-set_same bags i bag [] inside, get_or-take (i + 1) values i None (omega arith))
+  each = each-set (λ m new of. AddsValue new (bag_at old m) of) bags values None i bag inside adds.each
       (AddsValue-before_none bag (bag_at bags i) (bag_at old i) (value_at (take i values) i) (value_at values i)
-      (value_at-take_past values i i (omega arith)) (adds.each i) value)
+      (get_or-take_past values None i i (omega arith)) (adds.each i) value);
+}
 
 -- the bag at i is as large as it was
 pub size_of-AddsValues : (old bags : List Bag) (values : List (Option ℤ)) (i : ℕ) → AddsValues old bags (take i values)
     → size_of (bag_at bags i) ≡ size_of (bag_at old i)
 size_of-AddsValues old bags values i adds = size_of_same (bag_at bags i) (bag_at old i) (record {
-  held = λ x. omega (arith, (adds.each i).held x, ap (one_of x) (value_at-take_past values i i (omega arith)));
+  held = λ x. omega (arith, (adds.each i).held x, ap (one_of x) (get_or-take_past values None i i (omega arith)));
 })
 
 -- the bag at i holds what it held
 pub held_of-AddsValues : (old bags : List Bag) (values : List (Option ℤ)) (i : ℕ) (x : ℤ)
     → AddsValues bags old (take i values) → held_of (bag_at bags i) x ≡ held_of (bag_at old i) x
 held_of-AddsValues old bags values i x adds =
-    omega (arith, (adds.each i).held x, ap (one_of x) (value_at-take_past values i i (omega arith)))
+    omega (arith, (adds.each i).held x, ap (one_of x) (get_or-take_past values None i i (omega arith)))
 
 -- values that were added can be taken
 pub AddsValues-value_at : (old new : List Bag) (values : List (Option ℤ)) → AddsValues old new values → (m : ℕ)
