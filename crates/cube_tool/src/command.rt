@@ -21,7 +21,7 @@ pub use explanation::explain;
 pub use failure::Failure;
 pub use feeds::ask;
 pub use merging::{check_cubes, first_repeated, merge_cubes};
-pub use notes::{LATER_NOTES, NOTES, Note, STORE_NOTES};
+pub use notes::{FEED_NOTES, LATER_NOTES, Note, RUN_NOTES, SCHEMA_NOTES, STORE_NOTES};
 pub use query::{read_cell, read_dimension, read_pattern};
 pub use sample::run_sample;
 pub use schema_file::{check, read_schema};

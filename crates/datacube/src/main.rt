@@ -16,9 +16,9 @@ use cube_core::{HashKey, Schema, Shard};
 use cube_progress::{Counts, CubeReader, FeedReader, Output, Phase, Progress};
 use cube_threads::Settings;
 use cube_tool::command::{
-    Failure, LATER_NOTES, NOTES, Question, STORE_NOTES, Status, answer_words, ask, check,
-    check_cubes, explain, first_repeated, live, merge_cubes, read_cell, read_dimension,
-    read_pattern, read_schema, read_shard, run_sample,
+    FEED_NOTES, Failure, LATER_NOTES, Question, RUN_NOTES, SCHEMA_NOTES, STORE_NOTES, Status,
+    answer_words, ask, check, check_cubes, explain, first_repeated, live, merge_cubes, read_cell,
+    read_dimension, read_pattern, read_schema, read_shard, run_sample,
 };
 use cube_tool::{InputFault, MergeFault, RunFault};
 use cube_words::{
@@ -221,35 +221,54 @@ fn drawn_key(rt: &HostRuntime) -> Result<HashKey, Failure> {
     }
 }
 
-/// Says what a code means, or what all mean: of the three tables of notes, one after the other.
+/// Says what a code means, or what all mean: the tables of notes one after the other, up to one that has the code.
 fn explain_code(rt: &HostRuntime, code: Option<&str>) -> Result<Status, Failure> {
-    match explain_first(rt, code) {
-        Err(Failure::UnknownCode) => explain_others(rt, code),
-        Ok(_) if code.is_none() => explain_others(rt, code),
-        ended => ended,
+    let mut said = explain_schema(rt, code);
+    if goes_on(&said, code) {
+        said = explain_feed(rt, code);
+    }
+    if goes_on(&said, code) {
+        said = explain_run(rt, code);
+    }
+    if goes_on(&said, code) {
+        said = explain_later(rt, code);
+    }
+    if goes_on(&said, code) {
+        said = explain_store(rt, code);
+    }
+    said
+}
+
+/// Whether the next table is to be looked at: the last has no such code, or all codes are asked for.
+fn goes_on(said: &Result<Status, Failure>, code: Option<&str>) -> bool {
+    match said {
+        Err(Failure::UnknownCode) => true,
+        Err(_) => false,
+        Ok(_) => code.is_none(),
     }
 }
 
-/// Says what a code of the second or the third table means, or what all do.
-fn explain_others(rt: &HostRuntime, code: Option<&str>) -> Result<Status, Failure> {
-    match explain_later(rt, code) {
-        Err(Failure::UnknownCode) => explain_store(rt, code),
-        Ok(_) if code.is_none() => explain_store(rt, code),
-        ended => ended,
-    }
+/// Says what a code of schemas means, or what all of them do.
+fn explain_schema(rt: &HostRuntime, code: Option<&str>) -> Result<Status, Failure> {
+    explain(rt.alloc(), &SCHEMA_NOTES, code, &mut rt.stdout())
 }
 
-/// Says what a code of the first table means, or what all do.
-fn explain_first(rt: &HostRuntime, code: Option<&str>) -> Result<Status, Failure> {
-    explain(rt.alloc(), &NOTES, code, &mut rt.stdout())
+/// Says what a code of lines, feeds, patterns or cells means, or what all of them do.
+fn explain_feed(rt: &HostRuntime, code: Option<&str>) -> Result<Status, Failure> {
+    explain(rt.alloc(), &FEED_NOTES, code, &mut rt.stdout())
 }
 
-/// Says what a code of the second table means, or what all do.
+/// Says what a code of runs, refused lines or files means, or what all of them do.
+fn explain_run(rt: &HostRuntime, code: Option<&str>) -> Result<Status, Failure> {
+    explain(rt.alloc(), &RUN_NOTES, code, &mut rt.stdout())
+}
+
+/// Says what a code of sessions or merges means, or what all of them do.
 fn explain_later(rt: &HostRuntime, code: Option<&str>) -> Result<Status, Failure> {
     explain(rt.alloc(), &LATER_NOTES, code, &mut rt.stdout())
 }
 
-/// Says what a code of a store means, or what all do.
+/// Says what a code of a store means, or what all of them do.
 fn explain_store(rt: &HostRuntime, code: Option<&str>) -> Result<Status, Failure> {
     explain(rt.alloc(), &STORE_NOTES, code, &mut rt.stdout())
 }

@@ -15,9 +15,8 @@ pub struct Note {
     pub example: &'static str,
 }
 
-/// The codes of schemas, feeds, runs over feeds and the program. A refused line's number may stand for one thing under
-/// each version of feeds.
-pub const NOTES: [Note; 49] = [
+/// The codes of schemas.
+pub const SCHEMA_NOTES: [Note; 10] = [
     Note {
         code: "S1",
         about: "schema",
@@ -88,6 +87,10 @@ pub const NOTES: [Note; 49] = [
         mend: "Write it without quotes, or leave the key out for version 1.",
         example: "version = 2",
     },
+];
+
+/// The codes of lines, feeds, patterns and cells.
+pub const FEED_NOTES: [Note; 17] = [
     Note {
         code: "L1",
         about: "line of a feed",
@@ -207,6 +210,11 @@ pub const NOTES: [Note; 49] = [
         mend: "Add the set to `grouping` in the schema, or leave the key out.",
         example: "",
     },
+];
+
+/// The codes of runs over feeds, of refused lines and of the program's files. A refused line's number may stand for one
+/// thing under each version of feeds.
+pub const RUN_NOTES: [Note; 22] = [
     Note {
         code: "G1",
         about: "run",
