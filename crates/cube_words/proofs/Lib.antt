@@ -1,3 +1,2 @@
 mod CommandLineLaws
-mod CommandLineSteps
 mod RequestLaws

@@ -1,6 +1,6 @@
 -- The words that the program takes, as clap reads them, and the requests that they make (this project's choice).
 use Rattle.std.specs.Prelude.{◌≡◌, ◌≤◌, ◌==◌, ⊤, ℕ, Bool, false, true, List, [], ◌∷◌, Option, Some, None, IfSome}
-use Rattle.std.specs.Prelude.{length, map, option_map, unwrap_or, codes}
+use Rattle.std.specs.Prelude.{length, map, option_map, unwrap_or, codes, if◌then◌else◌}
 use Rattle.std.specs.Str.{bytes_eq}
 use Rattle.std.specs.Str.Parse.{IsNumeral, digits_value, without_leading_plus}
 use Rattle.clap.specs.Lexer.{usize_max}
@@ -8,6 +8,10 @@ use Rattle.clap.specs.Words.{App, Row, Rule, Text, all_of, first_of, new_app, ne
 use Rattle.clap.specs.Words.{with_subcommand}
 use Rattle.clap.specs.declared.builder.action.ArgAction.TheVariants as action
 use Rattle.clap.specs.declared.builder.value_parser.ValueParser.TheVariants as value_parser
+use Rattle.cube_words.specs.declared.commands.Form.{Form}
+use Rattle.cube_words.specs.declared.commands.Form.TheVariants as form
+use Rattle.cube_words.specs.declared.commands.Line.{Line}
+use Rattle.cube_words.specs.declared.commands.Word.{Word}
 use Rattle.cube_words.specs.declared.request.LiveWords.{LiveWords}
 use Rattle.cube_words.specs.declared.request.MergeWords.{MergeWords}
 use Rattle.cube_words.specs.declared.request.RunWords.{RunWords}
@@ -163,6 +167,37 @@ with_views line = with_subcommand (with_subcommand (with_subcommand line slice_l
 abbrev pub with_sessions : App → App
 with_sessions line =
     with_subcommand (with_subcommand (with_subcommand line live_line.top) merge_line.top) explain_line.top
+
+-- the rule of a word or an option of this name that is given in this form, and may be left out
+abbrev pub rule_in_form : Text → Form → Rule
+rule_in_form name form.One = new_rule name
+rule_in_form name form.Several = some_words name
+rule_in_form name form.Flag = flag name
+rule_in_form name (form.Text value) = text_option name
+rule_in_form name (form.Number most default) = number_option name most (map (λ text. text.now) default.now)
+
+-- the rule of a word or an option
+abbrev pub rule_of_word : Word → Rule
+rule_of_word word = record (rule_in_form word.name.now word.form) { required = word.is_needed }
+
+-- a command with these words and options behind its own
+abbrev pub with_words : App → List Word → App
+with_words app [] = app
+with_words app (word ∷ words) = with_words (with_rule app (rule_of_word word)) words
+
+-- a command with the feeds and the options of a run behind its words, where it is one
+abbrev pub with_feeds_of : Line → App → App
+with_feeds_of line app = if line.is_run then with_feeds app else app
+
+-- what a command is
+abbrev pub line_of : Line → App
+line_of line =
+    with_words (with_feeds_of line (with_words (new_app line.name.now) line.words.now)) line.options.now
+
+-- a command line with these commands behind its own
+abbrev pub with_lines : App → List Line → App
+with_lines app [] = app
+with_lines app (line ∷ lines) = with_lines (with_subcommand app (line_of line).top) lines
 
 -- no words, or one of the commands
 abbrev pub command_line : App

@@ -7,7 +7,7 @@ use clap::ArgMatches;
 use std::alloc::{AllocError, Global};
 
 /// The files and the options of a command with feeds.
-#[derive(Debug, Drop, PartialEq, Eq)]
+#[derive(Drop)]
 pub struct RunWords<'a> {
     /// The path of the schema file.
     pub schema: &'a str,
@@ -30,7 +30,7 @@ pub struct RunWords<'a> {
 }
 
 /// The files and the options of `live`.
-#[derive(Debug, Drop, PartialEq, Eq)]
+#[derive(Drop)]
 pub struct LiveWords<'a> {
     /// The path of the schema file.
     pub schema: &'a str,
@@ -51,7 +51,7 @@ pub struct LiveWords<'a> {
 }
 
 /// The files and the options of `merge`.
-#[derive(Debug, Drop, PartialEq, Eq)]
+#[derive(Drop)]
 pub struct MergeWords<'a> {
     /// The path of the schema file.
     pub schema: &'a str,
@@ -66,7 +66,7 @@ pub struct MergeWords<'a> {
 }
 
 /// What the words of a command line ask for.
-#[derive(Debug, Drop, PartialEq, Eq)]
+#[derive(Drop)]
 pub enum Request<'a> {
     /// No words: the cube of the feed on standard input, under the sample schema.
     Sample,

@@ -47,27 +47,20 @@ fn parse_words<'a, S: AsStr>(alloc: Global, words: &'a [S]) -> Result<ArgMatches
     program(alloc)?.try_get_matches_from(words)
 }
 
-/// The request, where there is one.
+/// The request, where there is one; otherwise a command lacks a word. `clap` itself answers so, but for the feeds, which
+/// a store may stand for.
 fn complete<'a>(alloc: Global, request: Option<Request<'a>>) -> Result<Request<'a>, Error>
     ensures some { IfSome request.entry (λ asked. result ≡ Ok asked) }
     ensures ok { IfOk result (λ asked. request.entry ≡ Some asked) }
 {
     match request {
         Some(request) => Ok(request),
-        None => Err(incomplete_words(alloc)?),
+        None => Err(refusal(
+            alloc,
+            ErrorKind::MissingRequiredArgument,
+            "the following required arguments were not provided: <FEED>..., which only --store lets be left out",
+        )),
     }
-}
-
-/// What there is to say of a command that lacks a word. `clap` itself answers so, but for the feeds, which a store may
-/// stand for.
-fn incomplete_words(alloc: Global) -> Result<Error, AllocError>
-    ensures { IfOk result (λ error. kind_of error ≡ kind.MissingRequiredArgument) }
-{
-    let mut command = program(alloc)?;
-    command.error(
-        ErrorKind::MissingRequiredArgument,
-        "the following required arguments were not provided: <FEED>..., which only --store lets be left out",
-    )
 }
 
 /// What there is to say of words that the system couldn't give as text.
@@ -77,27 +70,19 @@ pub fn unreadable_words(alloc: Global, error: &io::Error) -> Error
     if error.kind() == io::ErrorKind::OutOfMemory {
         return Error::from(AllocError);
     }
-    match words_not_text(alloc) {
-        Ok(error) => error,
-        Err(error) => Error::from(error),
-    }
+    refusal(
+        alloc,
+        ErrorKind::InvalidValue,
+        "invalid UTF-8 was detected in one or more words",
+    )
 }
 
 /// What there is to say of a share that isn't spelled as one is, or isn't one.
 pub fn unlawful_shard(alloc: Global) -> Error
     ensures { (kind_of result ≡ kind.InvalidValue) ⊎ (kind_of result ≡ kind.OutOfMemory) }
 {
-    match shard_not_lawful(alloc) {
-        Ok(error) => error,
-        Err(error) => Error::from(error),
-    }
-}
-
-fn shard_not_lawful(alloc: Global) -> Result<Error, AllocError>
-    ensures { IfOk result (λ error. kind_of error ≡ kind.InvalidValue) }
-{
-    let mut command = program(alloc)?;
-    command.error(
+    refusal(
+        alloc,
         ErrorKind::InvalidValue,
         "invalid value for '--shard <J/N>': J is a number from 1 to N, and N one from 1 to 65536, in digits without leading zeros",
     )
@@ -107,28 +92,26 @@ fn shard_not_lawful(alloc: Global) -> Result<Error, AllocError>
 pub fn clashing_words(alloc: Global) -> Error
     ensures { (kind_of result ≡ kind.ArgumentConflict) ⊎ (kind_of result ≡ kind.OutOfMemory) }
 {
-    match words_that_clash(alloc) {
-        Ok(error) => error,
-        Err(error) => Error::from(error),
-    }
-}
-
-fn words_that_clash(alloc: Global) -> Result<Error, AllocError>
-    ensures { IfOk result (λ error. kind_of error ≡ kind.ArgumentConflict) }
-{
-    let mut command = program(alloc)?;
-    command.error(
+    refusal(
+        alloc,
         ErrorKind::ArgumentConflict,
         "the arguments '--partial' and '--builders <N>' cannot be used with '--store <FILE>'",
     )
 }
 
-fn words_not_text(alloc: Global) -> Result<Error, AllocError>
-    ensures { IfOk result (λ error. kind_of error ≡ kind.InvalidValue) }
+/// What there is to say of words that are refused, or that there was no memory to say it.
+fn refusal(alloc: Global, why: ErrorKind, message: &str) -> Error
+    ensures { (kind_of result ≡ why) ⊎ (kind_of result ≡ kind.OutOfMemory) }
+{
+    match told(alloc, why, message) {
+        Ok(error) => error,
+        Err(error) => Error::from(error),
+    }
+}
+
+fn told(alloc: Global, why: ErrorKind, message: &str) -> Result<Error, AllocError>
+    ensures { IfOk result (λ error. kind_of error ≡ why) }
 {
     let mut command = program(alloc)?;
-    command.error(
-        ErrorKind::InvalidValue,
-        "invalid UTF-8 was detected in one or more words",
-    )
+    command.error(why, message)
 }

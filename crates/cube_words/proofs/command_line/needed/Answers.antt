@@ -1,7 +1,0 @@
-use Rattle.std.proofs.Common.{ap, true}
-use Rattle.clap.specs.Walk.{Rule}
-use Rattle.cube_words.proofs.command_line.needed.Goals as goal
-
-pub returns-clause-rule : goal.returns-clause-rule
-returns-clause-rule c =
-    rw (c.required.ensures, c.help.ensures) (ap (λ (rule : Rule). record rule { required = true }) c.new.ensures.rule)

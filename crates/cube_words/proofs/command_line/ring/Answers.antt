@@ -1,7 +1,0 @@
-use Rattle.std.proofs.Common.{[], ◌∷◌, ap, codes}
-use Rattle.clap.specs.Walk.{Rule}
-use Rattle.cube_words.proofs.command_line.ring.Goals as goal
-
-pub returns-clause-rule : goal.returns-clause-rule
-returns-clause-rule c = rw c.default_value.ensures
-    (ap (λ (rule : Rule). record rule { defaults = codes "64" ∷ [] }) c.number-ring.ensures.rule)
