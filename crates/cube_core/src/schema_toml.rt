@@ -169,12 +169,10 @@ fn has_known_keys(document: &Table) -> bool
 fn is_known_key(key: &str) -> bool
     ensures { result ≡ is_listed key.now known_keys }
 {
-    key == "dimensions"
-        || key == "measures"
-        || key == "aggregates"
-        || key == "max_records"
-        || key == "grouping"
-        || key == "version"
+    matches!(
+        key,
+        "dimensions" | "measures" | "aggregates" | "max_records" | "grouping" | "version"
+    )
 }
 
 /// The texts of the array at a key; none where there is no array of texts.

@@ -88,6 +88,14 @@ adds_at bag i e v n within is same = record {
 pub adds_pair : (bag : Bag) (v : ℤ) (n : ℕ) → AddsTimes bag (bag ++ (v, n) ∷ []) v n
 adds_pair bag v n = record { held = λ x. omega (arith, sum_by_push (part (one_at x)) bag (v, n)) }
 
+-- n of v are added to the pair that is alone, which is of v, or counts nothing
+pub adds_alone : (x v : ℤ) (c n : ℕ) → x ≡ v → AddsTimes ((x, c) ∷ []) ((v, c + n) ∷ []) v n
+adds_alone x v c n same = record { held = λ y. omega (arith, ap (λ z. one_at y z * c) same) }
+
+pub adds_first : (x v : ℤ) (c n : ℕ) → c ≤ 0 → AddsTimes ((x, c) ∷ []) ((v, c + n) ∷ []) v n
+adds_first x v zero n none = record { held = λ y. omega arith }
+adds_first x v (suc c) n none = absurd (omega arith)
+
 -- n of v are added one by one
 pub AddsTimes-none : (bag : Bag) (v : ℤ) → AddsTimes bag bag v 0
 AddsTimes-none bag v = record { held = λ x. omega arith }

@@ -37,14 +37,12 @@ impl Single {
         ensures other { OnFalse result (self.new ≡ self.old) }
         ensures some { OnFalse result (0 < size_of self.old) }
     {
-        if self.count == 0 {
-            self.value = value;
+        if self.count > 0 && self.value != value {
+            return false;
         }
-        let is_same = self.value == value;
-        if is_same {
-            self.count += times;
-        }
-        is_same
+        self.value = value;
+        self.count += times;
+        true
     }
 
     /// Takes one `value` away; answers whether there was one.
