@@ -119,6 +119,9 @@ AddsOne-set bag i e v within is same more = record {
   taken h k w o zero a b l = absurd (omega arith)
   taken h k w o (suc n) a b l = let c : suc n - 1 ≡ n = omega arith in omega (arith, a, ap (λ m. o * m) c, b)
 
+pub takes_alone : (x v : ℤ) (c : ℕ) → x ≡ v → 0 < c → AddsOne ((x, c - 1) ∷ []) ((x, c) ∷ []) v
+takes_alone x v c same some = AddsOne-set ((x, c) ∷ []) 0 (x, c) v (omega arith) refl same some
+
 pub takes_at : (bag : Bag) (i : ℕ) (e : ℤ × ℕ) (v : ℤ) → i < length bag → e ≡ get_or bag i e → e.0 ≡ v → 1 < e.1
     → AddsOne (set bag i (e.0, e.1 - 1)) bag v
 takes_at bag i e v within is same more = AddsOne-set bag i e v within is same (omega (arith, more))

@@ -51,11 +51,11 @@ impl Single {
         ensures absent { OnFalse result (held_of self.old value ≡ 0) }
         ensures unchanged { OnFalse result (self.new ≡ self.old) }
     {
-        let is_held = self.value == value && self.count > 0;
-        if is_held {
-            self.count -= 1;
+        if self.count == 0 || self.value != value {
+            return false;
         }
-        is_held
+        self.count -= 1;
+        true
     }
 
     /// Whether `value` is held.
