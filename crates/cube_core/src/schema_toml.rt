@@ -301,7 +301,10 @@ fn aggregate_spelled(measures: &[Text], text: &str) -> Option<Agg>
     if let Some(measure) = measure_spelled(measures, "max(", text) {
         return Some(Agg::Max(measure));
     }
-    measure_spelled(measures, "avg(", text).map(|measure| Agg::Avg(measure))
+    if let Some(measure) = measure_spelled(measures, "avg(", text) {
+        return Some(Agg::Avg(measure));
+    }
+    None
 }
 
 /// The measure whose name stands between the opening and a last `)` in a text.
