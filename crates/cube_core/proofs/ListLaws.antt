@@ -104,14 +104,19 @@ AllZip-length R [] (y ∷ ys) all = absurd all
 AllZip-length R (x ∷ xs) [] all = absurd all
 AllZip-length R (x ∷ xs) (y ∷ ys) all = ap suc (AllZip-length R xs ys all.1)
 
--- and one more pair of related elements stays related
+-- lists whose elements are related in turn, and others, are so when they are joined
+pub AllZip-append : {X Y : Type 0} (R : X → Y → Type 0) (xs others : List X) (ys more : List Y) → AllZip R xs ys
+    → AllZip R others more → AllZip R (xs ++ others) (ys ++ more)
+AllZip-append R [] others [] more all after = after
+AllZip-append R [] others (y ∷ ys) more all after = absurd all
+AllZip-append R (x ∷ xs) others [] more all after = absurd all
+AllZip-append R (x ∷ xs) others (y ∷ ys) more all after = (all.0, AllZip-append R xs others ys more all.1 after)
+
+-- and with one more pair of related elements too
 pub AllZip-push : {X Y : Type 0} (R : X → Y → Type 0) (xs : List X) (ys : List Y) (x : X) (y : Y) → AllZip R xs ys
     → R x y →
     AllZip R (xs ++ x ∷ []) (ys ++ y ∷ [])
-AllZip-push R [] [] x y all related = (related, tt)
-AllZip-push R [] (b ∷ ys) x y all related = absurd all
-AllZip-push R (a ∷ xs) [] x y all related = absurd all
-AllZip-push R (a ∷ xs) (b ∷ ys) x y all related = (all.0, AllZip-push R xs ys x y all.1 related)
+AllZip-push R xs ys x y all related = AllZip-append R xs (x ∷ []) ys (y ∷ []) all (related, tt)
 
 -- ---- filters
 -- a filtered list with one more element, which passes or fails

@@ -5,6 +5,7 @@ use crate::fact::Fact;
 use crate::partial::Partial;
 use crate::text::Text;
 use std::alloc::{AllocError, Global};
+use std::fmt;
 use thiserror::Error;
 
 /// A change of the facts of one source, each known by an id of the source's own.
@@ -24,23 +25,36 @@ pub enum Change {
 #[derive(Clone, Copy, Debug, PartialEq, Eq, Error)]
 pub enum LineFault {
     /// The first field is none of the operations.
-    #[error("L1")]
     Op,
     /// The number of fields is wrong.
-    #[error("L2")]
     Fields,
     /// A field that is used isn't UTF-8.
-    #[error("L3")]
     Text,
     /// The id is empty.
-    #[error("L4")]
     Id,
     /// A measure is neither null nor a number.
-    #[error("L5")]
     Measure,
     /// A field of an insert keeps a value, and there is none.
-    #[error("L6")]
     Keep,
+}
+
+impl LineFault {
+    fn code(self) -> &'static str {
+        match self {
+            LineFault::Op => "L1",
+            LineFault::Fields => "L2",
+            LineFault::Text => "L3",
+            LineFault::Id => "L4",
+            LineFault::Measure => "L5",
+            LineFault::Keep => "L6",
+        }
+    }
+}
+
+impl fmt::Display for LineFault {
+    fn fmt<W: fmt::Write>(&self, f: &mut fmt::Formatter<W>) -> fmt::Result {
+        f.write_str(self.code())
+    }
 }
 
 /// An item of a feed: the number of its record, from 1, and the change that the record spells.
@@ -63,14 +77,14 @@ impl Change {
         ensures { IfOk result (λ copy. copy ≡ self.now) }
     {
         match self {
-            Change::Insert { id, fact } => Ok(Change::Insert {
-                id: id.copy(alloc)?,
-                fact: fact.copy(alloc)?,
-            }),
-            Change::Update { id, fact } => Ok(Change::Update {
-                id: id.copy(alloc)?,
-                fact: fact.copy(alloc)?,
-            }),
+            Change::Insert { id, fact } => {
+                let (id, fact) = copy_under(alloc, id, fact)?;
+                Ok(Change::Insert { id, fact })
+            }
+            Change::Update { id, fact } => {
+                let (id, fact) = copy_under(alloc, id, fact)?;
+                Ok(Change::Update { id, fact })
+            }
             Change::Amend { id, part } => Ok(Change::Amend {
                 id: id.copy(alloc)?,
                 part: part.copy(alloc)?,
@@ -80,6 +94,15 @@ impl Change {
             }),
         }
     }
+}
+
+// A copy of an id and of the fact under it.
+fn copy_under(alloc: Global, id: &Text, fact: &Fact) -> Result<(Text, Fact), AllocError>
+    ensures { IfOk result (λ copies. (copies.0 ≡ id.now) × (copies.1 ≡ fact.now)) }
+{
+    let id = id.copy(alloc)?;
+    let fact = fact.copy(alloc)?;
+    Ok((id, fact))
 }
 
 impl Item {

@@ -314,13 +314,27 @@ fn push_on_heap(
     match stored {
         StoredValues::Long { block, spans } => add_on_heap(block, spans, value),
         StoredValues::Short { block, spans } => {
-            let mut block = Vec::from_slice(alloc, block.as_slice())?;
-            let mut spans = widened(alloc, spans.as_slice())?;
-            add_on_heap(&mut block, &mut spans, value)?;
-            *stored = StoredValues::Long { block, spans };
+            let moved = moved_to_heap(alloc, block.as_slice(), spans.as_slice(), value)?;
+            *stored = moved;
             Ok(())
         }
     }
+}
+
+// The values of a block and spans, which are copied to the heap, and one more.
+fn moved_to_heap(
+    alloc: Global,
+    block: &[u8],
+    spans: &[Span<u8>],
+    value: Option<&str>,
+) -> Result<StoredValues, AllocError>
+    ensures { IfOk result (λ moved. Adds block.now spans.now (block_of moved) (spans_of moved)
+        (option_map (λ text. text.now) value.entry)) }
+{
+    let mut block = Vec::from_slice(alloc, block)?;
+    let mut spans = widened(alloc, spans)?;
+    add_on_heap(&mut block, &mut spans, value)?;
+    Ok(StoredValues::Long { block, spans })
 }
 
 /// The text of a value; None of null.

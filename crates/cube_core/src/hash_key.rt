@@ -7,7 +7,7 @@ use std::random::RandomSource;
 
 /// The key under which ids and texts are hashed, by SipHash. Nothing that is answered or printed depends on it, only time:
 /// whoever knows the key of a run can make up ids that collide in its tables.
-#[derive(Clone, Copy, Debug)]
+#[derive(Clone, Copy)]
 pub enum HashKey {
     /// The key that each run has alike.
     Known,

@@ -94,11 +94,11 @@ fn only_record(alloc: Global, text: &[u8]) -> Result<Option<ByteRecord>, AllocEr
         .flexible(true)
         .from_reader(alloc, text);
     let mut record = ByteRecord::new(alloc);
-    let mut next = ByteRecord::new(alloc);
     // A reader of bytes in memory fails for want of memory alone.
     let Ok(found) = reader.read_byte_record(&mut record) else {
         return Err(AllocError);
     };
+    let mut next = ByteRecord::new(alloc);
     let Ok(more) = reader.read_byte_record(&mut next) else {
         return Err(AllocError);
     };

@@ -25,7 +25,7 @@ use std::marker::Model;
 /// number of data records that a feed may have, 1 to 4294967295.
 ///
 /// All names differ, and none is empty, `op`, `id` or `*`.
-#[derive(Debug, Drop)]
+#[derive(Drop)]
 pub struct Schema {
     pub(crate) dimensions: Vec<Text>,
     pub(crate) measures: Vec<Text>,

@@ -169,12 +169,10 @@ fn has_known_keys(document: &Table) -> bool
 fn is_known_key(key: &str) -> bool
     ensures { result ≡ is_listed key.now known_keys }
 {
-    key == "dimensions"
-        || key == "measures"
-        || key == "aggregates"
-        || key == "max_records"
-        || key == "grouping"
-        || key == "version"
+    matches!(
+        key,
+        "dimensions" | "measures" | "aggregates" | "max_records" | "grouping" | "version"
+    )
 }
 
 /// The texts of the array at a key; none where there is no array of texts.
@@ -303,7 +301,10 @@ fn aggregate_spelled(measures: &[Text], text: &str) -> Option<Agg>
     if let Some(measure) = measure_spelled(measures, "max(", text) {
         return Some(Agg::Max(measure));
     }
-    measure_spelled(measures, "avg(", text).map(|measure| Agg::Avg(measure))
+    if let Some(measure) = measure_spelled(measures, "avg(", text) {
+        return Some(Agg::Avg(measure));
+    }
+    None
 }
 
 /// The measure whose name stands between the opening and a last `)` in a text.

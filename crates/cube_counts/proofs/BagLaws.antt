@@ -88,6 +88,14 @@ adds_at bag i e v n within is same = record {
 pub adds_pair : (bag : Bag) (v : ℤ) (n : ℕ) → AddsTimes bag (bag ++ (v, n) ∷ []) v n
 adds_pair bag v n = record { held = λ x. omega (arith, sum_by_push (part (one_at x)) bag (v, n)) }
 
+-- n of v are added to the pair that is alone, which is of v, or counts nothing
+pub adds_alone : (x v : ℤ) (c n : ℕ) → x ≡ v → AddsTimes ((x, c) ∷ []) ((v, c + n) ∷ []) v n
+adds_alone x v c n same = record { held = λ y. omega (arith, ap (λ z. one_at y z * c) same) }
+
+pub adds_first : (x v : ℤ) (c n : ℕ) → c ≤ 0 → AddsTimes ((x, c) ∷ []) ((v, c + n) ∷ []) v n
+adds_first x v zero n none = record { held = λ y. omega arith }
+adds_first x v (suc c) n none = absurd (omega arith)
+
 -- n of v are added one by one
 pub AddsTimes-none : (bag : Bag) (v : ℤ) → AddsTimes bag bag v 0
 AddsTimes-none bag v = record { held = λ x. omega arith }
@@ -110,6 +118,9 @@ AddsOne-set bag i e v within is same more = record {
   taken : (h k w o n : ℕ) → h + o * n ≡ k + o * (n - 1) → o ≡ w → 0 < n → k ≡ h + w
   taken h k w o zero a b l = absurd (omega arith)
   taken h k w o (suc n) a b l = let c : suc n - 1 ≡ n = omega arith in omega (arith, a, ap (λ m. o * m) c, b)
+
+pub takes_alone : (x v : ℤ) (c : ℕ) → x ≡ v → 0 < c → AddsOne ((x, c - 1) ∷ []) ((x, c) ∷ []) v
+takes_alone x v c same some = AddsOne-set ((x, c) ∷ []) 0 (x, c) v (omega arith) refl same some
 
 pub takes_at : (bag : Bag) (i : ℕ) (e : ℤ × ℕ) (v : ℤ) → i < length bag → e ≡ get_or bag i e → e.0 ≡ v → 1 < e.1
     → AddsOne (set bag i (e.0, e.1 - 1)) bag v

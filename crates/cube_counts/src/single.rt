@@ -37,14 +37,12 @@ impl Single {
         ensures other { OnFalse result (self.new ≡ self.old) }
         ensures some { OnFalse result (0 < size_of self.old) }
     {
-        if self.count == 0 {
-            self.value = value;
+        if self.count > 0 && self.value != value {
+            return false;
         }
-        let is_same = self.value == value;
-        if is_same {
-            self.count += times;
-        }
-        is_same
+        self.value = value;
+        self.count += times;
+        true
     }
 
     /// Takes one `value` away; answers whether there was one.
@@ -53,11 +51,11 @@ impl Single {
         ensures absent { OnFalse result (held_of self.old value ≡ 0) }
         ensures unchanged { OnFalse result (self.new ≡ self.old) }
     {
-        let is_held = self.value == value && self.count > 0;
-        if is_held {
-            self.count -= 1;
+        if self.count == 0 || self.value != value {
+            return false;
         }
-        is_held
+        self.count -= 1;
+        true
     }
 
     /// Whether `value` is held.

@@ -19,6 +19,7 @@ use Rattle.cube_core.specs.declared.change.Change.TheVariants.{Insert, Update, A
 use Rattle.cube_core.specs.declared.change.Item.{Item}
 use Rattle.cube_core.specs.declared.change.LineFault.{LineFault}
 use Rattle.cube_core.specs.declared.fact.Fact.{Fact}
+use Rattle.cube_core.proofs.ListLaws.{AllZip-append}
 use Rattle.cube_laws.specs.Merging.{joined, IsMergedText, PutsPrintedOf}
 use Rattle.cube_merge.specs.Merging.{IsMergeOf}
 use Rattle.cube_laws.specs.Told.{AreFewSources, CanBePrinted}
@@ -89,13 +90,6 @@ SurviveTogether-partial s sources facts survive = record {
 }
 
 -- ---- groups of sources
-AllZip-append : {X Y : Type 0} (R : X → Y → Type 0) (xs others : List X) (ys more : List Y) → AllZip R xs ys
-    → AllZip R others more → AllZip R (xs ++ others) (ys ++ more)
-AllZip-append R [] others [] more all after = after
-AllZip-append R [] others (y ∷ ys) more all after = absurd all
-AllZip-append R (x ∷ xs) others [] more all after = absurd all
-AllZip-append R (x ∷ xs) others (y ∷ ys) more all after = (all.0, AllZip-append R xs others ys more all.1 after)
-
 -- the survivors of groups of sources, joined, are those of all sources
 SurviveTogether-append : (s : Layout) (sources others : List (List ℕ)) (facts more : List Fact)
     → SurviveTogether s (items_of_sources s sources) facts

@@ -11,6 +11,7 @@ use Rattle.cube_core.specs.Arrival.{of_sources}
 use Rattle.cube_core.specs.Layout.{Layout}
 use Rattle.cube_core.specs.Run.{Told, AreItemsOf, AreGood}
 use Rattle.cube_core.specs.declared.change.Item.{Item}
+use Rattle.cube_core.proofs.ListLaws.{AllZip-append}
 use Rattle.cube_engine.specs.Ledger.{LedgerView, AccountStandsAt, new_account}
 use Rattle.cube_engine.specs.Taking.{LedgerStandsFrom}
 use Rattle.cube_engine.proofs.StandLaws.{LedgerStandsAt-new}
@@ -27,14 +28,6 @@ sources_of ledger = length ledger.accounts
 -- all ledgers are of a schema
 abbrev pub AreOfSchema : Layout → List LedgerView → Type 0
 AreOfSchema s ledgers = All (λ ledger. ledger.schema ≡ s) ledgers
-
--- what holds pairwise of lists and of others holds of the joined ones
-AllZip-append : {X Y : Type 0} (R : X → Y → Type 0) (xs others : List X) (ys more : List Y) → AllZip R xs ys
-    → AllZip R others more → AllZip R (xs ++ others) (ys ++ more)
-AllZip-append R [] others [] more all after = after
-AllZip-append R [] others (y ∷ ys) more all after = absurd all
-AllZip-append R (x ∷ xs) others [] more all after = absurd all
-AllZip-append R (x ∷ xs) others (y ∷ ys) more all after = (all.0, AllZip-append R xs others ys more all.1 after)
 
 -- what ledgers that stand in shares are: of the schema, of as many sources, and their accounts stand at the feeds
 pub record StandTogether (s : Layout) (olds news : List LedgerView) (feeds : List (List Item)) : Type 0 where

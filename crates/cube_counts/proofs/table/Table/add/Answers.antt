@@ -1,7 +1,8 @@
-use Rattle.std.proofs.Common.{◌≡◌, ◌+◌, rules, Some}
+use Rattle.std.proofs.Common.{◌≡◌, ◌+◌, arith, rules, Some}
 use Rattle.std.specs.Map.{lookup, set_value}
 use Rattle.std.specs.Ordering.{int_eq}
-use Rattle.cube_counts.proofs.BagLaws.{adds_found}
+use Rattle.std.proofs.lemmas.Int.{to_z-of_z}
+use Rattle.cube_counts.proofs.BagLaws.{adds_found, adds_entry, some_set}
 use Rattle.cube_counts.proofs.table.Table.add.Goals as goal
 
 pub returns-in-Some-clause-added : goal.returns-in-Some-clause-added
@@ -13,3 +14,14 @@ returns-in-Some-clause-added c =
     rw (← c.self.view_is)
     (adds_found c.self.inside.counts.entries (c.get_mut.follows.lender (c.in-Some.count.now + c.args.times)).entries
     c.args.value c.in-Some.count.now c.args.times found is)
+
+pub invariant_of-self : goal.invariant_of-self
+invariant_of-self c =
+    let is : (c.get_mut.follows.lender (c.in-Some.count.now + c.args.times)).entries
+    ≡ set_value (int_eq c.args.value) c.self.inside.counts.entries (c.in-Some.count.now + c.args.times) =
+    search rules in
+    some_set c.self.inside.counts.entries (c.get_mut.follows.lender (c.in-Some.count.now + c.args.times)).entries
+    c.args.value (c.in-Some.count.now + c.args.times) is (omega (arith, c.requires.some)) c.self.invariant
+
+pub returns-clause-added : goal.returns-clause-added
+returns-clause-added c = rw (← c.self.view_is) (search (rules, adds_entry, to_z-of_z))
