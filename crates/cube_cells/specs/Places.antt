@@ -1,5 +1,5 @@
 -- Places: where the rows of a cube come from, found level by level (this project's choice).
-use Rattle.std.specs.Prelude.{◌≡◌, ℕ, List, Result, length, map, filter, get_or, All}
+use Rattle.std.specs.Prelude.{◌≡◌, ℕ, List, [], ◌∷◌, Result, length, map, filter, get_or, All}
 use Rattle.std.specs.declared.alloc.AllocError.{AllocError}
 use Rattle.std.specs.Global.{Vec}
 use Rattle.cube_cells.specs.Coded.{CodedCells}
@@ -22,7 +22,7 @@ pub record ArePlacesOf {N : Type 0} (ranks : List (List ℕ)) (wants : List Want
 -- these are the places of the level that stands there in a list
 abbrev pub ArePlacesAt : {N : Type 0} → List (List ℕ) → List Want → List (Level N) → ℕ → Vec (Place N) → Type 0
 ArePlacesAt {N} ranks wants levels i places =
-    (unused : Level N) → ArePlacesOf ranks wants (get_or levels i unused).cells.entries places.items
+    (unused : Level N) → ArePlacesOf ranks wants (cells_of (get_or levels i unused ∷ [])) places.items
 
 -- where each of these results has the places of a level, these are the places of all levels
 pub record ArePutTogether {N : Type 0} (made : List (Result (Vec (Place N)) AllocError))

@@ -6,7 +6,8 @@ use Rattle.std.specs.List.Sorted.{IsPermutation}
 use Rattle.cube_core.specs.Layout.{IsSchema}
 use Rattle.cube_core.specs.Takes.{fits}
 use Rattle.cube_core.specs.declared.fact.Fact.{Fact}
-use Rattle.cube_cells.specs.Codes.{Dictionaries, IsDictionary, all_code, coord_at, coord_of_value, is_code}
+use Rattle.cube_cells.specs.Codes.{Dictionaries, IsCodeOf, IsDictionary, all_code, coord_at, coord_of_value, is_code}
+use Rattle.cube_cells.specs.Codes.{texts_with}
 use Rattle.cube_cells.specs.Coded.{CodedCells, IsCoded, lattice_of}
 use Rattle.cube_cells.specs.Fill.{IsCubeOfAll, finest_set}
 use Rattle.cube_cells.specs.Levels.{cells_of}
@@ -20,6 +21,15 @@ use Rattle.cube_cells.specs.declared.cube.shares.Column.{Column}
 pub record IsCodeIn (texts : List (List ℕ)) (value : Option (List ℕ)) (code : ℕ) : Type 0 where
   pub valid : is_code texts code ≡ true
   pub stands : coord_at texts code ≡ coord_of_value value
+
+-- the code of one value more stands last, and its text is there
+pub record PutsCode (value : Option (List ℕ)) (old new : Column) : Type 0 where
+  pub code : ℕ
+  pub codes_are : new.codes.items ≡ old.codes.items ++ code ∷ []
+  pub texts : new.dictionary ≡ texts_with value old.dictionary
+  pub dictionary : IsDictionary new.dictionary
+  pub valid : is_code new.dictionary code ≡ true
+  pub alone : IsCodeOf new.dictionary (coord_of_value value) code
 
 -- facts have these codes in a dimension
 pub record AreCodedIn (dimension : ℕ) (facts : List Fact) (texts : List (List ℕ)) (codes : List ℕ) : Type 0 where

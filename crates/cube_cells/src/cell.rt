@@ -140,7 +140,8 @@ impl<N: Numbers> Cell<N> {
     }
 
     /// The answer of an aggregate over any facts that this is the tally of. `count`, `sum` and `avg` are kept;
-    /// `min` and `max` look at each of the different values of the measure.
+    /// `min` and `max` may look at each of the different values of the measure where these are [`Counted`], and are kept
+    /// by a [`Summary`](crate::Summary).
     pub fn answer(&self, agg: &Agg) -> Answer
         requires { IsTrue (is_aggregate_of (length self.now.bags) agg.now) }
         ensures { (facts : List Fact) → IsTallyOf facts self.now → IsAnswer facts agg.now result }

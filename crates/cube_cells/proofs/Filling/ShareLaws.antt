@@ -45,6 +45,7 @@ use Rattle.cube_cells.specs.Cube.{IsCubeOf, cell_at}
 use Rattle.cube_cells.specs.Fill.{AreMade, IsCubeOfAll, finest_set}
 use Rattle.cube_cells.specs.Levels.{IsLeveled, cells_of}
 use Rattle.cube_cells.specs.Shares.{AreCoded, AreCodedIn, AreFinestCells, HasShare, IsCodeIn, IsShare, AreJoined, Joins}
+use Rattle.cube_cells.specs.Shares.{IsColumnOf, PutsCode}
 use Rattle.cube_cells.specs.Shares.{chosen, codes_at, dictionaries_of, facts_coded, set_of, share_at, share_of}
 use Rattle.cube_cells.specs.Tally.{Tally, IsTallyOf}
 use Rattle.cube_cells.specs.Walk.{AddsIn, AreApart, HasRoom, key_in}
@@ -196,7 +197,7 @@ AreCodedIn-none dimension dictionary =
     record { dictionary = dictionary; long = refl; each = λ place unused inside. absurd (omega (arith, inside)) }
 
 -- a fact more is coded
-pub AreCodedIn-more : (dimension : ℕ) (facts : List Fact) (fact : Fact) (old new : List (List ℕ)) (codes : List ℕ)
+AreCodedIn-more : (dimension : ℕ) (facts : List Fact) (fact : Fact) (old new : List (List ℕ)) (codes : List ℕ)
     (code : ℕ) → AreCodedIn dimension facts old codes
     → new ≡ texts_with (get_or fact.dims dimension None) old → IsDictionary new
     → IsCodeOf new (coord_of_value (get_or fact.dims dimension None)) code → is_code new code ≡ true
@@ -221,6 +222,13 @@ AreCodedIn-more dimension facts fact old new codes code before texts dictionary 
         rw (here, there) (IsCodeIn-IsCodeOf new (get_or fact.dims dimension None) code of valid)
   ];
 }
+
+pub IsColumnOf-PutsCode : (dimension : ℕ) (facts : List Fact) (fact : Fact) (old new : Column)
+    → IsColumnOf dimension facts old → PutsCode (get_or fact.dims dimension None) old new
+    → IsColumnOf dimension (facts ++ fact ∷ []) new
+IsColumnOf-PutsCode dimension facts fact old new before puts =
+    rw puts.codes_are (AreCodedIn-more dimension facts fact old.dictionary new.dictionary old.codes.items puts.code
+    before puts.texts puts.dictionary puts.alone puts.valid)
 
 -- one dimension more in the codes of a place
 pub codes-set : (xs : List ℕ) (d code : ℕ) → length xs ≡ d → d < 8

@@ -4,8 +4,8 @@ use Rattle.std.proofs.Common.{get_or, take, true}
 use Rattle.std.specs.Prelude.{IfOk, Result, Ok, filter}
 use Rattle.std.specs.Global.{Vec}
 use Rattle.std.specs.declared.alloc.AllocError.{AllocError}
-use Rattle.std.proofs.lemmas.List.{append_assoc, get_or-take, get_or_append_left, length-append, length-take-le}
-use Rattle.std.proofs.lemmas.List.{map-append, take_all}
+use Rattle.std.proofs.lemmas.List.{append-nil, append_assoc, get_or-take, get_or_append_left, length-append}
+use Rattle.std.proofs.lemmas.List.{length-take-le, map-append, take_all}
 use Rattle.std.proofs.lemmas.List.Elements.{All-append, All-nil, filter-append}
 use Rattle.std.proofs.lemmas.Result.{IfOk-weaker}
 use Rattle.std.proofs.Math.Seq.{get_or-append_seam}
@@ -79,7 +79,7 @@ next {N} made places own before ranks wants levels are =
     (get_or levels i last).cells.entries places own.items
     (before.of_levels ranks wants (take i levels)
     (record { long = sym some; each = λ k unused within. earlier k unused (omega (arith, within, some)) }))
-    (own_is last)) where
+    (rw (append-nil (get_or levels i last).cells.entries) at (own_is last))) where
       earlier : (k : ℕ) (unused : Result (Vec (Place N)) AllocError) → k < length made
           → IfOk (get_or made k unused) (ArePlacesAt ranks wants (take (length made) levels) k)
       earlier k unused below =

@@ -109,7 +109,6 @@ impl Dictionary {
     }
 
     /// The code of a value or of null.
-    #[tactic(auto, using(crate::proofs::Codes::DictionaryLaws::code_of_null))]
     pub fn code_of_value(&self, value: Option<&str>) -> u32
         ensures { IsCodeOf self.now
             (coord_of_value (option_map (λ text. text.now) value.entry)) result }

@@ -28,9 +28,8 @@ impl<N: Numbers> Cube<N> {
             (finest_set (length self.now.schema.dimensions) ∷ [])) }
         ensures cube { IfOk result (λ cube. IsCubeOf cube []) }
     {
+        let sets = vec![in self.alloc; finest_of(self.schema.dimensions().len())]?;
         let schema = self.schema.copy(self.alloc)?;
-        let mut sets = Vec::with_capacity(self.alloc, 1)?;
-        sets.push(finest_of(schema.dimensions().len()))?;
         Cube::over(self.alloc, schema, sets)
     }
 

@@ -211,21 +211,6 @@ pub fn places_of<'c, N: Numbers>(
     Ok(places)
 }
 
-/// The cells of a level whose codes are wanted.
-pub fn places_of_level<'c, N: Numbers>(
-    alloc: Global,
-    ranks: &[Ranks],
-    level: &'c Level<N>,
-    wants: &[Want],
-) -> Result<Vec<Place<'c, N>>, AllocError>
-    requires { length ranks.now ≤ 8 }
-    ensures { IfOk result (λ places. ArePlacesOf ranks.now wants.now level.now.cells.entries places.items) }
-{
-    let mut places = Vec::new(alloc);
-    push_places(&mut places, ranks, &level.cells, wants)?;
-    Ok(places)
-}
-
 // Puts the cells of a table whose codes are wanted at the end.
 fn push_places<'c, N: Numbers>(
     places: &mut Vec<Place<'c, N>>,

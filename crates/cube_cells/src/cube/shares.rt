@@ -1,9 +1,9 @@
 //! The finest cells of many facts at once: each dimension is coded by itself, and the cells are filled in shares.
-ghost use Rattle.std.specs.Prelude.{◌≡◌, ◌<◌, ◌≤◌, ◌∷◌, [], true, length, map, All, IfOk, OnOk, Ok};
+ghost use Rattle.std.specs.Prelude.{◌≡◌, ◌<◌, ◌≤◌, ◌∷◌, ◌↔◌, [], true, length, map, option_map, All, IfOk, IsTrue, OnOk, Ok};
 ghost use Rattle.cube_core.specs.Layout.{IsSchema};
 ghost use Rattle.cube_core.specs.Takes.{fits};
 ghost use Rattle.cube_cells.specs.Fill.{AreMade, IsCubeOfAll, finest_set};
-ghost use Rattle.cube_cells.specs.Shares.{AreCoded, AreFinestCells, AreJoined, IsColumnOf, IsShare, Joins, codes_at, dictionaries_of, facts_coded, share_of};
+ghost use Rattle.cube_cells.specs.Shares.{AreCoded, AreFinestCells, AreJoined, IsColumnOf, IsShare, Joins, PutsCode, codes_at, dictionaries_of, facts_coded, share_of};
 
 use super::Cube;
 use super::codes::{ALL, Codes};
@@ -23,6 +23,17 @@ use std::thread::{Threads, map_indices};
 pub struct Column {
     pub dictionary: Dictionary,
     pub codes: Vec<u32>,
+}
+
+impl Column {
+    // Puts the code of a value or of null at the end.
+    fn push(&mut self, alloc: Global, value: Option<&str>) -> Result<(), AllocError>
+        ensures { OnOk result (PutsCode (option_map (λ text. text.now) value.entry) self.old self.new) }
+    {
+        let code = self.dictionary.code_with(alloc, value)?;
+        self.codes.push(code)?;
+        Ok(())
+    }
 }
 
 /// Facts that fit a schema, with the codes of their values in each dimension.
@@ -54,23 +65,41 @@ impl<N: Numbers + Send + Sync> Cube<N> {
     {
         let coded = coded_facts(rt, threads, self.alloc, &self.schema, facts)?;
         let cells = finest_cells(rt, threads, self.alloc, &coded)?;
-        let set = finest_of(self.schema.dimensions().len());
-        let mut sets = Vec::with_capacity(self.alloc, 1)?;
-        sets.push(set)?;
-        let CodedFacts {
-            schema,
-            columns,
-            ..
-        } = coded;
-        Ok(Cube {
-            schema,
-            sets,
-            facts: facts.len() as u64,
-            dictionaries: dictionaries_of(self.alloc, columns)?,
-            levels: one_level(self.alloc, Level { set, cells })?,
-            alloc: self.alloc,
-        })
+        cube_of(self.alloc, coded, cells)
     }
+}
+
+// The cube of coded facts, whose cells over the finest grouping set these are. The only error is want of memory.
+fn cube_of<N: Numbers>(
+    alloc: Global,
+    coded: CodedFacts<'_>,
+    cells: HashMap<Codes, Cell<N>>,
+) -> Result<Cube<N>, AllocError>
+    requires coded { AreCoded coded }
+    requires cells { AreFinestCells coded (facts_coded coded) cells.entries }
+    ensures schema { IfOk result (λ cube. cube.schema ≡ coded.entry.schema) }
+    ensures sets { IfOk result (λ cube.
+        cube.sets ≡ finest_set (length cube.schema.dimensions) ∷ []) }
+    ensures facts { IfOk result (IsCubeOfAll (facts_coded coded.entry)) }
+{
+    let set = finest_of(coded.schema.dimensions().len());
+    let facts = coded.facts.len() as u64;
+    let levels = one_level(alloc, Level { set, cells })?;
+    let sets = vec![in alloc; set]?;
+    let CodedFacts {
+        schema,
+        columns,
+        ..
+    } = coded;
+    let dictionaries = dictionaries_of(alloc, columns)?;
+    Ok(Cube {
+        schema,
+        sets,
+        facts,
+        dictionaries,
+        levels,
+        alloc,
+    })
 }
 
 // The facts with their codes; the dimensions are coded side by side. The only error is want of memory.
@@ -165,12 +194,13 @@ fn column_of(
     requires fit { All (λ fact. fits schema.now fact ≡ true) (map (λ fact. fact.now) facts.now) }
     ensures { IfOk result (IsColumnOf dimension (map (λ fact. fact.now) facts.now)) }
 {
-    let mut dictionary = Dictionary::new(alloc, schema.hash_key());
-    let mut codes = Vec::with_capacity(alloc, facts.len())?;
+    let codes = Vec::with_capacity(alloc, facts.len())?;
+    let dictionary = Dictionary::new(alloc, schema.hash_key());
+    let mut column = Column { dictionary, codes };
     for fact in facts {
-        codes.push(dictionary.code_with(alloc, fact.dims.get(dimension))?)?;
+        column.push(alloc, fact.dims.get(dimension))?;
     }
-    Ok(Column { dictionary, codes })
+    Ok(column)
 }
 
 // The texts of each dimension.
@@ -267,7 +297,7 @@ fn share_cells<N: Numbers>(
     share: u64,
     of: u64,
 ) -> Result<Level<N>, AllocError>
-    requires some { 0 < of }
+    requires share { share < of }
     requires coded { AreCoded coded.now }
     ensures { IfOk result (IsShare coded.now of share) }
 {
@@ -275,7 +305,7 @@ fn share_cells<N: Numbers>(
     let set = finest_of(columns.len());
     let mut cells = HashMap::new(alloc);
     for (place, fact) in coded.facts.iter().enumerate() {
-        if share_at(columns, place, of) == share {
+        if is_in_share(columns, place, share, of) {
             let codes = codes_at(columns, place);
             gather_at(alloc, &mut cells, codes, fact.measures.as_slice())?;
         }
@@ -283,8 +313,18 @@ fn share_cells<N: Numbers>(
     Ok(Level { set, cells })
 }
 
-// The share, of so many, that the fact at a place is in. Every thread asks this of each fact, and makes the codes of its own
-// facts alone.
+// Whether the fact at a place is in a share, of so many. Every thread asks this of each fact, and makes the codes of its own
+// facts alone; with one share nothing is asked.
+fn is_in_share(columns: &[Column], place: usize, share: u64, of: u64) -> bool
+    requires share { share < of }
+    requires few { length columns.now ≤ 8 }
+    requires inside { All (λ column. place < length column.codes.items) columns.now }
+    ensures { IsTrue result ↔ (share_of of (codes_at columns.now place) ≡ share) }
+{
+    of == 1 || share_at(columns, place, of) == share
+}
+
+// The share, of so many, that the fact at a place is in.
 fn share_at(columns: &[Column], place: usize, of: u64) -> u64
     requires some { 0 < of }
     requires few { length columns.now ≤ 8 }

@@ -12,10 +12,11 @@ use super::fill::level_from;
 use super::levels::Level;
 use super::ordered::Place;
 use super::ranks::Ranks;
-use super::rows::{Want, places_of, places_of_level};
+use super::rows::{Want, places_of};
 use cube_counts::{Numbers, Summary};
 use rayon::prelude::*;
 use std::alloc::{AllocError, Global};
+use std::slice::from_ref;
 use std::thread::{Threads, for_each_mut};
 
 /// Who finds places, sorts them, and makes levels.
@@ -187,7 +188,7 @@ fn places_by_several<'c, T: Threads + Sync>(
         made.as_mut_slice(),
         threads.max(1),
         &|which, slot| {
-            *slot = places_of_level(alloc, ranks, &levels[which], wants);
+            *slot = places_of(alloc, ranks, from_ref(&levels[which]), wants);
         },
     );
     Ok(made)

@@ -1,5 +1,5 @@
-use Rattle.std.proofs.Common.{arith, ap, length, ◌<◌, []}
-use Rattle.std.proofs.lemmas.List.{get_or_default}
+use Rattle.std.proofs.Common.{arith, ap, length, refl, take, ◌≡◌, ◌<◌, []}
+use Rattle.std.proofs.lemmas.List.{get_or_default, take_all}
 use Rattle.cube_counts.specs.Bag.{size_of}
 use Rattle.cube_cells.specs.Tally.{AddsValue, bag_at, value_at}
 use Rattle.cube_cells.proofs.Tallies.ValueLaws.{AddsValues-more, size_of-AddsValues}
@@ -26,3 +26,12 @@ loop-place-preserved g c =
     c.in-Ok.ensures.added in
     AddsValues-more c.args.measures.now c.loop-place.measures c.args.values.now c.loop-place.place c.plus.new.self
     c.loop-place.invariant inside added
+
+pub loop-place-init : goal.loop-place-init
+loop-place-init g c = record { same_length = refl; each = λ m. record { held = λ x. omega arith } }
+
+pub returns : goal.returns
+returns g c =
+    let place = c.loop-place.place in
+    let all : take place c.args.values.now ≡ c.args.values.now = take_all place c.args.values.now (omega arith) in
+    record { added = rw all at c.loop-place.invariant; within = tt; some = tt }

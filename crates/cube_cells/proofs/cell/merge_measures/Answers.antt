@@ -1,5 +1,6 @@
-use Rattle.std.proofs.Common.{arith, ap, length, ◌<◌, []}
-use Rattle.std.proofs.lemmas.List.{get_or_default}
+use Rattle.std.proofs.Common.{arith, ap, length, take, ◌≡◌, ◌<◌, []}
+use Rattle.std.proofs.Math.ListN.{length-set}
+use Rattle.std.proofs.lemmas.List.{get_or_default, take_all}
 use Rattle.cube_counts.specs.Bag.{AddsBag, size_of}
 use Rattle.cube_cells.specs.Tally.{bag_at}
 use Rattle.cube_cells.proofs.Tallies.MergeLaws.{AddsBags-more, size_of-AddsBags, AddsBags-bound, AddsBags-bound_set}
@@ -42,3 +43,15 @@ loop-place-preserved g c =
 pub returns-clause-sizes : goal.returns-clause-sizes
 returns-clause-sizes g c =
     AddsBags-bound c.args.measures.now c.loop-place.measures c.args.more.now c.loop-place.place c.loop-place.invariant
+
+pub returns-clause-merged : goal.returns-clause-merged
+returns-clause-merged g c =
+    let place = c.loop-place.place in
+    let all : take place c.args.more.now ≡ c.args.more.now = take_all place c.args.more.now (omega arith) in
+    rw all at c.loop-place.invariant
+
+pub returns-clause-width : goal.returns-clause-width
+returns-clause-width g c = c.loop-place.invariant.same_length
+
+pub returns-in_err-merge-clause-width : goal.returns-in_err-merge-clause-width
+returns-in_err-merge-clause-width g c = simp length-set c.loop-place.invariant.same_length

@@ -1,4 +1,4 @@
-use Rattle.std.proofs.Common.{rules, take}
+use Rattle.std.proofs.Common.{refl, rules, take}
 use Rattle.cube_cells.proofs.Tallies.ValueLaws.{AreWithin-AddsValues, take-append-drop}
 use Rattle.cube_cells.proofs.Tallies.FactLaws.{holds_fact-AddsValues}
 use Rattle.cube_cells.proofs.cell.Cell.gather.Goals as goal
@@ -27,3 +27,10 @@ returns-in_default-clause-held g c =
     let width = rw (← c.self.view_is) at c.requires.width in
     rw same (holds_fact-AddsValues c.self.inside.facts c.self.inside.measures.items c.gather_values.new.measures
     c.args.values.now c.self.invariant added width)
+
+pub returns-in_default-clause-added : goal.returns-in_default-clause-added
+returns-in_default-clause-added g c =
+    let added = rw c.deref_mut.ensures.value at c.in_default.ensures.added in
+    let same = take-append-drop c.self.inside.measures.items c.gather_values.new.measures c.self.inside.measures.len
+    (search rules) added.same_length in
+    rw (← c.self.view_is, same) (record { facts = refl; bags = added })

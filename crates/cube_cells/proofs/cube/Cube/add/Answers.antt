@@ -1,7 +1,7 @@
-use Rattle.std.proofs.Common.{List, ◌≡◌, ◌+◌, ◌++◌, ap, arith, drop, length, rules, take}
+use Rattle.std.proofs.Common.{List, ◌≡◌, ◌+◌, ◌++◌, ap, arith, drop, inr, length, rules, take}
 use Rattle.std.proofs.lemmas.Result.{on_err_weaker}
 use Rattle.cube_cells.specs.Coded.{lattice_of}
-use Rattle.cube_cells.specs.Cube.{AddsFact, SameCells}
+use Rattle.cube_cells.specs.Cube.{AddsFact, AddsTexts, SameCells}
 use Rattle.cube_cells.proofs.Cells.CubeLaws.{IsCubeOf-AddsFact, IsCubeOf-SameCells}
 use Rattle.cube_cells.proofs.Codes.GrowthLaws.{AreGrown-MayAddTexts, AreGrown-AddsTexts}
 use Rattle.cube_cells.proofs.Cells.LeveledLaws.{All-HasRoomInLevel, IsLeveled-AddsFact, IsLeveled-SameCells}
@@ -130,3 +130,22 @@ returns-clause-added c =
 pub returns-clause-cube : goal.returns-clause-cube
 returns-clause-cube c = λ facts cube.
     IsCubeOf-AddsFact c.args.fact.now c.args.self.now _ facts c.requires.fits (returns-clause-added c) cube
+
+pub returns-clause-texts : goal.returns-clause-texts
+returns-clause-texts c =
+    let at = goal.at.returns-clause-texts c in
+    rw (back at.After-add_codes, ← c.self.view_is) (rw c.deref_mut.ensures.value at c.in_ok-codes.ensures.texts)
+
+pub returns-in_err-codes-clause-err_texts : goal.returns-in_err-codes-clause-err_texts
+returns-in_err-codes-clause-err_texts c =
+    let at = goal.at.returns-in_err-codes-clause-err_texts c in
+    OnErr-always c.from_residual.result
+    (rw (back at.After-add_codes, ← c.self.view_is) (rw c.deref_mut.ensures.value at c.in_err-codes.ensures.err))
+
+pub returns-in_err-add_to_sets-clause-err_texts : goal.returns-in_err-add_to_sets-clause-err_texts
+returns-in_err-add_to_sets-clause-err_texts c =
+    let at = goal.at.returns-in_err-add_to_sets-clause-err_texts c in
+    let texts : AddsTexts c.args.fact.now.dims c.self.inside.dictionaries.items c.add_codes.new.dictionaries =
+    rw c.deref_mut.ensures.value at c.in_ok-codes.ensures.texts in
+    OnErr-always c.from_residual-in_err-add_to_sets.result
+    (rw (back at.After-add_codes, ← c.self.view_is) (λ d. inr (texts d)))

@@ -29,3 +29,9 @@ returns-clause-width g c = rw (← c.self.view_is)
     ∙ sym (coded_at-IsLeveled c.codes_of_coords-codes.result c.self.invariant))
     (coded_at-width c.self.inside.dictionaries.items (length c.self.inside.schema.measures)
     (cells_of c.self.inside.levels.items) c.codes_of_coords-codes.result c.self.invariant.coded.each))
+
+pub codes_of_coords-codes-requires-clause-width : goal.codes_of_coords-codes-requires-clause-width
+codes_of_coords-codes-requires-clause-width g c =
+    let len : length c.self.inside.dictionaries.items ≡ c.self.inside.dictionaries.len = search rules in
+    rw (c.as_slice.ensures, c.deref.ensures.value)
+    (sym c.len.ensures ∙ c.if-len.false ∙ c.len-2.ensures ∙ sym len)

@@ -1,9 +1,11 @@
 use Rattle.std.proofs.lemmas.List.Folds.{drop_split}
-use Rattle.std.proofs.Common.{◌<◌, ◌≤◌, ◌≡◌, ◌∙◌, ◌++◌, ◌-◌, ℕ, List, length, take, drop, get_or, ap, sym, arith}
-use Rattle.std.specs.Prelude.{Ok, Result, IfOk}
+use Rattle.std.proofs.Common.{◌<◌, ◌≤◌, ◌≡◌, ◌∙◌, ◌++◌, ◌-◌, ℕ, List, length, take, drop, get_or, ap, sym, arith, refl}
+use Rattle.std.specs.Prelude.{All, Ok, Result, IfOk}
 use Rattle.std.specs.declared.alloc.AllocError.{AllocError}
-use Rattle.std.proofs.lemmas.List.{length-map, get_or-map}
-use Rattle.cube_cells.specs.Fill.{IsMadeLevel}
+use Rattle.std.proofs.lemmas.List.{drop_all, length-map, get_or-map}
+use Rattle.std.proofs.lemmas.List.Elements.{All-nil, All-take}
+use Rattle.std.proofs.lemmas.List.Sorted.{All-permutation}
+use Rattle.cube_cells.specs.Fill.{IsFiner, IsMadeLevel}
 use Rattle.cube_cells.specs.declared.cube.levels.Level.{Level}
 use Rattle.cube_cells.proofs.Filling.FillLaws.{IsMakingLevels, IsMakingLevels-next}
 use Rattle.cube_cells.proofs.cube.fill.levels_from.Goals as goal
@@ -37,3 +39,46 @@ loop-done-preserved g c =
     rw (← pushed.are) (get_or-map Ok pushed.levels i unused (Ok unused) (omega (arith, inside, long))) in
     rw one at (each i (Ok unused) inside)) in
     (within, rw pushed.pushed next)
+
+pub loop-done-init : goal.loop-done-init
+loop-done-init g c =
+    rw c.in_ok-levels.ensures.items (
+      omega arith,
+      record {
+        finer = All-permutation (IsFiner c.args.finest.now.set) c.args.sets.now c.in_ok-order.order.items
+            c.in_ok-order.ensures c.requires.finer;
+        first = c.requires.width;
+        widths = All-nil (λ (level : Level _). All (λ cell. length cell.1.bags ≡ c.args.measures) level.cells.entries);
+        makes = λ end rest. rest;
+      },
+    )
+
+pub loop-done-smaller : goal.loop-done-smaller
+loop-done-smaller g c =
+    let after : c.loop-done.done < c.end_of_layer-end.result = c.end_of_layer-end.ensures.after in
+    let within : c.end_of_layer-end.result ≤ length c.in_ok-order.order.items =
+    rw c.deref.ensures.value at c.end_of_layer-end.ensures.within in
+    omega (arith, after, within)
+
+pub levels_of_layer-requires : goal.levels_of_layer-requires
+levels_of_layer-requires g c =
+    let order = c.in_ok-order.order.items in
+    let done = c.loop-done.done in
+    rw (c.deref-in-loop-done.ensures.value, c.deref-in-loop-done-2.ensures.value) (record {
+      shared = c.requires.shared;
+      finer = All-take (IsFiner c.args.finest.now.set) (c.end_of_layer-end.result - done) (drop done order)
+          c.loop-done.invariant.1.finer;
+      first = c.requires.width;
+      widths = c.loop-done.invariant.1.widths;
+    })
+
+pub returns : goal.returns
+returns g c =
+    let order = c.in_ok-order.order.items in
+    let done = c.loop-done.done in
+    let over : length order ≤ done = omega arith in
+    record {
+      order = order;
+      moved = c.in_ok-order.ensures;
+      makes = c.loop-done.invariant.1.makes c.loop-done.levels.items (rw (drop_all done order over) refl);
+    }

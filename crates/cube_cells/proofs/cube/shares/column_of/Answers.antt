@@ -1,7 +1,7 @@
 use Rattle.std.proofs.Common.{arith, ◌≡◌, ◌<◌, ◌+◌, ◌++◌, ◌∷◌, [], List, ap, ◌∙◌, sym, length, get_or, map, take}
 use Rattle.std.proofs.lemmas.List.{get_or_read, get_or-map, length-map, take_all, take_more}
 use Rattle.cube_core.specs.declared.fact.Fact.{Fact}
-use Rattle.cube_cells.proofs.Filling.ShareLaws.{AreCodedIn-more}
+use Rattle.cube_cells.proofs.Filling.ShareLaws.{IsColumnOf-PutsCode}
 use Rattle.cube_cells.proofs.cube.shares.column_of.Goals as goal
 
 pub loop-fact-preserved : goal.loop-fact-preserved
@@ -17,11 +17,8 @@ loop-fact-preserved c =
     let next : take (i + 1) facts ≡ take i facts ++ fact.now ∷ [] =
     take_more facts i fact.now (omega (arith, inside, length-map refs (λ fact. fact.now)))
     ∙ ap (λ (f : Fact). take i facts ++ f ∷ []) (at fact.now) in
-    rw (c.in_ok-push.ensures.items, next)
-    (AreCodedIn-more c.args.dimension (take i facts) fact.now c.loop-fact.dictionary c.code_with.new.self
-    c.loop-fact.codes.items c.in_ok-code_with.field-0 c.loop-fact.invariant
-    (rw c.get.ensures at c.in_ok-code_with.ensures.texts) c.in_ok-code_with.ensures.dictionary
-    (rw c.get.ensures at c.in_ok-code_with.ensures.code) c.in_ok-code_with.ensures.valid)
+    rw next (IsColumnOf-PutsCode c.args.dimension (take i facts) fact.now c.loop-fact.column c.push.new.self
+    c.loop-fact.invariant (rw c.get.ensures at c.in_ok-push.ensures))
 
 pub returns : goal.returns
 returns c =

@@ -1,7 +1,6 @@
 use Rattle.std.proofs.Common.{map, take}
-use Rattle.cube_cells.specs.Shares.{AreCodedIn}
+use Rattle.cube_cells.specs.Shares.{IsColumnOf}
 use Rattle.cube_cells.proofs.cube.shares.column_of.Given as goal
 
 abbrev pub invariant-loop-fact : goal.invariant-loop-fact
-invariant-loop-fact l =
-    AreCodedIn l.dimension (take l.fact-index (map (λ fact. fact.now) l.facts)) l.dictionary l.codes.items
+invariant-loop-fact l = IsColumnOf l.dimension (take l.fact-index (map (λ fact. fact.now) l.facts)) l.column
