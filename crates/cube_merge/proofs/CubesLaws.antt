@@ -54,6 +54,14 @@ IsLeastSoFar-all inputs place row least is k =
       same_row : (a b : Row) → Some a ≡ Some b → a ≡ b
       same_row a b e = cc
 
+-- no input has a row
+pub IsLeastSoFar-none : (inputs : List InputView) → IsLeastSoFar inputs None (length inputs) → (k : ℕ)
+    → (get_or inputs k nothing_left).row ≡ None
+IsLeastSoFar-none inputs none k = elim (cases_lt k (length inputs)) [
+  | inl below ↦ none k below
+  | inr above ↦ ap (λ (i : InputView). i.row) (past inputs k nothing_left above)
+]
+
 -- one more row's line
 pub text_of_rows-push : (s : Layout) (rows : List Row) (row : Row) (sent old more left : List ℕ)
     → sent ++ old ≡ text_of_rows s rows → old ++ row_line row ≡ more ++ left

@@ -13,7 +13,7 @@ use cube_core::{Agg, Answer};
 use std::alloc::{AllocError, Global};
 
 /// Where the answer to an aggregate comes from.
-#[derive(Clone, Copy, Debug)]
+#[derive(Clone, Copy)]
 pub(crate) enum Source {
     /// What the answers at a place make.
     Made(usize),

@@ -1,9 +1,9 @@
 -- How the text of a line grows, field by field.
-use Rattle.std.proofs.Common.{◌≡◌, ◌==◌, ◌≢◌, ◌∙◌, ◌++◌, ◌+◌, ◌-◌, ◌^◌, ◌≤◌, ◌∷◌, [], ℕ, List, Some, length, refl, sym}
-use Rattle.std.proofs.Common.{ap, true, false, append_assoc, arith, length-append}
+use Rattle.std.proofs.Common.{◌≡◌, ◌==◌, ◌≢◌, ◌∙◌, ◌++◌, ◌+◌, ◌-◌, ◌^◌, ◌<◌, ◌≤◌, ◌∷◌, [], ℕ, List, Some, length, map}
+use Rattle.std.proofs.Common.{take, get_or, refl, sym, ap, true, false, append_assoc, arith, length-append}
 use Rattle.std.specs.Prelude.{min, not, if◌then◌else◌, OnOk, Ok, Err, Result}
 use Rattle.std.specs.Io.KnownBytes.{Appends}
-use Rattle.std.proofs.lemmas.List.{append-nil}
+use Rattle.std.proofs.lemmas.List.{append-nil, map-append, take_more}
 use Rattle.std.specs.Result.{is_ok}
 use Rattle.std.proofs.lemmas.Bool.Decides.{nat_tests}
 use Rattle.std.specs.List.{flat_map}
@@ -115,6 +115,25 @@ pub AddsFields-both : (more others : List (List ℕ)) (old mid new : Lines) → 
 AddsFields-both more others old mid new first second text fields h =
     rw (← append_assoc fields more others) (second text (fields ++ more) (first text fields h))
 
+-- the field of one element more was added, of those that a list gives
+pub AddsFields-more : {X : Type 0} (f : X → List ℕ) (xs : List X) (i : ℕ) (d : X) (field : List ℕ)
+    (old mid new : Lines) → i < length xs → field ≡ f (get_or xs i d) → AddsFields (map f (take i xs)) old mid
+    → AddsFields (field ∷ []) mid new → AddsFields (map f (take (i + 1) xs)) old new
+AddsFields-more f xs i d field old mid new inside shown before added =
+    let more : map f (take (i + 1) xs) ≡ map f (take i xs) ++ field ∷ []
+    = ap (map f) (take_more xs i d inside) ∙ map-append f (take i xs) (get_or xs i d ∷ [])
+    ∙ ap (λ y. map f (take i xs) ++ y ∷ []) (sym shown) in
+    rw more (AddsFields-both (map f (take i xs)) (field ∷ []) old mid new before added)
+
+-- one field more of those of a list was added
+pub AddsFields-take : (xs : List (List ℕ)) (i : ℕ) (d field : List ℕ) (old mid new : Lines) → i < length xs
+    → field ≡ get_or xs i d → AddsFields (take i xs) old mid → AddsFields (field ∷ []) mid new
+    → AddsFields (take (i + 1) xs) old new
+AddsFields-take xs i d field old mid new inside shown before added =
+    let more : take (i + 1) xs ≡ take i xs ++ field ∷ []
+    = take_more xs i d inside ∙ ap (λ y. take i xs ++ y ∷ []) (sym shown) in
+    rw more (AddsFields-both (take i xs) (field ∷ []) old mid new before added)
+
 -- a line of fields that were added in three parts
 pub AddsText-row_text : (first second third : List (List ℕ)) (a b c d e : Lines) → AddsFields first a b
     → AddsFields second b c → AddsFields third c d
@@ -133,3 +152,10 @@ AddsText-row_line rows row old mid new before line text h =
       append-nil (row_line row),
       ← append_assoc text (flat_map row_line rows) (row_line row),
     ) (line (text ++ flat_map row_line rows) (before text h))
+
+-- the lines of the rows of a list were added, up to one row more
+pub AddsText-more : (rows : List Row) (i : ℕ) (row : Row) (old mid new : Lines) → i < length rows
+    → row ≡ get_or rows i row → AddsText (flat_map row_line (take i rows)) old mid → AddsText (row_line row) mid new
+    → AddsText (flat_map row_line (take (i + 1) rows)) old new
+AddsText-more rows i row old mid new inside is before line =
+    rw (take_more rows i row inside, ← is) (AddsText-row_line (take i rows) row old mid new before line)

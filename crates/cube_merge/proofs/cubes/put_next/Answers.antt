@@ -1,7 +1,8 @@
-use Rattle.std.proofs.Common.{IfSome, length, subst}
+use Rattle.std.proofs.Common.{IfSome, length, refl, subst}
 use Rattle.std.proofs.lemmas.Result.{err_from_is_err_and}
 use Rattle.cube_merge.specs.Front.{IsInFront}
 use Rattle.cube_merge.specs.Merging.{IsLeastSoFar}
+use Rattle.cube_merge.proofs.CubesLaws.{IsLeastSoFar-none}
 use Rattle.cube_merge.proofs.FaultLaws.{StepFails-moves}
 use Rattle.cube_merge.proofs.LeastLaws.{AreAbove-moved}
 use Rattle.cube_merge.proofs.StepLaws.{IsMerging-step}
@@ -51,3 +52,9 @@ returns-in_err-put_row-clause-err g c =
 
 pub returns-clause-above : goal.returns-clause-above
 returns-clause-above g c = c.put_moved.ensures
+
+pub returns-in_default-clause-ok : goal.returns-in_default-clause-ok
+returns-in_default-clause-ok g c =
+    let none = subst
+    (λ o. IsLeastSoFar c.args.inputs.now o (length c.args.inputs.now)) c.in_default.is c.in_ok-place.ensures.least in
+    (refl, refl, IsLeastSoFar-none c.args.inputs.now none)

@@ -67,3 +67,7 @@ returns-else-is_below g c =
     (at_place c.args.inputs.now c.in-Some-least.best c.index-inputs-best.result so_far.0 c.index-inputs-best.is)
     ∙ sym (c.in-Some-row.ensures {u = tt}))
     (sym c.is_below.ensures ∙ c.if-is_below.false)
+
+pub bounds-inputs-best : goal.bounds-inputs-best
+bounds-inputs-best g c =
+    (subst (λ o. IsLeastIn c.args.inputs.now c.args.behind.now o c.args.place) c.in-Some-least.is c.requires.so_far).0

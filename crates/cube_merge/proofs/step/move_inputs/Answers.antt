@@ -48,3 +48,6 @@ pub returns-clause-ok : goal.returns-clause-ok
 returns-clause-ok g c =
     AllMove-all c.args.schema.now c.args.used.now c.args.inputs.now c.loop-place.inputs c.loop-place.place c.requires
     c.loop-place.auto.inputs c.loop-place-test.false c.loop-place.invariant.done
+
+pub loop-place-init : goal.loop-place-init
+loop-place-init g c = record { long = refl; done = λ k below. absurd (omega arith); rest = λ k from. refl }

@@ -16,3 +16,10 @@ returns-in-Some g c =
     TellsOverflow-told inputs place c.lines.result c.fault_of.result c.fault_of.ensures has.0 has.1
     (c.lines.ensures
     ∙ ap (λ i. i.lines) (sym (at_place inputs place c.index-inputs-place.result has.0 c.index-inputs-place.is)))
+
+pub bounds-inputs-place : goal.bounds-inputs-place
+bounds-inputs-place g c =
+    let inputs = c.args.inputs.now in
+    let found = (c.in-Some.ensures {u = tt}).lookup in
+    (subst (λ p. (p < length inputs) × HasRow (get_or inputs p nothing_left)) (sym (found.3.1 0))
+    (HaveRows-in inputs c.args.places.now c.args.which c.requires found.3.0)).0
