@@ -1,16 +1,20 @@
 -- A feed taken into a ledger, item by item: what was taken, and what is to come.
 use Rattle.std.proofs.Common.{◌≡◌, ℕ, List, [], ◌∷◌, ◌++◌, length, refl, sym, ap, ◌∙◌, subst, append_assoc}
-use Rattle.std.specs.Prelude.{⊤, Option, Some, None, option_map, Ok}
+use Rattle.std.specs.Prelude.{⊤, Option, Some, None, option_map, Ok, Err}
 use Rattle.std.proofs.Math.ListN.{length-set}
 use Rattle.std.proofs.lemmas.List.{append-nil, map-append}
 use Rattle.cube_core.specs.Arrival.{Arrivals}
 use Rattle.cube_core.specs.Layout.{Layout}
 use Rattle.cube_core.specs.Records.{records_of}
-use Rattle.cube_core.specs.Items.{Coming, items_of}
+use Rattle.cube_core.specs.Items.{Coming, FeedEnd, Good, WrongHeader, TooManyRecords, items_of}
+use Rattle.cube_core.specs.Run.{IsGood, AreItemsOf}
 use Rattle.cube_core.specs.declared.change.Item.{Item}
-use Rattle.cube_feed.specs.Feed.{Ahead, FeedView, Gives, to_come}
+use Rattle.cube_feed.specs.Faults.{IsEndOf, IsFaultOf}
+use Rattle.cube_feed.specs.Feed.{Ahead, FeedView, Gives, fault_of, nothing_but, to_come}
 use Rattle.cube_feed.specs.declared.fault.FeedFault.{FeedFault}
+use Rattle.cube_feed.specs.declared.fault.FeedFault.TheVariants.{Memory, Read, Header, TooMany}
 use Rattle.cube_feed.proofs.TurnLaws.{from_source}
+use Rattle.cube_engine.specs.Build.{TakesFeed}
 use Rattle.cube_engine.specs.Ledger.{LedgerView, AtSource, Enters, LedgerStandsAt}
 
 -- what is to come of a feed at its start, where its bytes are told
@@ -24,10 +28,10 @@ LeftOf (Some all) done now =
     (rest : Coming (Option FeedFault)) × (now ≡ Some rest) × (all.items ≡ done ++ rest.items) × (all.end ≡ rest.end)
 
 -- how far a feed was taken: a ledger that stood at an arrival list stands at the items done after it
-pub record HasTaken (s : Layout) (bytes : Option (List ℕ)) (source : ℕ) (old : LedgerView) (feed : FeedView)
-    (now : LedgerView) : Type 0 where
+pub record HasTaken (start : Ahead) (source : ℕ) (old : LedgerView) (feed : FeedView) (now : LedgerView)
+    : Type 0 where
   pub done : List Item
-  pub left : LeftOf (start_of s bytes) done feed.to_come
+  pub left : LeftOf start done feed.to_come
   pub of_schema : feed.schema ≡ now.schema
   pub schema : now.schema ≡ old.schema
   pub sources : length now.accounts ≡ length old.accounts
@@ -39,12 +43,12 @@ left-start : (start : Ahead) → LeftOf start [] start
 left-start None = tt
 left-start (Some all) = (all, refl, refl, refl)
 
-pub HasTaken-none : (s : Layout) (bytes : Option (List ℕ)) (source : ℕ) (ledger : LedgerView) (feed : FeedView)
-    → feed.to_come ≡ start_of s bytes → feed.schema ≡ s → ledger.schema ≡ s → HasTaken s bytes source ledger feed ledger
-HasTaken-none s bytes source ledger feed comes feed_schema schema = record {
+pub HasTaken-none : (source : ℕ) (ledger : LedgerView) (feed : FeedView) → feed.schema ≡ ledger.schema
+    → HasTaken feed.to_come source ledger feed ledger
+HasTaken-none source ledger feed schema = record {
   done = [];
-  left = subst (λ (now : Ahead). LeftOf (start_of s bytes) [] now) (sym comes) (left-start (start_of s bytes));
-  of_schema = feed_schema ∙ sym schema;
+  left = left-start feed.to_come;
+  of_schema = schema;
   schema = refl;
   sources = refl;
   stands = λ arrivals stands. subst (LedgerStandsAt ledger) (sym (append-nil arrivals)) stands;
@@ -72,15 +76,15 @@ from_source-more arrivals source done item =
     append_assoc arrivals (from_source source done) ((source, item) ∷ [])
     ∙ ap (λ more. arrivals ++ more) (sym (map-append (λ (x : Item). (source, x)) done (item ∷ [])))
 
-pub HasTaken-more : (s : Layout) (bytes : Option (List ℕ)) (source : ℕ) (old : LedgerView) (feed next : FeedView)
-    (now new : LedgerView) (item : Item)
+pub HasTaken-more : (start : Ahead) (source : ℕ) (old : LedgerView) (feed next : FeedView) (now new : LedgerView)
+    (item : Item)
     → Gives feed.to_come (Ok (Some item)) next.to_come → next.schema ≡ feed.schema
     → AtSource (Enters now.schema item) source now new
     → ((arrivals : Arrivals) → LedgerStandsAt now arrivals → LedgerStandsAt new (arrivals ++ (source, item) ∷ []))
-    → HasTaken s bytes source old feed now → HasTaken s bytes source old next new
-HasTaken-more s bytes source old feed next now new item gives same at stands taken = record {
+    → HasTaken start source old feed now → HasTaken start source old next new
+HasTaken-more start source old feed next now new item gives same at stands taken = record {
   done = taken.done ++ item ∷ [];
-  left = left-more (start_of s bytes) feed.to_come next.to_come taken.done item taken.left gives;
+  left = left-more start feed.to_come next.to_come taken.done item taken.left gives;
   of_schema = same ∙ taken.of_schema ∙ sym at.schema;
   schema = at.schema ∙ taken.schema;
   sources = ap length at.accounts ∙ length-set now.accounts _ at.account ∙ taken.sources;
@@ -88,3 +92,72 @@ HasTaken-more s bytes source old feed next now new item gives same at stands tak
       subst (LedgerStandsAt new) (from_source-more arrivals source taken.done item)
       (stands (arrivals ++ from_source source taken.done) (taken.stands arrivals before));
 }
+
+-- ---- at the end
+
+ends-well : (end : FeedEnd) → fault_of end ≡ None → end ≡ Good
+ends-well Good is = refl
+ends-well WrongHeader is = cc
+ends-well TooManyRecords is = cc
+
+-- where nothing is to come but a good end, the items done are all, and the feed is good
+all-done : (s : Layout) (bytes : Option (List ℕ)) (done : List Item) (now next : Ahead)
+    → LeftOf (start_of s bytes) done now → Gives now (Ok None) next → AreItemsOf s bytes done × IsGood s bytes
+all-done s None done now next left gives = (tt, tt)
+all-done s (Some known) done now next left gives =
+    let given : left.0 ≡ nothing_but None = subst (λ (n : Ahead). Gives n (Ok None) next) left.1 gives in (
+      sym (left.2 ∙ ap (λ (t : Coming (Option FeedFault)). done ++ t.items) given ∙ append-nil done),
+      ends-well (items_of s (records_of known)).end
+          (left.3 ∙ ap (λ (t : Coming (Option FeedFault)). t.end) given),
+    )
+
+pub TakesFeed-all : (s : Layout) (bytes : Option (List ℕ)) (start : Ahead) (source : ℕ) (old now : LedgerView)
+    (feed next : FeedView) → start ≡ start_of s bytes → HasTaken start source old feed now
+    → Gives feed.to_come (Ok None) next.to_come → TakesFeed s bytes source old now
+TakesFeed-all s bytes start source old now feed next is taken gives =
+    let left : LeftOf (start_of s bytes) taken.done feed.to_come =
+    subst (λ (a : Ahead). LeftOf a taken.done feed.to_come) is taken.left in
+    let done = all-done s bytes taken.done feed.to_come next.to_come left gives in
+    record {
+      items = taken.done;
+      all = done.0;
+      good = done.1;
+      schema = taken.schema;
+      sources = taken.sources;
+      stands = taken.stands;
+    }
+
+ends-so : (end : FeedEnd) (fault : FeedFault) → fault_of end ≡ Some fault → IsEndOf end fault
+ends-so end Memory is = tt
+ends-so end Read is = tt
+ends-so Good Header is = cc
+ends-so WrongHeader Header is = refl
+ends-so TooManyRecords Header is = cc
+ends-so Good TooMany is = cc
+ends-so WrongHeader TooMany is = cc
+ends-so TooManyRecords TooMany is = refl
+
+-- where nothing is to come but a fault, it is the feed's
+fault-given : (s : Layout) (known : List ℕ) (done : List Item) (now next : Ahead) (fault : FeedFault)
+    → LeftOf (start_of s (Some known)) done now → Gives now (Err fault) next
+    → IsEndOf (items_of s (records_of known)).end fault
+fault-given s known done now next Memory left gives = tt
+fault-given s known done now next Read left gives = tt
+fault-given s known done now next Header left gives =
+    let given : left.0 ≡ nothing_but (Some Header) =
+    subst (λ (n : Ahead). Gives n (Err Header) next) left.1 gives in
+    ends-so (items_of s (records_of known)).end Header
+    (left.3 ∙ ap (λ (t : Coming (Option FeedFault)). t.end) given)
+fault-given s known done now next TooMany left gives =
+    let given : left.0 ≡ nothing_but (Some TooMany) =
+    subst (λ (n : Ahead). Gives n (Err TooMany) next) left.1 gives in
+    ends-so (items_of s (records_of known)).end TooMany
+    (left.3 ∙ ap (λ (t : Coming (Option FeedFault)). t.end) given)
+
+pub fault-told : (s : Layout) (bytes : Option (List ℕ)) (start : Ahead) (source : ℕ) (old now : LedgerView)
+    (feed next : FeedView) (fault : FeedFault) → start ≡ start_of s bytes → HasTaken start source old feed now
+    → Gives feed.to_come (Err fault) next.to_come → IsFaultOf s bytes fault
+fault-told s None start source old now feed next fault is taken gives = tt
+fault-told s (Some known) start source old now feed next fault is taken gives =
+    fault-given s known taken.done feed.to_come next.to_come fault
+    (subst (λ (a : Ahead). LeftOf a taken.done feed.to_come) is taken.left) gives

@@ -1,10 +1,13 @@
 -- What taking the feeds of several sources promises, and why it may fail (this project's choice).
-use Rattle.std.specs.Prelude.{◌≡◌, ◌++◌, ⊤, ℕ, List, length, map, Option}
+use Rattle.std.specs.Prelude.{◌≡◌, ◌++◌, ⊤, ℕ, List, length, map, Option, option_map}
 use Rattle.cube_core.specs.Arrival.{Arrivals}
+use Rattle.cube_core.specs.Items.{items_of}
 use Rattle.cube_core.specs.Layout.{Layout}
+use Rattle.cube_core.specs.Records.{records_of}
 use Rattle.cube_core.specs.Run.{Told, IsGood, AreItemsOf, AreGood, AreTaken}
 use Rattle.cube_core.specs.declared.change.Item.{Item}
 use Rattle.cube_feed.specs.Faults.{IsFaultOf, IsLowestFault}
+use Rattle.cube_feed.specs.Feed.{FeedView, to_come}
 use Rattle.cube_engine.specs.Builder.{BuilderView, HasFacts}
 use Rattle.cube_engine.specs.Ledger.{LedgerView, LedgerStandsAt, all_facts}
 use Rattle.cube_engine.specs.declared.fault.BuildFault.{BuildFault}
@@ -42,6 +45,11 @@ pub record TakesFeed (s : Layout) (bytes : Option (List ℕ)) (source : ℕ) (ol
   pub sources : length new.accounts ≡ length old.accounts
   pub stands : (arrivals : Arrivals) → LedgerStandsAt old arrivals
       → LedgerStandsAt new (arrivals ++ map (λ item. (source, item)) items)
+
+-- what is to come of a feed is what these bytes say, where they are told
+abbrev pub IsToCome : Option (List ℕ) → FeedView → Type 0
+IsToCome bytes feed =
+    feed.to_come ≡ option_map (λ (known : List ℕ). to_come (items_of feed.schema (records_of known))) bytes
 
 -- why not all items of the feed of a source were taken: memory, or the feed's own fault
 abbrev pub StopsFeed : Layout → Option (List ℕ) → ℕ → BuildFault → Type 0

@@ -1,13 +1,16 @@
 //! What a ledger keeps of one source.
-ghost use Rattle.std.specs.Prelude.{◌≡◌, Ok, None, Some, true, IfOk, IfErr, OnOk, OnErr, IfNone};
+ghost use Rattle.std.specs.Prelude.{◌≡◌, Ok, None, Some, true, IfOk, IfErr, OnOk, OnErr, IfNone, is_some};
 ghost use Rattle.std.specs.Option.{option_map};
+ghost use Rattle.cube_core.specs.Life.{id_of};
+ghost use Rattle.cube_core.specs.Refusals.{code_by_presence};
+ghost use Rattle.cube_core.specs.Takes.{takes};
 ghost use Rattle.cube_engine.specs.Book.{AmendsAlike, fact_at, facts_of, refused_by};
 ghost use Rattle.cube_engine.specs.Ledger.{AllFit, Enters, Exchanges, IsRuling, RulingFits, Settles, is_amendment, says_amendment, says_taken, new_account, with_refusal};
 
 use crate::book::{Book, BookFault};
 use crate::code::{absent_code, code_by_presence, code_of_fault, id_of, present_code};
 use crate::ruling::Ruling;
-use cube_core::{Change, Fact, HashKey, Item, LineFault, Refusal, Schema, Text};
+use cube_core::{Change, Fact, HashKey, Item, LineFault, Partial, Refusal, Schema, Text};
 use std::alloc::{AllocError, Global};
 use std::marker::Model;
 
@@ -51,19 +54,40 @@ impl Account {
         ensures fits { IfOk result (RulingFits schema.now) }
         ensures amends { OnErr result (says_amendment what ≡ true) }
     {
-        let change = match what {
-            Ok(change) => change,
-            Err(fault) => {
-                return Ok(Ruling::Refuse {
-                    code: code_of_fault(schema, fault),
-                });
-            }
-        };
-        let present = self.book.has(id_of(&change));
-        match code_by_presence(schema, &change, present) {
-            Some(code) => Ok(Ruling::Refuse { code }),
-            None => self.settle(alloc, change),
+        match what {
+            Ok(change) => self.rule_change(alloc, schema, change),
+            Err(fault) => Ok(Ruling::Refuse {
+                code: code_of_fault(schema, fault),
+            }),
         }
+    }
+
+    // What a change comes to that the schema takes.
+    fn rule_change(
+        &self,
+        alloc: Global,
+        schema: &Schema,
+        change: Change,
+    ) -> Result<Ruling, AllocError>
+        requires all_fit { AllFit schema.now (facts_of self.now.book) }
+        requires taken { takes schema.now change ≡ true }
+        ensures ruling { IfOk result (IsRuling schema.now self.now.book (Ok change)) }
+        ensures fits { IfOk result (RulingFits schema.now) }
+        ensures amends { OnErr result (is_amendment change ≡ true) }
+    {
+        if let Some(code) = self.code(schema, &change) {
+            drop(change);
+            return Ok(Ruling::Refuse { code });
+        }
+        self.settle(alloc, change)
+    }
+
+    // The code of a change that is refused.
+    fn code(&self, schema: &Schema, change: &Change) -> Option<u8>
+        ensures { result ≡ code_by_presence schema.now change.now
+            (is_some (fact_at self.now.book (id_of change.now))) }
+    {
+        code_by_presence(schema, change, self.book.has(id_of(change)))
     }
 
     // What a change comes to that isn't refused.
@@ -76,13 +100,20 @@ impl Account {
         match change {
             Change::Insert { id, fact } => Ok(Ruling::Put { id, fact }),
             Change::Update { id, fact } => Ok(Ruling::Put { id, fact }),
-            Change::Amend { id, part } => {
-                let old = self.book.get(&id).unwrap();
-                let fact = part.over(alloc, old)?;
-                Ok(Ruling::Put { id, fact })
-            }
+            Change::Amend { id, part } => self.amended(alloc, id, part),
             Change::Delete { id } => Ok(Ruling::Take { id }),
         }
+    }
+
+    // What an amendment comes to that isn't refused.
+    fn amended(&self, alloc: Global, id: Text, part: Partial) -> Result<Ruling, AllocError>
+        requires alike { AmendsAlike self.now.book (Change.Amend id part) }
+        requires lawful { refused_by self.now.book (Change.Amend id part) ≡ None }
+        ensures { IfOk result (Settles self.now.book (Change.Amend id part)) }
+    {
+        let old = self.book.get(&id).unwrap();
+        let fact = part.over(alloc, old)?;
+        Ok(Ruling::Put { id, fact })
     }
 
     /// Takes an item whose change, where it says one, the schema takes: a refused one is noted with its code, and the

@@ -120,9 +120,30 @@ impl Book {
         ensures refused { IfErr result (Explains self.old change) }
         ensures unchanged { OnErr result (self.new ≡ self.old) }
     {
-        let come = self.copy_come(&change)?;
-        let gone = self.enter(change)?;
-        Ok(Delta { gone, come })
+        match self.copy_come(&change) {
+            Ok(come) => self.enter_beside(change, come),
+            Err(fault) => {
+                drop(change);
+                Err(fault)
+            }
+        }
+    }
+
+    // Takes a change whose fact, where it puts one, was copied.
+    fn enter_beside(&mut self, change: Change, come: Option<Fact>) -> Result<Delta, BookFault>
+        requires alike { AmendsAlike self.old change }
+        requires come { come ≡ fact_put change (fact_at self.old (id_of change)) }
+        ensures taken { IfOk result (λ delta. Takes self.old change delta self.new) }
+        ensures refused { IfErr result (Explains self.old change) }
+        ensures unchanged { OnErr result (self.new ≡ self.old) }
+    {
+        match self.enter(change) {
+            Ok(gone) => Ok(Delta { gone, come }),
+            Err(fault) => {
+                drop(come);
+                Err(fault)
+            }
+        }
     }
 
     // A copy of the fact that a change puts.
@@ -202,6 +223,7 @@ impl Book {
         ensures unchanged { OnErr result (self.new ≡ self.old) }
     {
         let Some(place) = self.facts.get_mut(id) else {
+            drop(fact);
             return Err(BookFault::Absent);
         };
         Ok(Some(replace(place, fact)))

@@ -1,6 +1,6 @@
 //! The ledger and the builder of whole feeds, one source after another.
-ghost use Rattle.std.specs.Prelude.{◌≡◌, ◌≤◌, length, map, vec_len, IfOk, IfErr, OnOk};
-ghost use Rattle.cube_engine.specs.Build.{Builds, BuildsWhole, ExplainsBuild, StopsFeed, TakesFeed};
+ghost use Rattle.std.specs.Prelude.{◌≡◌, ◌≤◌, ℕ, List, Option, length, map, vec_len, IfOk, IfErr, OnOk};
+ghost use Rattle.cube_engine.specs.Build.{Builds, BuildsWhole, ExplainsBuild, IsToCome, StopsFeed, TakesFeed};
 
 use crate::builder::Builder;
 use crate::fault::BuildFault;
@@ -76,6 +76,23 @@ fn take_feed<R: Read + Drop>(
     ensures err { IfErr result (StopsFeed schema.now (R.Read.remaining reader) source) }
 {
     let mut feed = Feed::new(alloc, schema, reader);
+    take_items(ledger, source, &mut feed)
+}
+
+// Takes all items that are to come of the feed of a source.
+fn take_items<R: Read + Drop>(
+    ledger: &mut Ledger,
+    source: u32,
+    feed: &mut Feed<'_, R>,
+) -> Result<(), BuildFault>
+    requires first { 1 ≤ source }
+    requires last { source ≤ length ledger.old.accounts }
+    requires schema { feed.old.schema ≡ ledger.old.schema }
+    ensures ok { OnOk result ((bytes : Option (List ℕ)) → IsToCome bytes feed.old →
+        TakesFeed feed.old.schema bytes source ledger.old ledger.new) }
+    ensures err { IfErr result (λ fault. (bytes : Option (List ℕ)) → IsToCome bytes feed.old →
+        StopsFeed feed.old.schema bytes source fault) }
+{
     loop {
         let item = match feed.next() {
             Ok(Some(item)) => item,

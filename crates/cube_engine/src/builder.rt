@@ -8,7 +8,7 @@ ghost use Rattle.cube_cells.specs.Cube.{SameSets};
 ghost use Rattle.cube_engine.specs.Builder.{HasFacts, SameBuilder, StandsAt};
 ghost use Rattle.cube_engine.specs.Ledger.{AllFit, AtSource, Enters, Exchanges, IsRemoval, account_of, all_facts};
 
-use crate::fill::{fill, finest_with};
+use crate::fill::{fill_cube, fill_cube_with};
 use crate::joined::HoldsCube;
 use crate::ledger::Ledger;
 use crate::ruling::Ruling;
@@ -90,10 +90,8 @@ impl Builder {
         ensures same { IfOk result (λ builder. SameSets cube builder.cube) }
         ensures has { IfOk result (λ builder. HasFacts (all_facts ledger.accounts) builder.cube) }
     {
-        let mut finest = cube.finest()?;
-        fill(&mut finest, &ledger)?;
         let mut cube = cube;
-        cube.fill(finest)?;
+        fill_cube(&mut cube, &ledger)?;
         Ok(Builder { ledger, cube })
     }
 
@@ -190,9 +188,8 @@ impl Builder<Summary> {
         ensures same { IfOk result (λ builder. SameSets cube builder.cube) }
         ensures has { IfOk result (λ builder. HasFacts (all_facts ledger.accounts) builder.cube) }
     {
-        let finest = finest_with(rt, threads.max(1), &cube, &ledger)?;
         let mut cube = cube;
-        cube.fill_with(rt, threads, finest)?;
+        fill_cube_with(rt, threads, &mut cube, &ledger)?;
         Ok(Builder { ledger, cube })
     }
 }

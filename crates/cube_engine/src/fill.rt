@@ -5,6 +5,7 @@ ghost use Rattle.cube_core.specs.Takes.{fits};
 ghost use Rattle.cube_engine.specs.Book.{facts_of};
 ghost use Rattle.cube_engine.specs.Builder.{GainsFacts};
 ghost use Rattle.cube_engine.specs.Ledger.{AllFit, all_facts};
+ghost use Rattle.cube_engine.specs.Parted.{Fills};
 
 use crate::book::Book;
 use crate::ledger::Ledger;
@@ -13,9 +14,22 @@ use cube_core::Fact;
 use std::alloc::AllocError;
 use std::thread::Threads;
 
-/// Adds the facts of all books of a ledger to a cube of the same schema. The only error is want of memory, or of
-/// numbers to count the facts with.
-pub fn fill(cube: &mut Cube, ledger: &Ledger) -> Result<(), AllocError>
+/// Fills a cube with the facts of all books of a ledger. The only error is want of memory, or of numbers to count the facts
+/// with.
+pub fn fill_cube(cube: &mut Cube, ledger: &Ledger) -> Result<(), AllocError>
+    requires fit { AllFit ledger.now.schema (all_facts ledger.now.accounts) }
+    requires schema { cube.old.schema ≡ ledger.now.schema }
+    ensures { OnOk result (Fills (all_facts ledger.now.accounts) cube.old cube.new) }
+{
+    let mut finest = cube.finest()?;
+    fill(&mut finest, ledger)?;
+    cube.fill(finest)?;
+    Ok(())
+}
+
+// Adds the facts of all books of a ledger to a cube of the same schema. The only error is want of memory, or of
+// numbers to count the facts with.
+fn fill(cube: &mut Cube, ledger: &Ledger) -> Result<(), AllocError>
     requires { cube.old.schema ≡ ledger.now.schema }
     ensures { OnOk result (GainsFacts (all_facts ledger.now.accounts) cube.old cube.new) }
 {
@@ -47,9 +61,25 @@ pub fn add_counted(cube: &mut Cube, fact: &Fact) -> Result<(), AllocError>
     cube.add(fact)
 }
 
-/// The cube of the facts of all books of a ledger over the finest grouping set, with the schema of a cube, made by as
-/// many threads as this says. With one thread no thread is started. The only error is want of memory.
-pub fn finest_with<T: Threads + Sync>(
+/// Fills a cube as [`fill_cube`] does, with its cells made by as many threads as this says. With one thread, or none, no
+/// thread is started. The only error is want of memory.
+pub fn fill_cube_with<T: Threads + Sync>(
+    rt: &T,
+    threads: usize,
+    cube: &mut Cube<Summary>,
+    ledger: &Ledger,
+) -> Result<(), AllocError>
+    requires { cube.old.schema ≡ ledger.now.schema }
+    ensures { OnOk result (Fills (all_facts ledger.now.accounts) cube.old cube.new) }
+{
+    let finest = finest_with(rt, threads.max(1), cube, ledger)?;
+    cube.fill_with(rt, threads, finest)?;
+    Ok(())
+}
+
+// The cube of the facts of all books of a ledger over the finest grouping set, with the schema of a cube, made by as
+// many threads as this says. With one thread no thread is started. The only error is want of memory.
+fn finest_with<T: Threads + Sync>(
     rt: &T,
     threads: usize,
     cube: &Cube<Summary>,

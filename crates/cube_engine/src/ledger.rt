@@ -85,6 +85,7 @@ impl Ledger {
         ensures amends { OnErr result (says_amendment what ≡ true) }
     {
         if !says_taken(&self.schema, &what) {
+            drop(what);
             return Ok(Ruling::Refuse {
                 code: shape_code(&self.schema),
             });

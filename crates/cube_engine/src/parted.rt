@@ -9,7 +9,7 @@ ghost use Rattle.cube_engine.specs.Ledger.{AllFit, AtSource, Enters, Exchanges, 
 ghost use Rattle.cube_engine.specs.Parted.{AllFill, AllSettle, ArePartsOver, ArePartsWith, Fills, LosesFacts, MaySettle, Notes, Settles};
 ghost use Rattle.cube_engine.specs.declared.parted.Part.{Part as ThePart};
 
-use crate::fill::{add_counted, fill};
+use crate::fill::{add_counted, fill_cube};
 use crate::joined::HoldsCube;
 use crate::ledger::Ledger;
 use crate::ruling::Ruling;
@@ -415,17 +415,4 @@ fn fill_part(part: &mut Part, ledger: &Ledger)
         Fills (all_facts ledger.now.accounts) part.old.cube part.new.cube }
 {
     part.is_spent = fill_cube(&mut part.cube, ledger).is_err();
-}
-
-// Fills a cube with the facts of all books of a ledger. The only error is want of memory, or of numbers to count the facts
-// with.
-fn fill_cube(cube: &mut Cube, ledger: &Ledger) -> Result<(), AllocError>
-    requires fit { AllFit ledger.now.schema (all_facts ledger.now.accounts) }
-    requires schema { cube.old.schema ≡ ledger.now.schema }
-    ensures { OnOk result (Fills (all_facts ledger.now.accounts) cube.old cube.new) }
-{
-    let mut finest = cube.finest()?;
-    fill(&mut finest, ledger)?;
-    cube.fill(finest)?;
-    Ok(())
 }

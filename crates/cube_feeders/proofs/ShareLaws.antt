@@ -26,14 +26,19 @@ use Rattle.cube_feeders.specs.declared.roster.Gatherer.{Gatherer}
 abbrev pub HaveLinks : {B : Type 0} → (B → ℕ) → List (Gatherer B) → Type 0
 HaveLinks all shares = All (λ share. vec_len share.inlets ≡ all share.builder) shares
 
+-- the inlets with those of one builder more
+pub inlets-push : {B : Type 0} (shares : List (Gatherer B)) (share : Gatherer B)
+    → inlets_of (shares ++ share ∷ []) ≡ inlets_of shares ++ share.inlets.items
+inlets-push {B} shares share =
+    flat_map-append (λ (g : Gatherer B). g.inlets.items) shares (share ∷ [])
+    ∙ ap (λ l. inlets_of shares ++ l) (append-nil share.inlets.items)
+
 -- one share more is cut off
 pub inlets-more : {B : Type 0} (shares : List (Gatherer B)) (share : Gatherer B) (n : ℕ)
     (inlets left whole : List (Receiving Parcel)) → inlets_of shares ++ inlets ≡ whole
     → share.inlets.items ≡ take n inlets → left ≡ drop n inlets → inlets_of (shares ++ share ∷ []) ++ left ≡ whole
-inlets-more {B} shares share n inlets left whole was own rest =
-    ap (λ l. l ++ left)
-    (flat_map-append (λ (g : Gatherer B). g.inlets.items) shares (share ∷ [])
-    ∙ ap (λ l. inlets_of shares ++ l) (append-nil share.inlets.items))
+inlets-more shares share n inlets left whole was own rest =
+    ap (λ l. l ++ left) (inlets-push shares share)
     ∙ append_assoc (inlets_of shares) share.inlets.items left
     ∙ ap (λ l. inlets_of shares ++ l) ((λ i. own i ++ rest i) ∙ take-append-drop n inlets)
     ∙ was

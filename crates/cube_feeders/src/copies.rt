@@ -44,6 +44,7 @@ pub(crate) fn next_copies<R: Read>(
     let next = feed.next()?;
     if let Some(item) = &next {
         let Ok(()) = fill_copies(alloc, item, count, copies) else {
+            drop(next);
             return Err(FeedFault::Memory);
         };
     }

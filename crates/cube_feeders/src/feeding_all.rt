@@ -4,6 +4,7 @@ ghost use Rattle.std.specs.List.{All};
 ghost use Rattle.cube_core.specs.Run.{AreGood};
 ghost use Rattle.cube_feeders.specs.FeedingAll.{IsNew, TakeAll, ExplainsFeeding};
 
+use crate::ends::first_stop;
 use crate::fault::FeedingFault;
 use crate::gate::Gate;
 use crate::roster::Gatherer;
@@ -59,6 +60,9 @@ pub fn feed_all<
     let (roster, answer) = run_together(rt, alloc, gate, gatherers, feeders, roster);
     if answer.is_err() {
         return Err(FeedingFault::NoThread);
+    }
+    if let Some((source, fault)) = first_stop(&roster.ends) {
+        return Err(FeedingFault::Feed { source, fault });
     }
     settle(roster.ends, roster.gatherers)
 }

@@ -44,15 +44,23 @@ fn accept<W: Wait, B: TakesItems>(
         StandsAtFirst (B.stands first) builder.new wanting.new (arrivals ++ (source, item) ∷ []) }
 {
     if *wanting {
+        drop(item);
         return;
     }
+    wait_if_full(rt, builder);
+    *wanting = builder.take_item(source, item).is_err();
+}
+
+// Waits for good where the builder is full.
+fn wait_if_full<W: Wait, B: TakesItems>(rt: &W, builder: &B)
+    ensures { B.full builder.now ≡ false }
+{
     if builder.is_full() {
         for _ in rt.forever() {
             thread::yield_now();
         }
         unreachable!()
     }
-    *wanting = builder.take_item(source, item).is_err();
 }
 
 // Looks once at a link that hasn't ended. Whether a parcel was there.

@@ -15,7 +15,7 @@ const YIELDS: u32 = 200;
 /// The fewest parcels that a link has room for where its ends nap: a smaller one would run empty or full meanwhile.
 const NAPPING_RING: usize = 64;
 
-/// The microseconds of a feeder's shortest nap, and of the longest of either end.
+/// The microseconds of a feeder's shortest nap, and of its longest.
 const SHORTEST_NAP: u64 = 50;
 
 const LONGEST_NAP: u64 = 800;
@@ -100,13 +100,13 @@ impl EmptyRounds {
         let naps = inlets
             .first()
             .is_some_and(|inlet| inlet.capacity() >= NAPPING_RING);
-        if !naps || self.rounds < YIELDS {
-            self.rounds = self.rounds.saturating_add(1);
+        let rounds = self.rounds;
+        self.rounds = rounds.saturating_add(1);
+        if !naps || rounds < YIELDS {
             thread::yield_now();
             return;
         }
-        let doublings = (self.rounds - YIELDS).min(DOUBLINGS);
+        let doublings = (rounds - YIELDS).min(DOUBLINGS);
         Parker::new().park_timeout(rt, Duration::from_micros(1 << doublings));
-        self.rounds = self.rounds.saturating_add(1);
     }
 }

@@ -1,9 +1,10 @@
 //! Holding the receipts of the feeders' links against what the builders received.
 ghost use Rattle.std.specs.Prelude.{◌≡◌, ◌≤◌, ◌<◌, false, map, vec_len, length, IfOk, IfErr, IfSome, IsFalse};
 ghost use Rattle.std.specs.List.{All};
+ghost use Rattle.cube_feeders.specs.Ends.{HasNoStop};
 ghost use Rattle.cube_feeders.specs.Settling.{received_on, received_by, kept_of, receipt_of, IsOfLink, Begins, FitLinks, BeginReceipts, AllFit, AllBegin, Settles, StopsFeeding};
 
-use crate::ends::{first_stop, first_unsealed};
+use crate::ends::first_unsealed;
 use crate::fault::FeedingFault;
 use crate::parcel::{FeederEnd, Parcel};
 use crate::roster::Gatherer;
@@ -62,11 +63,11 @@ fn is_wanting<B: Drop>(gatherers: &[Gatherer<B>]) -> bool
     false
 }
 
-/// Tells why the feeders' ends and the builders make no run, or gives the builders back, each receipt held against
-/// its link.
+/// Tells why the ends of feeders that didn't stop and the builders make no run, or gives the builders back, each receipt
+/// held against its link.
 ///
-/// The first fault of these: the lowest source that stopped, want of memory, the lowest source that lacks a receipt.
-/// A link that gave its end has nothing left that its receipt names.
+/// The first fault of these: want of memory, the lowest source that lacks a receipt. A link that gave its end has nothing
+/// left that its receipt names.
 pub(crate) fn settle<B: Drop>(
     ends: Vec<FeederEnd>,
     gatherers: Vec<Gatherer<B>>,
@@ -74,12 +75,10 @@ pub(crate) fn settle<B: Drop>(
     requires sources { vec_len ends ≤ 64 }
     requires builders { (1 ≤ vec_len gatherers) × (vec_len gatherers ≤ 8) }
     requires fit { AllFit ends.items (map received_by gatherers.items) }
+    requires good { All HasNoStop ends.items }
     ensures ok { IfOk result (λ settled. Settles ends.items gatherers.items settled.items) }
     ensures err { IfErr result (StopsFeeding (vec_len gatherers) ends.items) }
 {
-    if let Some((source, fault)) = first_stop(&ends) {
-        return Err(FeedingFault::Feed { source, fault });
-    }
     if is_wanting(&gatherers) {
         return Err(FeedingFault::Full);
     }

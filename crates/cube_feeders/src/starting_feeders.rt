@@ -1,5 +1,5 @@
 //! Starting and joining the feeders.
-ghost use Rattle.std.specs.Prelude.{◌≡◌, ◌≤◌, [], vec_len, vec_capacity, OnOk, IfSome};
+ghost use Rattle.std.specs.Prelude.{◌≡◌, ◌≤◌, ◌+◌, ◌++◌, ◌∷◌, [], vec_len, vec_capacity, OnOk, IfSome};
 ghost use Rattle.std.specs.List.{All, AllZip};
 ghost use Rattle.cube_feeders.specs.Feeding.{Feeds};
 ghost use Rattle.cube_feeders.specs.Starting.{HasRoom, IsReady, HasGathered, StartsLast};
@@ -110,6 +110,18 @@ fn start_last<
     (feeders, started.ok())
 }
 
+// Keeps what a feeder left, for which there is room.
+fn keep_end<B: Drop>(end: FeederEnd, roster: &mut Roster<B>)
+    requires { vec_len roster.old.ends + 1 ≤ vec_capacity roster.old.ends }
+    ensures ends { roster.new.ends.items ≡ roster.old.ends.items ++ end ∷ [] }
+    ensures gatherers { roster.new.gatherers ≡ roster.old.gatherers }
+    ensures room { vec_capacity roster.old.ends ≤ vec_capacity roster.new.ends }
+{
+    let Ok(()) = roster.ends.push(end) else {
+        unreachable!()
+    };
+}
+
 /// Starts the feeders, the last source's first, gathers beside them into the first builder, and joins them.
 ///
 /// Where a thread couldn't be started those that were are told to stop, and nothing is read.
@@ -155,9 +167,7 @@ pub(crate) fn with_feeders<
     let end = child.join(rt);
     match (answer, end) {
         (Ok(()), Some(end)) => {
-            let Ok(()) = roster.ends.push(end) else {
-                unreachable!()
-            };
+            keep_end(end, roster);
             Ok(())
         }
         _ => Err(NoThread),

@@ -1,18 +1,16 @@
-use Rattle.std.proofs.Common.{◌≡◌, false, sym, ◌∙◌}
-use Rattle.std.specs.Prelude.{is_err}
-use Rattle.cube_feed.proofs.FaultLaws.{OnOk-holds}
-use Rattle.cube_engine.proofs.FeedLaws.{HasTaken-none, HasTaken-more}
+use Rattle.std.proofs.lemmas.Result.{on_ok_weaker, IfErr-weaker}
 use Rattle.cube_engine.proofs.build.take_feed.Goals as goal
 
-pub loop-item-init : goal.loop-item-init
-loop-item-init g c = HasTaken-none _ _ _ _ _ c.new-feed.ensures.to_come c.new-feed.ensures.schema c.requires.schema
+pub returns-clause-ok : goal.returns-clause-ok
+returns-clause-ok g c =
+    on_ok_weaker c.take_items.result
+    (λ taken. rw c.new-feed.ensures.schema at
+    (taken (g.R.Read.remaining c.args.reader) (rw c.new-feed.ensures.schema c.new-feed.ensures.to_come)))
+    c.take_items.ensures.ok
 
-pub loop-item-preserved : goal.loop-item-preserved
-loop-item-preserved g c =
-    let fine : is_err c.apply_taken.result ≡ false = sym c.is_err.ensures.value ∙ c.if-is_err.false in
-    HasTaken-more _ _ _ _ _ c.next.new.self _ _ c.in-Ok-Some.item
-    (rw c.in-Ok-Some.field-0-is at c.in-Ok-Some.ensures.gives)
-    c.next.ensures.schema
-    (OnOk-holds c.apply_taken.result _ fine c.apply_taken.ensures.enters)
-    (OnOk-holds c.apply_taken.result _ fine c.apply_taken.ensures.stands)
-    c.loop-item.invariant
+pub returns-clause-err : goal.returns-clause-err
+returns-clause-err g c =
+    IfErr-weaker c.take_items.result _ _
+    (λ fault stops. rw c.new-feed.ensures.schema at
+    (stops (g.R.Read.remaining c.args.reader) (rw c.new-feed.ensures.schema c.new-feed.ensures.to_come)))
+    c.take_items.ensures.err

@@ -1,12 +1,15 @@
-use Rattle.std.proofs.Common.{arith, ◌≡◌, ◌≤◌, false, ◌∙◌, [], sym, ap, length, get_or, map, vec_len}
+use Rattle.std.proofs.Common.{arith, ◌≡◌, ◌≤◌, List, false, ◌∙◌, [], sym, ap, subst, length, get_or, map, vec_len}
 use Rattle.std.proofs.lemmas.List.{get_or-map, length-map}
-use Rattle.std.specs.List.{AllZip}
+use Rattle.std.specs.List.{All, AllZip}
 use Rattle.std.specs.Prelude.{is_err}
 use Rattle.cube_core.proofs.ListLaws.{AllZip-length}
+use Rattle.cube_feeders.specs.Ends.{HasNoStop, IsFirstStop}
 use Rattle.cube_feeders.specs.Starting.{HasGathered}
 use Rattle.cube_feeders.specs.Wiring.{coming_of}
 use Rattle.cube_feeders.specs.Settling.{received_by}
-use Rattle.cube_feeders.proofs.JoinedLaws.{ready-linked, ends-joined, tell-run, takes-settled, if_ok-then, on_ok-then}
+use Rattle.cube_feeders.specs.declared.fault.FeedingFault.TheVariants as feeding_fault
+use Rattle.cube_feeders.specs.declared.parcel.FeederEnd.{FeederEnd}
+use Rattle.cube_feeders.proofs.JoinedLaws.{ready-linked, tell-run, takes-settled, if_ok-then, on_ok-then}
 use Rattle.cube_feeders.proofs.JoinedLaws.{if_err-then}
 use Rattle.cube_feeders.proofs.TakeLaws.{AllTell, fit-tell, good-all, explains-stops}
 use Rattle.cube_feed.proofs.FaultLaws.{OnOk-holds}
@@ -73,28 +76,47 @@ tell g c =
     setup.gatherers.items joined.result.0.gatherers.items joined.result.1
     (fine g c) known.linked known.feeds joined.ensures.ends joined.ensures.gatherers
 
+-- there are as many ends as there are readers
+all-ended : (g : Over) (c : Else-is_err g)
+    → length c.run_together-roster.result.0.ends.items ≡ length c.args.readers.items
+all-ended g c = (tell g c).all ∙ length-map c.args.readers.items g.R.Read.remaining
+
+pub first_stop-requires : goal.first_stop-requires
+first_stop-requires g c =
+    let at = goal.at.first_stop-requires g c in
+    omega (arith, all-ended g at.Else-is_err, c.args.readers.ok.0, c.requires.readers)
+
+pub returns-in-Some-clause-err : goal.returns-in-Some-clause-err
+returns-in-Some-clause-err g c =
+    let at = goal.at.returns-in-Some-clause-err g c in
+    explains-stops _ _ _ _ 1 (feeding_fault.Feed c.in-Some.source c.in-Some.fault) (tell g at.Else-is_err)
+    (subst (λ (ends : List FeederEnd). IsFirstStop ends c.in-Some.source c.in-Some.fault) c.deref.ensures.value
+    c.in-Some.ensures.some)
+
+pub settle-requires-clause-good : goal.settle-requires-clause-good
+settle-requires-clause-good g c =
+    subst (λ (ends : List FeederEnd). All HasNoStop ends) c.deref.ensures.value c.in_default-first_stop.ensures.none
+
 pub settle-requires-clause-fit : goal.settle-requires-clause-fit
-settle-requires-clause-fit g c = fit-tell _ _ _ _ (tell g c)
+settle-requires-clause-fit g c = fit-tell _ _ _ _ (tell g (goal.at.settle-requires-clause-fit g c).Else-is_err)
 
 pub settle-requires-clause-sources : goal.settle-requires-clause-sources
 settle-requires-clause-sources g c =
-    let joined = c.run_together-roster in
-    let ends =
-    ends-joined (λ f. f.feed.to_come) (λ f. f.outlets.items) c.in-Ok.setup.feeders.items joined.result.0.ends.items
-    (OnOk-holds joined.result.1 _ (fine g c) joined.ensures.ends) in
+    let at = goal.at.settle-requires-clause-sources g c in
     omega (
       arith,
-      ends.same_outs,
-      as-many g (goal.at.settle-requires-clause-sources g c).In-Ok,
+      all-ended g at.Else-is_err,
       c.args.readers.ok.0,
-      joined.result.0.ends.ok.0,
+      c.run_together-roster.result.0.ends.ok.0,
       c.requires.readers,
     )
 
 pub settle-requires-clause-builders : goal.settle-requires-clause-builders
 settle-requires-clause-builders g c =
+    let at = goal.at.settle-requires-clause-builders g c in
     let all = c.run_together-roster.result.0.gatherers.ok.0 in
-    (omega (arith, same-count g c, all, c.requires.builders), omega (arith, same-count g c, all, c.requires.builders))
+    let same = same-count g at.Else-is_err in
+    (omega (arith, same, all, c.requires.builders), omega (arith, same, all, c.requires.builders))
 
 pub returns-clause-good : goal.returns-clause-good
 returns-clause-good g c =

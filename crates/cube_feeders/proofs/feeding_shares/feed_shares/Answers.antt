@@ -115,6 +115,10 @@ settle-requires-clause-sources g c =
 pub settle-requires-clause-fit : goal.settle-requires-clause-fit
 settle-requires-clause-fit g c = fit-tell _ _ _ _ (tell g (goal.at.settle-requires-clause-fit g c).In-Ok-whole_of)
 
+pub settle-requires-clause-good : goal.settle-requires-clause-good
+settle-requires-clause-good g c =
+    subst (λ (ends : List FeederEnd). All HasNoStop ends) c.deref.ensures.value c.in_default-first_stop.ensures.none
+
 pub returns-in-Some-clause-err : goal.returns-in-Some-clause-err
 returns-in-Some-clause-err g c =
     let at = goal.at.returns-in-Some-clause-err g c in

@@ -1,4 +1,4 @@
-use Rattle.std.proofs.Common.{rules, arith, ap, sym, length, ◌≡◌, ◌≤◌, ◌+◌, ◌∷◌, [], ◌∙◌, vec_len}
+use Rattle.std.proofs.Common.{arith, ap, sym, length, ◌≡◌, ◌≤◌, ◌+◌, ◌∷◌, [], ℕ, List, ◌++◌, ◌∙◌, vec_len}
 use Rattle.std.proofs.lemmas.Bool.{eqb-true}
 use Rattle.std.proofs.lemmas.List.{length-append}
 use Rattle.std.proofs.lemmas.Slice.Zip.{AllZip-long}
@@ -7,25 +7,34 @@ use Rattle.cube_feeders.proofs.PlaceLaws.{All-append_front, AllZip-nil}
 use Rattle.cube_core.proofs.ListLaws.{AllZip-push}
 use Rattle.cube_feeders.proofs.starting_feeders.+with_feeders.Goals as goal
 
+-- how many are left of a list whose last was taken
+length-last : {A : Type 0} (all rest : List A) (last : A) → all ≡ rest ++ last ∷ [] → length all ≡ length rest + 1
+length-last all rest last split = ap length split ∙ length-append rest (last ∷ [])
+
+less-one : (all rest most : ℕ) → all ≡ rest + 1 → all ≤ most → rest ≤ most
+less-one all rest most count within = omega arith
+
+less-both : (all rest posts left : ℕ) → all ≡ rest + 1 → posts ≡ left + 1 → all ≤ posts → rest ≤ left
+less-both all rest posts left count posts_count within = omega arith
+
+room-for : (all rest ends room later : ℕ) → all ≡ rest + 1 → rest ≡ ends → all ≤ room → room ≤ later → ends + 1 ≤ later
+room-for all rest ends room later count long within grows = omega arith
+
 pub returns-then-is_empty-clause-ends : goal.returns-then-is_empty-clause-ends
 returns-then-is_empty-clause-ends g t c =
-    let none : length c.args.feeders.items ≡ 0 = omega (
-      arith,
-      eqb-true (vec_len c.args.feeders) 0 (sym c.is_empty.ensures ∙ c.if-is_empty.true),
-      c.args.feeders.ok.0,
-    ) in
-    let no_end : length c.args.roster.now.ends.items ≡ 0 = search (rules, c.requires.room.none) in
-    AllZip-nil _ _ _ none no_end
+    AllZip-nil _ _ _
+    (sym c.args.feeders.ok.0 ∙ eqb-true (vec_len c.args.feeders) 0 (sym c.is_empty.ensures ∙ c.if-is_empty.true))
+    (sym c.args.roster.now.ends.ok.0 ∙ c.requires.room.none)
 
-pub returns-in-Ok-clause-ends : goal.returns-in-Ok-clause-ends
-returns-in-Ok-clause-ends g t c =
+pub returns-in-Ok-Some-clause-ends : goal.returns-in-Ok-Some-clause-ends
+returns-in-Ok-Some-clause-ends g t c =
     let last = c.start_last-feeders.ensures in
     let answered = rw c.in-Ok-Some.is-0 at c.with_feeders-answer.ensures.ends in
     let joined = rw c.in-Ok-Some.is-1 at c.join-end.ensures in
     let promised = rw c.in-Some.is at last.promises in
     let kept : Feeds last.feeder.feed.to_come last.feeder.outlets.items c.in-Ok-Some.end =
     rw (← promised.0, ← promised.1) joined in
-    rw (last.split, c.in-Ok.ensures.items) (AllZip-push _ _ _ _ _ answered kept)
+    rw (last.split, c.keep_end.ensures.ends) (AllZip-push _ _ _ _ _ answered kept)
 
 pub with_feeders-answer-requires-clause-outlets : goal.with_feeders-answer-requires-clause-outlets
 with_feeders-answer-requires-clause-outlets g t c κs within =
@@ -37,34 +46,31 @@ pub with_feeders-answer-requires-clause-room : goal.with_feeders-answer-requires
 with_feeders-answer-requires-clause-room g t c κs within =
     let last = c.start_last-feeders.ensures in
     let rest = c.start_last-feeders.result.0 in
-    let count : length c.args.feeders.items ≡ length rest.items + 1 =
-    ap length last.split ∙ length-append rest.items (last.feeder ∷ []) in
+    let count : c.args.feeders.len ≡ rest.len + 1 =
+    c.args.feeders.ok.0 ∙ length-last c.args.feeders.items rest.items last.feeder last.split
+    ∙ ap (λ (n : ℕ). n + 1) (sym rest.ok.0) in
+    let posts : c.args.roster.now.posts.len ≡ c.pop.new.self.len + 1 =
+    c.args.roster.now.posts.ok.0
+    ∙ length-last c.args.roster.now.posts.items c.pop.new.self.items c.unwrap-post.result
+    (rw c.unwrap-post.ensures at c.pop.ensures.items)
+    ∙ ap (λ (n : ℕ). n + 1) (sym c.pop.new.self.ok.0) in
     let room = c.requires.room in
     record {
-      most = omega (arith, count, room.most, rest.ok.0, c.args.feeders.ok.0);
+      most = less-one _ _ _ count room.most;
       none = room.none;
-      room = omega (arith, count, room.room, rest.ok.0, c.args.feeders.ok.0);
-      posts = omega (
-        arith,
-        count,
-        room.posts,
-        ap length c.pop.ensures.items,
-        length-append c.pop.new.self.items (c.unwrap-post.result ∷ []),
-        ap length (rw c.unwrap-post.ensures at c.pop.ensures.items),
-        rest.ok.0,
-        c.args.feeders.ok.0,
-        c.pop.new.self.ok.0,
-        c.args.roster.now.posts.ok.0,
-      );
+      room = less-one _ _ _ count room.room;
+      posts = less-both _ _ _ _ count posts room.posts;
     }
 
-pub unreachable-requires : goal.unreachable-requires
-unreachable-requires g t c =
+pub keep_end-requires : goal.keep_end-requires
+keep_end-requires g t c =
     let last = c.start_last-feeders.ensures in
     let rest = c.start_last-feeders.result.0 in
+    let ends = c.with_feeders-answer.new.roster.ends in
     let answered = rw c.in-Ok-Some.is-0 at c.with_feeders-answer.ensures.ends in
     let room = rw c.in-Ok-Some.is-0 at c.with_feeders-answer.ensures.room in
-    let long = AllZip-long _ _ _ answered in
-    let count : length c.args.feeders.items ≡ length rest.items + 1 =
-    ap length last.split ∙ length-append rest.items (last.feeder ∷ []) in
-    search (rules, long, room, count)
+    let count : c.args.feeders.len ≡ rest.len + 1 =
+    c.args.feeders.ok.0 ∙ length-last c.args.feeders.items rest.items last.feeder last.split
+    ∙ ap (λ (n : ℕ). n + 1) (sym rest.ok.0) in
+    room-for _ _ ends.len _ _ count (rest.ok.0 ∙ sym (AllZip-long _ _ _ answered) ∙ sym ends.ok.0)
+    c.requires.room.room room

@@ -1,4 +1,4 @@
-use Rattle.std.proofs.Common.{arith, refl}
+use Rattle.std.proofs.Common.{arith, ap, refl, length}
 use Rattle.cube_feeders.proofs.WireLaws.{connects-more}
 use Rattle.cube_feeders.proofs.wiring.connect.Goals as goal
 
@@ -16,3 +16,11 @@ loop-gatherer-preserved g c =
       unsent = c.in_ok-outlet.ensures.sent;
       builder = refl;
     }))
+
+pub loop-gatherer-init : goal.loop-gatherer-init
+loop-gatherer-init g c = record {
+  same_length = refl;
+  width = ap length c.in_ok-outlets.ensures.items;
+  each = λ j d o below. absurd (omega (arith, below));
+  others = λ j d from. refl;
+}

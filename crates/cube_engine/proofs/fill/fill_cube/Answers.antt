@@ -1,6 +1,6 @@
 use Rattle.cube_engine.specs.Ledger.{all_facts}
 use Rattle.cube_engine.proofs.FillLaws.{HasFacts-filled, IsCubeOfAll-gained}
-use Rattle.cube_engine.proofs.parted.fill_cube.Goals as goal
+use Rattle.cube_engine.proofs.fill.fill_cube.Goals as goal
 
 pub fill-requires-2-clause-facts : goal.fill-requires-2-clause-facts
 fill-requires-2-clause-facts c =
