@@ -6,7 +6,7 @@ ghost use Rattle.std.specs.Prelude.{Result};
 ghost use Rattle.cube_core.specs.Items.{field_at};
 ghost use Rattle.cube_core.specs.Query.{Says, place_of};
 ghost use Rattle.cube_core.specs.declared.query.QueryFault.{QueryFault as TheFault};
-ghost use Rattle.cube_live.specs.Request.{cell_and_dimension, drill_by, drill_request, of_width, question_of, refusals_asked, request_of, roll_up_request, slice_request};
+ghost use Rattle.cube_live.specs.Request.{cell_and_dimension, drill_by, drill_request, of_width, question_of, refusals_asked, refusals_by, request_of, roll_up_request, slice_request};
 
 use crate::number::{count_of, source_of};
 use crate::request::{Question, Request, RequestFault};
@@ -196,13 +196,16 @@ fn refusals_asked(fields: &ByteRecord) -> Request
     if fields.len() == 1 {
         return Request::Ask(Question::Refusals);
     }
-    if fields.len() != 3 {
-        return Request::Wrong(RequestFault::Shape);
-    }
-    match (
-        source_of(field_at(fields, 1)),
-        count_of(field_at(fields, 2)),
-    ) {
+    let source = source_of(field_at(fields, 1));
+    let number = count_of(field_at(fields, 2));
+    of_width(fields, 3, refusals_by(source, number))
+}
+
+// The refusals of a source after a record of it.
+fn refusals_by(source: Option<u32>, number: Option<u64>) -> Request
+    ensures { result ≡ refusals_by source number }
+{
+    match (source, number) {
         (Some(source), Some(number)) => Request::Ask(Question::RefusalsAfter(source, number)),
         _ => Request::Wrong(RequestFault::Shape),
     }

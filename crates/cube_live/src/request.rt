@@ -2,7 +2,7 @@
 use cube_core::{Key, Pattern, QueryFault};
 
 /// What is asked of the cube and of the refusals at one moment.
-#[derive(Debug, Drop)]
+#[derive(Drop)]
 pub enum Question {
     /// The whole cube.
     Print,
@@ -32,7 +32,7 @@ pub enum RequestFault {
 }
 
 /// What a record of a session asks.
-#[derive(Debug, Drop)]
+#[derive(Drop)]
 pub enum Request {
     /// A change of a source, 1 to 64, which the other fields say.
     Change(u32),

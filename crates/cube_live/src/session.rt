@@ -7,16 +7,17 @@ ghost use Rattle.cube_feed.specs.Reading.{Advances};
 ghost use Rattle.cube_core.specs.Items.{is_read};
 ghost use Rattle.cube_core.specs.Layout.{Layout};
 ghost use Rattle.cube_live.specs.Keeping.{EndsIn, FailsKept, KeepsOn, keeping_after, keeping_changed, keeping_with, made_sure, with_change};
-ghost use Rattle.cube_live.specs.Live.{CanAsk, LiveStandsAt, TakesChange};
+ghost use Rattle.cube_live.specs.Live.{CanAsk, LiveStandsAt, TakesChange, TakesNext};
 ghost use Rattle.cube_live.specs.Serving.{ExplainsChange, IsInputFault, IsJournalFault, Replied, ReplyFails, Serves, ServingFails, WritesNone, WritesPart, WritesReply, BreaksReply};
 ghost use Rattle.cube_live.specs.declared.request.Request.TheVariants as request;
 
 use crate::journal::{Journal, JournalFault};
-use crate::live::{Live, LiveFault};
+use crate::live::Live;
 use crate::parse::request_of;
 use crate::reply::{code_line, ok_line};
 use crate::request::{Question, Request, RequestFault};
 use csv::ByteRecord;
+use cube_core::{Change, LineFault};
 use cube_feed::{FeedFault, RecordReader, change_of_record, is_read, put_rest};
 use cube_text::write_whole;
 use std::alloc::{AllocError, Global};
@@ -237,10 +238,24 @@ fn change<J: Journal>(
     }
     note(journal, source, fields)?;
     let what = change_of_record(alloc, live.schema(), rest)?;
+    apply(live, source, what)
+}
+
+// Has the cube take what a record says of a source that has room for it, which only want of memory can refuse.
+fn apply(
+    live: &mut Live<'_>,
+    source: u32,
+    what: Result<Change, LineFault>,
+) -> Result<(), SessionFault>
+    requires first { 1 ≤ source }
+    requires last { source ≤ 64 }
+    ensures takes { OnOk result (TakesNext source what live.old live.new) }
+    ensures fault { IfErr result (λ fault. fault ≡ SessionFault.Full) }
+    ensures schema { live.new.schema ≡ live.old.schema }
+{
     match live.apply(source, what) {
         Ok(()) => Ok(()),
-        Err(LiveFault::TooMany) => Err(SessionFault::TooMany(source)),
-        Err(LiveFault::Memory) => Err(SessionFault::Full),
+        Err(_) => Err(SessionFault::Full),
     }
 }
 

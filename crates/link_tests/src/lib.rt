@@ -1,8 +1,7 @@
-//! Links on one thread and between two.
+//! Tests of links, on one thread and between two.
 #![tactic(auto)]
 
+#[cfg(test)]
 mod crossing;
 #[cfg(test)]
 mod tests;
-
-pub use crossing::cross;

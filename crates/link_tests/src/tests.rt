@@ -1,6 +1,7 @@
 //! What crosses a link, on one thread and between two, ends dropped early, and what may move to another thread.
-use crate::cross;
+use crate::crossing::cross;
 use cube_link::{Inlet, Outlet, Receipt, link};
+use std::alloc::Global;
 use std::sync::Arc;
 use std::test::Fail;
 
@@ -23,14 +24,12 @@ fn numbers_cross_in_order(rt: HostRuntime) -> Result<(), Fail> {
 #[test]
 fn a_full_link_gives_the_item_back(rt: HostRuntime) -> Result<(), Fail> {
     let (mut outlet, mut inlet) = link(rt.alloc(), 2)?;
-    assert_eq!(rt; outlet.offer(1u64), Ok(()));
-    assert_eq!(rt; outlet.offer(2), Ok(()));
-    assert_eq!(rt; outlet.offer(3), Err(3));
+    let offered = [outlet.offer(1u64), outlet.offer(2), outlet.offer(3)];
+    assert_eq!(rt; offered, [Ok(()), Ok(()), Err(3)]);
     assert_eq!(rt; inlet.take(), Some(1));
     assert_eq!(rt; outlet.offer(3), Ok(()));
-    assert_eq!(rt; inlet.take(), Some(2));
-    assert_eq!(rt; inlet.take(), Some(3));
-    assert_eq!(rt; inlet.take(), None);
+    let taken = [inlet.take(), inlet.take(), inlet.take()];
+    assert_eq!(rt; taken, [Some(2), Some(3), None]);
     let mut receipt = outlet.finish().expect(&rt, "a receipt");
     assert_eq!(rt; inlet.left_after(&mut receipt), 0);
     Ok(())
@@ -39,29 +38,44 @@ fn a_full_link_gives_the_item_back(rt: HostRuntime) -> Result<(), Fail> {
 #[test]
 fn what_a_receipt_leaves_is_taken(rt: HostRuntime) -> Result<(), Fail> {
     let (mut outlet, mut inlet) = link(rt.alloc(), 2)?;
-    assert_eq!(rt; outlet.offer(7u64), Ok(()));
-    assert_eq!(rt; outlet.offer(8), Ok(()));
+    assert_eq!(rt; [outlet.offer(7u64), outlet.offer(8)], [Ok(()), Ok(())]);
     let mut receipt = outlet.finish().expect(&rt, "a receipt");
     assert!(rt; inlet.left_after(&mut receipt) == 2);
-    assert_eq!(rt; inlet.take_known(), 7);
-    assert_eq!(rt; inlet.take_known(), 8);
+    assert_eq!(rt; [inlet.take_known(), inlet.take_known()], [7, 8]);
     assert_eq!(rt; inlet.left_after(&mut receipt), 0);
     assert_eq!(rt; inlet.take(), None);
     Ok(())
 }
 
+// A link of three items, of which two are there, each a share of the item.
+fn link_of_shares(
+    alloc: Global,
+    item: &Arc<u64>,
+) -> Result<(Outlet<Arc<u64>>, Inlet<Arc<u64>>), Fail> {
+    let (first, second) = (Arc::try_clone(item)?, Arc::try_clone(item)?);
+    let (mut outlet, inlet) = link(alloc, 3)?;
+    if outlet.offer(first).is_err() || outlet.offer(second).is_err() {
+        return Err(Fail::new("the link is full"));
+    }
+    Ok((outlet, inlet))
+}
+
 #[test]
-fn items_in_the_ring_are_dropped_with_it(rt: HostRuntime) -> Result<(), Fail> {
+fn items_in_the_ring_are_dropped_with_the_outlet(rt: HostRuntime) -> Result<(), Fail> {
     let item = Arc::new(rt.alloc(), 5u64)?;
-    let (mut outlet, inlet) = link(rt.alloc(), 3)?;
-    assert!(rt; outlet.offer(Arc::try_clone(&item)?).is_ok());
+    let share = Arc::try_clone(&item)?;
+    let (mut outlet, inlet) = link_of_shares(rt.alloc(), &item)?;
     drop(inlet);
-    assert!(rt; outlet.offer(Arc::try_clone(&item)?).is_ok());
+    assert!(rt; outlet.offer(share).is_ok());
     assert!(rt; outlet.finish().is_none());
     assert_eq!(rt; Arc::strong_count(&item), 1);
-    let (mut outlet, mut inlet) = link(rt.alloc(), 3)?;
-    assert!(rt; outlet.offer(Arc::try_clone(&item)?).is_ok());
-    assert!(rt; outlet.offer(Arc::try_clone(&item)?).is_ok());
+    Ok(())
+}
+
+#[test]
+fn items_in_the_ring_are_dropped_with_the_inlet(rt: HostRuntime) -> Result<(), Fail> {
+    let item = Arc::new(rt.alloc(), 5u64)?;
+    let (outlet, mut inlet) = link_of_shares(rt.alloc(), &item)?;
     drop(outlet);
     assert!(rt; inlet.take().is_some());
     assert_eq!(rt; Arc::strong_count(&item), 2);
