@@ -5,7 +5,6 @@ use crate::fact::Fact;
 use crate::partial::Partial;
 use crate::text::Text;
 use std::alloc::{AllocError, Global};
-use std::fmt;
 use thiserror::Error;
 
 /// A change of the facts of one source, each known by an id of the source's own.
@@ -25,36 +24,23 @@ pub enum Change {
 #[derive(Clone, Copy, Debug, PartialEq, Eq, Error)]
 pub enum LineFault {
     /// The first field is none of the operations.
+    #[error("L1")]
     Op,
     /// The number of fields is wrong.
+    #[error("L2")]
     Fields,
     /// A field that is used isn't UTF-8.
+    #[error("L3")]
     Text,
     /// The id is empty.
+    #[error("L4")]
     Id,
     /// A measure is neither null nor a number.
+    #[error("L5")]
     Measure,
     /// A field of an insert keeps a value, and there is none.
+    #[error("L6")]
     Keep,
-}
-
-impl LineFault {
-    fn code(self) -> &'static str {
-        match self {
-            LineFault::Op => "L1",
-            LineFault::Fields => "L2",
-            LineFault::Text => "L3",
-            LineFault::Id => "L4",
-            LineFault::Measure => "L5",
-            LineFault::Keep => "L6",
-        }
-    }
-}
-
-impl fmt::Display for LineFault {
-    fn fmt<W: fmt::Write>(&self, f: &mut fmt::Formatter<W>) -> fmt::Result {
-        f.write_str(self.code())
-    }
 }
 
 /// An item of a feed: the number of its record, from 1, and the change that the record spells.

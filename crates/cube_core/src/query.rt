@@ -6,46 +6,32 @@ use crate::key::Key;
 use crate::schema::Schema;
 use crate::schema_toml::position_of;
 use std::alloc::{AllocError, AllocFailed};
-use std::fmt;
 use thiserror::Error;
 
 /// Why a query is refused. The text of each is its code.
 #[derive(Clone, Copy, Debug, PartialEq, Eq, Error)]
 pub enum QueryFault {
     /// A word isn't exactly one record with one field for each dimension.
+    #[error("P1")]
     Fields,
     /// A field of a word is neither `?`, `\A` nor `\N`, nor begins with `=`.
+    #[error("P2")]
     Field,
     /// A cell is wanted, and the pattern leaves a dimension open by `?`.
+    #[error("P3")]
     NotCell,
     /// A drill-down goes along a dimension that isn't ALL in the cell.
+    #[error("P4")]
     NotRolled,
     /// A name is that of no dimension.
+    #[error("P5")]
     UnknownDimension,
     /// Memory ran out, which says nothing of the query.
+    #[error("P6")]
     Memory,
     /// A drill-down leads to a grouping set that the schema doesn't keep.
+    #[error("P7")]
     NotGrouped,
-}
-
-impl QueryFault {
-    fn code(self) -> &'static str {
-        match self {
-            QueryFault::Fields => "P1",
-            QueryFault::Field => "P2",
-            QueryFault::NotCell => "P3",
-            QueryFault::NotRolled => "P4",
-            QueryFault::UnknownDimension => "P5",
-            QueryFault::Memory => "P6",
-            QueryFault::NotGrouped => "P7",
-        }
-    }
-}
-
-impl fmt::Display for QueryFault {
-    fn fmt<W: fmt::Write>(&self, f: &mut fmt::Formatter<W>) -> fmt::Result {
-        f.write_str(self.code())
-    }
 }
 
 impl From<AllocError> for QueryFault {
