@@ -1,4 +1,5 @@
 use Rattle.std.proofs.Common.{◌≡◌, ◌+◌, ◌-◌, ◌∷◌, ℕ, get_or, drop, add-one, drop-cons, refl, arith}
+use Rattle.std.proofs.lemmas.Grind.{common_steps}
 use Rattle.std.proofs.lemmas.List.{drop-drop, length-append}
 use Rattle.std.proofs.lemmas.List.Sums.{sum_by-cons}
 use Rattle.std.proofs.lemmas.Str.{IsAscii-take, IsAscii-drop}
@@ -37,3 +38,15 @@ loop-len-preserved c =
           (AddsAll-more block loop.spans.items c.span_of.result loop.end len rest _ was.0
           (lies (IsAscii-take (drop loop.end block) ((loop.end + len) - loop.end) ascii)) value (rw next at was.1))),
     )
+
+pub overflow_add-end : goal.overflow_add-end
+overflow_add-end c = grind (arith, common_steps)
+
+pub push-requires : goal.push-requires
+push-requires c = grind (arith, common_steps)
+
+pub span_of-requires : goal.span_of-requires
+span_of-requires c = grind (arith, common_steps)
+
+pub returns-clause-added : goal.returns-clause-added
+returns-clause-added c = grind (arith, common_steps)

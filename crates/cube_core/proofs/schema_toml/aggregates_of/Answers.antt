@@ -1,5 +1,6 @@
-use Rattle.std.proofs.Common.{◌≡◌, ℕ, ◌+◌, ◌<◌, Bool, true, List, [], ◌∷◌, ◌++◌, length, get_or, drop, drop-cons}
+use Rattle.std.proofs.Common.{◌≡◌, ℕ, ◌+◌, ◌<◌, Bool, true, List, [], ◌∷◌, ◌++◌, length, get_or, drop, drop-cons, arith}
 use Rattle.std.proofs.Common.{add-one, suc, Option, Some, is_some, refl, sym, ap, ◌∙◌, append_assoc}
+use Rattle.std.proofs.lemmas.Grind.{common_steps}
 use Rattle.std.specs.List.{filter_map, list_all}
 use Rattle.std.proofs.lemmas.List.{at_drop_all, append-nil}
 use Rattle.cube_core.specs.SchemaDocument.{aggregate_spelled, are_spellings}
@@ -47,3 +48,6 @@ returns c = (
   sym c.loop-text.invariant.spelled
       ∙ at_drop_all (are_spellings c.args.measures.now) c.args.texts.now c.loop-text.text-index c.loop-text-test.false,
 )
+
+pub returns-in_default : goal.returns-in_default
+returns-in_default c = grind (arith, common_steps)

@@ -1,4 +1,5 @@
-use Rattle.std.proofs.Common.{refl, zero-add}
+use Rattle.std.proofs.Common.{refl, zero-add, arith}
+use Rattle.std.proofs.lemmas.Grind.{common_steps}
 use Rattle.cube_core.proofs.SetLaws.{range_with_len-more}
 use Rattle.cube_core.proofs.schema_toml.grouping.all_sets.Goals as goal
 
@@ -10,3 +11,6 @@ loop-set-preserved c =
       range_with_len-more 0 c.loop-set.set,
       zero-add c.loop-set.set,
     ) refl
+
+pub returns : goal.returns
+returns c = grind (arith, common_steps)

@@ -1,4 +1,5 @@
-use Rattle.std.proofs.Common.{◌≡◌, ◌++◌, ◌∷◌, ℕ, [], map, take, zero-add, rules, ◌∙◌, sym, ap}
+use Rattle.std.proofs.Common.{◌≡◌, ◌++◌, ◌∷◌, ℕ, [], map, take, zero-add, rules, ◌∙◌, sym, ap, arith}
+use Rattle.std.proofs.lemmas.Grind.{common_steps}
 use Rattle.std.specs.List.{range_with_len}
 use Rattle.std.proofs.lemmas.List.FromFn.{map-range_with_len_more}
 use Rattle.cube_core.specs.SchemaDocument.{mask_of_names}
@@ -12,3 +13,9 @@ loop-first-preserved c =
     pushed ∙ ap (λ sets. sets ++ c.mask_of_names.result ∷ []) c.loop-first.invariant
     ∙ ap (λ last. map set_of_first (range_with_len 0 c.loop-first.first) ++ last ∷ []) set
     ∙ sym (map-range_with_len_more set_of_first 0 c.loop-first.first c.loop-first.first (zero-add c.loop-first.first))
+
+pub returns : goal.returns
+returns c = grind (arith, common_steps)
+
+pub overflow_add-count : goal.overflow_add-count
+overflow_add-count c = omega arith
