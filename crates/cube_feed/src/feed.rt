@@ -16,7 +16,7 @@ use std::io::Read;
 use std::marker::Model;
 
 /// How far a feed has come.
-#[derive(Clone, Copy, Debug)]
+#[derive(Clone, Copy)]
 enum Stage {
     /// Nothing was read.
     Start,

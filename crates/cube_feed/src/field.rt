@@ -16,7 +16,7 @@ use std::marker::Model;
 use std::str;
 
 /// Why reading a record stopped.
-#[derive(Clone, Copy, Debug, PartialEq, Eq)]
+#[derive(Clone, Copy)]
 pub(crate) enum Stop {
     /// A growth was refused.
     Memory,

@@ -1,4 +1,4 @@
-use Rattle.std.proofs.Common.{arith, length-drop, length-take}
+use Rattle.std.proofs.Common.{arith, length-drop, length-take, rules}
 use Rattle.cube_text.proofs.AppendLaws.{Appends-take}
 use Rattle.cube_text.proofs.write.send.Goals as goal
 
@@ -8,3 +8,9 @@ loop-sent-preserved g c =
       omega arith,
       Appends-take _ _ _ c.args.bytes.now _ _ c.loop-sent.invariant.1 c.in-Ok.ensures.bytes,
     )
+
+pub returns-in_default-clause-part : goal.returns-in_default-clause-part
+returns-in_default-clause-part g c = search rules
+
+pub returns-in_default-2-clause-part : goal.returns-in_default-2-clause-part
+returns-in_default-2-clause-part g c = search rules

@@ -1,4 +1,5 @@
 use Rattle.std.proofs.Common.{◌≡◌, ◌<◌, rules, arith, sym, subst, length}
+use Rattle.std.proofs.lemmas.Grind.{common_steps}
 use Rattle.std.specs.Io.KnownBytes.{Consumes}
 use Rattle.cube_core.specs.Text.{row_line}
 use Rattle.cube_merge.specs.Faults.{HasMore, HasRowBelow}
@@ -28,3 +29,9 @@ returns-then-not-is_after-clause-err g c =
             below = c.is_after.ensures.below c.if-not-is_after.true;
           }),
     )
+
+pub returns-then-is_empty-clause-ok : goal.returns-then-is_empty-clause-ok
+returns-then-is_empty-clause-ok g c = grind (arith, common_steps)
+
+pub returns-then-not-is_complete-clause-err : goal.returns-then-not-is_complete-clause-err
+returns-then-not-is_complete-clause-err g c = grind (arith, common_steps)
