@@ -219,7 +219,7 @@ pub fn level_from<N: Numbers>(
 }
 
 // Puts the levels at the end, if each of them was made.
-pub(super) fn push_levels<N: Numbers>(
+fn push_levels<N: Numbers>(
     levels: &mut Vec<Level<N>>,
     made: Vec<Result<Level<N>, AllocError>>,
 ) -> Result<(), AllocError>

@@ -8,7 +8,7 @@ ghost use Rattle.cube_cells.specs.Shares.{AreCoded, AreFinestCells, AreJoined, I
 use super::Cube;
 use super::codes::{ALL, Codes};
 use super::dictionary::Dictionary;
-use super::fill::{finest_of, push_levels};
+use super::fill::finest_of;
 use super::levels::{Level, one_level};
 use super::walk::gather_at;
 use crate::cell::Cell;
@@ -116,7 +116,7 @@ fn coded_facts<'f, T: Threads + Sync>(
     ensures coded { IfOk result AreCoded }
 {
     let made = made_columns(rt, threads, alloc, schema, facts)?;
-    let columns = columns_of(alloc, made)?;
+    let columns = all_made(alloc, made)?;
     Ok(CodedFacts {
         schema: schema.copy(alloc)?,
         facts,
@@ -169,18 +169,16 @@ fn columns_in_turn(
     Ok(made)
 }
 
-// The columns, if each of them was made.
-fn columns_of(
-    alloc: Global,
-    made: Vec<Result<Column, AllocError>>,
-) -> Result<Vec<Column>, AllocError>
-    ensures { IfOk result (λ columns. map Ok columns.items ≡ made.items) }
+// What was made, if each of it was.
+fn all_made<X: Drop>(alloc: Global, made: Vec<Result<X, AllocError>>) -> Result<Vec<X>, AllocError>
+    ensures { IfOk result (λ all. map Ok all.items ≡ made.items) }
 {
-    let mut columns = Vec::with_capacity(alloc, made.len())?;
-    for column in made {
-        columns.push(column?)?;
+    let mut all = Vec::with_capacity(alloc, made.len())?;
+    for one in made {
+        let one = one?;
+        all.push(one)?;
     }
-    Ok(columns)
+    Ok(all)
 }
 
 // The codes of facts in a dimension.
@@ -229,8 +227,7 @@ fn finest_cells<T: Threads + Sync, N: Numbers + Send + Sync>(
         return Ok(share_cells(alloc, coded, 0, 1)?.cells);
     }
     let made = made_shares(rt, alloc, coded, threads)?;
-    let mut levels = Vec::with_capacity(alloc, threads)?;
-    push_levels(&mut levels, made)?;
+    let levels = all_made(alloc, made)?;
     joined(alloc, levels)
 }
 
