@@ -175,7 +175,8 @@ fn all_made<X: Drop>(alloc: Global, made: Vec<Result<X, AllocError>>) -> Result<
 {
     let mut all = Vec::with_capacity(alloc, made.len())?;
     for one in made {
-        all.push(one?)?;
+        let one = one?;
+        all.push(one)?;
     }
     Ok(all)
 }
