@@ -13,6 +13,7 @@ loop-preserved c =
     rw c.in_ok-push.ensures.items (record {
       long = omega (arith, so_far.long, length-append used (true ∷ []));
       used = below_more (λ k. get_or (used ++ true ∷ []) k false ≡ true) c.loop.counter
-          (λ k below. rw (get_or-append used (true ∷ []) false k (omega (arith, below, so_far.long))) (so_far.used k below))
+          (λ k below. rw (get_or-append used (true ∷ []) false k (omega (arith, below, so_far.long)))
+          (so_far.used k below))
           (rw (← so_far.long) (get_or-append_seam used true [] false));
     })
