@@ -59,3 +59,19 @@ loop-init g c = record {
   taken = search rules;
   goes_on = rw c.clear.ensures.items (LineGoesOn-none (reader_remaining g.R.Read.remaining c.args.reader.now));
 }
+
+pub returns-then-taken-eq0-clause-taken : goal.returns-then-taken-eq0-clause-taken
+returns-then-taken-eq0-clause-taken g c =
+    let remaining = reader_remaining g.R.Read.remaining in
+    subst (Consumes (remaining c.args.reader.now) (remaining c.read_until.new.self))
+    (sym (starts_with_rest c.read_until.new.buf.items c.loop.line.items c.in-Ok.ensures.appends))
+    (Consumes-trans (remaining c.args.reader.now) (remaining c.loop.reader) (remaining c.read_until.new.self)
+    c.loop.line.items _ c.loop.invariant.taken c.in-Ok.ensures.none_lost)
+
+pub returns-then-not-is_quoted-clause-taken : goal.returns-then-not-is_quoted-clause-taken
+returns-then-not-is_quoted-clause-taken g c =
+    let remaining = reader_remaining g.R.Read.remaining in
+    subst (Consumes (remaining c.args.reader.now) (remaining c.read_until.new.self))
+    (sym (starts_with_rest c.read_until.new.buf.items c.loop.line.items c.in-Ok.ensures.appends))
+    (Consumes-trans (remaining c.args.reader.now) (remaining c.loop.reader) (remaining c.read_until.new.self)
+    c.loop.line.items _ c.loop.invariant.taken c.in-Ok.ensures.none_lost)

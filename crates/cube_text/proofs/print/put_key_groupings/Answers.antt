@@ -6,6 +6,7 @@ use Rattle.cube_text.proofs.print.put_key_groupings.Goals as goal
 
 pub loop-dimension-preserved : goal.loop-dimension-preserved
 loop-dimension-preserved g c =
-    AddsFields-more grouping_text c.args.cell.now.0.coords c.loop-dimension.dimension coord.All c.grouping_field.result.now _ _
-    c.put_field.new.lines (rw c.dimensions-dimension-end.ensures at c.loop-dimension-test.true)
+    AddsFields-more grouping_text c.args.cell.now.0.coords c.loop-dimension.dimension coord.All
+    c.grouping_field.result.now _ _ c.put_field.new.lines
+    (rw c.dimensions-dimension-end.ensures at c.loop-dimension-test.true)
     (c.grouping_field.ensures ∙ ap grouping_text c.coord.ensures) c.loop-dimension.invariant c.in_ok-put_field.ensures
