@@ -279,6 +279,7 @@ fn put_new(facts: &mut Facts, id: Text, fact: Fact) -> Result<bool, AllocError>
         place.insert(fact);
         return Ok(true);
     }
+    drop(fact);
     Ok(false)
 }
 
