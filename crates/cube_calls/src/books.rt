@@ -1,9 +1,9 @@
 //! Calls of a book: `apply RECORD` (what went and what came, or the fault; no amendment), `get ID` and `len`.
 use crate::facts::item_of;
 use crate::script::{Printout, words_of};
-use anyhow::{Result, bail};
+use anyhow::{Result, bail, ensure};
 use cube_core::{Change, Fact, HashKey, Schema, Text};
-use cube_engine::{Book, BookFault, Delta};
+use cube_engine::{Book, Delta};
 use std::alloc::{AllocError, Global};
 
 /// Does the calls on a book.
@@ -46,24 +46,16 @@ fn apply_record(
 }
 
 fn apply_change(book: &mut Book, change: Change, out: &mut Printout) -> Result<()> {
-    match apply(book, change)? {
-        Ok(delta) => Ok(answer_delta(&delta, out)?),
-        Err(fault) => Ok(out.answer(fault)?),
-    }
+    ensure!(!matches!(change, Change::Amend { .. }), "an amendment");
+    let answered = match book.apply(change) {
+        Ok(delta) => answer_delta(&delta, out),
+        Err(fault) => out.answer(fault),
+    };
+    Ok(answered?)
 }
 
 fn answer_found(book: &Book, id: &Text, out: &mut Printout) -> Result<()> {
-    answer_fact("", book.get(id), out)?;
-    Ok(())
-}
-
-fn apply(book: &mut Book, change: Change) -> Result<Result<Delta, BookFault>> {
-    match change {
-        Change::Insert { id, fact } => Ok(book.apply(Change::Insert { id, fact })),
-        Change::Update { id, fact } => Ok(book.apply(Change::Update { id, fact })),
-        Change::Delete { id } => Ok(book.apply(Change::Delete { id })),
-        Change::Amend { .. } => bail!("an amendment"),
-    }
+    Ok(answer_fact("", book.get(id), out)?)
 }
 
 fn answer_delta(delta: &Delta, out: &mut Printout) -> Result<(), AllocError> {

@@ -20,9 +20,20 @@ pub fn run(
 ) -> Result<()> {
     ensure!(sources <= 64, "more than 64 sources");
     let mut builder = Builder::new(alloc, schema, sources)?;
+    obey_all(alloc, schema, foreign, &mut builder, calls, out)
+}
+
+fn obey_all(
+    alloc: Global,
+    schema: &Schema,
+    foreign: &Schema,
+    builder: &mut Builder,
+    calls: &str,
+    out: &mut Printout,
+) -> Result<()> {
     for call in calls.lines() {
         out.next_line();
-        obey(alloc, schema, foreign, &mut builder, call, out)?;
+        obey(alloc, schema, foreign, builder, call, out)?;
     }
     Ok(())
 }
@@ -35,16 +46,16 @@ fn obey(
     call: &str,
     out: &mut Printout,
 ) -> Result<()> {
-    match words_of(call) {
-        ("apply", words) => apply(alloc, schema, builder, words)?,
-        ("foreign", words) => apply(alloc, foreign, builder, words)?,
-        ("facts", "") => out.answer(builder.facts())?,
-        ("sources", "") => out.answer(builder.sources())?,
-        ("rows", "") => answer_rows(alloc, builder.cube(), out)?,
-        ("refusals", "") => answer_refusals(builder, out)?,
+    let answered = match words_of(call) {
+        ("apply", words) => return apply(alloc, schema, builder, words),
+        ("foreign", words) => return apply(alloc, foreign, builder, words),
+        ("facts", "") => out.answer(builder.facts()),
+        ("sources", "") => out.answer(builder.sources()),
+        ("rows", "") => answer_rows(alloc, builder.cube(), out),
+        ("refusals", "") => answer_refusals(builder, out),
         _ => bail!("no call of a builder"),
-    }
-    Ok(())
+    };
+    Ok(answered?)
 }
 
 // Hands a builder the item of a record under a schema, and once more where memory was wanting.
@@ -66,8 +77,7 @@ fn hand_over(
     number: u32,
     record: &str,
 ) -> Result<()> {
-    ensure!(source >= 1, "no such source");
-    ensure!(source <= builder.sources(), "no such source");
+    ensure!(1 <= source && source <= builder.sources(), "no such source");
     ensure!(builder.facts() < u64::MAX, "too many facts");
     let mut item = item_of(alloc, schema, record)?;
     item.number = number;

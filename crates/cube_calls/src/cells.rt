@@ -31,11 +31,21 @@ fn obey(
     ensures { OnOk result (length cell.new.bags ≡ length cell.old.bags) }
 {
     match words_of(call) {
-        ("add", fields) => add_or_again(cell, &measured(alloc, schema, fields)?),
-        ("remove", fields) => remove(cell, &measured(alloc, schema, fields)?, out),
-        ("holds", fields) => answer_held(cell, &measured(alloc, schema, fields)?, out),
         ("count", "") => Ok(out.answer(cell.count())?),
-        ("answers", place) => answers(schema, cell, place.parse()?, out),
+        ("answers", place) => answers(schema, cell, place, out),
+        (verb, fields) => obey_with(cell, verb, &measured(alloc, schema, fields)?, out),
+    }
+}
+
+// A call with a fact.
+fn obey_with(cell: &mut Cell, verb: &str, fact: &Fact, out: &mut Printout) -> Result<()>
+    requires { length fact.now.measures ≡ length cell.old.bags }
+    ensures { length cell.new.bags ≡ length cell.old.bags }
+{
+    match verb {
+        "add" => add_or_again(cell, fact),
+        "remove" => remove(cell, fact, out),
+        "holds" => answer_held(cell, fact, out),
         _ => bail!("no call of a cell"),
     }
 }
@@ -90,9 +100,10 @@ fn answer_held(cell: &Cell, fact: &Fact, out: &mut Printout) -> Result<()>
     Ok(())
 }
 
-fn answers(schema: &Schema, cell: &Cell, place: usize, out: &mut Printout) -> Result<()>
+fn answers(schema: &Schema, cell: &Cell, word: &str, out: &mut Printout) -> Result<()>
     requires { length cell.now.bags ≡ length schema.now.measures }
 {
+    let place = word.parse()?;
     ensure!(place < schema.measures().len(), "no such measure");
     answers_at(cell, place, out)?;
     Ok(())

@@ -10,25 +10,41 @@ use std::mem::swap;
 pub fn run(alloc: Global, calls: &str, out: &mut Printout) -> Result<()> {
     let mut values = Counted::new(alloc);
     let mut other = Counted::new(alloc);
+    obey_all(&mut values, &mut other, calls, out)
+}
+
+fn obey_all(
+    values: &mut Counted,
+    other: &mut Counted,
+    calls: &str,
+    out: &mut Printout,
+) -> Result<()> {
     for call in calls.lines() {
         out.next_line();
-        obey(&mut values, &mut other, call, out)?;
+        obey(values, other, call, out)?;
     }
     Ok(())
 }
 
 fn obey(values: &mut Counted, other: &mut Counted, call: &str, out: &mut Printout) -> Result<()> {
     match words_of(call) {
-        ("add", value) => add_or_again(values, value.parse()?)?,
-        ("remove", value) => out.answer(values.remove(value.parse()?))?,
-        ("holds", value) => out.answer(values.holds(value.parse()?))?,
         ("shrink", "") => values.shrink_to_fit(),
         ("show", "") => show(values, out)?,
         ("merge", "") => merge(values, other)?,
         ("swap", "") => swap(values, other),
-        _ => bail!("no call of a multiset"),
+        (verb, value) => obey_with(values, verb, value.parse()?, out)?,
     }
     Ok(())
+}
+
+// A call with a number.
+fn obey_with(values: &mut Counted, verb: &str, value: i64, out: &mut Printout) -> Result<()> {
+    match verb {
+        "add" => add_or_again(values, value),
+        "remove" => Ok(out.answer(values.remove(value))?),
+        "holds" => Ok(out.answer(values.holds(value))?),
+        _ => bail!("no call of a multiset"),
+    }
 }
 
 // Adds a number, and once more where memory was wanting.

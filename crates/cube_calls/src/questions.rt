@@ -20,18 +20,18 @@ pub fn ask(
 ) -> Result<()>
     requires { cube.now.schema ≡ schema.now }
 {
-    match words_of(call) {
-        ("facts", "") => out.answer(cube.facts())?,
-        ("rows", "") => answer_rows(alloc, cube, out)?,
-        ("holds", fact) => answer_held(cube, &fact_of(alloc, schema, fact)?, out)?,
-        ("get", word) => out.answer_lines(found(alloc, schema, cube, word))?,
-        ("slice", word) => out.answer_lines(sliced(alloc, schema, cube, word))?,
-        ("rollup", words) => out.answer_lines(rolled_up(alloc, schema, cube, words))?,
-        ("drill", words) => out.answer_lines(drilled(alloc, schema, cube, words))?,
-        ("code", words) => out.answer_lines(code_of(alloc, schema, cube, words))?,
+    let answered = match words_of(call) {
+        ("facts", "") => out.answer(cube.facts()),
+        ("rows", "") => answer_rows(alloc, cube, out),
+        ("holds", fact) => return answer_held(cube, &fact_of(alloc, schema, fact)?, out),
+        ("get", word) => out.answer_lines(found(alloc, schema, cube, word)),
+        ("slice", word) => out.answer_lines(sliced(alloc, schema, cube, word)),
+        ("rollup", words) => out.answer_lines(rolled_up(alloc, schema, cube, words)),
+        ("drill", words) => out.answer_lines(drilled(alloc, schema, cube, words)),
+        ("code", words) => out.answer_lines(code_of(alloc, schema, cube, words)),
         _ => bail!("no call of a cube"),
-    }
-    Ok(())
+    };
+    Ok(answered?)
 }
 
 /// Prints the rows of a cube.
@@ -41,8 +41,8 @@ pub fn answer_rows(alloc: Global, cube: &Cube, out: &mut Printout) -> Result<(),
     out.text.push_str(text.as_str())
 }
 
-fn answer_held(cube: &Cube, fact: &Fact, out: &mut Printout) -> Result<(), AllocError> {
-    out.answer(cube.holds(fact))
+fn answer_held(cube: &Cube, fact: &Fact, out: &mut Printout) -> Result<()> {
+    Ok(out.answer(cube.holds(fact))?)
 }
 
 fn found(alloc: Global, schema: &Schema, cube: &Cube, word: &str) -> Result<String, QueryFault> {

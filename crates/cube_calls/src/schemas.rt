@@ -10,16 +10,21 @@ use std::alloc::{AllocError, Global};
 pub fn run(alloc: Global, schema: &Schema, calls: &str, out: &mut Printout) -> Result<()> {
     for call in calls.lines() {
         out.next_line();
-        match words_of(call) {
-            ("show", "") => show(schema, &mut out.text)?,
-            ("place", name) => out.answer_or(place_of(schema, name))?,
-            ("keeps", word) => out.answer_or(keeps(alloc, schema, word))?,
-            ("cell", word) => out.answer_lines(cell(alloc, schema, word))?,
-            ("matches", words) => out.answer_or(matches(alloc, schema, words))?,
-            _ => bail!("no call of a schema"),
-        }
+        obey(alloc, schema, call, out)?;
     }
     Ok(())
+}
+
+fn obey(alloc: Global, schema: &Schema, call: &str, out: &mut Printout) -> Result<()> {
+    let answered = match words_of(call) {
+        ("show", "") => show(schema, &mut out.text),
+        ("place", name) => out.answer_or(place_of(schema, name)),
+        ("keeps", word) => out.answer_or(keeps(alloc, schema, word)),
+        ("cell", word) => out.answer_lines(cell(alloc, schema, word)),
+        ("matches", words) => out.answer_or(matches(alloc, schema, words)),
+        _ => bail!("no call of a schema"),
+    };
+    Ok(answered?)
 }
 
 fn keeps(alloc: Global, schema: &Schema, word: &str) -> Result<bool, QueryFault> {
@@ -55,12 +60,17 @@ fn show(schema: &Schema, text: &mut String) -> Result<(), AllocError> {
     push_names(text, "dimensions", schema.dimensions())?;
     push_names(text, "measures", schema.measures())?;
     push_names(text, "aggregates", schema.aggregate_texts())?;
+    push_sets(text, schema.grouping_sets())?;
+    let (max_records, version) = (schema.max_records(), schema.version());
+    write!(text, "max_records {max_records}\nversion {version}\n")
+}
+
+fn push_sets(text: &mut String, sets: &[u8]) -> Result<(), AllocError> {
     text.push_str("sets")?;
-    for set in schema.grouping_sets() {
+    for set in sets {
         write!(text, " {set}")?;
     }
-    write!(text, "\nmax_records {}\n", schema.max_records())?;
-    write!(text, "version {}\n", schema.version())
+    text.push_str("\n")
 }
 
 fn push_names(text: &mut String, title: &str, names: &[Text]) -> Result<(), AllocError> {

@@ -44,11 +44,6 @@ impl Printout {
         }
     }
 
-    /// Prints an answer, or `none`, as a line.
-    pub fn answer_some<A: Display + Drop>(&mut self, answer: Option<A>) -> Result<(), AllocError> {
-        self.answer_or(answer.ok_or("none"))
-    }
-
     /// Prints lines, or a fault as one.
     pub fn answer_lines<F: Display + Drop>(
         &mut self,

@@ -23,6 +23,33 @@ use std::thread::Threads;
 use std::time::Clock;
 use stored_tool::{StoredFailure, StoredFeeds, ask_stored, live_stored};
 
+/// Where a store is, and how it starts.
+#[derive(Drop)]
+struct Place<'p, S: Start> {
+    path: &'p str,
+    start: S,
+}
+
+/// The feeds of a command, opened, and what a store notes of them.
+#[derive(Drop)]
+struct NotedFeeds<'c> {
+    readers: Vec<FeedReader<'c, File>>,
+    notes: Vec<FeedNote>,
+}
+
+impl<'c> NotedFeeds<'c> {
+    /// The feeds, before the changes of a store.
+    fn before<D: Disk>(self, store: FileStore<D>) -> StoredFeeds<FeedReader<'c, File>, D>
+        ensures { vec_len result.readers ≡ vec_len self.entry.readers }
+    {
+        StoredFeeds {
+            readers: self.readers,
+            notes: self.notes,
+            store,
+        }
+    }
+}
+
 /// Serves the records of standard input over a cube that is kept right, and keeps their changes in the store at a path.
 pub(crate) fn serve_kept<T: Threads + Wait + Clock + Sync>(
     rt: &HostRuntime,
@@ -35,22 +62,29 @@ pub(crate) fn serve_kept<T: Threads + Wait + Clock + Sync>(
     requires room { LiveHasRoom words.now }
     requires feeds { length words.now.feeds.items ≤ 64 }
 {
-    let (readers, notes) = noted_feeds(rt, words.schema, &words.feeds, progress.counts())?;
     if words.wary {
-        let store = open_store(rt, path, Wary)?;
-        let feeds = StoredFeeds {
-            readers,
-            notes,
-            store,
-        };
-        return serve_over(rt, threads, words, schema, feeds, progress);
+        let start = Wary;
+        serve_from(rt, threads, words, Place { path, start }, schema, progress)
+    } else {
+        let start = Unknown;
+        serve_from(rt, threads, words, Place { path, start }, schema, progress)
     }
-    let store = open_store(rt, path, Unknown)?;
-    let feeds = StoredFeeds {
-        readers,
-        notes,
-        store,
-    };
+}
+
+/// The same, with a store that starts so.
+fn serve_from<T: Threads + Wait + Clock + Sync, S: Start>(
+    rt: &HostRuntime,
+    threads: &T,
+    words: &LiveWords,
+    place: Place<'_, S>,
+    schema: &Schema,
+    progress: &Progress<'_, T, Stderr>,
+) -> Result<Status, StoredFailure>
+    requires room { LiveHasRoom words.now }
+    requires feeds { length words.now.feeds.items ≤ 64 }
+{
+    let noted = noted_feeds(rt, words.schema, &words.feeds, progress.counts())?;
+    let feeds = noted.before(open_store(rt, place.path, place.start)?);
     serve_over(rt, threads, words, schema, feeds, progress)
 }
 
@@ -100,22 +134,47 @@ pub(crate) fn ask_kept<T: Threads + Wait + Clock + Sync>(
     requires feeds { length words.now.feeds.items ≤ 64 }
 {
     let question = question_of(rt, schema, asked)?;
-    let (readers, notes) = noted_feeds(rt, words.schema, &words.feeds, progress.counts())?;
     if words.wary {
-        let store = open_made_store(rt, path, Wary)?;
-        let feeds = StoredFeeds {
-            readers,
-            notes,
-            store,
-        };
-        return ask_over(rt, threads, words, schema, feeds, question, progress);
+        let start = Wary;
+        ask_from(
+            rt,
+            threads,
+            words,
+            Place { path, start },
+            schema,
+            question,
+            progress,
+        )
+    } else {
+        let start = Unknown;
+        ask_from(
+            rt,
+            threads,
+            words,
+            Place { path, start },
+            schema,
+            question,
+            progress,
+        )
     }
-    let store = open_made_store(rt, path, Unknown)?;
-    let feeds = StoredFeeds {
-        readers,
-        notes,
-        store,
-    };
+}
+
+/// The same, with a store that starts so.
+fn ask_from<T: Threads + Wait + Clock + Sync, S: Start>(
+    rt: &HostRuntime,
+    threads: &T,
+    words: &RunWords,
+    place: Place<'_, S>,
+    schema: &Schema,
+    question: Question,
+    progress: &Progress<'_, T, Stderr>,
+) -> Result<Status, StoredFailure>
+    requires room { HasRoom words.now }
+    requires feeds { length words.now.feeds.items ≤ 64 }
+    requires question { Fits schema.now question }
+{
+    let noted = noted_feeds(rt, words.schema, &words.feeds, progress.counts())?;
+    let feeds = noted.before(open_made_store(rt, place.path, place.start)?);
     ask_over(rt, threads, words, schema, feeds, question, progress)
 }
 
@@ -214,22 +273,22 @@ fn noted_feeds<'c>(
     schema: &str,
     paths: &[&str],
     counts: Option<&'c Counts>,
-) -> Result<(Vec<FeedReader<'c, File>>, Vec<FeedNote>), Failure>
+) -> Result<NotedFeeds<'c>, Failure>
     requires { length paths.now ≤ 64 }
-    ensures { IfOk result (λ noted. vec_len noted.0 ≡ length paths.now) }
+    ensures { IfOk result (λ noted. vec_len noted.readers ≡ length paths.now) }
 {
     let mut notes = Vec::new(rt.alloc());
     push_note(rt, &mut notes, 0, &mut open_schema(rt, schema)?)?;
-    let mut files = Vec::new(rt.alloc());
+    let mut readers = Vec::new(rt.alloc());
     for path in paths {
-        let source = files.len() as u32 + 1;
+        let source = readers.len() as u32 + 1;
         let mut file = open_feed(rt, path, source)?;
         push_note(rt, &mut notes, source, &mut file)?;
-        if files.push(FeedReader::new(file, counts)).is_err() {
+        if readers.push(FeedReader::new(file, counts)).is_err() {
             return Err(Failure::Run(RunFault::Memory));
         }
     }
-    Ok((files, notes))
+    Ok(NotedFeeds { readers, notes })
 }
 
 /// Notes what the file of a source has, which is read to its end and begun again; 0 is the schema's.

@@ -41,7 +41,7 @@ const MOST_THREADS: usize = 16;
 const STANDARD_INPUT: &str = "-";
 
 /// What a command with feeds asks, as its words say it.
-#[derive(Drop)]
+#[derive(Clone, Copy)]
 enum Asked<'w> {
     Cube { is_partial: bool },
     Slice { cell: &'w str },
@@ -452,28 +452,50 @@ fn merge_files<T: Wait + Clock>(
     words: &MergeWords,
     progress: &Progress<'_, T, Stderr>,
 ) -> Result<Status, Failure> {
-    let alloc = rt.alloc();
+    let schema = merge_schema(rt, words)?;
+    let partial = schema.partial(rt.alloc())?;
+    let wanted = if words.partial { &partial } else { &schema };
+    merge_under(rt, words, &partial, wanted, progress)
+}
+
+/// The schema of cubes to merge, once it is seen that there are at most 64, that standard input is named once at most, and
+/// that no path stands twice.
+fn merge_schema(rt: &HostRuntime, words: &MergeWords) -> Result<Schema, Failure>
+    ensures { IfOk result (λ _. length words.now.cubes.items ≤ 64) }
+{
     if words.cubes.len() > 64 {
         return Err(Failure::TooManyCubes);
     }
     if inputs_among(words.schema, &words.cubes) > 1 {
         return Err(Failure::InputTaken);
     }
-    let schema = read_schema(alloc, open_schema(rt, words.schema)?)?;
-    if let Some(place) = first_repeated(&words.cubes) {
-        return Err(Failure::SamePath { input: place + 1 });
+    let schema = read_schema(rt.alloc(), open_schema(rt, words.schema)?)?;
+    match first_repeated(&words.cubes) {
+        Some(place) => Err(Failure::SamePath { input: place + 1 }),
+        None => Ok(schema),
     }
-    let partial = schema.partial(alloc)?;
-    let wanted = if words.partial { &partial } else { &schema };
+}
+
+/// Merges printed cubes of a partial schema into one of the wanted, once they are checked, where the words say so.
+fn merge_under<T: Wait + Clock>(
+    rt: &HostRuntime,
+    words: &MergeWords,
+    partial: &Schema,
+    wanted: &Schema,
+    progress: &Progress<'_, T, Stderr>,
+) -> Result<Status, Failure>
+    requires { length words.now.cubes.items ≤ 64 }
+{
+    let alloc = rt.alloc();
     if words.check {
         let cubes = open_cubes(rt, &words.cubes, progress.counts())?;
         progress.begin(Phase::Checking { cubes: cubes.len() });
-        check_cubes(alloc, &partial, wanted, cubes)?;
+        check_cubes(alloc, partial, wanted, cubes)?;
     }
     let cubes = open_cubes(rt, &words.cubes, progress.counts())?;
     progress.begin(Phase::Merging { cubes: cubes.len() });
     let out = &mut Output::new(rt.stdout(), progress);
-    merge_cubes(alloc, &partial, wanted, cubes, out)
+    merge_cubes(alloc, partial, wanted, cubes, out)
 }
 
 /// The settings of a run: those that the words give, and else as many threads as the machine has.
