@@ -7,7 +7,7 @@ use crate::measure::{cpu_nanos, nanos_since};
 use anyhow::{Context, Result, anyhow};
 use csv::{ByteRecord, ReaderBuilder};
 use cube_core::Schema;
-use cube_feed::Feed;
+use cube_feed::{Feed, FeedFault};
 use std::alloc::{AllocError, Global};
 use std::time::CpuClock;
 
@@ -97,12 +97,13 @@ fn count_records(alloc: Global, bytes: &[u8]) -> Result<u64> {
 }
 
 fn count_items(alloc: Global, schema: &Schema, bytes: &[u8]) -> Result<u64> {
-    let mut feed = Feed::new(alloc, schema, bytes);
+    Ok(count_good(&mut Feed::new(alloc, schema, bytes))?)
+}
+
+fn count_good(feed: &mut Feed<'_, &[u8]>) -> Result<u64, FeedFault> {
     let mut good = 0u64;
     while let Some(item) = feed.next()? {
-        if item.what.is_ok() {
-            good = good.saturating_add(1);
-        }
+        good = good.saturating_add(u64::from(item.what.is_ok()));
     }
     Ok(good)
 }

@@ -3,9 +3,11 @@
 //! With words, the file of a schema and those of its feeds, one for each source, it prints how many milliseconds of
 //! processor time the ledger of the feeds takes, how many the builder with the filled cube, and how many a builder that
 //! changes its cells at each item. With no word it checks a small case.
+ghost use Rattle.std.specs.Prelude.{◌≤◌, ◌<◌, ◌+◌, ◌^◌, length, IsTrue};
+
 use crate::measure::{cpu_nanos, nanos_since};
 use anyhow::{Result, anyhow, ensure};
-use cube_core::{Item, Schema};
+use cube_core::Schema;
 use cube_engine::{Builder, build_ledger, build_plain};
 use cube_feed::Feed;
 use std::alloc::{AllocError, Global};
@@ -30,8 +32,7 @@ pub fn run<R: Print + AllocGlobal + Files + CpuClock>(rt: &R, words: &[String]) 
     for path in paths {
         feeds.push(fs::read(rt, path)?)?;
     }
-    ensure!(feeds.len() <= 64, "at most 64 feeds");
-    time_feeds(rt, &schema, &feeds)
+    time_feeds(rt, &Schema::from_toml(rt.alloc(), &schema)?, &feeds)
 }
 
 // Prints how many facts and rows a small cube has.
@@ -46,9 +47,16 @@ fn check<R: Print + AllocGlobal>(rt: &R) -> Result<()> {
 
 // How many facts the feeds have, and how many rows the cube of these.
 fn counts_of(alloc: Global, schema: &Schema, readers: Vec<&[u8]>) -> Result<(u64, usize)> {
+    let builder = built_of(alloc, schema, readers)?;
+    let rows = rows_of(&builder)?;
+    Ok((builder.facts(), rows))
+}
+
+// A builder that has taken the feeds, whose cube is filled in the end.
+fn built_of(alloc: Global, schema: &Schema, readers: Vec<&[u8]>) -> Result<Builder> {
     ensure!(readers.len() <= 64, "at most 64 feeds");
     match build_plain(alloc, schema, readers) {
-        Ok(builder) => Ok((builder.facts(), rows_of(&builder)?)),
+        Ok(builder) => Ok(builder),
         Err(_) => Err(anyhow!("a feed at fault")),
     }
 }
@@ -62,13 +70,12 @@ fn rows_of(builder: &Builder) -> Result<usize, AllocError> {
 // builder that changes its cells at each item.
 fn time_feeds<R: Print + AllocGlobal + CpuClock>(
     rt: &R,
-    schema: &[u8],
+    schema: &Schema,
     feeds: &[Vec<u8>],
 ) -> Result<()> {
-    let schema = Schema::from_toml(rt.alloc(), schema)?;
-    let ledger = time_ledger(rt, &schema, readers_of(rt.alloc(), feeds)?)?;
-    let builder = time_builder(rt, &schema, readers_of(rt.alloc(), feeds)?)?;
-    let changes = time_changes(rt, &schema, readers_of(rt.alloc(), feeds)?)?;
+    let ledger = time_ledger(rt, schema, feeds)?;
+    let builder = time_builder(rt, schema, feeds)?;
+    let changes = time_changes(rt, schema, feeds)?;
     println!(rt; "ledger {ledger} ms, builder {builder} ms, item by item {changes} ms")?;
     Ok(())
 }
@@ -84,10 +91,11 @@ fn readers_of(alloc: Global, feeds: &[Vec<u8>]) -> Result<Vec<&[u8]>, AllocError
 fn time_ledger<R: AllocGlobal + CpuClock>(
     rt: &R,
     schema: &Schema,
-    readers: Vec<&[u8]>,
+    feeds: &[Vec<u8>],
 ) -> Result<u128> {
-    ensure!(readers.len() <= 64, "at most 64 feeds");
     let start = cpu_nanos(rt)?;
+    let readers = readers_of(rt.alloc(), feeds)?;
+    ensure!(readers.len() <= 64, "at most 64 feeds");
     let built = build_ledger(rt.alloc(), schema, readers);
     let nanos = nanos_since(rt, start)?;
     ensure!(built.is_ok(), "a feed at fault");
@@ -97,10 +105,10 @@ fn time_ledger<R: AllocGlobal + CpuClock>(
 fn time_builder<R: Print + AllocGlobal + CpuClock>(
     rt: &R,
     schema: &Schema,
-    readers: Vec<&[u8]>,
+    feeds: &[Vec<u8>],
 ) -> Result<u128> {
     let start = cpu_nanos(rt)?;
-    let facts = facts_of(rt.alloc(), schema, readers)?;
+    let facts = facts_of(rt.alloc(), schema, readers_of(rt.alloc(), feeds)?)?;
     let nanos = nanos_since(rt, start)?;
     println!(rt; "{facts} facts")?;
     Ok(nanos / NANOS_IN_MILLISECOND)
@@ -108,57 +116,70 @@ fn time_builder<R: Print + AllocGlobal + CpuClock>(
 
 // How many facts the feeds have, by a builder that isn't taken apart, so that no time goes into that.
 fn facts_of(alloc: Global, schema: &Schema, readers: Vec<&[u8]>) -> Result<u64> {
-    ensure!(readers.len() <= 64, "at most 64 feeds");
-    match build_plain(alloc, schema, readers) {
-        Ok(builder) => {
-            let facts = builder.facts();
-            mem::forget(builder);
-            Ok(facts)
-        }
-        Err(_) => Err(anyhow!("a feed at fault")),
-    }
+    let builder = built_of(alloc, schema, readers)?;
+    let facts = builder.facts();
+    mem::forget(builder);
+    Ok(facts)
 }
 
 fn time_changes<R: AllocGlobal + CpuClock>(
     rt: &R,
     schema: &Schema,
-    readers: Vec<&[u8]>,
+    feeds: &[Vec<u8>],
 ) -> Result<u128> {
-    ensure!(readers.len() <= 64, "at most 64 feeds");
-    let mut builder = Builder::new(rt.alloc(), schema, readers.len() as u32)?;
     let start = cpu_nanos(rt)?;
-    let mut source = 0u32;
-    for reader in readers {
-        source = source.saturating_add(1);
-        take_feed(rt.alloc(), schema, reader, source, &mut builder)?;
-    }
+    take_feeds(rt.alloc(), schema, feeds)?;
     Ok(nanos_since(rt, start)? / NANOS_IN_MILLISECOND)
 }
 
-fn take_feed(
+// Takes the feeds into a builder that isn't taken apart either.
+fn take_feeds(alloc: Global, schema: &Schema, feeds: &[Vec<u8>]) -> Result<()> {
+    ensure!(feeds.len() <= 64, "at most 64 feeds");
+    let mut builder = Builder::new(alloc, schema, feeds.len() as u32)?;
+    let taken = take_all(alloc, schema, feeds, &mut builder);
+    mem::forget(builder);
+    taken
+}
+
+// Takes the feeds one after the other, the first of source 1.
+fn take_all(
     alloc: Global,
     schema: &Schema,
-    reader: &[u8],
-    source: u32,
+    feeds: &[Vec<u8>],
     builder: &mut Builder,
 ) -> Result<()> {
-    let mut feed = Feed::new(alloc, schema, reader);
+    let mut source = 0u32;
+    for feed in feeds {
+        source = source.saturating_add(1);
+        take_feed(
+            &mut Feed::new(alloc, schema, feed.as_slice()),
+            source,
+            builder,
+        )?;
+    }
+    Ok(())
+}
+
+fn take_feed(feed: &mut Feed<'_, &[u8]>, source: u32, builder: &mut Builder) -> Result<()> {
     for _ in 0..u32::MAX {
-        let Ok(next) = feed.next() else {
-            return Err(anyhow!("a feed at fault"));
-        };
-        let Some(item) = next else {
-            return Ok(());
-        };
-        take(builder, source, item)?;
+        ensure!(
+            may_take(builder, source),
+            "another source, or too many facts"
+        );
+        match feed.next() {
+            Ok(Some(item)) => builder.apply(source, item)?,
+            Ok(None) => return Ok(()),
+            Err(_) => return Err(anyhow!("a feed at fault")),
+        }
     }
     Err(anyhow!("too many items"))
 }
 
-// Takes an item, where the source is one of the builder's.
-fn take(builder: &mut Builder, source: u32, item: Item) -> Result<()> {
-    ensure!(1 <= source && source <= builder.sources(), "another source");
-    ensure!(builder.facts() < u64::MAX, "too many facts");
-    builder.apply(source, item)?;
-    Ok(())
+// Whether the source is one of a builder's, which has room for a fact.
+fn may_take(builder: &Builder, source: u32) -> bool
+    ensures first { IsTrue result → 1 ≤ source }
+    ensures last { IsTrue result → source ≤ length builder.now.ledger.accounts }
+    ensures room { IsTrue result → builder.now.cube.facts + 1 < 2 ^ 64 }
+{
+    1 <= source && source <= builder.sources() && builder.facts() < u64::MAX
 }

@@ -11,15 +11,26 @@ use std::fs::File;
 /// Prints the cube of the feeds under the schema that the words name.
 pub fn run(rt: &HostRuntime, words: &[String]) -> Result<()> {
     let alloc = rt.alloc();
-    let (schema, paths) = match words {
-        [schema, paths @ ..] => (Schema::from_toml(alloc, &fs::read(rt, schema)?)?, paths),
-        [] => (Schema::sample(alloc)?, words),
-    };
-    let mut feeds = Vec::new(alloc);
-    for path in paths {
-        feeds.push(File::open(rt, path)?)?;
+    match words {
+        [schema, paths @ ..] => {
+            let document = fs::read(rt, schema)?;
+            print(rt, &Schema::from_toml(alloc, &document)?, paths)
+        }
+        [] => print(rt, &Schema::sample(alloc)?, words),
     }
+}
+
+fn print(rt: &HostRuntime, schema: &Schema, paths: &[String]) -> Result<()> {
+    let feeds = opened(rt, paths)?;
     ensure!(feeds.len() <= 64, "at most 64 feeds");
-    run_plain(alloc, &schema, feeds, &mut rt.stdout())?;
+    run_plain(rt.alloc(), schema, feeds, &mut rt.stdout())?;
     Ok(())
+}
+
+fn opened(rt: &HostRuntime, paths: &[String]) -> Result<Vec<File>> {
+    let mut files = Vec::new(rt.alloc());
+    for path in paths {
+        files.push(File::open(rt, path)?)?;
+    }
+    Ok(files)
 }
