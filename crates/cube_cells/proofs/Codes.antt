@@ -1,7 +1,7 @@
 -- Laws of codes, keys, and the order of keys.
-mod CodeLaws
-mod DictionaryLaws
-mod KeyLaws
-mod GrowthLaws
+pub mod CodeLaws
+pub mod DictionaryLaws
+pub mod KeyLaws
+pub mod GrowthLaws
 pub mod RankLaws
-mod TextLaws
+pub mod TextLaws

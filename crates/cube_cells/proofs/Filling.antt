@@ -1,6 +1,6 @@
 -- Laws of cubes that are filled at once.
-mod FillLaws
-mod FinerLaws
-mod FilledLaws
-mod LevelLaws
-mod ShareLaws
+pub mod FillLaws
+pub mod FinerLaws
+pub mod FilledLaws
+pub mod LevelLaws
+pub mod ShareLaws

@@ -1,5 +1,5 @@
 -- Laws of the rows of a cube, and which of them are wanted.
-mod PlaceLaws
-mod RowLaws
-mod DrillLaws
-mod SliceLaws
+pub mod PlaceLaws
+pub mod RowLaws
+pub mod DrillLaws
+pub mod SliceLaws

@@ -1,7 +1,7 @@
 -- Laws of the tallies of groups of facts.
-mod SumLaws
-mod TallyLaws
-mod MergeLaws
+pub mod SumLaws
+pub mod TallyLaws
+pub mod MergeLaws
 pub mod ValueLaws
-mod FactLaws
-mod GroupLaws
+pub mod FactLaws
+pub mod GroupLaws
