@@ -18,11 +18,11 @@ use Rattle.cube_core.specs.declared.key.Key.{Key}
 use Rattle.cube_core.specs.declared.key.Row.{Row}
 
 -- the count that an answer is; 0 of any other
-abbrev pub count_in : Answer → ℕ
-count_in (answer.Count n) = n
-count_in answer.Null = 0
-count_in (answer.Whole z) = 0
-count_in (answer.Ratio p q) = 0
+abbrev pub count_answered : Answer → ℕ
+count_answered (answer.Count n) = n
+count_answered answer.Null = 0
+count_answered (answer.Whole z) = 0
+count_answered (answer.Ratio p q) = 0
 
 -- the number that an answer is, if it is one
 abbrev pub number_in : Answer → Option ℤ
@@ -32,8 +32,8 @@ number_in (answer.Count n) = None
 number_in (answer.Ratio p q) = None
 
 -- the sum of the counts among answers
-abbrev pub count_of : List Answer → ℕ
-count_of answers = sum_by count_in answers
+abbrev pub sum_of_counts : List Answer → ℕ
+sum_of_counts answers = sum_by count_answered answers
 
 -- the numbers among answers, nulls left out
 abbrev pub numbers_of : List Answer → List ℤ
@@ -41,13 +41,13 @@ numbers_of answers = filter_map number_in answers
 
 -- what an aggregate's answers to the parts make of the whole: counts and sums are added, the least of the least
 -- and the greatest of the greatest values is taken, null where all are null; of means alone nothing is made
-abbrev pub Makes : Agg → List Answer → Answer → Type 0
-Makes CountAll parts a = a ≡ answer.Count (count_of parts)
-Makes (Count m) parts a = a ≡ answer.Count (count_of parts)
-Makes (Sum m) parts a = IsSum (numbers_of parts) a
-Makes (Min m) parts a = IsLeast (numbers_of parts) a
-Makes (Max m) parts a = IsGreatest (numbers_of parts) a
-Makes (Avg m) parts a = ⊤
+abbrev pub MakesAnswer : Agg → List Answer → Answer → Type 0
+MakesAnswer CountAll parts a = a ≡ answer.Count (sum_of_counts parts)
+MakesAnswer (Count m) parts a = a ≡ answer.Count (sum_of_counts parts)
+MakesAnswer (Sum m) parts a = IsSum (numbers_of parts) a
+MakesAnswer (Min m) parts a = IsLeast (numbers_of parts) a
+MakesAnswer (Max m) parts a = IsGreatest (numbers_of parts) a
+MakesAnswer (Avg m) parts a = ⊤
 
 -- the mean of so many values with this sum, as a fraction in lowest terms, null where there is none
 abbrev pub IsMeanOf : ℤ → ℕ → Answer → Type 0
@@ -60,13 +60,13 @@ column place rows = map (λ row. get_or row.answers place answer.Null) rows
 
 -- what the rows' answers to an aggregate make, at a place where it stands
 abbrev pub IsMadeAt : List Agg → List Row → Agg → Answer → Type 0
-IsMadeAt given rows agg a = (place : ℕ) × (slice_get given place ≡ Some agg) × Makes agg (column place rows) a
+IsMadeAt given rows agg a = (place : ℕ) × (slice_get given place ≡ Some agg) × MakesAnswer agg (column place rows) a
 
 -- the mean that the rows' sums and counts of a measure make
 abbrev pub IsMadeMean : List Agg → List Row → ℕ → Answer → Type 0
 IsMadeMean given rows m a =
     (sums : ℕ) × (counts : ℕ) × (slice_get given sums ≡ Some (Sum m)) × (slice_get given counts ≡ Some (Count m))
-    × IsMeanOf (total_of (numbers_of (column sums rows))) (count_of (column counts rows)) a
+    × IsMeanOf (total_of (numbers_of (column sums rows))) (sum_of_counts (column counts rows)) a
 
 -- the answer to an aggregate that rows with one key make together, where they answer the given aggregates:
 -- a mean is made of sums and counts, and any other of its own answers

@@ -9,7 +9,8 @@ use Rattle.cube_core.specs.declared.change.Item.{Item}
 use Rattle.cube_link.specs.Link.{Receiving}
 use Rattle.cube_core.specs.Arrival.{Arrivals, of_source, of_sources}
 use Rattle.cube_feeders.specs.Parcels.{lines_of, parcels_of}
-use Rattle.cube_feeders.specs.Gathering.{AreFresh, StandsAtFirst, Looks, Gathering, Gathers, from, taken_of, ended_of}
+use Rattle.cube_feeders.specs.Gathering.{AreFresh, StandsAtFirst, Looks, Gathering, Gathers, from, taken_of}
+use Rattle.cube_feeders.specs.Gathering.{links_ended}
 use Rattle.cube_feeders.specs.declared.gathering.Taken.{Taken}
 use Rattle.cube_feeders.specs.declared.parcel.Parcel.{Parcel}
 use Rattle.cube_feeders.specs.declared.parcel.Parcel.TheVariants.{Line, End}
@@ -82,10 +83,10 @@ pub gathering-look : {B : Type 0} (stands : B → B → Arrivals → Type 0) (fi
     (t last : Taken) →
     i < length now → i < length taken → (get_or taken i t).ended ≡ false
     → Looks stands (i + 1) (get_or now i d) new last.ended before after wanting wanting' →
-    Gathering (stands first) start now (ended_of taken) before wanting
-    → Gathering (stands first) start (set now i new) (ended_of (set taken i last)) after wanting'
+    Gathering (stands first) start now (links_ended taken) before wanting
+    → Gathering (stands first) start (set now i new) (links_ended (set taken i last)) after wanting'
 gathering-look stands first start now taken before after wanting wanting' i d new t last below there still looks was =
-    let ended = ended_of taken in
+    let ended = links_ended taken in
     let within : i < length ended = omega (arith, length-map taken (λ (t : Taken). t.ended)) in
     let running : get_or ended i false ≡ false = get_or-map (λ (t : Taken). t.ended) taken i t false there ∙ still in
     let same = was.same_length in
@@ -134,7 +135,7 @@ gathering-look stands first start now taken before after wanting wanting' i d ne
 -- before the first look
 pub gathering-start : {B : Type 0} (stands : B → Arrivals → Type 0) (inlets : List (Receiving Parcel)) (t : Taken)
     (builder : B) → t.ended ≡ false → length inlets ≤ 64 → AreFresh inlets → stands builder [] →
-    Gathering stands inlets inlets (ended_of (replicate 64 t)) builder false
+    Gathering stands inlets inlets (links_ended (replicate 64 t)) builder false
 gathering-start stands inlets t builder still most fresh at = record {
   arrivals = [];
   same_length = refl;
@@ -142,7 +143,7 @@ gathering-start stands inlets t builder still most fresh at = record {
   received = λ i d below.
       let within : i < 64 = omega arith in
       let there : i < length (replicate 64 t) = omega (arith, length-replicate 64 t) in
-      let running : get_or (ended_of (replicate 64 t)) i false ≡ false =
+      let running : get_or (links_ended (replicate 64 t)) i false ≡ false =
       get_or-map (λ (t : Taken). t.ended) (replicate 64 t) i t false there
       ∙ ap (λ (t : Taken). t.ended) (get_or-replicate 64 i t t within) ∙ still in
       rw running (fresh i d below);

@@ -15,7 +15,7 @@ use Rattle.cube_link.specs.Link.{Sending, Receiving, Link}
 use Rattle.cube_feeders.specs.FeedingAll.{IsNew, TakesFeeds, TakeAll}
 use Rattle.cube_feeders.specs.Feeding.{Feeds, IsReceiptOf}
 use Rattle.cube_feeders.specs.Parcels.{parcels_of, sends}
-use Rattle.cube_feeders.specs.Settling.{received_on, received_by, kept_of, receipt_of, Settles}
+use Rattle.cube_feeders.specs.Settling.{received_on, received_by, kept_of, receipt_of, SettlesBuilders}
 use Rattle.cube_feeders.specs.Starting.{IsReady, HasGathered}
 use Rattle.cube_feeders.specs.Wiring.{coming_of, AreLinked}
 use Rattle.cube_feeders.specs.declared.parcel.Parcel.{Parcel}
@@ -180,7 +180,8 @@ pub takes-settled : {B : Type 0} (stands : B → B → Arrivals → Type 0) (s :
     (outs : List (List (Sending Parcel))) (ends : List FeederEnd) (builders : List B)
     (old mid new : List (Gatherer B)) →
     AreLinked outs old → length outs ≡ length sources → map (λ gatherer. gatherer.builder) old ≡ builders
-    → AllZip (HasGathered stands) old mid → AllTell s sources (map received_by mid) ends → Settles ends mid new →
+    → AllZip (HasGathered stands) old mid → AllTell s sources (map received_by mid) ends → SettlesBuilders ends mid new
+        →
     1 ≤ length mid → TakeAll stands s sources builders new
 takes-settled {B} stands s sources outs ends builders old mid new linked as_many same gathered tell settles some =
     let rows = map received_by mid in

@@ -23,7 +23,8 @@ use Rattle.cube_feeders.specs.Ends.{HasNoStop, IsFirstStop, IsSealed}
 use Rattle.cube_feeders.specs.Feeding.{Stops}
 use Rattle.cube_feeders.specs.Starting.{HasGathered}
 use Rattle.cube_feeders.specs.Parcels.{parcels_of}
-use Rattle.cube_feeders.specs.Settling.{received_on, received_by, Kept, kept_of, receipt_of, Begins, AllFit, AllBegin}
+use Rattle.cube_feeders.specs.Settling.{received_on, received_by, Kept, kept_of, receipt_of, Begins, AllFitLinks}
+use Rattle.cube_feeders.specs.Settling.{AllBegin}
 use Rattle.cube_feeders.specs.Settling.{StopsFeeding}
 use Rattle.cube_feeders.specs.Wiring.{coming_of}
 use Rattle.cube_feeders.specs.declared.parcel.Parcel.{Parcel}
@@ -117,7 +118,7 @@ fits-names items received (Some receipt) names = names.0
 
 -- each receipt is that of its link
 pub fit-tell : (s : Layout) (sources : Told) (received : List (List (Sending Parcel))) (ends : List FeederEnd)
-    → AllTell s sources received ends → AllFit ends received
+    → AllTell s sources received ends → AllFitLinks ends received
 fit-tell s sources received ends tell j below = record {
   all = tell.links j below;
   each = λ k e d low.

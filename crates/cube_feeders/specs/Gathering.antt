@@ -39,8 +39,8 @@ pub record Looks {B : Type 0} (stands : B → B → Arrivals → Type 0) (source
       → StandsAtFirst (stands first) after wanting' (arrivals ++ from source items)
 
 -- which of the links have ended, by what was taken from each
-abbrev pub ended_of : List Taken → List Bool
-ended_of taken = map (λ link. link.ended) taken
+abbrev pub links_ended : List Taken → List Bool
+links_ended taken = map (λ link. link.ended) taken
 
 -- while a builder gathers: some of the links have ended, each has given the lines of its source's arrivals,
 -- and the builder stands at these

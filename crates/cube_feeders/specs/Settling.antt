@@ -52,15 +52,15 @@ BeginReceipts builder ends received =
     → IfSome (receipt_of (slice_index_or ends k e) builder) (Begins (slice_index_or received k d))
 
 -- the same of all builders, each with what was received from its links
-abbrev pub AllFit : List FeederEnd → List (List (Sending Parcel)) → Type 0
-AllFit ends received = (j : ℕ) → j < length received → FitLinks j ends (slice_index_or received j [])
+abbrev pub AllFitLinks : List FeederEnd → List (List (Sending Parcel)) → Type 0
+AllFitLinks ends received = (j : ℕ) → j < length received → FitLinks j ends (slice_index_or received j [])
 
 abbrev pub AllBegin : List FeederEnd → List (List (Sending Parcel)) → Type 0
 AllBegin ends received = (j : ℕ) → j < length received → BeginReceipts j ends (slice_index_or received j [])
 
 -- no feeder stopped, no builder wanted memory, and every receipt was given;
 -- what was received is how what they name begins
-pub record Settles {B : Type 0} (ends : List FeederEnd) (old new : List (Gatherer B)) : Type 0 where
+pub record SettlesBuilders {B : Type 0} (ends : List FeederEnd) (old new : List (Gatherer B)) : Type 0 where
   pub good : All HasNoStop ends
   pub enough : All (λ gatherer. gatherer.wanting ≡ false) old
   pub sealed : All (IsSealed (length old)) ends

@@ -25,7 +25,7 @@ pub record HasGathered {B : Type 0} (stands : B → B → Arrivals → Type 0) (
   pub stands_at : new.wanting ≡ false → stands old.builder new.builder arrivals
 
 -- no feeder was joined yet, and there are room for so many ends and a post for each of so many threads
-pub record HasRoom {B : Type 0} (feeders threads : ℕ) (roster : Roster B) : Type 0 where
+pub record RosterHasRoom {B : Type 0} (feeders threads : ℕ) (roster : Roster B) : Type 0 where
   pub most : feeders ≤ 64
   pub none : vec_len roster.ends ≡ 0
   pub room : feeders ≤ vec_capacity roster.ends
@@ -37,7 +37,7 @@ pub record MayStart {B : Type 0} (builders feeders : ℕ) (roster : Roster B) : 
   pub few : builders ≤ 8
   pub none : vec_len roster.gatherers ≡ 0
   pub room : builders ≤ vec_capacity roster.gatherers
-  pub for_feeders : HasRoom feeders (feeders + builders) roster
+  pub for_feeders : RosterHasRoom feeders (feeders + builders) roster
 
 -- the last of these was started, as its thread promises, and the others were given back
 pub record StartsLast {P : Type 0} (feeders rest : List P) (Promises : P → Type 0) : Type 0 where

@@ -2,7 +2,7 @@
 ghost use Rattle.std.specs.Prelude.{◌≡◌, ◌≤◌, ◌<◌, ◌++◌, ◌∷◌, [], ℕ, List, length, true, false, IsTrue, is_err, slice_index_or};
 ghost use Rattle.cube_link.specs.Link.{Receiving};
 ghost use Rattle.cube_core.specs.Arrival.{Arrivals};
-ghost use Rattle.cube_feeders.specs.Gathering.{AreFresh, StandsAtFirst, Looks, Gathering, Gathers, ended_of};
+ghost use Rattle.cube_feeders.specs.Gathering.{AreFresh, StandsAtFirst, Looks, Gathering, Gathers, links_ended};
 ghost use Rattle.cube_feeders.specs.declared.parcel.Parcel.{Parcel as TheParcel};
 
 use crate::gate::{Gate, GatedLink};
@@ -129,8 +129,8 @@ fn look_round<W: Wait, B: TakesItems, G: Gate>(
     requires most { length inlets.old ≤ 64 }
     ensures sources { B.sources builder.new ≡ B.sources builder.old }
     ensures gathering { (first : B) (start : List (Receiving TheParcel)) →
-        Gathering (B.stands first) start inlets.old (ended_of taken.old) builder.old wanting.old →
-        Gathering (B.stands first) start inlets.new (ended_of taken.new) builder.new wanting.new }
+        Gathering (B.stands first) start inlets.old (links_ended taken.old) builder.old wanting.old →
+        Gathering (B.stands first) start inlets.new (links_ended taken.new) builder.new wanting.new }
 {
     let mut found = false;
     for i in 0..inlets.len() {
@@ -150,7 +150,7 @@ fn look_round<W: Wait, B: TakesItems, G: Gate>(
 fn have_ended(taken: &[Taken; MOST_SOURCES], count: usize) -> bool
     requires { count ≤ 64 }
     ensures { IsTrue result →
-        (i : ℕ) → i < count → slice_index_or (ended_of taken.now) i false ≡ true }
+        (i : ℕ) → i < count → slice_index_or (links_ended taken.now) i false ≡ true }
 {
     for i in 0..count {
         if !taken[i].ended {

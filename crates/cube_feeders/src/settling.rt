@@ -2,7 +2,7 @@
 ghost use Rattle.std.specs.Prelude.{◌≡◌, ◌≤◌, ◌<◌, false, map, vec_len, length, IfOk, IfErr, IfSome, IsFalse};
 ghost use Rattle.std.specs.List.{All};
 ghost use Rattle.cube_feeders.specs.Ends.{HasNoStop};
-ghost use Rattle.cube_feeders.specs.Settling.{received_on, received_by, kept_of, receipt_of, IsOfLink, Begins, FitLinks, BeginReceipts, AllFit, AllBegin, Settles, StopsFeeding};
+ghost use Rattle.cube_feeders.specs.Settling.{received_on, received_by, kept_of, receipt_of, IsOfLink, Begins, FitLinks, BeginReceipts, AllFitLinks, AllBegin, SettlesBuilders, StopsFeeding};
 
 use crate::ends::first_unsealed;
 use crate::fault::FeedingFault;
@@ -39,7 +39,7 @@ fn hold_builder(builder: usize, ends: &mut Vec<FeederEnd>, inlets: &mut Vec<Inle
 // Holds all receipts against the builders' inlets.
 fn hold_all<B: Drop>(ends: Vec<FeederEnd>, gatherers: Vec<Gatherer<B>>) -> Vec<Gatherer<B>>
     requires few { vec_len gatherers ≤ 8 }
-    requires fit { AllFit ends.items (map received_by gatherers.items) }
+    requires fit { AllFitLinks ends.items (map received_by gatherers.items) }
     ensures kept { map kept_of result.items ≡ map kept_of gatherers.items }
     ensures begin { AllBegin ends.items (map received_by gatherers.items) }
 {
@@ -74,9 +74,9 @@ pub(crate) fn settle<B: Drop>(
 ) -> Result<Vec<Gatherer<B>>, FeedingFault>
     requires sources { vec_len ends ≤ 64 }
     requires builders { (1 ≤ vec_len gatherers) × (vec_len gatherers ≤ 8) }
-    requires fit { AllFit ends.items (map received_by gatherers.items) }
+    requires fit { AllFitLinks ends.items (map received_by gatherers.items) }
     requires good { All HasNoStop ends.items }
-    ensures ok { IfOk result (λ settled. Settles ends.items gatherers.items settled.items) }
+    ensures ok { IfOk result (λ settled. SettlesBuilders ends.items gatherers.items settled.items) }
     ensures err { IfErr result (StopsFeeding (vec_len gatherers) ends.items) }
 {
     if is_wanting(&gatherers) {

@@ -2,7 +2,7 @@
 ghost use Rattle.std.specs.Prelude.{◌≡◌, ◌≤◌, ◌+◌, ◌++◌, ◌∷◌, [], vec_len, vec_capacity, OnOk, IfSome};
 ghost use Rattle.std.specs.List.{All, AllZip};
 ghost use Rattle.cube_feeders.specs.Feeding.{Feeds};
-ghost use Rattle.cube_feeders.specs.Starting.{HasRoom, IsReady, HasGathered, StartsLast};
+ghost use Rattle.cube_feeders.specs.Starting.{RosterHasRoom, IsReady, HasGathered, StartsLast};
 
 use crate::feeding::feed_out;
 use crate::gate::Gate;
@@ -143,7 +143,7 @@ pub(crate) fn with_feeders<
 ) -> Result<(), NoThread>
     requires outlets { All
         (λ feeder. (1 ≤ vec_len feeder.outlets) × (vec_len feeder.outlets ≤ 8)) feeders.items }
-    requires room { HasRoom (vec_len feeders) (vec_len feeders) roster.old }
+    requires room { RosterHasRoom (vec_len feeders) (vec_len feeders) roster.old }
     requires ready { IsReady B.sources B.stands own.old }
     ensures ends { OnOk result (AllZip
         (λ feeder end. Feeds feeder.feed.to_come feeder.outlets.items end)

@@ -17,10 +17,11 @@ use Rattle.cube_journal.specs.declared.note.FeedNote.{FeedNote}
 use Rattle.cube_journal.specs.declared.fault.OpenFault.{OpenFault}
 use Rattle.cube_journal.specs.declared.fault.OpenFault.TheVariants as kind
 use Rattle.cube_journal.specs.Rows.{Entry, row_of, rows_from, entries_in, entry_of, entries_of, AreChanges}
-use Rattle.cube_journal.specs.State.{left_of, Holds, HasTables, IsStanding, IsJournal, OnlyReads, Makes, GoesOn}
+use Rattle.cube_journal.specs.State.{rows_left, Holds, HasTables, IsStanding, IsJournal, OnlyReads, MakesJournal}
+use Rattle.cube_journal.specs.State.{ForgetsNothing}
 use Rattle.cube_journal.specs.State.{IsCause, Hinders}
-use Rattle.cube_journal.specs.Making.{Writes, IsMade, CantNote, LeavesNotes, PutsNotes}
-use Rattle.cube_journal.specs.Reading.{Begins}
+use Rattle.cube_journal.specs.Making.{WritesNotes, IsMade, CantNote, LeavesNotes, PutsNotes}
+use Rattle.cube_journal.specs.Reading.{StandsBeforeFirst}
 use Rattle.cube_journal.proofs.RowLaws.{put_next, entries_of_rows}
 use Rattle.cube_journal.proofs.ReadingLaws.{cause_then}
 use Rattle.cube_journal.proofs.CompareLaws.{index_is}
@@ -29,11 +30,11 @@ use Rattle.cube_journal.proofs.OpenLaws.{was_open, same_trees, same_tables, shut
 
 -- ---- is a table empty?
 
-pub has_row : (old mid : View) (tree : ℕ) (row : Row) (left : List Row) → Begins old mid tree
-    → left_of mid 0 ≡ row ∷ left → old.trees tree ≡ [] → ⊥
+pub has_row : (old mid : View) (tree : ℕ) (row : Row) (left : List Row) → StandsBeforeFirst old mid tree
+    → rows_left mid 0 ≡ row ∷ left → old.trees tree ≡ [] → ⊥
 has_row old mid tree row left begins step none = let e : row ∷ left ≡ [] = sym step ∙ begins.left ∙ none in absurd (cc)
 
-pub has_none : (old mid : View) (tree : ℕ) → Begins old mid tree → left_of mid 0 ≡ [] → old.trees tree ≡ []
+pub has_none : (old mid : View) (tree : ℕ) → StandsBeforeFirst old mid tree → rows_left mid 0 ≡ [] → old.trees tree ≡ []
 has_none old mid tree begins step = sym begins.left ∙ step
 
 -- ---- notes put one after another
@@ -73,7 +74,7 @@ one_note notes at note old before now within is was put =
 -- ---- the notes committed
 
 module _ (old mid put : View) (notes : List Entry) (reads : OnlyReads old mid)
-    (none : (old.trees 0 ≡ []) × (old.trees 1 ≡ [])) (writes : Writes mid put notes) where
+    (none : (old.trees 0 ≡ []) × (old.trees 1 ≡ [])) (writes : WritesNotes mid put notes) where
   put_changes : put.trees 0 ≡ []
   put_changes = writes.changes ∙ ap (λ (v : View). v.trees 0) reads ∙ none.0
 
@@ -131,7 +132,7 @@ module _ (mid now : View) (notes : List Entry) (made : IsMade mid now notes) whe
   }
 
   pub makes : (was : View) → IsRolledBack was mid → (mid.is_open ≡ false → IsTrue mid.is_broken)
-      → (now.is_open ≡ false → IsTrue now.is_broken) → IsClean mid → Makes notes was now
+      → (now.is_open ≡ false → IsTrue now.is_broken) → IsClean mid → MakesJournal notes was now
   makes was undone broken shut clean =
       let trees = same_trees was mid undone broken made.was_sound in
       record {
@@ -301,10 +302,11 @@ note_cause old before a b c notes at other e within up writes h =
 
 module _ {S : Type 0} (view : S → View) (faults : S → ℕ) where
   pub goes_quiet : (recovers : S → Trees → Type 0) (shielded : S → Type 0) (a b : S)
-      → IsQuiet view faults recovers shielded a b → GoesOn view faults a b
+      → IsQuiet view faults recovers shielded a b → ForgetsNothing view faults a b
   goes_quiet recovers shielded a b quiet = record { clean = quiet.clean; counts = quiet.counts; stays = quiet.closes }
 
-  pub goes_then : (a b c : S) → GoesOn view faults a b → GoesOn view faults b c → GoesOn view faults a c
+  pub goes_then : (a b c : S) → ForgetsNothing view faults a b → ForgetsNothing view faults b c
+      → ForgetsNothing view faults a c
   goes_then a b c x y = record {
     clean = omega (arith, x.clean, y.clean);
     counts = omega (arith, x.counts, y.counts);

@@ -12,7 +12,7 @@ use Rattle.cube_journal.specs.declared.fault.OpenFault.{OpenFault}
 use Rattle.cube_journal.specs.declared.fault.OpenFault.TheVariants as kind
 use Rattle.cube_journal.specs.Rows.{Entry, rows_from, entries_in, AreChanges, AreNotes, DifferAt, IsForeignAt}
 use Rattle.cube_journal.specs.State.{held_in, stored_in, noted_in, Holds, HasTables, IsJournal, IsStore, OnlyReads}
-use Rattle.cube_journal.specs.State.{Finds, IsCause, Explains, IsFailedCall}
+use Rattle.cube_journal.specs.State.{Finds, IsCause, ExplainsUnopened, IsFailedCall}
 use Rattle.cube_journal.proofs.RowLaws.{entries_of_rows, rows_length, changes_from, none_foreign, none_differ}
 use Rattle.cube_journal.proofs.ReadingLaws.{cause_then}
 use Rattle.cube_journal.proofs.ViewLaws.{open_if_sound, clean_if_open}
@@ -21,7 +21,8 @@ use Rattle.cube_journal.proofs.ViewLaws.{open_if_sound, clean_if_open}
 pub explains_then : (fault more shut before is_open was_open tables were : Type 0) (trees others : Trees)
     (notes : List Entry) (e : OpenFault)
     → (fault → more) → (shut → before) → (is_open → was_open) → (were → tables) → (is_open → trees ≡ others)
-    → Explains fault shut is_open tables trees notes e → Explains more before was_open were others notes e
+    → ExplainsUnopened fault shut is_open tables trees notes e
+        → ExplainsUnopened more before was_open were others notes e
 explains_then fault more shut before is_open was_open tables were trees others notes
     (kind.Store error) up back sound have same h = cause_then fault more shut before ⊥ ⊥ error up back (λ x. x) h
 explains_then fault more shut before is_open was_open tables were trees others notes kind.NoTables up back sound have
@@ -60,7 +61,7 @@ failed fault shut Unstorable wide h = absurd h
 pub refuses_none : (fault more : Type 0) (was : View) (notes : List Entry) (e : OpenFault) → HasTables was
     → (IsTrue was.is_open → (changes : List Entry) × Holds was.committed changes notes)
     → (fault → more) → (was.is_open ≡ false → more)
-    → Explains fault ((was.is_open ≡ false) ⊎ fault) (IsTrue was.is_open) (HasTables was) was.committed notes e
+    → ExplainsUnopened fault ((was.is_open ≡ false) ⊎ fault) (IsTrue was.is_open) (HasTables was) was.committed notes e
     → IsFailedCall more e
 refuses_none fault more was notes (kind.Store error) tables holds up shut h =
     failed more ((was.is_open ≡ false) ⊎ fault) error wide (cause_then fault more ((was.is_open ≡ false) ⊎ fault)
@@ -84,7 +85,7 @@ refuses_none fault more was notes kind.TooMany tables holds up shut h =
 
 -- the same of a store that is open
 pub accepts : (fault : Type 0) (was : View) (notes : List Entry) (e : OpenFault) → IsStore was notes
-    → Explains fault ((was.is_open ≡ false) ⊎ fault) (IsTrue was.is_open) (HasTables was) was.committed notes e
+    → ExplainsUnopened fault ((was.is_open ≡ false) ⊎ fault) (IsTrue was.is_open) (HasTables was) was.committed notes e
     → IsFailedCall fault e
 accepts fault was notes e store h =
     refuses_none fault fault was notes e store.tables (λ _. (stored_in was, store.holds)) (λ f. f)
@@ -127,9 +128,9 @@ module _ (was mid : View) (undone : IsRolledBack was mid) (broken : mid.is_open 
 pub explains_before : (was mid : View) (a b c : ℕ) (notes : List Entry) (e : OpenFault) → IsRolledBack was mid
     → (mid.is_open ≡ false → IsTrue mid.is_broken) → IsClean mid → a ≤ b → b ≤ c
     → (IsTrue was.is_open → IsTrue mid.is_open ⊎ MoreFaults a b)
-    → Explains (MoreFaults b c) (IsTrue mid.is_broken) (mid.is_broken ≡ false)
+    → ExplainsUnopened (MoreFaults b c) (IsTrue mid.is_broken) (mid.is_broken ≡ false)
     ((mid.shape 0 ≡ Table) × (mid.shape 1 ≡ Table)) mid.trees notes e
-    → Explains (MoreFaults a c) ((was.is_open ≡ false) ⊎ MoreFaults a c) (IsTrue was.is_open)
+    → ExplainsUnopened (MoreFaults a c) ((was.is_open ≡ false) ⊎ MoreFaults a c) (IsTrue was.is_open)
     (HasTables was) was.committed notes e
 explains_before was mid a b c notes e undone broken clean up later closes h =
     let wide : MoreFaults b c → MoreFaults a c = λ f. omega arith in

@@ -11,8 +11,8 @@ use Rattle.sqlite_trees.specs.Tree.{order_of, from_key, sought}
 use Rattle.sqlite_trees.specs.View.{View, with_cursor, Advances, HasCause}
 use Rattle.sqlite_trees.proofs.ListLemmas.{all-append}
 use Rattle.cube_journal.specs.Rows.{Entry, row_of, rows_from, entries_in, IsOfSource, AreChanges, IsForeignAt}
-use Rattle.cube_journal.specs.State.{OnlyReads, left_of, TakesAll, IsCause}
-use Rattle.cube_journal.specs.Reading.{Begins, Passes, HasTaken}
+use Rattle.cube_journal.specs.State.{OnlyReads, rows_left, LeadsTo, IsCause}
+use Rattle.cube_journal.specs.Reading.{StandsBeforeFirst, Passes, HasPassed}
 use Rattle.cube_journal.proofs.RowLaws.{rows_more, rows_length, changes_from, entries_of_rows}
 
 from_no_key : (o : Order) (rows : List Row) → from_key o [] rows ≡ rows
@@ -20,12 +20,13 @@ from_no_key o [] = refl
 from_no_key o (row ∷ rows) = refl
 
 pub begins : (old new : View) (tree : ℕ) (key : Row) → key ≡ []
-    → new ≡ with_cursor old 0 (sought (order_of (old.shape tree)) Forward key (old.trees tree)) → Begins old new tree
+    → new ≡ with_cursor old 0 (sought (order_of (old.shape tree)) Forward key (old.trees tree))
+        → StandsBeforeFirst old new tree
 begins old new tree key none is =
     let order = order_of (old.shape tree) in
     record {
       reads = rw is;
-      left = ap (λ (v : View). left_of v 0) is ∙ ap (λ k. from_key order k (old.trees tree)) none
+      left = ap (λ (v : View). rows_left v 0) is ∙ ap (λ k. from_key order k (old.trees tree)) none
           ∙ from_no_key order (old.trees tree);
     }
 
@@ -61,19 +62,19 @@ cause_then fault more shut before unstorable wider Broken up back wide h = back 
 cause_then fault more shut before unstorable wider Unstorable up back wide h = wide h
 
 takes_more : {K : Type 0} (takes : K → Entry → K → Type 0) (es : List Entry) (start mid end : K) (e : Entry)
-    → TakesAll takes start es mid → takes mid e end → TakesAll takes start (es ++ e ∷ []) end
+    → LeadsTo takes start es mid → takes mid e end → LeadsTo takes start (es ++ e ∷ []) end
 takes_more takes [] start mid end e all one = (end, subst (λ k. takes k e end) (sym all) one, refl)
 takes_more takes (d ∷ es) start mid end e all one = (all.0, all.1, takes_more takes es all.0 mid end e all.2 one)
 
 module _ {K : Type 0} (takes : K → Entry → K → Type 0) where
-  pub none_taken : (rows left : List Row) (start : K) → left ≡ rows → HasTaken takes rows left 0 start start
+  pub none_taken : (rows left : List Row) (start : K) → left ≡ rows → HasPassed takes rows left 0 start start
   none_taken rows left start all =
       record { passed = []; rows_are = sym all; sources = tt; count_is = refl; taken = refl }
 
   pub one_taken : (rows before left : List Row) (row : Row) (at : ℕ) (start mid end : K) (e : Entry)
-      → HasTaken takes rows before at start mid → before ≡ row ∷ left → row ≡ row_of (at + 1) e → IsOfSource e
+      → HasPassed takes rows before at start mid → before ≡ row ∷ left → row ≡ row_of (at + 1) e → IsOfSource e
       → takes mid e end
-      → HasTaken takes rows left (at + 1) start end
+      → HasPassed takes rows left (at + 1) start end
   one_taken rows before left row at start mid end e was step is source one =
       let passed = was.passed in
       let size : length passed ≡ at = was.count_is in
@@ -89,18 +90,18 @@ module _ {K : Type 0} (takes : K → Entry → K → Type 0) where
         taken = takes_more takes passed start mid end e was.taken one;
       }
 
-  pub all_taken : (rows left : List Row) (at : ℕ) (start end : K) → HasTaken takes rows left at start end → left ≡ []
-      → AreChanges rows at × TakesAll takes start (entries_in rows) end
+  pub all_taken : (rows left : List Row) (at : ℕ) (start end : K) → HasPassed takes rows left at start end → left ≡ []
+      → AreChanges rows at × LeadsTo takes start (entries_in rows) end
   all_taken rows left at start end was none =
       let is : rows ≡ rows_from 1 was.passed =
       was.rows_are ∙ ap (λ l. rows_from 1 was.passed ++ l) none ∙ append-nil (rows_from 1 was.passed) in
       let back : entries_in rows ≡ was.passed = ap entries_in is ∙ entries_of_rows 1 was.passed in (
         changes_from rows was.passed at is was.sources was.count_is,
-        subst (λ es. TakesAll takes start es end) (sym back) was.taken,
+        subst (λ es. LeadsTo takes start es end) (sym back) was.taken,
       )
 
   pub foreign_next : (rows before left : List Row) (row : Row) (at : ℕ) (start end : K)
-      → HasTaken takes rows before at start end → before ≡ row ∷ left
+      → HasPassed takes rows before at start end → before ≡ row ∷ left
       → ((e : Entry) → IsOfSource e → row ≡ row_of (at + 1) e → ⊥) → IsForeignAt rows (at + 1)
   foreign_next rows before left row at start end was step foreign = record {
     before = was.passed;
@@ -111,7 +112,7 @@ module _ {K : Type 0} (takes : K → Entry → K → Type 0) where
     foreign = foreign;
   }
 
-  pub taken_length : (rows left : List Row) (at : ℕ) (start end : K) → HasTaken takes rows left at start end
+  pub taken_length : (rows left : List Row) (at : ℕ) (start end : K) → HasPassed takes rows left at start end
       → at ≤ length rows
   taken_length rows left at start end was = omega (
     arith,

@@ -7,7 +7,7 @@ use Rattle.cube_journal.specs.State.{HasTables, Holds}
 use Rattle.cube_journal.specs.declared.note.FeedNote.{FeedNote}
 
 -- The table of notes has these, and nothing else is written (this project's choice).
-pub record Writes (old new : View) (notes : List Entry) : Type 0 where
+pub record WritesNotes (old new : View) (notes : List Entry) : Type 0 where
   pub others : new ≡ record old { trees = new.trees; cursors = new.cursors }
   pub changes : new.trees 0 ≡ old.trees 0
   pub notes_are : AreNotes (new.trees 1) notes

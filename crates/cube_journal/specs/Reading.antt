@@ -4,23 +4,23 @@ use Rattle.std.specs.List.{AllByRecursion}
 use Rattle.sqlite_value.specs.Order.{Row}
 use Rattle.sqlite_trees.specs.View.{View}
 use Rattle.cube_journal.specs.Rows.{Entry, rows_from, IsOfSource}
-use Rattle.cube_journal.specs.State.{OnlyReads, left_of, TakesAll}
+use Rattle.cube_journal.specs.State.{OnlyReads, rows_left, LeadsTo}
 
 -- A cursor stands before the first row of a table (this project's choice).
-pub record Begins (old new : View) (tree : ℕ) : Type 0 where
+pub record StandsBeforeFirst (old new : View) (tree : ℕ) : Type 0 where
   pub reads : OnlyReads old new
-  pub left : left_of new 0 ≡ old.trees tree
+  pub left : rows_left new 0 ≡ old.trees tree
 
 -- A cursor has passed this row, or had none left (this project's choice).
 abbrev pub Passes : View → View → Row → Bool → Type 0
-Passes old new row true = OnlyReads old new × (left_of old 0 ≡ row ∷ left_of new 0)
-Passes old new row false = OnlyReads old new × (left_of old 0 ≡ [])
+Passes old new row true = OnlyReads old new × (rows_left old 0 ≡ row ∷ rows_left new 0)
+Passes old new row false = OnlyReads old new × (rows_left old 0 ≡ [])
 
 -- Of these rows so many changes are passed and taken, and the others are left (this project's choice).
-pub record HasTaken {K : Type 0} (takes : K → Entry → K → Type 0) (rows left : List Row) (at : ℕ) (start end : K)
+pub record HasPassed {K : Type 0} (takes : K → Entry → K → Type 0) (rows left : List Row) (at : ℕ) (start end : K)
     : Type 0 where
   pub passed : List Entry
   pub rows_are : rows ≡ rows_from 1 passed ++ left
   pub sources : AllByRecursion IsOfSource passed
   pub count_is : length passed ≡ at
-  pub taken : TakesAll takes start passed end
+  pub taken : LeadsTo takes start passed end

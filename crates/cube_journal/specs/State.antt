@@ -68,13 +68,13 @@ abbrev pub OnlyReads : View → View → Type 0
 OnlyReads old new = new ≡ record old { cursors = new.cursors }
 
 -- What a cursor has left to give (this project's choice).
-abbrev pub left_of : View → ℕ → List Row
-left_of v cursor = unwrap_or (v.cursors cursor) []
+abbrev pub rows_left : View → ℕ → List Row
+rows_left v cursor = unwrap_or (v.cursors cursor) []
 
 -- These changes, one after another, lead a sink from one value to another (this project's choice).
-abbrev pub TakesAll : {K : Type 0} → (K → Entry → K → Type 0) → K → List Entry → K → Type 0
-TakesAll takes start [] end = start ≡ end
-TakesAll {K} takes start (change ∷ changes) end = (next : K) × takes start change next × TakesAll takes next changes end
+abbrev pub LeadsTo : {K : Type 0} → (K → Entry → K → Type 0) → K → List Entry → K → Type 0
+LeadsTo takes start [] end = start ≡ end
+LeadsTo {K} takes start (change ∷ changes) end = (next : K) × takes start change next × LeadsTo takes next changes end
 
 -- An open journal has the last commit of the store, and nothing more (this project's choice).
 pub record Finds (was now : View) : Type 0 where
@@ -85,7 +85,7 @@ pub record Finds (was now : View) : Type 0 where
   pub noted : noted_in now ≡ noted_in was
 
 -- A new journal is open, has no change, and has these notes, in tables that had no row (this project's choice).
-pub record Makes (notes : List Entry) (was now : View) : Type 0 where
+pub record MakesJournal (notes : List Entry) (was now : View) : Type 0 where
   pub was_open : IsTrue was.is_open
   pub none_before : (was.committed 0 ≡ []) × (was.committed 1 ≡ [])
   pub is_open : IsTrue now.is_open
@@ -116,7 +116,7 @@ module _ (old new : View) where
     pub noted : noted_in new ≡ noted_in old
 
 -- No doubt and no fault is forgotten, and only a fault shuts an open store (this project's choice).
-pub record GoesOn {S : Type 0} (view : S → View) (faults : S → ℕ) (old new : S) : Type 0 where
+pub record ForgetsNothing {S : Type 0} (view : S → View) (faults : S → ℕ) (old new : S) : Type 0 where
   pub clean : doubt (view old).is_clean ≤ doubt (view new).is_clean
   pub counts : faults old ≤ faults new
   pub stays : IsClean (view new) → IsTrue (view old).is_open
@@ -135,14 +135,14 @@ IsCause fault shut unstorable Unstorable = unstorable
 -- Why a store of these trees isn't opened with these notes:
 -- a call failed, a table is wanting, the notes differ first at this feed,
 -- this row is the first that isn't the next change, or there are more than can be counted (this project's choice).
-abbrev pub Explains : Type 0 → Type 0 → Type 0 → Type 0 → Trees → List Entry → OpenFault → Type 0
-Explains fault shut is_open tables trees notes (kind.Store error) = IsCause fault shut ⊥ error
-Explains fault shut is_open tables trees notes kind.NoTables = tables → ⊥
-Explains fault shut is_open tables trees notes kind.NotEmpty = ⊥
-Explains fault shut is_open tables trees notes (kind.Feed source) =
+abbrev pub ExplainsUnopened : Type 0 → Type 0 → Type 0 → Type 0 → Trees → List Entry → OpenFault → Type 0
+ExplainsUnopened fault shut is_open tables trees notes (kind.Store error) = IsCause fault shut ⊥ error
+ExplainsUnopened fault shut is_open tables trees notes kind.NoTables = tables → ⊥
+ExplainsUnopened fault shut is_open tables trees notes kind.NotEmpty = ⊥
+ExplainsUnopened fault shut is_open tables trees notes (kind.Feed source) =
     is_open × DifferAt (trees 1) (rows_from 0 notes) source
-Explains fault shut is_open tables trees notes (kind.Row number) = is_open × IsForeignAt (trees 0) number
-Explains fault shut is_open tables trees notes kind.TooMany = is_open × (2 ^ 62 < length (trees 0))
+ExplainsUnopened fault shut is_open tables trees notes (kind.Row number) = is_open × IsForeignAt (trees 0) number
+ExplainsUnopened fault shut is_open tables trees notes kind.TooMany = is_open × (2 ^ 62 < length (trees 0))
 
 -- Why no journal is made in a store of these trees: a call failed, a note can't be stored, a table is wanting,
 -- or one of them has a row (this project's choice).
@@ -165,4 +165,4 @@ FailsToStart fault unstorable _ = ⊥
 -- A start has made a store with these notes, or has opened the one that was there,
 -- which has them (this project's choice).
 abbrev pub Starts : List Entry → View → View → Type 0
-Starts notes was now = Makes notes was now ⊎ (Finds was now × (noted_in was ≡ notes))
+Starts notes was now = MakesJournal notes was now ⊎ (Finds was now × (noted_in was ≡ notes))

@@ -4,7 +4,7 @@ ghost use Rattle.std.specs.Bool.{MatchBool};
 ghost use Rattle.sqlite_disk.specs.Disk.{MoreFaults};
 ghost use Rattle.sqlite_trees.specs.View.{IsClean, KeepsSchema, IsQuiet};
 ghost use Rattle.cube_journal.specs.State.{OnlyReads, IsCause};
-ghost use Rattle.cube_journal.specs.Reading.{Begins, Passes};
+ghost use Rattle.cube_journal.specs.Reading.{StandsBeforeFirst, Passes};
 
 use sqlite_trees::error::StoreError;
 use sqlite_trees::store::{Direction, Shape, Store};
@@ -13,7 +13,7 @@ use sqlite_value::row::Row;
 /// Places the cursor before the first row of a table.
 pub fn begin<S: Store>(store: &mut S, row: &mut Row, tree: u32) -> Result<(), StoreError>
     requires { IsClean (S.Store.view store.old) → (S.Store.view store.old).shape tree ≡ Shape.Table }
-    ensures ok { OnOk result (IsClean (S.Store.view store.new) → Begins (S.Store.view store.old) (S.Store.view store.new) tree) }
+    ensures ok { OnOk result (IsClean (S.Store.view store.new) → StandsBeforeFirst (S.Store.view store.old) (S.Store.view store.new) tree) }
     ensures live { OnOk result (IsSome ((S.Store.view store.new).cursors 0)) }
     ensures sound { OnOk result (IsClean (S.Store.view store.new) → (S.Store.view store.old).is_broken ≡ false) }
     ensures schema { KeepsSchema (S.Store.view store.old) (S.Store.view store.new) }

@@ -4,7 +4,7 @@ ghost use Rattle.sqlite_disk.specs.Disk.{MoreFaults};
 ghost use Rattle.sqlite_trees.specs.Tree.{Trees, put_row};
 ghost use Rattle.sqlite_trees.specs.View.{IsClean, KeepsSchema, KeepsCommitted, SetsTree, IsQuiet, HasCause, IsStorableRow};
 ghost use Rattle.cube_journal.specs.Rows.{row_of, IsOfSource};
-ghost use Rattle.cube_journal.specs.State.{held_in, stored_in, noted_in, Holds, HasTables, IsStore, Appends, Undoes, Commits, GoesOn, IsCause};
+ghost use Rattle.cube_journal.specs.State.{held_in, stored_in, noted_in, Holds, HasTables, IsStore, Appends, Undoes, Commits, ForgetsNothing, IsCause};
 
 use crate::row::fill;
 use sqlite_trees::error::StoreError;
@@ -32,10 +32,10 @@ pub struct ChangeJournal<S: Store> {
 }
 
 impl<S: Store> Model for ChangeJournal<S> {
-    ghost use Rattle.cube_journal.specs.Kept.{Kept, kept_code};
+    ghost use Rattle.cube_journal.specs.Kept.{CountedStore, kept_code};
     ghost use Rattle.cube_journal.specs.State.{IsJournal};
 
-    ghost Value = { Kept S };
+    ghost Value = { CountedStore S };
 
     ghost coded = { kept_code S.code };
 
@@ -106,7 +106,7 @@ impl<S: Store> ChangeJournal<S> {
         ensures cause { IfErr result (λ e. IsClean (S.Store.view self.new.store) → IsCause (MoreFaults (S.Store.faults self.old.store) (S.Store.faults self.new.store)) ((S.Store.view self.old.store).is_open ≡ false)
             ((¬ IsStorableRow ((S.Store.view self.old.store).reals 0) (row_of (self.old.count + 1) (source, content.now))) ⊎ ((2 ^ 62 < self.old.count + 1) ⊎ (¬ IsOfSource (source, content.now)))) e) }
         ensures crash { (db : Trees) → S.Store.recovers self.new.store db → S.Store.recovers self.old.store db }
-        ensures on { GoesOn S.Store.view S.Store.faults self.old.store self.new.store }
+        ensures on { ForgetsNothing S.Store.view S.Store.faults self.old.store self.new.store }
     {
         let number = self.count + 1;
         match put_change(&mut self.store, &mut self.row, number, source, content) {
@@ -134,7 +134,7 @@ impl<S: Store> ChangeJournal<S> {
         ensures cause { IfErr result (λ e. IsClean (S.Store.view self.new.store) → IsCause (MoreFaults (S.Store.faults self.old.store) (S.Store.faults self.new.store)) ((S.Store.view self.old.store).is_open ≡ false) ⊥ e) }
         ensures crash { (db : Trees) → S.Store.recovers self.new.store db
             → (IsClean (S.Store.view self.old.store) × Holds db (held_in (S.Store.view self.old.store)) (noted_in (S.Store.view self.old.store))) ⊎ S.Store.recovers self.old.store db }
-        ensures on { GoesOn S.Store.view S.Store.faults self.old.store self.new.store }
+        ensures on { ForgetsNothing S.Store.view S.Store.faults self.old.store self.new.store }
     {
         match self.store.commit() {
             Ok(()) => {

@@ -5,8 +5,8 @@ ghost use Rattle.sqlite_disk.specs.Disk.{MoreFaults};
 ghost use Rattle.sqlite_trees.specs.Tree.{Trees, put_row};
 ghost use Rattle.sqlite_trees.specs.View.{IsClean, IsQuiet, KeepsSchema, SetsTree, OnlyWrites, HasCause, IsStorableRow};
 ghost use Rattle.cube_journal.specs.Rows.{row_of, entry_of, entries_of};
-ghost use Rattle.cube_journal.specs.State.{HasTables, Holds, OnlyReads, Makes, GoesOn, IsCause, Hinders};
-ghost use Rattle.cube_journal.specs.Making.{Writes, IsMade, CantNote, LeavesNotes, PutsNotes};
+ghost use Rattle.cube_journal.specs.State.{HasTables, Holds, OnlyReads, MakesJournal, ForgetsNothing, IsCause, Hinders};
+ghost use Rattle.cube_journal.specs.Making.{WritesNotes, IsMade, CantNote, LeavesNotes, PutsNotes};
 
 use crate::cursor::{begin, step};
 use crate::fault::OpenFault;
@@ -83,7 +83,7 @@ fn are_empty<S: Store>(store: &mut S, row: &mut Row) -> Result<bool, StoreError>
 fn put_notes<S: Store>(store: &mut S, row: &mut Row, notes: &[FeedNote]) -> Result<(), StoreError>
     requires { IsClean (S.Store.view store.old) → (S.Store.view store.old).shape 1 ≡ Shape.Table }
     ensures others { OnOk result (IsClean (S.Store.view store.new) → OnlyWrites (S.Store.view store.old) (S.Store.view store.new)) }
-    ensures rows { OnOk result (IsClean (S.Store.view store.new) → (S.Store.view store.old).trees 1 ≡ [] → Writes (S.Store.view store.old) (S.Store.view store.new) (entries_of notes.now)) }
+    ensures rows { OnOk result (IsClean (S.Store.view store.new) → (S.Store.view store.old).trees 1 ≡ [] → WritesNotes (S.Store.view store.old) (S.Store.view store.new) (entries_of notes.now)) }
     ensures schema { KeepsSchema (S.Store.view store.old) (S.Store.view store.new) }
     ensures cause { IsClean (S.Store.view store.new) → IfErr result (IsCause (MoreFaults (S.Store.faults store.old) (S.Store.faults store.new)) (IsTrue (S.Store.view store.old).is_broken)
         ((reals : ℕ) × CantNote reals notes.now)) }
@@ -99,7 +99,7 @@ fn put_notes<S: Store>(store: &mut S, row: &mut Row, notes: &[FeedNote]) -> Resu
 fn write_notes<S: Store>(store: &mut S, row: &mut Row, notes: &[FeedNote]) -> Result<(), OpenFault>
     ensures made { OnOk result (IsClean (S.Store.view store.new) → IsMade (S.Store.view store.old) (S.Store.view store.new) (entries_of notes.now)) }
     ensures crash { (db : Trees) → S.Store.recovers store.new db → PutsNotes (S.Store.view store.old) (entries_of notes.now) db ⊎ S.Store.recovers store.old db }
-    ensures on { GoesOn S.Store.view S.Store.faults store.old store.new }
+    ensures on { ForgetsNothing S.Store.view S.Store.faults store.old store.new }
     ensures cause { IsClean (S.Store.view store.new) → IfErr result (Hinders (MoreFaults (S.Store.faults store.old) (S.Store.faults store.new)) (IsTrue (S.Store.view store.old).is_broken)
         ((reals : ℕ) × CantNote reals notes.now) (((S.Store.view store.old).shape 0 ≡ Shape.Table) × ((S.Store.view store.old).shape 1 ≡ Shape.Table))
         ((S.Store.view store.old).is_broken ≡ false) (S.Store.view store.old).trees) }
@@ -144,13 +144,13 @@ pub(crate) fn make<S: Store>(
     mut store: S,
     notes: &[FeedNote],
 ) -> Result<ChangeJournal<S>, (OpenFault, S)>
-    ensures made { IfOk result (λ j. IsClean (S.Store.view j.store) → Makes (entries_of notes.now) (S.Store.view store) (S.Store.view j.store)) }
+    ensures made { IfOk result (λ j. IsClean (S.Store.view j.store) → MakesJournal (entries_of notes.now) (S.Store.view store) (S.Store.view j.store)) }
     ensures durable { IfOk result (λ j. IsClean (S.Store.view j.store) → (db : Trees) → S.Store.recovers j.store db → Holds db [] (entries_of notes.now)) }
     ensures counts { IfOk result (λ j. (j.count ≡ 0) × (j.committed ≡ 0)) }
     ensures crash { IfOk result (λ j. (db : Trees) → S.Store.recovers j.store db → LeavesNotes (S.Store.view store) (entries_of notes.now) db ⊎ S.Store.recovers store db) }
     ensures unharmed { IfErr result (λ e. (db : Trees) → S.Store.recovers e.1 db → LeavesNotes (S.Store.view store) (entries_of notes.now) db ⊎ S.Store.recovers store db) }
-    ensures on { IfOk result (λ j. GoesOn S.Store.view S.Store.faults store j.store) }
-    ensures on_err { IfErr result (λ e. GoesOn S.Store.view S.Store.faults store e.1) }
+    ensures on { IfOk result (λ j. ForgetsNothing S.Store.view S.Store.faults store j.store) }
+    ensures on_err { IfErr result (λ e. ForgetsNothing S.Store.view S.Store.faults store e.1) }
     ensures cause { IfErr result (λ e. IsClean (S.Store.view e.1) → Hinders (MoreFaults (S.Store.faults store) (S.Store.faults e.1)) (((S.Store.view store).is_open ≡ false) ⊎ MoreFaults (S.Store.faults store) (S.Store.faults e.1))
         ((reals : ℕ) × CantNote reals notes.now) (HasTables (S.Store.view store)) (IsTrue (S.Store.view store).is_open) (S.Store.view store).committed e.0) }
 {

@@ -3,7 +3,7 @@ ghost use Rattle.std.specs.Prelude.{◌≡◌, ◌↔◌, ◌⊎◌, List, ◌<�
 ghost use Rattle.sqlite_disk.specs.Disk.{MoreFaults};
 ghost use Rattle.sqlite_trees.specs.View.{IsClean, IsQuiet};
 ghost use Rattle.cube_journal.specs.Rows.{Entry, entries_in, entries_of, AreChanges, AreNotes};
-ghost use Rattle.cube_journal.specs.State.{stored_in, noted_in, HasTables, OnlyReads, IsStore, TakesAll, Finds, Explains, IsFailedCall};
+ghost use Rattle.cube_journal.specs.State.{stored_in, noted_in, HasTables, OnlyReads, IsStore, LeadsTo, Finds, ExplainsUnopened, IsFailedCall};
 
 use crate::cursor::{begin, step};
 use crate::fault::OpenFault;
@@ -29,7 +29,7 @@ fn compare<S: Store>(store: &mut S, row: &mut Row, notes: &[FeedNote]) -> Result
     ensures same { OnOk result (IsClean (S.Store.view store.new) → AreNotes ((S.Store.view store.old).trees 1) (entries_of notes.now)) }
     ensures reads { OnOk result (IsClean (S.Store.view store.new) → OnlyReads (S.Store.view store.old) (S.Store.view store.new)) }
     ensures sound { OnOk result (IsClean (S.Store.view store.new) → (S.Store.view store.old).is_broken ≡ false) }
-    ensures cause { IsClean (S.Store.view store.new) → IfErr result (Explains (MoreFaults (S.Store.faults store.old) (S.Store.faults store.new)) (IsTrue (S.Store.view store.old).is_broken)
+    ensures cause { IsClean (S.Store.view store.new) → IfErr result (ExplainsUnopened (MoreFaults (S.Store.faults store.old) (S.Store.faults store.new)) (IsTrue (S.Store.view store.old).is_broken)
         ((S.Store.view store.old).is_broken ≡ false) ⊤ (S.Store.view store.old).trees (entries_of notes.now)) }
     ensures quiet { IsQuiet S.Store.view S.Store.faults S.Store.recovers S.Store.is_shielded store.old store.new }
 {
@@ -58,10 +58,10 @@ fn replay<S: Store, K: ChangeSink>(
     requires { IsClean (S.Store.view store.old) → (S.Store.view store.old).shape 0 ≡ Shape.Table }
     ensures few { IfOk result (λ count. count ≤ 2 ^ 62) }
     ensures changes { IfOk result (λ count. IsClean (S.Store.view store.new) → AreChanges ((S.Store.view store.old).trees 0) count) }
-    ensures taken { OnOk result (IsClean (S.Store.view store.new) → TakesAll K.ChangeSink.takes sink.old (entries_in ((S.Store.view store.old).trees 0)) sink.new) }
+    ensures taken { OnOk result (IsClean (S.Store.view store.new) → LeadsTo K.ChangeSink.takes sink.old (entries_in ((S.Store.view store.old).trees 0)) sink.new) }
     ensures reads { OnOk result (IsClean (S.Store.view store.new) → OnlyReads (S.Store.view store.old) (S.Store.view store.new)) }
     ensures sound { OnOk result (IsClean (S.Store.view store.new) → (S.Store.view store.old).is_broken ≡ false) }
-    ensures cause { IsClean (S.Store.view store.new) → IfErr result (λ e. (notes : List Entry) → Explains (MoreFaults (S.Store.faults store.old) (S.Store.faults store.new)) (IsTrue (S.Store.view store.old).is_broken)
+    ensures cause { IsClean (S.Store.view store.new) → IfErr result (λ e. (notes : List Entry) → ExplainsUnopened (MoreFaults (S.Store.faults store.old) (S.Store.faults store.new)) (IsTrue (S.Store.view store.old).is_broken)
         ((S.Store.view store.old).is_broken ≡ false) ⊤ (S.Store.view store.old).trees notes e) }
     ensures quiet { IsQuiet S.Store.view S.Store.faults S.Store.recovers S.Store.is_shielded store.old store.new }
 {
@@ -89,10 +89,10 @@ fn read_all<S: Store, K: ChangeSink>(
     ensures tables { OnOk result (((S.Store.view store.old).shape 0 ≡ Shape.Table) × ((S.Store.view store.old).shape 1 ≡ Shape.Table)) }
     ensures changes { IfOk result (λ count. IsClean (S.Store.view store.new) → AreChanges ((S.Store.view store.old).trees 0) count) }
     ensures same { OnOk result (IsClean (S.Store.view store.new) → AreNotes ((S.Store.view store.old).trees 1) (entries_of notes.now)) }
-    ensures taken { OnOk result (IsClean (S.Store.view store.new) → TakesAll K.ChangeSink.takes sink.old (entries_in ((S.Store.view store.old).trees 0)) sink.new) }
+    ensures taken { OnOk result (IsClean (S.Store.view store.new) → LeadsTo K.ChangeSink.takes sink.old (entries_in ((S.Store.view store.old).trees 0)) sink.new) }
     ensures reads { OnOk result (IsClean (S.Store.view store.new) → OnlyReads (S.Store.view store.old) (S.Store.view store.new)) }
     ensures sound { OnOk result (IsClean (S.Store.view store.new) → (S.Store.view store.old).is_broken ≡ false) }
-    ensures cause { IsClean (S.Store.view store.new) → IfErr result (Explains (MoreFaults (S.Store.faults store.old) (S.Store.faults store.new)) (IsTrue (S.Store.view store.old).is_broken)
+    ensures cause { IsClean (S.Store.view store.new) → IfErr result (ExplainsUnopened (MoreFaults (S.Store.faults store.old) (S.Store.faults store.new)) (IsTrue (S.Store.view store.old).is_broken)
         ((S.Store.view store.old).is_broken ≡ false) (((S.Store.view store.old).shape 0 ≡ Shape.Table) × ((S.Store.view store.old).shape 1 ≡ Shape.Table)) (S.Store.view store.old).trees (entries_of notes.now)) }
     ensures quiet { IsQuiet S.Store.view S.Store.faults S.Store.recovers S.Store.is_shielded store.old store.new }
 {
@@ -116,11 +116,11 @@ pub(crate) fn open<S: Store, K: ChangeSink>(
 ) -> Result<ChangeJournal<S>, (OpenFault, S)>
     ensures found { IfOk result (λ j. IsClean (S.Store.view j.store) → Finds (S.Store.view store) (S.Store.view j.store)) }
     ensures noted { IfOk result (λ j. IsClean (S.Store.view j.store) → noted_in (S.Store.view store) ≡ entries_of notes.now) }
-    ensures taken { IfOk result (λ j. IsClean (S.Store.view j.store) → TakesAll K.ChangeSink.takes sink.old (stored_in (S.Store.view store)) sink.new) }
+    ensures taken { IfOk result (λ j. IsClean (S.Store.view j.store) → LeadsTo K.ChangeSink.takes sink.old (stored_in (S.Store.view store)) sink.new) }
     ensures counts { IfOk result (λ j. j.committed ≡ j.count) }
     ensures quiet { IfOk result (λ j. IsQuiet S.Store.view S.Store.faults S.Store.recovers S.Store.is_shielded store j.store) }
     ensures unharmed { IfErr result (λ e. IsQuiet S.Store.view S.Store.faults S.Store.recovers S.Store.is_shielded store e.1) }
-    ensures cause { IfErr result (λ e. IsClean (S.Store.view e.1) → Explains (MoreFaults (S.Store.faults store) (S.Store.faults e.1)) (((S.Store.view store).is_open ≡ false) ⊎ MoreFaults (S.Store.faults store) (S.Store.faults e.1))
+    ensures cause { IfErr result (λ e. IsClean (S.Store.view e.1) → ExplainsUnopened (MoreFaults (S.Store.faults store) (S.Store.faults e.1)) (((S.Store.view store).is_open ≡ false) ⊎ MoreFaults (S.Store.faults store) (S.Store.faults e.1))
         (IsTrue (S.Store.view store).is_open) (HasTables (S.Store.view store)) (S.Store.view store).committed (entries_of notes.now) e.0) }
     ensures accepts { IfErr result (λ e. IsClean (S.Store.view e.1) → IsStore (S.Store.view store) (entries_of notes.now) → IsFailedCall (MoreFaults (S.Store.faults store) (S.Store.faults e.1)) e.0) }
 {

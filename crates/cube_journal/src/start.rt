@@ -4,7 +4,7 @@ ghost use Rattle.sqlite_disk.specs.Disk.{MoreFaults};
 ghost use Rattle.sqlite_trees.specs.Tree.{Trees};
 ghost use Rattle.sqlite_trees.specs.View.{IsClean};
 ghost use Rattle.cube_journal.specs.Rows.{entries_of};
-ghost use Rattle.cube_journal.specs.State.{stored_in, IsStore, IsUnmade, TakesAll, Starts, GoesOn, FailsToStart};
+ghost use Rattle.cube_journal.specs.State.{stored_in, IsStore, IsUnmade, LeadsTo, Starts, ForgetsNothing, FailsToStart};
 ghost use Rattle.cube_journal.specs.Making.{CantNote, LeavesNotes};
 
 use crate::fault::OpenFault;
@@ -28,12 +28,12 @@ pub fn open_or_make<S: Store, K: ChangeSink>(
     sink: &mut K,
 ) -> Result<ChangeJournal<S>, (OpenFault, S)>
     ensures found { IfOk result (λ j. IsClean (S.Store.view j.store) → Starts (entries_of notes.now) (S.Store.view store) (S.Store.view j.store)) }
-    ensures taken { IfOk result (λ j. IsClean (S.Store.view j.store) → TakesAll K.ChangeSink.takes sink.old (stored_in (S.Store.view j.store)) sink.new) }
+    ensures taken { IfOk result (λ j. IsClean (S.Store.view j.store) → LeadsTo K.ChangeSink.takes sink.old (stored_in (S.Store.view j.store)) sink.new) }
     ensures counts { IfOk result (λ j. j.committed ≡ j.count) }
     ensures crash { IfOk result (λ j. (db : Trees) → S.Store.recovers j.store db → LeavesNotes (S.Store.view store) (entries_of notes.now) db ⊎ S.Store.recovers store db) }
     ensures unharmed { IfErr result (λ e. (db : Trees) → S.Store.recovers e.1 db → LeavesNotes (S.Store.view store) (entries_of notes.now) db ⊎ S.Store.recovers store db) }
-    ensures on { IfOk result (λ j. GoesOn S.Store.view S.Store.faults store j.store) }
-    ensures on_err { IfErr result (λ e. GoesOn S.Store.view S.Store.faults store e.1) }
+    ensures on { IfOk result (λ j. ForgetsNothing S.Store.view S.Store.faults store j.store) }
+    ensures on_err { IfErr result (λ e. ForgetsNothing S.Store.view S.Store.faults store e.1) }
     ensures accepts { IfErr result (λ e. IsClean (S.Store.view e.1) → IsStore (S.Store.view store) (entries_of notes.now) ⊎ IsUnmade (S.Store.view store)
         → FailsToStart (MoreFaults (S.Store.faults store) (S.Store.faults e.1)) ((reals : ℕ) × CantNote reals notes.now) e.0) }
 {

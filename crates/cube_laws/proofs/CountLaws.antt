@@ -13,7 +13,7 @@ use Rattle.cube_core.specs.Cube.{AreRows, HasAnswers, key_of, is_total}
 use Rattle.cube_core.specs.Group.{group_of}
 use Rattle.cube_core.specs.GroupingSet.{is_all_coord, is_among, mask_of}
 use Rattle.cube_laws.specs.Cells.{HaveDimensions, rows_in_set, group_size, answer_at, count_at}
-use Rattle.cube_core.specs.Merged.{count_in}
+use Rattle.cube_core.specs.Merged.{count_answered}
 use Rattle.cube_core.specs.Order.{key_cmp}
 use Rattle.cube_core.specs.declared.aggregate.Agg.{Agg}
 use Rattle.cube_core.specs.declared.aggregate.Agg.TheVariants as agg
@@ -132,7 +132,7 @@ rows_in_set-count_at s facts rows set place are dims below kept at_place =
     sum_by-same (count_at place) (group_size facts) (rows_in_set set rows)
     (Contains-AllByRecursion (λ row. count_at place row ≡ group_size facts row) (rows_in_set set rows) (λ row among.
     let row_of_cube = (Contains-filter (λ (row : Row). mask_of row.key == set) rows row among).0 in
-    ap count_in (AreRows-answer_at s facts rows are row row_of_cube place agg.CountAll at_place)))
+    ap count_answered (AreRows-answer_at s facts rows are row row_of_cube place agg.CountAll at_place)))
     ∙ rows_in_set-group_size s facts rows are set dims below kept
 
 -- ALL stands for each value

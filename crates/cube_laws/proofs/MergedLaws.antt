@@ -30,7 +30,7 @@ use Rattle.cube_core.proofs.KeyOrderLaws.{key_cmp-IsTotalOrder, key_cmp-exact}
 use Rattle.cube_core.proofs.ListLaws.{AllByRecursion-Contains, Contains-AllByRecursion, Contains-cases, Contains-head}
 use Rattle.cube_core.proofs.ListLaws.{Contains-tail, Contains-nil, Contains-map, map-Contains, filter-passed}
 use Rattle.cube_core.proofs.ListLaws.{filter-failed}
-use Rattle.cube_laws.specs.Merging.{joined, AreMergedOf, IsMadeOf}
+use Rattle.cube_laws.specs.Merging.{joined, AreMergedOf, CanBeMadeOf}
 use Rattle.cube_laws.proofs.RowLaws.{IsStrictlySortedBy-above}
 use Rattle.cube_laws.proofs.RowOrderLaws.{IsPermutation-Reordered, Reordered-IsPermutation, filter-Reordered}
 use Rattle.cube_laws.proofs.SharesLaws.{Share, facts_in, row_in, Answers, AreMerged-shares, AreAnswers-shares}
@@ -284,7 +284,7 @@ module _ (sets : List ℕ) (dimensions : ℕ) (given : List Agg) where
 
   -- the rows of the whole are merged rows of the parts' rows
   pub AreMergedOf-AreRowsOver : (wanted : List Agg) (parts : List (List Fact)) (cubes : List (List Row))
-      (rows : List Row) → AllByRecursion (IsMadeOf given) wanted → 1 ≤ length parts
+      (rows : List Row) → AllByRecursion (CanBeMadeOf given) wanted → 1 ≤ length parts
       → AllZip (AreRowsOver sets dimensions given) parts cubes → AreRowsOver sets dimensions wanted (joined parts) rows
       → AreMergedOf given wanted cubes rows
   AreMergedOf-AreRowsOver wanted parts cubes rows made some are whole =

@@ -11,10 +11,10 @@ use Rattle.cube_core.specs.declared.fact.Fact.{Fact}
 use Rattle.cube_core.specs.declared.key.Row.{Row}
 use Rattle.cube_core.specs.Text.{text_of_rows}
 use Rattle.cube_merge.specs.Merging.{IsMergeOf}
-use Rattle.cube_laws.specs.Merging.{joined, IsTextOf, IsMergedText, PutsPrinted}
+use Rattle.cube_laws.specs.Merging.{joined, IsTextOfRows, IsMergedText, PutsPrinted}
 use Rattle.cube_laws.specs.Told.{CanBePrinted}
 use Rattle.cube_laws.proofs.MergedLaws.{AreRowsOver-AreMergedOf}
-use Rattle.cube_laws.proofs.RangeLaws.{AreRows-IsRowOf}
+use Rattle.cube_laws.proofs.RangeLaws.{AreRows-IsLawfulRow}
 use Rattle.cube_laws.proofs.RowLaws.{IsPrinted-unique}
 use Rattle.cube_laws.proofs.RowOrderLaws.{IsPrinted-IsPermutation}
 use Rattle.cube_laws.proofs.RowTextLaws.{text_of_rows-told}
@@ -31,12 +31,12 @@ AllZip-places R (x ∷ xs) (y ∷ ys) d e as_many each = (
 )
 
 -- rows whose text is the printed cube are the cube's
-AreRows-IsTextOf : (s : Layout) (facts : List Fact) (text : List ℕ) (rows : List Row) → 1 ≤ length s.dimensions
-    → CanBePrinted s facts → IsPrinted s facts text → IsTextOf s text rows
+AreRows-IsTextOfRows : (s : Layout) (facts : List Fact) (text : List ℕ) (rows : List Row) → 1 ≤ length s.dimensions
+    → CanBePrinted s facts → IsPrinted s facts text → IsTextOfRows s text rows
     → AreRows s facts rows
-AreRows-IsTextOf s facts text rows some printable printed read =
+AreRows-IsTextOfRows s facts text rows some printable printed read =
     subst (AreRows s facts)
-    (text_of_rows-told s printed.rows rows some (AreRows-IsRowOf s facts printed.rows printable printed.are_rows)
+    (text_of_rows-told s printed.rows rows some (AreRows-IsLawfulRow s facts printed.rows printable printed.are_rows)
     read.of_schema (sym printed.text_is ∙ read.text_is))
     printed.are_rows
 
@@ -48,7 +48,7 @@ partial_form-CanBePrinted s facts printable = record { fit = printable.fit; coun
 -- the rows that are read of printed partial cubes are those of each part
 AllZip-AreRows : (s : Layout) (parts : List (List Fact)) (texts : List (List ℕ)) (cubes : List (List Row))
     → 1 ≤ length s.dimensions → AllByRecursion (CanBePrinted s) parts
-    → AllZip (IsPrinted (partial_form s)) parts texts → AllZip (IsTextOf (partial_form s)) texts cubes
+    → AllZip (IsPrinted (partial_form s)) parts texts → AllZip (IsTextOfRows (partial_form s)) texts cubes
     → AllZip (AreRows (partial_form s)) parts cubes
 AllZip-AreRows s [] [] [] some printable printed read = tt
 AllZip-AreRows s [] [] (rows ∷ cubes) some printable printed read = absurd read
@@ -56,7 +56,7 @@ AllZip-AreRows s [] (text ∷ texts) cubes some printable printed read = absurd 
 AllZip-AreRows s (facts ∷ parts) [] cubes some printable printed read = absurd printed
 AllZip-AreRows s (facts ∷ parts) (text ∷ texts) [] some printable printed read = absurd read
 AllZip-AreRows s (facts ∷ parts) (text ∷ texts) (rows ∷ cubes) some printable printed read = (
-  AreRows-IsTextOf (partial_form s) facts text rows some
+  AreRows-IsTextOfRows (partial_form s) facts text rows some
       (partial_form-CanBePrinted s facts printable.0) printed.0 read.0,
   AllZip-AreRows s parts texts cubes some printable.1 printed.1 read.1,
 )
@@ -71,7 +71,8 @@ IsMergedText-IsPrinted s parts texts text schema some printable printed merged =
   are_rows = AreRowsOver-AreMergedOf s.grouping_sets (length s.dimensions)
       (partial_aggregates s.aggregates) s.aggregates parts merged.cubes merged.rows some
       (AllZip-AreRows s parts texts merged.cubes schema.some_dimension printable printed
-      (AllZip-places (IsTextOf (partial_form s)) texts merged.cubes [] [] merged.as_many merged.read)) merged.merged;
+      (AllZip-places (IsTextOfRows (partial_form s)) texts merged.cubes [] [] merged.as_many merged.read))
+          merged.merged;
   text_is = merged.text_is;
 }
 
@@ -84,7 +85,8 @@ IsMergedText-partial s parts texts text schema some printable printed merged = r
   are_rows = AreRowsOver-AreMergedOf s.grouping_sets (length s.dimensions) (partial_aggregates s.aggregates)
       (partial_aggregates s.aggregates) parts merged.cubes merged.rows some
       (AllZip-AreRows s parts texts merged.cubes schema.some_dimension printable printed
-      (AllZip-places (IsTextOf (partial_form s)) texts merged.cubes [] [] merged.as_many merged.read)) merged.merged;
+      (AllZip-places (IsTextOfRows (partial_form s)) texts merged.cubes [] [] merged.as_many merged.read))
+          merged.merged;
   text_is = merged.text_is;
 }
 

@@ -16,7 +16,7 @@ use Rattle.cube_core.specs.declared.key.Row.{Row}
 use Rattle.cube_core.proofs.ListLaws.{Contains-AllByRecursion, Contains-cases, Contains-list_any, Contains-nil}
 use Rattle.cube_core.proofs.ListLaws.{list_any-Contains}
 use Rattle.cube_merge.specs.Source.{can_be_made}
-use Rattle.cube_laws.specs.Merging.{joined, AreMergedOf, Stands, IsMadeOf}
+use Rattle.cube_laws.specs.Merging.{joined, AreMergedOf, Stands, CanBeMadeOf}
 use Rattle.cube_laws.proofs.MergedLaws.{AreMergedOf-AreRowsOver}
 
 -- aggregates that are the same are one
@@ -124,28 +124,28 @@ fold-HasParts given (agg ∷ means) m among = elim (Contains-cases agg means (Av
 ]
 
 -- ---- what an answer is made of
-partial-IsMadeOf : (aggregates : List Agg) (agg : Agg) → Contains (partial_aggregates aggregates) agg
-    → IsMadeOf (partial_aggregates aggregates) agg
-partial-IsMadeOf aggregates (Avg m) among =
+partial-CanBeMadeOf : (aggregates : List Agg) (agg : Agg) → Contains (partial_aggregates aggregates) agg
+    → CanBeMadeOf (partial_aggregates aggregates) agg
+partial-CanBeMadeOf aggregates (Avg m) among =
     let parts = fold-HasParts aggregates aggregates m (fold-Avg aggregates aggregates m among) in (
       Contains-Stands (partial_aggregates aggregates) (Sum m) parts.0,
       Contains-Stands (partial_aggregates aggregates) (Count m) parts.1,
     )
-partial-IsMadeOf aggregates CountAll among = Contains-Stands (partial_aggregates aggregates) CountAll among
-partial-IsMadeOf aggregates (Count m) among = Contains-Stands (partial_aggregates aggregates) (Count m) among
-partial-IsMadeOf aggregates (Sum m) among = Contains-Stands (partial_aggregates aggregates) (Sum m) among
-partial-IsMadeOf aggregates (Min m) among = Contains-Stands (partial_aggregates aggregates) (Min m) among
-partial-IsMadeOf aggregates (Max m) among = Contains-Stands (partial_aggregates aggregates) (Max m) among
+partial-CanBeMadeOf aggregates CountAll among = Contains-Stands (partial_aggregates aggregates) CountAll among
+partial-CanBeMadeOf aggregates (Count m) among = Contains-Stands (partial_aggregates aggregates) (Count m) among
+partial-CanBeMadeOf aggregates (Sum m) among = Contains-Stands (partial_aggregates aggregates) (Sum m) among
+partial-CanBeMadeOf aggregates (Min m) among = Contains-Stands (partial_aggregates aggregates) (Min m) among
+partial-CanBeMadeOf aggregates (Max m) among = Contains-Stands (partial_aggregates aggregates) (Max m) among
 
 pub partial-each : (aggregates : List Agg)
-    → AllByRecursion (IsMadeOf (partial_aggregates aggregates)) (partial_aggregates aggregates)
-partial-each aggregates = Contains-AllByRecursion (IsMadeOf (partial_aggregates aggregates))
-    (partial_aggregates aggregates) (partial-IsMadeOf aggregates)
+    → AllByRecursion (CanBeMadeOf (partial_aggregates aggregates)) (partial_aggregates aggregates)
+partial-each aggregates = Contains-AllByRecursion (CanBeMadeOf (partial_aggregates aggregates))
+    (partial_aggregates aggregates) (partial-CanBeMadeOf aggregates)
 
-pub own-each : (aggregates : List Agg) → AllByRecursion (IsMadeOf (partial_aggregates aggregates)) aggregates
+pub own-each : (aggregates : List Agg) → AllByRecursion (CanBeMadeOf (partial_aggregates aggregates)) aggregates
 own-each aggregates =
-    Contains-AllByRecursion (IsMadeOf (partial_aggregates aggregates)) aggregates
-    (λ agg among. partial-IsMadeOf aggregates agg (fold-keeps aggregates aggregates agg among))
+    Contains-AllByRecursion (CanBeMadeOf (partial_aggregates aggregates)) aggregates
+    (λ agg among. partial-CanBeMadeOf aggregates agg (fold-keeps aggregates aggregates agg among))
 
 -- the rows of the whole are merged rows
 pub AreMergedOf-whole : (s : Layout) (parts : List (List Fact)) (cubes : List (List Row)) (rows : List Row)

@@ -24,7 +24,7 @@ use Rattle.cube_core.specs.declared.key.Row.{Row}
 use Rattle.cube_core.proofs.CommonDivisorLaws.{divides-coprime}
 use Rattle.cube_core.proofs.ListLaws.{AllByRecursion-Contains, Contains-AllByRecursion, map-Contains, filter-passed}
 use Rattle.cube_core.proofs.ListLaws.{filter-failed}
-use Rattle.cube_merge.specs.Lawful.{IsCount, IsNumber, IsValue, IsFraction, IsOfKind, IsRowOf}
+use Rattle.cube_merge.specs.Lawful.{IsCount, IsNumber, IsValue, IsFraction, IsOfKind, IsLawfulRow}
 use Rattle.cube_laws.specs.Told.{HasSmallValues, AreCountable, CanBePrinted}
 use Rattle.cube_laws.proofs.KeyLaws.{IsTold-is_cell}
 
@@ -193,10 +193,11 @@ group_of-AreCountable facts row countable = record {
 }
 
 -- the rows of a cube are rows of its schema
-pub AreRows-IsRowOf : (s : Layout) (facts : List Fact) (rows : List Row) → CanBePrinted s facts → AreRows s facts rows
-    → AllByRecursion (IsRowOf s) rows
-AreRows-IsRowOf s facts rows printable are =
-    Contains-AllByRecursion (IsRowOf s) rows (λ row among.
+pub AreRows-IsLawfulRow : (s : Layout) (facts : List Fact) (rows : List Row) → CanBePrinted s facts
+    → AreRows s facts rows
+    → AllByRecursion (IsLawfulRow s) rows
+AreRows-IsLawfulRow s facts rows printable are =
+    Contains-AllByRecursion (IsLawfulRow s) rows (λ row among.
     let told = IsTold-is_cell s s.grouping_sets facts row.key printable.fit
     ((are.cells row.key).0 (map-Contains key_of rows row among)) in
     record {

@@ -10,7 +10,7 @@ use Rattle.cube_core.specs.Answer.{IsSum, IsBest, IsLeast, IsGreatest, IsAnswer}
 use Rattle.cube_core.specs.Cube.{key_of}
 use Rattle.cube_core.specs.Group.{group_of, values_of, value_of}
 use Rattle.cube_laws.specs.Cells.{group_size, answer_at, count_at}
-use Rattle.cube_core.specs.Merged.{count_in}
+use Rattle.cube_core.specs.Merged.{count_answered}
 use Rattle.cube_core.specs.Query.{drills_down, rows_below}
 use Rattle.cube_laws.specs.Rollup.{IsRolledUp, numbers_at, gives_numbers}
 use Rattle.cube_core.specs.declared.aggregate.Agg.{Agg}
@@ -93,24 +93,24 @@ module _ (s : Layout) (facts : List Fact) (rows : List Row) (row : Row) (dimensi
   pub CountAll-under : slice_get s.aggregates place ≡ Some agg.CountAll →
       count_at place row ≡ sum_by (count_at place) under
   CountAll-under at_place =
-      ap count_in (rows-answer_at agg.CountAll at_place row is.row_of_cube)
+      ap count_answered (rows-answer_at agg.CountAll at_place row is.row_of_cube)
       ∙ length-Reordered group_of-under
       ∙ length-flat_map (λ key. group_of key facts) (map key_of under)
       ∙ sum_by-map key_of (λ key. length (group_of key facts)) under
       ∙ sym (sum_by-same (count_at place) (group_size facts) under
       (AllByRecursion-under (λ below. count_at place below ≡ group_size facts below)
-      (λ below among. ap count_in (rows-answer_at agg.CountAll at_place below among))))
+      (λ below among. ap count_answered (rows-answer_at agg.CountAll at_place below among))))
 
   -- a count of values rolls up
   pub Count-under : (m : ℕ) → slice_get s.aggregates place ≡ Some (agg.Count m) →
       count_at place row ≡ sum_by (count_at place) under
   Count-under m at_place =
-      ap count_in (rows-answer_at (agg.Count m) at_place row is.row_of_cube)
+      ap count_answered (rows-answer_at (agg.Count m) at_place row is.row_of_cube)
       ∙ length-Reordered (values_of-under m)
       ∙ length-flat_map (values_in m) under
       ∙ sym (sum_by-same (count_at place) (λ below. length (values_in m below)) under
       (AllByRecursion-under (λ below. count_at place below ≡ length (values_in m below))
-      (λ below among. ap count_in (rows-answer_at (agg.Count m) at_place below among))))
+      (λ below among. ap count_answered (rows-answer_at (agg.Count m) at_place below among))))
 
   -- a sum rolls up
   pub Sum-under : (m : ℕ) → slice_get s.aggregates place ≡ Some (agg.Sum m) →

@@ -7,22 +7,22 @@ use Rattle.cube_core.specs.Text.{answer_text, header_fields, row_fields, text_of
 use Rattle.cube_core.specs.declared.aggregate.Answer.{Answer}
 use Rattle.cube_core.specs.declared.key.Key.{Key}
 use Rattle.cube_core.specs.declared.key.Row.{Row}
-use Rattle.cube_merge.specs.Lawful.{IsRowOf}
+use Rattle.cube_merge.specs.Lawful.{IsLawfulRow}
 use Rattle.cube_laws.proofs.AnswerTextLaws.{AreOfKind-told}
 use Rattle.cube_laws.proofs.KeyLaws.{LookAlike-unique, append-front, append-back, length-shown, shown, shown-LookAlike}
 use Rattle.cube_laws.proofs.TextLaws.{records-fields}
 
 -- a row of a schema has a field
-row_fields-IsRowOf : (s : Layout) (rows : List Row) → 1 ≤ length s.dimensions → AllByRecursion (IsRowOf s) rows
+row_fields-IsLawfulRow : (s : Layout) (rows : List Row) → 1 ≤ length s.dimensions → AllByRecursion (IsLawfulRow s) rows
     → AllByRecursion (λ fields. 1 ≤ length fields) (map row_fields rows)
-row_fields-IsRowOf s [] some all = tt
-row_fields-IsRowOf s (row ∷ rows) some all = (
+row_fields-IsLawfulRow s [] some all = tt
+row_fields-IsLawfulRow s (row ∷ rows) some all = (
   omega (arith, length-append (shown row.key) (map answer_text row.answers), length-shown row.key, all.0.coords),
-  row_fields-IsRowOf s rows some all.1,
+  row_fields-IsLawfulRow s rows some all.1,
 )
 
 -- two rows that show the same are one row
-row_fields-told : (s : Layout) (a b : Row) → IsRowOf s a → IsRowOf s b → row_fields a ≡ row_fields b → a ≡ b
+row_fields-told : (s : Layout) (a b : Row) → IsLawfulRow s a → IsLawfulRow s b → row_fields a ≡ row_fields b → a ≡ b
 row_fields-told s a b h k same =
     let coords : length a.key.coords ≡ length b.key.coords = h.coords ∙ sym k.coords in
     let columns : length (shown a.key) ≡ length (shown b.key) =
@@ -34,7 +34,8 @@ row_fields-told s a b h k same =
     (append-back (shown a.key) (shown b.key) (map answer_text a.answers) (map answer_text b.answers) columns same) in
     ap₂ (λ (key : Key) (given : List Answer). let row : Row = record { key = key; answers = given } in row) keys answers
 
-rows-told : (s : Layout) (rows others : List Row) → AllByRecursion (IsRowOf s) rows → AllByRecursion (IsRowOf s) others
+rows-told : (s : Layout) (rows others : List Row) → AllByRecursion (IsLawfulRow s) rows → AllByRecursion
+    (IsLawfulRow s) others
     → map row_fields rows ≡ map row_fields others → rows ≡ others
 rows-told s [] [] h k same = refl
 rows-told s [] (b ∷ others) h k same = cc same
@@ -46,11 +47,11 @@ rows-told s (a ∷ rows) (b ∷ others) h k same =
 
 -- two lists of rows of a schema with the same text are the same rows
 pub text_of_rows-told : (s : Layout) (rows others : List Row) → 1 ≤ length s.dimensions
-    → AllByRecursion (IsRowOf s) rows → AllByRecursion (IsRowOf s) others
+    → AllByRecursion (IsLawfulRow s) rows → AllByRecursion (IsLawfulRow s) others
     → text_of_rows s rows ≡ text_of_rows s others → rows ≡ others
 text_of_rows-told s rows others some h k same =
     let read : header_fields s ∷ map row_fields rows ≡ header_fields s ∷ map row_fields others
-    = sym (records-fields s rows some (row_fields-IsRowOf s rows some h)) ∙ ap (records default_config) same
-    ∙ records-fields s others some (row_fields-IsRowOf s others some k) in
+    = sym (records-fields s rows some (row_fields-IsLawfulRow s rows some h)) ∙ ap (records default_config) same
+    ∙ records-fields s others some (row_fields-IsLawfulRow s others some k) in
     let fields : map row_fields rows ≡ map row_fields others = cc read in
     rows-told s rows others h k fields

@@ -9,7 +9,7 @@ use Rattle.std.proofs.lemmas.List.Sorted.{IsPermutation-map, sum_by-IsPermutatio
 use Rattle.cube_core.specs.Answer.{IsSum, IsBest, IsMean, IsAnswer, AreAnswers}
 use Rattle.cube_core.specs.Fraction.{IsInLowestTerms}
 use Rattle.cube_core.specs.Group.{values_of, value_of, total_of}
-use Rattle.cube_core.specs.Merged.{count_in, number_in, count_of, numbers_of, column, IsMeanOf, IsMerged}
+use Rattle.cube_core.specs.Merged.{count_answered, number_in, sum_of_counts, numbers_of, column, IsMeanOf, IsMerged}
 use Rattle.cube_core.specs.declared.aggregate.Agg.{Agg}
 use Rattle.cube_core.specs.declared.aggregate.Agg.TheVariants.{CountAll, Count, Sum, Min, Max, Avg}
 use Rattle.cube_core.specs.declared.aggregate.Answer.{Answer}
@@ -18,7 +18,7 @@ use Rattle.cube_core.specs.declared.fact.Fact.{Fact}
 use Rattle.cube_core.specs.declared.key.Row.{Row}
 use Rattle.cube_core.proofs.ListLaws.{AllByRecursion-Contains, Contains-AllByRecursion, sum_by-map, sum_by-same}
 use Rattle.cube_laws.specs.Cells.{answer_at}
-use Rattle.cube_laws.specs.Merging.{IsMadeOf}
+use Rattle.cube_laws.specs.Merging.{CanBeMadeOf}
 use Rattle.cube_laws.proofs.CountLaws.{AreAnswers-slice_get}
 use Rattle.cube_laws.proofs.RowOrderLaws.{Reordered, IsPermutation-Reordered, filter_map-Reordered, total_of-Reordered}
 use Rattle.cube_laws.proofs.RowOrderLaws.{IsSum-Reordered, IsBest-Reordered}
@@ -64,21 +64,21 @@ numbers_of-shares place (share ∷ shares) =
     ap (cons_option (number_in (answer_in place share))) (numbers_of-shares place shares)
 
 -- the counts that they answer
-count_of-shares : (place : ℕ) (shares : List Share)
-    → count_of (column place (map row_in shares)) ≡ sum_by (λ share. count_in (answer_in place share)) shares
-count_of-shares place shares =
-    sum_by-map (answer_at place) count_in (map row_in shares)
-    ∙ sum_by-map row_in (λ row. count_in (answer_at place row)) shares
+sum_of_counts-shares : (place : ℕ) (shares : List Share)
+    → sum_of_counts (column place (map row_in shares)) ≡ sum_by (λ share. count_answered (answer_in place share)) shares
+sum_of_counts-shares place shares =
+    sum_by-map (answer_at place) count_answered (map row_in shares)
+    ∙ sum_by-map row_in (λ row. count_answered (answer_at place row)) shares
 
 -- counts of what shares have are the count of what they all have
-count_of-flat_map : {Y : Type 0} (place : ℕ) (f : Share → List Y) (shares : List Share)
+sum_of_counts-flat_map : {Y : Type 0} (place : ℕ) (f : Share → List Y) (shares : List Share)
     → AllByRecursion (λ share. answer_in place share ≡ answer.Count (length (f share))) shares
-    → count_of (column place (map row_in shares)) ≡ length (flat_map f shares)
-count_of-flat_map place f shares each =
-    count_of-shares place shares
-    ∙ sum_by-same (λ share. count_in (answer_in place share)) (λ share. length (f share)) shares
-    (Contains-AllByRecursion (λ share. count_in (answer_in place share) ≡ length (f share)) shares
-    (λ share among. ap count_in
+    → sum_of_counts (column place (map row_in shares)) ≡ length (flat_map f shares)
+sum_of_counts-flat_map place f shares each =
+    sum_of_counts-shares place shares
+    ∙ sum_by-same (λ share. count_answered (answer_in place share)) (λ share. length (f share)) shares
+    (Contains-AllByRecursion (λ share. count_answered (answer_in place share) ≡ length (f share)) shares
+    (λ share among. ap count_answered
     (AllByRecursion-Contains (λ other. answer_in place other ≡ answer.Count (length (f other)))
     shares share each among)))
     ∙ sym (length-flat_map f shares)
@@ -129,9 +129,9 @@ module _ (given : List Agg) (shares : List Share) (each : AllByRecursion (Answer
 
   -- counts of values add up
   Count-shares : (place m : ℕ) → slice_get given place ≡ Some (Count m)
-      → count_of (column place share_rows) ≡ length (values_of m all_facts)
+      → sum_of_counts (column place share_rows) ≡ length (values_of m all_facts)
   Count-shares place m stands =
-      count_of-flat_map place (values_in m) shares
+      sum_of_counts-flat_map place (values_in m) shares
       (answers-at (λ share. answer_in place share ≡ answer.Count (length (values_in m share))) place (Count m) stands
       (λ share h. h))
       ∙ ap length (sym (values_of-shares m shares))
@@ -172,7 +172,7 @@ module _ (given : List Agg) (shares : List Share) (each : AllByRecursion (Answer
   -- so what the rows' answers make is the answer over all facts
   pub IsMerged-shares : (agg : Agg) (a : Answer) → IsMerged given share_rows agg a → IsAnswer all_facts agg a
   IsMerged-shares CountAll a h =
-      h.2 ∙ ap answer.Count (count_of-flat_map h.0 facts_in shares
+      h.2 ∙ ap answer.Count (sum_of_counts-flat_map h.0 facts_in shares
       (answers-at (λ share. answer_in h.0 share ≡ answer.Count (length (facts_in share))) h.0 CountAll h.1
       (λ share is. is)))
   IsMerged-shares (Count m) a h = h.2 ∙ ap answer.Count (Count-shares h.0 m h.1)
@@ -183,7 +183,7 @@ module _ (given : List Agg) (shares : List Share) (each : AllByRecursion (Answer
       Best-shares (λ m x. x ≤ℤ m) (λ m n x below above. omega (arith, ints)) h.0 m (Max m) a h.1 (λ share is. is) h.2
   IsMerged-shares (Avg m) a h =
       IsMeanOf-IsMean (values_of m all_facts) (total_of (numbers_of (column h.0 share_rows)))
-      (count_of (column h.1 share_rows)) a
+      (sum_of_counts (column h.1 share_rows)) a
       (Sum-total_of h.0 m h.2) (Count-shares h.1 m h.3) h.4
 
   pub AreMerged-shares : (wanted : List Agg) (answers : List Answer) → AllZip (IsMerged given share_rows) wanted answers
@@ -217,12 +217,12 @@ module _ (given : List Agg) (shares : List Share) (each : AllByRecursion (Answer
       (answers-at (λ share. IsBest R (values_in m share) (answer_in place share)) place agg stands best)
       (subst (λ values. IsBest R values a) (values_of-shares m shares) h))
 
-  IsAnswer-shares : (agg : Agg) (a : Answer) → IsMadeOf given agg → IsAnswer all_facts agg a
+  IsAnswer-shares : (agg : Agg) (a : Answer) → CanBeMadeOf given agg → IsAnswer all_facts agg a
       → IsMerged given share_rows agg a
   IsAnswer-shares CountAll a made h = (
     made.0,
     made.1,
-    h ∙ ap answer.Count (sym (count_of-flat_map made.0 facts_in shares
+    h ∙ ap answer.Count (sym (sum_of_counts-flat_map made.0 facts_in shares
         (answers-at (λ share. answer_in made.0 share ≡ answer.Count (length (facts_in share))) made.0 CountAll made.1
         (λ share is. is)))),
   )
@@ -244,11 +244,11 @@ module _ (given : List Agg) (shares : List Share) (each : AllByRecursion (Answer
     made.0.1,
     made.1.1,
     IsMean-IsMeanOf (values_of m all_facts) (total_of (numbers_of (column made.0.0 share_rows)))
-        (count_of (column made.1.0 share_rows)) a
+        (sum_of_counts (column made.1.0 share_rows)) a
         (Sum-total_of made.0.0 m made.0.1) (Count-shares made.1.0 m made.1.1) h,
   )
 
-  pub AreAnswers-shares : (wanted : List Agg) (answers : List Answer) → AllByRecursion (IsMadeOf given) wanted
+  pub AreAnswers-shares : (wanted : List Agg) (answers : List Answer) → AllByRecursion (CanBeMadeOf given) wanted
       → AreAnswers all_facts wanted answers → AllZip (IsMerged given share_rows) wanted answers
   AreAnswers-shares [] [] made h = h
   AreAnswers-shares [] (a ∷ answers) made h = h
@@ -257,10 +257,10 @@ module _ (given : List Agg) (shares : List Share) (each : AllByRecursion (Answer
       (IsAnswer-shares agg a made.0 h.0, AreAnswers-shares wanted answers made.1 h.1)
 
 -- ---- rows in another order
-count_of-IsPermutation : (place : ℕ) (rows rows' : List Row) → IsPermutation rows rows'
-    → count_of (column place rows') ≡ count_of (column place rows)
-count_of-IsPermutation place rows rows' h =
-    sum_by-IsPermutation count_in (column place rows) (column place rows')
+sum_of_counts-IsPermutation : (place : ℕ) (rows rows' : List Row) → IsPermutation rows rows'
+    → sum_of_counts (column place rows') ≡ sum_of_counts (column place rows)
+sum_of_counts-IsPermutation place rows rows' h =
+    sum_by-IsPermutation count_answered (column place rows) (column place rows')
     (IsPermutation-map (answer_at place) rows rows' h)
 
 numbers_of-Reordered : (place : ℕ) (rows rows' : List Row) → IsPermutation rows rows'
@@ -273,9 +273,9 @@ numbers_of-Reordered place rows rows' h =
 pub IsMerged-IsPermutation : (given : List Agg) (rows rows' : List Row) (agg : Agg) (a : Answer)
     → IsPermutation rows rows' → IsMerged given rows agg a → IsMerged given rows' agg a
 IsMerged-IsPermutation given rows rows' CountAll a p h =
-    (h.0, h.1, h.2 ∙ ap answer.Count (sym (count_of-IsPermutation h.0 rows rows' p)))
+    (h.0, h.1, h.2 ∙ ap answer.Count (sym (sum_of_counts-IsPermutation h.0 rows rows' p)))
 IsMerged-IsPermutation given rows rows' (Count m) a p h =
-    (h.0, h.1, h.2 ∙ ap answer.Count (sym (count_of-IsPermutation h.0 rows rows' p)))
+    (h.0, h.1, h.2 ∙ ap answer.Count (sym (sum_of_counts-IsPermutation h.0 rows rows' p)))
 IsMerged-IsPermutation given rows rows' (Sum m) a p h =
     (h.0, h.1, IsSum-Reordered _ _ a (numbers_of-Reordered h.0 rows rows' p) h.2)
 IsMerged-IsPermutation given rows rows' (Min m) a p h =
@@ -287,10 +287,10 @@ IsMerged-IsPermutation given rows rows' (Avg m) a p h = (
   h.1,
   h.2,
   h.3,
-  subst (λ total. IsMeanOf total (count_of (column h.1 rows')) a)
+  subst (λ total. IsMeanOf total (sum_of_counts (column h.1 rows')) a)
       (total_of-Reordered (numbers_of-Reordered h.0 rows rows' p))
       (subst (λ count. IsMeanOf (total_of (numbers_of (column h.0 rows))) count a)
-      (sym (count_of-IsPermutation h.1 rows rows' p)) h.4),
+      (sym (sum_of_counts-IsPermutation h.1 rows rows' p)) h.4),
 )
 
 pub AreMerged-IsPermutation : (given : List Agg) (rows rows' : List Row) (wanted : List Agg) (answers : List Answer)

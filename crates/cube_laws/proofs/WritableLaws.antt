@@ -15,7 +15,7 @@ use Rattle.toml.specs.Data.{string, integer, array, Items, no_items, item, Membe
 use Rattle.cube_core.specs.Layout.{Layout, IsSchema, is_listed, are_distinct}
 use Rattle.cube_core.specs.SchemaDocument.{texts_of, mask_of_names, set_of_names, set_of_item, sets_of_items}
 use Rattle.cube_core.specs.SchemaDocument.{are_distinct_sets, are_lawful_sets, named_sets, kept_sets, sets_of_grouping}
-use Rattle.cube_laws.specs.Written.{Writes}
+use Rattle.cube_laws.specs.Written.{WritesSchema}
 use Rattle.cube_laws.proofs.GroupingLaws.{mask_of_names-other, are_distinct-front, Rise, is_among-Rise, filter-Rise}
 
 -- texts as the items of an array
@@ -167,8 +167,8 @@ document_of s sets =
     (member (codes "measures") (array (items_of_texts s.measures))
     (member (codes "version") (integer (pos s.version)) no_members)))))
 
-pub IsSchema-Writes : (s : Layout) → IsSchema s → (document : Members) × Writes document s
-IsSchema-Writes s is =
+pub IsSchema-WritesSchema : (s : Layout) → IsSchema s → (document : Members) × WritesSchema document s
+IsSchema-WritesSchema s is =
     let dimensions = length s.dimensions in
     let below : AllByRecursion (λ set. set < 2 ^ dimensions) s.grouping_sets =
     recursion_from_All _ s.grouping_sets is.sets_are_of_dimensions in

@@ -11,7 +11,7 @@ use Rattle.cube_core.specs.SchemaDocument.{is_some_up_to, aggregate_spelled, are
 use Rattle.cube_core.specs.SchemaDocument.{spellings_in, max_records_in, default_max_records, grouping_sets_in}
 use Rattle.cube_core.specs.SchemaDocument.{version_in, document_faults, has_fault, first_fault, layout_of, schema_of}
 use Rattle.cube_core.specs.Shard.{whole_feed}
-use Rattle.cube_laws.specs.Written.{Writes}
+use Rattle.cube_laws.specs.Written.{WritesSchema}
 use Rattle.cube_core.specs.declared.aggregate.Agg.{Agg}
 use Rattle.cube_core.specs.declared.schema_fault.SchemaFault.{SchemaFault}
 use Rattle.cube_core.specs.declared.schema_fault.SchemaFault.TheVariants.{UnknownKey, Dimensions, Measures, Name}
@@ -49,9 +49,10 @@ find-document_faults : (holds : SchemaFault → Bool) → holds UnknownKey ≡ f
     → holds Grouping ≡ false → holds Version ≡ false → find holds document_faults ≡ None
 find-document_faults holds a b c d e f g h = rw (a, b, c, d, e, f, g, h)
 
-pub Writes-schema_of : (document : Members) (s : Layout) → IsSchema s → s.shard ≡ whole_feed → length s.aggregates ≤ 16
-    → Writes document s → schema_of document ≡ Ok s
-Writes-schema_of document s is whole few writes =
+pub WritesSchema-schema_of : (document : Members) (s : Layout) → IsSchema s → s.shard ≡ whole_feed
+    → length s.aggregates ≤ 16
+    → WritesSchema document s → schema_of document ≡ Ok s
+WritesSchema-schema_of document s is whole few writes =
     let dimensions : dimensions_in document ≡ s.dimensions = ap (λ o. unwrap_or o []) writes.dimensions in
     let measures : measures_in document ≡ s.measures = ap (λ o. unwrap_or o []) writes.measures in
     let texts : spellings_in document ≡ s.aggregate_texts = ap (λ o. unwrap_or o []) writes.aggregates in

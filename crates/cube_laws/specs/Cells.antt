@@ -5,7 +5,7 @@ use Rattle.std.specs.Prelude.{Contains, Option}
 use Rattle.std.specs.List.{AllByRecursion, AllZip}
 use Rattle.cube_core.specs.Covers.{covers}
 use Rattle.cube_core.specs.Group.{group_of}
-use Rattle.cube_core.specs.Merged.{count_in}
+use Rattle.cube_core.specs.Merged.{count_answered}
 use Rattle.cube_core.specs.GroupingSet.{mask_of, all_sets}
 use Rattle.cube_core.specs.declared.aggregate.Answer.{Answer}
 use Rattle.cube_core.specs.declared.aggregate.Answer.TheVariants as answer
@@ -31,7 +31,7 @@ answer_at place row = get_or row.answers place answer.Null
 
 -- the count of a row at a place
 abbrev pub count_at : ℕ → Row → ℕ
-count_at place row = count_in (answer_at place row)
+count_at place row = count_answered (answer_at place row)
 
 -- the keys that cover a fact: 2 to the power of its dimensions, one in each grouping set
 pub record CoveringKeys (fact : Fact) : Type 0 where

@@ -8,7 +8,7 @@ use Rattle.cube_core.specs.Merged.{AreMerged}
 use Rattle.cube_core.specs.Printed.{IsPrinted}
 use Rattle.cube_core.specs.Sources.{IsPrintedOf}
 use Rattle.cube_core.specs.Text.{text_of_rows}
-use Rattle.cube_merge.specs.Lawful.{IsRowOf}
+use Rattle.cube_merge.specs.Lawful.{IsLawfulRow}
 use Rattle.cube_core.specs.declared.aggregate.Agg.{Agg}
 use Rattle.cube_core.specs.declared.aggregate.Agg.TheVariants.{Count, Sum, Avg}
 use Rattle.cube_core.specs.declared.fact.Fact.{Fact}
@@ -31,9 +31,9 @@ Stands given agg = (place : ℕ) × (slice_get given place ≡ Some agg)
 
 -- of answers to the given aggregates an answer to this one is made:
 -- it is one of them, or a mean whose sum and count are
-abbrev pub IsMadeOf : List Agg → Agg → Type 0
-IsMadeOf given (Avg m) = Stands given (Sum m) × Stands given (Count m)
-IsMadeOf given agg = Stands given agg
+abbrev pub CanBeMadeOf : List Agg → Agg → Type 0
+CanBeMadeOf given (Avg m) = Stands given (Sum m) × Stands given (Count m)
+CanBeMadeOf given agg = Stands given agg
 
 mutual
   -- these rows are those of the cube of these facts under a schema,
@@ -52,9 +52,9 @@ mutual
         → AreMergeTrees s (facts ∷ parts) (rows ∷ cubes)
 
 -- a text is that of rows of a schema
-pub record IsTextOf (s : Layout) (text : List ℕ) (rows : List Row) : Type 0 where
+pub record IsTextOfRows (s : Layout) (text : List ℕ) (rows : List Row) : Type 0 where
   pub text_is : text ≡ text_of_rows s rows
-  pub of_schema : AllByRecursion (IsRowOf s) rows
+  pub of_schema : AllByRecursion (IsLawfulRow s) rows
 
 -- this text is, under the wanted schema,
 -- that of the merged rows of cubes whose texts under the given one these are, each at its place
@@ -62,7 +62,7 @@ pub record IsMergedText (given wanted : Layout) (texts : List (List ℕ)) (text 
   pub cubes : List (List Row)
   pub rows : List Row
   pub as_many : length cubes ≡ length texts
-  pub read : (k : ℕ) → k < length texts → IsTextOf given (get_or texts k []) (get_or cubes k [])
+  pub read : (k : ℕ) → k < length texts → IsTextOfRows given (get_or texts k []) (get_or cubes k [])
   pub merged : AreMergedOf given.aggregates wanted.aggregates cubes rows
   pub text_is : text ≡ text_of_rows wanted rows
 

@@ -5,7 +5,7 @@ use Rattle.cube_core.specs.Layout.{Layout}
 use Rattle.cube_core.specs.SchemaDocument.{has_known_keys, texts_at, max_records_in, grouping_sets_in, version_in}
 
 -- the document has no other keys than a schema's, and under each what the schema has there
-pub record Writes (document : Members) (s : Layout) : Type 0 where
+pub record WritesSchema (document : Members) (s : Layout) : Type 0 where
   pub known_keys : has_known_keys document ≡ true
   pub dimensions : texts_at (codes "dimensions") document ≡ Some s.dimensions
   pub measures : texts_at (codes "measures") document ≡ Some s.measures

@@ -8,7 +8,7 @@ ghost use Rattle.cube_core.specs.Layout.{Layout, IsSchema, spelling_of, is_aggre
 ghost use Rattle.cube_core.specs.PartialForm.{partial_form};
 ghost use Rattle.cube_core.specs.Shard.{whole_feed};
 ghost use Rattle.cube_core.specs.SchemaDocument.{schema_of, schema_of_parts, named_parts, aggregate_spelled};
-ghost use Rattle.cube_laws.specs.Written.{GivesNames, Writes};
+ghost use Rattle.cube_laws.specs.Written.{GivesNames, WritesSchema};
 ghost use Rattle.cube_core.specs.declared.aggregate.Agg.{Agg};
 ghost use Rattle.cube_core.specs.declared.fact.Fact.{Fact};
 ghost use Rattle.cube_core.specs.declared.key.Row.{Row};
@@ -17,12 +17,12 @@ ghost use Rattle.cube_core.specs.declared.key.Row.{Row};
 /// another. A document has at most 16 aggregates, the partial form of a schema may have more; and it is of whole feeds.
 pub fn written_schema_is_read()
     ensures { (document : Members) (s : Layout) →
-        IsSchema s → s.shard ≡ whole_feed → length s.aggregates ≤ 16 → Writes document s → schema_of document ≡ Ok s }
+        IsSchema s → s.shard ≡ whole_feed → length s.aggregates ≤ 16 → WritesSchema document s → schema_of document ≡ Ok s }
 {}
 
 /// Each schema is written by some document (of TOML's values; the text of a file isn't spoken of).
 pub fn each_schema_can_be_written()
-    ensures { (s : Layout) → IsSchema s → (document : Members) × Writes document s }
+    ensures { (s : Layout) → IsSchema s → (document : Members) × WritesSchema document s }
 {}
 
 /// In a schema the spelling of an aggregate is read as that aggregate, so that no two share a spelling, whatever

@@ -5,7 +5,7 @@ ghost use Rattle.csv.specs.Reading.{records, default_config};
 ghost use Rattle.cube_core.specs.Layout.{Layout, IsSchema};
 ghost use Rattle.cube_core.specs.Cube.{AreRows};
 ghost use Rattle.cube_laws.specs.Told.{CanBePrinted};
-ghost use Rattle.cube_merge.specs.Lawful.{IsRowOf};
+ghost use Rattle.cube_merge.specs.Lawful.{IsLawfulRow};
 ghost use Rattle.cube_core.specs.Text.{line, header_fields, row_fields, text_of_rows};
 ghost use Rattle.cube_core.specs.declared.fact.Fact.{Fact};
 ghost use Rattle.cube_core.specs.declared.key.Row.{Row};
@@ -33,14 +33,14 @@ pub fn cube_reads_back()
 pub fn rows_of_a_cube_are_of_its_schema()
     ensures { (s : Layout) (facts : List Fact) (rows : List Row) →
         CanBePrinted s facts → AreRows s facts rows →
-        AllByRecursion (IsRowOf s) rows }
+        AllByRecursion (IsLawfulRow s) rows }
 {}
 
 /// Rows of a schema are told by their text: two lists of them that are printed alike are one list (RFC 4180; SQL:1999:
 /// GROUPING tells ALL from null).
 pub fn rows_are_told_by_their_text()
     ensures { (s : Layout) (rows others : List Row) →
-        1 ≤ length s.dimensions → AllByRecursion (IsRowOf s) rows →
-        AllByRecursion (IsRowOf s) others → text_of_rows s rows ≡ text_of_rows s others →
+        1 ≤ length s.dimensions → AllByRecursion (IsLawfulRow s) rows →
+        AllByRecursion (IsLawfulRow s) others → text_of_rows s rows ≡ text_of_rows s others →
         rows ≡ others }
 {}

@@ -8,7 +8,7 @@ use Rattle.cube_core.proofs.SetLaws.{range_with_len-more}
 use Rattle.cube_core.specs.Text.{lines_of_source, refusal_line}
 use Rattle.cube_core.specs.declared.change.Refusal.{Refusal}
 use Rattle.cube_engine.specs.Ledger.{AccountView, new_account}
-use Rattle.cube_text.specs.Lines.{Lines, AddsText, Holds}
+use Rattle.cube_text.specs.Lines.{Lines, AddsText, HoldsLine}
 
 -- the refusals of each account
 abbrev pub refusals_of_accounts : List AccountView → List (List Refusal)
@@ -22,7 +22,7 @@ lines_up_to accounts place = flat_map (lines_of_source (refusals_of_accounts acc
 pub AddsText-both : (first second : List ℕ) (old mid new : Lines) → AddsText first old mid → AddsText second mid new
     → AddsText (first ++ second) old new
 AddsText-both first second old mid new before after text holds =
-    subst (λ t. Holds t [] new) (append_assoc text first second) (after (text ++ first) (before text holds))
+    subst (λ t. HoldsLine t [] new) (append_assoc text first second) (after (text ++ first) (before text holds))
 
 -- one source more
 pub lines_up_to-more : (accounts : List AccountView) (place : ℕ) → place < length accounts

@@ -11,7 +11,7 @@ use Rattle.cube_core.specs.Layout.{Layout}
 use Rattle.cube_feed.specs.Reading.{Advances, RecordsView}
 use Rattle.cube_live.specs.Live.{LiveView, LiveStandsAt}
 use Rattle.cube_live.specs.Request.{request_of}
-use Rattle.cube_live.specs.Serving.{Answered, Leaves, Serves, ServingFails, Replied, ReplyFails, IsJournalFault}
+use Rattle.cube_live.specs.Serving.{Answered, LeavesReplies, Serves, ServingFails, Replied, ReplyFails, IsJournalFault}
 use Rattle.cube_live.specs.Serving.{IsInputFault, WritesNone, WritesPart, WritesReply, BreaksReply, ExplainsChange}
 use Rattle.cube_live.specs.Session.{AreReplies, IsReply, arrivals_after, arrivals_changed, last_number}
 use Rattle.cube_live.specs.declared.request.Question.{Question}
@@ -107,23 +107,24 @@ Went-all s records start count left live view sent old new went advances =
     )
 
 -- a failed read or a failed journal leaves whole replies
-pub Leaves-Answered : (s : Layout) (records : List (List (List ℕ))) (start : Arrivals) (count : ℕ)
+pub LeavesReplies-Answered : (s : Layout) (records : List (List (List ℕ))) (start : Arrivals) (count : ℕ)
     (fault : SessionFault) (old new : Option (List ℕ))
-    → IsInputFault fault → Answered s records start count old new → Leaves s records start fault old new
-Leaves-Answered s records start count Read old new is answered = (count, answered)
-Leaves-Answered s records start count (TooMany source) old new is answered = absurd is
-Leaves-Answered s records start count Full old new is answered = (count, answered)
-Leaves-Answered s records start count (Write sent) old new is answered = absurd is
-Leaves-Answered s records start count (Journal fault) old new is answered = absurd is
+    → IsInputFault fault → Answered s records start count old new → LeavesReplies s records start fault old new
+LeavesReplies-Answered s records start count Read old new is answered = (count, answered)
+LeavesReplies-Answered s records start count (TooMany source) old new is answered = absurd is
+LeavesReplies-Answered s records start count Full old new is answered = (count, answered)
+LeavesReplies-Answered s records start count (Write sent) old new is answered = absurd is
+LeavesReplies-Answered s records start count (Journal fault) old new is answered = absurd is
 
-pub Leaves-journal : (s : Layout) (records : List (List (List ℕ))) (start : Arrivals) (count : ℕ) (fault : SessionFault)
+pub LeavesReplies-journal : (s : Layout) (records : List (List (List ℕ))) (start : Arrivals) (count : ℕ)
+    (fault : SessionFault)
     (old new : Option (List ℕ))
-    → IsJournalFault fault → Answered s records start count old new → Leaves s records start fault old new
-Leaves-journal s records start count Read old new is answered = absurd is
-Leaves-journal s records start count (TooMany source) old new is answered = absurd is
-Leaves-journal s records start count Full old new is answered = absurd is
-Leaves-journal s records start count (Write sent) old new is answered = absurd is
-Leaves-journal s records start count (Journal fault) old new is answered = (count, answered)
+    → IsJournalFault fault → Answered s records start count old new → LeavesReplies s records start fault old new
+LeavesReplies-journal s records start count Read old new is answered = absurd is
+LeavesReplies-journal s records start count (TooMany source) old new is answered = absurd is
+LeavesReplies-journal s records start count Full old new is answered = absurd is
+LeavesReplies-journal s records start count (Write sent) old new is answered = absurd is
+LeavesReplies-journal s records start count (Journal fault) old new is answered = (count, answered)
 
 -- the first bytes of a text and of a reply after it
 pub take-past : (text reply : List ℕ) (part : ℕ) → take (length text + part) (text ++ reply) ≡ text ++ take part reply
@@ -135,18 +136,18 @@ take-past (b ∷ text) reply part = rw (suc-plus (length text) part) (ap (λ l. 
   suc-plus n m = omega arith
 
 -- a failure in the middle leaves the replies before, and but for a failed write nothing more
-pub Leaves-ReplyFails : (s : Layout) (records : List (List (List ℕ))) (start : Arrivals) (count : ℕ)
+pub LeavesReplies-ReplyFails : (s : Layout) (records : List (List (List ℕ))) (start : Arrivals) (count : ℕ)
     (left : Option (List (List (List ℕ)))) (live : LiveView) (view : RecordsView) (sent : ℕ) (fault : SessionFault)
     (old mid new : Option (List ℕ))
     → Went s records start count left live sent old mid → Advances left true view
     → ReplyFails s (arrivals_after s start (take count records)) view.fields sent fault mid new
-    → Leaves s records start fault old new
-Leaves-ReplyFails s records start count left live view sent Read old mid new went advances fails = absurd fails
-Leaves-ReplyFails s records start count left live view sent Full old mid new went advances fails =
+    → LeavesReplies s records start fault old new
+LeavesReplies-ReplyFails s records start count left live view sent Read old mid new went advances fails = absurd fails
+LeavesReplies-ReplyFails s records start count left live view sent Full old mid new went advances fails =
     (count, record { text = went.text; replies = went.replies; written = rw fails went.written })
-Leaves-ReplyFails s records start count left live view sent (Journal fault) old mid new went advances fails =
+LeavesReplies-ReplyFails s records start count left live view sent (Journal fault) old mid new went advances fails =
     (count, record { text = went.text; replies = went.replies; written = rw fails went.written })
-Leaves-ReplyFails s records start count left live view sent (TooMany source) old mid new went advances fails =
+LeavesReplies-ReplyFails s records start count left live view sent (TooMany source) old mid new went advances fails =
     let next = taken-next (drop count records) view (rw went.left_is at advances) in (
       count,
       record { text = went.text; replies = went.replies; written = rw fails.0 went.written },
@@ -159,7 +160,7 @@ Leaves-ReplyFails s records start count left live view sent (TooMany source) old
         last = fails.1.last;
       },
     )
-Leaves-ReplyFails s records start count left live view sent (Write total) old mid new went advances fails =
+LeavesReplies-ReplyFails s records start count left live view sent (Write total) old mid new went advances fails =
     let next = taken-next (drop count records) view (rw went.left_is at advances) in
     let step = take-next count records view.fields next.0 next.1 in
     let longer : take (count + 1) records ≡ take count records ++ view.fields ∷ [] =
@@ -323,7 +324,7 @@ pub HasGone-input : (s : Layout) (first : Option (List (List (List ℕ)))) (befo
 HasGone-input s None before left live sent fault old new gone is = tt
 HasGone-input s (Some taken) before left live sent fault old new gone is = λ start stands.
     let went = gone start stands in
-    Leaves-Answered s taken start went.0 fault old new is
+    LeavesReplies-Answered s taken start went.0 fault old new is
     (Went-Answered s taken start went.0 left live sent old new went.1)
 
 pub HasGone-journal : (s : Layout) (first : Option (List (List (List ℕ)))) (before : LiveView)
@@ -334,7 +335,7 @@ pub HasGone-journal : (s : Layout) (first : Option (List (List (List ℕ)))) (be
 HasGone-journal s None before left live sent fault old new gone is = tt
 HasGone-journal s (Some taken) before left live sent fault old new gone is = λ start stands.
     let went = gone start stands in
-    Leaves-journal s taken start went.0 fault old new is
+    LeavesReplies-journal s taken start went.0 fault old new is
     (Went-Answered s taken start went.0 left live sent old new went.1)
 
 pub HasGone-fails : (s : Layout) (first : Option (List (List (List ℕ)))) (before : LiveView)
@@ -346,5 +347,5 @@ pub HasGone-fails : (s : Layout) (first : Option (List (List (List ℕ)))) (befo
 HasGone-fails s None before left live view sent fault old mid new gone advances fails = tt
 HasGone-fails s (Some taken) before left live view sent fault old mid new gone advances fails = λ start stands.
     let went = gone start stands in
-    Leaves-ReplyFails s taken start went.0 left live view sent fault old mid new went.1 advances
+    LeavesReplies-ReplyFails s taken start went.0 left live view sent fault old mid new went.1 advances
     (fails (arrivals_after s start (take went.0 taken)) went.1.stands)

@@ -45,19 +45,20 @@ Serves s records before after old new = (start : Arrivals) → LiveStandsAt befo
     → Answered s records start (length records) old new × LiveStandsAt after (arrivals_after s start records)
 
 -- what went out where a session failed so: whole replies, but for a failed write
-abbrev pub Leaves : Layout → List (List (List ℕ)) → Arrivals → SessionFault → Option (List ℕ) → Option (List ℕ) → Type 0
-Leaves s records start Read old new = (count : ℕ) × Answered s records start count old new
-Leaves s records start (TooMany source) old new =
+abbrev pub LeavesReplies : Layout → List (List (List ℕ)) → Arrivals → SessionFault → Option (List ℕ) → Option (List ℕ)
+    → Type 0
+LeavesReplies s records start Read old new = (count : ℕ) × Answered s records start count old new
+LeavesReplies s records start (TooMany source) old new =
     (count : ℕ) × Answered s records start count old new × IsPastLast s records start count source
-Leaves s records start Full old new = (count : ℕ) × Answered s records start count old new
-Leaves s records start (Write sent) old new = AnsweredInPart s records start sent old new
-Leaves s records start (Journal fault) old new = (count : ℕ) × Answered s records start count old new
+LeavesReplies s records start Full old new = (count : ℕ) × Answered s records start count old new
+LeavesReplies s records start (Write sent) old new = AnsweredInPart s records start sent old new
+LeavesReplies s records start (Journal fault) old new = (count : ℕ) × Answered s records start count old new
 
 -- a session failed so, wherever the cube stood
 abbrev pub ServingFails : Layout → List (List (List ℕ)) → SessionFault → LiveView → Option (List ℕ) → Option (List ℕ)
     → Type 0
 ServingFails s records fault before old new =
-    (start : Arrivals) → LiveStandsAt before start → Leaves s records start fault old new
+    (start : Arrivals) → LiveStandsAt before start → LeavesReplies s records start fault old new
 
 -- bytes went out in part by a failed write, which tells how many with those sent before
 abbrev pub WritesPart : List ℕ → ℕ → SessionFault → Option (List ℕ) → Option (List ℕ) → Type 0

@@ -15,10 +15,11 @@ use Rattle.cube_core.specs.Text.{header_fields, line, row_line, text_of_rows}
 use Rattle.cube_core.specs.declared.aggregate.Agg.{Agg}
 use Rattle.cube_core.specs.declared.key.Row.{Row}
 use Rattle.cube_core.proofs.ListLaws.{AllZip-length}
-use Rattle.cube_merge.specs.Lawful.{IsRowOf}
-use Rattle.cube_merge.specs.Merging.{InputView, AreInOrder, AreOfSchema, nothing_left, IsMergeOf, IsLeastSoFar}
-use Rattle.cube_merge.specs.Merging.{IsNotBelow, Gave, IsEnded, HasTaken, AreFresh, AllMove, IsMerging, MergesInputs}
-use Rattle.cube_merge.specs.Merging.{IsTextOf}
+use Rattle.cube_merge.specs.Lawful.{IsLawfulRow}
+use Rattle.cube_merge.specs.Merging.{InputView, AreInKeyOrder, AreOfSchema, nothing_left, IsMergeOf, IsLeastSoFar}
+use Rattle.cube_merge.specs.Merging.{IsNotBelow, Gave, IsEnded, TookHeader, TookHeaders, AllMove, IsMerging}
+use Rattle.cube_merge.specs.Merging.{MergesInputs}
+use Rattle.cube_merge.specs.Merging.{IsToldTextOf}
 use Rattle.cube_merge.proofs.LeastLaws.{past, not_below-none}
 use Rattle.cube_merge.proofs.StepLaws.{IsMerging-start, nothing-ordered}
 
@@ -82,7 +83,7 @@ text_of_rows-more s rows row sent old new so_far grown =
 
 -- where each input of a list took the header, by place
 module _ {R : Type 0} (remaining : R → Option (List ℕ)) (header : List ℕ) where
-  pub taken-row : (readers : List R) (inputs : List InputView) → AllZip (HasTaken remaining header) readers inputs
+  pub taken-row : (readers : List R) (inputs : List InputView) → AllZip (TookHeader remaining header) readers inputs
       → (k : ℕ) → (get_or inputs k nothing_left).row ≡ None
   taken-row [] [] all k = refl
   taken-row [] (i ∷ is) all k = absurd all
@@ -90,7 +91,7 @@ module _ {R : Type 0} (remaining : R → Option (List ℕ)) (header : List ℕ) 
   taken-row (r ∷ rs) (i ∷ is) all zero = all.0.1
   taken-row (r ∷ rs) (i ∷ is) all (suc k) = taken-row rs is all.1 k
 
-  pub taken-lines : (readers : List R) (inputs : List InputView) → AllZip (HasTaken remaining header) readers inputs
+  pub taken-lines : (readers : List R) (inputs : List InputView) → AllZip (TookHeader remaining header) readers inputs
       → (k : ℕ) → (get_or inputs k nothing_left).lines ≡ 1
   taken-lines [] [] all k = refl
   taken-lines [] (i ∷ is) all k = absurd all
@@ -98,7 +99,7 @@ module _ {R : Type 0} (remaining : R → Option (List ℕ)) (header : List ℕ) 
   taken-lines (r ∷ rs) (i ∷ is) all zero = all.0.2
   taken-lines (r ∷ rs) (i ∷ is) all (suc k) = taken-lines rs is all.1 k
 
-  pub taken-header : (readers : List R) (inputs : List InputView) → AllZip (HasTaken remaining header) readers inputs
+  pub taken-header : (readers : List R) (inputs : List InputView) → AllZip (TookHeader remaining header) readers inputs
       → (k : ℕ)
       → Consumes (get_or (map remaining readers) k None) (get_or (map (λ (i : InputView). i.left) inputs) k None) header
   taken-header [] [] all k = tt
@@ -118,10 +119,10 @@ lefts-at (i ∷ is) zero = Consumes-same i.left
 lefts-at (i ∷ is) (suc k) = lefts-at is k
 
 -- inputs that took the header alone
-pub taken-AreFresh : {R : Type 0} (remaining : R → Option (List ℕ)) (header : List ℕ)
-    (readers : List R) (inputs : List InputView) → AllZip (HasTaken remaining header) readers inputs
-    → AreFresh (map (λ (i : InputView). i.left) inputs) inputs
-taken-AreFresh remaining header readers inputs taken = record {
+pub taken-TookHeaders : {R : Type 0} (remaining : R → Option (List ℕ)) (header : List ℕ)
+    (readers : List R) (inputs : List InputView) → AllZip (TookHeader remaining header) readers inputs
+    → TookHeaders (map (λ (i : InputView). i.left) inputs) inputs
+taken-TookHeaders remaining header readers inputs taken = record {
   left = lefts-at inputs;
   row = taken-row remaining header readers inputs taken;
   lines = taken-lines remaining header readers inputs taken;
@@ -130,7 +131,7 @@ taken-AreFresh remaining header readers inputs taken = record {
 -- what an input held that has ended
 text-of_ended : (s : Layout) (text start : Option (List ℕ)) (input : InputView) (rows : List Row)
     → Consumes text start (line (header_fields s)) → Gave start input rows → IsEnded start input → input.row ≡ None
-    → IsTextOf s text rows
+    → IsToldTextOf s text rows
 text-of_ended s None start input rows head gave ended none = tt
 text-of_ended s (Some t) None input rows head gave ended none = absurd head
 text-of_ended s (Some t) (Some x) input rows head gave ended none = by_left input.left given_rows (ended none) where
@@ -147,23 +148,24 @@ text-of_ended s (Some t) (Some x) input rows head gave ended none = by_left inpu
 -- the merge of all texts
 pub IsMergeOf-ends : {R : Type 0} (remaining : R → Option (List ℕ)) (given wanted : Layout) (readers : List R)
     (inputs : List InputView) (old new : Option (List ℕ))
-    → AllZip (HasTaken remaining (line (header_fields given))) readers inputs → MergesInputs given wanted inputs old new
+    → AllZip (TookHeader remaining (line (header_fields given))) readers inputs
+        → MergesInputs given wanted inputs old new
     → IsMergeOf given wanted (map remaining readers) old new
 IsMergeOf-ends remaining given wanted readers inputs old new taken merges =
     let header = line (header_fields given) in
     let starts = map (λ (i : InputView). i.left) inputs in
-    let m = merges starts (taken-AreFresh remaining header readers inputs taken) in
+    let m = merges starts (taken-TookHeaders remaining header readers inputs taken) in
     let merging = m.3 in
     record {
       cubes = merging.cubes;
       parts = merging.parts;
       rows = m.1;
-      as_many = merging.width ∙ m.2 ∙ sym (AllZip-length (HasTaken remaining header) readers inputs taken)
+      as_many = merging.width ∙ m.2 ∙ sym (AllZip-length (TookHeader remaining header) readers inputs taken)
           ∙ sym (length-map readers remaining);
       read = λ k. text-of_ended given (get_or (map remaining readers) k None) (get_or starts k None)
           (get_or m.0 k nothing_left) (get_or merging.cubes k [])
           (taken-header remaining header readers inputs taken k) (merging.gave k) (merging.ended k) (m.4 k);
-      of_schema = λ k. subst (λ rs. AllByRecursion (IsRowOf given) rs)
+      of_schema = λ k. subst (λ rs. AllByRecursion (IsLawfulRow given) rs)
           (ap (λ o. get_or merging.cubes k [] ++ option_to_list o) (m.4 k) ∙ append-nil (get_or merging.cubes k []))
           (merging.of_schema k);
       ordered = λ k. subst (λ rs. IsStrictlySortedBy key_cmp (map key_of rs))
@@ -182,10 +184,10 @@ Gave-none start input c none =
     subst (λ o. Consumes start input.left (flat_map row_line ([] ++ option_to_list o))) (sym none) c
 
 pub AreOfSchema-none : (s : Layout) (input : InputView) → input.row ≡ None → AreOfSchema s input []
-AreOfSchema-none s input none = subst (λ o. AllByRecursion (IsRowOf s) (option_to_list o)) (sym none) tt
+AreOfSchema-none s input none = subst (λ o. AllByRecursion (IsLawfulRow s) (option_to_list o)) (sym none) tt
 
-pub AreInOrder-none : (input : InputView) → input.row ≡ None → AreInOrder input []
-AreInOrder-none input none = nothing-ordered input none
+pub AreInKeyOrder-none : (input : InputView) → input.row ≡ None → AreInKeyOrder input []
+AreInKeyOrder-none input none = nothing-ordered input none
 
 -- past the inputs, of which each is used, nothing is left
 pub IsEnded-unused : (start : Option (List ℕ)) (us : List Bool) (inputs : List InputView) (k : ℕ)
@@ -203,7 +205,7 @@ IsEnded-unused start us inputs k used unused none = elim (cases_lt k (length inp
 -- where inputs that took the header alone took their first lines, nothing is merged yet
 pub IsMerging-begun : (given : Layout) (wanted : List Agg) (starts : List (Option (List ℕ)))
     (olds news : List InputView) (us : List Bool)
-    → ((k : ℕ) → k < length olds → get_or us k false ≡ true) → AreFresh starts olds → length news ≡ length olds
+    → ((k : ℕ) → k < length olds → get_or us k false ≡ true) → TookHeaders starts olds → length news ≡ length olds
     → AllMove given us olds news → IsMerging given wanted starts news []
 IsMerging-begun given wanted starts olds news us used fresh same moved =
     IsMerging-start given wanted starts olds news us

@@ -25,13 +25,14 @@ use Rattle.cube_core.specs.declared.key.Key.{Key}
 use Rattle.cube_core.specs.declared.key.Row.{Row}
 use Rattle.cube_core.proofs.ListLaws.{AllZip-length, Contains-AllByRecursion, map-Contains}
 use Rattle.cube_merge.specs.Faults.{BeginsWith, ExplainsFault, FailsToJoin, FailsToMake, FailsToMerge, FailsToMove}
-use Rattle.cube_merge.specs.Faults.{FailsToMoveAll, FailsToOpen, FailsToOpenAll, FailsToSend, FailsToStart}
+use Rattle.cube_merge.specs.Faults.{FailsToMoveAll, FailsToOpen, FailsToOpenAll, FailsToSend, FailsAtFirstLine}
 use Rattle.cube_merge.specs.Faults.{FailsToTakeHeader, GoesWrong, HasFault, HasNoHeader, HasRowAt, HasRowBelow}
-use Rattle.cube_merge.specs.Faults.{InputsFail, IsFaultAt, IsOutOfOrder, IsTooLarge, JoinTooLarge, StandsAt, StepFails}
-use Rattle.cube_merge.specs.Faults.{Stops, TellsOverflow, WroteFirst}
+use Rattle.cube_merge.specs.Faults.{InputsFail, IsFaultAt, IsOutOfOrder, IsTooLarge, JoinTooLarge, SplitsAt, StepFails}
+use Rattle.cube_merge.specs.Faults.{FailsAfter, TellsOverflow, WroteFirstRows}
 use Rattle.cube_merge.specs.Joint.{HasRow, rows_of}
-use Rattle.cube_merge.specs.Lawful.{IsRowOf}
-use Rattle.cube_merge.specs.Merging.{InputView, AreInOrder, AreOfSchema, AreUses, Gave, HasTaken, IsAbove, IsCounted}
+use Rattle.cube_merge.specs.Lawful.{IsLawfulRow}
+use Rattle.cube_merge.specs.Merging.{InputView, AreInKeyOrder, AreOfSchema, AreUses, Gave, TookHeader, IsAbove}
+use Rattle.cube_merge.specs.Merging.{IsCounted}
 use Rattle.cube_merge.specs.Merging.{IsMerging, IsUse, all_rows, nothing_left, used_row, used_rows}
 use Rattle.cube_merge.specs.NextLine.{next_line}
 use Rattle.cube_merge.specs.Range.{AreTooLarge, IsInRange}
@@ -39,7 +40,7 @@ use Rattle.cube_merge.specs.declared.fault.InputFault.{InputFault}
 use Rattle.cube_merge.specs.declared.fault.InputFault.TheVariants as why
 use Rattle.cube_merge.specs.declared.fault.MergeFault.{MergeFault}
 use Rattle.cube_merge.specs.declared.fault.MergeFault.TheVariants.{Memory, Aggregates, Input, Write}
-use Rattle.cube_merge.proofs.CubesLaws.{AreInOrder-none, AreOfSchema-none, Gave-none, lefts-at, taken-AreFresh}
+use Rattle.cube_merge.proofs.CubesLaws.{AreInKeyOrder-none, AreOfSchema-none, Gave-none, lefts-at, taken-TookHeaders}
 use Rattle.cube_merge.proofs.CubesLaws.{taken-header, taken-lines, taken-row}
 use Rattle.cube_merge.proofs.LineLaws.{next_line-line}
 use Rattle.cube_merge.proofs.MergedLaws.{is_eq-above, rows_at-all, rows_at-none}
@@ -48,8 +49,8 @@ use Rattle.cube_merge.proofs.StepLaws.{below-used}
 -- a text behind the lines of rows
 stands-at : (s : Layout) (text start left : Option (List ℕ)) (rows : List Row) (number : ℕ)
     → Consumes text start (line (header_fields s)) → Consumes start left (flat_map row_line rows)
-    → AllByRecursion (IsRowOf s) rows → IsStrictlySortedBy key_cmp (map key_of rows) → number ≡ length rows + 2
-    → IfSome text (λ t. (rest : List ℕ) × (left ≡ Some rest) × StandsAt s t rows rest number)
+    → AllByRecursion (IsLawfulRow s) rows → IsStrictlySortedBy key_cmp (map key_of rows) → number ≡ length rows + 2
+    → IfSome text (λ t. (rest : List ℕ) × (left ≡ Some rest) × SplitsAt s t rows rest number)
 stands-at s None start left rows number head gave are sorted is = tt
 stands-at s (Some t) None left rows number head gave are sorted is = absurd head
 stands-at s (Some t) (Some x) None rows number head gave are sorted is = absurd gave
@@ -94,7 +95,7 @@ sorted-first (x ∷ xs) ys sorted =
 module _ (s : Layout) (input : InputView) (rows : List Row) where
   -- the row that comes next isn't above the one before
   order-of : (t rest : List ℕ) (number : ℕ) → HasRowBelow s input → input.left ≡ Some rest
-      → StandsAt s t (rows ++ option_to_list input.row) rest number → IsOutOfOrder s number t
+      → SplitsAt s t (rows ++ option_to_list input.row) rest number → IsOutOfOrder s number t
   order-of t rest number low is stands = by_row input.row refl where
     by_row : (o : Option Row) → input.row ≡ o → IsOutOfOrder s number t
     by_row None e = absurd (subst (λ (o : Option Row). IsAbove o low.row → ⊥) e low.below tt)
@@ -106,8 +107,8 @@ module _ (s : Layout) (input : InputView) (rows : List Row) where
           before = before;
           row = low.row;
           rest = after.0;
-          stands = subst (λ r. StandsAt s t (rows ++ before ∷ []) r number) after.1
-              (subst (λ o. StandsAt s t (rows ++ option_to_list o) rest number) e stands);
+          stands = subst (λ r. SplitsAt s t (rows ++ before ∷ []) r number) after.1
+              (subst (λ o. SplitsAt s t (rows ++ option_to_list o) rest number) e stands);
           of_schema = low.of_schema;
           below = subst (λ (o : Option Row). IsAbove o low.row → ⊥) e low.below;
         }
@@ -127,7 +128,7 @@ module _ (s : Layout) (input : InputView) (rows : List Row) where
         ap (λ (r : Row). is_total (length s.dimensions) r.key) (sym (last-same rows before row last is)) ∙ other
 
   module _ (text start : Option (List ℕ)) (head : Consumes text start (line (header_fields s)))
-      (gave : Gave start input rows) (are : AreOfSchema s input rows) (sorted : AreInOrder input rows) where
+      (gave : Gave start input rows) (are : AreOfSchema s input rows) (sorted : AreInKeyOrder input rows) where
     -- an input that can't take its next line, by its text
     pub explains-move : (fault : InputFault) (number : ℕ) → input.lines ≡ length (rows ++ option_to_list input.row) + 1
         → (input.row ≡ None → rows ≡ []) → HasFault s input fault number
@@ -157,7 +158,7 @@ module _ (s : Layout) (input : InputView) (rows : List Row) where
         (rows ++ option_to_list input.row) number head gave are sorted (omega (arith, lines, fails.0)))
         (λ t at. record {
           rows = rows ++ option_to_list input.row;
-          stands = subst (λ r. StandsAt s t (rows ++ option_to_list input.row) r number)
+          stands = subst (λ r. SplitsAt s t (rows ++ option_to_list input.row) r number)
               (subst IsAtEnd at.1 fails.1.at_end) at.2;
           kept = fails.1.kept;
           last = ends-without fails.1.last first;
@@ -182,7 +183,7 @@ module _ (s : Layout) (input : InputView) (rows : List Row) where
             text_is = at.2.text_is ∙ ap (λ l. (header ++ l) ++ at.0) all
                 ∙ ap (λ l. l ++ at.0) (sym (append_assoc header lines (row_line row)))
                 ∙ append_assoc (header ++ lines) (row_line row) at.0;
-            of_schema = AllByRecursion-first (IsRowOf s) rows (option_to_list input.row) are;
+            of_schema = AllByRecursion-first (IsLawfulRow s) rows (option_to_list input.row) are;
             ordered = sorted-first (map key_of rows) (map key_of (option_to_list input.row))
                 (subst (IsStrictlySortedBy key_cmp) (map-append key_of rows (option_to_list input.row)) sorted);
             number_is = counted;
@@ -240,12 +241,12 @@ HasFault-told s used inputs fault place number (Input told input at) is inside u
   other why.Incomplete kept h = h
 
 -- the same of the first lines
-pub FailsToStart-moves : (s : Layout) (used : List Bool) (inputs : List InputView) (fault : MergeFault)
-    → FailsToMoveAll s used inputs fault → FailsToStart s inputs fault
-FailsToStart-moves s used inputs Memory fails = tt
-FailsToStart-moves s used inputs Aggregates fails = absurd fails
-FailsToStart-moves s used inputs (Input fault input number) fails = (used, fails)
-FailsToStart-moves s used inputs (Write sent) fails = absurd fails
+pub FailsAtFirstLine-moves : (s : Layout) (used : List Bool) (inputs : List InputView) (fault : MergeFault)
+    → FailsToMoveAll s used inputs fault → FailsAtFirstLine s inputs fault
+FailsAtFirstLine-moves s used inputs Memory fails = tt
+FailsAtFirstLine-moves s used inputs Aggregates fails = absurd fails
+FailsAtFirstLine-moves s used inputs (Input fault input number) fails = (used, fails)
+FailsAtFirstLine-moves s used inputs (Write sent) fails = absurd fails
 
 -- the same of the lines behind those that were used
 pub StepFails-moves : (s : Layout) (used : List Bool) (inputs : List InputView) (key : Key) (fault : MergeFault)
@@ -370,7 +371,7 @@ module _ (given wanted : Layout) (starts : List (Option (List ℕ))) (count : �
     (all : sent ++ waits ≡ text_of_rows wanted rows) where
   -- it can't go on
   pub Stops-waiting : (fault : MergeFault) (old new : Option (List ℕ)) → Appends old new sent
-      → StepFails given inputs fault → Stops given wanted starts count fault old new
+      → StepFails given inputs fault → FailsAfter given wanted starts count fault old new
   Stops-waiting Aggregates old new written fails = absurd fails
   Stops-waiting (Write total) old new written fails = absurd fails
   Stops-waiting Memory old new written fails = record {
@@ -396,7 +397,7 @@ module _ (given wanted : Layout) (starts : List (Option (List ℕ))) (count : �
 
   -- it can't send what waits
   pub Stops-sending : (fault : MergeFault) (old mid new : Option (List ℕ)) → Appends old mid sent
-      → FailsToSend waits (length sent) fault mid new → Stops given wanted starts count fault old new
+      → FailsToSend waits (length sent) fault mid new → FailsAfter given wanted starts count fault old new
   Stops-sending Aggregates old mid new written fails = absurd fails
   Stops-sending (Input fault input number) old mid new written fails = absurd fails
   Stops-sending Memory old mid new written fails =
@@ -511,16 +512,16 @@ IsTooLarge-read given wanted texts starts inputs rows as_many headed m join =
 
 -- what a merge of readers that failed leaves
 module _ {R : Type 0} (remaining : R → Option (List ℕ)) (given wanted : Layout) (readers : List R) where
-  as-many : (inputs : List InputView) → AllZip (HasTaken remaining (line (header_fields given))) readers inputs
+  as-many : (inputs : List InputView) → AllZip (TookHeader remaining (line (header_fields given))) readers inputs
       → length inputs ≡ length (map remaining readers)
-  as-many inputs taken = sym (AllZip-length (HasTaken remaining (line (header_fields given))) readers inputs taken)
+  as-many inputs taken = sym (AllZip-length (TookHeader remaining (line (header_fields given))) readers inputs taken)
       ∙ sym (length-map readers remaining)
 
-  module _ (inputs : List InputView) (taken : AllZip (HasTaken remaining (line (header_fields given))) readers inputs)
+  module _ (inputs : List InputView) (taken : AllZip (TookHeader remaining (line (header_fields given))) readers inputs)
       (old new : Option (List ℕ)) where
     wrote : (fault : MergeFault)
-        (stops : Stops given wanted (map (λ (i : InputView). i.left) inputs) (length inputs) fault old new)
-        → WroteFirst given wanted (map remaining readers) stops.sent old new
+        (stops : FailsAfter given wanted (map (λ (i : InputView). i.left) inputs) (length inputs) fault old new)
+        → WroteFirstRows given wanted (map remaining readers) stops.sent old new
     wrote fault stops = record {
       starts = map (λ (i : InputView). i.left) inputs;
       inputs = stops.inputs;
@@ -534,11 +535,11 @@ module _ {R : Type 0} (remaining : R → Option (List ℕ)) (given wanted : Layo
 
     -- it stopped once the merging had begun
     pub FailsToMerge-stops : (fault : MergeFault)
-        → Stops given wanted (map (λ (i : InputView). i.left) inputs) (length inputs) fault old new
+        → FailsAfter given wanted (map (λ (i : InputView). i.left) inputs) (length inputs) fault old new
         → FailsToMerge given wanted (map remaining readers) fault old new
     FailsToMerge-stops Memory stops = inr (stops.sent, wrote Memory stops)
     FailsToMerge-stops Aggregates stops = absurd stops.why
-    FailsToMerge-stops (Write total) stops = subst (λ n. WroteFirst given wanted (map remaining readers) n old new)
+    FailsToMerge-stops (Write total) stops = subst (λ n. WroteFirstRows given wanted (map remaining readers) n old new)
         (sym stops.why) (wrote (Write total) stops)
     FailsToMerge-stops (Input fault input number) stops =
         let at = stops.why in
@@ -563,7 +564,7 @@ module _ {R : Type 0} (remaining : R → Option (List ℕ)) (given wanted : Layo
         )
 
     -- it couldn't begin
-    pub FailsToMerge-start : (fault : MergeFault) → new ≡ old → FailsToStart given inputs fault
+    pub FailsToMerge-start : (fault : MergeFault) → new ≡ old → FailsAtFirstLine given inputs fault
         → FailsToMerge given wanted (map remaining readers) fault old new
     FailsToMerge-start Memory same fails = inl same
     FailsToMerge-start Aggregates same fails = absurd fails
@@ -587,7 +588,7 @@ module _ {R : Type 0} (remaining : R → Option (List ℕ)) (given wanted : Layo
                 (explains-move given there [] (get_or (map remaining readers) at.place None) start
                 (taken-header remaining header readers inputs taken at.place)
                 (Gave-none start there (lefts-at inputs at.place) none) (AreOfSchema-none given there none)
-                (AreInOrder-none there none) fault number lines_is (λ _. refl) at.has_fault);
+                (AreInKeyOrder-none there none) fault number lines_is (λ _. refl) at.has_fault);
             too_large = λ is. absurd (subst (λ f. HasFault given there f number) is at.has_fault);
           },
         )
@@ -596,7 +597,7 @@ module _ {R : Type 0} (remaining : R → Option (List ℕ)) (given wanted : Layo
     pub FailsToMerge-inputs : (fault : MergeFault) → InputsFail given wanted inputs fault old new
         → FailsToMerge given wanted (map remaining readers) fault old new
     FailsToMerge-inputs fault fails = elim (fails (map (λ (i : InputView). i.left) inputs)
-        (taken-AreFresh remaining (line (header_fields given)) readers inputs taken)) [
+        (taken-TookHeaders remaining (line (header_fields given)) readers inputs taken)) [
           | inl start ↦ FailsToMerge-start fault start.0 start.1
           | inr stops ↦ FailsToMerge-stops fault stops
         ]

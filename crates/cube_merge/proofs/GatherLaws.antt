@@ -9,19 +9,22 @@ use Rattle.std.proofs.lemmas.List.Elements.{Contains-append_left, Contains-appen
 use Rattle.cube_core.specs.Answer.{IsSum, IsBest}
 use Rattle.cube_core.specs.Fraction.{IsInLowestTerms}
 use Rattle.cube_core.specs.Group.{total_of}
-use Rattle.cube_core.specs.Merged.{Makes, IsMeanOf, IsMerged, column, count_in, count_of, number_in, numbers_of}
+use Rattle.cube_core.specs.Merged.{MakesAnswer, IsMeanOf, IsMerged, column, count_answered, sum_of_counts, number_in}
+use Rattle.cube_core.specs.Merged.{numbers_of}
 use Rattle.cube_core.specs.declared.aggregate.Agg.{Agg}
 use Rattle.cube_core.specs.declared.aggregate.Agg.TheVariants.{CountAll, Count, Sum, Min, Max, Avg}
 use Rattle.cube_core.specs.declared.aggregate.Answer.{Answer}
 use Rattle.cube_core.specs.declared.aggregate.Answer.TheVariants as answer
 use Rattle.cube_core.specs.declared.key.Row.{Row}
 use Rattle.cube_core.proofs.ListLaws.{Contains-head, AllZip-push}
-use Rattle.cube_merge.specs.Made.{AreMade, Joins}
+use Rattle.cube_merge.specs.Made.{AreMadeOfRows, JoinsAnswer}
 use Rattle.cube_merge.specs.Source.{IsSourceOf}
 use Rattle.cube_merge.specs.declared.source.Source.TheVariants as source
 
-pub count_of-push : (parts : List Answer) (a : Answer) → count_of (parts ++ a ∷ []) ≡ count_of parts + count_in a
-count_of-push parts a = sum_by-append count_in parts (a ∷ []) ∙ ap (λ n. count_of parts + n) (omega arith)
+pub sum_of_counts-push : (parts : List Answer) (a : Answer) → sum_of_counts
+    (parts ++ a ∷ []) ≡ sum_of_counts parts + count_answered a
+sum_of_counts-push parts a = sum_by-append count_answered parts (a ∷ []) ∙ ap (λ n. sum_of_counts parts + n)
+    (omega arith)
 
 cons-append : (o : Option ℤ) (xs ys : List ℤ) → cons_option o (xs ++ ys) ≡ cons_option o xs ++ ys
 cons-append None xs ys = refl
@@ -120,41 +123,41 @@ module _ (R : ℤ → ℤ → Type 0) where
 int_le-refl : (x : ℤ) → x ≤ℤ x
 int_le-refl x = omega (arith, ints)
 
-pub Joins-Min-none : (made a : Answer) → number_in a ≡ None → Joins (Min 0) made a made
-Joins-Min-none made a none parts is = rw (numbers_of-none parts a none) is
+pub JoinsAnswer-Min-none : (made a : Answer) → number_in a ≡ None → JoinsAnswer (Min 0) made a made
+JoinsAnswer-Min-none made a none parts is = rw (numbers_of-none parts a none) is
 
-pub Joins-Min-one : (made a : Answer) (number : ℤ) → number_in made ≡ None → number_in a ≡ Some number
-    → Joins (Min 0) made a (answer.Whole number)
-Joins-Min-one made a number first some parts is = rw (numbers_of-number parts a number some)
+pub JoinsAnswer-Min-one : (made a : Answer) (number : ℤ) → number_in made ≡ None → number_in a ≡ Some number
+    → JoinsAnswer (Min 0) made a (answer.Whole number)
+JoinsAnswer-Min-one made a number first some parts is = rw (numbers_of-number parts a number some)
     (IsBest-one (λ m x. m ≤ℤ x) (numbers_of parts) made number is first (int_le-refl number))
 
-pub Joins-Min-stays : (made a : Answer) (best number : ℤ) → number_in made ≡ Some best → number_in a ≡ Some number
-    → best ≤ℤ number → Joins (Min 0) made a (answer.Whole best)
-Joins-Min-stays made a best number there some good parts is = rw (numbers_of-number parts a number some)
+pub JoinsAnswer-Min-stays : (made a : Answer) (best number : ℤ) → number_in made ≡ Some best → number_in a ≡ Some number
+    → best ≤ℤ number → JoinsAnswer (Min 0) made a (answer.Whole best)
+JoinsAnswer-Min-stays made a best number there some good parts is = rw (numbers_of-number parts a number some)
     (IsBest-stays (λ m x. m ≤ℤ x) (numbers_of parts) made best number is there good)
 
-pub Joins-Min-new : (made a : Answer) (best number : ℤ) → number_in made ≡ Some best → number_in a ≡ Some number
-    → number ≤ℤ best → Joins (Min 0) made a (answer.Whole number)
-Joins-Min-new made a best number there some good parts is = rw (numbers_of-number parts a number some)
+pub JoinsAnswer-Min-new : (made a : Answer) (best number : ℤ) → number_in made ≡ Some best → number_in a ≡ Some number
+    → number ≤ℤ best → JoinsAnswer (Min 0) made a (answer.Whole number)
+JoinsAnswer-Min-new made a best number there some good parts is = rw (numbers_of-number parts a number some)
     (IsBest-new (λ m x. m ≤ℤ x) (numbers_of parts) made best number is there (int_le-refl number)
     (λ x b. omega (arith, ints, good, b)))
 
-pub Joins-Max-none : (made a : Answer) → number_in a ≡ None → Joins (Max 0) made a made
-Joins-Max-none made a none parts is = rw (numbers_of-none parts a none) is
+pub JoinsAnswer-Max-none : (made a : Answer) → number_in a ≡ None → JoinsAnswer (Max 0) made a made
+JoinsAnswer-Max-none made a none parts is = rw (numbers_of-none parts a none) is
 
-pub Joins-Max-one : (made a : Answer) (number : ℤ) → number_in made ≡ None → number_in a ≡ Some number
-    → Joins (Max 0) made a (answer.Whole number)
-Joins-Max-one made a number first some parts is = rw (numbers_of-number parts a number some)
+pub JoinsAnswer-Max-one : (made a : Answer) (number : ℤ) → number_in made ≡ None → number_in a ≡ Some number
+    → JoinsAnswer (Max 0) made a (answer.Whole number)
+JoinsAnswer-Max-one made a number first some parts is = rw (numbers_of-number parts a number some)
     (IsBest-one (λ m x. x ≤ℤ m) (numbers_of parts) made number is first (int_le-refl number))
 
-pub Joins-Max-stays : (made a : Answer) (best number : ℤ) → number_in made ≡ Some best → number_in a ≡ Some number
-    → number ≤ℤ best → Joins (Max 0) made a (answer.Whole best)
-Joins-Max-stays made a best number there some good parts is = rw (numbers_of-number parts a number some)
+pub JoinsAnswer-Max-stays : (made a : Answer) (best number : ℤ) → number_in made ≡ Some best → number_in a ≡ Some number
+    → number ≤ℤ best → JoinsAnswer (Max 0) made a (answer.Whole best)
+JoinsAnswer-Max-stays made a best number there some good parts is = rw (numbers_of-number parts a number some)
     (IsBest-stays (λ m x. x ≤ℤ m) (numbers_of parts) made best number is there good)
 
-pub Joins-Max-new : (made a : Answer) (best number : ℤ) → number_in made ≡ Some best → number_in a ≡ Some number
-    → best ≤ℤ number → Joins (Max 0) made a (answer.Whole number)
-Joins-Max-new made a best number there some good parts is = rw (numbers_of-number parts a number some)
+pub JoinsAnswer-Max-new : (made a : Answer) (best number : ℤ) → number_in made ≡ Some best → number_in a ≡ Some number
+    → best ≤ℤ number → JoinsAnswer (Max 0) made a (answer.Whole number)
+JoinsAnswer-Max-new made a best number there some good parts is = rw (numbers_of-number parts a number some)
     (IsBest-new (λ m x. x ≤ℤ m) (numbers_of parts) made best number is there (int_le-refl number)
     (λ x b. omega (arith, ints, good, b)))
 
@@ -170,7 +173,7 @@ IsMeanOf-none total (suc n) is = absurd (omega arith)
 
 -- a merged answer, of what was made at a place or of sums and counts
 pub IsMerged-Made : (given : List Agg) (rows : List Row) (agg : Agg) (made : List Answer) (place : ℕ)
-    → AreMade given rows made → IsSourceOf given agg (source.Made place)
+    → AreMadeOfRows given rows made → IsSourceOf given agg (source.Made place)
     → IsMerged given rows agg (get_or made place answer.Null)
 IsMerged-Made given rows (Avg m) made place are is = absurd is
 IsMerged-Made given rows CountAll made place are is = (place, is, are place CountAll is)
@@ -180,9 +183,10 @@ IsMerged-Made given rows (Min m) made place are is = (place, is, are place (Min 
 IsMerged-Made given rows (Max m) made place are is = (place, is, are place (Max m) is)
 
 pub IsMerged-Mean : (given : List Agg) (rows : List Row) (agg : Agg) (made : List Answer) (sums counts : ℕ) (a : Answer)
-    → AreMade given rows made → IsSourceOf given agg (source.Mean sums counts)
-    → ((ss cs : List Answer) → Makes (Sum 0) ss (get_or made sums answer.Null)
-    → Makes (Count 0) cs (get_or made counts answer.Null) → IsMeanOf (total_of (numbers_of ss)) (count_of cs) a)
+    → AreMadeOfRows given rows made → IsSourceOf given agg (source.Mean sums counts)
+    → ((ss cs : List Answer) → MakesAnswer (Sum 0) ss (get_or made sums answer.Null)
+    → MakesAnswer (Count 0) cs (get_or made counts answer.Null) → IsMeanOf (total_of (numbers_of ss))
+        (sum_of_counts cs) a)
     → IsMerged given rows agg a
 IsMerged-Mean given rows (Avg m) made sums counts a are is mean = (
   sums,

@@ -6,7 +6,7 @@ use Rattle.std.proofs.lemmas.Bool.{cases_eq}
 use Rattle.std.proofs.lemmas.Grind.{flat_map-append}
 use Rattle.std.proofs.lemmas.Option.{get_or_from_slice_get}
 use Rattle.std.proofs.lemmas.List.{append-nil, length-take-le, map-append, take_more}
-use Rattle.cube_core.specs.Merged.{Makes, column}
+use Rattle.cube_core.specs.Merged.{MakesAnswer, column}
 use Rattle.cube_core.specs.Order.{key_cmp}
 use Rattle.cube_core.specs.declared.aggregate.Agg.{Agg}
 use Rattle.cube_core.specs.declared.aggregate.Answer.{Answer}
@@ -14,7 +14,7 @@ use Rattle.cube_core.specs.declared.aggregate.Answer.TheVariants as answer
 use Rattle.cube_core.specs.declared.key.Key.{Key}
 use Rattle.cube_core.specs.declared.key.Row.{Row}
 use Rattle.cube_merge.specs.Joint.{HasRow, HaveRows, place_where, rows_of}
-use Rattle.cube_merge.specs.Made.{AreMade}
+use Rattle.cube_merge.specs.Made.{AreMadeOfRows}
 use Rattle.cube_merge.specs.Merging.{InputView, IsNotBelow, IsUse, nothing_left, used_row, used_rows}
 use Rattle.cube_merge.specs.Range.{AreInRange, AreTooLarge, IsInRange}
 use Rattle.cube_merge.proofs.LeastLaws.{IsUse-other, IsUse-same, at_place}
@@ -97,7 +97,7 @@ column-next at inputs places i place inside is =
 pub record AreMadeSoFar (given : List Agg) (rows : List Row) (answers : List Answer) (place : ℕ) : Type 0 where
   pub long : length answers ≡ place
   pub made : (k : ℕ) (agg : Agg) → k < place → slice_get given k ≡ Some agg
-      → Makes agg (column k rows) (get_or answers k answer.Null)
+      → MakesAnswer agg (column k rows) (get_or answers k answer.Null)
   pub fit : (k : ℕ) (agg : Agg) → k < place → slice_get given k ≡ Some agg → IsInRange agg (column k rows)
 
 before : (xs : List Answer) (y : Answer) (k : ℕ) → k < length xs
@@ -118,7 +118,7 @@ length-one (x ∷ xs) y = omega (arith, length-one xs y)
 
 -- and of one more
 pub AreMadeSoFar-more : (given : List Agg) (rows : List Row) (made : List Answer) (place : ℕ) (d : Agg) (a : Answer)
-    → Makes (get_or given place d) (column place rows) a → IsInRange (get_or given place d) (column place rows)
+    → MakesAnswer (get_or given place d) (column place rows) a → IsInRange (get_or given place d) (column place rows)
     → AreMadeSoFar given rows made place → AreMadeSoFar given rows (made ++ a ∷ []) (place + 1)
 AreMadeSoFar-more given rows made place d a makes fits so_far = record {
   long = length-one made a ∙ ap (λ n. n + 1) so_far.long;
@@ -128,7 +128,7 @@ AreMadeSoFar-more given rows made place d a makes fits so_far = record {
         rw (same, last made a place so_far.long, sym (get_or_from_slice_get given place agg d here)) makes
     | inr other ↦
         let under : k < place = omega (arith, other, below) in
-        subst (Makes agg (column k rows)) (sym (before made a k (omega (arith, under, so_far.long))))
+        subst (MakesAnswer agg (column k rows)) (sym (before made a k (omega (arith, under, so_far.long))))
         (so_far.made k agg under there)
   ];
   fit = λ k agg below there. elim (cases_eq k place) [
@@ -146,7 +146,7 @@ slice_get-length (y ∷ xs) (suc k) x is = omega (arith, slice_get-length xs k x
 
 -- and of all
 pub AreMadeSoFar-all : (given : List Agg) (rows : List Row) (made : List Answer) (place : ℕ) → length given ≤ place
-    → AreMadeSoFar given rows made place → AreMade given rows made
+    → AreMadeSoFar given rows made place → AreMadeOfRows given rows made
 AreMadeSoFar-all given rows made place all so_far k agg there =
     so_far.made k agg (omega (arith, all, slice_get-length given k agg there)) there
 

@@ -6,15 +6,15 @@ use Rattle.cube_core.specs.Text.{header_fields, line}
 use Rattle.cube_core.specs.declared.aggregate.Agg.{Agg}
 use Rattle.std.specs.Prelude.{ℕ}
 use Rattle.cube_merge.specs.Faults.{FailsToOpenAll, InputsFail}
-use Rattle.cube_merge.specs.Merging.{HasTaken, InputView}
+use Rattle.cube_merge.specs.Merging.{TookHeader, InputView}
 use Rattle.cube_merge.specs.Source.{TellsLack}
 use Rattle.cube_merge.specs.declared.fault.MergeFault.{MergeFault}
 use Rattle.cube_merge.specs.declared.fault.MergeFault.TheVariants.{Memory, Aggregates, Input, Write}
-use Rattle.cube_merge.proofs.CubesLaws.{taken-AreFresh}
+use Rattle.cube_merge.proofs.CubesLaws.{taken-TookHeaders}
 
 -- inputs that took their headers
 pub tells-inputs : {R : Type 0} (remaining : R → Option (List ℕ)) (given wanted : Layout) (readers : List R)
-    (inputs : List InputView) → AllZip (HasTaken remaining (line (header_fields given))) readers inputs
+    (inputs : List InputView) → AllZip (TookHeader remaining (line (header_fields given))) readers inputs
     → (old new : Option (List ℕ)) (aggs wanteds : List Agg) (fault : MergeFault)
     → InputsFail given wanted inputs fault old new → TellsLack aggs wanteds fault
 tells-inputs remaining given wanted readers inputs taken old new aggs wanteds Memory fails = tt
@@ -22,7 +22,7 @@ tells-inputs remaining given wanted readers inputs taken old new aggs wanteds (I
 tells-inputs remaining given wanted readers inputs taken old new aggs wanteds (Write sent) fails = tt
 tells-inputs remaining given wanted readers inputs taken old new aggs wanteds Aggregates fails =
     elim (fails (map (λ (i : InputView). i.left) inputs)
-    (taken-AreFresh remaining (line (header_fields given)) readers inputs taken)) [
+    (taken-TookHeaders remaining (line (header_fields given)) readers inputs taken)) [
       | inl start ↦ absurd start.1
       | inr stops ↦ absurd stops.why
     ]

@@ -23,18 +23,19 @@ use Rattle.cube_core.specs.declared.key.Key.{Key}
 use Rattle.cube_core.specs.declared.key.Row.{Row}
 use Rattle.cube_core.proofs.KeyOrderLaws.{key_cmp-IsTotalOrder}
 use Rattle.cube_core.proofs.ListLaws.{Contains-nil, Contains-cases, Contains-head, AllByRecursion-Contains}
-use Rattle.cube_merge.specs.Lawful.{IsRowOf}
+use Rattle.cube_merge.specs.Lawful.{IsLawfulRow}
 use Rattle.cube_merge.specs.Range.{AreInRange}
-use Rattle.cube_merge.specs.Merging.{AreOfSchema, InputView, IsAbove, Advances, Moves, AllMove, IsUse, AreUses}
-use Rattle.cube_merge.specs.Merging.{used_row, used_of_each, used_rows, Gave, IsCounted, IsEnded, IsBelow, AreInOrder}
+use Rattle.cube_merge.specs.Merging.{AreOfSchema, InputView, IsAbove, TakesLine, Moves, AllMove, IsUse, AreUses}
+use Rattle.cube_merge.specs.Merging.{used_row, used_of_each, used_rows, Gave, IsCounted, IsEnded, IsBelow}
+use Rattle.cube_merge.specs.Merging.{AreInKeyOrder}
 use Rattle.cube_merge.specs.Merging.{all_rows, nothing_left, IsMerging}
 use Rattle.cube_merge.proofs.MergedLaws.{AreInRange-push, AreMerged-push, sorted-push}
 
 -- one input that took a line, or stays
-Advances-line : (s : Layout) (old new : InputView) → Advances s old new
+TakesLine-line : (s : Layout) (old new : InputView) → TakesLine s old new
     → Consumes old.left new.left (flat_map row_line (option_to_list new.row))
-Advances-line s old new moved = by_row new.row moved where
-  by_row : (row : Option Row) → Advances s old (record { left = new.left; row = row; lines = new.lines })
+TakesLine-line s old new moved = by_row new.row moved where
+  by_row : (row : Option Row) → TakesLine s old (record { left = new.left; row = row; lines = new.lines })
       → Consumes old.left new.left (flat_map row_line (option_to_list row))
   by_row None m = m.0
   by_row (Some row) m = subst (Consumes old.left new.left) (sym (append-nil (row_line row))) m.0
@@ -44,7 +45,7 @@ Gave-Moves : (s : Layout) (start : Option (List ℕ)) (used : Bool) (old new : I
 Gave-Moves s start true old new rows gave moved =
     subst (Consumes start new.left)
     (sym (flat_map-append row_line (rows ++ option_to_list old.row) (option_to_list new.row)))
-    (Consumes-trans start old.left new.left _ _ gave (Advances-line s old new moved))
+    (Consumes-trans start old.left new.left _ _ gave (TakesLine-line s old new moved))
 Gave-Moves s start false old new rows gave same =
     subst (λ (input : InputView). Gave start input (rows ++ [])) (sym same)
     (subst (λ rs. Gave start old rs) (sym (append-nil rows)) gave)
@@ -61,12 +62,12 @@ last-above (k ∷ keys) last key sorted among = elim (Contains-cases k keys key 
 ]
 
 -- one more row of an input, above the one before
-AreInOrder-Moves : (s : Layout) (used : Bool) (old new : InputView) (rows : List Row) → (old.row ≡ None → rows ≡ [])
-    → AreInOrder old rows → Moves s used old new → AreInOrder new (rows ++ used_row used old)
-AreInOrder-Moves s false old new rows first ordered same =
-    subst (λ (input : InputView). AreInOrder input (rows ++ [])) (sym same)
-    (subst (λ rs. AreInOrder old rs) (sym (append-nil rows)) ordered)
-AreInOrder-Moves s true old new rows first ordered moved = by_row new.row moved where
+AreInKeyOrder-Moves : (s : Layout) (used : Bool) (old new : InputView) (rows : List Row) → (old.row ≡ None → rows ≡ [])
+    → AreInKeyOrder old rows → Moves s used old new → AreInKeyOrder new (rows ++ used_row used old)
+AreInKeyOrder-Moves s false old new rows first ordered same =
+    subst (λ (input : InputView). AreInKeyOrder input (rows ++ [])) (sym same)
+    (subst (λ rs. AreInKeyOrder old rs) (sym (append-nil rows)) ordered)
+AreInKeyOrder-Moves s true old new rows first ordered moved = by_row new.row moved where
   under : (o : Option Row) (r : Row) → (o ≡ None → rows ≡ [])
       → IsStrictlySortedBy key_cmp (map key_of (rows ++ option_to_list o)) → IsAbove o r → (key : Key)
       → Contains (map key_of (rows ++ option_to_list o)) key → key_cmp key r.key ≡ Less
@@ -83,7 +84,7 @@ AreInOrder-Moves s true old new rows first ordered moved = by_row new.row moved 
         ]
       ]
 
-  by_row : (row : Option Row) → Advances s old (record { left = new.left; row = row; lines = new.lines })
+  by_row : (row : Option Row) → TakesLine s old (record { left = new.left; row = row; lines = new.lines })
       → IsStrictlySortedBy key_cmp (map key_of ((rows ++ option_to_list old.row) ++ option_to_list row))
   by_row None m = subst (λ rs. IsStrictlySortedBy key_cmp (map key_of rs))
       (sym (append-nil (rows ++ option_to_list old.row))) ordered
@@ -103,22 +104,23 @@ AreOfSchema-Moves s false old new rows are same =
     subst (λ (input : InputView). AreOfSchema s input (rows ++ [])) (sym same)
     (subst (λ rs. AreOfSchema s old rs) (sym (append-nil rows)) are)
 AreOfSchema-Moves s true old new rows are moved =
-    AllByRecursion-both (IsRowOf s) (rows ++ option_to_list old.row) (option_to_list new.row) are (by_row new.row moved)
+    AllByRecursion-both (IsLawfulRow s) (rows ++ option_to_list old.row) (option_to_list new.row) are
+        (by_row new.row moved)
   where
-    by_row : (row : Option Row) → Advances s old (record { left = new.left; row = row; lines = new.lines })
-        → AllByRecursion (IsRowOf s) (option_to_list row)
+    by_row : (row : Option Row) → TakesLine s old (record { left = new.left; row = row; lines = new.lines })
+        → AllByRecursion (IsLawfulRow s) (option_to_list row)
     by_row None m = tt
     by_row (Some r) m = (m.3, tt)
 
 -- an input whose line is used has a row
 used-first : (s : Layout) (key : Key) (used : Bool) (old new : InputView) (rows : List Row) → IsUse key used old
-    → AreInOrder old rows → Moves s used old new → AreInOrder new (rows ++ used_row used old)
+    → AreInKeyOrder old rows → Moves s used old new → AreInKeyOrder new (rows ++ used_row used old)
 used-first s key true old new rows is_use ordered moved =
-    AreInOrder-Moves s true old new rows
+    AreInKeyOrder-Moves s true old new rows
     (λ none. let clash : Some is_use.0 ≡ None = sym is_use.1 ∙ none in absurd (cc)) ordered moved
 used-first s key false old new rows is_use ordered same =
-    subst (λ (input : InputView). AreInOrder input (rows ++ [])) (sym same)
-    (subst (λ rs. AreInOrder old rs) (sym (append-nil rows)) ordered)
+    subst (λ (input : InputView). AreInKeyOrder input (rows ++ [])) (sym same)
+    (subst (λ rs. AreInKeyOrder old rs) (sym (append-nil rows)) ordered)
 
 -- an input without a row has nothing to count
 none-counted : (input : InputView) (rows : List Row) → input.row ≡ None → IsCounted input rows
@@ -131,7 +133,7 @@ counted-Moves s key false old new rows is_use counted same =
     subst (λ (input : InputView). IsCounted input (rows ++ [])) (sym same)
     (subst (λ rs. IsCounted old rs) (sym (append-nil rows)) counted)
 counted-Moves s key true old new rows is_use counted moved = by_row new.row moved where
-  by_row : (row : Option Row) → Advances s old (record { left = new.left; row = row; lines = new.lines })
+  by_row : (row : Option Row) → TakesLine s old (record { left = new.left; row = row; lines = new.lines })
       → IfSome row (λ _. new.lines ≡ length (rows ++ option_to_list old.row) + 2)
   by_row None m = tt
   by_row (Some r) m =
@@ -148,7 +150,7 @@ counted-first : (s : Layout) (used : Bool) (old new : InputView) → old.row ≡
 counted-first s false old new none one same =
     subst (λ (input : InputView). IsCounted input []) (sym same) (none-counted old [] none)
 counted-first s true old new none one moved = by_row new.row moved where
-  by_row : (row : Option Row) → Advances s old (record { left = new.left; row = row; lines = new.lines })
+  by_row : (row : Option Row) → TakesLine s old (record { left = new.left; row = row; lines = new.lines })
       → IfSome row (λ _. new.lines ≡ 2)
   by_row None m = tt
   by_row (Some r) m = let more : new.lines ≡ old.lines + 1 = m.2 in omega (arith, more, one)
@@ -264,7 +266,7 @@ below-Moves s key low false old new under is_use same = subst (IsBelow low) (sym
     | inr is ↦ ap (λ k. key_cmp k r.key) is ∙ h
   ]
 below-Moves s key low true old new under is_use moved = by_row new.row moved where
-  by_row : (row : Option Row) → Advances s old (record { left = new.left; row = row; lines = new.lines })
+  by_row : (row : Option Row) → TakesLine s old (record { left = new.left; row = row; lines = new.lines })
       → IfSome row (λ (r : Row). key_cmp low r.key ≡ Less)
   by_row None m = tt
   by_row (Some r) m =
@@ -287,7 +289,7 @@ ended-Moves : (s : Layout) (start : Option (List ℕ)) (rows : List Row) (u : Bo
 ended-Moves s start rows false old new gave ended same = subst (IsEnded start) (sym same) (ended refl)
 ended-Moves s start rows true old new gave ended moved =
     by_row new.row moved where
-      by_row : (row : Option Row) → Advances s old (record { left = new.left; row = row; lines = new.lines })
+      by_row : (row : Option Row) → TakesLine s old (record { left = new.left; row = row; lines = new.lines })
           → row ≡ None → IfSome start (λ _. IsAtEnd new.left)
       by_row None m e = told start old.left _ (IsAtEnd new.left) gave m.1
       by_row (Some r) m e = absurd (cc)
@@ -314,7 +316,7 @@ IsMerging-step given wanted starts olds news rows us row m same same_news uses s
           ∙ ap (λ g. get_or m.cubes k [] ++ g) (used_of_each-at us olds k same)))
           (Gave-Moves given (get_or starts k None) (get_or us k false) (get_or olds k nothing_left)
           (get_or news k nothing_left) (get_or m.cubes k []) (m.gave k) (moved k));
-      ordered = λ k. subst (λ rs. AreInOrder (get_or news k nothing_left) rs)
+      ordered = λ k. subst (λ rs. AreInKeyOrder (get_or news k nothing_left) rs)
           (sym (join_each-at m.cubes gains k wide
           ∙ ap (λ g. get_or m.cubes k [] ++ g) (used_of_each-at us olds k same)))
           (used-first given row.key (get_or us k false) (get_or olds k nothing_left) (get_or news k nothing_left)
@@ -350,12 +352,12 @@ IsMerging-step given wanted starts olds news rows us row m same same_news uses s
     }
 
 -- no row is in order
-pub nothing-ordered : (input : InputView) → input.row ≡ None → AreInOrder input []
+pub nothing-ordered : (input : InputView) → input.row ≡ None → AreInKeyOrder input []
 unfolding IsStrictlySortedBy
 nothing-ordered input none = subst (λ o. IsStrictlySortedBy key_cmp (map key_of (option_to_list o))) (sym none) tt
 
 nothing-of_schema : (s : Layout) (input : InputView) → input.row ≡ None → AreOfSchema s input []
-nothing-of_schema s input none = subst (λ o. AllByRecursion (IsRowOf s) (option_to_list o)) (sym none) tt
+nothing-of_schema s input none = subst (λ o. AllByRecursion (IsLawfulRow s) (option_to_list o)) (sym none) tt
 
 -- nothing is merged yet, and each input took its first line
 replicate_empty : List InputView → List (List Row)
@@ -397,8 +399,8 @@ IsMerging-start given wanted starts olds news us gave rows ones ended same moved
       (Gave-Moves given (get_or starts k None) (get_or us k false) (get_or olds k nothing_left)
       (get_or news k nothing_left) [] (gave k) (moved k));
   ordered =
-      λ k. subst (λ rs. AreInOrder (get_or news k nothing_left) rs) (none_used k ∙ sym (replicate_empty-at news k))
-      (AreInOrder-Moves given (get_or us k false) (get_or olds k nothing_left) (get_or news k nothing_left) []
+      λ k. subst (λ rs. AreInKeyOrder (get_or news k nothing_left) rs) (none_used k ∙ sym (replicate_empty-at news k))
+      (AreInKeyOrder-Moves given (get_or us k false) (get_or olds k nothing_left) (get_or news k nothing_left) []
       (λ _. refl) (nothing-ordered (get_or olds k nothing_left) (rows k)) (moved k));
   of_schema = λ k.
       subst (λ rs. AreOfSchema given (get_or news k nothing_left) rs) (none_used k ∙ sym (replicate_empty-at news k))

@@ -13,9 +13,9 @@ use Rattle.cube_core.specs.Text.{header_fields, line, row_line, text_of_rows}
 use Rattle.cube_core.specs.declared.aggregate.Agg.{Agg}
 use Rattle.cube_core.specs.declared.key.Key.{Key}
 use Rattle.cube_core.specs.declared.key.Row.{Row}
-use Rattle.cube_merge.specs.Lawful.{IsRowOf}
+use Rattle.cube_merge.specs.Lawful.{IsLawfulRow}
 use Rattle.cube_merge.specs.Joint.{HasRow, rows_of}
-use Rattle.cube_merge.specs.Merging.{InputView, AreFresh, AreUses, IsAbove, IsMerging, all_rows, nothing_left}
+use Rattle.cube_merge.specs.Merging.{InputView, TookHeaders, AreUses, IsAbove, IsMerging, all_rows, nothing_left}
 use Rattle.cube_merge.specs.Merging.{used_rows}
 use Rattle.cube_merge.specs.Range.{AreTooLarge}
 use Rattle.cube_merge.specs.NextLine.{next_line}
@@ -44,7 +44,7 @@ pub record HasRowBelow (s : Layout) (input : InputView) : Type 0 where
   pub row : Row
   pub left : Option (List ℕ)
   pub taken : Consumes input.left left (row_line row)
-  pub of_schema : IsRowOf s row
+  pub of_schema : IsLawfulRow s row
   pub below : IsAbove input.row row → ⊥
 
 -- an input has no line left, and its last row isn't the grand total, which the schema keeps
@@ -151,9 +151,9 @@ StepFails s inputs (Write sent) = ⊥
 
 -- a text is the header line, the lines of these rows of the schema in key order, and this rest,
 -- whose first line is the record of this number, the header being the first
-pub record StandsAt (s : Layout) (text : List ℕ) (rows : List Row) (rest : List ℕ) (number : ℕ) : Type 0 where
+pub record SplitsAt (s : Layout) (text : List ℕ) (rows : List Row) (rest : List ℕ) (number : ℕ) : Type 0 where
   pub text_is : text ≡ text_of_rows s rows ++ rest
-  pub of_schema : AllByRecursion (IsRowOf s) rows
+  pub of_schema : AllByRecursion (IsLawfulRow s) rows
   pub ordered : IsStrictlySortedBy key_cmp (map key_of rows)
   pub number_is : number ≡ length rows + 2
 
@@ -161,7 +161,7 @@ pub record StandsAt (s : Layout) (text : List ℕ) (rows : List Row) (rest : Lis
 pub record HasWrongLine (s : Layout) (number : ℕ) (text : List ℕ) : Type 0 where
   pub rows : List Row
   pub rest : List ℕ
-  pub stands : StandsAt s text rows rest number
+  pub stands : SplitsAt s text rows rest number
   pub some : rest ≢ []
 
 -- behind the lines of rows the line of a row follows whose key isn't above that of the row before
@@ -170,8 +170,8 @@ pub record IsOutOfOrder (s : Layout) (number : ℕ) (text : List ℕ) : Type 0 w
   pub before : Row
   pub row : Row
   pub rest : List ℕ
-  pub stands : StandsAt s text (rows ++ before ∷ []) (row_line row ++ rest) number
-  pub of_schema : IsRowOf s row
+  pub stands : SplitsAt s text (rows ++ before ∷ []) (row_line row ++ rest) number
+  pub of_schema : IsLawfulRow s row
   pub below : key_cmp before.key row.key ≢ Less
 
 -- behind the lines of rows the line of a row follows
@@ -179,7 +179,7 @@ pub record HasRowAt (s : Layout) (number : ℕ) (text : List ℕ) : Type 0 where
   pub rows : List Row
   pub row : Row
   pub rest : List ℕ
-  pub stands : StandsAt s text rows (row_line row ++ rest) number
+  pub stands : SplitsAt s text rows (row_line row ++ rest) number
 
 -- the last of rows isn't the grand total
 abbrev pub EndsWithoutTotal : Layout → List Row → Type 0
@@ -189,7 +189,7 @@ EndsWithoutTotal s rows =
 -- nothing follows the lines of rows, of which the last isn't the grand total, which the schema keeps
 pub record IsIncomplete (s : Layout) (number : ℕ) (text : List ℕ) : Type 0 where
   pub rows : List Row
-  pub stands : StandsAt s text rows [] number
+  pub stands : SplitsAt s text rows [] number
   pub kept : Contains s.grouping_sets 0
   pub last : EndsWithoutTotal s rows
 
@@ -197,7 +197,7 @@ pub record IsIncomplete (s : Layout) (number : ℕ) (text : List ℕ) : Type 0 w
 pub record IsReadSoFar (s : Layout) (number : ℕ) (text : List ℕ) : Type 0 where
   pub rows : List Row
   pub rest : List ℕ
-  pub stands : StandsAt s text rows rest number
+  pub stands : SplitsAt s text rows rest number
 
 -- why an input with this text has a fault at the record of this number
 abbrev pub ExplainsFault : Layout → InputFault → ℕ → List ℕ → Type 0
@@ -211,7 +211,7 @@ ExplainsFault s why.Incomplete number text = IsIncomplete s number text
 
 -- this text begins with the header line and the lines of these rows of the schema, where it is told
 abbrev pub BeginsWith : Layout → Option (List ℕ) → List Row → Type 0
-BeginsWith s text rows = IfSome text (λ known. (rest : List ℕ) × StandsAt s known rows rest (length rows + 2))
+BeginsWith s text rows = IfSome text (λ known. (rest : List ℕ) × SplitsAt s known rows rest (length rows + 2))
 
 -- of the rows that were read of texts a count or a sum of those with some key is too large
 pub record IsTooLarge (s : Layout) (texts : List (Option (List ℕ))) : Type 0 where
@@ -231,7 +231,8 @@ pub record InputFails (s : Layout) (texts : List (Option (List ℕ))) (fault : I
 
 -- what was written is the first bytes, so many, of the text of the rows that were merged of inputs so far;
 -- each input took the header of its text, and began with what was left
-pub record WroteFirst (given wanted : Layout) (texts : List (Option (List ℕ))) (sent : ℕ) (old new : Option (List ℕ))
+pub record WroteFirstRows (given wanted : Layout) (texts : List (Option (List ℕ))) (sent : ℕ)
+    (old new : Option (List ℕ))
     : Type 0 where
   pub starts : List (Option (List ℕ))
   pub inputs : List InputView
@@ -244,7 +245,7 @@ pub record WroteFirst (given wanted : Layout) (texts : List (Option (List ℕ)))
 
 -- nothing was written, or the first bytes of the text of merged rows
 abbrev pub WroteSome : Layout → Layout → List (Option (List ℕ)) → Option (List ℕ) → Option (List ℕ) → Type 0
-WroteSome given wanted texts old new = (new ≡ old) ⊎ ((sent : ℕ) × WroteFirst given wanted texts sent old new)
+WroteSome given wanted texts old new = (new ≡ old) ⊎ ((sent : ℕ) × WroteFirstRows given wanted texts sent old new)
 
 -- what a merge that failed leaves written, and why it failed
 abbrev pub FailsToMerge : Layout → Layout → List (Option (List ℕ)) → MergeFault → Option (List ℕ) → Option (List ℕ)
@@ -253,7 +254,7 @@ FailsToMerge given wanted texts Memory old new = WroteSome given wanted texts ol
 FailsToMerge given wanted texts Aggregates old new = new ≡ old
 FailsToMerge given wanted texts (Input fault input number) old new =
     WroteSome given wanted texts old new × InputFails given texts fault input number
-FailsToMerge given wanted texts (Write sent) old new = WroteFirst given wanted texts sent old new
+FailsToMerge given wanted texts (Write sent) old new = WroteFirstRows given wanted texts sent old new
 
 -- bytes couldn't be written behind so many that were sent before:
 -- the first of them went out, or none since they would be too many to count
@@ -272,7 +273,7 @@ StopsAt s inputs sent (Input fault input number) = FailsWithRow s inputs fault i
 StopsAt s inputs sent (Write total) = total ≡ sent
 
 -- how far a merge came that failed: it merged these rows, and the first bytes of their text were written
-pub record Stops (given wanted : Layout) (starts : List (Option (List ℕ))) (count : ℕ) (fault : MergeFault)
+pub record FailsAfter (given wanted : Layout) (starts : List (Option (List ℕ))) (count : ℕ) (fault : MergeFault)
     (old new : Option (List ℕ)) : Type 0 where
   pub inputs : List InputView
   pub rows : List Row
@@ -287,20 +288,20 @@ pub record Stops (given wanted : Layout) (starts : List (Option (List ℕ))) (co
 abbrev pub RestFails : Layout → Layout → List InputView → MergeFault → Option (List ℕ) → Option (List ℕ) → Type 0
 RestFails given wanted inputs fault old new =
     (starts : List (Option (List ℕ))) → IsMerging given wanted.aggregates starts inputs []
-    → Stops given wanted starts (length inputs) fault old new
+    → FailsAfter given wanted starts (length inputs) fault old new
 
 -- an input whose header was taken couldn't take its first line, or memory ran out
-abbrev pub FailsToStart : Layout → List InputView → MergeFault → Type 0
-FailsToStart s inputs Memory = ⊤
-FailsToStart s inputs Aggregates = ⊥
-FailsToStart s inputs (Input fault input number) = (used : List Bool) × HasFaultAt s used inputs fault input number
-FailsToStart s inputs (Write sent) = ⊥
+abbrev pub FailsAtFirstLine : Layout → List InputView → MergeFault → Type 0
+FailsAtFirstLine s inputs Memory = ⊤
+FailsAtFirstLine s inputs Aggregates = ⊥
+FailsAtFirstLine s inputs (Input fault input number) = (used : List Bool) × HasFaultAt s used inputs fault input number
+FailsAtFirstLine s inputs (Write sent) = ⊥
 
 -- the same, from inputs that took the header alone; where the first lines couldn't be taken, nothing was written
 abbrev pub InputsFail : Layout → Layout → List InputView → MergeFault → Option (List ℕ) → Option (List ℕ) → Type 0
 InputsFail given wanted inputs fault old new =
-    (starts : List (Option (List ℕ))) → AreFresh starts inputs
-    → ((new ≡ old) × FailsToStart given inputs fault) ⊎ Stops given wanted starts (length inputs) fault old new
+    (starts : List (Option (List ℕ))) → TookHeaders starts inputs
+    → ((new ≡ old) × FailsAtFirstLine given inputs fault) ⊎ FailsAfter given wanted starts (length inputs) fault old new
 
 -- the fault of a text whose header line couldn't be taken
 abbrev pub HasNoHeader : List ℕ → Option (List ℕ) → InputFault → ℕ → Type 0

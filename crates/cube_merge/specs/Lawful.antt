@@ -63,7 +63,7 @@ IsOfKind (Avg m) a = IsFraction a
 
 -- a cube of a schema may have this row: it has a coordinate for each dimension,
 -- none of them the text that stands for null, and an answer of its kind to each aggregate
-pub record IsRowOf (s : Layout) (row : Row) : Type 0 where
+pub record IsLawfulRow (s : Layout) (row : Row) : Type 0 where
   pub coords : length row.key.coords ≡ length s.dimensions
   pub told : IsTrue (has_no_null_text row.key)
   pub answers : AllZip IsOfKind s.aggregates row.answers

@@ -13,7 +13,7 @@ use Rattle.cube_core.specs.Text.{row_line, text_of_rows}
 use Rattle.cube_core.specs.declared.aggregate.Agg.{Agg}
 use Rattle.cube_core.specs.declared.key.Key.{Key}
 use Rattle.cube_core.specs.declared.key.Row.{Row}
-use Rattle.cube_merge.specs.Lawful.{IsRowOf}
+use Rattle.cube_merge.specs.Lawful.{IsLawfulRow}
 use Rattle.cube_merge.specs.Range.{AreInRange}
 use Rattle.cube_merge.specs.Source.{IsSourceOf}
 use Rattle.cube_merge.specs.declared.source.Source.{Source}
@@ -35,14 +35,14 @@ IsAbove None row = ⊤
 IsAbove (Some before) row = key_cmp before.key row.key ≡ Less
 
 -- the next line was taken, that of a row of the schema above the one before, or none is left
-abbrev pub Advances : Layout → InputView → InputView → Type 0
-Advances s old new =
+abbrev pub TakesLine : Layout → InputView → InputView → Type 0
+TakesLine s old new =
     MatchOption new.row (Consumes old.left new.left [] × IfSome old.left (λ _. IsAtEnd new.left)) (λ row.
-    Consumes old.left new.left (row_line row) × IsAbove old.row row × (new.lines ≡ old.lines + 1) × IsRowOf s row)
+    Consumes old.left new.left (row_line row) × IsAbove old.row row × (new.lines ≡ old.lines + 1) × IsLawfulRow s row)
 
 -- an input whose line was used took the next one, and any other stays
 abbrev pub Moves : Layout → Bool → InputView → InputView → Type 0
-Moves s true old new = Advances s old new
+Moves s true old new = TakesLine s old new
 Moves s false old new = new ≡ old
 
 -- the same of each input
@@ -94,12 +94,12 @@ abbrev pub Gave : Option (List ℕ) → InputView → List Row → Type 0
 Gave start input rows = Consumes start input.left (flat_map row_line (rows ++ option_to_list input.row))
 
 -- the rows that an input gave, and its row, are in key order, each key once
-abbrev pub AreInOrder : InputView → List Row → Type 0
-AreInOrder input rows = IsStrictlySortedBy key_cmp (map key_of (rows ++ option_to_list input.row))
+abbrev pub AreInKeyOrder : InputView → List Row → Type 0
+AreInKeyOrder input rows = IsStrictlySortedBy key_cmp (map key_of (rows ++ option_to_list input.row))
 
 -- the rows that an input gave, and its row, are rows of the schema
 abbrev pub AreOfSchema : Layout → InputView → List Row → Type 0
-AreOfSchema s input rows = AllByRecursion (IsRowOf s) (rows ++ option_to_list input.row)
+AreOfSchema s input rows = AllByRecursion (IsLawfulRow s) (rows ++ option_to_list input.row)
 
 -- the row of an input is that of the line taken last, behind the header and the lines of the rows that it gave
 abbrev pub IsCounted : InputView → List Row → Type 0
@@ -124,7 +124,7 @@ pub record IsMerging (given : Layout) (wanted : List Agg) (starts : List (Option
   pub parts : List Row
   pub width : length cubes ≡ length inputs
   pub gave : (k : ℕ) → Gave (get_or starts k None) (get_or inputs k nothing_left) (get_or cubes k [])
-  pub ordered : (k : ℕ) → AreInOrder (get_or inputs k nothing_left) (get_or cubes k [])
+  pub ordered : (k : ℕ) → AreInKeyOrder (get_or inputs k nothing_left) (get_or cubes k [])
   pub of_schema : (k : ℕ) → AreOfSchema given (get_or inputs k nothing_left) (get_or cubes k [])
   pub counted : (k : ℕ) → IsCounted (get_or inputs k nothing_left) (get_or cubes k [])
   pub ended : (k : ℕ) → IsEnded (get_or starts k None) (get_or inputs k nothing_left)
@@ -162,8 +162,8 @@ PutsNext given sources olds news old new false =
     (new ≡ old) × (news ≡ olds) × ((k : ℕ) → (get_or olds k nothing_left).row ≡ None)
 
 -- of what a reader had an input took the header alone, and has no row
-abbrev pub HasTaken : {R : Type 0} → (R → Option (List ℕ)) → List ℕ → R → InputView → Type 0
-HasTaken remaining header reader input =
+abbrev pub TookHeader : {R : Type 0} → (R → Option (List ℕ)) → List ℕ → R → InputView → Type 0
+TookHeader remaining header reader input =
     Consumes (remaining reader) input.left header × (input.row ≡ None) × (input.lines ≡ 1)
 
 -- what was written is the cube of the rows that merges of these inputs go on by, to the end of each
@@ -175,7 +175,7 @@ MergesRest given wanted inputs old new =
     × ((k : ℕ) → (get_or ends k nothing_left).row ≡ None) × Appends old new (text_of_rows wanted rows)
 
 -- inputs that began with these bytes took the header alone
-pub record AreFresh (starts : List (Option (List ℕ))) (inputs : List InputView) : Type 0 where
+pub record TookHeaders (starts : List (Option (List ℕ))) (inputs : List InputView) : Type 0 where
   pub left : (k : ℕ) → Consumes (get_or starts k None) (get_or inputs k nothing_left).left []
   pub row : (k : ℕ) → (get_or inputs k nothing_left).row ≡ None
   pub lines : (k : ℕ) → (get_or inputs k nothing_left).lines ≡ 1
@@ -183,14 +183,14 @@ pub record AreFresh (starts : List (Option (List ℕ))) (inputs : List InputView
 -- what was written is the cube of all rows of inputs that had none taken yet
 abbrev pub MergesInputs : Layout → Layout → List InputView → Option (List ℕ) → Option (List ℕ) → Type 0
 MergesInputs given wanted inputs old new =
-    (starts : List (Option (List ℕ))) → AreFresh starts inputs
+    (starts : List (Option (List ℕ))) → TookHeaders starts inputs
     → (ends : List InputView) × (rows : List Row) × (length ends ≡ length inputs)
     × IsMerging given wanted.aggregates starts ends rows
     × ((k : ℕ) → (get_or ends k nothing_left).row ≡ None) × Appends old new (text_of_rows wanted rows)
 
 -- a text is that of a cube's rows, where it is told
-abbrev pub IsTextOf : Layout → Option (List ℕ) → List Row → Type 0
-IsTextOf s text rows = IfSome text (λ known. known ≡ text_of_rows s rows)
+abbrev pub IsToldTextOf : Layout → Option (List ℕ) → List Row → Type 0
+IsToldTextOf s text rows = IfSome text (λ known. known ≡ text_of_rows s rows)
 
 -- what was written is the text, under the wanted schema,
 -- of the merged rows of cubes whose texts under the given one were read, each of rows of that schema in key order;
@@ -200,8 +200,8 @@ pub record IsMergeOf (given wanted : Layout) (texts : List (Option (List ℕ))) 
   pub parts : List Row
   pub rows : List Row
   pub as_many : length cubes ≡ length texts
-  pub read : (k : ℕ) → IsTextOf given (get_or texts k None) (get_or cubes k [])
-  pub of_schema : (k : ℕ) → AllByRecursion (IsRowOf given) (get_or cubes k [])
+  pub read : (k : ℕ) → IsToldTextOf given (get_or texts k None) (get_or cubes k [])
+  pub of_schema : (k : ℕ) → AllByRecursion (IsLawfulRow given) (get_or cubes k [])
   pub ordered : (k : ℕ) → IsStrictlySortedBy key_cmp (map key_of (get_or cubes k []))
   pub drawn : IsPermutation (all_rows cubes) parts
   pub merged : AreMerged given.aggregates wanted.aggregates parts rows

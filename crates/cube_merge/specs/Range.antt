@@ -3,7 +3,7 @@
 use Rattle.std.specs.Prelude.{◌≡◌, ◌<◌, ◌^◌, ⊤, ℕ, List, Some, slice_get, FitsSigned}
 use Rattle.std.specs.Int.{w128}
 use Rattle.cube_core.specs.Group.{total_of}
-use Rattle.cube_core.specs.Merged.{column, count_of, numbers_of}
+use Rattle.cube_core.specs.Merged.{column, sum_of_counts, numbers_of}
 use Rattle.cube_core.specs.declared.aggregate.Agg.{Agg}
 use Rattle.cube_core.specs.declared.aggregate.Agg.TheVariants.{CountAll, Count, Sum, Min, Max, Avg}
 use Rattle.cube_core.specs.declared.aggregate.Answer.{Answer}
@@ -11,8 +11,8 @@ use Rattle.cube_core.specs.declared.key.Row.{Row}
 
 -- the count that answers make is one of 64 bits, or the sum that they make one of 128
 abbrev pub IsInRange : Agg → List Answer → Type 0
-IsInRange CountAll parts = count_of parts < 2 ^ 64
-IsInRange (Count m) parts = count_of parts < 2 ^ 64
+IsInRange CountAll parts = sum_of_counts parts < 2 ^ 64
+IsInRange (Count m) parts = sum_of_counts parts < 2 ^ 64
 IsInRange (Sum m) parts = FitsSigned w128 (total_of (numbers_of parts))
 IsInRange (Min m) parts = ⊤
 IsInRange (Max m) parts = ⊤

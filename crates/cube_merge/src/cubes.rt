@@ -5,7 +5,7 @@ ghost use Rattle.std.specs.Io.KnownBytes.{Appends};
 ghost use Rattle.cube_merge.specs.Front.{AreAbove, AreUnused, IsInFront};
 ghost use Rattle.cube_merge.specs.Source.{IsSourceOf, TellsLack};
 ghost use Rattle.cube_merge.specs.Faults.{FailsToMerge, FailsToOpen, FailsToOpenAll, FailsToSend, InputsFail, RestFails, StepFails};
-ghost use Rattle.cube_merge.specs.Merging.{HasTaken, IsLeastSoFar, IsMergeOf, MergesInputs, MergesRest, PutsNext, PutsRow};
+ghost use Rattle.cube_merge.specs.Merging.{TookHeader, IsLeastSoFar, IsMergeOf, MergesInputs, MergesRest, PutsNext, PutsRow};
 
 use crate::fault::MergeFault;
 use crate::front::Front;
@@ -95,7 +95,7 @@ fn open_inputs<R: Read + Drop>(
     readers: Vec<R>,
 ) -> Result<Vec<Input<R>>, MergeFault>
     ensures ok { IfOk result (λ inputs.
-        AllZip (HasTaken R.remaining header.now) readers.items inputs.items) }
+        AllZip (TookHeader R.remaining header.now) readers.items inputs.items) }
     ensures err { IfErr result (FailsToOpenAll header.now (map R.remaining readers.items)) }
 {
     let mut inputs = Vec::with_capacity(alloc, readers.len())?;
@@ -114,7 +114,7 @@ fn open_input<R: Read + Drop>(
     reader: R,
     place: usize,
 ) -> Result<Input<R>, MergeFault>
-    ensures ok { IfOk result (HasTaken R.remaining header.now reader) }
+    ensures ok { IfOk result (TookHeader R.remaining header.now reader) }
     ensures err { IfErr result (FailsToOpen header.now place (R.remaining reader)) }
 {
     let Ok(mut input) = Input::new(alloc, schema, reader) else {

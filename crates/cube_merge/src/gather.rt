@@ -2,9 +2,9 @@
 ghost use Rattle.std.specs.Prelude.{◌≡◌, List, IfErr, IfOk, IfSome, get_or, FitsSigned};
 ghost use Rattle.std.specs.Int.{w128};
 ghost use Rattle.cube_core.specs.Group.{total_of};
-ghost use Rattle.cube_core.specs.Merged.{Makes, IsMeanOf, count_in, count_of, number_in, numbers_of};
+ghost use Rattle.cube_core.specs.Merged.{MakesAnswer, IsMeanOf, count_answered, sum_of_counts, number_in, numbers_of};
 ghost use Rattle.cube_core.specs.declared.aggregate.Answer.{Answer};
-ghost use Rattle.cube_merge.specs.Made.{Joins};
+ghost use Rattle.cube_merge.specs.Made.{JoinsAnswer};
 ghost use Rattle.cube_merge.specs.Range.{IsInRange};
 
 use crate::total::Total;
@@ -13,7 +13,7 @@ use cube_core::{Agg, Answer, reduced};
 /// What the answers to an aggregate make; where a count or a sum is too large for its type, the place of the answer with
 /// which it first is.
 pub(crate) fn made_of(aggregate: &Agg, answers: &[Answer]) -> Result<Answer, usize>
-    ensures made { IfOk result (Makes aggregate.now answers.now) }
+    ensures made { IfOk result (MakesAnswer aggregate.now answers.now) }
     ensures fits { IfOk result (λ _. IsInRange aggregate.now answers.now) }
     ensures too_large { IfErr result (λ _. IsInRange aggregate.now answers.now → ⊥) }
 {
@@ -27,7 +27,7 @@ pub(crate) fn made_of(aggregate: &Agg, answers: &[Answer]) -> Result<Answer, usi
 }
 
 fn count_of(answers: &[Answer]) -> Result<Answer, usize>
-    ensures made { IfOk result (Makes (Agg.Count 0) answers.now) }
+    ensures made { IfOk result (MakesAnswer (Agg.Count 0) answers.now) }
     ensures fits { IfOk result (λ _. IsInRange (Agg.Count 0) answers.now) }
     ensures too_large { IfErr result (λ _. IsInRange (Agg.Count 0) answers.now → ⊥) }
 {
@@ -42,7 +42,7 @@ fn count_of(answers: &[Answer]) -> Result<Answer, usize>
 }
 
 fn sum_of(answers: &[Answer]) -> Result<Answer, usize>
-    ensures made { IfOk result (Makes (Agg.Sum 0) answers.now) }
+    ensures made { IfOk result (MakesAnswer (Agg.Sum 0) answers.now) }
     ensures fits { IfOk result (λ _. IsInRange (Agg.Sum 0) answers.now) }
     ensures too_large { IfErr result (λ _. IsInRange (Agg.Sum 0) answers.now → ⊥) }
 {
@@ -78,7 +78,7 @@ fn first_too_large(answers: &[Answer]) -> usize {
 }
 
 fn least_of(answers: &[Answer]) -> Answer
-    ensures { Makes (Agg.Min 0) answers.now result }
+    ensures { MakesAnswer (Agg.Min 0) answers.now result }
 {
     let mut made = Answer::Null;
     for place in 0..answers.len() {
@@ -88,7 +88,7 @@ fn least_of(answers: &[Answer]) -> Answer
 }
 
 fn greatest_of(answers: &[Answer]) -> Answer
-    ensures { Makes (Agg.Max 0) answers.now result }
+    ensures { MakesAnswer (Agg.Max 0) answers.now result }
 {
     let mut made = Answer::Null;
     for place in 0..answers.len() {
@@ -98,7 +98,7 @@ fn greatest_of(answers: &[Answer]) -> Answer
 }
 
 fn least(made: &Answer, answer: &Answer) -> Answer
-    ensures { Joins (Agg.Min 0) made.now answer.now result }
+    ensures { JoinsAnswer (Agg.Min 0) made.now answer.now result }
 {
     let Some(number) = number_in(answer) else {
         return *made;
@@ -114,7 +114,7 @@ fn least(made: &Answer, answer: &Answer) -> Answer
 }
 
 fn greatest(made: &Answer, answer: &Answer) -> Answer
-    ensures { Joins (Agg.Max 0) made.now answer.now result }
+    ensures { JoinsAnswer (Agg.Max 0) made.now answer.now result }
 {
     let Some(number) = number_in(answer) else {
         return *made;
@@ -132,8 +132,8 @@ fn greatest(made: &Answer, answer: &Answer) -> Answer
 /// The mean of the values of which there are this sum and this count; null where there is none.
 pub(crate) fn mean_of(sum: &Answer, count: &Answer) -> Answer
     ensures { (sums counts : List Answer) →
-        Makes (Agg.Sum 0) sums sum.now → Makes (Agg.Count 0) counts count.now →
-        IsMeanOf (total_of (numbers_of sums)) (count_of counts) result }
+        MakesAnswer (Agg.Sum 0) sums sum.now → MakesAnswer (Agg.Count 0) counts count.now →
+        IsMeanOf (total_of (numbers_of sums)) (sum_of_counts counts) result }
 {
     let values = count_in(count);
     if values == 0 {
@@ -145,7 +145,7 @@ pub(crate) fn mean_of(sum: &Answer, count: &Answer) -> Answer
 
 // The total of the values that a sum is of; 0 where there is none.
 fn total_in(sum: &Answer) -> i128
-    ensures { (sums : List Answer) → Makes (Agg.Sum 0) sums sum.now →
+    ensures { (sums : List Answer) → MakesAnswer (Agg.Sum 0) sums sum.now →
         total_of (numbers_of sums) ≡ result }
 {
     let Some(total) = number_in(sum) else {
@@ -155,7 +155,7 @@ fn total_in(sum: &Answer) -> i128
 }
 
 fn count_in(answer: &Answer) -> u64
-    ensures { result ≡ count_in answer.now }
+    ensures { result ≡ count_answered answer.now }
 {
     match answer {
         Answer::Count(count) => *count,

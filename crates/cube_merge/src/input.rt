@@ -4,7 +4,7 @@ ghost use Rattle.std.specs.List.{list_all};
 ghost use Rattle.std.specs.Io.KnownBytes.{Consumes};
 ghost use Rattle.cube_core.specs.GroupingSet.{is_all_coord};
 ghost use Rattle.cube_merge.specs.Faults.{FailsToMove, FailsToTakeHeader};
-ghost use Rattle.cube_merge.specs.Merging.{Advances, IsAbove, Moves};
+ghost use Rattle.cube_merge.specs.Merging.{TakesLine, IsAbove, Moves};
 ghost use Rattle.cube_merge.specs.Parts.{key_parts};
 
 use crate::fault::InputFault;
@@ -125,7 +125,7 @@ impl<R: Read> Input<R> {
     }
 
     fn advance(&mut self, alloc: Global, schema: &Schema) -> Result<(), InputFault>
-        ensures ok { OnOk result (Advances schema.now self.old self.new) }
+        ensures ok { OnOk result (TakesLine schema.now self.old self.new) }
         ensures err { IfErr result (λ fault. FailsToMove schema.now self.old fault self.new.lines) }
     {
         let before = self.row.take();
@@ -142,7 +142,7 @@ impl<R: Read> Input<R> {
         before: &Option<Row>,
     ) -> Result<(), InputFault>
         requires { self.old.row ≡ None }
-        ensures ok { OnOk result (Advances schema.now
+        ensures ok { OnOk result (TakesLine schema.now
             (record { left = self.old.left; row = before.now; lines = self.old.lines }) self.new) }
         ensures err { IfErr result (λ fault. FailsToMove schema.now
             (record { left = self.old.left; row = before.now; lines = self.old.lines }) fault self.new.lines) }

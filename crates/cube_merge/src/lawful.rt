@@ -2,7 +2,7 @@
 ghost use Rattle.std.specs.Prelude.{◌≡◌, true};
 ghost use Rattle.std.specs.List.{AllZip, list_all};
 ghost use Rattle.cube_core.specs.GroupingSet.{is_all_coord};
-ghost use Rattle.cube_merge.specs.Lawful.{IsFraction, IsNumber, IsOfKind, IsRowOf, IsValue, has_no_null_text, is_no_null_text};
+ghost use Rattle.cube_merge.specs.Lawful.{IsFraction, IsNumber, IsOfKind, IsLawfulRow, IsValue, has_no_null_text, is_no_null_text};
 
 use crate::gather::{answer_at, mean_of};
 use crate::source::place_of;
@@ -73,7 +73,7 @@ fn measures_of(
 /// Whether a printed cube of the schema, with its laws, can have this row, as far as the row alone tells: that it is a row
 /// of the schema, its grouping set, and that its answers don't gainsay one another.
 pub(crate) fn is_lawful(schema: &Schema, laws: &Laws, row: &Row) -> bool
-    ensures { result ≡ true → IsRowOf schema.now row.now }
+    ensures { result ≡ true → IsLawfulRow schema.now row.now }
 {
     if !is_row_of(schema, row) {
         return false;
@@ -86,7 +86,7 @@ pub(crate) fn is_lawful(schema: &Schema, laws: &Laws, row: &Row) -> bool
 }
 
 fn is_row_of(schema: &Schema, row: &Row) -> bool
-    ensures { result ≡ true → IsRowOf schema.now row.now }
+    ensures { result ≡ true → IsLawfulRow schema.now row.now }
 {
     row.key.coords.len() == schema.dimensions().len()
         && has_no_null_text(&row.key)

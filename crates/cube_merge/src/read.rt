@@ -4,7 +4,7 @@ ghost use Rattle.std.specs.Io.KnownBytes.{Consumes, IsAtEnd};
 ghost use Rattle.std.specs.Io.Buffered.{reader_remaining};
 ghost use Rattle.cube_core.specs.Text.{row_line};
 ghost use Rattle.cube_merge.specs.Faults.{IsReadFault};
-ghost use Rattle.cube_merge.specs.Lawful.{IsRowOf};
+ghost use Rattle.cube_merge.specs.Lawful.{IsLawfulRow};
 ghost use Rattle.cube_merge.specs.Parts.{key_parts};
 ghost use Rattle.cube_merge.specs.NextLine.{IsNextLine, is_quoted_after, is_quoted_behind};
 
@@ -26,7 +26,7 @@ pub(crate) fn read_row(
     spare: Row,
 ) -> Result<Option<(Row, usize)>, AllocError>
     ensures line { IfOk result (λ found. IfSome found (λ read. row_line read.0 ≡ line.old.items)) }
-    ensures of_schema { IfOk result (λ found. IfSome found (λ read. IsRowOf schema.now read.0)) }
+    ensures of_schema { IfOk result (λ found. IfSome found (λ read. IsLawfulRow schema.now read.0)) }
     ensures key { IfOk result (λ found. IfSome found (λ read.
         take read.1 line.new.items ≡ key_parts read.0.key)) }
 {

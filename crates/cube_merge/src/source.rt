@@ -2,7 +2,7 @@
 ghost use Rattle.std.specs.Prelude.{◌≡◌, IfNone, IfOk, IfSome, Some, slice_get, false, true, List};
 ghost use Rattle.std.specs.List.{AllZip, list_all};
 ghost use Rattle.cube_core.specs.Merged.{IsMerged};
-ghost use Rattle.cube_merge.specs.Made.{AreMade};
+ghost use Rattle.cube_merge.specs.Made.{AreMadeOfRows};
 ghost use Rattle.cube_merge.specs.Source.{IsSourceOf, can_be_made};
 ghost use Rattle.cube_core.specs.PartialForm.{has_aggregate, is_aggregate};
 ghost use Rattle.cube_core.specs.declared.aggregate.Agg.{Agg};
@@ -87,7 +87,7 @@ fn is_same(one: &Agg, other: &Agg) -> bool
 /// The answer from a source, of what the answers at each place made.
 pub(crate) fn answer_from(made: &[Answer], source: &Source) -> Answer
     ensures { (given : List Agg) (rows : List Row) (aggregate : Agg) →
-        AreMade given rows made.now → IsSourceOf given aggregate source.now →
+        AreMadeOfRows given rows made.now → IsSourceOf given aggregate source.now →
         IsMerged given rows aggregate result }
 {
     match source {

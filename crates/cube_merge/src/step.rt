@@ -6,7 +6,7 @@ ghost use Rattle.cube_core.specs.Order.{key_cmp};
 ghost use Rattle.cube_core.specs.declared.aggregate.Agg.{Agg};
 ghost use Rattle.cube_core.specs.Merged.{IsMerged, column};
 ghost use Rattle.cube_core.specs.declared.key.Row.{Row};
-ghost use Rattle.cube_merge.specs.Made.{AreMade};
+ghost use Rattle.cube_merge.specs.Made.{AreMadeOfRows};
 ghost use Rattle.cube_merge.specs.Range.{AreInRange};
 ghost use Rattle.cube_merge.specs.Source.{IsSourceOf};
 ghost use Rattle.cube_merge.specs.Front.{AreAbove};
@@ -65,7 +65,7 @@ pub(crate) fn join_rows<R: Read>(
     ensures long { OnOk result (length joint.new.used.items ≡ length inputs.now) }
     ensures uses { OnOk result (AreUses key.now joint.new.used.items inputs.now) }
     ensures made { OnOk result
-        (AreMade given.now (used_rows joint.new.used.items inputs.now) joint.new.made.items) }
+        (AreMadeOfRows given.now (used_rows joint.new.used.items inputs.now) joint.new.made.items) }
     ensures fit { OnOk result
         (AreInRange given.now (used_rows joint.new.used.items inputs.now)) }
     ensures err { IfErr result (FailsToJoin given.now inputs.now) }
@@ -139,7 +139,7 @@ fn make_answers<R: Read>(
     made: &mut Vec<Answer>,
 ) -> Result<(), MergeFault>
     requires { HaveRows inputs.now places.now }
-    ensures made { OnOk result (AreMade given.now (rows_of inputs.now places.now) made.new.items) }
+    ensures made { OnOk result (AreMadeOfRows given.now (rows_of inputs.now places.now) made.new.items) }
     ensures fit { OnOk result (AreInRange given.now (rows_of inputs.now places.now)) }
     ensures err { IfErr result (FailsToMake given.now inputs.now places.now) }
 {
@@ -208,7 +208,7 @@ pub(crate) fn put_answers(
     answers: &mut Vec<Answer>,
 ) -> Result<(), AllocError>
     ensures { OnOk result ((given wanted : List Agg) (rows : List Row) →
-        AreMade given rows made.now → AllZip (IsSourceOf given) wanted sources.now →
+        AreMadeOfRows given rows made.now → AllZip (IsSourceOf given) wanted sources.now →
         AllZip (IsMerged given rows) wanted answers.new.items) }
 {
     answers.clear();

@@ -12,7 +12,8 @@ use Rattle.sqlite_trees.specs.View as trees
 use Rattle.cube_journal.specs.declared.fault.OpenFault.{OpenFault}
 use Rattle.cube_journal.specs.declared.fault.OpenFault.TheVariants as kind
 use Rattle.cube_journal.specs.State as journal
-use Rattle.cube_store.specs.Codes.{code_of, open_code_of, file_code_of, look_code_of, TellsFailedCall, HasReason}
+use Rattle.cube_store.specs.Codes.{code_of_failure, open_code_of, file_code_of, look_code_of, TellsFailedCall}
+use Rattle.cube_store.specs.Codes.{HasReason}
 
 -- a look that only a log without end stops
 pub look_fails : (a b : ℕ) (P : Type 0) (e : Error) → HasCause a b (OnlyIf log.Full P) e
@@ -48,7 +49,7 @@ attach_fails a b limit wanted refusal.Io h w = tt
 attach_fails a b limit wanted refusal.Full h w = tt
 attach_fails a b limit wanted refusal.Refused h w = absurd (h w)
 
-stored_fails : (e : StoreError) → TellsFailedCall (code_of e)
+stored_fails : (e : StoreError) → TellsFailedCall (code_of_failure e)
 stored_fails cause.OutOfMemory = tt
 stored_fails cause.Io = tt
 stored_fails cause.Corrupt = tt
@@ -68,7 +69,7 @@ start_fails fault cant kind.TooMany h = h
 
 -- a copy of the log fails for want of memory, or at a fault
 pub copy_fails : (was : trees.View) (fault : Type 0) (e : StoreError) → trees.HasCause was fault ⊥ e
-    → HasReason fault (IsTrue was.is_broken) (code_of e)
+    → HasReason fault (IsTrue was.is_broken) (code_of_failure e)
 copy_fails was fault cause.OutOfMemory h = tt
 copy_fails was fault cause.Io h = inl h
 copy_fails was fault cause.Corrupt h = inl h

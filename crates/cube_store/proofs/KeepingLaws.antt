@@ -10,7 +10,7 @@ use Rattle.sqlite_trees.specs.declared.error.StoreError.TheVariants as cause
 use Rattle.sqlite_trees.specs.Tree.{Trees}
 use Rattle.sqlite_trees.specs.View.{View, IsClean, IsStorableRow}
 use Rattle.cube_journal.specs.Rows.{Entry, IsOfSource, row_of}
-use Rattle.cube_journal.specs.State.{held_in, stored_in, noted_in, Holds, Appends, Commits, GoesOn, IsCause}
+use Rattle.cube_journal.specs.State.{held_in, stored_in, noted_in, Holds, Appends, Commits, ForgetsNothing, IsCause}
 use Rattle.cube_store.specs.Keeping.{Batch, LeavesPart, Stands, HasKept, HasBroken, CantStore, TakesAsBefore}
 
 -- what holds in any case holds where a result is an error
@@ -133,10 +133,10 @@ module _ {S : Type 0} (view : S → View) (recovers : S → Trees → Type 0) wh
   -- ---- one call more
   module _ (faults : S → ℕ) (first old new : Batch S) (changes : List Entry) (sure : ℕ)
       (kept : HasKept view recovers first old changes sure) where
-    before : GoesOn view faults old.store new.store → IsClean (view new.store) → IsClean (view old.store)
+    before : ForgetsNothing view faults old.store new.store → IsClean (view new.store) → IsClean (view old.store)
     before goes clean = omega (arith, goes.clean, clean)
 
-    pub HasKept-append : (change : Entry) → GoesOn view faults old.store new.store
+    pub HasKept-append : (change : Entry) → ForgetsNothing view faults old.store new.store
         → (IsClean (view new.store) → Appends (view old.store) (view new.store) change)
         → ((db : Trees) → recovers new.store db → recovers old.store db) → (new.waiting ≡ 0 → ⊥)
         → HasKept view recovers first new (changes ++ change ∷ []) sure
@@ -154,7 +154,7 @@ module _ {S : Type 0} (view : S → View) (recovers : S → Trees → Type 0) wh
       };
     }
 
-    pub HasBroken-append : GoesOn view faults old.store new.store
+    pub HasBroken-append : ForgetsNothing view faults old.store new.store
         → ((db : Trees) → recovers new.store db → recovers old.store db)
         → HasBroken view recovers first new changes sure
     HasBroken-append goes crash = record {
@@ -162,7 +162,7 @@ module _ {S : Type 0} (view : S → View) (recovers : S → Trees → Type 0) wh
       leaves = λ clean db may. (kept.stands (before goes clean)).leaves db (crash db may);
     }
 
-    pub HasKept-commit : GoesOn view faults old.store new.store
+    pub HasKept-commit : ForgetsNothing view faults old.store new.store
         → (IsClean (view new.store) → Commits (view old.store) (view new.store))
         → (IsClean (view new.store) → (db : Trees)
         → recovers new.store db → Holds db (held_in (view old.store)) (noted_in (view old.store)))
@@ -185,7 +185,7 @@ module _ {S : Type 0} (view : S → View) (recovers : S → Trees → Type 0) wh
           };
     }
 
-    pub HasBroken-commit : GoesOn view faults old.store new.store
+    pub HasBroken-commit : ForgetsNothing view faults old.store new.store
         → ((db : Trees) → recovers new.store db
         → (IsClean (view old.store) × Holds db (held_in (view old.store)) (noted_in (view old.store)))
         ⊎ recovers old.store db) → HasBroken view recovers first new changes sure

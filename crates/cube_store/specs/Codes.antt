@@ -13,17 +13,17 @@ use Rattle.cube_store.specs.declared.fault.StoreFault.TheVariants.{InUse, CantOp
 use Rattle.cube_store.specs.declared.fault.StoreFault.TheVariants.{NoRoom, Memory}
 
 -- What a failed call on an open store is told as (this project's choice).
-abbrev pub code_of : StoreError → StoreFault
-code_of cause.OutOfMemory = Memory
-code_of cause.Io = Failed
-code_of cause.Corrupt = Failed
-code_of cause.Full = NoRoom
-code_of cause.Broken = Failed
-code_of cause.Unstorable = NoRoom
+abbrev pub code_of_failure : StoreError → StoreFault
+code_of_failure cause.OutOfMemory = Memory
+code_of_failure cause.Io = Failed
+code_of_failure cause.Corrupt = Failed
+code_of_failure cause.Full = NoRoom
+code_of_failure cause.Broken = Failed
+code_of_failure cause.Unstorable = NoRoom
 
 -- What a refused store is told as (this project's choice).
 abbrev pub open_code_of : OpenFault → StoreFault
-open_code_of (kind.Store error) = code_of error
+open_code_of (kind.Store error) = code_of_failure error
 open_code_of kind.NoTables = NotAStore
 open_code_of kind.NotEmpty = NotAStore
 open_code_of (kind.Feed source) = Feed source

@@ -2,7 +2,7 @@
 ghost use Rattle.std.specs.Prelude.{◌≡◌, ◌<◌, ◌++◌, ◌∷◌, [], length, false, IsTrue, IfErr, OnOk, OnErr};
 ghost use Rattle.sqlite_disk.specs.Disk.{MoreFaults};
 ghost use Rattle.sqlite_trees.specs.View.{IsClean};
-ghost use Rattle.cube_journal.specs.State.{held_in, stored_in, GoesOn, IsCause};
+ghost use Rattle.cube_journal.specs.State.{held_in, stored_in, ForgetsNothing, IsCause};
 ghost use Rattle.cube_store.specs.Keeping.{HasBroken, HasKept, BatchKeepsOn, CantStore, TakesAsBefore};
 
 use cube_journal::ChangeJournal;
@@ -67,7 +67,7 @@ impl<S: Store> BatchJournal<S> {
             (λ changes. changes ++ (source, content.now) ∷ []) (λ _ sure. sure)) }
         ensures cause { IfErr result (λ e. IsClean (S.Store.view self.new.store) → IsCause (MoreFaults (S.Store.faults self.old.store) (S.Store.faults self.new.store))
             ((S.Store.view self.old.store).is_open ≡ false) (CantStore (S.Store.view self.old.store) (source, content.now)) e) }
-        ensures on { GoesOn S.Store.view S.Store.faults self.old.store self.new.store }
+        ensures on { ForgetsNothing S.Store.view S.Store.faults self.old.store self.new.store }
     {
         self.make_room()?;
         let _held = self.journal.count();
@@ -86,7 +86,7 @@ impl<S: Store> BatchJournal<S> {
         ensures same { OnOk result (IsClean (S.Store.view self.new.store) → TakesAsBefore (S.Store.view self.old.store) (S.Store.view self.new.store)) }
         ensures cause { IfErr result (λ e. IsClean (S.Store.view self.new.store) → IsCause (MoreFaults (S.Store.faults self.old.store) (S.Store.faults self.new.store))
             ((S.Store.view self.old.store).is_open ≡ false) ⊥ e) }
-        ensures on { GoesOn S.Store.view S.Store.faults self.old.store self.new.store }
+        ensures on { ForgetsNothing S.Store.view S.Store.faults self.old.store self.new.store }
     {
         if self.waiting < MAX_WAITING {
             return Ok(());
@@ -106,7 +106,7 @@ impl<S: Store> BatchJournal<S> {
         ensures same { OnOk result (IsClean (S.Store.view self.new.store) → TakesAsBefore (S.Store.view self.old.store) (S.Store.view self.new.store)) }
         ensures cause { IfErr result (λ e. IsClean (S.Store.view self.new.store) → IsCause (MoreFaults (S.Store.faults self.old.store) (S.Store.faults self.new.store))
             ((S.Store.view self.old.store).is_open ≡ false) ⊥ e) }
-        ensures on { GoesOn S.Store.view S.Store.faults self.old.store self.new.store }
+        ensures on { ForgetsNothing S.Store.view S.Store.faults self.old.store self.new.store }
     {
         if self.waiting == 0 {
             return Ok(());

@@ -36,9 +36,9 @@ pub enum StoreFault {
 
 impl From<StoreError> for StoreFault {
     ghost use Rattle.std.specs.Prelude.{◌≡◌};
-    ghost use Rattle.cube_store.specs.Codes.{code_of};
+    ghost use Rattle.cube_store.specs.Codes.{code_of_failure};
 
-    ghost from_gives = { λ error fault. fault ≡ code_of error };
+    ghost from_gives = { λ error fault. fault ≡ code_of_failure error };
 
     fn from(error: StoreError) -> StoreFault {
         match error {

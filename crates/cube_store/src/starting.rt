@@ -5,7 +5,7 @@ ghost use Rattle.sqlite_trees.specs.Tree.{Trees};
 ghost use Rattle.sqlite_trees.specs.View.{View, IsClean};
 ghost use Rattle.sqlite_store.specs.FileStore.{state, view, recovers};
 ghost use Rattle.cube_journal.specs.Rows.{entries_of};
-ghost use Rattle.cube_journal.specs.State.{stored_in, IsStore, IsUnmade, TakesAll, Starts};
+ghost use Rattle.cube_journal.specs.State.{stored_in, IsStore, IsUnmade, LeadsTo, Starts};
 ghost use Rattle.cube_journal.specs.Making.{LeavesNotes};
 ghost use Rattle.cube_store.specs.Closing.{IsCopied, IsEmptied, IsUnharmed, LeavesOneFile, LeavesUnharmed};
 ghost use Rattle.cube_store.specs.Codes.{TellsFailedCall};
@@ -31,7 +31,7 @@ pub fn start<D: Disk, K: ChangeSink>(
     sink: &mut K,
 ) -> Result<ChangeJournal<FileStore<D>>, (StoreFault, FileStore<D>)>
     ensures found { IfOk result (λ j. IsClean (view j.store) → Starts (entries_of notes.now) (view store) (view j.store)) }
-    ensures taken { IfOk result (λ j. IsClean (view j.store) → TakesAll K.ChangeSink.takes sink.old (stored_in (view j.store)) sink.new) }
+    ensures taken { IfOk result (λ j. IsClean (view j.store) → LeadsTo K.ChangeSink.takes sink.old (stored_in (view j.store)) sink.new) }
     ensures crash { IfOk result (λ j. (db : Trees) → recovers j.store db → LeavesNotes (view store) (entries_of notes.now) db ⊎ recovers store db) }
     ensures unharmed { IfErr result (λ e. (db : Trees) → recovers e.1 db → LeavesNotes (view store) (entries_of notes.now) db ⊎ recovers store db) }
     ensures accepts { IfErr result (λ e. IsClean (view e.1) → IsStore (view store) (entries_of notes.now) ⊎ IsUnmade (view store) → TellsFailedCall e.0) }

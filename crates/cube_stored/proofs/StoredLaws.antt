@@ -8,7 +8,7 @@ use Rattle.sqlite_trees.specs.View.{View, IsClean}
 use Rattle.cube_core.specs.Items.{is_read}
 use Rattle.cube_core.specs.Layout.{Layout}
 use Rattle.cube_journal.specs.Rows.{Entry}
-use Rattle.cube_journal.specs.State.{Holds, TakesAll, stored_in, noted_in}
+use Rattle.cube_journal.specs.State.{Holds, LeadsTo, stored_in, noted_in}
 use Rattle.cube_live.specs.Keeping.{FailsKept, Keeping, KeepsBy, KeepsOn, KeepsPart, LeavesAt, Noted, keeping_after}
 use Rattle.cube_live.specs.Keeping.{keeping_by, keeping_with, made_sure, with_change}
 use Rattle.cube_live.specs.Live.{LiveView}
@@ -25,7 +25,7 @@ use Rattle.cube_stored.specs.Records.{stored_all, stored_as}
 use Rattle.cube_stored.specs.Replay.{TakesStored, arrivals_from}
 use Rattle.cube_stored.specs.Serving.{BreaksSession, LeavesFirst, ServesStored, changes_in, nothing}
 use Rattle.cube_stored.proofs.KeepingLaws.{stored_all-append}
-use Rattle.cube_stored.proofs.ReplayLaws.{TakesAll-schema, TakesAll-stands}
+use Rattle.cube_stored.proofs.ReplayLaws.{LeadsTo-schema, LeadsTo-stands}
 
 -- ---- what one record more adds
 -- more was told, and no less is certain
@@ -102,7 +102,7 @@ Grows-take s records count =
 module _ {S : Type 0} (view : S → View) (recovers : S → Trees → Type 0) where
   module _ (live resumed : LiveView) (was : View) (notes : List Entry) (begun now : Batch S)
       (fresh : HasKept view recovers begun begun [] 0)
-      (taken : IsClean (view begun.store) → TakesAll TakesStored live (stored_in was) resumed)
+      (taken : IsClean (view begun.store) → LeadsTo TakesStored live (stored_in was) resumed)
       (stored : IsClean (view begun.store) → stored_in (view begun.store) ≡ stored_in was)
       (noted : IsClean (view begun.store) → noted_in (view begun.store) ≡ notes) where
     -- what a crash leaves, said of the store as it was
@@ -121,7 +121,7 @@ module _ {S : Type 0} (view : S → View) (recovers : S → Trees → Type 0) wh
     served records after old new serves on clean =
         let kept = on begun nothing fresh in
         let clean_first = kept.was_clean clean in
-        let schema = TakesAll-schema live resumed (stored_in was) (taken clean_first) in
+        let schema = LeadsTo-schema live resumed (stored_in was) (taken clean_first) in
         let told : List Noted = (keeping_after resumed.schema nothing records).told in
         let stands = kept.stands clean in
         let same : stored_all told ≡ changes_in live.schema records =
@@ -135,9 +135,9 @@ module _ {S : Type 0} (view : S → View) (recovers : S → Trees → Type 0) wh
               take_all part.0 (stored_all told) (omega (arith, part.1, length-map told stored_as)) in
               subst (λ es. Holds db (stored_in was ++ es) notes) (whole ∙ same) part.3;
           answered = λ start here. (rw schema at (serves (arrivals_from live.schema start (stored_in was))
-              (TakesAll-stands live resumed (stored_in was) (taken clean_first) start here))).0;
+              (LeadsTo-stands live resumed (stored_in was) (taken clean_first) start here))).0;
           stands = λ start here. (rw schema at (serves (arrivals_from live.schema start (stored_in was))
-              (TakesAll-stands live resumed (stored_in was) (taken clean_first) start here))).1;
+              (LeadsTo-stands live resumed (stored_in was) (taken clean_first) start here))).1;
         }
 
     pub ServesStored-served : (left : Option (List (List (List ℕ)))) (after : LiveView) (old new : Option (List ℕ))
@@ -156,7 +156,7 @@ module _ {S : Type 0} (view : S → View) (recovers : S → Trees → Type 0) wh
         → IfSome left (λ records. IsClean (view now.store) → after.schema ≡ live.schema)
     schema-served None after same on = tt
     schema-served (Some records) after same on =
-        λ clean. same ∙ TakesAll-schema live resumed (stored_in was) (taken ((on begun nothing fresh).was_clean clean))
+        λ clean. same ∙ LeadsTo-schema live resumed (stored_in was) (taken ((on begun nothing fresh).was_clean clean))
 
     -- ---- where it failed
     first_clean : (k next : Keeping) → KeepsPart (keeps view recovers) (breaks view recovers) begun now k next
@@ -204,7 +204,7 @@ module _ {S : Type 0} (view : S → View) (recovers : S → Trees → Type 0) wh
         let part = kept_part resumed.schema records fault count fails.1 in
         let clean_first = first_clean (keeping_after resumed.schema nothing (take count records))
         (keeping_after resumed.schema nothing (take (count + 1) records)) part clean in
-        let schema = TakesAll-schema live resumed (stored_in was) (taken clean_first) in (
+        let schema = LeadsTo-schema live resumed (stored_in was) (taken clean_first) in (
           count,
           subst (λ (s : Layout). LeavesFirst s was notes records count (recovers now.store)) schema
               (left_part (keeping_after resumed.schema nothing (take count records))
@@ -214,7 +214,7 @@ module _ {S : Type 0} (view : S → View) (recovers : S → Trees → Type 0) wh
               (λ (s : Layout). LeavesAt s records (arrivals_from live.schema start (stored_in was)) fault count old new)
               schema
               (fails.2 (arrivals_from live.schema start (stored_in was))
-              (TakesAll-stands live resumed (stored_in was) (taken clean_first) start here))),
+              (LeadsTo-stands live resumed (stored_in was) (taken clean_first) start here))),
         )
 
     pub BreaksSession-broken : (left : Option (List (List (List ℕ)))) (fault : SessionFault) (old new : Option (List ℕ))
@@ -228,7 +228,7 @@ module _ {S : Type 0} (view : S → View) (recovers : S → Trees → Type 0) wh
   -- a session that failed, and left this store
   pub BreaksSession-failed : (live resumed : LiveView) (was : View) (notes : List Entry) (begun : Batch S) (store : S)
       → HasKept view recovers begun begun [] 0
-      → (IsClean (view begun.store) → TakesAll TakesStored live (stored_in was) resumed)
+      → (IsClean (view begun.store) → LeadsTo TakesStored live (stored_in was) resumed)
       → (IsClean (view begun.store) → stored_in (view begun.store) ≡ stored_in was)
       → (IsClean (view begun.store) → noted_in (view begun.store) ≡ notes)
       → (left : Option (List (List (List ℕ)))) (fault : SessionFault) (old new : Option (List ℕ))

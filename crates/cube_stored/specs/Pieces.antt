@@ -3,14 +3,14 @@ use Rattle.std.specs.Prelude.{◌≡◌, ◌==◌, false, ℕ, List, [], ◌∷�
 use Rattle.csv.specs.Writing.{comma}
 
 -- pieces of which the first has one byte more in front
-abbrev pub with_byte : ℕ → List (List ℕ) → List (List ℕ)
-with_byte b [] = (b ∷ []) ∷ []
-with_byte b (piece ∷ pieces) = (b ∷ piece) ∷ pieces
+abbrev pub with_byte_first : ℕ → List (List ℕ) → List (List ℕ)
+with_byte_first b [] = (b ∷ []) ∷ []
+with_byte_first b (piece ∷ pieces) = (b ∷ piece) ∷ pieces
 
 -- what stands between the commas of a text (RFC 4180)
 abbrev pub pieces : List ℕ → List (List ℕ)
 pieces [] = [] ∷ []
-pieces (b ∷ text) = if b == comma then [] ∷ pieces text else with_byte b (pieces text)
+pieces (b ∷ text) = if b == comma then [] ∷ pieces text else with_byte_first b (pieces text)
 
 -- a byte that is no quote and no line end: it stands for itself, or is a comma (RFC 4180)
 pub record IsPlainByte (b : ℕ) : Type 0 where

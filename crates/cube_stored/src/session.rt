@@ -5,7 +5,7 @@ ghost use Rattle.sqlite_trees.specs.View.{IsClean};
 ghost use Rattle.sqlite_store.specs.FileStore.{view, recovers};
 ghost use Rattle.cube_journal.specs.Making.{LeavesNotes};
 ghost use Rattle.cube_journal.specs.Rows.{entries_of};
-ghost use Rattle.cube_journal.specs.State.{stored_in, noted_in, IsStore, IsUnmade, TakesAll};
+ghost use Rattle.cube_journal.specs.State.{stored_in, noted_in, IsStore, IsUnmade, LeadsTo};
 ghost use Rattle.cube_store.specs.Codes.{TellsFailedCall};
 ghost use Rattle.cube_store.specs.Keeping.{HasKept};
 ghost use Rattle.cube_stored.specs.Replay.{TakesStored};
@@ -47,7 +47,7 @@ pub fn resume<'s, D: Disk>(
     store: FileStore<D>,
     notes: &[FeedNote],
 ) -> Result<(Live<'s>, StoreJournal<FileStore<D>>), (StoreFault, FileStore<D>)>
-    ensures taken { IfOk result (λ r. IsClean (view r.1.store) → TakesAll TakesStored live.entry (stored_in (view store)) r.0) }
+    ensures taken { IfOk result (λ r. IsClean (view r.1.store) → LeadsTo TakesStored live.entry (stored_in (view store)) r.0) }
     ensures stored { IfOk result (λ r. IsClean (view r.1.store) → stored_in (view r.1.store) ≡ stored_in (view store)) }
     ensures noted { IfOk result (λ r. IsClean (view r.1.store) → noted_in (view r.1.store) ≡ entries_of notes.now) }
     ensures kept { IfOk result (λ r. HasKept view recovers r.1 r.1 [] 0) }

@@ -15,7 +15,7 @@ use Rattle.csv.specs.Writing.{default_writer, field_text, fields_written, has_wr
 use Rattle.csv.specs.Writing.{text_written, writer_setup, tail_text, is_blank, end_text}
 use Rattle.csv.specs.declared.writer.QuoteStyle.TheVariants as style
 use Rattle.csv.proofs.WriteFacts.{row-more, blank-more}
-use Rattle.cube_text.specs.Lines.{Lines, contents_of, Holds, AddsFields, EndsLine, AddsText}
+use Rattle.cube_text.specs.Lines.{Lines, contents_of, HoldsLine, AddsFields, EndsLine, AddsText}
 
 -- a count that stops at a large number is 0 where what it counts is none
 min-eq_zero : (n m : ℕ) → 2 ≤ m → (min n m == 0) ≡ (n == 0)
@@ -54,9 +54,9 @@ default_writer-style : (writer : Lines) → writer_setup writer ≡ default_writ
 default_writer-style writer setup e = cc (e, ap (λ w. w.style) setup)
 
 -- the bytes underneath and those that still wait
-Holds-row_body : (text : List ℕ) (fields : List (List ℕ)) (lines : Lines) → Holds text fields lines
+HoldsLine-row_body : (text : List ℕ) (fields : List (List ℕ)) (lines : Lines) → HoldsLine text fields lines
     → lines.wtr.inner.items ++ lines.wtr.buf ≡ text ++ row_body default_writer fields
-Holds-row_body text fields lines h = cc h.bytes
+HoldsLine-row_body text fields lines h = cc h.bytes
 
 -- one more field after those of a line that isn't ended
 pub AddsFields-TakesField : (field : List ℕ) (old new : Lines) → TakesField field old new
@@ -67,7 +67,7 @@ AddsFields-TakesField field old new t text fields h =
     let first : (fields_written old == 0) ≡ (length fields == 0) =
     rw h.count (min-eq_zero (length fields) (2 ^ 64 - 1) large) in
     let bytes : List ℕ = new.wtr.inner.items ++ new.wtr.buf in
-    let before = Holds-row_body text fields old h in
+    let before = HoldsLine-row_body text fields old h in
     let added = next_sep default_writer (length fields) ++ field_text default_writer field in
     let grown : bytes ≡ (text ++ row_body default_writer fields) ++ added
     = rw (h.setup, first, before) at (t.text plain) in
@@ -89,7 +89,7 @@ EndsLine-IsEnded old new e text fields h =
     rw h.count (min-eq_zero (length fields) (2 ^ 64 - 1) large) in
     let one : (fields_written old == 1) ≡ (length fields == 1) =
     rw h.count (min-eq_one (length fields) (2 ^ 64 - 1) large) in
-    let before = Holds-row_body text fields old h in
+    let before = HoldsLine-row_body text fields old h in
     let bytes : List ℕ = new.wtr.inner.items ++ new.wtr.buf in
     let body = row_body default_writer fields in
     let tail = (if is_blank default_writer fields then default_writer.quote ∷ default_writer.quote ∷ [] else [])

@@ -10,7 +10,7 @@ use Rattle.std.proofs.Math.Seq.{drop-cons, take-append-add}
 use Rattle.std.proofs.lemmas.Grind.{flat_map-append}
 use Rattle.std.proofs.lemmas.List.{append-nil, take-append-le, map-append}
 use Rattle.std.proofs.lemmas.List.Folds.{length-flat_map-take}
-use Rattle.cube_text.specs.Pieces.{Gathers, text_of_pieces}
+use Rattle.cube_text.specs.Pieces.{GathersPieces, text_of_pieces}
 
 -- the first pieces and the next are no longer than all
 pub length-pieces : (pieces : List (Vec ℕ)) (i : ℕ) (unused : Vec ℕ) → i < length pieces
@@ -42,9 +42,9 @@ Appends-pieces old mid new pieces i n unused inside within before more =
     rw (take-pieces pieces i n unused inside within) (Appends-trans old mid new _ _ before more)
 
 -- one result more is gathered
-pub Gathers-more : (first : List ℕ) (results : List (Result (Vec ℕ) AllocError)) (piece : Vec ℕ) (text : List ℕ)
-    → Gathers first results text → Gathers first (results ++ Ok piece ∷ []) (text ++ piece.items)
-Gathers-more first results piece text g = record {
+pub GathersPieces-more : (first : List ℕ) (results : List (Result (Vec ℕ) AllocError)) (piece : Vec ℕ) (text : List ℕ)
+    → GathersPieces first results text → GathersPieces first (results ++ Ok piece ∷ []) (text ++ piece.items)
+GathersPieces-more first results piece text g = record {
   pieces = g.pieces ++ piece ∷ [];
   are = map-append Ok g.pieces (piece ∷ []) ∙ ap (λ (l : List (Result (Vec ℕ) AllocError)). l ++ Ok piece ∷ []) g.are;
   text_is = ap (λ (l : List ℕ). l ++ piece.items) g.text_is ∙ append_assoc first (text_of_pieces g.pieces) piece.items

@@ -15,7 +15,7 @@ abbrev pub contents_of : Vec ℕ → Option (List ℕ)
 contents_of bytes = Some bytes.items
 
 -- the writer holds this text, and then these fields of a line that isn't ended
-pub record Holds (text : List ℕ) (fields : List (List ℕ)) (lines : Lines) : Type 0 where
+pub record HoldsLine (text : List ℕ) (fields : List (List ℕ)) (lines : Lines) : Type 0 where
   pub setup : writer_setup lines ≡ default_writer
   pub bytes : text_written contents_of lines ≡ Some (text ++ row_body default_writer fields)
   pub count : fields_written lines ≡ min (length fields) (2 ^ 64 - 1)
@@ -25,13 +25,13 @@ pub record Holds (text : List ℕ) (fields : List (List ℕ)) (lines : Lines) : 
 -- these fields were added to the line that isn't ended
 abbrev pub AddsFields : List (List ℕ) → Lines → Lines → Type 0
 AddsFields more old new =
-    (text : List ℕ) (fields : List (List ℕ)) → Holds text fields old → Holds text (fields ++ more) new
+    (text : List ℕ) (fields : List (List ℕ)) → HoldsLine text fields old → HoldsLine text (fields ++ more) new
 
 -- the line was ended
 abbrev pub EndsLine : Lines → Lines → Type 0
-EndsLine old new = (text : List ℕ) (fields : List (List ℕ)) → Holds text fields old
-    → Holds (text ++ row_text default_writer fields) [] new
+EndsLine old new = (text : List ℕ) (fields : List (List ℕ)) → HoldsLine text fields old
+    → HoldsLine (text ++ row_text default_writer fields) [] new
 
 -- this text was added, all of it ended lines
 abbrev pub AddsText : List ℕ → Lines → Lines → Type 0
-AddsText more old new = (text : List ℕ) → Holds text [] old → Holds (text ++ more) [] new
+AddsText more old new = (text : List ℕ) → HoldsLine text [] old → HoldsLine (text ++ more) [] new

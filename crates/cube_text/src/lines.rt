@@ -1,7 +1,7 @@
 //! Lines of comma-separated fields, gathered in memory.
 
 ghost use Rattle.std.specs.Prelude.{◌≡◌, ℕ, List, [], ◌∷◌, OnOk, IfOk};
-ghost use Rattle.cube_text.specs.Lines.{Holds, AddsFields, EndsLine};
+ghost use Rattle.cube_text.specs.Lines.{HoldsLine, AddsFields, EndsLine};
 
 use csv::{Writer, WriterBuilder};
 use std::alloc::{AllocError, Global};
@@ -11,7 +11,7 @@ pub type Lines = Writer<Vec<u8>>;
 
 /// No line yet.
 pub fn no_lines(alloc: Global) -> Lines
-    ensures { Holds [] [] result }
+    ensures { HoldsLine [] [] result }
 {
     WriterBuilder::new().from_writer(Vec::new(alloc))
 }
@@ -32,7 +32,7 @@ pub fn end_line(lines: &mut Lines) -> Result<(), AllocError>
 
 /// The text of the lines.
 pub fn into_text(lines: Lines) -> Result<Vec<u8>, AllocError>
-    ensures { IfOk result (λ bytes. (text : List ℕ) → Holds text [] lines → bytes.items ≡ text) }
+    ensures { IfOk result (λ bytes. (text : List ℕ) → HoldsLine text [] lines → bytes.items ≡ text) }
 {
     lines.into_inner().map_err(|_| AllocError)
 }

@@ -1,7 +1,7 @@
 //! A text in pieces.
 
 ghost use Rattle.std.specs.Prelude.{◌≡◌, ◌<◌, ◌^◌, ◌++◌, [], length, IfOk, OnOk, OnErr};
-ghost use Rattle.cube_text.specs.Pieces.{Gathers, text_of_pieces};
+ghost use Rattle.cube_text.specs.Pieces.{GathersPieces, text_of_pieces};
 
 use std::alloc::{AllocError, Global};
 use std::marker::Model;
@@ -64,7 +64,7 @@ pub fn gather(
     first: Vec<u8>,
     results: Vec<Result<Vec<u8>, AllocError>>,
 ) -> Result<Pieces, AllocError>
-    ensures { IfOk result (Gathers first.items results.items) }
+    ensures { IfOk result (GathersPieces first.items results.items) }
 {
     let mut text = Pieces::new(alloc);
     text.push(first)?;

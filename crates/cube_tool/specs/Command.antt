@@ -79,15 +79,15 @@ IsSchemaFailure (Schema fault) = ⊤
 IsSchemaFailure _ = ⊥
 
 -- the line that tells that a schema is right
-abbrev pub ok_line : List ℕ
-ok_line = codes "ok" ++ 10 ∷ []
+abbrev pub schema_ok_line : List ℕ
+schema_ok_line = codes "ok" ++ 10 ∷ []
 
 -- what a failed check of a schema file leaves: nothing was written, but of a right file the first bytes of the line
 abbrev pub CheckLeaves : Option (List ℕ) → Failure → Option (List ℕ) → Option (List ℕ) → Type 0
 CheckLeaves file Unreadable old new = new ≡ old
 CheckLeaves file (Schema fault) old new = (new ≡ old) × IfSome file (λ bytes. AnswersFile bytes (Err (Schema fault)))
 CheckLeaves file (Run (run_fault.Write sent)) old new =
-    (sent ≤ length ok_line) × Appends old new (take sent ok_line) × IfSome file IsRightFile
+    (sent ≤ length schema_ok_line) × Appends old new (take sent schema_ok_line) × IfSome file IsRightFile
 CheckLeaves file _ old new = ⊥
 
 -- what may be answered to a query's word: what is said of it, or that memory ran out

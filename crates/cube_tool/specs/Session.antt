@@ -6,7 +6,7 @@ use Rattle.cube_core.specs.Layout.{Layout}
 use Rattle.cube_core.specs.Run.{Told}
 use Rattle.cube_core.specs.declared.change.Item.{Item}
 use Rattle.cube_live.specs.Opening.{StartsOver}
-use Rattle.cube_live.specs.Serving.{Leaves}
+use Rattle.cube_live.specs.Serving.{LeavesReplies}
 use Rattle.cube_live.specs.Session.{AreReplies, arrivals_after}
 use Rattle.cube_live.specs.declared.session.SessionFault.{SessionFault}
 use Rattle.cube_tool.specs.Answering.{status_over}
@@ -30,7 +30,7 @@ pub record BreaksOver (s : Layout) (feeds : List (List Item)) (records : List (L
     (old new : Option (List ℕ)) : Type 0 where
   pub start : Arrivals
   pub starts : StartsOver feeds start
-  pub leaves : Leaves s records start fault old new
+  pub leaves : LeavesReplies s records start fault old new
 
 -- what a failure of a session over feeds leaves, whose records are told where its input tells its bytes:
 -- nothing was written where the feeds weren't taken, and else what the session leaves

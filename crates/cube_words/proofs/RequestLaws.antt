@@ -5,7 +5,8 @@ use Rattle.std.specs.Prelude.{Option, Some, None, Result, Ok, Err, IfOk, IfSome,
 use Rattle.std.specs.Str.{bytes_eq}
 use Rattle.std.specs.Str.Parse.{ParsesBool, ParsesUnsigned}
 use Rattle.clap.specs.Words.{ReadsOne, Row, Text, TriesOne}
-use Rattle.cube_words.specs.CommandLine.{AreLiveWords, AreRunWords, HasRoom, IsNumberOf, IsUpTo, LiveHasRoom, is_given}
+use Rattle.cube_words.specs.CommandLine.{AreLiveWords, AreRunWords, RunHasRoom, IsNumberOf, IsUpTo, LiveHasRoom}
+use Rattle.cube_words.specs.CommandLine.{is_given}
 use Rattle.cube_words.specs.declared.request.LiveWords.{LiveWords}
 use Rattle.cube_words.specs.declared.request.RunWords.{RunWords}
 
@@ -85,6 +86,6 @@ AreLiveWords-AreRunWords rows run are = record {
 }
 
 -- and their options are in their bounds
-pub LiveHasRoom-HasRoom : (run : RunWords) → HasRoom run → LiveHasRoom (live_of run)
-LiveHasRoom-HasRoom run room =
+pub LiveHasRoom-RunHasRoom : (run : RunWords) → RunHasRoom run → LiveHasRoom (live_of run)
+LiveHasRoom-RunHasRoom run room =
     record { least_ring = room.least_ring; most_ring = room.most_ring; threads = room.threads }

@@ -254,7 +254,7 @@ pub record AreRunWords (rows : List Row) (run : RunWords) : Type 0 where
 
 -- a run has at least one feed, but that over a store it may have none, and its options,
 -- where they are given, are in their bounds
-pub record HasRoom (run : RunWords) : Type 0 where
+pub record RunHasRoom (run : RunWords) : Type 0 where
   pub feeds : run.store ≡ None → 1 ≤ length run.feeds.items
   pub least_ring : 1 ≤ run.ring
   pub most_ring : run.ring ≤ 65536
@@ -296,18 +296,18 @@ pub record AreMergeWords (rows : List Row) (merge : MergeWords) : Type 0 where
 -- a request to run has at least one feed, or a store, and one to merge at least one cube,
 -- and the options are in their bounds
 abbrev pub IsInBounds : Request → Type 0
-IsInBounds (Print run partial) = HasRoom run
-IsInBounds (Refusals run) = HasRoom run
-IsInBounds (Slice run cell) = HasRoom run
-IsInBounds (Drill run cell dimension) = HasRoom run
-IsInBounds (RollUp run cell dimension) = HasRoom run
+IsInBounds (Print run partial) = RunHasRoom run
+IsInBounds (Refusals run) = RunHasRoom run
+IsInBounds (Slice run cell) = RunHasRoom run
+IsInBounds (Drill run cell dimension) = RunHasRoom run
+IsInBounds (RollUp run cell dimension) = RunHasRoom run
 IsInBounds (Live live) = LiveHasRoom live
 IsInBounds (Merge merge) = 1 ≤ length merge.cubes.items
 IsInBounds _ = ⊤
 
 -- the run of a command with this name is had from what clap found
 abbrev pub IsRun : Text → Text → List Row → RunWords → Type 0
-IsRun name command rows run = (name ≡ command) × AreRunWords rows run × HasRoom run
+IsRun name command rows run = (name ≡ command) × AreRunWords rows run × RunHasRoom run
 
 -- a run of a command with this name from a cell along a dimension is had from what clap found
 abbrev pub IsStep : Text → Text → List Row → RunWords → Text → Text → Type 0
@@ -316,24 +316,25 @@ IsStep name command rows run cell dimension =
     × (first_of (codes "DIM") rows ≡ Some dimension)
 
 -- a found command makes this request
-abbrev pub Makes : Text × List Row → Request → Type 0
-Makes found Sample = ⊥
-Makes found (Check schema) = (found.0 ≡ codes "check") × (first_of (codes "SCHEMA") found.1 ≡ Some schema.now)
-Makes found (Explain code) =
+abbrev pub MakesRequest : Text × List Row → Request → Type 0
+MakesRequest found Sample = ⊥
+MakesRequest found (Check schema) = (found.0 ≡ codes "check") × (first_of (codes "SCHEMA") found.1 ≡ Some schema.now)
+MakesRequest found (Explain code) =
     (found.0 ≡ codes "explain") × (first_of (codes "CODE") found.1 ≡ option_map (λ text. text.now) code)
-Makes found (Print run partial) =
+MakesRequest found (Print run partial) =
     IsRun found.0 (codes "print") found.1 run × (partial ≡ is_given (one_of (codes "partial") found.1))
-Makes found (Refusals run) = IsRun found.0 (codes "refusals") found.1 run
-Makes found (Slice run cell) =
+MakesRequest found (Refusals run) = IsRun found.0 (codes "refusals") found.1 run
+MakesRequest found (Slice run cell) =
     IsRun found.0 (codes "slice") found.1 run × (first_of (codes "CELL") found.1 ≡ Some cell.now)
-Makes found (Drill run cell dimension) = IsStep found.0 (codes "drill") found.1 run cell.now dimension.now
-Makes found (RollUp run cell dimension) = IsStep found.0 (codes "rollup") found.1 run cell.now dimension.now
-Makes found (Live live) = (found.0 ≡ codes "live") × AreLiveWords found.1 live × LiveHasRoom live
-Makes found (Merge merge) = (found.0 ≡ codes "merge") × AreMergeWords found.1 merge × (1 ≤ length merge.cubes.items)
+MakesRequest found (Drill run cell dimension) = IsStep found.0 (codes "drill") found.1 run cell.now dimension.now
+MakesRequest found (RollUp run cell dimension) = IsStep found.0 (codes "rollup") found.1 run cell.now dimension.now
+MakesRequest found (Live live) = (found.0 ≡ codes "live") × AreLiveWords found.1 live × LiveHasRoom live
+MakesRequest found (Merge merge) = (found.0 ≡ codes "merge") × AreMergeWords found.1 merge ×
+    (1 ≤ length merge.cubes.items)
 
 -- what clap found makes this request:
 -- the sample run where it found no command, and none only where the command makes none
 abbrev pub IsRequest : Option (Text × List Row) → Option Request → Type 0
 IsRequest None request = request ≡ Some Sample
-IsRequest (Some found) (Some request) = Makes found request
-IsRequest (Some found) None = (request : Request) → ¬ Makes found request
+IsRequest (Some found) (Some request) = MakesRequest found request
+IsRequest (Some found) None = (request : Request) → ¬ MakesRequest found request

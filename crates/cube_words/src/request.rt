@@ -1,7 +1,7 @@
 //! What a command line asks for.
 ghost use Rattle.std.specs.Prelude.{◌≡◌, ◌≤◌, ℕ, Option, Some, None, IsOk, IfOk, IfSome, codes, length, map, option_map};
 ghost use Rattle.clap.specs.Words.{all_of, first_of, found_of, one_of, rows_of, subcommand_rows_of};
-ghost use Rattle.cube_words.specs.CommandLine.{AreLiveWords, AreMergeWords, AreRunWords, AreSharedWords, HasRoom, IsNumberOf, IsRequest, IsUpTo, LiveHasRoom, is_given, words_of};
+ghost use Rattle.cube_words.specs.CommandLine.{AreLiveWords, AreMergeWords, AreRunWords, AreSharedWords, RunHasRoom, IsNumberOf, IsRequest, IsUpTo, LiveHasRoom, is_given, words_of};
 
 use clap::ArgMatches;
 use std::alloc::{AllocError, Global};
@@ -195,7 +195,7 @@ fn merge_request<'a>(
 // The request that a command with feeds makes.
 fn run_request<'a>(name: &str, run: RunWords<'a>, words: &ArgMatches<'a>) -> Option<Request<'a>>
     requires words { AreRunWords (rows_of (found_of words.now)) run }
-    requires room { HasRoom run }
+    requires room { RunHasRoom run }
     requires check { ¬ (name.now ≡ codes "check") }
     requires explain { ¬ (name.now ≡ codes "explain") }
     requires live { ¬ (name.now ≡ codes "live") }
@@ -238,8 +238,8 @@ fn run_request<'a>(name: &str, run: RunWords<'a>, words: &ArgMatches<'a>) -> Opt
 fn run_words<'a>(alloc: Global, words: &ArgMatches<'a>) -> Result<Option<RunWords<'a>>, AllocError>
     ensures words { IfOk result
         (λ run. IfSome run (AreRunWords (rows_of (found_of words.now)))) }
-    ensures room { IfOk result (λ run. IfSome run HasRoom) }
-    ensures none { (run : RunWords) → AreRunWords (rows_of (found_of words.now)) run → HasRoom run →
+    ensures room { IfOk result (λ run. IfSome run RunHasRoom) }
+    ensures none { (run : RunWords) → AreRunWords (rows_of (found_of words.now)) run → RunHasRoom run →
         IfOk result (λ found. ¬ (found ≡ None)) }
 {
     let (Some(live), Ok(Some(builders))) = (

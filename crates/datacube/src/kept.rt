@@ -1,7 +1,7 @@
 //! The session whose changes are kept in a store, and the questions over what a store has.
 ghost use Rattle.std.specs.Prelude.{◌≡◌, ◌≤◌, length, vec_len, IfOk};
 ghost use Rattle.cube_tool.specs.Answering.{Fits};
-ghost use Rattle.cube_words.specs.CommandLine.{HasRoom, LiveHasRoom};
+ghost use Rattle.cube_words.specs.CommandLine.{RunHasRoom, LiveHasRoom};
 
 use crate::watch::Watch;
 use crate::{Asked, open_feed, open_schema, question_of, session_threads, settings_of};
@@ -130,7 +130,7 @@ pub(crate) fn ask_kept<T: Threads + Wait + Clock + Sync>(
     asked: Asked,
     progress: &Progress<'_, T, Stderr>,
 ) -> Result<Status, StoredFailure>
-    requires room { HasRoom words.now }
+    requires room { RunHasRoom words.now }
     requires feeds { length words.now.feeds.items ≤ 64 }
 {
     let question = question_of(rt, schema, asked)?;
@@ -169,7 +169,7 @@ fn ask_from<T: Threads + Wait + Clock + Sync, S: Start>(
     question: Question,
     progress: &Progress<'_, T, Stderr>,
 ) -> Result<Status, StoredFailure>
-    requires room { HasRoom words.now }
+    requires room { RunHasRoom words.now }
     requires feeds { length words.now.feeds.items ≤ 64 }
     requires question { Fits schema.now question }
 {
@@ -188,7 +188,7 @@ fn ask_over<T: Threads + Wait + Clock + Sync, D: Disk + Drop>(
     question: Question,
     progress: &Progress<'_, T, Stderr>,
 ) -> Result<Status, StoredFailure>
-    requires room { HasRoom words.now }
+    requires room { RunHasRoom words.now }
     requires feeds { vec_len feeds.readers ≤ 64 }
     requires question { Fits schema.now question }
 {

@@ -5,7 +5,7 @@
 ghost use Rattle.std.specs.Prelude.{◌≡◌, ◌≤◌, length, vec_len, IfOk, IfSome};
 ghost use Rattle.cube_core.specs.Shard.{IsShard};
 ghost use Rattle.cube_tool.specs.Answering.{Fits};
-ghost use Rattle.cube_words.specs.CommandLine.{HasRoom, IsInBounds, IsUpTo, LiveHasRoom};
+ghost use Rattle.cube_words.specs.CommandLine.{RunHasRoom, IsInBounds, IsUpTo, LiveHasRoom};
 
 mod kept;
 mod watch;
@@ -282,7 +282,7 @@ fn answer<T: Threads + Wait + Clock + Sync>(
     asked: Asked,
     progress: &Progress<'_, T, Stderr>,
 ) -> Result<Status, StoredFailure>
-    requires room { HasRoom words.now }
+    requires room { RunHasRoom words.now }
     requires shard { IsShard shard }
 {
     let schema = schema_of(rt, words.schema, &words.feeds, 1, shard)?;
@@ -301,7 +301,7 @@ fn answer_fed<T: Threads + Wait + Clock + Sync>(
     asked: Asked,
     progress: &Progress<'_, T, Stderr>,
 ) -> Result<Status, Failure>
-    requires room { HasRoom words.now }
+    requires room { RunHasRoom words.now }
     requires feeds { (1 ≤ length words.now.feeds.items) × (length words.now.feeds.items ≤ 64) }
 {
     if let Asked::Cube { is_partial: true } = asked {
@@ -365,7 +365,7 @@ fn answer_under<T: Threads + Wait + Clock + Sync>(
     asked: Asked,
     progress: &Progress<'_, T, Stderr>,
 ) -> Result<Status, Failure>
-    requires room { HasRoom words.now }
+    requires room { RunHasRoom words.now }
     requires feeds { (1 ≤ length words.now.feeds.items) × (length words.now.feeds.items ≤ 64) }
 {
     let alloc = rt.alloc();

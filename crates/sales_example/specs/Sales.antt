@@ -11,7 +11,7 @@ sale city product cents = record { dims = city ∷ Some product ∷ []; measures
 
 -- a builder takes a change as the item of this number, of source 1:
 -- where it stood at items before, it stands at these and that one
-abbrev pub TakesChange : ℕ → Change → BuilderView → BuilderView → Type 0
-TakesChange number change old new =
+abbrev pub TakesSale : ℕ → Change → BuilderView → BuilderView → Type 0
+TakesSale number change old new =
     (arrivals : Arrivals) → StandsAt old arrivals
     → StandsAt new (arrivals ++ (1, record { number = number; what = Ok change }) ∷ [])

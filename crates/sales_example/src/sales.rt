@@ -2,7 +2,7 @@
 ghost use Rattle.std.specs.Prelude.{◌≡◌, [], IfOk, OnOk, length, option_map};
 ghost use Rattle.cube_library.specs.Builder.{StandsAt};
 ghost use Rattle.cube_library.specs.Ledger.{account_of};
-ghost use Rattle.sales_example.specs.Sales.{TakesChange, sale};
+ghost use Rattle.sales_example.specs.Sales.{TakesSale, sale};
 
 use anyhow::{Result, ensure};
 use cube_library::{Builder, Change, Cube, Fact, Item, Refusal, Schema, Text};
@@ -49,7 +49,7 @@ impl Sales {
 
     /// Something was sold; `city` is null where nobody knows it.
     pub fn insert(&mut self, id: &str, city: Option<&str>, product: &str, cents: i64) -> Result<()>
-        ensures { OnOk result (TakesChange self.new.changes
+        ensures { OnOk result (TakesSale self.new.changes
             (Change.Insert id.now (sale (option_map (λ text. text.now) city.entry) product.now cents))
             self.old.builder self.new.builder) }
     {
@@ -60,7 +60,7 @@ impl Sales {
 
     /// What was noted of a sale is put right.
     pub fn update(&mut self, id: &str, city: Option<&str>, product: &str, cents: i64) -> Result<()>
-        ensures { OnOk result (TakesChange self.new.changes
+        ensures { OnOk result (TakesSale self.new.changes
             (Change.Update id.now (sale (option_map (λ text. text.now) city.entry) product.now cents))
             self.old.builder self.new.builder) }
     {
@@ -71,7 +71,7 @@ impl Sales {
 
     /// A sale is taken back.
     pub fn delete(&mut self, id: &str) -> Result<()>
-        ensures { OnOk result (TakesChange self.new.changes (Change.Delete id.now) self.old.builder self.new.builder) }
+        ensures { OnOk result (TakesSale self.new.changes (Change.Delete id.now) self.old.builder self.new.builder) }
     {
         let id = Text::from_str(self.alloc, id)?;
         self.take(Change::Delete { id })
@@ -79,7 +79,7 @@ impl Sales {
 
     // Hands the next change to the builder.
     fn take(&mut self, change: Change) -> Result<()>
-        ensures { OnOk result (TakesChange self.new.changes change self.old.builder self.new.builder) }
+        ensures { OnOk result (TakesSale self.new.changes change self.old.builder self.new.builder) }
     {
         ensure!(self.changes < u32::MAX, "too many changes");
         ensure!(self.builder.facts() < u64::MAX, "too many facts");

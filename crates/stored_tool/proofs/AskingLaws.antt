@@ -12,13 +12,13 @@ use Rattle.cube_feeders.specs.declared.fault.FeedingFault.{FeedingFault}
 use Rattle.cube_feeders.specs.declared.fault.FeedingFault.TheVariants as feeding_fault
 use Rattle.cube_journal.specs.Making.{LeavesNotes}
 use Rattle.cube_journal.specs.Rows.{Entry, entries_in}
-use Rattle.cube_journal.specs.State.{Holds, TakesAll, held_in, noted_in, stored_in}
+use Rattle.cube_journal.specs.State.{Holds, LeadsTo, held_in, noted_in, stored_in}
 use Rattle.cube_live.proofs.RefusalLaws.{refusals_of_accounts}
 use Rattle.cube_live.specs.Live.{CanAsk, IsLive, LiveStandsAt, LiveView}
 use Rattle.cube_live.specs.Opening.{OpensOver}
 use Rattle.cube_store.specs.Keeping.{Batch, HasKept}
 use Rattle.cube_stored.specs.Replay.{TakesStored, arrivals_from}
-use Rattle.cube_stored.proofs.ReplayLaws.{TakesAll-schema, TakesAll-stands}
+use Rattle.cube_stored.proofs.ReplayLaws.{LeadsTo-schema, LeadsTo-stands}
 use Rattle.cube_tool.proofs.RunLaws.{StandsUnder, refused-under}
 use Rattle.cube_tool.specs.Answering.{Fits, Writes, status_over}
 use Rattle.cube_tool.specs.Command.{status_after}
@@ -120,17 +120,17 @@ LeavesOfText-unopened question s sources was (feeding_fault.Unsealed source) old
 
 module _ (s : Layout) (sources : Told) (was : View) (before after : LiveView)
     (opens : OpensOver s sources (LiveStandsAt before)) (schema : before.schema ≡ s)
-    (taken : TakesAll TakesStored before (stored_in was) after) where
+    (taken : LeadsTo TakesStored before (stored_in was) after) where
   -- where the stored changes come after the feeds
   abbrev there : Arrivals
   there = arrivals_from s opens.start (stored_in was)
 
   stands : LiveStandsAt after there
   stands = subst (λ (l : Layout). LiveStandsAt after (arrivals_from l opens.start (stored_in was))) schema
-      (TakesAll-stands before after (stored_in was) taken opens.start opens.stands)
+      (LeadsTo-stands before after (stored_in was) taken opens.start opens.stands)
 
   same : after.schema ≡ s
-  same = TakesAll-schema before after (stored_in was) taken ∙ schema
+  same = LeadsTo-schema before after (stored_in was) taken ∙ schema
 
   after-feeds : (Stands : Arrivals → Type 0) → Stands there
       → OfFeeds s sources (λ feeds. AfterStored s feeds was Stands)

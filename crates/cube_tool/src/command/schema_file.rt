@@ -2,7 +2,7 @@
 ghost use Rattle.std.specs.Prelude.{◌≡◌, ◌≢◌, ◌≤◌, ◌<◌, length, Ok, Err, IfOk, IfErr, IfSome};
 ghost use Rattle.std.specs.Io.KnownBytes.{Appends};
 ghost use Rattle.std.specs.IoError.{error_kind};
-ghost use Rattle.cube_tool.specs.Command.{AnswersFile, CheckLeaves, IsReadFailure, IsRightFile, IsSchemaFailure, ok_line};
+ghost use Rattle.cube_tool.specs.Command.{AnswersFile, CheckLeaves, IsReadFailure, IsRightFile, IsSchemaFailure, schema_ok_line};
 
 use crate::command::failure::Failure;
 use crate::command::status::Status;
@@ -24,7 +24,7 @@ pub fn check<R: Read + Drop, W: Write>(
 ) -> Result<Status, Failure>
     ensures done { IfOk result (λ status. status ≡ Status.Done) }
     ensures right { IfOk result (λ _. IfSome (R.Read.remaining file) IsRightFile) }
-    ensures written { IfOk result (λ _. Appends (W.contents out.old) (W.contents out.new) ok_line) }
+    ensures written { IfOk result (λ _. Appends (W.contents out.old) (W.contents out.new) schema_ok_line) }
     ensures err { IfErr result (λ failure.
         CheckLeaves (R.Read.remaining file) failure (W.contents out.old) (W.contents out.new)) }
 {

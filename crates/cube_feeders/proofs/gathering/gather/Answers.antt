@@ -1,5 +1,5 @@
 use Rattle.std.proofs.Common.{refl, false}
-use Rattle.cube_feeders.specs.Gathering.{ended_of}
+use Rattle.cube_feeders.specs.Gathering.{links_ended}
 use Rattle.cube_feeders.proofs.GatherLaws.{gathering-start, gathers-all}
 use Rattle.cube_feeders.proofs.gathering.gather.Goals as goal
 use Rattle.cube_feeders.proofs.gathering.gather.Goals.{then-wanting, else-wanting}
@@ -15,7 +15,7 @@ pub returns-then-have_ended-clause-gathers : goal.returns-then-have_ended-clause
 returns-then-have_ended-clause-gathers g c =
     let loop = c.loop in
     let all = gathers-all (g.B.TakesItems.stands c.args.builder.now) c.args.inlets.now loop.inlets
-    (ended_of loop.taken) loop.builder loop.wanting (c.if-have_ended.ensures refl) loop.invariant.1 in
+    (links_ended loop.taken) loop.builder loop.wanting (c.if-have_ended.ensures refl) loop.invariant.1 in
     elim c.if-wanting.branch [
       | then-wanting w ↦ rw w.result-is (rw w.if-wanting.true at all)
       | else-wanting w ↦ rw w.result-is (rw w.if-wanting.false at all)

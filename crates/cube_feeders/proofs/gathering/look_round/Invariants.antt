@@ -1,6 +1,6 @@
 use Rattle.std.proofs.Common.{◌≡◌, List, length}
 use Rattle.cube_link.specs.Link.{Receiving}
-use Rattle.cube_feeders.specs.Gathering.{Gathering, ended_of}
+use Rattle.cube_feeders.specs.Gathering.{Gathering, links_ended}
 use Rattle.cube_feeders.specs.declared.parcel.Parcel.{Parcel}
 use Rattle.cube_feeders.proofs.gathering.look_round.Given as goal
 
@@ -10,6 +10,6 @@ invariant-loop-i g l = record {
   places : length l.taken ≡ 64;
   gathering : (first : _) (start : List (Receiving Parcel)) →
       Gathering (g.B.TakesItems.stands first) start l.initial.inlets
-      (ended_of l.initial.taken) l.initial.builder l.initial.wanting →
-      Gathering (g.B.TakesItems.stands first) start l.inlets (ended_of l.taken) l.builder l.wanting;
+      (links_ended l.initial.taken) l.initial.builder l.initial.wanting →
+      Gathering (g.B.TakesItems.stands first) start l.inlets (links_ended l.taken) l.builder l.wanting;
 }

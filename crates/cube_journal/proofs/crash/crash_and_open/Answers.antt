@@ -2,7 +2,7 @@ use Rattle.std.proofs.Common.{◌≤◌, sym, ap, subst, ◌∙◌, arith}
 use Rattle.sqlite_trees.specs.Tree.{Trees}
 use Rattle.sqlite_trees.specs.View.{IsClean, IsReopened, doubt}
 use Rattle.cube_journal.specs.Rows.{entries_in, entries_of}
-use Rattle.cube_journal.specs.State.{TakesAll, HasTables}
+use Rattle.cube_journal.specs.State.{LeadsTo, HasTables}
 use Rattle.cube_journal.proofs.CrashLaws as laws
 use Rattle.cube_journal.proofs.crash.crash_and_open.Goals as goal
 
@@ -27,7 +27,7 @@ returns-in-Ok-clause-last g c = λ clean is_open.
 
 pub returns-in-Ok-clause-taken : goal.returns-in-Ok-clause-taken
 returns-in-Ok-clause-taken g c = λ clean.
-    subst (λ es. TakesAll g.K.ChangeSink.takes c.args.sink.now es c.open.new.sink)
+    subst (λ es. LeadsTo g.K.ChangeSink.takes c.args.sink.now es c.open.new.sink)
     (sym (c.in-Ok.ensures.found clean).stored) (c.in-Ok.ensures.taken clean)
 
 pub returns-in-Err-open-clause-accepts : goal.returns-in-Err-open-clause-accepts

@@ -1,6 +1,6 @@
 use Rattle.std.proofs.Common.{◌≡◌, ◌<◌, length, true≢false, sym, ◌∙◌, arith, rules}
 use Rattle.sqlite_trees.specs.View.{IsClean}
-use Rattle.cube_journal.specs.State.{left_of}
+use Rattle.cube_journal.specs.State.{rows_left}
 use Rattle.cube_journal.proofs.CompareLaws as compare
 use Rattle.cube_journal.proofs.ReadingLaws as laws
 use Rattle.cube_journal.proofs.opening.compare.Goals as goal
@@ -18,7 +18,7 @@ notes-preserved g c =
           (rw c.if-not-branch.false at (c.in_ok-step.ensures.ok clean)).0;
       quiet = search rules;
       passed = λ clean. compare.passed_more (old.trees 1) c.args.notes.now c.notes.at _ c.step.new.row
-          (left_of before 0) (left_of now 0) within
+          (rows_left before 0) (rows_left now 0) within
           (compare.index_is c.args.notes.now c.notes.at _ within) (c.notes.invariant.passed (back clean))
           (rw c.if-not-branch.false at (c.in_ok-step.ensures.ok clean)).1
           (c.is_note.ensures.0 c.if-not-is_note.false);
@@ -33,7 +33,7 @@ returns-then-not-branch-clause-cause g c = λ clean.
     let within : c.notes.at < length c.args.notes.now = omega arith in
     let note = compare.some_note c.args.notes.now c.notes.at within in (
       c.notes.invariant.sound back,
-      compare.ends_before (old.trees 1) c.args.notes.now c.notes.at note.0 (left_of before 0) within note.1
+      compare.ends_before (old.trees 1) c.args.notes.now c.notes.at note.0 (rows_left before 0) within note.1
           (c.notes.invariant.passed back)
           (rw c.if-not-branch.true at (c.in_ok-step.ensures.ok clean)).1,
     )
@@ -46,8 +46,8 @@ returns-then-not-is_note-clause-cause g c = λ clean.
     let back : IsClean before = omega (arith, c.step.ensures.quiet.clean) in
     let within : c.notes.at < length c.args.notes.now = omega arith in (
       c.notes.invariant.sound back,
-      compare.differs (old.trees 1) c.args.notes.now c.notes.at _ c.step.new.row (left_of before 0)
-          (left_of now 0) within
+      compare.differs (old.trees 1) c.args.notes.now c.notes.at _ c.step.new.row (rows_left before 0)
+          (rows_left now 0) within
           (compare.index_is c.args.notes.now c.notes.at _ within) (c.notes.invariant.passed back)
           (rw c.if-not-branch.false at (c.in_ok-step.ensures.ok clean)).1
           (λ same. true≢false (sym (c.is_note.ensures.1 same) ∙ c.if-not-is_note.true)),
@@ -61,7 +61,8 @@ returns-then-branch-clause-cause g c = λ clean.
     let back : IsClean before = omega (arith, c.step-2.ensures.quiet.clean) in
     let end : c.notes.at ≡ length c.args.notes.now = omega arith in (
       c.notes.invariant.sound back,
-      compare.one_left (old.trees 1) c.args.notes.now c.notes.at c.step-2.new.row (left_of before 0) (left_of now 0) end
+      compare.one_left (old.trees 1) c.args.notes.now c.notes.at c.step-2.new.row (rows_left before 0)
+          (rows_left now 0) end
           (c.notes.invariant.passed back)
           (rw c.if-branch.true at (c.in_ok-step-2.ensures.ok clean)).1,
     )

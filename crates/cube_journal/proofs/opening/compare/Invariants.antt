@@ -1,7 +1,7 @@
 use Rattle.std.proofs.Common.{◌≡◌, ◌++◌, take, IsSome, false}
 use Rattle.sqlite_trees.specs.View.{IsClean, IsQuiet}
 use Rattle.cube_journal.specs.Rows.{entries_of, rows_from}
-use Rattle.cube_journal.specs.State.{OnlyReads, left_of}
+use Rattle.cube_journal.specs.State.{OnlyReads, rows_left}
 use Rattle.cube_journal.proofs.opening.compare.Given as goal
 
 abbrev pub invariant-notes : goal.invariant-notes
@@ -12,6 +12,6 @@ invariant-notes g l =
       live : IsSome (now.cursors 0);
       reads : IsClean now → OnlyReads old now;
       quiet : IsQuiet g.S.Store.view g.S.Store.faults g.S.Store.recovers g.S.Store.is_shielded l.fn.store l.store;
-      passed : IsClean now → old.trees 1 ≡ rows_from 0 (take l.at (entries_of l.notes)) ++ left_of now 0;
+      passed : IsClean now → old.trees 1 ≡ rows_from 0 (take l.at (entries_of l.notes)) ++ rows_left now 0;
       sound : IsClean now → old.is_broken ≡ false;
     }

@@ -4,7 +4,7 @@ use Rattle.sqlite_trees.specs.Objects.{catalog_tree}
 use Rattle.sqlite_trees.specs.Tree.{Trees}
 use Rattle.sqlite_trees.specs.View.{IsClean}
 use Rattle.cube_journal.specs.Rows.{entries_in, entries_of}
-use Rattle.cube_journal.specs.State.{TakesAll}
+use Rattle.cube_journal.specs.State.{LeadsTo}
 use Rattle.cube_journal.proofs.OpenLaws as opening
 use Rattle.cube_journal.proofs.opening.open.Goals as goal
 
@@ -44,7 +44,7 @@ pub returns-in-Ok-clause-taken : goal.returns-in-Ok-clause-taken
 returns-in-Ok-clause-taken g c = λ clean.
     let was = g.S.Store.view c.args.store in
     let mid = g.S.Store.view c.rollback.new.self in
-    subst (λ (t : Trees). TakesAll g.K.ChangeSink.takes c.args.sink.now (entries_in (t 0)) c.read_all.new.sink)
+    subst (λ (t : Trees). LeadsTo g.K.ChangeSink.takes c.args.sink.now (entries_in (t 0)) c.read_all.new.sink)
     (opening.same_trees was mid c.rollback.ensures.undone (g.met.S.Store.broken_if_shut c.rollback.new.self)
     (c.in-Ok.ensures.sound clean)) (c.in-Ok.ensures.taken clean)
 

@@ -6,7 +6,7 @@ use Rattle.sqlite_trees.specs.declared.store.Shape.TheVariants.{Table}
 use Rattle.sqlite_trees.specs.Tree.{Trees}
 use Rattle.sqlite_trees.specs.View.{View, IsClean}
 use Rattle.cube_journal.specs.Rows.{entries_in, entries_of, AreChanges}
-use Rattle.cube_journal.specs.State.{TakesAll}
+use Rattle.cube_journal.specs.State.{LeadsTo}
 use Rattle.cube_journal.proofs.OpenLaws as opening
 use Rattle.cube_journal.proofs.ReadingLaws as laws
 use Rattle.cube_journal.proofs.opening.read_all.Goals as goal
@@ -28,7 +28,7 @@ pub returns-clause-taken : goal.returns-clause-taken
 returns-clause-taken g c = λ clean.
     let mid = g.S.Store.view c.compare.new.store in
     let midway : IsClean mid = omega (arith, c.replay.ensures.quiet.clean) in
-    subst (λ (t : Trees). TakesAll g.K.ChangeSink.takes c.args.sink.now (entries_in (t 0)) c.replay.new.sink)
+    subst (λ (t : Trees). LeadsTo g.K.ChangeSink.takes c.args.sink.now (entries_in (t 0)) c.replay.new.sink)
     (ap (λ (v : View). v.trees) (c.in_ok-compare.ensures.reads midway))
     (c.in_ok-count.ensures.taken clean)
 

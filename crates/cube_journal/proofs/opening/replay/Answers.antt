@@ -2,7 +2,7 @@ use Rattle.std.proofs.Common.{◌≤◌, ◌<◌, ◌^◌, length, arith, rules}
 use Rattle.sqlite_value.specs.Order.{column, bytes}
 use Rattle.sqlite_trees.specs.View.{IsClean}
 use Rattle.cube_journal.specs.Rows.{Entry}
-use Rattle.cube_journal.specs.State.{left_of}
+use Rattle.cube_journal.specs.State.{rows_left}
 use Rattle.cube_journal.proofs.ReadingLaws as laws
 use Rattle.cube_journal.proofs.opening.replay.Goals as goal
 
@@ -19,8 +19,8 @@ changes-preserved g c =
       reads = λ clean. laws.reads_then old before now (c.changes.invariant.reads (back clean))
           (rw c.if-not-branch.false at (c.in_ok-step.ensures.ok clean)).0;
       quiet = search rules;
-      taken = λ clean. laws.one_taken g.K.ChangeSink.takes (old.trees 0) (left_of before 0)
-          (left_of now 0) row c.changes.at c.args.sink.now c.changes.sink c.take.new.self change
+      taken = λ clean. laws.one_taken g.K.ChangeSink.takes (old.trees 0) (rows_left before 0)
+          (rows_left now 0) row c.changes.at c.args.sink.now c.changes.sink c.take.new.self change
           (c.changes.invariant.taken (back clean)) (rw c.if-not-branch.false at (c.in_ok-step.ensures.ok clean)).1
           c.in-Some.ensures.some c.in-Some.ensures.source
           (rw (c.bytes_of.ensures, c.get.ensures) at c.in_ok-take-in-Some.ensures);
@@ -32,7 +32,7 @@ returns-then-not-branch-clause-changes g c = λ clean.
     let old = g.S.Store.view c.args.store.now in
     let before = g.S.Store.view c.changes.store in
     let back : IsClean before = omega (arith, c.step.ensures.quiet.clean) in
-    (laws.all_taken g.K.ChangeSink.takes (old.trees 0) (left_of before 0) c.changes.at c.args.sink.now c.changes.sink
+    (laws.all_taken g.K.ChangeSink.takes (old.trees 0) (rows_left before 0) c.changes.at c.args.sink.now c.changes.sink
     (c.changes.invariant.taken back) (rw c.if-not-branch.true at (c.in_ok-step.ensures.ok clean)).1).0
 
 pub returns-then-not-branch-clause-taken : goal.returns-then-not-branch-clause-taken
@@ -40,7 +40,7 @@ returns-then-not-branch-clause-taken g c = λ clean.
     let old = g.S.Store.view c.args.store.now in
     let before = g.S.Store.view c.changes.store in
     let back : IsClean before = omega (arith, c.step.ensures.quiet.clean) in
-    (laws.all_taken g.K.ChangeSink.takes (old.trees 0) (left_of before 0) c.changes.at c.args.sink.now c.changes.sink
+    (laws.all_taken g.K.ChangeSink.takes (old.trees 0) (rows_left before 0) c.changes.at c.args.sink.now c.changes.sink
     (c.changes.invariant.taken back) (rw c.if-not-branch.true at (c.in_ok-step.ensures.ok clean)).1).1
 
 pub returns-then-not-branch-clause-reads : goal.returns-then-not-branch-clause-reads
@@ -59,8 +59,8 @@ returns-in-None-clause-cause g c = λ clean notes.
     let now = g.S.Store.view c.step.new.store in
     let back : IsClean before = omega (arith, c.step.ensures.quiet.clean) in (
       c.changes.invariant.sound back,
-      laws.foreign_next g.K.ChangeSink.takes (old.trees 0) (left_of before 0)
-          (left_of now 0) c.step.new.row c.changes.at c.args.sink.now c.changes.sink
+      laws.foreign_next g.K.ChangeSink.takes (old.trees 0) (rows_left before 0)
+          (rows_left now 0) c.step.new.row c.changes.at c.args.sink.now c.changes.sink
           (c.changes.invariant.taken back)
           (rw c.if-not-branch.false at (c.in_ok-step.ensures.ok clean)).1 c.in-None.ensures.none,
     )
@@ -70,6 +70,6 @@ returns-clause-cause g c = λ clean notes.
     let old = g.S.Store.view c.args.store.now in
     let now = g.S.Store.view c.changes.store in
     let passed : c.changes.at ≤ length (old.trees 0) = laws.taken_length g.K.ChangeSink.takes (old.trees 0)
-    (left_of now 0) c.changes.at c.args.sink.now c.changes.sink (c.changes.invariant.taken clean) in
+    (rows_left now 0) c.changes.at c.args.sink.now c.changes.sink (c.changes.invariant.taken clean) in
     let many : 2 ^ 62 < length (old.trees 0) = omega arith in
     (c.changes.invariant.sound clean, many)

@@ -3,7 +3,7 @@ use Rattle.std.specs.List.{AllZip}
 use Rattle.std.proofs.lemmas.Result.{IfErr-weaker, err_from_is_err_and, on_ok_weaker}
 use Rattle.cube_core.specs.Text.{header_fields, line}
 use Rattle.cube_merge.specs.Faults.{FailsToOpenAll}
-use Rattle.cube_merge.specs.Merging.{HasTaken}
+use Rattle.cube_merge.specs.Merging.{TookHeader}
 use Rattle.cube_merge.proofs.CubesLaws.{IsMergeOf-ends}
 use Rattle.cube_merge.proofs.FaultLaws.{FailsToMerge-inputs, FailsToMerge-open}
 use Rattle.cube_merge.proofs.LackLaws.{tells-inputs, tells-open}
@@ -14,7 +14,7 @@ returns-clause-ok g c =
     let first = line (header_fields c.args.given.now) in
     let header : c.as_slice.result.now ≡ first =
     c.as_slice.ensures.value ∙ c.in_ok-push_header.ensures {u = tt} ∙ ap (λ t. t ++ first) c.new-header.ensures.items in
-    let taken = subst (λ h. AllZip (HasTaken g.R.Read.remaining h) c.args.readers.items c.in_ok-inputs.inputs.items)
+    let taken = subst (λ h. AllZip (TookHeader g.R.Read.remaining h) c.args.readers.items c.in_ok-inputs.inputs.items)
     header c.in_ok-inputs.ensures.ok in
     on_ok_weaker c.merge_inputs.result (λ merges.
     IsMergeOf-ends g.R.Read.remaining c.args.given.now c.args.wanted.now c.args.readers.items
@@ -26,7 +26,7 @@ returns-clause-err g c =
     let first = line (header_fields c.args.given.now) in
     let header : c.as_slice.result.now ≡ first =
     c.as_slice.ensures.value ∙ c.in_ok-push_header.ensures {u = tt} ∙ ap (λ t. t ++ first) c.new-header.ensures.items in
-    let taken = subst (λ h. AllZip (HasTaken g.R.Read.remaining h) c.args.readers.items c.in_ok-inputs.inputs.items)
+    let taken = subst (λ h. AllZip (TookHeader g.R.Read.remaining h) c.args.readers.items c.in_ok-inputs.inputs.items)
     header c.in_ok-inputs.ensures.ok in
     IfErr-weaker c.merge_inputs.result _ _ (λ fault fails. FailsToMerge-inputs g.R.Read.remaining c.args.given.now
     c.args.wanted.now c.args.readers.items c.in_ok-inputs.inputs.items taken _ _ fault
@@ -48,7 +48,7 @@ returns-clause-lacks g c =
     let first = line (header_fields c.args.given.now) in
     let header : c.as_slice.result.now ≡ first =
     c.as_slice.ensures.value ∙ c.in_ok-push_header.ensures {u = tt} ∙ ap (λ t. t ++ first) c.new-header.ensures.items in
-    let taken = subst (λ h. AllZip (HasTaken g.R.Read.remaining h) c.args.readers.items c.in_ok-inputs.inputs.items)
+    let taken = subst (λ h. AllZip (TookHeader g.R.Read.remaining h) c.args.readers.items c.in_ok-inputs.inputs.items)
     header c.in_ok-inputs.ensures.ok in
     IfErr-weaker c.merge_inputs.result _ _ (λ fault fails.
     tells-inputs g.R.Read.remaining c.args.given.now c.args.wanted.now c.args.readers.items c.in_ok-inputs.inputs.items

@@ -1,9 +1,9 @@
 use Rattle.std.proofs.Common.{◌≡◌, ◌∙◌, length, refl, subst, inl, inr}
 use Rattle.std.proofs.lemmas.Result.{IfErr-weaker, err_from_is_err_and, on_ok_weaker}
-use Rattle.cube_merge.specs.Faults.{Stops}
+use Rattle.cube_merge.specs.Faults.{FailsAfter}
 use Rattle.cube_merge.specs.Merging.{AllMove}
 use Rattle.cube_merge.proofs.CubesLaws.{IsMerging-begun}
-use Rattle.cube_merge.proofs.FaultLaws.{FailsToStart-moves}
+use Rattle.cube_merge.proofs.FaultLaws.{FailsAtFirstLine-moves}
 use Rattle.cube_merge.proofs.cubes.merge_inputs.Goals as goal
 
 pub returns-clause-ok : goal.returns-clause-ok
@@ -30,7 +30,7 @@ returns-clause-err g c =
     rw c.as_slice.ensures.value at (c.in_ok-move_inputs.ensures.ok) in
     let used = c.in_ok-used.ensures {u = tt} in
     IfErr-weaker c.merge_rows.result _ _ (λ fault rest. λ starts fresh. inr (subst
-    (λ n. Stops c.args.given.now c.args.wanted.now starts n fault (g.W.Write.contents c.args.w.now)
+    (λ n. FailsAfter c.args.given.now c.args.wanted.now starts n fault (g.W.Write.contents c.args.w.now)
     (g.W.Write.contents c.merge_rows.new.w)) same
     (rest starts
     (IsMerging-begun c.args.given.now c.args.wanted.now.aggregates starts olds news us used.used fresh same moved))))
@@ -42,5 +42,6 @@ returns-in_err-move_inputs-clause-err g c =
     err_from_is_err_and c.from_residual-in_err-move_inputs.result c.from_residual-in_err-move_inputs.ensures.1 in
     rw (p.1, p.2) (λ starts fresh. inl (
       refl,
-      FailsToStart-moves c.args.given.now (c.as_slice.result.now) c.args.inputs.now _ c.in_err-move_inputs.ensures.err,
+      FailsAtFirstLine-moves c.args.given.now (c.as_slice.result.now) c.args.inputs.now _
+          c.in_err-move_inputs.ensures.err,
     ))

@@ -4,15 +4,15 @@ use Rattle.std.proofs.lemmas.Iterator.Consumers.{YieldsList-turn}
 use Rattle.std.proofs.lemmas.Result.{err_from_is_err_and}
 use Rattle.cube_core.proofs.ListLaws.{AllZip-length, AllZip-push}
 use Rattle.cube_merge.specs.Faults.{FailsToOpen}
-use Rattle.cube_merge.specs.Merging.{HasTaken}
+use Rattle.cube_merge.specs.Merging.{TookHeader}
 use Rattle.cube_merge.proofs.FaultLaws.{FailsToOpenAll-at}
 use Rattle.cube_merge.proofs.cubes.open_inputs.Goals as goal
 
 pub loop-reader-preserved : goal.loop-reader-preserved
 loop-reader-preserved g c =
-    let taken : HasTaken g.R.Read.remaining c.args.header.now c.in-Some.reader c.in_ok-input.input = search rules in
+    let taken : TookHeader g.R.Read.remaining c.args.header.now c.in-Some.reader c.in_ok-input.input = search rules in
     let pushed : c.push.new.self.items ≡ c.loop-reader.inputs.items ++ c.in_ok-input.input ∷ [] = search rules in
-    rw pushed (AllZip-push (HasTaken g.R.Read.remaining c.args.header.now)
+    rw pushed (AllZip-push (TookHeader g.R.Read.remaining c.args.header.now)
     c.loop-reader.yielded c.loop-reader.inputs.items c.in-Some.reader c.in_ok-input.input c.loop-reader.invariant taken)
 
 pub returns-in_err-input-clause-err : goal.returns-in_err-input-clause-err
@@ -26,7 +26,7 @@ returns-in_err-input-clause-err g c =
     c.next.ensures.steps in
     let counted : c.len-in-loop-reader.result ≡ length loop.inputs.items = search rules in
     let place_is : c.len-in-loop-reader.result ≡ length loop.yielded = counted ∙ sym
-    (AllZip-length (HasTaken g.R.Read.remaining c.args.header.now) loop.yielded loop.inputs.items loop.invariant) in
+    (AllZip-length (TookHeader g.R.Read.remaining c.args.header.now) loop.yielded loop.inputs.items loop.invariant) in
     rw (p.1, p.2) (FailsToOpenAll-at g.R.Read.remaining c.args.header.now c.args.readers.items
     (length loop.yielded) c.in-Some.reader c.in_err-input.field-0.0 turn.0 turn.1
     (subst (λ n. FailsToOpen c.args.header.now n (g.R.Read.remaining c.in-Some.reader) c.in_err-input.field-0.0)

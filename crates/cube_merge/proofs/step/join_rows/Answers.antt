@@ -1,7 +1,7 @@
 use Rattle.std.proofs.Common.{◌≡◌, ap, ◌∙◌, subst}
 use Rattle.std.proofs.lemmas.Result.{IfErr-weaker, on_ok_weaker}
 use Rattle.cube_merge.specs.Joint.{rows_of}
-use Rattle.cube_merge.specs.Made.{AreMade}
+use Rattle.cube_merge.specs.Made.{AreMadeOfRows}
 use Rattle.cube_merge.specs.Merging.{used_rows}
 use Rattle.cube_merge.specs.Range.{AreInRange}
 use Rattle.cube_merge.proofs.FaultLaws.{FailsToJoin-made}
@@ -14,7 +14,7 @@ returns-clause-made g c =
     ≡ used_rows c.find_used.new.used.items c.args.inputs.now =
     ap (rows_of c.args.inputs.now) c.as_slice.ensures.value ∙ found.rows in
     on_ok_weaker c.make_answers.result
-    (λ made. subst (λ rs. AreMade c.args.given.now rs c.make_answers.new.made.items) rows made)
+    (λ made. subst (λ rs. AreMadeOfRows c.args.given.now rs c.make_answers.new.made.items) rows made)
     c.make_answers.ensures.made
 
 pub returns-clause-fit : goal.returns-clause-fit

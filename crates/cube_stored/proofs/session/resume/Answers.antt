@@ -2,7 +2,7 @@ use Rattle.std.proofs.Common.{◌∙◌, sym, subst, ap}
 use Rattle.sqlite_trees.specs.View.{IsClean}
 use Rattle.sqlite_store.specs.FileStore.{view}
 use Rattle.cube_journal.specs.Rows.{entries_of}
-use Rattle.cube_journal.specs.State.{TakesAll, stored_in, noted_in}
+use Rattle.cube_journal.specs.State.{LeadsTo, stored_in, noted_in}
 use Rattle.cube_stored.specs.Replay.{TakesStored}
 use Rattle.cube_stored.proofs.StartLaws as laws
 use Rattle.cube_stored.proofs.session.resume.Goals as goal
@@ -10,9 +10,9 @@ use Rattle.cube_stored.proofs.session.resume.Goals as goal
 pub returns-in-Ok-clause-taken : goal.returns-in-Ok-clause-taken
 returns-in-Ok-clause-taken g c = λ clean.
     let fine : IsClean (view c.in-Ok.journal.store) = subst (λ s. IsClean (view s)) c.new.ensures.store clean in
-    subst (λ l. TakesAll TakesStored l (stored_in (view c.args.store)) c.into_live.result) c.new-replay.ensures
-    (subst (λ l. TakesAll TakesStored c.new-replay.result (stored_in (view c.args.store)) l) (sym c.into_live.ensures)
-    (subst (λ es. TakesAll TakesStored c.new-replay.result es c.start.new.sink)
+    subst (λ l. LeadsTo TakesStored l (stored_in (view c.args.store)) c.into_live.result) c.new-replay.ensures
+    (subst (λ l. LeadsTo TakesStored c.new-replay.result (stored_in (view c.args.store)) l) (sym c.into_live.ensures)
+    (subst (λ es. LeadsTo TakesStored c.new-replay.result es c.start.new.sink)
     (laws.Starts-stored (entries_of c.args.notes.now) (view c.args.store) (view c.in-Ok.journal.store)
     (c.in-Ok.ensures.found fine))
     (c.in-Ok.ensures.taken fine)))
