@@ -1,4 +1,4 @@
-use Rattle.std.proofs.Common.{◌≡◌, ◌∷◌, ◌++◌, [], true, false, get_or, length, length-append, arith, below_more}
+use Rattle.std.proofs.Common.{◌≡◌, ◌∷◌, ◌++◌, [], true, false, get_or, length-append, arith, below_more}
 use Rattle.std.proofs.Math.ListN.{get_or-append}
 use Rattle.std.proofs.Math.Seq.{get_or-append_seam}
 use Rattle.cube_merge.proofs.cubes.all_used.Goals as goal
