@@ -181,7 +181,7 @@ pub takes-settled : {B : Type 0} (stands : B → B → Arrivals → Type 0) (s :
     (old mid new : List (Gatherer B)) →
     AreLinked outs old → length outs ≡ length sources → map (λ gatherer. gatherer.builder) old ≡ builders
     → AllZip (HasGathered stands) old mid → AllTell s sources (map received_by mid) ends → SettlesBuilders ends mid new
-        →
+    →
     1 ≤ length mid → TakeAll stands s sources builders new
 takes-settled {B} stands s sources outs ends builders old mid new linked as_many same gathered tell settles some =
     let rows = map received_by mid in

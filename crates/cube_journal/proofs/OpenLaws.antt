@@ -22,7 +22,7 @@ pub explains_then : (fault more shut before is_open was_open tables were : Type 
     (notes : List Entry) (e : OpenFault)
     → (fault → more) → (shut → before) → (is_open → was_open) → (were → tables) → (is_open → trees ≡ others)
     → ExplainsUnopened fault shut is_open tables trees notes e
-        → ExplainsUnopened more before was_open were others notes e
+    → ExplainsUnopened more before was_open were others notes e
 explains_then fault more shut before is_open was_open tables were trees others notes
     (kind.Store error) up back sound have same h = cause_then fault more shut before ⊥ ⊥ error up back (λ x. x) h
 explains_then fault more shut before is_open was_open tables were trees others notes kind.NoTables up back sound have

@@ -21,7 +21,7 @@ from_no_key o (row ∷ rows) = refl
 
 pub begins : (old new : View) (tree : ℕ) (key : Row) → key ≡ []
     → new ≡ with_cursor old 0 (sought (order_of (old.shape tree)) Forward key (old.trees tree))
-        → StandsBeforeFirst old new tree
+    → StandsBeforeFirst old new tree
 begins old new tree key none is =
     let order = order_of (old.shape tree) in
     record {

@@ -72,7 +72,7 @@ IsMergedText-IsPrinted s parts texts text schema some printable printed merged =
       (partial_aggregates s.aggregates) s.aggregates parts merged.cubes merged.rows some
       (AllZip-AreRows s parts texts merged.cubes schema.some_dimension printable printed
       (AllZip-places (IsTextOfRows (partial_form s)) texts merged.cubes [] [] merged.as_many merged.read))
-          merged.merged;
+      merged.merged;
   text_is = merged.text_is;
 }
 
@@ -86,7 +86,7 @@ IsMergedText-partial s parts texts text schema some printable printed merged = r
       (partial_aggregates s.aggregates) parts merged.cubes merged.rows some
       (AllZip-AreRows s parts texts merged.cubes schema.some_dimension printable printed
       (AllZip-places (IsTextOfRows (partial_form s)) texts merged.cubes [] [] merged.as_many merged.read))
-          merged.merged;
+      merged.merged;
   text_is = merged.text_is;
 }
 

@@ -149,7 +149,7 @@ text-of_ended s (Some t) (Some x) input rows head gave ended none = by_left inpu
 pub IsMergeOf-ends : {R : Type 0} (remaining : R → Option (List ℕ)) (given wanted : Layout) (readers : List R)
     (inputs : List InputView) (old new : Option (List ℕ))
     → AllZip (TookHeader remaining (line (header_fields given))) readers inputs
-        → MergesInputs given wanted inputs old new
+    → MergesInputs given wanted inputs old new
     → IsMergeOf given wanted (map remaining readers) old new
 IsMergeOf-ends remaining given wanted readers inputs old new taken merges =
     let header = line (header_fields given) in

@@ -186,7 +186,7 @@ pub IsMerged-Mean : (given : List Agg) (rows : List Row) (agg : Agg) (made : Lis
     → AreMadeOfRows given rows made → IsSourceOf given agg (source.Mean sums counts)
     → ((ss cs : List Answer) → MakesAnswer (Sum 0) ss (get_or made sums answer.Null)
     → MakesAnswer (Count 0) cs (get_or made counts answer.Null) → IsMeanOf (total_of (numbers_of ss))
-        (sum_of_counts cs) a)
+    (sum_of_counts cs) a)
     → IsMerged given rows agg a
 IsMerged-Mean given rows (Avg m) made sums counts a are is mean = (
   sums,

@@ -105,7 +105,7 @@ AreOfSchema-Moves s false old new rows are same =
     (subst (λ rs. AreOfSchema s old rs) (sym (append-nil rows)) are)
 AreOfSchema-Moves s true old new rows are moved =
     AllByRecursion-both (IsLawfulRow s) (rows ++ option_to_list old.row) (option_to_list new.row) are
-        (by_row new.row moved)
+    (by_row new.row moved)
   where
     by_row : (row : Option Row) → TakesLine s old (record { left = new.left; row = row; lines = new.lines })
         → AllByRecursion (IsLawfulRow s) (option_to_list row)

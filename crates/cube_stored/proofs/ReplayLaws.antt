@@ -20,7 +20,7 @@ pub LeadsTo-stands : (before after : LiveView) (changes : List Entry) → LeadsT
 LeadsTo-stands before after [] same arrivals stands = subst (λ (l : LiveView). LiveStandsAt l arrivals) same stands
 LeadsTo-stands before after (change ∷ changes) taken arrivals stands =
     subst (λ (s : Layout). LiveStandsAt after (arrivals_from s
-        (arrivals_by_stored before.schema arrivals change) changes))
+    (arrivals_by_stored before.schema arrivals change) changes))
     taken.1.schema
     (LeadsTo-stands taken.0 after changes taken.2 (arrivals_by_stored before.schema arrivals change)
     (taken.1.stands arrivals stands))

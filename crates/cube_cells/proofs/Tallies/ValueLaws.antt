@@ -41,7 +41,7 @@ pub each-set : {X : Type 0} (Holds : ℕ → Bag → X → Type 0) (bags : List 
     → (m : ℕ) → Holds m (bag_at (set bags i bag) m) (get_or (take (i + 1) more) m none)
 each-set Holds bags more none i bag inside others here m = ⊎_elim
     (λ same. subst (λ k. Holds k (bag_at (set bags i bag) k) (get_or (take (i + 1) more) k none)) (sym same)
-        (rw (get_or-set_same bags i bag [] inside, get_or-take (i + 1) more i none (omega arith)) here))
+    (rw (get_or-set_same bags i bag [] inside, get_or-take (i + 1) more i none (omega arith)) here))
     (λ apart. rw (get_or-set_other bags i m bag [] apart, get_or-take_other more none i m apart) (others m))
     (cases_eq m i)
 

@@ -10,5 +10,5 @@ returns c =
     let fields = fields_of c.args.fields.now in
     let many : (length fields == 1) ≡ false = ne_eqb _ _ (rw c.len.ensures at c.if-len-eq1.false) in
     let asked : c.refusals_by.result ≡ refusals_by (source_of (field_at fields 1))
-        (count_of (field_at fields 2)) = cc in
+    (count_of (field_at fields 2)) = cc in
     rw many (c.of_width.ensures ∙ ap (of_width 3 fields) asked)
