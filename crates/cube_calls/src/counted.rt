@@ -28,23 +28,16 @@ fn obey_all(
 
 fn obey(values: &mut Counted, other: &mut Counted, call: &str, out: &mut Printout) -> Result<()> {
     match words_of(call) {
+        ("add", value) => add_or_again(values, value.parse()?)?,
+        ("remove", value) => out.answer(values.remove(value.parse()?))?,
+        ("holds", value) => out.answer(values.holds(value.parse()?))?,
         ("shrink", "") => values.shrink_to_fit(),
         ("show", "") => show(values, out)?,
         ("merge", "") => merge(values, other)?,
         ("swap", "") => swap(values, other),
-        (verb, value) => obey_with(values, verb, value.parse()?, out)?,
-    }
-    Ok(())
-}
-
-// A call with a number.
-fn obey_with(values: &mut Counted, verb: &str, value: i64, out: &mut Printout) -> Result<()> {
-    match verb {
-        "add" => add_or_again(values, value),
-        "remove" => Ok(out.answer(values.remove(value))?),
-        "holds" => Ok(out.answer(values.holds(value))?),
         _ => bail!("no call of a multiset"),
     }
+    Ok(())
 }
 
 // Adds a number, and once more where memory was wanting.
