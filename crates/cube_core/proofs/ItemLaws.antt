@@ -12,7 +12,7 @@ use Rattle.cube_core.specs.Layout.{Layout}
 use Rattle.cube_core.specs.Takes.{takes, may_amend, is_id, fits, fits_part, is_dimension_value, puts_dimension_value}
 use Rattle.cube_core.specs.Items.{width_of, field_at, is_null, is_keep, keeps_any, is_measure, dimension_of}
 use Rattle.cube_core.specs.Items.{dimension_field_of, measure_of, measure_field_of, dimension_fields, measure_fields}
-use Rattle.cube_core.specs.Items.{fact_of, part_of, put_of, insert_of, update_of, change_of}
+use Rattle.cube_core.specs.Items.{fact_of, amendment_of, unless_at_fault, insert_of, update_of, change_of}
 use Rattle.cube_core.specs.declared.change.Change.{Change}
 use Rattle.cube_core.specs.declared.change.LineFault.{LineFault}
 use Rattle.cube_core.specs.declared.partial.Field.TheVariants.{Put}
@@ -107,10 +107,10 @@ fits-fact_of s fields right lawful =
     (dimension_of-values (dimension_fields s fields))
 
 -- and so does its amendment, where they are values or are kept
-fits_part-part_of : (s : Layout) (fields : List (List ℕ)) → length fields ≡ width_of s
+fits_part-amendment_of : (s : Layout) (fields : List (List ℕ)) → length fields ≡ width_of s
     → list_all (is_measure s) (measure_fields s fields) ≡ true
-    → fits_part s (part_of s fields) ≡ true
-fits_part-part_of s fields right lawful =
+    → fits_part s (amendment_of s fields) ≡ true
+fits_part-amendment_of s fields right lawful =
     let dims = length-map (dimension_fields s fields) (dimension_field_of s) ∙ length-dimension_fields s fields right in
     let measures =
     length-filter_map (measure_field_of s) (measure_fields s fields) lawful ∙ length-measure_fields s fields right in
@@ -130,11 +130,11 @@ may_amend-keeps s fields keeps = by (may_amend s) refl
     by false e = absurd (true≢false (sym keeps ∙ none fields e))
 
 -- a record with a fact or an amendment spells a change that is taken, if its fields make that change taken
-put_of-taken : (s : Layout) (fields : List (List ℕ)) (change : Result Change LineFault)
+unless_at_fault-taken : (s : Layout) (fields : List (List ℕ)) (change : Result Change LineFault)
     → (length fields ≡ width_of s → is_id (field_at fields 1) ≡ true
     → list_all (is_measure s) (measure_fields s fields) ≡ true → IfOk change (λ c. takes s c ≡ true))
-    → IfOk (put_of change s fields) (λ c. takes s c ≡ true)
-put_of-taken s fields change taken =
+    → IfOk (unless_at_fault change s fields) (λ c. takes s c ≡ true)
+unless_at_fault-taken s fields change taken =
     let P : Change → Type 0 = λ c. takes s c ≡ true in
     IfOk-if P (not (length fields == width_of s)) _ _ (λ wrong. tt) (λ right.
     IfOk-if P (not (list_all is_utf8 (drop 1 fields))) _ _ (λ bad. tt) (λ texts.
@@ -151,14 +151,14 @@ takes-change_of s fields =
     → list_all (λ field. is_some (measure_of field)) (measure_fields s fields) ≡ true =
     λ none lawful. sym (is_measure-value s (measure_fields s fields) (keeps_any-measures s fields none)) ∙ lawful in
     IfOk-if P (bytes_eq (field_at fields 0) (codes "I")) _ _
-    (λ letter. put_of-taken s fields (insert_of s fields) (λ right named lawful.
+    (λ letter. unless_at_fault-taken s fields (insert_of s fields) (λ right named lawful.
     IfOk-if P (keeps_any s fields) _ _ (λ keeps. tt)
     (λ none. and_from _ _ named (fits-fact_of s fields right (values none lawful)))))
     (λ other. IfOk-if P (bytes_eq (field_at fields 0) (codes "U")) _ _
-    (λ letter. put_of-taken s fields (update_of s fields) (λ right named lawful.
+    (λ letter. unless_at_fault-taken s fields (update_of s fields) (λ right named lawful.
     IfOk-if P (keeps_any s fields) _ _
     (λ keeps. and_from _ _ (and_from _ _ (may_amend-keeps s (drop 2 fields) keeps) named)
-    (fits_part-part_of s fields right lawful))
+    (fits_part-amendment_of s fields right lawful))
     (λ none. and_from _ _ named (fits-fact_of s fields right (values none lawful)))))
     (λ neither. IfOk-if P (bytes_eq (field_at fields 0) (codes "D")) _ _
     (λ letter.

@@ -12,7 +12,7 @@ use Rattle.std.proofs.lemmas.Bool.{eq-eqb, ne_eqb}
 use Rattle.cube_core.specs.Covers.{all_stand_for}
 use Rattle.std.proofs.lemmas.List.Elements.{All-push}
 use Rattle.cube_core.specs.Items.{dimension_of}
-use Rattle.cube_core.specs.Values.{Adds, value_of, parts_of, LiesIn}
+use Rattle.cube_core.specs.Values.{Adds, value_at_span, parts_of, LiesIn}
 
 -- a range within a list
 slice_range-append : (block more : List ℕ) (start end : ℕ) → start ≤ end → end ≤ length block
@@ -36,23 +36,23 @@ LiesIn-append block more (Text start end) lies = (
   rw (slice_range-append block more start end lies.0 lies.1) lies.2,
 )
 
-value_of-append : (block more : List ℕ) (span : Span ℕ) → LiesIn block span
-    → value_of (block ++ more) span ≡ value_of block span
-value_of-append block more Null lies = refl
-value_of-append block more (Text start end) lies = rw (slice_range-append block more start end lies.0 lies.1) refl
+value_at_span-append : (block more : List ℕ) (span : Span ℕ) → LiesIn block span
+    → value_at_span (block ++ more) span ≡ value_at_span block span
+value_at_span-append block more Null lies = refl
+value_at_span-append block more (Text start end) lies = rw (slice_range-append block more start end lies.0 lies.1) refl
 
 values_of-append : (block more : List ℕ) (spans : List (Span ℕ)) → All (LiesIn block) spans
-    → map (value_of (block ++ more)) spans ≡ map (value_of block) spans
+    → map (value_at_span (block ++ more)) spans ≡ map (value_at_span block) spans
 values_of-append block more [] all = refl
 values_of-append block more (span ∷ spans) all =
     rw (
-      value_of-append block more span (all 0 span (omega arith)),
+      value_at_span-append block more span (all 0 span (omega arith)),
       values_of-append block more spans (λ k d below. all (suc k) d (omega (arith, below))),
     ) refl
 
 -- all spans, and their values
 all-append : (block more : List ℕ) (spans : List (Span ℕ)) → All (LiesIn block) spans
-    → All (LiesIn (block ++ more)) spans × (map (value_of (block ++ more)) spans ≡ map (value_of block) spans)
+    → All (LiesIn (block ++ more)) spans × (map (value_at_span (block ++ more)) spans ≡ map (value_at_span block) spans)
 all-append block more spans all =
     ((λ k d below. LiesIn-append block more (get_or spans k d) (all k d below)), values_of-append block more spans all)
 
@@ -68,14 +68,15 @@ Adds-text block text spans utf8 all =
         omega (arith, length-append block text),
         rw whole utf8,
       ),
-      rw (map-append (value_of (block ++ text)) spans (span ∷ []), kept.1, whole) refl,
+      rw (map-append (value_at_span (block ++ text)) spans (span ∷ []), kept.1, whole) refl,
     )
 
 -- texts at the end of a block, before any of their fields is a value
 pub AddsAll-none : (block text : List ℕ) (spans : List (Span ℕ)) (lens : List ℕ) → All (LiesIn block) spans
     → All (LiesIn (block ++ text)) spans
-    × (map (value_of (block ++ text)) spans ++ map dimension_of (parts_of lens (drop (length block) (block ++ text)))
-    ≡ map (value_of block) spans ++ map dimension_of (parts_of lens text))
+    × (map (value_at_span (block ++ text)) spans ++ map dimension_of
+    (parts_of lens (drop (length block) (block ++ text)))
+    ≡ map (value_at_span block) spans ++ map dimension_of (parts_of lens text))
 AddsAll-none block text spans lens all =
     let kept = all-append block text spans all in
     (kept.0, rw (kept.1, drop-append_seam block text) refl)
@@ -84,17 +85,18 @@ AddsAll-none block text spans lens all =
 pub AddsAll-more : (block : List ℕ) (spans : List (Span ℕ)) (span : Span ℕ) (end len : ℕ) (lens : List ℕ)
     (whole : List (Option (List ℕ)))
     → All (LiesIn block) spans → LiesIn block span
-    → value_of block span ≡ dimension_of (slice_range block end (end + len))
-    → map (value_of block) spans ++ map dimension_of (parts_of (len ∷ lens) (drop end block)) ≡ whole
+    → value_at_span block span ≡ dimension_of (slice_range block end (end + len))
+    → map (value_at_span block) spans ++ map dimension_of (parts_of (len ∷ lens) (drop end block)) ≡ whole
     → All (LiesIn block) (spans ++ span ∷ [])
-    × (map (value_of block) (spans ++ span ∷ []) ++ map dimension_of (parts_of lens (drop (end + len) block)) ≡ whole)
+    × (map (value_at_span block) (spans ++ span ∷ []) ++ map dimension_of (parts_of lens (drop (end + len) block))
+    ≡ whole)
 AddsAll-more block spans span end len lens whole all lies is so_far =
     let count : (end + len) - end ≡ len = omega arith in
     let value = rw count at is in (
       All-push (LiesIn block) spans span all lies,
       rw (
-        map-append (value_of block) spans (span ∷ []),
-        append_assoc (map (value_of block) spans) (value_of block span ∷ [])
+        map-append (value_at_span block) spans (span ∷ []),
+        append_assoc (map (value_at_span block) spans) (value_at_span block span ∷ [])
             (map dimension_of (parts_of lens (drop (end + len) block))),
         value,
         ← drop-drop len end block,

@@ -111,8 +111,8 @@ abbrev pub measure_field_of : Layout → List ℕ → Option (Field (Option ℤ)
 measure_field_of s field = if is_keep s field then Some Keep else option_map Put (measure_of field)
 
 -- the amendment that a record spells, where its measures are lawful
-abbrev pub part_of : Layout → List (List ℕ) → Partial
-part_of s fields = record {
+abbrev pub amendment_of : Layout → List (List ℕ) → Partial
+amendment_of s fields = record {
   dims = map (dimension_field_of s) (dimension_fields s fields);
   measures = filter_map (measure_field_of s) (measure_fields s fields);
 }
@@ -122,8 +122,8 @@ abbrev pub is_measure : Layout → List ℕ → Bool
 is_measure s field = is_some (measure_field_of s field)
 
 -- the change of a record with a fact or an amendment, or the first fault that holds
-abbrev pub put_of : Result Change LineFault → Layout → List (List ℕ) → Result Change LineFault
-put_of change s fields =
+abbrev pub unless_at_fault : Result Change LineFault → Layout → List (List ℕ) → Result Change LineFault
+unless_at_fault change s fields =
     if not (length fields == width_of s) then Err fault.Fields
     else if not (list_all is_utf8 (drop 1 fields)) then Err fault.Text
     else if length (field_at fields 1) == 0 then Err fault.Id
@@ -139,7 +139,7 @@ insert_of s fields =
 -- the update that a record with lawful fields spells: an amendment, where it keeps a field
 abbrev pub update_of : Layout → List (List ℕ) → Result Change LineFault
 update_of s fields =
-    if keeps_any s fields then Ok (Amend (field_at fields 1) (part_of s fields))
+    if keeps_any s fields then Ok (Amend (field_at fields 1) (amendment_of s fields))
     else Ok (Update (field_at fields 1) (fact_of s fields))
 
 -- the change of a record that takes an id away, or the first fault that holds; fields after the id aren't looked at
@@ -153,8 +153,8 @@ delete_of s fields =
 -- the change that a data record spells, or its first fault: the operation is `I`, `U` or `D`
 abbrev pub change_of : Layout → List (List ℕ) → Result Change LineFault
 change_of s fields =
-    if bytes_eq (field_at fields 0) (codes "I") then put_of (insert_of s fields) s fields
-    else if bytes_eq (field_at fields 0) (codes "U") then put_of (update_of s fields) s fields
+    if bytes_eq (field_at fields 0) (codes "I") then unless_at_fault (insert_of s fields) s fields
+    else if bytes_eq (field_at fields 0) (codes "U") then unless_at_fault (update_of s fields) s fields
     else if bytes_eq (field_at fields 0) (codes "D") then delete_of s fields
     else Err fault.Op
 
@@ -165,32 +165,32 @@ pub data FeedEnd : Type 0 where
   TooManyRecords : FeedEnd
 
 -- what comes of a feed: its items, and its end, as one tells ends
-pub record Coming (End : Type 0) : Type 0 where
+pub record RestOfFeed (End : Type 0) : Type 0 where
   pub items : List Item
   pub end : End
 
 -- an item before what comes after it
-abbrev pub coming_after : {End : Type 0} → Item → Coming End → Coming End
-coming_after item rest = record { items = item ∷ rest.items; end = rest.end }
+abbrev pub item_then : {End : Type 0} → Item → RestOfFeed End → RestOfFeed End
+item_then item rest = record { items = item ∷ rest.items; end = rest.end }
 
 -- whether a data record is in the schema's shard: its id decides, whatever its faults, the empty text where it has none
 abbrev pub is_read : Layout → List (List ℕ) → Bool
 is_read s fields = is_in_shard s.shard (field_at fields 1)
 
 -- what data records give after so many of them: an item each that is in the shard, up to the schema's number of records
-abbrev pub items_after : Layout → ℕ → List (List (List ℕ)) → Coming FeedEnd
+abbrev pub items_after : Layout → ℕ → List (List (List ℕ)) → RestOfFeed FeedEnd
 items_after s number [] = record { items = []; end = Good }
 items_after s number (fields ∷ records) =
     if nat_lt number s.max_records then (
     if is_read s fields
-    then coming_after (record { number = number + 1; what = change_of s fields }) (items_after s (number + 1) records)
+    then item_then (record { number = number + 1; what = change_of s fields }) (items_after s (number + 1) records)
     else items_after s (number + 1) records
     )
     else record { items = []; end = TooManyRecords }
 
 -- what the records of a feed give:
 -- nothing where there is none, and only after a right header an item for each data record of the shard
-abbrev pub items_of : Layout → List (List (List ℕ)) → Coming FeedEnd
+abbrev pub items_of : Layout → List (List (List ℕ)) → RestOfFeed FeedEnd
 items_of s [] = record { items = []; end = Good }
 items_of s (header ∷ records) =
     if is_header s header then items_after s 0 records else record { items = []; end = WrongHeader }

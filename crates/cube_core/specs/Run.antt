@@ -12,8 +12,8 @@ use Rattle.cube_core.specs.declared.fact.Fact.{Fact}
 use Rattle.cube_core.specs.declared.change.Item.{Item}
 
 -- the bytes of each source, from the first; of a source whose reader doesn't tell its bytes nothing is said
-abbrev pub Told : Type 0
-Told = List (Option (List ℕ))
+abbrev pub SourceBytes : Type 0
+SourceBytes = List (Option (List ℕ))
 
 -- the feed of a source is good
 abbrev pub IsGood : Layout → Option (List ℕ) → Type 0
@@ -24,11 +24,11 @@ abbrev pub AreItemsOf : Layout → Option (List ℕ) → List Item → Type 0
 AreItemsOf s bytes items = IfSome bytes (λ known. items ≡ (items_of s (records_of known)).items)
 
 -- good: the feed of every source is good
-abbrev pub AreGood : Layout → Told → Type 0
+abbrev pub AreGood : Layout → SourceBytes → Type 0
 AreGood s sources = AllByRecursion (IsGood s) sources
 
 -- taken: what an arrival list has of each source are the items of its feed, each once and in their order
-abbrev pub AreTaken : Layout → Told → Arrivals → Type 0
+abbrev pub AreTaken : Layout → SourceBytes → Arrivals → Type 0
 AreTaken s sources arrivals = AllZip (AreItemsOf s) sources (of_sources (length sources) arrivals)
 
 -- printed: the text is the printed cube of the facts that survive together in so many sources of an arrival list

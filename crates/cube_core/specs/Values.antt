@@ -17,13 +17,13 @@ spans_of (Short block spans) = spans.items
 spans_of (Long block spans) = spans.items
 
 -- the value at a span of a block: null, or the bytes from the span's start to its end
-abbrev pub value_of : List ℕ → Span ℕ → Option (List ℕ)
-value_of block Null = None
-value_of block (Text start end) = Some (slice_range block start end)
+abbrev pub value_at_span : List ℕ → Span ℕ → Option (List ℕ)
+value_at_span block Null = None
+value_at_span block (Text start end) = Some (slice_range block start end)
 
 -- the values at all spans of a block
 abbrev pub values_in : List ℕ → List (Span ℕ) → List (Option (List ℕ))
-values_in block spans = map (value_of block) spans
+values_in block spans = map (value_at_span block) spans
 
 -- a span of a text lies within the block, and what lies there is UTF-8
 abbrev pub LiesIn : List ℕ → Span ℕ → Type 0

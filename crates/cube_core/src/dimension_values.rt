@@ -2,7 +2,7 @@
 ghost use Rattle.std.specs.Prelude.{◌≡◌, ◌≤◌, ◌∷◌, ◌+◌, [], ◌++◌, false, true, None, IfOk, IfSome, OnOk, OnErr, length, map, sum_by, get_or, option_map, slice_range};
 ghost use Rattle.std.specs.Str.{IsAscii};
 ghost use Rattle.cube_core.specs.Items.{dimension_of};
-ghost use Rattle.cube_core.specs.Values.{Adds, AddsAll, Keeps, LiesIn, block_of, spans_of, value_of, parts_of};
+ghost use Rattle.cube_core.specs.Values.{Adds, AddsAll, Keeps, LiesIn, block_of, spans_of, value_at_span, parts_of};
 ghost use Rattle.cube_core.specs.declared.dimension_values.Span.TheVariants.{Text as TheText};
 
 use crate::text::Text;
@@ -237,7 +237,7 @@ fn add_fields_in_place(
 // The span of a field's value from a place of a block to another.
 fn span_of(block: &[u8], start: usize, end: usize) -> Span<u8>
     requires { (start ≤ end) × (end ≤ length block.now) × (length block.now ≤ 40) }
-    ensures value { value_of block.now result ≡ dimension_of (slice_range block.now start end) }
+    ensures value { value_at_span block.now result ≡ dimension_of (slice_range block.now start end) }
     ensures lies { IsAscii (slice_range block.now start end) → LiesIn block.now result }
 {
     if &block[start..end] == b"\\N".as_slice() {

@@ -149,7 +149,8 @@ impl Counted {
         holds_value(&self.values, value)
     }
 
-    /// The least number held. It looks at each of the different numbers.
+    /// The least number held. A table looks at each of the different numbers, a short list at each pair, and the other
+    /// forms answer at once.
     pub fn least(&self) -> Option<i64>
         ensures none { IsNone result ↔ (size_of self.now ≡ 0) }
         ensures least { IfSome result (HasLeast self.now) }
@@ -163,7 +164,8 @@ impl Counted {
         }
     }
 
-    /// The greatest number held. It looks at each of the different numbers.
+    /// The greatest number held. A table looks at each of the different numbers, a short list at each pair, and the
+    /// other forms answer at once.
     pub fn greatest(&self) -> Option<i64>
         ensures none { IsNone result ↔ (size_of self.now ≡ 0) }
         ensures greatest { IfSome result (HasGreatest self.now) }

@@ -8,7 +8,7 @@ use Rattle.std.proofs.lemmas.List.{append-nil}
 use Rattle.cube_core.proofs.ListLaws.{AllZip-length, AllZip-push}
 use Rattle.cube_core.specs.Arrival.{of_sources}
 use Rattle.cube_core.specs.Layout.{Layout}
-use Rattle.cube_core.specs.Run.{Told, IsGood, AreItemsOf, AreGood}
+use Rattle.cube_core.specs.Run.{SourceBytes, IsGood, AreItemsOf, AreGood}
 use Rattle.cube_core.specs.declared.change.Item.{Item}
 use Rattle.cube_feed.specs.Faults.{IsFaultOf}
 use Rattle.cube_engine.specs.Build.{Builds, TakesFeed, StopsFeed, ExplainsBuild}
@@ -20,8 +20,8 @@ use Rattle.cube_feed.proofs.TurnLaws.{from_source, in_turn, in_turn-more, of_sou
 -- ---- how far a build has come
 
 -- the feeds of the first sources were taken, and those of the others are left
-pub record HasBuilt (s : Layout) (sources left : Told) (count : ℕ) (ledger : LedgerView) : Type 0 where
-  pub done : Told
+pub record HasBuilt (s : Layout) (sources left : SourceBytes) (count : ℕ) (ledger : LedgerView) : Type 0 where
+  pub done : SourceBytes
   pub split : sources ≡ done ++ left
   pub counted : length done ≡ count
   pub feeds : List (List Item)
@@ -32,7 +32,7 @@ pub record HasBuilt (s : Layout) (sources left : Told) (count : ℕ) (ledger : L
   pub stands : LedgerStandsAt ledger (in_turn 1 feeds)
 
 -- at the start none was taken
-pub HasBuilt-none : (s : Layout) (sources left : Told) (ledger : LedgerView) → left ≡ sources → ledger.schema ≡ s
+pub HasBuilt-none : (s : Layout) (sources left : SourceBytes) (ledger : LedgerView) → left ≡ sources → ledger.schema ≡ s
     → length ledger.accounts ≡ length sources
     → LedgerStandsAt ledger [] → HasBuilt s sources left 0 ledger
 HasBuilt-none s sources left ledger same schema all stands =
@@ -48,13 +48,13 @@ HasBuilt-none s sources left ledger same schema all stands =
       stands = stands;
     }
 
-AreGood-push : (s : Layout) (done : Told) (bytes : Option (List ℕ)) → AreGood s done → IsGood s bytes
+AreGood-push : (s : Layout) (done : SourceBytes) (bytes : Option (List ℕ)) → AreGood s done → IsGood s bytes
     → AreGood s (done ++ bytes ∷ [])
 AreGood-push s [] bytes good last = (last, tt)
 AreGood-push s (first ∷ done) bytes good last = (good.0, AreGood-push s done bytes good.1 last)
 
 -- one feed more
-pub HasBuilt-more : (s : Layout) (sources left rest : Told) (bytes : Option (List ℕ)) (count : ℕ)
+pub HasBuilt-more : (s : Layout) (sources left rest : SourceBytes) (bytes : Option (List ℕ)) (count : ℕ)
     (ledger new : LedgerView)
     → left ≡ bytes ∷ rest → TakesFeed s bytes (count + 1) ledger new → HasBuilt s sources left count ledger
     → HasBuilt s sources rest (count + 1) new
@@ -79,7 +79,7 @@ HasBuilt-more s sources left rest bytes count ledger new is takes built =
     }
 
 -- at the end all were taken
-pub Builds-all : (s : Layout) (sources left : Told) (count : ℕ) (ledger : LedgerView) → length sources ≡ count
+pub Builds-all : (s : Layout) (sources left : SourceBytes) (count : ℕ) (ledger : LedgerView) → length sources ≡ count
     → HasBuilt s sources left count ledger → Builds s sources ledger
 Builds-all s sources left count ledger ended built =
     let lengths : length sources ≡ length built.done + length left =
@@ -100,16 +100,17 @@ Builds-all s sources left count ledger ended built =
       stands = built.stands;
     }
   where
-    empty : (left : Told) → length left ≡ 0 → left ≡ []
+    empty : (left : SourceBytes) → length left ≡ 0 → left ≡ []
     empty [] is = refl
     empty (x ∷ xs) is = absurd (omega (arith, is))
 
-get_or-seam : (done rest : Told) (bytes : Option (List ℕ)) → get_or (done ++ bytes ∷ rest) (length done) None ≡ bytes
+get_or-seam : (done rest : SourceBytes) (bytes : Option (List ℕ))
+    → get_or (done ++ bytes ∷ rest) (length done) None ≡ bytes
 get_or-seam [] rest bytes = refl
 get_or-seam (x ∷ done) rest bytes = get_or-seam done rest bytes
 
 -- a feed that stopped is the lowest at fault
-pub ExplainsBuild-stops : (s : Layout) (sources left rest : Told) (bytes : Option (List ℕ)) (count : ℕ)
+pub ExplainsBuild-stops : (s : Layout) (sources left rest : SourceBytes) (bytes : Option (List ℕ)) (count : ℕ)
     (ledger : LedgerView) (fault : BuildFault) → left ≡ bytes ∷ rest
     → HasBuilt s sources left count ledger → StopsFeed s bytes (count + 1) fault → ExplainsBuild s sources fault
 ExplainsBuild-stops s sources left rest bytes count ledger Memory is built stops = tt

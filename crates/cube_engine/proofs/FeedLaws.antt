@@ -6,11 +6,11 @@ use Rattle.std.proofs.lemmas.List.{append-nil, map-append}
 use Rattle.cube_core.specs.Arrival.{Arrivals}
 use Rattle.cube_core.specs.Layout.{Layout}
 use Rattle.cube_core.specs.Records.{records_of}
-use Rattle.cube_core.specs.Items.{Coming, FeedEnd, Good, WrongHeader, TooManyRecords, items_of}
+use Rattle.cube_core.specs.Items.{RestOfFeed, FeedEnd, Good, WrongHeader, TooManyRecords, items_of}
 use Rattle.cube_core.specs.Run.{IsGood, AreItemsOf}
 use Rattle.cube_core.specs.declared.change.Item.{Item}
 use Rattle.cube_feed.specs.Faults.{IsEndOf, IsFaultOf}
-use Rattle.cube_feed.specs.Feed.{Ahead, FeedView, Gives, fault_of, nothing_but, to_come}
+use Rattle.cube_feed.specs.Feed.{KnownRest, FeedView, Gives, fault_of, nothing_but, to_come}
 use Rattle.cube_feed.specs.declared.fault.FeedFault.{FeedFault}
 use Rattle.cube_feed.specs.declared.fault.FeedFault.TheVariants.{Memory, Read, Header, TooMany}
 use Rattle.cube_feed.proofs.TurnLaws.{from_source}
@@ -18,17 +18,17 @@ use Rattle.cube_engine.specs.Build.{TakesFeed}
 use Rattle.cube_engine.specs.Ledger.{LedgerView, AtSource, Enters, LedgerStandsAt}
 
 -- what is to come of a feed at its start, where its bytes are told
-abbrev pub start_of : Layout → Option (List ℕ) → Ahead
+abbrev pub start_of : Layout → Option (List ℕ) → KnownRest
 start_of s bytes = option_map (λ (known : List ℕ). to_come (items_of s (records_of known))) bytes
 
 -- what was to come at the start are the items done, and then what is to come now
-abbrev pub LeftOf : Ahead → List Item → Ahead → Type 0
+abbrev pub LeftOf : KnownRest → List Item → KnownRest → Type 0
 LeftOf None done now = ⊤
 LeftOf (Some all) done now =
-    (rest : Coming (Option FeedFault)) × (now ≡ Some rest) × (all.items ≡ done ++ rest.items) × (all.end ≡ rest.end)
+    (rest : RestOfFeed (Option FeedFault)) × (now ≡ Some rest) × (all.items ≡ done ++ rest.items) × (all.end ≡ rest.end)
 
 -- how far a feed was taken: a ledger that stood at an arrival list stands at the items done after it
-pub record HasTaken (start : Ahead) (source : ℕ) (old : LedgerView) (feed : FeedView) (now : LedgerView)
+pub record HasTaken (start : KnownRest) (source : ℕ) (old : LedgerView) (feed : FeedView) (now : LedgerView)
     : Type 0 where
   pub done : List Item
   pub left : LeftOf start done feed.to_come
@@ -39,7 +39,7 @@ pub record HasTaken (start : Ahead) (source : ℕ) (old : LedgerView) (feed : Fe
       → LedgerStandsAt now (arrivals ++ from_source source done)
 
 -- at the start nothing was taken
-left-start : (start : Ahead) → LeftOf start [] start
+left-start : (start : KnownRest) → LeftOf start [] start
 left-start None = tt
 left-start (Some all) = (all, refl, refl, refl)
 
@@ -55,18 +55,18 @@ HasTaken-none source ledger feed schema = record {
 }
 
 -- one item more
-left-more : (start now next : Ahead) (done : List Item) (item : Item) → LeftOf start done now
+left-more : (start now next : KnownRest) (done : List Item) (item : Item) → LeftOf start done now
     → Gives now (Ok (Some item)) next
     → LeftOf start (done ++ item ∷ []) next
 left-more None now next done item left gives = tt
 left-more (Some all) now next done item left gives =
     let given : Gives (Some left.0) (Ok (Some item)) next =
-    subst (λ (n : Ahead). Gives n (Ok (Some item)) next) left.1 gives in (
+    subst (λ (n : KnownRest). Gives n (Ok (Some item)) next) left.1 gives in (
       given.0,
       given.2,
-      left.2 ∙ ap (λ (t : Coming (Option FeedFault)). done ++ t.items) given.1
+      left.2 ∙ ap (λ (t : RestOfFeed (Option FeedFault)). done ++ t.items) given.1
           ∙ sym (append_assoc done (item ∷ []) given.0.items),
-      left.3 ∙ ap (λ (t : Coming (Option FeedFault)). t.end) given.1,
+      left.3 ∙ ap (λ (t : RestOfFeed (Option FeedFault)). t.end) given.1,
     )
 
 -- the arrivals with one item more of a source
@@ -76,7 +76,7 @@ from_source-more arrivals source done item =
     append_assoc arrivals (from_source source done) ((source, item) ∷ [])
     ∙ ap (λ more. arrivals ++ more) (sym (map-append (λ (x : Item). (source, x)) done (item ∷ [])))
 
-pub HasTaken-more : (start : Ahead) (source : ℕ) (old : LedgerView) (feed next : FeedView) (now new : LedgerView)
+pub HasTaken-more : (start : KnownRest) (source : ℕ) (old : LedgerView) (feed next : FeedView) (now new : LedgerView)
     (item : Item)
     → Gives feed.to_come (Ok (Some item)) next.to_come → next.schema ≡ feed.schema
     → AtSource (Enters now.schema item) source now new
@@ -101,22 +101,22 @@ ends-well WrongHeader is = cc
 ends-well TooManyRecords is = cc
 
 -- where nothing is to come but a good end, the items done are all, and the feed is good
-all-done : (s : Layout) (bytes : Option (List ℕ)) (done : List Item) (now next : Ahead)
+all-done : (s : Layout) (bytes : Option (List ℕ)) (done : List Item) (now next : KnownRest)
     → LeftOf (start_of s bytes) done now → Gives now (Ok None) next → AreItemsOf s bytes done × IsGood s bytes
 all-done s None done now next left gives = (tt, tt)
 all-done s (Some known) done now next left gives =
-    let given : left.0 ≡ nothing_but None = subst (λ (n : Ahead). Gives n (Ok None) next) left.1 gives in (
-      sym (left.2 ∙ ap (λ (t : Coming (Option FeedFault)). done ++ t.items) given ∙ append-nil done),
+    let given : left.0 ≡ nothing_but None = subst (λ (n : KnownRest). Gives n (Ok None) next) left.1 gives in (
+      sym (left.2 ∙ ap (λ (t : RestOfFeed (Option FeedFault)). done ++ t.items) given ∙ append-nil done),
       ends-well (items_of s (records_of known)).end
-          (left.3 ∙ ap (λ (t : Coming (Option FeedFault)). t.end) given),
+          (left.3 ∙ ap (λ (t : RestOfFeed (Option FeedFault)). t.end) given),
     )
 
-pub TakesFeed-all : (s : Layout) (bytes : Option (List ℕ)) (start : Ahead) (source : ℕ) (old now : LedgerView)
+pub TakesFeed-all : (s : Layout) (bytes : Option (List ℕ)) (start : KnownRest) (source : ℕ) (old now : LedgerView)
     (feed next : FeedView) → start ≡ start_of s bytes → HasTaken start source old feed now
     → Gives feed.to_come (Ok None) next.to_come → TakesFeed s bytes source old now
 TakesFeed-all s bytes start source old now feed next is taken gives =
     let left : LeftOf (start_of s bytes) taken.done feed.to_come =
-    subst (λ (a : Ahead). LeftOf a taken.done feed.to_come) is taken.left in
+    subst (λ (a : KnownRest). LeftOf a taken.done feed.to_come) is taken.left in
     let done = all-done s bytes taken.done feed.to_come next.to_come left gives in
     record {
       items = taken.done;
@@ -138,26 +138,26 @@ ends-so WrongHeader TooMany is = cc
 ends-so TooManyRecords TooMany is = refl
 
 -- where nothing is to come but a fault, it is the feed's
-fault-given : (s : Layout) (known : List ℕ) (done : List Item) (now next : Ahead) (fault : FeedFault)
+fault-given : (s : Layout) (known : List ℕ) (done : List Item) (now next : KnownRest) (fault : FeedFault)
     → LeftOf (start_of s (Some known)) done now → Gives now (Err fault) next
     → IsEndOf (items_of s (records_of known)).end fault
 fault-given s known done now next Memory left gives = tt
 fault-given s known done now next Read left gives = tt
 fault-given s known done now next Header left gives =
     let given : left.0 ≡ nothing_but (Some Header) =
-    subst (λ (n : Ahead). Gives n (Err Header) next) left.1 gives in
+    subst (λ (n : KnownRest). Gives n (Err Header) next) left.1 gives in
     ends-so (items_of s (records_of known)).end Header
-    (left.3 ∙ ap (λ (t : Coming (Option FeedFault)). t.end) given)
+    (left.3 ∙ ap (λ (t : RestOfFeed (Option FeedFault)). t.end) given)
 fault-given s known done now next TooMany left gives =
     let given : left.0 ≡ nothing_but (Some TooMany) =
-    subst (λ (n : Ahead). Gives n (Err TooMany) next) left.1 gives in
+    subst (λ (n : KnownRest). Gives n (Err TooMany) next) left.1 gives in
     ends-so (items_of s (records_of known)).end TooMany
-    (left.3 ∙ ap (λ (t : Coming (Option FeedFault)). t.end) given)
+    (left.3 ∙ ap (λ (t : RestOfFeed (Option FeedFault)). t.end) given)
 
-pub fault-told : (s : Layout) (bytes : Option (List ℕ)) (start : Ahead) (source : ℕ) (old now : LedgerView)
+pub fault-told : (s : Layout) (bytes : Option (List ℕ)) (start : KnownRest) (source : ℕ) (old now : LedgerView)
     (feed next : FeedView) (fault : FeedFault) → start ≡ start_of s bytes → HasTaken start source old feed now
     → Gives feed.to_come (Err fault) next.to_come → IsFaultOf s bytes fault
 fault-told s None start source old now feed next fault is taken gives = tt
 fault-told s (Some known) start source old now feed next fault is taken gives =
     fault-given s known taken.done feed.to_come next.to_come fault
-    (subst (λ (a : Ahead). LeftOf a taken.done feed.to_come) is taken.left) gives
+    (subst (λ (a : KnownRest). LeftOf a taken.done feed.to_come) is taken.left) gives

@@ -17,7 +17,7 @@ use Rattle.cube_core.specs.declared.partial.Field.{Field}
 use Rattle.cube_core.specs.declared.partial.Field.TheVariants.{Keep, Put}
 use Rattle.cube_core.specs.declared.partial.Partial.{Partial}
 use Rattle.cube_engine.specs.Book.{Entries, AmendsAlike, fact_at, fact_put, facts_of}
-use Rattle.cube_engine.specs.Ledger.{AllFit, RulingFits, Settles}
+use Rattle.cube_engine.specs.Ledger.{AllFit, RulingFits, ComesTo}
 use Rattle.cube_engine.specs.declared.ruling.Ruling.{Ruling}
 use Rattle.cube_engine.specs.declared.ruling.Ruling.TheVariants.{Refuse, Take}
 use Rattle.cube_engine.specs.declared.ruling.Ruling.TheVariants as ruling
@@ -135,10 +135,10 @@ fact_put-fits s book (Amend id part) fact taken all put =
     amended-fits s part (fact_at book id) fact (amend-fits s id part taken) (fact_at-fits s book id all) put
 
 -- so does what comes of settling a change
-pub RulingFits-Settles : (s : Layout) (book : Entries) (change : Change) → takes s change ≡ true
+pub RulingFits-ComesTo : (s : Layout) (book : Entries) (change : Change) → takes s change ≡ true
     → AllFit s (facts_of book)
-    → (ruling : Ruling) → Settles book change ruling → RulingFits s ruling
-RulingFits-Settles s book change taken all (Refuse code) settles = absurd settles
-RulingFits-Settles s book change taken all (ruling.Put id fact) settles =
+    → (ruling : Ruling) → ComesTo book change ruling → RulingFits s ruling
+RulingFits-ComesTo s book change taken all (Refuse code) settles = absurd settles
+RulingFits-ComesTo s book change taken all (ruling.Put id fact) settles =
     fact_put-fits s book change fact taken all (ap (λ i. fact_put change (fact_at book i)) settles.0 ∙ settles.1)
-RulingFits-Settles s book change taken all (Take id) settles = tt
+RulingFits-ComesTo s book change taken all (Take id) settles = tt

@@ -1,13 +1,11 @@
 -- What taking the feeds of several sources promises, and why it may fail (this project's choice).
-use Rattle.std.specs.Prelude.{◌≡◌, ◌++◌, ⊤, ℕ, List, length, map, Option, option_map}
+use Rattle.std.specs.Prelude.{◌≡◌, ◌++◌, ⊤, ℕ, List, length, map, Option}
 use Rattle.cube_core.specs.Arrival.{Arrivals}
-use Rattle.cube_core.specs.Items.{items_of}
 use Rattle.cube_core.specs.Layout.{Layout}
-use Rattle.cube_core.specs.Records.{records_of}
-use Rattle.cube_core.specs.Run.{Told, IsGood, AreItemsOf, AreGood, AreTaken}
+use Rattle.cube_core.specs.Run.{SourceBytes, IsGood, AreItemsOf, AreGood, AreTaken}
 use Rattle.cube_core.specs.declared.change.Item.{Item}
 use Rattle.cube_feed.specs.Faults.{IsFaultOf, IsLowestFault}
-use Rattle.cube_feed.specs.Feed.{FeedView, to_come}
+use Rattle.cube_feed.specs.Feed.{FeedView, rest_of_feed}
 use Rattle.cube_engine.specs.Builder.{BuilderView, HasFacts}
 use Rattle.cube_engine.specs.Ledger.{LedgerView, LedgerStandsAt, all_facts}
 use Rattle.cube_engine.specs.declared.fault.BuildFault.{BuildFault}
@@ -15,7 +13,7 @@ use Rattle.cube_engine.specs.declared.fault.BuildFault.TheVariants as build_faul
 
 -- a ledger has taken the feeds of these sources:
 -- every feed is good, and the ledger stands at an arrival list of their items
-pub record Builds (s : Layout) (sources : Told) (ledger : LedgerView) : Type 0 where
+pub record Builds (s : Layout) (sources : SourceBytes) (ledger : LedgerView) : Type 0 where
   pub good : AreGood s sources
   pub arrivals : Arrivals
   pub taken : AreTaken s sources arrivals
@@ -25,13 +23,13 @@ pub record Builds (s : Layout) (sources : Told) (ledger : LedgerView) : Type 0 w
 
 -- a builder has taken the feeds of these sources: its ledger has, and its cube has the facts of the books,
 -- over the schema's grouping sets
-pub record BuildsWhole (s : Layout) (sources : Told) (builder : BuilderView) : Type 0 where
+pub record BuildsWhole (s : Layout) (sources : SourceBytes) (builder : BuilderView) : Type 0 where
   pub ledger : Builds s sources builder.ledger
   pub sets : builder.cube.sets ≡ s.grouping_sets
   pub cube : HasFacts (all_facts builder.ledger.accounts) builder.cube
 
 -- why nothing was built of the feeds of these sources: memory, or the lowest source's own fault
-abbrev pub ExplainsBuild : Layout → Told → BuildFault → Type 0
+abbrev pub ExplainsBuild : Layout → SourceBytes → BuildFault → Type 0
 ExplainsBuild s sources build_fault.Memory = ⊤
 ExplainsBuild s sources (build_fault.Feed source fault) = IsLowestFault s sources source fault
 ExplainsBuild s sources build_fault.Full = ⊤
@@ -48,8 +46,7 @@ pub record TakesFeed (s : Layout) (bytes : Option (List ℕ)) (source : ℕ) (ol
 
 -- what is to come of a feed is what these bytes say, where they are told
 abbrev pub IsToCome : Option (List ℕ) → FeedView → Type 0
-IsToCome bytes feed =
-    feed.to_come ≡ option_map (λ (known : List ℕ). to_come (items_of feed.schema (records_of known))) bytes
+IsToCome bytes feed = feed.to_come ≡ rest_of_feed feed.schema bytes
 
 -- why not all items of the feed of a source were taken: memory, or the feed's own fault
 abbrev pub StopsFeed : Layout → Option (List ℕ) → ℕ → BuildFault → Type 0

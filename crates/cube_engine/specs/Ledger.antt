@@ -74,10 +74,10 @@ pub record IsRemoval (s : Layout) (book : Entries) (what : Result Change LineFau
   pub lawful : code_in s book what ≡ None
 
 -- what a change comes to that isn't refused: this fact or none comes under this id
-abbrev pub Settles : Entries → Change → Ruling → Type 0
-Settles book change (Refuse code) = ⊥
-Settles book change (Put id fact) = (id_of change ≡ id) × (fact_put change (fact_at book id) ≡ Some fact)
-Settles book change (Take id) = (id_of change ≡ id) × (fact_put change (fact_at book id) ≡ None)
+abbrev pub ComesTo : Entries → Change → Ruling → Type 0
+ComesTo book change (Refuse code) = ⊥
+ComesTo book change (Put id fact) = (id_of change ≡ id) × (fact_put change (fact_at book id) ≡ Some fact)
+ComesTo book change (Take id) = (id_of change ≡ id) × (fact_put change (fact_at book id) ≡ None)
 
 -- whether the schema takes the change that an item says; a line fault says none
 abbrev pub says_taken : Layout → Result Change LineFault → Bool

@@ -5,7 +5,7 @@ ghost use Rattle.cube_core.specs.Life.{id_of};
 ghost use Rattle.cube_core.specs.Refusals.{code_by_presence};
 ghost use Rattle.cube_core.specs.Takes.{takes};
 ghost use Rattle.cube_engine.specs.Book.{AmendsAlike, fact_at, facts_of, refused_by};
-ghost use Rattle.cube_engine.specs.Ledger.{AllFit, Enters, Exchanges, IsRuling, RulingFits, Settles, is_amendment, says_amendment, says_taken, new_account, with_refusal};
+ghost use Rattle.cube_engine.specs.Ledger.{AllFit, Enters, Exchanges, IsRuling, RulingFits, ComesTo, is_amendment, says_amendment, says_taken, new_account, with_refusal};
 
 use crate::book::{Book, BookFault};
 use crate::code::{absent_code, code_by_presence, code_of_fault, id_of, present_code};
@@ -94,7 +94,7 @@ impl Account {
     fn settle(&self, alloc: Global, change: Change) -> Result<Ruling, AllocError>
         requires alike { AmendsAlike self.now.book change }
         requires lawful { refused_by self.now.book change ≡ None }
-        ensures settles { IfOk result (Settles self.now.book change) }
+        ensures settles { IfOk result (ComesTo self.now.book change) }
         ensures amends { OnErr result (is_amendment change ≡ true) }
     {
         match change {
@@ -109,7 +109,7 @@ impl Account {
     fn amended(&self, alloc: Global, id: Text, part: Partial) -> Result<Ruling, AllocError>
         requires alike { AmendsAlike self.now.book (Change.Amend id part) }
         requires lawful { refused_by self.now.book (Change.Amend id part) ≡ None }
-        ensures { IfOk result (Settles self.now.book (Change.Amend id part)) }
+        ensures { IfOk result (ComesTo self.now.book (Change.Amend id part)) }
     {
         let old = self.book.get(&id).unwrap();
         let fact = part.over(alloc, old)?;

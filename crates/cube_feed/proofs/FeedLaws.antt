@@ -3,29 +3,30 @@ use Rattle.std.proofs.Common.{◌≡◌, ◌<◌, ◌+◌, ℕ, List, true, fals
 use Rattle.std.specs.Prelude.{⊤, Result, Ok, Err, Option, nat_lt}
 use Rattle.std.proofs.lemmas.Bool.{lt-ltb}
 use Rattle.cube_core.specs.Layout.{Layout}
-use Rattle.cube_core.specs.Items.{Coming, coming_after, change_of, is_read, items_after}
+use Rattle.cube_core.specs.Items.{RestOfFeed, item_then, change_of, is_read, items_after}
 use Rattle.cube_core.specs.declared.change.Item.{Item}
 use Rattle.cube_feed.specs.Reading.{RecordsView, Advances, IsReadingFault}
-use Rattle.cube_feed.specs.Feed.{Ahead, Left, Gives, to_come, after_header}
+use Rattle.cube_feed.specs.Feed.{KnownRest, Left, Gives, to_come, after_header}
 use Rattle.cube_feed.specs.declared.fault.FeedFault.{FeedFault}
 use Rattle.cube_feed.specs.declared.fault.FeedFault.TheVariants.{Memory, Read, Header, TooMany}
 
 -- where the reader tells its bytes, the same is to come now as then
-abbrev pub StillComes : Ahead → Ahead → Type 0
+abbrev pub StillComes : KnownRest → KnownRest → Type 0
 StillComes None now = ⊤
 StillComes (Some then) now = now ≡ Some then
 
-pub StillComes-refl : (now : Ahead) → StillComes now now
+pub StillComes-refl : (now : KnownRest) → StillComes now now
 StillComes-refl None = tt
 StillComes-refl (Some coming) = refl
 
-pub StillComes-Gives : (then now new : Ahead) (answer : Result (Option Item) FeedFault) → StillComes then now
+pub StillComes-Gives : (then now new : KnownRest) (answer : Result (Option Item) FeedFault) → StillComes then now
     → Gives now answer new → Gives then answer new
 StillComes-Gives None now new answer same gives = tt
-StillComes-Gives (Some coming) now new answer same gives = subst (λ (ahead : Ahead). Gives ahead answer new) same gives
+StillComes-Gives (Some coming) now new answer same gives = subst
+    (λ (ahead : KnownRest). Gives ahead answer new) same gives
 
 -- a record of another shard is passed over
-skip-Some : (s : Layout) (number : ℕ) (coming : Coming (Option FeedFault)) (old : Left) (new : RecordsView)
+skip-Some : (s : Layout) (number : ℕ) (coming : RestOfFeed (Option FeedFault)) (old : Left) (new : RecordsView)
     → number < s.max_records
     → Advances old true new → is_read s new.fields ≡ false → after_header s number old ≡ Some coming
     → after_header s (number + 1) new.left ≡ Some coming
@@ -35,7 +36,8 @@ skip-Some s number coming (Some (fields ∷ rest)) new below advances other is =
     let unread : is_read s fields ≡ false = subst (λ (fs : List (List ℕ)). is_read s fs ≡ false) advances.1 other in
     rw advances.2 (rw (lt-ltb number s.max_records below, unread) at is)
 
-pub StillComes-skip : (s : Layout) (number : ℕ) (then : Ahead) (old : Left) (new : RecordsView) → number < s.max_records
+pub StillComes-skip : (s : Layout) (number : ℕ) (then : KnownRest) (old : Left) (new : RecordsView)
+    → number < s.max_records
     → Advances old true new → is_read s new.fields ≡ false → StillComes then (after_header s number old)
     → StillComes then (after_header s (number + 1) new.left)
 StillComes-skip s number None old new below advances other same = tt
@@ -54,18 +56,18 @@ item-Gives s number (Some (fields ∷ rest)) new item below advances read is say
     (to_come (items_after s (number + 1) rest), first_of known, rw (advances.2, is) refl)
   where
     first_of : is_read s fields ≡ true
-        → to_come (items_after s number (fields ∷ rest)) ≡ coming_after item (to_come (items_after s (number + 1) rest))
+        → to_come (items_after s number (fields ∷ rest)) ≡ item_then item (to_come (items_after s (number + 1) rest))
     first_of known = rw (lt-ltb number s.max_records below, known, is, says, advances.1) refl
 
 -- no record is left
-pub none-Gives : (s : Layout) (number : ℕ) (old : Left) (new : RecordsView) (ahead : Ahead) → Advances old false new
+pub none-Gives : (s : Layout) (number : ℕ) (old : Left) (new : RecordsView) (ahead : KnownRest) → Advances old false new
     → Gives (after_header s number old) (Ok None) ahead
 none-Gives s number None new ahead advances = tt
 none-Gives s number (Some []) new ahead advances = refl
 none-Gives s number (Some (fields ∷ rest)) new ahead advances = cc advances.0
 
 -- a record too many
-pub too_many-Gives : (s : Layout) (number : ℕ) (old : Left) (new : RecordsView) (ahead : Ahead)
+pub too_many-Gives : (s : Layout) (number : ℕ) (old : Left) (new : RecordsView) (ahead : KnownRest)
     → nat_lt number s.max_records ≡ false → Advances old true new
     → Gives (after_header s number old) (Err TooMany) ahead
 too_many-Gives s number None new ahead full advances = tt
@@ -73,7 +75,7 @@ too_many-Gives s number (Some []) new ahead full advances = cc advances
 too_many-Gives s number (Some (fields ∷ rest)) new ahead full advances = rw full refl
 
 -- a fault of the reader or of memory may come at any time
-pub reading-Gives : (ahead now : Ahead) (fault : FeedFault) → IsReadingFault fault → Gives ahead (Err fault) now
+pub reading-Gives : (ahead now : KnownRest) (fault : FeedFault) → IsReadingFault fault → Gives ahead (Err fault) now
 reading-Gives None now fault is = tt
 reading-Gives (Some coming) now Memory is = tt
 reading-Gives (Some coming) now Read is = tt

@@ -11,7 +11,7 @@ use Rattle.cube_core.specs.Layout.{Layout}
 use Rattle.cube_core.specs.Takes.{may_amend}
 use Rattle.cube_core.specs.Items.{width_of, field_at, keep_text, is_keep, keeps_any, is_measure, dimension_of}
 use Rattle.cube_core.specs.Items.{dimension_field_of, measure_of, measure_field_of, dimension_fields, measure_fields}
-use Rattle.cube_core.specs.Items.{fact_of, part_of, put_of, insert_of, update_of}
+use Rattle.cube_core.specs.Items.{fact_of, amendment_of, unless_at_fault, insert_of, update_of}
 use Rattle.cube_core.proofs.ItemLaws.{is_measure-value, keeps_any-measures, may_amend-keeps}
 use Rattle.cube_core.specs.declared.fact.Fact.{Fact}
 use Rattle.cube_core.specs.declared.partial.Field.{Field}
@@ -98,19 +98,19 @@ then_say-fault true true true false false parts answer = refl
 
 -- what is read of a record says what the record spells,
 -- where each text is a dimension and the measures are those of the schema
-read_of-put_of : {D M : Type 0} (dimension : List ℕ → Option D) (measure : List ℕ → Option M) (s : Layout)
+read_of-unless_at_fault : {D M : Type 0} (dimension : List ℕ → Option D) (measure : List ℕ → Option M) (s : Layout)
     (fields : List (List ℕ))
     → (answer : List ℕ × List D × List M → Result Change LineFault)
     → ((field : List ℕ) → is_some (dimension field) ≡ true)
     → list_all (is_measure s) (measure_fields s fields)
     ≡ list_all (λ field. is_some (measure field)) (measure_fields s fields)
     → then_say (read_of dimension measure s fields) answer
-    ≡ put_of (answer (
+    ≡ unless_at_fault (answer (
       field_at fields 1,
       filter_map dimension (dimension_fields s fields),
       filter_map measure (measure_fields s fields),
     )) s fields
-read_of-put_of dimension measure s fields answer always alike =
+read_of-unless_at_fault dimension measure s fields answer always alike =
     let id : List ℕ = field_at fields 1 in
     let dims : List (List ℕ) = dimension_fields s fields in
     let measures : List (List ℕ) = measure_fields s fields in
@@ -182,17 +182,17 @@ then_say-fact_of : (s : Layout) (fields : List (List ℕ)) → keeps_any s field
     → read ≡ read_of (λ text. Some (dimension_of text)) measure_of s fields
     → (change : List ℕ → Fact → Change)
     → then_say read (λ parts. Ok (change parts.0 (record { dims = parts.1; measures = parts.2 })))
-    ≡ put_of (Ok (change (field_at fields 1) (fact_of s fields))) s fields
+    ≡ unless_at_fault (Ok (change (field_at fields 1) (fact_of s fields))) s fields
 then_say-fact_of s fields none read is change =
     let dims =
     filter_map-some (λ text. Some (dimension_of text)) dimension_of (λ text. refl) (dimension_fields s fields) in
     let said : List ℕ × List (Option (List ℕ)) × List (Option ℤ) → Result Change LineFault =
     λ parts. Ok (change parts.0 (record { dims = parts.1; measures = parts.2 })) in
     ap (λ r. then_say r said) is
-    ∙ read_of-put_of (λ text. Some (dimension_of text)) measure_of s fields said (λ text. refl)
+    ∙ read_of-unless_at_fault (λ text. Some (dimension_of text)) measure_of s fields said (λ text. refl)
     (is_measure-value s (measure_fields s fields) (keeps_any-measures s fields none))
     ∙ ap (λ (values : List (Option (List ℕ))).
-    put_of (said (field_at fields 1, values, filter_map measure_of (measure_fields s fields))) s fields) dims
+    unless_at_fault (said (field_at fields 1, values, filter_map measure_of (measure_fields s fields))) s fields) dims
 
 -- a record with a kept field spells an amendment, or nothing where there is nothing to amend
 then_say-part_of : (s : Layout) (fields : List (List ℕ)) → keeps_any s fields ≡ true
@@ -200,7 +200,7 @@ then_say-part_of : (s : Layout) (fields : List (List ℕ)) → keeps_any s field
     → read ≡ read_of dimension_put measure_put s fields
     → (said : List ℕ → Partial → Result Change LineFault)
     → then_say read (λ parts. said parts.0 (record { dims = parts.1; measures = parts.2 }))
-    ≡ put_of (said (field_at fields 1) (part_of s fields)) s fields
+    ≡ unless_at_fault (said (field_at fields 1) (amendment_of s fields)) s fields
 then_say-part_of s fields keeps read is said =
     let amends : may_amend s ≡ true = may_amend-keeps s (drop 2 fields) keeps in
     let dims : filter_map dimension_put (dimension_fields s fields)
@@ -210,10 +210,10 @@ then_say-part_of s fields keeps read is said =
     let answer : List ℕ × List (Field (Option (List ℕ))) × List (Field (Option ℤ)) → Result Change LineFault =
     λ parts. said parts.0 (record { dims = parts.1; measures = parts.2 }) in
     ap (λ r. then_say r answer) is
-    ∙ read_of-put_of dimension_put measure_put s fields answer always
+    ∙ read_of-unless_at_fault dimension_put measure_put s fields answer always
     (ap (λ (spells : List ℕ → Option (Field (Option ℤ))).
     list_all (λ field. is_some (spells field)) (measure_fields s fields)) measures)
-    ∙ (λ i. put_of (said (field_at fields 1)
+    ∙ (λ i. unless_at_fault (said (field_at fields 1)
     (record { dims = dims i; measures = filter_map (sym measures i) (measure_fields s fields) })) s fields)
   where
     puts : may_amend s ≡ true → (text : List ℕ) → dimension_put text ≡ Some (dimension_field_of s text)
@@ -236,50 +236,52 @@ pub insert_of-fact : (s : Layout) (fields : List (List ℕ)) → false ≡ keeps
     → (read : Result (List ℕ × List (Option (List ℕ)) × List (Option ℤ)) LineFault)
     → read ≡ read_of (λ text. Some (dimension_of text)) measure_of s fields
     → then_say read (λ parts. Ok (Insert parts.0 (record { dims = parts.1; measures = parts.2 })))
-    ≡ put_of (insert_of s fields) s fields
+    ≡ unless_at_fault (insert_of s fields) s fields
 insert_of-fact s fields none read is =
     then_say-fact_of s fields (sym none) read is Insert
-    ∙ ap (λ b. put_of (if b then Err fault.Keep else Ok (Insert (field_at fields 1) (fact_of s fields))) s fields) none
+    ∙ ap (λ b. unless_at_fault
+    (if b then Err fault.Keep else Ok (Insert (field_at fields 1) (fact_of s fields))) s fields) none
 
 pub update_of-fact : (s : Layout) (fields : List (List ℕ)) → false ≡ keeps_any s fields
     → (read : Result (List ℕ × List (Option (List ℕ)) × List (Option ℤ)) LineFault)
     → read ≡ read_of (λ text. Some (dimension_of text)) measure_of s fields
     → then_say read (λ parts. Ok (Update parts.0 (record { dims = parts.1; measures = parts.2 })))
-    ≡ put_of (update_of s fields) s fields
+    ≡ unless_at_fault (update_of s fields) s fields
 update_of-fact s fields none read is =
     then_say-fact_of s fields (sym none) read is Update
-    ∙ ap (λ b. put_of (if b then Ok (Amend (field_at fields 1) (part_of s fields))
+    ∙ ap (λ b. unless_at_fault (if b then Ok (Amend (field_at fields 1) (amendment_of s fields))
     else Ok (Update (field_at fields 1) (fact_of s fields))) s fields) none
 
 -- and both, where they keep a field
 pub insert_of-keep : (s : Layout) (fields : List (List ℕ)) → true ≡ keeps_any s fields
     → (read : Result (List ℕ × List (Field (Option (List ℕ))) × List (Field (Option ℤ))) LineFault)
     → read ≡ read_of dimension_put measure_put s fields
-    → then_say read (λ parts. Err fault.Keep) ≡ put_of (insert_of s fields) s fields
+    → then_say read (λ parts. Err fault.Keep) ≡ unless_at_fault (insert_of s fields) s fields
 insert_of-keep s fields keeps read is =
     then_say-part_of s fields (sym keeps) read is (λ id part. Err fault.Keep)
-    ∙ ap (λ b. put_of (if b then Err fault.Keep else Ok (Insert (field_at fields 1) (fact_of s fields))) s fields) keeps
+    ∙ ap (λ b. unless_at_fault
+    (if b then Err fault.Keep else Ok (Insert (field_at fields 1) (fact_of s fields))) s fields) keeps
 
 pub update_of-keep : (s : Layout) (fields : List (List ℕ)) → true ≡ keeps_any s fields
     → (read : Result (List ℕ × List (Field (Option (List ℕ))) × List (Field (Option ℤ))) LineFault)
     → read ≡ read_of dimension_put measure_put s fields
     → then_say read (λ parts. Ok (Amend parts.0 (record { dims = parts.1; measures = parts.2 })))
-    ≡ put_of (update_of s fields) s fields
+    ≡ unless_at_fault (update_of s fields) s fields
 update_of-keep s fields keeps read is =
     then_say-part_of s fields (sym keeps) read is (λ id part. Ok (Amend id part))
-    ∙ ap (λ b. put_of (if b then Ok (Amend (field_at fields 1) (part_of s fields))
+    ∙ ap (λ b. unless_at_fault (if b then Ok (Amend (field_at fields 1) (amendment_of s fields))
     else Ok (Update (field_at fields 1) (fact_of s fields))) s fields) keeps
 
 -- the fault of either, where a field is kept and where none is
 pub change_by-keep_fault : (s : Layout) (fields : List (List ℕ)) (operation : Operation) → keeps_any s fields ≡ true
     → (why : LineFault) → Err why ≡ read_of dimension_put measure_put s fields
-    → Err why ≡ put_of (change_by operation s fields) s fields
+    → Err why ≡ unless_at_fault (change_by operation s fields) s fields
 change_by-keep_fault s fields operation.Insert keeps why read = insert_of-keep s fields (sym keeps) (Err why) read
 change_by-keep_fault s fields operation.Update keeps why read = update_of-keep s fields (sym keeps) (Err why) read
 
 pub change_by-fact_fault : (s : Layout) (fields : List (List ℕ)) (operation : Operation) → false ≡ keeps_any s fields
     → (why : LineFault) → Err why ≡ read_of (λ text. Some (dimension_of text)) measure_of s fields
-    → Err why ≡ put_of (change_by operation s fields) s fields
+    → Err why ≡ unless_at_fault (change_by operation s fields) s fields
 change_by-fact_fault s fields operation.Insert none why read = insert_of-fact s fields none (Err why) read
 change_by-fact_fault s fields operation.Update none why read = update_of-fact s fields none (Err why) read
 

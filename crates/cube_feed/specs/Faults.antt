@@ -4,7 +4,7 @@ use Rattle.std.specs.Prelude.{◌≡◌, ◌≤◌, ◌-◌, ⊤, ℕ, List, len
 use Rattle.cube_core.specs.Items.{FeedEnd, WrongHeader, TooManyRecords, items_of}
 use Rattle.cube_core.specs.Layout.{Layout}
 use Rattle.cube_core.specs.Records.{records_of}
-use Rattle.cube_core.specs.Run.{Told, AreGood}
+use Rattle.cube_core.specs.Run.{SourceBytes, AreGood}
 use Rattle.cube_feed.specs.declared.fault.FeedFault.{FeedFault}
 use Rattle.cube_feed.specs.declared.fault.FeedFault.TheVariants.{Memory, Read, Header, TooMany}
 
@@ -20,7 +20,7 @@ abbrev pub IsFaultOf : Layout → Option (List ℕ) → FeedFault → Type 0
 IsFaultOf s bytes fault = IfSome bytes (λ known. IsEndOf (items_of s (records_of known)).end fault)
 
 -- the feed of this source is at fault, and those of all lower sources are good
-pub record IsLowestFault (s : Layout) (sources : Told) (source : ℕ) (fault : FeedFault) : Type 0 where
+pub record IsLowestFault (s : Layout) (sources : SourceBytes) (source : ℕ) (fault : FeedFault) : Type 0 where
   pub first : 1 ≤ source
   pub last : source ≤ length sources
   pub lower : AreGood s (take (source - 1) sources)

@@ -2,9 +2,10 @@
 use Rattle.std.specs.Prelude.{◌≡◌, ⊤, ◌+◌, ◌<◌, ◌≤◌, ℕ, Bool, true, false, List, [], Option, Some, None, option_map}
 use Rattle.std.specs.Prelude.{Result, Ok, Err, IfOk, IfSome}
 use Rattle.cube_core.specs.Layout.{Layout}
+use Rattle.cube_core.specs.Records.{records_of}
 use Rattle.cube_core.specs.Shard.{whole_feed}
 use Rattle.cube_core.specs.Takes.{takes}
-use Rattle.cube_core.specs.Items.{Coming, FeedEnd, Good, WrongHeader, TooManyRecords, coming_after, items_of}
+use Rattle.cube_core.specs.Items.{RestOfFeed, FeedEnd, Good, WrongHeader, TooManyRecords, item_then, items_of}
 use Rattle.cube_core.specs.Items.{items_after}
 use Rattle.cube_core.specs.declared.change.Item.{Item}
 use Rattle.cube_feed.specs.declared.fault.FeedFault.{FeedFault}
@@ -18,8 +19,8 @@ Left = Option (List (List (List ℕ)))
 
 -- what lies ahead in a feed, where its reader tells its bytes:
 -- the items to come, and the fault that follows them, if one does
-abbrev pub Ahead : Type 0
-Ahead = Option (Coming (Option FeedFault))
+abbrev pub KnownRest : Type 0
+KnownRest = Option (RestOfFeed (Option FeedFault))
 
 -- the fault of a feed's end
 abbrev pub fault_of : FeedEnd → Option FeedFault
@@ -28,18 +29,22 @@ fault_of WrongHeader = Some Header
 fault_of TooManyRecords = Some TooMany
 
 -- what records give is what is to come of them
-abbrev pub to_come : Coming FeedEnd → Coming (Option FeedFault)
+abbrev pub to_come : RestOfFeed FeedEnd → RestOfFeed (Option FeedFault)
 to_come coming = record { items = coming.items; end = fault_of coming.end }
 
 -- nothing is to come but this end
-abbrev pub nothing_but : Option FeedFault → Coming (Option FeedFault)
+abbrev pub nothing_but : Option FeedFault → RestOfFeed (Option FeedFault)
 nothing_but end = record { items = []; end = end }
 
+-- what is to come of a feed of these bytes, where its reader tells them
+abbrev pub rest_of_feed : Layout → Option (List ℕ) → KnownRest
+rest_of_feed schema bytes = option_map (λ (known : List ℕ). to_come (items_of schema (records_of known))) bytes
+
 -- what is to come before the header was read, and after it
-abbrev pub before_header : Layout → Left → Ahead
+abbrev pub before_header : Layout → Left → KnownRest
 before_header schema left = option_map (λ (records : List (List (List ℕ))). to_come (items_of schema records)) left
 
-abbrev pub after_header : Layout → ℕ → Left → Ahead
+abbrev pub after_header : Layout → ℕ → Left → KnownRest
 after_header schema number left =
     option_map (λ (records : List (List (List ℕ))). to_come (items_after schema number records)) left
 
@@ -50,7 +55,7 @@ pub record FeedView : Type 0 where
   pub schema : Layout
   pub number : ℕ
   pub ended : Option (Option FeedFault)
-  pub to_come : Ahead
+  pub to_come : KnownRest
 
 -- the end that a feed has come to
 abbrev pub ended_of : Stage → Option (Option FeedFault)
@@ -59,7 +64,7 @@ ended_of stage.Records = None
 ended_of (stage.Ended end) = Some end
 
 -- what is to come at a stage
-abbrev pub to_come_of : Layout → ℕ → Stage → Left → Ahead
+abbrev pub to_come_of : Layout → ℕ → Stage → Left → KnownRest
 to_come_of schema number stage.Start left = before_header schema left
 to_come_of schema number stage.Records left = after_header schema number left
 to_come_of schema number (stage.Ended end) left = Some (nothing_but end)
@@ -75,10 +80,10 @@ end_answer (Some fault) = Err fault
 
 -- the answer is the first item to come, and the others are left; an end only where nothing but that is to come.
 -- Memory and the reader may fail at any time
-abbrev pub Gives : Ahead → Result (Option Item) FeedFault → Ahead → Type 0
+abbrev pub Gives : KnownRest → Result (Option Item) FeedFault → KnownRest → Type 0
 Gives None answer new = ⊤
 Gives (Some old) (Ok (Some item)) new =
-    (rest : Coming (Option FeedFault)) × (old ≡ coming_after item rest) × (new ≡ Some rest)
+    (rest : RestOfFeed (Option FeedFault)) × (old ≡ item_then item rest) × (new ≡ Some rest)
 Gives (Some old) (Ok None) new = old ≡ nothing_but None
 Gives (Some old) (Err Memory) new = ⊤
 Gives (Some old) (Err Read) new = ⊤

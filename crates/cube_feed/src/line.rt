@@ -2,7 +2,7 @@
 ghost use Rattle.std.specs.Prelude.{◌≡◌, ◌≤◌, ◌∷◌, [], true, false, length, drop, slice_range, IfOk, IfErr, OnOk};
 ghost use Rattle.std.specs.Str.{bytes_eq, is_utf8};
 ghost use Rattle.std.specs.List.{list_all, list_any, filter_map};
-ghost use Rattle.cube_core.specs.Items.{width_of, field_at, keep_text, keeps_any, dimension_fields, measure_fields, put_of, delete_of, change_of};
+ghost use Rattle.cube_core.specs.Items.{width_of, field_at, keep_text, keeps_any, dimension_fields, measure_fields, unless_at_fault, delete_of, change_of};
 ghost use Rattle.cube_feed.specs.SoundFields.{is_sound_id, is_sound, are_sound, put_fault, listed, part_listed, dimension_put, measure_put, read_of, change_by};
 ghost use Rattle.cube_feed.specs.declared.field.Stop.TheVariants as stop;
 
@@ -199,7 +199,7 @@ fn keep(
 ) -> Result<Result<Change, LineFault>, AllocError>
     requires { keeps_any schema.now fields.now ≡ true }
     ensures { IfOk result (λ what.
-        what ≡ put_of (change_by operation schema.now fields.now) schema.now fields.now) }
+        what ≡ unless_at_fault (change_by operation schema.now fields.now) schema.now fields.now) }
 {
     match amendment(alloc, schema, fields)? {
         Ok((id, part)) => match operation {
@@ -219,7 +219,7 @@ fn insert_or_update(
 ) -> Result<Result<Change, LineFault>, AllocError>
     requires { keeps_any schema.now fields.now ≡ false }
     ensures { IfOk result (λ what.
-        what ≡ put_of (change_by operation schema.now fields.now) schema.now fields.now) }
+        what ≡ unless_at_fault (change_by operation schema.now fields.now) schema.now fields.now) }
 {
     let mut fact = Fact {
         dims: DimensionValues::new(alloc),

@@ -1,23 +1,23 @@
 -- What is known of a run before its threads start, and after they were joined.
 use Rattle.std.proofs.Common.{◌≡◌, ◌<◌, ◌≤◌, ◌+◌, ℕ, false, List, [], ◌∷◌, ◌++◌, length, get_or, map, refl, ap, sym}
 use Rattle.std.proofs.Common.{◌∙◌, arith, Option, Some, None, IfSome}
-use Rattle.std.specs.Prelude.{Result, Ok, Err, IfOk, IfErr, OnOk, is_err}
+use Rattle.std.specs.Prelude.{Result, Ok, Err, IfOk, OnOk, is_err}
 use Rattle.std.specs.List.{All, AllZip}
 use Rattle.std.proofs.lemmas.List.{get_or-map, length-map}
 use Rattle.cube_core.proofs.ListLaws.{AllZip-length}
 use Rattle.std.proofs.lemmas.List.FromFn.{length-map-range_with_len}
 use Rattle.cube_core.specs.Arrival.{Arrivals, of_source, of_sources}
 use Rattle.cube_core.specs.Layout.{Layout}
-use Rattle.cube_core.specs.Run.{Told}
+use Rattle.cube_core.specs.Run.{SourceBytes}
 use Rattle.cube_core.specs.declared.change.Item.{Item}
-use Rattle.cube_feed.specs.Feed.{Ahead}
+use Rattle.cube_feed.specs.Feed.{KnownRest, rest_of_feed}
 use Rattle.cube_link.specs.Link.{Sending, Receiving, Link}
 use Rattle.cube_feeders.specs.FeedingAll.{IsNew, TakesFeeds, TakeAll}
 use Rattle.cube_feeders.specs.Feeding.{Feeds, IsReceiptOf}
 use Rattle.cube_feeders.specs.Parcels.{parcels_of, sends}
 use Rattle.cube_feeders.specs.Settling.{received_on, received_by, kept_of, receipt_of, SettlesBuilders}
 use Rattle.cube_feeders.specs.Starting.{IsReady, HasGathered}
-use Rattle.cube_feeders.specs.Wiring.{coming_of, AreLinked}
+use Rattle.cube_feeders.specs.Wiring.{AreLinked}
 use Rattle.cube_feeders.specs.declared.parcel.Parcel.{Parcel}
 use Rattle.cube_feeders.specs.declared.parcel.FeederEnd.{FeederEnd}
 use Rattle.cube_feeders.specs.declared.roster.Gatherer.{Gatherer}
@@ -49,13 +49,14 @@ ready-linked {B} all stands sources builders outs gatherers linked count most sa
     }
 
 -- the end of each feeder, by what was to come of its feed and by its outlets
-pub record EndsOf (comings : List Ahead) (outs : List (List (Sending Parcel))) (ends : List FeederEnd) : Type 0 where
+pub record EndsOf (comings : List KnownRest) (outs : List (List (Sending Parcel)))
+    (ends : List FeederEnd) : Type 0 where
   pub same_outs : length outs ≡ length ends
   pub same_comings : length comings ≡ length ends
   pub each : (k : ℕ) (e : FeederEnd) → k < length ends
       → Feeds (get_or comings k None) (get_or outs k []) (get_or ends k e)
 
-pub ends-joined : {P : Type 0} (feed : P → Ahead) (outs : P → List (Sending Parcel)) (feeders : List P)
+pub ends-joined : {P : Type 0} (feed : P → KnownRest) (outs : P → List (Sending Parcel)) (feeders : List P)
     (ends : List FeederEnd) →
     AllZip (λ feeder end. Feeds (feed feeder) (outs feeder) end) feeders ends
     → EndsOf (map feed feeders) (map outs feeders) ends
@@ -101,9 +102,10 @@ length-gathered old new same = sym (length-map new (λ (inlet : Receiving Parcel
     ∙ length-map old (λ (inlet : Receiving Parcel). inlet.link)
 
 -- what ends tell after the joins
-pub tell-joined : {B : Type 0} (stands : B → B → Arrivals → Type 0) (s : Layout) (sources : Told) (comings : List Ahead)
+pub tell-joined : {B : Type 0} (stands : B → B → Arrivals → Type 0) (s : Layout) (sources : SourceBytes)
+    (comings : List KnownRest)
     (outs : List (List (Sending Parcel))) (ends : List FeederEnd) (old mid : List (Gatherer B)) →
-    AreLinked outs old → comings ≡ map (coming_of s) sources → EndsOf comings outs ends
+    AreLinked outs old → comings ≡ map (rest_of_feed s) sources → EndsOf comings outs ends
     → AllZip (HasGathered stands) old mid → AllTell s sources (map received_by mid) ends
 tell-joined stands s sources comings outs ends old mid linked come joined gathered =
     let count = AllZip-length (HasGathered stands) old mid gathered in
@@ -111,7 +113,7 @@ tell-joined stands s sources comings outs ends old mid linked come joined gather
     let comings_too = joined.same_comings in
     let rows = map received_by mid in
     let number : length rows ≡ length mid = length-map mid received_by in
-    let told : length comings ≡ length sources = ap length come ∙ length-map sources (coming_of s) in
+    let told : length comings ≡ length sources = ap length come ∙ length-map sources (rest_of_feed s) in
     record {
       all = omega arith;
       links = λ j inside.
@@ -131,7 +133,7 @@ tell-joined stands s sources comings outs ends old mid linked come joined gather
           let b = some_of sources k known in
           record {
             items = f.items;
-            stops = rw (← get_or-map (coming_of s) sources k None None known, ← come) f.stops;
+            stops = rw (← get_or-map (rest_of_feed s) sources k None None known, ← come) f.stops;
             names = λ j d inside.
                 let low : j < length mid = omega arith in
                 let at : j < length old = omega arith in
@@ -157,12 +159,12 @@ tell-joined stands s sources comings outs ends old mid linked come joined gather
     }
 
 -- what ends tell of the feeds alone
-pub tell-ends : (s : Layout) (sources : Told) (comings : List Ahead) (outs : List (List (Sending Parcel)))
-    (ends : List FeederEnd) → comings ≡ map (coming_of s) sources → EndsOf comings outs ends
+pub tell-ends : (s : Layout) (sources : SourceBytes) (comings : List KnownRest) (outs : List (List (Sending Parcel)))
+    (ends : List FeederEnd) → comings ≡ map (rest_of_feed s) sources → EndsOf comings outs ends
     → AllTell s sources [] ends
 tell-ends s sources comings outs ends come joined =
     let too = joined.same_comings in
-    let told : length comings ≡ length sources = ap length come ∙ length-map sources (coming_of s) in
+    let told : length comings ≡ length sources = ap length come ∙ length-map sources (rest_of_feed s) in
     record {
       all = omega arith;
       links = λ j inside. absurd (omega arith);
@@ -170,13 +172,13 @@ tell-ends s sources comings outs ends come joined =
           let f = joined.each k e below in
           record {
             items = f.items;
-            stops = rw (← get_or-map (coming_of s) sources k None None (omega arith), ← come) f.stops;
+            stops = rw (← get_or-map (rest_of_feed s) sources k None None (omega arith), ← come) f.stops;
             names = λ j d inside. absurd (omega arith);
           };
     }
 
 -- settled builders have all taken the same feeds
-pub takes-settled : {B : Type 0} (stands : B → B → Arrivals → Type 0) (s : Layout) (sources : Told)
+pub takes-settled : {B : Type 0} (stands : B → B → Arrivals → Type 0) (s : Layout) (sources : SourceBytes)
     (outs : List (List (Sending Parcel))) (ends : List FeederEnd) (builders : List B)
     (old mid new : List (Gatherer B)) →
     AreLinked outs old → length outs ≡ length sources → map (λ gatherer. gatherer.builder) old ≡ builders
@@ -230,26 +232,19 @@ map-told f g (x ∷ xs) = ap (λ rest. g (f x) ∷ rest) (map-told f g xs)
 
 -- what ends tell after the joins of a run whose threads were started
 pub tell-run : {B P R E : Type 0} (stands : B → B → Arrivals → Type 0) (s : Layout) (remaining : R → Option (List ℕ))
-    (readers : List R) (feed : P → Ahead) (outs : P → List (Sending Parcel)) (feeders : List P) (ends : List FeederEnd)
+    (readers : List R) (feed : P → KnownRest) (outs : P → List (Sending Parcel)) (feeders : List P)
+    (ends : List FeederEnd)
     (old mid : List (Gatherer B)) (answer : Result Unit E) → is_err answer ≡ false → AreLinked (map outs feeders) old
-    → map feed feeders ≡ map (λ reader. coming_of s (remaining reader)) readers →
+    → map feed feeders ≡ map (λ reader. rest_of_feed s (remaining reader)) readers →
     OnOk answer (AllZip (λ feeder end. Feeds (feed feeder) (outs feeder) end) feeders ends)
     → OnOk answer (AllZip (HasGathered stands) old mid) → AllTell s (map remaining readers) (map received_by mid) ends
 tell-run stands s remaining readers feed outs feeders ends old mid answer fine linked feeds joined gathered =
     tell-joined stands s (map remaining readers) (map feed feeders) (map outs feeders) ends old mid linked
-    (feeds ∙ map-told remaining (coming_of s) readers)
+    (feeds ∙ map-told remaining (rest_of_feed s) readers)
     (ends-joined feed outs feeders ends (OnOk-holds answer _ fine joined)) (OnOk-holds answer _ fine gathered)
 
--- what holds of an answer, or of its error, where another does
-pub if_ok-then : {A E : Type 0} (r : Result A E) (P Q : A → Type 0) → ((x : A) → P x → Q x) → IfOk r P → IfOk r Q
-if_ok-then (Ok x) P Q then holds = then x holds
-if_ok-then (Err e) P Q then holds = tt
-
+-- what holds where something holds of an answer
 pub on_ok-then : {A E : Type 0} (r : Result A E) (P : A → Type 0) (Q : Type 0) → ((x : A) → P x → Q) → IfOk r P
     → OnOk r Q
 on_ok-then (Ok x) P Q then holds = then x holds
 on_ok-then (Err e) P Q then holds = tt
-
-pub if_err-then : {A E : Type 0} (r : Result A E) (P Q : E → Type 0) → ((e : E) → P e → Q e) → IfErr r P → IfErr r Q
-if_err-then (Ok x) P Q then holds = tt
-if_err-then (Err e) P Q then holds = then e holds

@@ -6,15 +6,15 @@ use Rattle.std.specs.List.{All, AllZip, AllByRecursion}
 use Rattle.std.proofs.lemmas.List.{ext_get_or, get_or-map, get_or-take, get_or_default, length-map, length-take}
 use Rattle.std.proofs.lemmas.List.FromFn.{get_or-map-range_with_len, length-map-range_with_len}
 use Rattle.cube_core.specs.Arrival.{Arrivals, of_source, of_sources}
-use Rattle.cube_core.specs.Items.{Coming, items_of}
+use Rattle.cube_core.specs.Items.{RestOfFeed, items_of}
 use Rattle.cube_core.specs.Layout.{Layout}
 use Rattle.cube_core.specs.Records.{records_of}
-use Rattle.cube_core.specs.Run.{Told, IsGood, AreItemsOf, AreGood}
+use Rattle.cube_core.specs.Run.{SourceBytes, IsGood, AreItemsOf, AreGood}
 use Rattle.cube_core.specs.declared.change.Item.{Item}
 use Rattle.cube_feed.specs.Faults.{IsFaultOf, IsLowestFault}
 use Rattle.cube_feeders.specs.declared.fault.FeedingFault.{FeedingFault}
 use Rattle.cube_feeders.specs.declared.fault.FeedingFault.TheVariants as feeding_fault
-use Rattle.cube_feed.specs.Feed.{Ahead}
+use Rattle.cube_feed.specs.Feed.{KnownRest, rest_of_feed}
 use Rattle.cube_feed.specs.declared.fault.FeedFault.{FeedFault}
 use Rattle.cube_feed.specs.declared.fault.FeedFault.TheVariants.{Memory, Read, Header, TooMany}
 use Rattle.cube_link.specs.Link.{Sending, Receiving}
@@ -26,7 +26,6 @@ use Rattle.cube_feeders.specs.Parcels.{parcels_of}
 use Rattle.cube_feeders.specs.Settling.{received_on, received_by, Kept, kept_of, receipt_of, Begins, AllFitLinks}
 use Rattle.cube_feeders.specs.Settling.{AllBegin}
 use Rattle.cube_feeders.specs.Settling.{StopsFeeding}
-use Rattle.cube_feeders.specs.Wiring.{coming_of}
 use Rattle.cube_feeders.specs.declared.parcel.Parcel.{Parcel}
 use Rattle.cube_feeders.specs.declared.parcel.FeederEnd.{FeederEnd}
 use Rattle.cube_feeders.specs.declared.roster.Gatherer.{Gatherer}
@@ -60,24 +59,24 @@ all-each P (x ∷ xs) d each = (each 0 (omega arith), all-each P xs d (λ i belo
 -- ---- what a stop says of a feed
 
 -- without a stop the feed is good, and its items were sent
-stops-none : (s : Layout) (bytes : Option (List ℕ)) (items : List Item) → Stops (coming_of s bytes) items None
+stops-none : (s : Layout) (bytes : Option (List ℕ)) (items : List Item) → Stops (rest_of_feed s bytes) items None
     → AreItemsOf s bytes items × IsGood s bytes
 stops-none s None items stops = (tt, tt)
 stops-none s (Some bytes) items stops = (
-  sym (ap (λ (c : Coming (Option FeedFault)). c.items) stops),
-  fault_of-None (items_of s (records_of bytes)).end (ap (λ (c : Coming (Option FeedFault)). c.end) stops),
+  sym (ap (λ (c : RestOfFeed (Option FeedFault)). c.items) stops),
+  fault_of-None (items_of s (records_of bytes)).end (ap (λ (c : RestOfFeed (Option FeedFault)). c.end) stops),
 )
 
 -- a stop is the feed's own fault
 stops-fault : (s : Layout) (bytes : Option (List ℕ)) (items : List Item) (fault : FeedFault)
-    → Stops (coming_of s bytes) items (Some fault) → IsFaultOf s bytes fault
+    → Stops (rest_of_feed s bytes) items (Some fault) → IsFaultOf s bytes fault
 stops-fault s None items fault stops = tt
 stops-fault s (Some bytes) items Memory stops = tt
 stops-fault s (Some bytes) items Read stops = tt
 stops-fault s (Some bytes) items Header stops =
-    fault_of-Header (items_of s (records_of bytes)).end (ap (λ (c : Coming (Option FeedFault)). c.end) stops)
+    fault_of-Header (items_of s (records_of bytes)).end (ap (λ (c : RestOfFeed (Option FeedFault)). c.end) stops)
 stops-fault s (Some bytes) items TooMany stops =
-    fault_of-TooMany (items_of s (records_of bytes)).end (ap (λ (c : Coming (Option FeedFault)). c.end) stops)
+    fault_of-TooMany (items_of s (records_of bytes)).end (ap (λ (c : RestOfFeed (Option FeedFault)). c.end) stops)
 
 -- ---- what an end says of the links of its source
 
@@ -97,19 +96,20 @@ abbrev pub Names : List Item → Sending Parcel → Sending Parcel → Type 0
 Names items received receipt = (receipt.link ≡ received.link) × (receipt.sent ≡ parcels_of items)
 
 -- an end has items, of which its stop tells, and whose parcels each of its receipts names
-pub record Tells (coming : Ahead) (received : List (List (Sending Parcel))) (k : ℕ) (end : FeederEnd) : Type 0 where
+pub record Tells (coming : KnownRest) (received : List (List (Sending Parcel))) (k : ℕ) (end : FeederEnd) : Type 0 where
   pub items : List Item
   pub stops : Stops coming items end.stop
   pub names : (j : ℕ) (d : Sending Parcel) → j < length received
       → IfSome (receipt_of end j) (Names items (get_or (get_or received j []) k d))
 
 -- so does each end, one for each source; and each builder has a link from each source
-pub record AllTell (s : Layout) (sources : Told) (received : List (List (Sending Parcel))) (ends : List FeederEnd)
+pub record AllTell (s : Layout) (sources : SourceBytes) (received : List (List (Sending Parcel)))
+    (ends : List FeederEnd)
     : Type 0 where
   pub all : length ends ≡ length sources
   pub links : (j : ℕ) → j < length received → length (get_or received j []) ≡ length ends
   pub each : (k : ℕ) (e : FeederEnd) → k < length ends
-      → Tells (coming_of s (get_or sources k None)) received k (get_or ends k e)
+      → Tells (rest_of_feed s (get_or sources k None)) received k (get_or ends k e)
 
 fits-names : (items : List Item) (received : Sending Parcel) (receipt : Option (Sending Parcel))
     → IfSome receipt (Names items received) → IfSome receipt (λ r. r.link ≡ received.link)
@@ -117,7 +117,7 @@ fits-names items received None names = tt
 fits-names items received (Some receipt) names = names.0
 
 -- each receipt is that of its link
-pub fit-tell : (s : Layout) (sources : Told) (received : List (List (Sending Parcel))) (ends : List FeederEnd)
+pub fit-tell : (s : Layout) (sources : SourceBytes) (received : List (List (Sending Parcel))) (ends : List FeederEnd)
     → AllTell s sources received ends → AllFitLinks ends received
 fit-tell s sources received ends tell j below = record {
   all = tell.links j below;
@@ -128,14 +128,14 @@ fit-tell s sources received ends tell j below = record {
 
 -- ---- the fault that stops a run
 
-good-at : (s : Layout) (sources : Told) (received : List (List (Sending Parcel))) (ends : List FeederEnd) (k : ℕ)
+good-at : (s : Layout) (sources : SourceBytes) (received : List (List (Sending Parcel))) (ends : List FeederEnd) (k : ℕ)
     (e : FeederEnd) → AllTell s sources received ends → k < length ends →
     HasNoStop (get_or ends k e) → IsGood s (get_or sources k None)
 good-at s sources received ends k e tell below none =
     let t = tell.each k e below in
     (stops-none s (get_or sources k None) t.items (rw none at t.stops)).1
 
-pub good-all : (s : Layout) (sources : Told) (received : List (List (Sending Parcel))) (ends : List FeederEnd)
+pub good-all : (s : Layout) (sources : SourceBytes) (received : List (List (Sending Parcel))) (ends : List FeederEnd)
     → AllTell s sources received ends → All HasNoStop ends → AreGood s sources
 good-all s sources received ends tell good =
     let count = tell.all in
@@ -144,7 +144,7 @@ good-all s sources received ends tell good =
     let e = some_of ends k low in
     good-at s sources received ends k e tell low (good k e low))
 
-lowest-stop : (s : Layout) (sources : Told) (received : List (List (Sending Parcel))) (ends : List FeederEnd)
+lowest-stop : (s : Layout) (sources : SourceBytes) (received : List (List (Sending Parcel))) (ends : List FeederEnd)
     (source : ℕ) (fault : FeedFault) → AllTell s sources received ends →
     IsFirstStop ends source fault → IsLowestFault s sources source fault
 lowest-stop s sources received ends source fault tell first =
@@ -169,7 +169,8 @@ lowest-stop s sources received ends source fault tell first =
           (stops-fault s (get_or sources place None) t.items fault (rw (first.is e) at t.stops));
     }
 
-pub explains-stops : (s : Layout) (sources : Told) (received : List (List (Sending Parcel))) (ends : List FeederEnd)
+pub explains-stops : (s : Layout) (sources : SourceBytes) (received : List (List (Sending Parcel)))
+    (ends : List FeederEnd)
     (builders : ℕ) (fault : FeedingFault) → AllTell s sources received ends →
     StopsFeeding builders ends fault → ExplainsFeeding s sources fault
 explains-stops s sources received ends builders feeding_fault.Memory tell stops = tt
@@ -222,7 +223,7 @@ received-at inlets arrivals sources k d received below =
 
 -- what arrived from a source at a builder that gathered, and is settled with its receipts,
 -- are the items of the source's end
-pub came-from : {B : Type 0} (stands : B → B → Arrivals → Type 0) (s : Layout) (sources : Told)
+pub came-from : {B : Type 0} (stands : B → B → Arrivals → Type 0) (s : Layout) (sources : SourceBytes)
     (received : List (List (Sending Parcel))) (ends : List FeederEnd) (old mid : Gatherer B) (j : ℕ) →
     (tell : AllTell s sources received ends) → length old.inlets.items ≡ length sources
     → (gathers : HasGathered stands old mid) → j < length received → get_or received j [] ≡ received_by mid →
@@ -243,7 +244,8 @@ came-from stands s sources received ends old mid j tell count gathers inside row
     (receipt_of (get_or ends k e) j) (sealed k e low j inside) came (t.names j d inside) (begin j inside k e d low)
 
 -- arrivals that have of each source the items of its end have those of its feed
-pub items-settled : (s : Layout) (sources : Told) (received : List (List (Sending Parcel))) (ends : List FeederEnd)
+pub items-settled : (s : Layout) (sources : SourceBytes) (received : List (List (Sending Parcel)))
+    (ends : List FeederEnd)
     (arrivals : Arrivals) → (tell : AllTell s sources received ends) → All HasNoStop ends →
     ((k : ℕ) (e : FeederEnd) (low : k < length ends) → of_source arrivals (k + 1) ≡ (tell.each k e low).items)
     → AllZip (AreItemsOf s) sources (of_sources (length sources) arrivals)
@@ -261,7 +263,8 @@ items-settled s sources received ends arrivals tell good came =
     rw (get_or_default sources k b None below, get_or_default items k is [] (omega arith), place) sent)
 
 -- two lists of arrivals that have of each source the items of its end have the same of each
-pub same-settled : (s : Layout) (sources : Told) (received : List (List (Sending Parcel))) (ends : List FeederEnd)
+pub same-settled : (s : Layout) (sources : SourceBytes) (received : List (List (Sending Parcel)))
+    (ends : List FeederEnd)
     (a b : Arrivals) → (tell : AllTell s sources received ends) →
     ((k : ℕ) (e : FeederEnd) (low : k < length ends) → of_source a (k + 1) ≡ (tell.each k e low).items)
     → ((k : ℕ) (e : FeederEnd) (low : k < length ends) → of_source b (k + 1) ≡ (tell.each k e low).items) →

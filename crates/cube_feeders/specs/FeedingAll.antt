@@ -3,7 +3,7 @@ use Rattle.std.specs.Prelude.{◌≡◌, ◌≤◌, ⊤, ℕ, List, [], length, 
 use Rattle.std.specs.List.{AllZip}
 use Rattle.cube_core.specs.Arrival.{Arrivals, of_sources}
 use Rattle.cube_core.specs.Layout.{Layout}
-use Rattle.cube_core.specs.Run.{Told, AreItemsOf, AreGood}
+use Rattle.cube_core.specs.Run.{SourceBytes, AreItemsOf, AreGood}
 use Rattle.cube_core.specs.declared.change.Item.{Item}
 use Rattle.cube_feed.specs.Faults.{IsLowestFault}
 use Rattle.cube_feeders.specs.declared.fault.FeedingFault.{FeedingFault}
@@ -35,7 +35,8 @@ pub record TakesFeeds {B : Type 0} (stands : B → Arrivals → Type 0) (feeds :
   pub received : HasReceived (length feeds) arrivals gatherer.inlets.items
 
 -- builders have all taken the same feeds, those of all sources
-pub record TakeAll {B : Type 0} (stands : B → B → Arrivals → Type 0) (s : Layout) (sources : Told) (builders : List B)
+pub record TakeAll {B : Type 0} (stands : B → B → Arrivals → Type 0) (s : Layout) (sources : SourceBytes)
+    (builders : List B)
     (gatherers : List (Gatherer B)) : Type 0 where
   pub feeds : List (List Item)
   pub items : AllZip (AreItemsOf s) sources feeds
@@ -44,7 +45,7 @@ pub record TakeAll {B : Type 0} (stands : B → B → Arrivals → Type 0) (s : 
 -- why the feeds weren't taken:
 -- memory or no thread before a record was read, or the lowest source's own fault; want of memory or of a
 -- receipt only where all feeds are good
-abbrev pub ExplainsFeeding : Layout → Told → FeedingFault → Type 0
+abbrev pub ExplainsFeeding : Layout → SourceBytes → FeedingFault → Type 0
 ExplainsFeeding s sources feeding_fault.Memory = ⊤
 ExplainsFeeding s sources feeding_fault.NoThread = ⊤
 ExplainsFeeding s sources (feeding_fault.Feed source fault) = IsLowestFault s sources source fault

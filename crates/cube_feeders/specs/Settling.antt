@@ -55,6 +55,7 @@ BeginReceipts builder ends received =
 abbrev pub AllFitLinks : List FeederEnd → List (List (Sending Parcel)) → Type 0
 AllFitLinks ends received = (j : ℕ) → j < length received → FitLinks j ends (slice_index_or received j [])
 
+-- and what was received from each link of every builder is how what its receipt names begins
 abbrev pub AllBegin : List FeederEnd → List (List (Sending Parcel)) → Type 0
 AllBegin ends received = (j : ℕ) → j < length received → BeginReceipts j ends (slice_index_or received j [])
 

@@ -1,16 +1,8 @@
 -- How feeders and builders are linked.
-use Rattle.std.specs.Prelude.{◌≡◌, ◌<◌, ◌≤◌, ℕ, List, [], ◌∷◌, ◌++◌, length, slice_index_or, Option, option_map}
-use Rattle.cube_core.specs.Layout.{Layout}
-use Rattle.cube_core.specs.Records.{records_of}
-use Rattle.cube_core.specs.Items.{items_of}
-use Rattle.cube_feed.specs.Feed.{Ahead, to_come}
+use Rattle.std.specs.Prelude.{◌≡◌, ◌<◌, ◌≤◌, ℕ, List, [], ◌∷◌, ◌++◌, length, slice_index_or}
 use Rattle.cube_link.specs.Link.{Sending, Receiving}
 use Rattle.cube_feeders.specs.declared.parcel.Parcel.{Parcel}
 use Rattle.cube_feeders.specs.declared.roster.Gatherer.{Gatherer}
-
--- what is to come of a feed of these bytes, where its reader tells them
-abbrev pub coming_of : Layout → Option (List ℕ) → Ahead
-coming_of schema bytes = option_map (λ (known : List ℕ). to_come (items_of schema (records_of known))) bytes
 
 -- the builder got one link more, on which nothing was sent or received; its outlet is this
 pub record Grows {B : Type 0} (old new : Gatherer B) (outlet : Sending Parcel) : Type 0 where

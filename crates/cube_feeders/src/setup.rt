@@ -3,7 +3,8 @@ ghost use Rattle.std.specs.Prelude.{◌≡◌, ◌≤◌, [], map, sum_by, vec_l
 ghost use Rattle.std.specs.List.{All};
 ghost use Rattle.cube_feeders.specs.Starting.{IsReady, MayStart};
 ghost use Rattle.cube_feeders.specs.Shares.{AreLinkedInShares};
-ghost use Rattle.cube_feeders.specs.Wiring.{coming_of, AreLinked};
+ghost use Rattle.cube_feed.specs.Feed.{rest_of_feed};
+ghost use Rattle.cube_feeders.specs.Wiring.{AreLinked};
 
 use crate::roster::{Feeder, Gatherer, Roster};
 use crate::shares::{cut_up, only};
@@ -54,7 +55,7 @@ fn link_up<'e, R: Read + Drop, B: Drop>(
     ensures linked { IfOk result (λ ends.
         AreLinked (map (λ feeder. feeder.outlets.items) ends.1.items) ends.0.items) }
     ensures feeds { IfOk result (λ ends. map (λ feeder. feeder.feed.to_come) ends.1.items
-        ≡ map (λ reader. coming_of schema.now (R.Read.remaining reader)) readers.items) }
+        ≡ map (λ reader. rest_of_feed schema.now (R.Read.remaining reader)) readers.items) }
     ensures builders { IfOk result (λ ends.
         map (λ gatherer. gatherer.builder) ends.0.items ≡ builders.items) }
 {
@@ -77,7 +78,7 @@ pub fn set_up<'e, R: Read + Drop, B: TakesItems>(
     ensures linked { IfOk result (λ setup. AreLinked
         (map (λ feeder. feeder.outlets.items) setup.feeders.items) setup.gatherers.items) }
     ensures feeds { IfOk result (λ setup. map (λ feeder. feeder.feed.to_come) setup.feeders.items
-        ≡ map (λ reader. coming_of schema.now (R.Read.remaining reader)) readers.items) }
+        ≡ map (λ reader. rest_of_feed schema.now (R.Read.remaining reader)) readers.items) }
     ensures builders { IfOk result (λ setup.
         map (λ gatherer. gatherer.builder) setup.gatherers.items ≡ builders.items) }
     ensures count { IfOk result (λ setup. vec_len setup.gatherers ≡ vec_len builders) }
@@ -113,7 +114,7 @@ pub fn set_up_shares<'e, R: Read + Drop, B: TakesItems>(
         (map (λ feeder. feeder.outlets.items) setup.feeders.items) builders
         setup.gatherers.items) }
     ensures feeds { IfOk result (λ setup. map (λ feeder. feeder.feed.to_come) setup.feeders.items
-        ≡ map (λ reader. coming_of schema.now (R.Read.remaining reader)) readers.items) }
+        ≡ map (λ reader. rest_of_feed schema.now (R.Read.remaining reader)) readers.items) }
     ensures sources { IfOk result (λ setup.
         All (λ share. vec_len share.inlets ≡ B.sources share.builder) setup.gatherers.items) }
     ensures ready { IfOk result (λ setup.

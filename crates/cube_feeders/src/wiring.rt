@@ -1,7 +1,8 @@
 //! The links from the feeders to the builders, made before any thread starts.
 ghost use Rattle.std.specs.Prelude.{◌≡◌, ◌≤◌, [], length, map, vec_len, IfOk, OnOk};
 ghost use Rattle.std.specs.List.{All};
-ghost use Rattle.cube_feeders.specs.Wiring.{coming_of, Connects, AreLinked};
+ghost use Rattle.cube_feed.specs.Feed.{rest_of_feed};
+ghost use Rattle.cube_feeders.specs.Wiring.{Connects, AreLinked};
 
 use crate::parcel::Parcel;
 use crate::roster::{Feeder, Gatherer, Place};
@@ -43,7 +44,7 @@ pub(crate) fn feeders_of<'e, R: Read + Drop, B: Drop>(
     ensures linked { IfOk result (λ feeders.
         AreLinked (map (λ feeder. feeder.outlets.items) feeders.items) gatherers.new) }
     ensures feeds { IfOk result (λ feeders. map (λ feeder. feeder.feed.to_come) feeders.items
-        ≡ map (λ reader. coming_of schema.now (R.Read.remaining reader)) readers.items) }
+        ≡ map (λ reader. rest_of_feed schema.now (R.Read.remaining reader)) readers.items) }
     ensures builders { OnOk result (map (λ gatherer. gatherer.builder) gatherers.new
         ≡ map (λ gatherer. gatherer.builder) gatherers.old) }
 {

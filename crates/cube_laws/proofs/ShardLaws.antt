@@ -14,9 +14,10 @@ use Rattle.std.proofs.lemmas.List.Elements.{filter-append}
 use Rattle.std.proofs.lemmas.Nat.{mod_below}
 use Rattle.std.proofs.lemmas.Map.Keys.{IsDistinct-head, IsDistinct-tail, IsDistinct-cons, IsDistinct-from_apart}
 use Rattle.std.proofs.lemmas.Slice.Eq.{bytes_eq-Decides}
-use Rattle.cube_core.specs.Items.{Coming, FeedEnd, Good, TooManyRecords, WrongHeader, change_of, coming_after, field_at}
+use Rattle.cube_core.specs.Items.{RestOfFeed, FeedEnd, Good, TooManyRecords, WrongHeader, change_of, item_then}
+use Rattle.cube_core.specs.Items.{field_at}
 use Rattle.cube_core.specs.Items.{insert_of, is_header, is_measure, is_read, items_after, items_of, keeps_any}
-use Rattle.cube_core.specs.Items.{measure_fields, put_of, update_of, width_of}
+use Rattle.cube_core.specs.Items.{measure_fields, unless_at_fault, update_of, width_of}
 use Rattle.cube_core.specs.Layout.{Layout}
 use Rattle.cube_core.specs.Life.{changes_of, from_insert, id_of, life_of, since_delete, taken_change}
 use Rattle.cube_core.specs.Refusals.{code_by_presence, code_of, refusal_of, refusals_of, shape_code}
@@ -119,9 +120,10 @@ IsDistinct-append (id ∷ ids) others left right apart =
 abbrev Names : List (List ℕ) → Change → Type 0
 Names fields change = id_of change ≡ field_at fields 1
 
-put_of-Names : (s : Layout) (fields : List (List ℕ)) (change : Result Change LineFault) → IfOk change (Names fields)
-    → IfOk (put_of change s fields) (Names fields)
-put_of-Names s fields change names =
+unless_at_fault-Names : (s : Layout) (fields : List (List ℕ)) (change : Result Change LineFault)
+    → IfOk change (Names fields)
+    → IfOk (unless_at_fault change s fields) (Names fields)
+unless_at_fault-Names s fields change names =
     IfOk-if (Names fields) (not (length fields == width_of s)) _ _ (λ wrong. tt) (λ right.
     IfOk-if (Names fields) (not (list_all is_utf8 (drop 1 fields))) _ _ (λ bad. tt) (λ texts.
     IfOk-if (Names fields) (length (field_at fields 1) == 0) _ _ (λ empty. tt) (λ named.
@@ -131,10 +133,10 @@ put_of-Names s fields change names =
 change_of-Names : (s : Layout) (fields : List (List ℕ)) → IfOk (change_of s fields) (Names fields)
 change_of-Names s fields =
     IfOk-if (Names fields) (bytes_eq (field_at fields 0) (codes "I")) _ _
-    (λ letter. put_of-Names s fields (insert_of s fields)
+    (λ letter. unless_at_fault-Names s fields (insert_of s fields)
     (IfOk-if (Names fields) (keeps_any s fields) _ _ (λ keeps. tt) (λ none. refl)))
     (λ other. IfOk-if (Names fields) (bytes_eq (field_at fields 0) (codes "U")) _ _
-    (λ letter. put_of-Names s fields (update_of s fields)
+    (λ letter. unless_at_fault-Names s fields (update_of s fields)
     (IfOk-if (Names fields) (keeps_any s fields) _ _ (λ keeps. refl) (λ none. refl)))
     (λ neither. IfOk-if (Names fields) (bytes_eq (field_at fields 0) (codes "D")) _ _
     (λ letter.
@@ -182,7 +184,7 @@ Says s records item = item.what ≡ change_of s (get_or records item.number [])
 abbrev item_at : Layout → ℕ → List (List ℕ) → Item
 item_at s number fields = record { number = number + 1; what = change_of s fields }
 
-abbrev no_more : Coming FeedEnd
+abbrev no_more : RestOfFeed FeedEnd
 no_more = record { items = []; end = TooManyRecords }
 
 module _ (s : Layout) (count place : ℕ) where
@@ -193,23 +195,23 @@ module _ (s : Layout) (count place : ℕ) where
   items_after-whole : (number : ℕ) (fields : List (List ℕ)) (records : List (List (List ℕ))) → s.shard ≡ whole_feed
       → nat_lt number s.max_records ≡ true
       → items_after s number (fields ∷ records)
-      ≡ coming_after (item_at s number fields) (items_after s (number + 1) records)
+      ≡ item_then (item_at s number fields) (items_after s (number + 1) records)
   items_after-whole number fields records whole within =
       ap (λ b. if b then
-      (if is_read s fields then coming_after (item_at s number fields) (items_after s (number + 1) records)
+      (if is_read s fields then item_then (item_at s number fields) (items_after s (number + 1) records)
       else items_after s (number + 1) records) else no_more) within
-      ∙ ap (λ b. if b then coming_after (item_at s number fields) (items_after s (number + 1) records)
+      ∙ ap (λ b. if b then item_then (item_at s number fields) (items_after s (number + 1) records)
       else items_after s (number + 1) records) (is_read-whole s fields whole)
 
   items_after-inside : (number : ℕ) (fields : List (List ℕ)) (records : List (List (List ℕ)))
       → nat_lt number s.max_records ≡ true → is_read part fields ≡ true
       → items_after part number (fields ∷ records)
-      ≡ coming_after (item_at s number fields) (items_after part (number + 1) records)
+      ≡ item_then (item_at s number fields) (items_after part (number + 1) records)
   items_after-inside number fields records within read =
       ap (λ b. if b then
-      (if is_read part fields then coming_after (item_at s number fields) (items_after part (number + 1) records)
+      (if is_read part fields then item_then (item_at s number fields) (items_after part (number + 1) records)
       else items_after part (number + 1) records) else no_more) within
-      ∙ ap (λ b. if b then coming_after (item_at s number fields) (items_after part (number + 1) records)
+      ∙ ap (λ b. if b then item_then (item_at s number fields) (items_after part (number + 1) records)
       else items_after part (number + 1) records) read
 
   items_after-outside : (number : ℕ) (fields : List (List ℕ)) (records : List (List (List ℕ)))
@@ -217,9 +219,9 @@ module _ (s : Layout) (count place : ℕ) where
       → items_after part number (fields ∷ records) ≡ items_after part (number + 1) records
   items_after-outside number fields records within other =
       ap (λ b. if b then
-      (if is_read part fields then coming_after (item_at s number fields) (items_after part (number + 1) records)
+      (if is_read part fields then item_then (item_at s number fields) (items_after part (number + 1) records)
       else items_after part (number + 1) records) else no_more) within
-      ∙ ap (λ b. if b then coming_after (item_at s number fields) (items_after part (number + 1) records)
+      ∙ ap (λ b. if b then item_then (item_at s number fields) (items_after part (number + 1) records)
       else items_after part (number + 1) records) other
 
   items_after-past : (t : Layout) (number : ℕ) (fields : List (List ℕ)) (records : List (List (List ℕ)))
@@ -227,7 +229,7 @@ module _ (s : Layout) (count place : ℕ) where
       → items_after t number (fields ∷ records) ≡ no_more
   items_after-past t number fields records past =
       ap (λ b. if b then
-      (if is_read t fields then coming_after (item_at t number fields) (items_after t (number + 1) records)
+      (if is_read t fields then item_then (item_at t number fields) (items_after t (number + 1) records)
       else items_after t (number + 1) records) else no_more) past
 
   -- whether the record of an item is in the shard
@@ -261,17 +263,18 @@ module _ (s : Layout) (count place : ℕ) where
       ap (is_read part) (record-seam done records fields number as_many) in
       elim (cases_Bool (nat_lt number s.max_records)) [
         | inl within ↦
-            let feed = ap (λ (coming : Coming FeedEnd). filter (is_of_part all) coming.items)
+            let feed = ap (λ (coming : RestOfFeed FeedEnd). filter (is_of_part all) coming.items)
             (items_after-whole number fields records whole within) in
             elim (cases_Bool (is_read part fields)) [
               | inl read ↦
-                  ap (λ (coming : Coming FeedEnd). coming.items) (items_after-inside number fields records within read)
+                  ap (λ (coming : RestOfFeed FeedEnd). coming.items)
+                  (items_after-inside number fields records within read)
                   ∙ ap (λ items. item_at s number fields ∷ items) after
                   ∙ sym (filter-passed (is_of_part all) (item_at s number fields)
                   (items_after s (number + 1) records).items (here ∙ read))
                   ∙ sym feed
               | inr other ↦
-                  ap (λ (coming : Coming FeedEnd). coming.items)
+                  ap (λ (coming : RestOfFeed FeedEnd). coming.items)
                   (items_after-outside number fields records within other)
                   ∙ after
                   ∙ sym (filter-failed (is_of_part all) (item_at s number fields)
@@ -279,8 +282,8 @@ module _ (s : Layout) (count place : ℕ) where
                   ∙ sym feed
             ]
         | inr past ↦
-            ap (λ (coming : Coming FeedEnd). coming.items) (items_after-past part number fields records past)
-            ∙ sym (ap (λ (coming : Coming FeedEnd). filter (is_of_part all) coming.items)
+            ap (λ (coming : RestOfFeed FeedEnd). coming.items) (items_after-past part number fields records past)
+            ∙ sym (ap (λ (coming : RestOfFeed FeedEnd). filter (is_of_part all) coming.items)
             (items_after-past s number fields records past))
       ]
 

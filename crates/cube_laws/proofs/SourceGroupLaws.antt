@@ -4,7 +4,7 @@ use Rattle.std.proofs.Common.{None, Result, Ok, Err, refl, sym, ap, ap₂, ◌�
 use Rattle.std.specs.List.{AllByRecursion, AllZip, cons_option}
 use Rattle.std.proofs.lemmas.List.{map-append}
 use Rattle.std.proofs.lemmas.Grind.{flat_map-append}
-use Rattle.cube_core.specs.Items.{Coming, coming_after, FeedEnd, WrongHeader, TooManyRecords, change_of, is_header}
+use Rattle.cube_core.specs.Items.{RestOfFeed, item_then, FeedEnd, WrongHeader, TooManyRecords, change_of, is_header}
 use Rattle.cube_core.specs.Items.{is_read, items_after, items_of}
 use Rattle.cube_core.specs.Layout.{Layout, IsSchema}
 use Rattle.cube_core.specs.Life.{changes_of, taken_change}
@@ -32,17 +32,17 @@ items_after-partial : (s : Layout) (number : ℕ) (records : List (List (List �
 items_after-partial s number [] = refl
 items_after-partial s number (fields ∷ records) =
     let item : Item = record { number = number + 1; what = change_of s fields } in
-    let no_more : Coming FeedEnd = record { items = []; end = TooManyRecords } in
-    ap (λ (rest : Coming FeedEnd). if nat_lt number s.max_records
-    then (if is_read s fields then coming_after item rest else rest) else no_more)
+    let no_more : RestOfFeed FeedEnd = record { items = []; end = TooManyRecords } in
+    ap (λ (rest : RestOfFeed FeedEnd). if nat_lt number s.max_records
+    then (if is_read s fields then item_then item rest else rest) else no_more)
     (items_after-partial s (number + 1) records)
 
 items_of-partial : (s : Layout) (records : List (List (List ℕ)))
     → items_of (partial_form s) records ≡ items_of s records
 items_of-partial s [] = refl
 items_of-partial s (header ∷ records) =
-    let wrong : Coming FeedEnd = record { items = []; end = WrongHeader } in
-    ap (λ (rest : Coming FeedEnd). if is_header s header then rest else wrong) (items_after-partial s 0 records)
+    let wrong : RestOfFeed FeedEnd = record { items = []; end = WrongHeader } in
+    ap (λ (rest : RestOfFeed FeedEnd). if is_header s header then rest else wrong) (items_after-partial s 0 records)
 
 -- and it takes the same changes
 takes-partial : (s : Layout) (change : Change) → takes (partial_form s) change ≡ takes s change
@@ -66,7 +66,7 @@ AreSurviving-partial : (s : Layout) (bytes : List ℕ) (facts : List Fact)
     → AreSurviving (partial_form s) (items_of (partial_form s) (records_of bytes)).items facts
     → AreSurviving s (items_of s (records_of bytes)).items facts
 AreSurviving-partial s bytes facts survive =
-    subst (λ (coming : Coming FeedEnd). Survive (changes_of s coming.items) facts)
+    subst (λ (coming : RestOfFeed FeedEnd). Survive (changes_of s coming.items) facts)
     (items_of-partial s (records_of bytes))
     (subst (λ changes. Survive changes facts)
     (changes_of-partial s (items_of (partial_form s) (records_of bytes)).items) survive)

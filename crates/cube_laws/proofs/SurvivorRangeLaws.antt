@@ -17,7 +17,7 @@ use Rattle.std.proofs.lemmas.Slice.Eq.{bytes_eq-Decides}
 use Rattle.cube_core.specs.Amendment.{over, fields_over}
 use Rattle.cube_core.specs.Items.{change_of, fact_of, fits_i64, insert_of, is_keep, is_measure, is_null, is_number}
 use Rattle.cube_core.specs.Items.{is_read, items_after, items_of, keeps_any, measure_field_of, measure_fields}
-use Rattle.cube_core.specs.Items.{measure_of, number_of, put_of, update_of, width_of, field_at, is_header}
+use Rattle.cube_core.specs.Items.{measure_of, number_of, unless_at_fault, update_of, width_of, field_at, is_header}
 use Rattle.cube_core.specs.Layout.{Layout, IsSchema}
 use Rattle.cube_core.specs.Life.{id_of, naming, is_delete, since_delete, updated, from_insert, life_of, taken_change}
 use Rattle.cube_core.specs.Life.{changes_of}
@@ -273,9 +273,10 @@ IsSmallChange (Delete id) = Unit {0}
 fact_of-small : (s : Layout) (fields : List (List ℕ)) → HasSmallValues (fact_of s fields)
 fact_of-small s fields = filter_map-all IsSmall measure_of (measure_fields s fields) measure_of-small
 
-put_of-small : (s : Layout) (fields : List (List ℕ)) (change : Result Change LineFault) → IfOk change IsSmallChange
-    → IfOk (put_of change s fields) IsSmallChange
-put_of-small s fields change small =
+unless_at_fault-small : (s : Layout) (fields : List (List ℕ)) (change : Result Change LineFault)
+    → IfOk change IsSmallChange
+    → IfOk (unless_at_fault change s fields) IsSmallChange
+unless_at_fault-small s fields change small =
     IfOk-if IsSmallChange (not (length fields == width_of s)) _ _ (λ wrong. tt) (λ right.
     IfOk-if IsSmallChange (not (list_all is_utf8 (drop 1 fields))) _ _ (λ bad. tt) (λ texts.
     IfOk-if IsSmallChange (length (field_at fields 1) == 0) _ _ (λ empty. tt) (λ named.
@@ -284,10 +285,10 @@ put_of-small s fields change small =
 change_of-small : (s : Layout) (fields : List (List ℕ)) → IfOk (change_of s fields) IsSmallChange
 change_of-small s fields =
     IfOk-if IsSmallChange (bytes_eq (field_at fields 0) (codes "I")) _ _
-    (λ letter. put_of-small s fields (insert_of s fields)
+    (λ letter. unless_at_fault-small s fields (insert_of s fields)
     (IfOk-if IsSmallChange (keeps_any s fields) _ _ (λ keeps. tt) (λ none. fact_of-small s fields)))
     (λ other. IfOk-if IsSmallChange (bytes_eq (field_at fields 0) (codes "U")) _ _
-    (λ letter. put_of-small s fields (update_of s fields)
+    (λ letter. unless_at_fault-small s fields (update_of s fields)
     (IfOk-if IsSmallChange (keeps_any s fields) _ _
     (λ keeps. filter_map-all IsSmallField (measure_field_of s) (measure_fields s fields) (measure_field_of-small s))
     (λ none. fact_of-small s fields)))

@@ -4,7 +4,7 @@ use Rattle.std.proofs.Common.{refl, sym, ap, subst, arith}
 use Rattle.std.specs.Prelude.{slice_set}
 use Rattle.cube_core.specs.Arrival.{Arrivals}
 use Rattle.cube_core.specs.Layout.{Layout}
-use Rattle.cube_core.specs.Run.{Told, AreGood, AreItemsOf}
+use Rattle.cube_core.specs.Run.{SourceBytes, AreGood, AreItemsOf}
 use Rattle.cube_core.specs.declared.change.Item.{Item}
 use Rattle.cube_core.proofs.ListLaws.{AllZip-length}
 use Rattle.cube_engine.specs.Ledger.{LedgerStandsAt, LedgerView, new_account}
@@ -36,7 +36,7 @@ IsOpening-new s ledger feeds most numbers schema accounts within is none = recor
 }
 
 -- where there is no feed
-pub OpensOver-none : (s : Layout) (sources : Told) (Stands : Arrivals → Type 0) → length sources ≡ 0 → Stands []
+pub OpensOver-none : (s : Layout) (sources : SourceBytes) (Stands : Arrivals → Type 0) → length sources ≡ 0 → Stands []
     → OpensOver s sources Stands
 OpensOver-none s [] Stands none stands = record {
   feeds = [];
@@ -49,7 +49,8 @@ OpensOver-none s [] Stands none stands = record {
 OpensOver-none s (bytes ∷ sources) Stands none stands = absurd (omega (arith, none))
 
 -- after all feeds were taken
-pub OpensOver-fed : (s : Layout) (sources : Told) (opening : OpeningView) (gatherers : List (Gatherer OpeningView))
+pub OpensOver-fed : (s : Layout) (sources : SourceBytes) (opening : OpeningView)
+    (gatherers : List (Gatherer OpeningView))
     (one : Gatherer OpeningView) → AreGood s sources → opening.feeds ≡ length sources
     → TakeAll OpeningStandsAt s sources (opening ∷ []) gatherers → one ≡ get_or gatherers 0 one
     → OpensOver s sources (OpeningStandsAt opening one.builder)
@@ -73,7 +74,7 @@ OpensOver-fed s sources opening (gatherer ∷ []) one good feeds taken is =
     })
 
 -- what it stands over is what is made of it
-pub OpensOver-made : {s : Layout} {sources : Told} {Fed Made : Arrivals → Type 0}
+pub OpensOver-made : {s : Layout} {sources : SourceBytes} {Fed Made : Arrivals → Type 0}
     → ((start : Arrivals) → Fed start → Made start) → OpensOver s sources Fed → OpensOver s sources Made
 OpensOver-made to opens = record {
   feeds = opens.feeds;

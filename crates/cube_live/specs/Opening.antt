@@ -4,7 +4,7 @@ use Rattle.std.specs.Prelude.{◌≡◌, ◌≤◌, ◌<◌, [], ℕ, List, leng
 use Rattle.std.specs.List.{AllZip}
 use Rattle.cube_core.specs.Arrival.{Arrivals, of_source, of_sources}
 use Rattle.cube_core.specs.Layout.{Layout}
-use Rattle.cube_core.specs.Run.{Told, AreGood, AreItemsOf}
+use Rattle.cube_core.specs.Run.{SourceBytes, AreGood, AreItemsOf}
 use Rattle.cube_core.specs.declared.change.Item.{Item}
 use Rattle.cube_engine.specs.Ledger.{LedgerView, LedgerStandsAt}
 use Rattle.cube_live.specs.Live.{AreLast}
@@ -16,7 +16,7 @@ pub record StartsOver (feeds : List (List Item)) (start : Arrivals) : Type 0 whe
 
 -- this stands over the feeds of these sources: every feed is good,
 -- and it stands at an arrival list that has of each source with a feed the items of its feed, and of the others nothing
-pub record OpensOver (s : Layout) (sources : Told) (Stands : Arrivals → Type 0) : Type 0 where
+pub record OpensOver (s : Layout) (sources : SourceBytes) (Stands : Arrivals → Type 0) : Type 0 where
   pub feeds : List (List Item)
   pub good : AreGood s sources
   pub items : AllZip (AreItemsOf s) sources feeds

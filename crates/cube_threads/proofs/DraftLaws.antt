@@ -7,7 +7,7 @@ use Rattle.std.proofs.lemmas.List.{get_or_append_left, get_or-map, length-map, m
 use Rattle.cube_core.proofs.ListLaws.{AllZip-length}
 use Rattle.cube_core.specs.Arrival.{Arrivals, of_sources}
 use Rattle.cube_core.specs.Layout.{Layout}
-use Rattle.cube_core.specs.Run.{Told, AreItemsOf, AreGood}
+use Rattle.cube_core.specs.Run.{SourceBytes, AreItemsOf, AreGood}
 use Rattle.cube_core.specs.declared.change.Item.{Item}
 use Rattle.cube_engine.specs.Builder.{BuilderView}
 use Rattle.cube_engine.specs.Ledger.{LedgerView, AccountStandsAt, LedgerStandsAt}
@@ -163,7 +163,7 @@ stand-parts s sources parts arrivals feeds drafts gatherers built of new taken a
     }
 
 -- the builders of all parts have taken the feeds of all sources
-pub builds-parts : (s : Layout) (sources : Told) (parts : ℕ) (drafts : List DraftView)
+pub builds-parts : (s : Layout) (sources : SourceBytes) (parts : ℕ) (drafts : List DraftView)
     (gatherers : List (Gatherer DraftView)) (built : BuiltView) →
     AreGood s sources → 1 ≤ parts → AreNewDrafts s (length sources) parts parts drafts
     → TakeAll StandsFrom s sources drafts gatherers → AreAllMade gatherers built → BuildsParts s sources parts built
@@ -188,7 +188,8 @@ builds-parts s sources parts drafts gatherers built good some new taken are =
     }
 
 -- what is seen of builders that have taken the feeds has taken them
-pub builds-seen : (s : Layout) (sources : Told) (parts : ℕ) (inside seen : BuiltView) → seen.builders ≡ inside.builders
+pub builds-seen : (s : Layout) (sources : SourceBytes) (parts : ℕ) (inside seen : BuiltView)
+    → seen.builders ≡ inside.builders
     → seen.inlets ≡ inside.inlets → BuildsParts s sources parts inside → BuildsParts s sources parts seen
 builds-seen s sources parts inside seen builders inlets builds = record {
   good = builds.good;

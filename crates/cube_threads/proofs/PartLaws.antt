@@ -16,7 +16,7 @@ use Rattle.cube_core.proofs.ListLaws.{AllByRecursion-Contains, Contains-cases, C
 use Rattle.cube_core.proofs.ListLaws.{Contains-tail, map-Contains}
 use Rattle.cube_core.specs.Arrival.{Arrivals, of_sources}
 use Rattle.cube_core.specs.Layout.{Layout}
-use Rattle.cube_core.specs.Run.{Told}
+use Rattle.cube_core.specs.Run.{SourceBytes}
 use Rattle.cube_core.specs.declared.fact.Fact.{Fact}
 use Rattle.cube_core.specs.declared.change.Item.{Item}
 use Rattle.cube_engine.specs.Book.{Entries, IsBook, fact_at, facts_of}
@@ -128,7 +128,7 @@ are-parts s sources parts built arrivals some stands =
     }
 
 -- the schema of builders that have taken the feeds of all sources
-pub schema-run : (s : Layout) (sources : Told) (parts : ℕ) (built : BuiltView) → 1 ≤ parts
+pub schema-run : (s : Layout) (sources : SourceBytes) (parts : ℕ) (built : BuiltView) → 1 ≤ parts
     → BuildsParts s sources parts built → schema_of_run built ≡ s
 schema-run s sources parts built some builds =
     let count = builds.stands.builders in

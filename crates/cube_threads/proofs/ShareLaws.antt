@@ -9,7 +9,7 @@ use Rattle.std.proofs.lemmas.List.Elements.{All-cons, All-tail}
 use Rattle.std.proofs.lemmas.List.Sums.{sum_by-cons}
 use Rattle.cube_core.specs.Arrival.{of_sources}
 use Rattle.cube_core.specs.Layout.{Layout}
-use Rattle.cube_core.specs.Run.{Told, AreItemsOf, AreGood}
+use Rattle.cube_core.specs.Run.{SourceBytes, AreItemsOf, AreGood}
 use Rattle.cube_core.specs.declared.change.Item.{Item}
 use Rattle.cube_core.proofs.ListLaws.{AllZip-append}
 use Rattle.cube_engine.specs.Ledger.{LedgerView, AccountStandsAt, new_account}
@@ -81,7 +81,7 @@ stand-together s (old ∷ olds) (new ∷ news) feeds stand of =
     }
 
 -- the builder that ledgers in shares have become has taken the feeds
-pub record HasTakenShares (s : Layout) (sources : Told) (ledgers : Vec LedgerView)
+pub record HasTakenShares (s : Layout) (sources : SourceBytes) (ledgers : Vec LedgerView)
     (wholes : List (Gatherer (Vec LedgerView))) : Type 0 where
   pub whole : Gatherer (Vec LedgerView)
   pub one : wholes ≡ whole ∷ []
@@ -90,7 +90,7 @@ pub record HasTakenShares (s : Layout) (sources : Told) (ledgers : Vec LedgerVie
   pub takes : TakesFeeds (StandInShares sources_of LedgerStandsFrom ledgers) feeds whole
   pub together : StandTogether s ledgers.items whole.builder.items (of_sources (length sources) takes.arrivals)
 
-pub taken-shares : (s : Layout) (sources : Told) (shares : ℕ) (ledgers : Vec LedgerView)
+pub taken-shares : (s : Layout) (sources : SourceBytes) (shares : ℕ) (ledgers : Vec LedgerView)
     (wholes : List (Gatherer (Vec LedgerView))) → AreNewLedgers s (length sources) shares ledgers.items
     → TakeAll (StandInShares sources_of LedgerStandsFrom) s sources (ledgers ∷ []) wholes
     → HasTakenShares s sources ledgers wholes
@@ -110,7 +110,7 @@ taken-shares s sources shares ledgers (whole ∷ []) new taken =
     }
 
 -- the draft of all shares has taken the feeds of all sources
-pub drafted-taken : (s : Layout) (sources : Told) (shares : ℕ) (ledgers : Vec LedgerView)
+pub drafted-taken : (s : Layout) (sources : SourceBytes) (shares : ℕ) (ledgers : Vec LedgerView)
     (wholes : List (Gatherer (Vec LedgerView))) (whole : Gatherer (Vec LedgerView))
     (gatherers : List (Gatherer DraftView)) → AreGood s sources
     → AreNewLedgers s (length sources) shares ledgers.items → (taken : HasTakenShares s sources ledgers wholes)

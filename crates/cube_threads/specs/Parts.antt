@@ -3,7 +3,7 @@ use Rattle.std.specs.Prelude.{◌≡◌, ◌<◌, ℕ, Bool, List, [], ◌∷◌
 use Rattle.cube_core.specs.Arrival.{Arrivals}
 use Rattle.cube_core.specs.Layout.{Layout}
 use Rattle.cube_core.specs.Query.{AreRowsWhere}
-use Rattle.cube_core.specs.Run.{Told, AreGood, AreTaken}
+use Rattle.cube_core.specs.Run.{SourceBytes, AreGood, AreTaken}
 use Rattle.cube_core.specs.Shard.{whole_feed}
 use Rattle.cube_core.specs.declared.fact.Fact.{Fact}
 use Rattle.cube_core.specs.declared.key.Key.{Key}
@@ -91,7 +91,7 @@ pub record StandsInParts (s : Layout) (sources parts : ℕ) (built : BuiltView) 
 
 -- so many builders have taken the feeds of all sources:
 -- every feed is good, and they stand at an arrival list that has of each source its feed's items
-pub record BuildsParts (s : Layout) (sources : Told) (parts : ℕ) (built : BuiltView) : Type 0 where
+pub record BuildsParts (s : Layout) (sources : SourceBytes) (parts : ℕ) (built : BuiltView) : Type 0 where
   pub good : AreGood s sources
   pub arrivals : Arrivals
   pub taken : AreTaken s sources arrivals

@@ -3,7 +3,7 @@
 use Rattle.std.specs.Prelude.{◌≡◌, ℕ, List, [], length}
 use Rattle.std.specs.List.{All, sum_by}
 use Rattle.cube_core.specs.Layout.{Layout}
-use Rattle.cube_core.specs.Run.{Told, AreGood}
+use Rattle.cube_core.specs.Run.{SourceBytes, AreGood}
 use Rattle.cube_engine.specs.Ledger.{LedgerView, LedgerStandsAt}
 use Rattle.cube_feeders.specs.FeedingAll.{TakeAll}
 use Rattle.cube_feeders.specs.declared.roster.Gatherer.{Gatherer}
@@ -17,7 +17,7 @@ pub record AreNewLedgers (s : Layout) (sources shares : ℕ) (ledgers : List Led
   pub stands_at : All (λ ledger. LedgerStandsAt ledger []) ledgers
 
 -- the drafts of so many parts have taken the feeds of all sources, and every feed is good
-pub record TakenInParts (s : Layout) (sources : Told) (parts : ℕ) (gatherers : List (Gatherer DraftView))
+pub record TakenInParts (s : Layout) (sources : SourceBytes) (parts : ℕ) (gatherers : List (Gatherer DraftView))
     : Type 0 where
   pub good : AreGood s sources
   pub drafts : List DraftView

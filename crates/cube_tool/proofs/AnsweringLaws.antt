@@ -5,7 +5,7 @@ use Rattle.std.proofs.lemmas.List.Sums.{list_all-from_AllPass}
 use Rattle.cube_core.specs.Layout.{Layout}
 use Rattle.std.specs.Global.{Vec}
 use Rattle.cube_core.specs.Query.{AreRowsWhere, drill_fault, drills_down}
-use Rattle.cube_core.specs.Run.{Told}
+use Rattle.cube_core.specs.Run.{SourceBytes}
 use Rattle.cube_core.specs.Takes.{fits}
 use Rattle.cube_core.specs.Text.{text_of_rows}
 use Rattle.cube_core.specs.declared.change.Refusal.{Refusal}
@@ -51,7 +51,7 @@ Writes-weaker (Err (text_fault.Write sent)) old new to wrote = WroteFirst-weaker
 
 -- ---- what a fault of the build leaves
 
-pub Leaves-feeding : (question : Question) (s : Layout) (sources : Told) (why : FeedingFault)
+pub Leaves-feeding : (question : Question) (s : Layout) (sources : SourceBytes) (why : FeedingFault)
     (old new : Option (List ℕ)) → new ≡ old → ExplainsFeeding s sources why
     → Leaves (ExplainsRun s sources) question s sources (fault_of_feeding why) old new
 Leaves-feeding question s sources feeding_fault.Memory old new same explains =
@@ -65,7 +65,8 @@ Leaves-feeding question s sources feeding_fault.Full old new same explains =
 Leaves-feeding question s sources (feeding_fault.Unsealed source) old new same explains =
     (same, record { why = feeding_fault.Unsealed source; is = refl; explains = explains })
 
-pub Leaves-build : (question : Question) (s : Layout) (sources : Told) (why : BuildFault) (old new : Option (List ℕ))
+pub Leaves-build : (question : Question) (s : Layout) (sources : SourceBytes) (why : BuildFault)
+    (old new : Option (List ℕ))
     → new ≡ old → ExplainsBuild s sources why
     → Leaves (ExplainsPlainRun s sources) question s sources (fault_of_build why) old new
 Leaves-build question s sources build_fault.Memory old new same explains =
@@ -77,7 +78,8 @@ Leaves-build question s sources build_fault.Full old new same explains =
 
 -- ---- what a fault of the text leaves
 
-pub Leaves-text : (question : Question) {s : Layout} {sources : Told} {parts : ℕ} {built : BuiltView} (why : TextFault)
+pub Leaves-text : (question : Question) {s : Layout} {sources : SourceBytes} {parts : ℕ} {built : BuiltView}
+    (why : TextFault)
     (old new : Option (List ℕ)) → 1 ≤ length built.builders
     → BuildsParts s sources parts built
     → Writes {T = Unit {0}} (Tells question s (facts_of_run built) (refusals_of_run built)) (Err why) old new
@@ -86,7 +88,8 @@ Leaves-text question text_fault.Full old new some builds same =
     (same, record { why = feeding_fault.Full; is = refl; explains = builds.good })
 Leaves-text question (text_fault.Write sent) old new some builds wrote = OfFeeds-first some builds wrote
 
-pub Leaves-plain_text : (question : Question) {s : Layout} {sources : Told} {builder : BuilderView} (why : TextFault)
+pub Leaves-plain_text : (question : Question) {s : Layout} {sources : SourceBytes} {builder : BuilderView}
+    (why : TextFault)
     (old new : Option (List ℕ))
     → BuildsWhole s sources builder → Writes {T = Unit {0}}
     (Tells question s (all_facts builder.ledger.accounts) (refusals_of_accounts builder.ledger.accounts))
@@ -176,7 +179,7 @@ DrillsDown-given dimension key s built rows schema gives =
 
 -- ---- what a failure of a question over feeds leaves
 
-pub FailsToAnswer-Answers : {s : Layout} {sources : Told} {parts : ℕ} {built : BuiltView} (question : Question)
+pub FailsToAnswer-Answers : {s : Layout} {sources : SourceBytes} {parts : ℕ} {built : BuiltView} (question : Question)
     (why : Failure) (old new : Option (List ℕ)) → 1 ≤ length built.builders
     → BuildsParts s sources parts built
     → Answers {T = Unit {0}} question s (facts_of_run built) (refusals_of_run built) (Err why) old new

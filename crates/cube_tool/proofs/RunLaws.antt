@@ -7,7 +7,7 @@ use Rattle.cube_core.specs.Arrival.{Arrivals, of_source, of_sources}
 use Rattle.cube_core.proofs.ListLaws.{AllZip-length}
 use Rattle.cube_core.specs.Layout.{Layout}
 use Rattle.cube_core.specs.Refusals.{refusals_of}
-use Rattle.cube_core.specs.Run.{Told, AreItemsOf}
+use Rattle.cube_core.specs.Run.{SourceBytes, AreItemsOf}
 use Rattle.cube_core.specs.Sources.{SurviveTogether}
 use Rattle.cube_core.specs.declared.change.Item.{Item}
 use Rattle.cube_core.specs.declared.change.Refusal.{Refusal}
@@ -101,7 +101,8 @@ first-stands s sources parts arrivals (builder ∷ builders) inlets some stands 
     record { schema = (stands builder).schema; all = (stands builder).all; stands = (stands builder).stands.ledger }
 
 -- so it does after a build
-pub StandsUnder-BuildsParts : {s : Layout} {sources : Told} {parts : ℕ} {built : BuiltView} → 1 ≤ length built.builders
+pub StandsUnder-BuildsParts : {s : Layout} {sources : SourceBytes} {parts : ℕ} {built : BuiltView}
+    → 1 ≤ length built.builders
     → (builds : BuildsParts s sources parts built)
     → StandsUnder s (length sources) builds.arrivals (first_ledger built.builders)
 StandsUnder-BuildsParts {s = s} {sources = sources} {parts = parts} {built = built} some builds =
@@ -109,14 +110,14 @@ StandsUnder-BuildsParts {s = s} {sources = sources} {parts = parts} {built = bui
     first-stands s (length sources) parts builds.arrivals built.builders built.inlets some
     (λ d. builds.stands.each 0 d (omega arith))
 
-HasTaken-BuildsParts : {s : Layout} {sources : Told} {parts : ℕ} {built : BuiltView}
+HasTaken-BuildsParts : {s : Layout} {sources : SourceBytes} {parts : ℕ} {built : BuiltView}
     → (builds : BuildsParts s sources parts built)
     → HasTaken s parts (of_sources (length sources) builds.arrivals) built
 HasTaken-BuildsParts {s = s} {sources = sources} {parts = parts} {built = built} builds =
     StandsOver-arrivals (λ n. StandsInParts s n parts built) (length sources) builds.arrivals builds.stands
 
 -- a text that tells what is asked of what was built was written: it is that of the feeds
-pub OfFeeds-BuildsParts : {s : Layout} {sources : Told} {parts : ℕ} {built : BuiltView} {question : Question}
+pub OfFeeds-BuildsParts : {s : Layout} {sources : SourceBytes} {parts : ℕ} {built : BuiltView} {question : Question}
     {old new : Option (List ℕ)} → 1 ≤ length built.builders
     → BuildsParts s sources parts built → Wrote (Tells question s (facts_of_run built) (refusals_of_run built)) old new
     → OfFeeds s sources (λ feeds. Wrote (IsTextOf question s feeds) old new × HasTaken s parts feeds built)
@@ -131,7 +132,8 @@ OfFeeds-BuildsParts {sources = sources} {question = question} some builds wrote 
 }
 
 -- the first bytes of it
-pub OfFeeds-first : {s : Layout} {sources : Told} {parts : ℕ} {built : BuiltView} {question : Question} {sent : ℕ}
+pub OfFeeds-first : {s : Layout} {sources : SourceBytes} {parts : ℕ} {built : BuiltView} {question : Question}
+    {sent : ℕ}
     {old new : Option (List ℕ)} → 1 ≤ length built.builders
     → BuildsParts s sources parts built
     → WroteFirst (Tells question s (facts_of_run built) (refusals_of_run built)) sent old new
@@ -144,7 +146,7 @@ OfFeeds-first {sources = sources} {question = question} some builds wrote = reco
 }
 
 -- the same with the status by the refusals
-pub OfFeeds-status : {s : Layout} {sources : Told} {parts : ℕ} {built : BuiltView} {question : Question}
+pub OfFeeds-status : {s : Layout} {sources : SourceBytes} {parts : ℕ} {built : BuiltView} {question : Question}
     {status : Status} {old new : Option (List ℕ)} → 1 ≤ length built.builders
     → BuildsParts s sources parts built → status ≡ status_after (refusals_of_run built)
     → Wrote (Tells question s (facts_of_run built) (refusals_of_run built)) old new
@@ -165,13 +167,13 @@ OfFeeds-status {sources = sources} {question = question} some builds status_is w
 
 -- ---- the build on one thread
 
-StandsUnder-BuildsWhole : {s : Layout} {sources : Told} {builder : BuilderView}
+StandsUnder-BuildsWhole : {s : Layout} {sources : SourceBytes} {builder : BuilderView}
     → (builds : BuildsWhole s sources builder)
     → StandsUnder s (length sources) builds.ledger.arrivals builder.ledger
 StandsUnder-BuildsWhole builds =
     record { schema = builds.ledger.schema; all = builds.ledger.all; stands = builds.ledger.stands }
 
-pub OfFeeds-BuildsWhole : {s : Layout} {sources : Told} {builder : BuilderView} {question : Question}
+pub OfFeeds-BuildsWhole : {s : Layout} {sources : SourceBytes} {builder : BuilderView} {question : Question}
     {old new : Option (List ℕ)}
     → BuildsWhole s sources builder
     → Wrote (Tells question s (all_facts builder.ledger.accounts) (refusals_of_accounts builder.ledger.accounts))
@@ -188,7 +190,7 @@ OfFeeds-BuildsWhole {sources = sources} {builder = builder} {question = question
   );
 }
 
-pub OfFeeds-whole_first : {s : Layout} {sources : Told} {builder : BuilderView} {question : Question} {sent : ℕ}
+pub OfFeeds-whole_first : {s : Layout} {sources : SourceBytes} {builder : BuilderView} {question : Question} {sent : ℕ}
     {old new : Option (List ℕ)}
     → BuildsWhole s sources builder
     → WroteFirst (Tells question s (all_facts builder.ledger.accounts) (refusals_of_accounts builder.ledger.accounts))
@@ -213,8 +215,9 @@ refused-StandsOver {s = s} {feeds = feeds} {builder = builder} schema all over =
     refused-under under ∙ ap (map (refusals_of s)) over.same
 
 -- so is the status by its refusals, of a run over the sources of the sample
-pub OfFeeds-sample : {s : Layout} {sources : Told} {builder : BuilderView} {status : Status} {old new : Option (List ℕ)}
-    (question : Question) (under : Layout) (told : Told) → under ≡ s → told ≡ sources
+pub OfFeeds-sample : {s : Layout} {sources : SourceBytes} {builder : BuilderView} {status : Status}
+    {old new : Option (List ℕ)}
+    (question : Question) (under : Layout) (told : SourceBytes) → under ≡ s → told ≡ sources
     → builder.ledger.schema ≡ under → length builder.ledger.accounts ≡ length told
     → status ≡ status_after (refusals_of_accounts builder.ledger.accounts)
     → OfFeeds under told (λ feeds. Wrote (IsTextOf question under feeds) old new × StandsOver (StandsAt builder) feeds)
@@ -235,5 +238,5 @@ OfFeeds-sample {sources = sources} {builder = builder} {status = status} {old = 
     } in
     subst (λ (l : Layout).
     OfFeeds l sources (λ feeds. Wrote (IsTextOf question l feeds) old new × (status ≡ status_over l feeds))) schema_is
-    (subst (λ (t : Told). OfFeeds under t
+    (subst (λ (t : SourceBytes). OfFeeds under t
     (λ feeds. Wrote (IsTextOf question under feeds) old new × (status ≡ status_over under feeds))) told_is answers)

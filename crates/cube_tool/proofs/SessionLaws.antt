@@ -3,7 +3,7 @@ use Rattle.std.proofs.Common.{◌≡◌, ℕ, List, length, take, ap, ◌∙◌,
 use Rattle.std.specs.Prelude.{Option, Some, None, IfSome}
 use Rattle.std.proofs.lemmas.List.{take_all}
 use Rattle.cube_core.specs.Layout.{Layout}
-use Rattle.cube_core.specs.Run.{Told}
+use Rattle.cube_core.specs.Run.{SourceBytes}
 use Rattle.cube_live.proofs.RefusalLaws.{refusals_of_accounts}
 use Rattle.cube_live.specs.Live.{IsLive, LiveStandsAt, LiveView}
 use Rattle.cube_live.specs.Opening.{OpensOver}
@@ -17,7 +17,7 @@ use Rattle.cube_tool.specs.declared.command.status.Status.{Status}
 use Rattle.cube_tool.proofs.RunLaws.{StandsUnder, refused-under}
 
 -- a session that was opened over feeds and served to its end
-served-over : {s : Layout} {sources : Told} (before after : LiveView) (records : Option (List (List (List ℕ))))
+served-over : {s : Layout} {sources : SourceBytes} (before after : LiveView) (records : Option (List (List (List ℕ))))
     (status : Status) (old new : Option (List ℕ))
     → OpensOver s sources (LiveStandsAt before) → IsLive s after.ledger after.numbers
     → status ≡ status_after (refusals_of_accounts after.ledger.accounts)
@@ -50,7 +50,8 @@ served-over {s = s} before after (Some taken) status old new opens live is serve
       };
     }
 
-pub OfFeeds-served : {s : Layout} {sources : Told} (before after : LiveView) (records : Option (List (List (List ℕ))))
+pub OfFeeds-served : {s : Layout} {sources : SourceBytes} (before after : LiveView)
+    (records : Option (List (List (List ℕ))))
     (status : Status) (old new : Option (List ℕ)) → before.schema ≡ s
     → OpensOver s sources (LiveStandsAt before) → IsLive s after.ledger after.numbers
     → status ≡ status_after (refusals_of_accounts after.ledger.accounts)
@@ -61,7 +62,7 @@ OfFeeds-served before after records status old new schema opens live is serves =
     (subst (λ (l : Layout). IfSome records (λ taken. Serves l taken before after old new)) schema serves)
 
 -- one that ended before its records did
-broken-over : {s : Layout} {sources : Told} (before : LiveView) (records : Option (List (List (List ℕ))))
+broken-over : {s : Layout} {sources : SourceBytes} (before : LiveView) (records : Option (List (List (List ℕ))))
     (fault : SessionFault) (old new : Option (List ℕ))
     → OpensOver s sources (LiveStandsAt before) → IfSome records (λ taken. ServingFails s taken fault before old new)
     → OfFeeds s sources (λ feeds. IfSome records (λ taken. BreaksOver s feeds taken fault old new))
@@ -74,7 +75,7 @@ broken-over before (Some taken) fault old new opens fails = record {
   holds = record { start = opens.start; starts = opens.starts; leaves = fails opens.start opens.stands };
 }
 
-pub OfFeeds-broken : {s : Layout} {sources : Told} (before : LiveView) (records : Option (List (List (List ℕ))))
+pub OfFeeds-broken : {s : Layout} {sources : SourceBytes} (before : LiveView) (records : Option (List (List (List ℕ))))
     (fault : SessionFault) (old new : Option (List ℕ)) → before.schema ≡ s
     → OpensOver s sources (LiveStandsAt before)
     → IfSome records (λ taken. ServingFails before.schema taken fault before old new)

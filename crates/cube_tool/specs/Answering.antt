@@ -3,7 +3,7 @@ use Rattle.std.specs.Prelude.{◌≡◌, ◌<◌, ⊤, ℕ, List, length, map, O
 use Rattle.cube_core.specs.Layout.{Layout}
 use Rattle.cube_core.specs.Query.{drill_fault}
 use Rattle.cube_core.specs.Refusals.{refusals_of}
-use Rattle.cube_core.specs.Run.{Told, AreGood}
+use Rattle.cube_core.specs.Run.{SourceBytes, AreGood}
 use Rattle.cube_core.specs.declared.change.Item.{Item}
 use Rattle.cube_core.specs.declared.change.Refusal.{Refusal}
 use Rattle.cube_core.specs.declared.fact.Fact.{Fact}
@@ -82,13 +82,13 @@ HasTaken s parts feeds built = StandsOver (StandsInParts s (length feeds) parts 
 
 -- what a failure of a question over feeds leaves:
 -- nothing was written where the question is refused, and that is told only after all feeds were taken
-abbrev pub FailsToAnswer : Question → Layout → Told → Failure → Option (List ℕ) → Option (List ℕ) → Type 0
+abbrev pub FailsToAnswer : Question → Layout → SourceBytes → Failure → Option (List ℕ) → Option (List ℕ) → Type 0
 FailsToAnswer question s sources (Run fault) old new = Leaves (ExplainsRun s sources) question s sources fault old new
 FailsToAnswer question s sources (Query fault) old new = (new ≡ old) × AreGood s sources × IsQueryFault s question fault
 FailsToAnswer question s sources _ old new = ⊥
 
 -- what a failure of the program without words leaves; of its schema nothing but memory can fail
-abbrev pub SampleLeaves : Layout → Told → Failure → Option (List ℕ) → Option (List ℕ) → Type 0
+abbrev pub SampleLeaves : Layout → SourceBytes → Failure → Option (List ℕ) → Option (List ℕ) → Type 0
 SampleLeaves s sources (Schema fault) old new = (fault ≡ schema_fault.Memory) × (new ≡ old)
 SampleLeaves s sources (Run fault) old new = Leaves (ExplainsPlainRun s sources) Cube s sources fault old new
 SampleLeaves s sources _ old new = ⊥

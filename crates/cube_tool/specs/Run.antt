@@ -8,7 +8,7 @@ use Rattle.cube_core.specs.Layout.{Layout}
 use Rattle.cube_core.specs.Printed.{IsPrinted}
 use Rattle.cube_core.specs.Query.{drills_down, matches, rolled_up}
 use Rattle.cube_core.specs.Refusals.{refusals_of}
-use Rattle.cube_core.specs.Run.{Told, AreGood, AreItemsOf}
+use Rattle.cube_core.specs.Run.{SourceBytes, AreGood, AreItemsOf}
 use Rattle.cube_core.specs.Sources.{SurviveTogether}
 use Rattle.cube_core.specs.Text.{text_of_refusals}
 use Rattle.cube_core.specs.declared.change.Item.{Item}
@@ -26,7 +26,7 @@ use Rattle.cube_tool.specs.declared.question.Question.{Question}
 use Rattle.cube_tool.specs.declared.question.Question.TheVariants.{Cube, Slice, Drill, RollUp, Refusals}
 
 -- this holds of the items of the feeds of these sources, source after source, and every feed is good
-pub record OfFeeds (s : Layout) (sources : Told) (Holds : List (List Item) → Type 0) : Type 0 where
+pub record OfFeeds (s : Layout) (sources : SourceBytes) (Holds : List (List Item) → Type 0) : Type 0 where
   pub feeds : List (List Item)
   pub good : AreGood s sources
   pub items : AllZip (AreItemsOf s) sources feeds
@@ -69,7 +69,7 @@ pub record StandsOver (Stands : Arrivals → Type 0) (feeds : List (List Item)) 
 
 -- what a fault of a question over feeds leaves, where this explains why it may come:
 -- of a failed write the first bytes of the text, so many of them, and of any other nothing
-abbrev pub Leaves : (RunFault → Type 0) → Question → Layout → Told → RunFault → Option (List ℕ) → Option (List ℕ)
+abbrev pub Leaves : (RunFault → Type 0) → Question → Layout → SourceBytes → RunFault → Option (List ℕ) → Option (List ℕ)
     → Type 0
 Leaves Explains question s sources (run_fault.Write sent) old new =
     OfFeeds s sources (λ feeds. WroteFirst (IsTextOf question s feeds) sent old new)
@@ -77,13 +77,13 @@ Leaves Explains question s sources fault old new = (new ≡ old) × Explains fau
 
 -- why a run over feeds wrote nothing: that for which they weren't taken;
 -- want of memory only before a record was read, or where all feeds are good
-pub record ExplainsRun (s : Layout) (sources : Told) (fault : RunFault) : Type 0 where
+pub record ExplainsRun (s : Layout) (sources : SourceBytes) (fault : RunFault) : Type 0 where
   pub why : FeedingFault
   pub is : fault ≡ fault_of_feeding why
   pub explains : ExplainsFeeding s sources why
 
 -- why a run on one thread wrote nothing: that for which nothing was built
-pub record ExplainsPlainRun (s : Layout) (sources : Told) (fault : RunFault) : Type 0 where
+pub record ExplainsPlainRun (s : Layout) (sources : SourceBytes) (fault : RunFault) : Type 0 where
   pub why : BuildFault
   pub is : fault ≡ fault_of_build why
   pub explains : ExplainsBuild s sources why

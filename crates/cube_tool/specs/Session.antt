@@ -3,7 +3,7 @@
 use Rattle.std.specs.Prelude.{◌≡◌, ℕ, List, Option, IfSome}
 use Rattle.cube_core.specs.Arrival.{Arrivals, of_sources}
 use Rattle.cube_core.specs.Layout.{Layout}
-use Rattle.cube_core.specs.Run.{Told}
+use Rattle.cube_core.specs.Run.{SourceBytes}
 use Rattle.cube_core.specs.declared.change.Item.{Item}
 use Rattle.cube_live.specs.Opening.{StartsOver}
 use Rattle.cube_live.specs.Serving.{LeavesReplies}
@@ -34,7 +34,8 @@ pub record BreaksOver (s : Layout) (feeds : List (List Item)) (records : List (L
 
 -- what a failure of a session over feeds leaves, whose records are told where its input tells its bytes:
 -- nothing was written where the feeds weren't taken, and else what the session leaves
-abbrev pub FailsToServe : Layout → Told → Option (List (List (List ℕ))) → Failure → Option (List ℕ) → Option (List ℕ)
+abbrev pub FailsToServe : Layout → SourceBytes → Option (List (List (List ℕ))) → Failure → Option (List ℕ)
+    → Option (List ℕ)
     → Type 0
 FailsToServe s sources records (Run fault) old new = (new ≡ old) × ExplainsRun s sources fault
 FailsToServe s sources records (Session fault) old new =

@@ -6,7 +6,7 @@ use Rattle.sqlite_trees.specs.Tree.{Trees}
 use Rattle.sqlite_trees.specs.View.{View, IsClean}
 use Rattle.cube_core.specs.Arrival.{Arrivals, of_sources}
 use Rattle.cube_core.specs.Layout.{Layout}
-use Rattle.cube_core.specs.Run.{Told}
+use Rattle.cube_core.specs.Run.{SourceBytes}
 use Rattle.cube_feeders.specs.FeedingAll.{ExplainsFeeding}
 use Rattle.cube_feeders.specs.declared.fault.FeedingFault.{FeedingFault}
 use Rattle.cube_feeders.specs.declared.fault.FeedingFault.TheVariants as feeding_fault
@@ -103,7 +103,7 @@ module _ {S : Type 0} (view : S → View) (recovers : S → Trees → Type 0) (w
 -- ---- what was written
 
 -- feeds that weren't taken leave nothing written
-pub LeavesOfText-unopened : (question : Question) (s : Layout) (sources : Told) (was : View) (why : FeedingFault)
+pub LeavesOfText-unopened : (question : Question) (s : Layout) (sources : SourceBytes) (was : View) (why : FeedingFault)
     (old : Option (List ℕ))
     → ExplainsFeeding s sources why
     → LeavesOfText question s sources was (stored.Failure (Run (fault_of_feeding why))) old old
@@ -118,7 +118,7 @@ LeavesOfText-unopened question s sources was feeding_fault.Full old explains =
 LeavesOfText-unopened question s sources was (feeding_fault.Unsealed source) old explains =
     (refl, record { why = feeding_fault.Unsealed source; is = refl; explains = explains })
 
-module _ (s : Layout) (sources : Told) (was : View) (before after : LiveView)
+module _ (s : Layout) (sources : SourceBytes) (was : View) (before after : LiveView)
     (opens : OpensOver s sources (LiveStandsAt before)) (schema : before.schema ≡ s)
     (taken : LeadsTo TakesStored before (stored_in was) after) where
   -- where the stored changes come after the feeds

@@ -6,7 +6,7 @@ use Rattle.sqlite_trees.specs.Tree.{Trees}
 use Rattle.sqlite_trees.specs.View.{View}
 use Rattle.cube_core.specs.Arrival.{Arrivals}
 use Rattle.cube_core.specs.Layout.{Layout}
-use Rattle.cube_core.specs.Run.{Told}
+use Rattle.cube_core.specs.Run.{SourceBytes}
 use Rattle.cube_journal.specs.Rows.{Entry}
 use Rattle.cube_journal.specs.State.{stored_in}
 use Rattle.cube_live.proofs.RefusalLaws.{refusals_of_accounts}
@@ -30,7 +30,7 @@ given : {A : Type 0} {Clean : Type 0} (P : A → Type 0) (records : Option A) �
 given P None holds clean = tt
 given P (Some taken) holds clean = holds clean
 
-module _ {s : Layout} {sources : Told} (was : View) (notes : List Entry) (Leaves : Trees → Type 0)
+module _ {s : Layout} {sources : SourceBytes} (was : View) (notes : List Entry) (Leaves : Trees → Type 0)
     (old new : Option (List ℕ)) (before : LiveView) (opens : OpensOver s sources (LiveStandsAt before)) where
   -- a session that was opened over feeds and served to its end
   served-over : (after : LiveView) (now : View) (status : Status) (records : Option (List (List (List ℕ))))

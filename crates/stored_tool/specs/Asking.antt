@@ -4,7 +4,7 @@ use Rattle.sqlite_trees.specs.Tree.{Trees}
 use Rattle.sqlite_trees.specs.View.{View}
 use Rattle.cube_core.specs.Arrival.{Arrivals, of_sources}
 use Rattle.cube_core.specs.Layout.{Layout}
-use Rattle.cube_core.specs.Run.{Told, AreGood}
+use Rattle.cube_core.specs.Run.{SourceBytes, AreGood}
 use Rattle.cube_core.specs.declared.change.Item.{Item}
 use Rattle.cube_journal.specs.Rows.{Entry}
 use Rattle.cube_journal.specs.State.{held_in, stored_in, Holds}
@@ -72,7 +72,8 @@ LeavesSame was notes Before Leaves = (db : Trees) → Leaves db → Holds db (st
 -- what was written where a question over feeds and a store wasn't answered:
 -- nothing where the feeds or the store weren't taken, the question is refused or memory ran out,
 -- and of a failed write the first bytes of the text, so many of them
-abbrev pub LeavesOfText : Question → Layout → Told → View → StoredFailure → Option (List ℕ) → Option (List ℕ) → Type 0
+abbrev pub LeavesOfText : Question → Layout → SourceBytes → View → StoredFailure → Option (List ℕ) → Option (List ℕ)
+    → Type 0
 LeavesOfText question s sources was (stored.Failure (Query fault)) old new =
     (new ≡ old) × AreGood s sources × (question_fault s question ≡ Some fault)
 LeavesOfText question s sources was (stored.Failure (Run (run_fault.Write sent))) old new =

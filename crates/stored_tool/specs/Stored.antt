@@ -4,7 +4,7 @@ use Rattle.sqlite_trees.specs.Tree.{Trees}
 use Rattle.sqlite_trees.specs.View.{View}
 use Rattle.cube_core.specs.Arrival.{Arrivals, of_sources}
 use Rattle.cube_core.specs.Layout.{Layout}
-use Rattle.cube_core.specs.Run.{Told}
+use Rattle.cube_core.specs.Run.{SourceBytes}
 use Rattle.cube_core.specs.declared.change.Item.{Item}
 use Rattle.cube_journal.specs.Making.{LeavesNotes}
 use Rattle.cube_journal.specs.Rows.{Entry}
@@ -63,7 +63,8 @@ pub record BreaksStoredOver (s : Layout) (feeds : List (List Item)) (was : View)
 
 -- what a failure of a session over feeds and a store leaves: where the feeds or the store weren't taken nothing was
 -- written, and the store leaves what it left or, where it had no row, the notes alone
-abbrev pub FailsToServeStored : Layout → Told → Option (List (List (List ℕ))) → View → List Entry → (Trees → Type 0)
+abbrev pub FailsToServeStored : Layout → SourceBytes → Option (List (List (List ℕ))) → View → List Entry
+    → (Trees → Type 0)
     → (Trees → Type 0) → StoredFailure → Option (List ℕ) → Option (List ℕ) → Type 0
 FailsToServeStored s sources records was notes Before Leaves (Failure (Run fault)) old new =
     (new ≡ old) × ExplainsRun s sources fault × ((db : Trees) → Leaves db → Before db)

@@ -192,10 +192,6 @@ IsCodeIn-more old new more value code is dictionary before =
     let same = is_code-append old more new code is dictionary before.valid in
     record { valid = same.0; stands = same.1 ∙ before.stands }
 
-pub AreCodedIn-none : (dimension : ℕ) → IsDictionary [] → AreCodedIn dimension [] [] []
-AreCodedIn-none dimension dictionary =
-    record { dictionary = dictionary; long = refl; each = λ place unused inside. absurd (omega (arith, inside)) }
-
 -- a fact more is coded
 AreCodedIn-more : (dimension : ℕ) (facts : List Fact) (fact : Fact) (old new : List (List ℕ)) (codes : List ℕ)
     (code : ℕ) → AreCodedIn dimension facts old codes

@@ -1,3 +1,4 @@
+use Rattle.std.proofs.lemmas.Result.{IfErr-weaker, IfOk-weaker}
 use Rattle.std.proofs.Common.{arith, ◌≡◌, ◌≤◌, List, false, ◌∙◌, [], sym, ap, subst, length, get_or, map, vec_len}
 use Rattle.std.proofs.lemmas.List.{get_or-map, length-map}
 use Rattle.std.specs.List.{All, AllZip}
@@ -5,12 +6,11 @@ use Rattle.std.specs.Prelude.{is_err}
 use Rattle.cube_core.proofs.ListLaws.{AllZip-length}
 use Rattle.cube_feeders.specs.Ends.{HasNoStop, IsFirstStop}
 use Rattle.cube_feeders.specs.Starting.{HasGathered}
-use Rattle.cube_feeders.specs.Wiring.{coming_of}
+use Rattle.cube_feed.specs.Feed.{rest_of_feed}
 use Rattle.cube_feeders.specs.Settling.{received_by}
 use Rattle.cube_feeders.specs.declared.fault.FeedingFault.TheVariants as feeding_fault
 use Rattle.cube_feeders.specs.declared.parcel.FeederEnd.{FeederEnd}
-use Rattle.cube_feeders.proofs.JoinedLaws.{ready-linked, tell-run, takes-settled, if_ok-then, on_ok-then}
-use Rattle.cube_feeders.proofs.JoinedLaws.{if_err-then}
+use Rattle.cube_feeders.proofs.JoinedLaws.{ready-linked, tell-run, takes-settled, on_ok-then}
 use Rattle.cube_feeders.proofs.TakeLaws.{AllTell, fit-tell, good-all, explains-stops}
 use Rattle.cube_feed.proofs.FaultLaws.{OnOk-holds}
 use Rattle.cube_feeders.proofs.feeding_all.feed_all.Given.{Over}
@@ -24,7 +24,7 @@ as-many g c =
     length-map c.in-Ok.setup.feeders.items (λ f. f.outlets.items)
     ∙ sym (length-map c.in-Ok.setup.feeders.items (λ f. f.feed.to_come))
     ∙ ap length c.in-Ok.ensures.feeds
-    ∙ length-map c.args.readers.items (λ reader. coming_of c.args.schema.now (g.R.Read.remaining reader))
+    ∙ length-map c.args.readers.items (λ reader. rest_of_feed c.args.schema.now (g.R.Read.remaining reader))
 
 pub run_together-roster-requires-clause-outlets : goal.run_together-roster-requires-clause-outlets
 run_together-roster-requires-clause-outlets g c κs within = λ k d below.
@@ -127,7 +127,7 @@ returns-clause-good g c =
 pub returns-clause-err : goal.returns-clause-err
 returns-clause-err g c =
     let at = goal.at.returns-clause-err g c in
-    if_err-then c.settle.result _ _ (λ fault stops. explains-stops _ _ _ _
+    IfErr-weaker c.settle.result _ _ (λ fault stops. explains-stops _ _ _ _
     (vec_len c.run_together-roster.result.0.gatherers) fault (tell g at.Else-is_err) stops) c.settle.ensures.err
 
 pub returns-clause-taken : goal.returns-clause-taken
@@ -137,7 +137,7 @@ returns-clause-taken g c =
     let counts = as-many g at.In-Ok ∙ sym (length-map c.args.readers.items g.R.Read.remaining) in
     let some : 1 ≤ length c.run_together-roster.result.0.gatherers.items =
     omega (arith, same-count g at.Else-is_err, c.requires.builders) in
-    if_ok-then c.settle.result _ _
+    IfOk-weaker c.settle.result _ _
     (λ settled settles.
     takes-settled g.B.TakesItems.stands _ _ _ _ _ _ _ settled.items known.linked counts known.builders
     (gathered g at.Else-is_err) (tell g at.Else-is_err) settles some)

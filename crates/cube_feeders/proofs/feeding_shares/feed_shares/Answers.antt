@@ -1,3 +1,4 @@
+use Rattle.std.proofs.lemmas.Result.{IfErr-weaker, IfOk-weaker}
 use Rattle.std.proofs.Common.{arith, ◌≡◌, ◌≤◌, ◌∷◌, List, false, ◌∙◌, [], sym, ap, subst, length, get_or, map, vec_len}
 use Rattle.std.proofs.lemmas.List.{get_or-map, length-map}
 use Rattle.std.specs.List.{All, AllZip}
@@ -7,9 +8,9 @@ use Rattle.cube_feeders.specs.Ends.{HasNoStop, IsFirstStop}
 use Rattle.cube_feeders.specs.Shares.{StandInShares}
 use Rattle.cube_feeders.specs.Starting.{HasGathered}
 use Rattle.cube_feeders.specs.Settling.{received_by}
-use Rattle.cube_feeders.specs.Wiring.{coming_of}
+use Rattle.cube_feed.specs.Feed.{rest_of_feed}
 use Rattle.cube_feeders.proofs.JoinedLaws.{EndsOf, ends-joined, map-told, tell-ends, tell-joined, takes-settled}
-use Rattle.cube_feeders.proofs.JoinedLaws.{if_ok-then, on_ok-then, if_err-then}
+use Rattle.cube_feeders.proofs.JoinedLaws.{on_ok-then}
 use Rattle.cube_feeders.proofs.ShareLaws.{gathered-whole}
 use Rattle.cube_feeders.proofs.TakeLaws.{AllTell, fit-tell, good-all, explains-stops}
 use Rattle.cube_feeders.specs.declared.fault.FeedingFault.TheVariants as feeding_fault
@@ -25,7 +26,7 @@ as-many g c =
     length-map c.in-Ok.setup.feeders.items (λ f. f.outlets.items)
     ∙ sym (length-map c.in-Ok.setup.feeders.items (λ f. f.feed.to_come))
     ∙ ap length c.in-Ok.ensures.feeds
-    ∙ length-map c.args.readers.items (λ reader. coming_of c.args.schema.now (g.R.Read.remaining reader))
+    ∙ length-map c.args.readers.items (λ reader. rest_of_feed c.args.schema.now (g.R.Read.remaining reader))
 
 pub run_together-roster-requires-clause-outlets : goal.run_together-roster-requires-clause-outlets
 run_together-roster-requires-clause-outlets g c κs within = λ k d below.
@@ -51,9 +52,9 @@ joined g c =
 
 -- what was to come of each feed
 coming : (g : Over) (c : In-Ok g) → map (λ f. f.feed.to_come) c.in-Ok.setup.feeders.items
-    ≡ map (coming_of c.args.schema.now) (map g.R.Read.remaining c.args.readers.items)
+    ≡ map (rest_of_feed c.args.schema.now) (map g.R.Read.remaining c.args.readers.items)
 coming g c =
-    c.in-Ok.ensures.feeds ∙ map-told g.R.Read.remaining (coming_of c.args.schema.now) c.args.readers.items
+    c.in-Ok.ensures.feeds ∙ map-told g.R.Read.remaining (rest_of_feed c.args.schema.now) c.args.readers.items
 
 -- what the ends of the feeders tell of the feeds of all sources
 feeds : (g : Over) (c : Else-is_err g) → AllTell c.args.schema.now (map g.R.Read.remaining c.args.readers.items)
@@ -141,7 +142,7 @@ returns-clause-good g c =
 pub returns-clause-err : goal.returns-clause-err
 returns-clause-err g c =
     let at = goal.at.returns-clause-err g c in
-    if_err-then c.settle.result _ _
+    IfErr-weaker c.settle.result _ _
     (λ fault stops. explains-stops _ _ _ _ (vec_len c.in-Ok-whole_of.wholes) fault (feeds g at.Else-is_err) stops)
     c.settle.ensures.err
 
@@ -151,7 +152,7 @@ returns-clause-taken g c =
     let linked = c.in-Ok.ensures.linked in
     let counts = as-many g at.In-Ok ∙ sym (length-map c.args.readers.items g.R.Read.remaining) in
     let some : 1 ≤ length c.in-Ok-whole_of.wholes.items = omega (arith, ap length c.in-Ok-whole_of.ensures.one) in
-    if_ok-then c.settle.result _ _
+    IfOk-weaker c.settle.result _ _
     (λ settled settles.
     takes-settled (StandInShares g.B.TakesItems.sources g.B.TakesItems.stands) _ _ _ _ _ _ _ settled.items linked.linked
     counts (ap (λ builder. builder ∷ []) linked.builder) (gathered g at.In-Ok-whole_of) (tell g at.In-Ok-whole_of)

@@ -1,6 +1,6 @@
 use Rattle.std.proofs.Common.{arith, ◌≡◌, ap, length}
 use Rattle.std.proofs.lemmas.List.{length-map}
-use Rattle.cube_feeders.specs.Wiring.{coming_of}
+use Rattle.cube_feed.specs.Feed.{rest_of_feed}
 use Rattle.cube_feeders.specs.declared.roster.Feeder.{Feeder}
 use Rattle.cube_feeders.specs.declared.roster.Gatherer.{Gatherer}
 use Rattle.cube_feeders.proofs.setup.set_up.Goals as goal
@@ -33,7 +33,7 @@ returns-clause-start g c =
       arith,
       ap length c.in_ok-gatherers.ensures.feeds,
       length-map c.in_ok-gatherers.feeders.items h,
-      length-map c.args.readers.items (λ reader. coming_of c.args.schema.now (g.R.Read.remaining reader)),
+      length-map c.args.readers.items (λ reader. rest_of_feed c.args.schema.now (g.R.Read.remaining reader)),
       c.in_ok-gatherers.feeders.ok.0,
       c.args.readers.ok.0,
     ) in

@@ -1,7 +1,8 @@
 use Rattle.std.proofs.Common.{arith, ◌≡◌, ◌∷◌, ◌∙◌, [], ap, sym, length, map, sum_by, vec_len}
 use Rattle.std.specs.Global.{Vec}
 use Rattle.std.proofs.lemmas.List.{length-map}
-use Rattle.cube_feeders.specs.Wiring.{coming_of, AreLinked}
+use Rattle.cube_feed.specs.Feed.{rest_of_feed}
+use Rattle.cube_feeders.specs.Wiring.{AreLinked}
 use Rattle.cube_feeders.specs.Shares.{AreLinkedInShares}
 use Rattle.cube_feeders.specs.declared.roster.Gatherer.{Gatherer}
 use Rattle.cube_feeders.proofs.ShareLaws.{linked-whole, ready-shares}
@@ -22,7 +23,7 @@ as-many : (g : Over) (c : After-swap_remove g) → length c.in_ok-wholes.feeders
 as-many g c =
     sym (length-map c.in_ok-wholes.feeders.items (λ f. f.feed.to_come))
     ∙ ap length c.in_ok-wholes.ensures.feeds
-    ∙ length-map c.args.readers.items (λ reader. coming_of c.args.schema.now (g.R.Read.remaining reader))
+    ∙ length-map c.args.readers.items (λ reader. rest_of_feed c.args.schema.now (g.R.Read.remaining reader))
     ∙ sym c.args.readers.ok.0
 
 -- and as many links

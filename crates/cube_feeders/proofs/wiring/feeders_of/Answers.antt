@@ -2,7 +2,7 @@ use Rattle.std.proofs.Common.{rules, ◌≡◌, refl, map, ap, sym, ◌∙◌}
 use Rattle.std.proofs.lemmas.Iterator.Adapters.{YieldsList-from_vec}
 use Rattle.std.proofs.lemmas.Iterator.Consumers.{YieldsList-end}
 use Rattle.std.proofs.lemmas.List.{map-append, map-id}
-use Rattle.cube_feeders.specs.Wiring.{coming_of}
+use Rattle.cube_feed.specs.Feed.{rest_of_feed}
 use Rattle.cube_feeders.proofs.WireLaws.{linked-none, linked-more, builders-connects}
 use Rattle.cube_feeders.proofs.wiring.feeders_of.Goals as goal
 
@@ -29,4 +29,4 @@ returns-clause-feeds g c =
     loop.yielded loop.reader-iterator loop.yielded_by c.next.result c.next.new.self c.in-None.is c.next.ensures.steps in
     let all : loop.yielded ≡ c.args.readers.items = sym (map-id loop.yielded) ∙ ends.0 in
     loop.invariant.1
-    ∙ ap (λ readers. map (λ reader. coming_of c.args.schema.now (g.R.Read.remaining reader)) readers) all
+    ∙ ap (λ readers. map (λ reader. rest_of_feed c.args.schema.now (g.R.Read.remaining reader)) readers) all

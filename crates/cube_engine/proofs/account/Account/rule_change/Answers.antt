@@ -1,5 +1,5 @@
 use Rattle.std.proofs.lemmas.Result.{IfOk-weaker}
-use Rattle.cube_engine.proofs.FitLaws.{AmendsAlike-takes, RulingFits-Settles}
+use Rattle.cube_engine.proofs.FitLaws.{AmendsAlike-takes, RulingFits-ComesTo}
 use Rattle.cube_engine.proofs.account.Account.rule_change.Goals as goal
 
 pub settle-requires-clause-alike : goal.settle-requires-clause-alike
@@ -8,5 +8,5 @@ settle-requires-clause-alike c = AmendsAlike-takes c.args.schema.now _ _ c.requi
 pub returns-clause-fits : goal.returns-clause-fits
 returns-clause-fits c =
     IfOk-weaker c.settle.result _ _
-    (RulingFits-Settles c.args.schema.now _ c.args.change c.requires.taken c.requires.all_fit)
+    (RulingFits-ComesTo c.args.schema.now _ c.args.change c.requires.taken c.requires.all_fit)
     c.settle.ensures.settles
