@@ -19,7 +19,7 @@ use crate::request::{Question, Request, RequestFault};
 use csv::ByteRecord;
 use cube_core::{Change, LineFault};
 use cube_feed::{FeedFault, RecordReader, change_of_record, is_read, put_rest};
-use cube_text::write_whole;
+use cube_writing::write_whole;
 use std::alloc::{AllocError, Global};
 use std::io::{Read, Write};
 use std::thread::Threads;

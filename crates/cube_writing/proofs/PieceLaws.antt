@@ -10,7 +10,7 @@ use Rattle.std.proofs.Math.Seq.{drop-cons, take-append-add}
 use Rattle.std.proofs.lemmas.Grind.{flat_map-append}
 use Rattle.std.proofs.lemmas.List.{append-nil, take-append-le, map-append}
 use Rattle.std.proofs.lemmas.List.Folds.{length-flat_map-take}
-use Rattle.cube_text.specs.Pieces.{GathersPieces, text_of_pieces}
+use Rattle.cube_writing.specs.Pieces.{GathersPieces, text_of_pieces}
 
 -- the first pieces and the next are no longer than all
 pub length-pieces : (pieces : List (Vec ℕ)) (i : ℕ) (unused : Vec ℕ) → i < length pieces

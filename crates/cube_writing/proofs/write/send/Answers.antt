@@ -1,6 +1,6 @@
 use Rattle.std.proofs.Common.{arith, length-drop, length-take, rules}
-use Rattle.cube_text.proofs.AppendLaws.{Appends-take}
-use Rattle.cube_text.proofs.write.send.Goals as goal
+use Rattle.cube_writing.proofs.AppendLaws.{Appends-take}
+use Rattle.cube_writing.proofs.write.send.Goals as goal
 
 pub loop-sent-preserved : goal.loop-sent-preserved
 loop-sent-preserved g c =

@@ -1,5 +1,5 @@
-use Rattle.cube_text.proofs.PieceLaws.{GathersPieces-more}
-use Rattle.cube_text.proofs.pieces.gather.Goals as goal
+use Rattle.cube_writing.proofs.PieceLaws.{GathersPieces-more}
+use Rattle.cube_writing.proofs.pieces.gather.Goals as goal
 
 pub loop-result-preserved : goal.loop-result-preserved
 loop-result-preserved c =

@@ -1,7 +1,7 @@
 //! A text in pieces.
 
 ghost use Rattle.std.specs.Prelude.{◌≡◌, ◌<◌, ◌^◌, ◌++◌, [], length, IfOk, OnOk, OnErr};
-ghost use Rattle.cube_text.specs.Pieces.{GathersPieces, text_of_pieces};
+ghost use Rattle.cube_writing.specs.Pieces.{GathersPieces, text_of_pieces};
 
 use std::alloc::{AllocError, Global};
 use std::marker::Model;
@@ -15,7 +15,7 @@ pub struct Pieces {
 
 impl Model for Pieces {
     ghost use Rattle.std.specs.Prelude.{◌≡◌, ℕ, List, length};
-    ghost use Rattle.cube_text.specs.Pieces.{text_of_pieces};
+    ghost use Rattle.cube_writing.specs.Pieces.{text_of_pieces};
 
     ghost Value = { List ℕ };
 

@@ -1,7 +1,7 @@
 use Rattle.std.proofs.Common.{◌≡◌, ◌∙◌, ℕ, List, length, get_or, ap, arith}
 use Rattle.std.specs.Global.{Vec}
-use Rattle.cube_text.proofs.PieceLaws.{length-pieces, Appends-pieces}
-use Rattle.cube_text.proofs.write.write_pieces.Goals as goal
+use Rattle.cube_writing.proofs.PieceLaws.{length-pieces, Appends-pieces}
+use Rattle.cube_writing.proofs.write.write_pieces.Goals as goal
 
 pub overflow_add-sent : goal.overflow_add-sent
 overflow_add-sent g c =
