@@ -97,9 +97,6 @@ adds_first x v zero n none = record { held = λ y. omega arith }
 adds_first x v (suc c) n none = absurd (omega arith)
 
 -- n of v are added one by one
-pub AddsTimes-none : (bag : Bag) (v : ℤ) → AddsTimes bag bag v 0
-AddsTimes-none bag v = record { held = λ x. omega arith }
-
 pub AddsTimes-more : (old now new : Bag) (v : ℤ) (n : ℕ) → AddsTimes old now v n → AddsTimes now new v 1
     → AddsTimes old new v (n + 1)
 AddsTimes-more old now new v n before adds = record { held = λ x. omega (arith, before.held x, adds.held x) }
@@ -617,10 +614,6 @@ weight_of-bag f old new more adds =
 
 pub size_of-bag : (old new more : Bag) → AddsBag old new more → size_of new ≡ size_of old + size_of more
 size_of-bag old new more adds = weight_of-bag (λ _. 1) old new more adds
-
--- in either order
-pub AddsBag-sym : (a b new : Bag) → AddsBag a new b → AddsBag b new a
-AddsBag-sym a b new adds = record { held = λ x. omega (arith, adds.held x) }
 
 -- the pairs from a place on: the one there, and those after it
 drop-get_or : (pairs : Bag) (i : ℕ) (d : ℤ × ℕ) → i < length pairs

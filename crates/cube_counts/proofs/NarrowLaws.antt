@@ -73,9 +73,6 @@ pub once_each-all : (numbers : List ℤ) (i : ℕ) → length numbers ≤ i → 
 once_each-all numbers i past = ap once_each (take_all i numbers past)
 
 -- two numbers
-pub AddsTimes-two : (v w : ℤ) → AddsTimes ((v, 1) ∷ []) (once_each (v ∷ w ∷ [])) w 1
-AddsTimes-two v w = AddsTimes-once_each (v ∷ []) w
-
 pub HasEnds-two : (v w : ℤ) → HasEnds (once_each (v ∷ w ∷ [])) (int_min v w) (int_max v w)
 HasEnds-two v w = HasEnds-once_each_push (v ∷ []) w v v (HasEnds-pair v 1 (omega arith))
 

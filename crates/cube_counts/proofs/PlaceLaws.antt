@@ -1,7 +1,8 @@
 -- Laws of the place that a search in a list gives.
-use Rattle.std.proofs.Common.{ℕ, ◌<◌, List, length}
+use Rattle.std.proofs.Common.{◌≡◌, ℕ, ◌<◌, List, length, get_or, sym, ◌∙◌}
 use Rattle.std.specs.Prelude.{Option, Some, None, All, IfSome, IfNone, MatchOption}
 use Rattle.std.specs.List.{HoldsAt, AllWithin}
+use Rattle.std.proofs.lemmas.List.{get_or_default}
 use Rattle.std.proofs.lemmas.List.Elements.{All-from_all_within}
 
 -- what is said of the first place of a list
@@ -23,3 +24,8 @@ pub IsFirst-found : {X : Type 0} (Yes No : X → Type 0) (xs : List X) (place : 
     → IfSome place (HoldsAt Yes xs)
 IsFirst-found Yes No xs None first = tt
 IsFirst-found Yes No xs (Some i) first = first.1
+
+-- what stands at a place, read twice
+pub read_twice : {X : Type 0} (xs : List X) (i : ℕ) (e r : X) → i < length xs → e ≡ get_or xs i e → r ≡ get_or xs i r
+    → r ≡ e
+read_twice xs i e r within is read = read ∙ get_or_default xs i r e within ∙ sym is

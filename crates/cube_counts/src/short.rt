@@ -90,7 +90,6 @@ impl Short {
     }
 
     /// Adds `value` `times` times where it is held already, or where there is place for it; answers whether it did.
-    #[tactic(auto, using(crate::proofs::BagLaws::adds_at, crate::proofs::BagLaws::adds_pair, crate::proofs::BagLaws::count_at))]
     pub fn add(&mut self, value: i64, times: u64) -> Result<bool, AllocError>
         requires some { 0 < times }
         requires fits { size_of self.old + times < 2 ^ 64 }
@@ -111,7 +110,6 @@ impl Short {
     }
 
     /// Takes one `value` away; answers whether there was one.
-    #[tactic(auto, using(crate::proofs::BagLaws::takes_at, crate::proofs::BagLaws::takes_pair))]
     pub fn remove(&mut self, value: i64) -> bool
         ensures taken { OnTrue result (AddsOne self.new self.old value) }
         ensures absent { OnFalse result (held_of self.old value ≡ 0) }

@@ -1,10 +1,12 @@
-//! The command line as clap reads it, made of the table of the commands.
+//! The command line as clap reads it, made of the tables of the commands.
 ghost use Rattle.std.specs.Prelude.{◌≡◌, IfOk, false};
 ghost use Rattle.clap.specs.Words.{app_of, new_app, rule_of, with_subcommand};
 ghost use Rattle.clap.specs.declared.builder.command.Command.TheViews.{out-Command as fields_of};
-ghost use Rattle.cube_words.specs.CommandLine.{command_line, line_of, named_line, rule_of_word, with_feeds_of, with_lines, with_words};
+ghost use Rattle.cube_words.specs.CommandLine.{command_line, line_of, named_line, rule_of_word, with_feeds_of, with_lines, with_prints, with_views, with_words};
 
-use crate::commands::{ABOUT, AFTER_HELP, Form, LINES, Line, RUN_WORDS, USAGE, VERSION, Word};
+use crate::commands::{
+    ABOUT, AFTER_HELP, Form, Line, PRINTS, RUN_WORDS, SESSIONS, USAGE, VERSION, VIEWS, Word,
+};
 use clap::builder::ValueParser;
 use clap::{Arg, ArgAction, Command};
 use std::alloc::{AllocError, Global};
@@ -13,7 +15,21 @@ use std::alloc::{AllocError, Global};
 pub(crate) fn program<'a>(alloc: Global) -> Result<Command<'a>, AllocError>
     ensures { IfOk result (λ command. app_of command ≡ command_line) }
 {
-    with_commands(alloc, named(alloc)?, &LINES)
+    with_commands(alloc, with_views(alloc)?, &SESSIONS)
+}
+
+// The command line with all commands before those for sessions.
+fn with_views<'a>(alloc: Global) -> Result<Command<'a>, AllocError>
+    ensures { IfOk result (λ command. app_of command ≡ with_views (with_prints named_line)) }
+{
+    with_commands(alloc, with_prints(alloc)?, &VIEWS)
+}
+
+// The command line with the commands that say whether a schema is right, what its cube is and what is refused.
+fn with_prints<'a>(alloc: Global) -> Result<Command<'a>, AllocError>
+    ensures { IfOk result (λ command. app_of command ≡ with_prints named_line) }
+{
+    with_commands(alloc, named(alloc)?, &PRINTS)
 }
 
 // The program's own settings.

@@ -292,8 +292,8 @@ pub(crate) const RUN_WORDS: [Word; 8] = [
     WARY,
 ];
 
-/// The commands, in the order in which the help has them.
-pub(crate) const LINES: [Line; 9] = [
+/// The commands that say whether a schema is right, what its cube is and what is refused.
+pub(crate) const PRINTS: [Line; 3] = [
     Line {
         name: "check",
         about: "Says whether a schema file is right: `ok`, or the code of its first fault",
@@ -323,6 +323,10 @@ pub(crate) const LINES: [Line; 9] = [
         is_run: true,
         options: &[],
     },
+];
+
+/// The commands for parts of a cube.
+pub(crate) const VIEWS: [Line; 3] = [
     Line {
         name: "slice",
         about: "Prints the lines of the cube that CELL matches, as CSV",
@@ -383,6 +387,10 @@ pub(crate) const LINES: [Line; 9] = [
         is_run: true,
         options: &[],
     },
+];
+
+/// The commands for sessions, for printed cubes and for codes.
+pub(crate) const SESSIONS: [Line; 3] = [
     Line {
         name: "live",
         about: "Keeps the cube right change by change, and answers questions in between",
