@@ -1,6 +1,6 @@
 -- Filling a cube at once: the cells of each grouping set are made from those of a finer one (Gray et al. 1997;
 -- which finer one is this project's choice).
-use Rattle.std.specs.Prelude.{◌≡◌, ◌+◌, ◌-◌, ◌*◌, ◌<◌, ◌==◌, ◌^◌, ◌++◌, ℕ, Bool, true, false, bit_and, List, [], ◌∷◌}
+use Rattle.std.specs.Prelude.{◌≡◌, ◌-◌, ◌<◌, ◌==◌, ◌^◌, ◌++◌, ℕ, Bool, true, false, bit_and, List, [], ◌∷◌}
 use Rattle.std.specs.Prelude.{length, map, get_or, Result, Ok, Option, Some, IfOk, IfSome, All, Contains, if◌then◌else◌}
 use Rattle.std.specs.List.Sorted.{IsPermutation}
 use Rattle.std.specs.declared.alloc.AllocError.{AllocError}
@@ -10,7 +10,7 @@ use Rattle.cube_cells.specs.Coded.{CodedCells, AreNewCells, same_codes, coded_at
 use Rattle.cube_cells.specs.Cube.{Lattice, IsCubeOf, tally_or_empty}
 use Rattle.cube_cells.specs.Levels.{sets_of}
 use Rattle.cube_cells.specs.Tally.{Tally, PlusTally}
-use Rattle.cube_cells.specs.Walk.{AreApart, key_in, weight_of_cells}
+use Rattle.cube_cells.specs.Walk.{AreApart, CountMore, key_in}
 use Rattle.cube_cells.specs.declared.cube.codes.Codes.{Codes}
 use Rattle.cube_cells.specs.declared.cube.levels.Level.{Level}
 
@@ -34,8 +34,7 @@ pub record MergesAt (old new : Option Tally) (more : Tally) : Type 0 where
 pub record MergesIn (codes : Codes) (old new : CodedCells) (more : Tally) : Type 0 where
   pub merged : MergesAt (coded_at old codes) (coded_at new codes) more
   pub others : (other : Codes) → same_codes codes other ≡ false → coded_at new other ≡ coded_at old other
-  pub weight : (weight : Codes → ℕ)
-      → weight_of_cells weight new ≡ weight_of_cells weight old + weight codes * more.facts
+  pub counts_more : CountMore more.facts (codes ∷ []) old new
 
 -- cells are merged into others, each into the one of its codes in a grouping set
 abbrev pub FillsSet : ℕ → CodedCells → CodedCells → CodedCells → Type 0

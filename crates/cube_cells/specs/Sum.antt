@@ -1,12 +1,12 @@
 -- The sum of the numbers of a bag (SQL:1999, SUM), and what a kept sum is.
-use Rattle.std.specs.Prelude.{◌≡◌, ◌<◌, ◌-ℤ◌, ℤ, pos, FitsSigned}
+use Rattle.std.specs.Prelude.{◌≡◌, ◌<◌, ◌+ℤ◌, ◌*ℤ◌, ℤ, pos, [], ◌∷◌, FitsSigned}
 use Rattle.std.specs.Int.{w64}
-use borrow.Author.Differences.{up, down}
-use Rattle.cube_counts.specs.Bag.{Bag, weight_of, held_of}
+use Rattle.cube_counts.specs.Bag.{Bag, held_of}
 
--- the sum of the numbers, each as often as it is held: of those above 0, less that of those below
+-- the sum of the numbers, each as often as it is held: over the pairs, the number times its count
 abbrev pub sum_of : Bag → ℤ
-sum_of bag = pos (weight_of up bag) -ℤ pos (weight_of down bag)
+sum_of [] = pos 0
+sum_of (pair ∷ bag) = pair.0 *ℤ pos pair.1 +ℤ sum_of bag
 
 -- this is the sum of the bag, whose numbers are measures: they fit 64 bits
 pub record IsSumOf (bag : Bag) (sum : ℤ) : Type 0 where

@@ -25,6 +25,12 @@ is_in keys codes = list_any (same_codes codes) keys
 abbrev pub weight_of_cells : (Codes → ℕ) → CodedCells → ℕ
 weight_of_cells weight cells = sum_by (λ cell. weight cell.0 * cell.1.facts) cells
 
+-- each of these codes counts so many facts more: however codes are weighed, the counts so weighed grow by what the codes
+-- weigh, times those facts
+abbrev pub CountMore : ℕ → List Codes → CodedCells → CodedCells → Type 0
+CountMore facts keys old new =
+    (weight : Codes → ℕ) → weight_of_cells weight new ≡ weight_of_cells weight old + sum_by weight keys * facts
+
 -- a fact can be added at codes: the cell there has a bag for each value, room for a fact,
 -- and a fact unless it is the grand total, which is there
 pub record HasRoom (values : List (Option ℤ)) (codes : Codes) (cell : Option Tally) : Type 0 where
@@ -38,20 +44,20 @@ pub record AddsIn (keys : List Codes) (values : List (Option ℤ)) (old new : Co
   pub added : (codes : Codes) → is_in keys codes ≡ true → AddsAt values (coded_at old codes) (coded_at new codes)
   pub held : (codes : Codes) → is_in keys codes ≡ true → cell_holds values (coded_at new codes) ≡ true
   pub others : (codes : Codes) → is_in keys codes ≡ false → coded_at new codes ≡ coded_at old codes
-  pub weight : (weight : Codes → ℕ) → weight_of_cells weight new ≡ weight_of_cells weight old + sum_by weight keys
+  pub counts_more : CountMore 1 keys old new
 
 -- at each of the codes a fact is taken, and every other cell stays as it was
 pub record TakesIn (keys : List Codes) (values : List (Option ℤ)) (old new : CodedCells) : Type 0 where
   pub taken : (codes : Codes) → is_in keys codes ≡ true
       → TakesAt (is_total_code codes) values (coded_at old codes) (coded_at new codes)
   pub others : (codes : Codes) → is_in keys codes ≡ false → coded_at new codes ≡ coded_at old codes
-  pub weight : (weight : Codes → ℕ) → weight_of_cells weight old ≡ weight_of_cells weight new + sum_by weight keys
+  pub counts_less : CountMore 1 keys new old
 
 -- at each of the codes a cell counts the same, and every other cell stays as it was
 pub record SameCoded (keys : List Codes) (old new : CodedCells) : Type 0 where
   pub cells : (codes : Codes) → SameCell (coded_at old codes) (coded_at new codes)
   pub others : (codes : Codes) → is_in keys codes ≡ false → coded_at new codes ≡ coded_at old codes
-  pub weight : (weight : Codes → ℕ) → weight_of_cells weight new ≡ weight_of_cells weight old
+  pub counts_same : CountMore 0 keys old new
 
 -- the cell at codes has a fact less, and as many are left as the number says
 pub record LosesFact (codes : Codes) (values : List (Option ℤ)) (old new : CodedCells) (count : ℕ) : Type 0 where

@@ -168,7 +168,7 @@ count_in-AddsIn sets old new measures facts fact codes cells more set of valid a
     omega (
       arith,
       count_in-weight_of_cells new set more,
-      adds.weight (set_weight new set),
+      adds.counts_more (set_weight new set),
       one,
       count_in-weight_of_cells new set cells,
       ap (count_in set) same,
@@ -188,7 +188,7 @@ count_in-TakesIn sets dictionaries facts less fact codes cells left set of valid
     omega (
       arith,
       count_in-weight_of_cells dictionaries set left,
-      takes.weight (set_weight dictionaries set),
+      takes.counts_less (set_weight dictionaries set),
       one,
       count_in-weight_of_cells dictionaries set cells,
       count,
@@ -203,7 +203,7 @@ count_in-SameCoded old new facts keys cells others set same alike count =
     omega (
       arith,
       count_in-weight_of_cells new set others,
-      alike.weight (set_weight new set),
+      alike.counts_same (set_weight new set),
       count_in-weight_of_cells new set cells,
       ap (count_in set) same,
       count,

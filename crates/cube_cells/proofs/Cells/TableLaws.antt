@@ -3,7 +3,7 @@
 use Rattle.std.proofs.Common.{◌≡◌, ℕ, zero, suc, ◌+◌, ◌*◌, ◌^◌, ◌<◌, ◌≤◌, ◌==◌, ◌%◌, ◌/◌, List, [], ◌∷◌, ◌++◌, Bool}
 use Rattle.std.proofs.Common.{true, false, refl, sym, ap, ◌∙◌, subst, arith, inl, inr, ◌⊎◌, length, map, get_or, set}
 use Rattle.std.proofs.Common.{take, append_assoc, Option, Some, None, if◌then◌else◌}
-use Rattle.std.specs.Prelude.{ℤ, All, sum_by}
+use Rattle.std.specs.Prelude.{ℤ, All}
 use Rattle.std.specs.List.{AllZip, list_all}
 use Rattle.std.specs.List.Sorted.{IsStrictlySortedBy}
 use Rattle.std.specs.Ordering.{nat_cmp}
@@ -22,7 +22,7 @@ use Rattle.cube_cells.specs.Cube.{AddsAt, SameCell, TakesAt, cell_holds}
 use Rattle.cube_cells.specs.Levels.{AreLevelsOf, AddsInLevel, ChangesFirst, HasRoomInLevel, IsNewLevel, IsOfOneSet}
 use Rattle.cube_cells.specs.Levels.{SameInLevel, TakesInLevel, cells_of, key_of_level, mask_of_codes, sets_of, table_at}
 use Rattle.cube_cells.specs.Tally.{Tally}
-use Rattle.cube_cells.specs.Walk.{AddsIn, AreApart, SameCoded, TakesIn, codes_in, is_in, key_in, weight_of_cells}
+use Rattle.cube_cells.specs.Walk.{AddsIn, AreApart, CountMore, SameCoded, TakesIn, codes_in, is_in, key_in}
 use Rattle.cube_cells.specs.declared.cube.codes.Codes.{Codes}
 use Rattle.cube_cells.specs.declared.cube.levels.Level.{Level}
 use Rattle.cube_cells.proofs.Codes.GrowthLaws.{IsStrictlySortedBy-head, IsStrictlySortedBy-tail}
@@ -33,7 +33,7 @@ use Rattle.cube_cells.proofs.Cells.JoinLaws.{coded_at-append, either}
 use Rattle.cube_cells.proofs.Cells.KeptLaws.{All-coded_at}
 use Rattle.cube_cells.proofs.Codes.KeyLaws.{is_all_coord-coord_at, is_in-set, set_of-is_in}
 use Rattle.cube_cells.proofs.Cells.WalkLaws.{AddsIn-TakesIn, SameCell-refl, SameCoded-refl, is_in-one}
-use Rattle.cube_cells.proofs.Cells.WalkLaws.{same_codes-IsEquivalence, same_codes-exact}
+use Rattle.cube_cells.proofs.Cells.WalkLaws.{same_codes-IsEquivalence, same_codes-exact, weigh}
 
 -- ---- the mask of codes
 mask_of_codes-all : (codes : List ℕ) → list_all (λ code. code == all_code) codes ≡ true → mask_of_codes codes ≡ 0
@@ -449,9 +449,17 @@ lift-others R codes sets old new are same others all q outside =
       | inr none ↦ rw (before, after) (ap (λ (cells : CodedCells). coded_at cells q) none.1)
     ]
 
-weight-append : (weight : Codes → ℕ) (a b : CodedCells)
-    → weight_of_cells weight (a ++ b) ≡ weight_of_cells weight a + weight_of_cells weight b
-weight-append weight a b = sum_by-append (λ (cell : Codes × Tally). weight cell.0 * cell.1.facts) a b
+-- what counts more in a level and in the others counts more in all of them
+CountMore-level : (facts : ℕ) (k : Codes) (keys : List Codes) (a b old new : CodedCells) → CountMore facts (k ∷ []) a b
+    → CountMore facts keys old new → CountMore facts (k ∷ keys) (a ++ old) (b ++ new)
+CountMore-level facts k keys a b old new here others = λ weight. omega (
+  arith,
+  sum_by-append (weigh weight) a old,
+  sum_by-append (weigh weight) b new,
+  here weight,
+  others weight,
+  ap (λ n. n * facts) (sum_by-cons weight k keys),
+)
 
 -- ---- a fact more
 Steps-AddsInLevel : {N : Type 0} (codes : Codes) (values : List (Option ℤ)) (a b : Level N)
@@ -460,24 +468,15 @@ Steps-AddsInLevel : {N : Type 0} (codes : Codes) (values : List (Option ℤ)) (a
 Steps-AddsInLevel codes values a b adds =
     record { same_set = adds.same_set; others = adds.adds.others; apart = adds.apart }
 
-weight-AddsInLevel : {N : Type 0} (codes : Codes) (values : List (Option ℤ)) (weight : Codes → ℕ)
-    (old new : List (Level N))
-    → AllZip (AddsInLevel codes values) old new → weight_of_cells weight (cells_of new)
-    ≡ weight_of_cells weight (cells_of old) + sum_by weight (codes_in (sets_of old) codes)
-weight-AddsInLevel codes values weight [] [] all = refl
-weight-AddsInLevel codes values weight [] (b ∷ new) all = absurd all
-weight-AddsInLevel codes values weight (a ∷ old) [] all = absurd all
-weight-AddsInLevel codes values weight (a ∷ old) (b ∷ new) all =
-    let k = key_of_level codes a in
-    omega (
-      arith,
-      weight-append weight a.cells.entries (cells_of old),
-      weight-append weight b.cells.entries (cells_of new),
-      all.0.adds.weight weight,
-      sum_by-cons weight k [],
-      sum_by-cons weight k (codes_in (sets_of old) codes),
-      weight-AddsInLevel codes values weight old new all.1,
-    )
+CountMore-AddsInLevel : {N : Type 0} (codes : Codes) (values : List (Option ℤ)) (old new : List (Level N))
+    → AllZip (AddsInLevel codes values) old new → CountMore 1 (codes_in (sets_of old) codes)
+    (cells_of old) (cells_of new)
+CountMore-AddsInLevel codes values [] [] all = λ weight. refl
+CountMore-AddsInLevel codes values [] (b ∷ new) all = absurd all
+CountMore-AddsInLevel codes values (a ∷ old) [] all = absurd all
+CountMore-AddsInLevel codes values (a ∷ old) (b ∷ new) all =
+    CountMore-level 1 (key_of_level codes a) (codes_in (sets_of old) codes) a.cells.entries b.cells.entries
+    (cells_of old) (cells_of new) all.0.adds.counts_more (CountMore-AddsInLevel codes values old new all.1)
 
 pub AddsIn-AddsInLevel : {N : Type 0} (codes : Codes) (values : List (Option ℤ)) (sets : List ℕ)
     (old new : List (Level N))
@@ -499,7 +498,7 @@ AddsIn-AddsInLevel {N} codes values sets old new ascending keys are apart all =
             (λ a b adds. adds.adds.held) all;
         others =
             lift-others R codes sets old new stepped (λ a b adds. adds.same_set) (λ a b adds. adds.adds.others) all;
-        weight = λ weight. rw are.sets_are at (weight-AddsInLevel codes values weight old new all);
+        counts_more = rw are.sets_are at (CountMore-AddsInLevel codes values old new all);
       },
     )
 
@@ -510,24 +509,15 @@ Steps-TakesInLevel : {N : Type 0} (codes : Codes) (values : List (Option ℤ)) (
 Steps-TakesInLevel codes values a b takes =
     record { same_set = takes.same_set; others = takes.takes.others; apart = takes.apart }
 
-weight-TakesInLevel : {N : Type 0} (codes : Codes) (values : List (Option ℤ)) (weight : Codes → ℕ)
-    (old new : List (Level N))
-    → AllZip (TakesInLevel codes values) old new → weight_of_cells weight (cells_of old)
-    ≡ weight_of_cells weight (cells_of new) + sum_by weight (codes_in (sets_of old) codes)
-weight-TakesInLevel codes values weight [] [] all = refl
-weight-TakesInLevel codes values weight [] (b ∷ new) all = absurd all
-weight-TakesInLevel codes values weight (a ∷ old) [] all = absurd all
-weight-TakesInLevel codes values weight (a ∷ old) (b ∷ new) all =
-    let k = key_of_level codes a in
-    omega (
-      arith,
-      weight-append weight a.cells.entries (cells_of old),
-      weight-append weight b.cells.entries (cells_of new),
-      all.0.takes.weight weight,
-      sum_by-cons weight k [],
-      sum_by-cons weight k (codes_in (sets_of old) codes),
-      weight-TakesInLevel codes values weight old new all.1,
-    )
+CountMore-TakesInLevel : {N : Type 0} (codes : Codes) (values : List (Option ℤ)) (old new : List (Level N))
+    → AllZip (TakesInLevel codes values) old new → CountMore 1 (codes_in (sets_of old) codes)
+    (cells_of new) (cells_of old)
+CountMore-TakesInLevel codes values [] [] all = λ weight. refl
+CountMore-TakesInLevel codes values [] (b ∷ new) all = absurd all
+CountMore-TakesInLevel codes values (a ∷ old) [] all = absurd all
+CountMore-TakesInLevel codes values (a ∷ old) (b ∷ new) all =
+    CountMore-level 1 (key_of_level codes a) (codes_in (sets_of old) codes) b.cells.entries a.cells.entries
+    (cells_of new) (cells_of old) all.0.takes.counts_less (CountMore-TakesInLevel codes values old new all.1)
 
 pub TakesIn-TakesInLevel : {N : Type 0} (codes : Codes) (values : List (Option ℤ)) (sets : List ℕ)
     (old new : List (Level N))
@@ -547,7 +537,7 @@ TakesIn-TakesInLevel {N} codes values sets old new ascending keys are apart all 
             (λ a b takes. takes.same_set) (λ a b takes. takes.takes.taken) all;
         others = lift-others R codes sets old new stepped (λ a b takes. takes.same_set)
             (λ a b takes. takes.takes.others) all;
-        weight = λ weight. rw are.sets_are at (weight-TakesInLevel codes values weight old new all);
+        counts_less = rw are.sets_are at (CountMore-TakesInLevel codes values old new all);
       },
     )
 
@@ -555,20 +545,14 @@ TakesIn-TakesInLevel {N} codes values sets old new ascending keys are apart all 
 Steps-SameInLevel : {N : Type 0} (codes : Codes) (a b : Level N) → SameInLevel codes a b → Steps codes a b
 Steps-SameInLevel codes a b same = record { same_set = same.same_set; others = same.same.others; apart = same.apart }
 
-weight-SameInLevel : {N : Type 0} (codes : Codes) (weight : Codes → ℕ) (old new : List (Level N)) → AllZip
-    (SameInLevel codes) old new
-    → weight_of_cells weight (cells_of new) ≡ weight_of_cells weight (cells_of old)
-weight-SameInLevel codes weight [] [] all = refl
-weight-SameInLevel codes weight [] (b ∷ new) all = absurd all
-weight-SameInLevel codes weight (a ∷ old) [] all = absurd all
-weight-SameInLevel codes weight (a ∷ old) (b ∷ new) all =
-    omega (
-      arith,
-      weight-append weight a.cells.entries (cells_of old),
-      weight-append weight b.cells.entries (cells_of new),
-      all.0.same.weight weight,
-      weight-SameInLevel codes weight old new all.1,
-    )
+CountMore-SameInLevel : {N : Type 0} (codes : Codes) (old new : List (Level N)) → AllZip (SameInLevel codes) old new
+    → CountMore 0 (codes_in (sets_of old) codes) (cells_of old) (cells_of new)
+CountMore-SameInLevel codes [] [] all = λ weight. refl
+CountMore-SameInLevel codes [] (b ∷ new) all = absurd all
+CountMore-SameInLevel codes (a ∷ old) [] all = absurd all
+CountMore-SameInLevel codes (a ∷ old) (b ∷ new) all =
+    CountMore-level 0 (key_of_level codes a) (codes_in (sets_of old) codes) a.cells.entries b.cells.entries
+    (cells_of old) (cells_of new) all.0.same.counts_same (CountMore-SameInLevel codes old new all.1)
 
 pub SameCoded-SameInLevel : {N : Type 0} (codes : Codes) (sets : List ℕ) (old new : List (Level N))
     → IsStrictlySortedBy nat_cmp sets
@@ -591,7 +575,7 @@ SameCoded-SameInLevel {N} codes sets old new ascending keys are apart all =
           | inr outside ↦ rw (others q outside) (SameCell-refl (coded_at (cells_of old) q))
         ];
         others = others;
-        weight = λ weight. weight-SameInLevel codes weight old new all;
+        counts_same = rw are.sets_are at (CountMore-SameInLevel codes old new all);
       },
     )
 

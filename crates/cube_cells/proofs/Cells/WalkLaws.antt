@@ -18,7 +18,7 @@ use Rattle.cube_counts.specs.Bag.{Bag, held_of}
 use Rattle.cube_cells.specs.Coded.{CodedCells, same_codes, coded_at, is_total_code}
 use Rattle.cube_cells.specs.Cube.{AddsAt, TakesAt, SameCell, cell_holds, tally_or_empty, empty_tally}
 use Rattle.cube_cells.specs.Tally.{Tally, IsTallyOf, PlusFact, SameTally, bag_at, holds_fact}
-use Rattle.cube_cells.specs.Walk.{is_in, weight_of_cells, HasRoom, AddsIn, TakesIn, SameCoded, LosesFact}
+use Rattle.cube_cells.specs.Walk.{is_in, weight_of_cells, CountMore, HasRoom, AddsIn, TakesIn, SameCoded, LosesFact}
 use Rattle.cube_cells.specs.declared.cube.codes.Codes.{Codes}
 use Rattle.cube_cells.proofs.Tallies.ValueLaws.{AddsValues-SameBags}
 
@@ -109,19 +109,38 @@ weight-remove weight k t (e ∷ cells) h = by_head (same_codes k e.0) refl (weig
         rest found,
       ))
 
--- a fact more at one cell, told by its look-ups and weights
+-- codes whose tally is set count what it has more
+pub CountMore-set_value : (facts : ℕ) (k : Codes) (old new : CodedCells) (t more : Tally) → coded_at old k ≡ Some t
+    → new ≡ set_value (same_codes k) old more → more.facts ≡ t.facts + facts → CountMore facts (k ∷ []) old new
+CountMore-set_value facts k old new t more there is grows = λ weight. omega (
+  arith,
+  ap (weight_of_cells weight) is,
+  weight-set weight k t more old there,
+  ap (λ (n : ℕ). weight k * n) grows,
+)
+
+-- codes that are new count what their tally has
+pub CountMore-new : (facts : ℕ) (k : Codes) (old new : CodedCells) (t : Tally) → IsPermutation ((k, t) ∷ old) new
+    → t.facts ≡ facts → CountMore facts (k ∷ []) old new
+CountMore-new facts k old new t moved has = λ weight. omega (
+  arith,
+  sum_by-cons (weigh weight) (k, t) old,
+  sum_by-IsPermutation (weigh weight) ((k, t) ∷ old) new moved,
+  ap (λ (n : ℕ). weight k * n) has,
+)
+
+-- a fact more at one cell, told by its look-ups and counts
 AddsIn-coded_at : (k : Codes) (values : List (Option ℤ)) (old new : CodedCells) (t : Tally)
     → ((q : Codes) → coded_at new q ≡ cond (same_codes k q) (Some t) (coded_at old q))
     → PlusFact values (tally_or_empty (length values) (coded_at old k)) t → holds_fact t values ≡ true
-    → ((weight : Codes → ℕ) → weight_of_cells weight new ≡ weight_of_cells weight old + weight k)
-    → AddsIn (k ∷ []) values old new
-AddsIn-coded_at k values old new t look plus holds weights = record {
+    → CountMore 1 (k ∷ []) old new → AddsIn (k ∷ []) values old new
+AddsIn-coded_at k values old new t look plus holds counts = record {
   added = λ q inside. let P : Codes → Type 0 = λ z. AddsAt values (coded_at old z) (coded_at new z) in
       subst P (sym (is_in-one k q inside)) (record { tally = t; is_cell = here; plus = plus });
   held = λ q inside. let P : Codes → Type 0 = λ z. cell_holds values (coded_at new z) ≡ true in
       subst P (sym (is_in-one k q inside)) (rw here holds);
   others = λ q outside. look q ∙ cond-false (same_codes k q) (Some t) (coded_at old q) (is_in-other k q outside);
-  weight = λ weight. omega (arith, weights weight, sum_by-cons weight k []);
+  counts_more = counts;
 } where
   here : coded_at new k ≡ Some t
   here = look k ∙ cond-true (same_codes k k) (Some t) (coded_at old k) (same_codes-IsEquivalence.refl k)
@@ -134,14 +153,7 @@ AddsIn-set_value k values old new t more there is plus holds =
     let some : IsSome (coded_at old k) = rw there refl in
     AddsIn-coded_at k values old new more
     (λ q. ap (λ (cells : CodedCells). coded_at cells q) is ∙ coded_at-set k q more old some)
-    (rw there plus)
-    holds
-    (λ weight. omega (
-      arith,
-      ap (weight_of_cells weight) is,
-      weight-set weight k t more old there,
-      ap (λ (n : ℕ). weight k * n) plus.facts,
-    ))
+    (rw there plus) holds (CountMore-set_value 1 k old new t more there is plus.facts)
 
 -- a fact in a cell that is new
 pub AddsIn-new : (k : Codes) (values : List (Option ℤ)) (old new : CodedCells) (t : Tally) → coded_at old k ≡ None
@@ -149,13 +161,7 @@ pub AddsIn-new : (k : Codes) (values : List (Option ℤ)) (old new : CodedCells)
     → IsPermutation ((k, t) ∷ old) new → PlusFact values (empty_tally (length values)) t → holds_fact t values ≡ true
     → AddsIn (k ∷ []) values old new
 AddsIn-new k values old new t none look moved plus holds =
-    AddsIn-coded_at k values old new t look (rw none plus) holds
-    (λ weight. omega (
-      arith,
-      sum_by-cons (weigh weight) (k, t) old,
-      sum_by-IsPermutation (weigh weight) ((k, t) ∷ old) new moved,
-      ap (λ (n : ℕ). weight k * n) plus.facts,
-    ))
+    AddsIn-coded_at k values old new t look (rw none plus) holds (CountMore-new 1 k old new t moved plus.facts)
 
 -- a tally counts the same as itself
 SameTally-refl : (t : Tally) → SameTally t t
@@ -177,12 +183,7 @@ SameCoded-set_value k old new t other there is same =
       cells = λ q. at q (same_codes k q) refl (look q);
       others =
           λ q outside. look q ∙ cond-false (same_codes k q) (Some other) (coded_at old q) (is_in-other k q outside);
-      weight = λ weight. omega (
-        arith,
-        ap (weight_of_cells weight) is,
-        weight-set weight k t other old there,
-        ap (λ (n : ℕ). weight k * n) same.facts,
-      );
+      counts_same = CountMore-set_value 0 k old new t other there is (omega (arith, same.facts));
     } where
       at : (q : Codes) (b : Bool) → same_codes k q ≡ b
           → coded_at new q ≡ cond (same_codes k q) (Some other) (coded_at old q)
@@ -199,7 +200,21 @@ pub SameCoded-refl : (keys : List Codes) (old new : CodedCells) → new ≡ old 
 SameCoded-refl keys old new is =
     let P : CodedCells → Type 0 = λ cells. SameCoded keys old cells in
     subst P (sym is)
-    (record { cells = λ q. SameCell-refl (coded_at old q); others = λ q outside. refl; weight = λ weight. refl })
+    (record {
+      cells = λ q. SameCell-refl (coded_at old q);
+      others = λ q outside. refl;
+      counts_same = λ weight. omega arith;
+    })
+
+-- codes that lose a fact counted one more
+counts_less-LosesFact : (k : Codes) (values : List (Option ℤ)) (old new : CodedCells) (count : ℕ)
+    → LosesFact k values old new count → CountMore 1 (k ∷ []) new old
+counts_less-LosesFact k values old new count loses = λ weight. omega (
+  arith,
+  ap (weight_of_cells weight) loses.is_left,
+  weight-set weight k loses.tally loses.left old loses.was_cell,
+  ap (λ (n : ℕ). weight k * n) loses.minus.facts,
+)
 
 -- a fact less in a cell that stays
 pub TakesIn-set_value : (k : Codes) (values : List (Option ℤ)) (old new : CodedCells) (count : ℕ)
@@ -224,13 +239,7 @@ TakesIn-set_value k values old new count loses stays =
           });
       others = λ q outside.
           look q ∙ cond-false (same_codes k q) (Some loses.left) (coded_at old q) (is_in-other k q outside);
-      weight = λ weight. omega (
-        arith,
-        ap (weight_of_cells weight) loses.is_left,
-        weight-set weight k loses.tally loses.left old loses.was_cell,
-        ap (λ (n : ℕ). weight k * n) loses.minus.facts,
-        sum_by-cons weight k [],
-      );
+      counts_less = counts_less-LosesFact k values old new count loses;
     }
 
 -- a fact less in a cell that goes
@@ -261,12 +270,9 @@ TakesIn-remove_entry k values old mid new count loses none other gone moved =
           });
       others = λ q outside. gone q ∙ cond-false (same_codes k q) None (coded_at mid q) (is_in-other k q outside)
           ∙ look q ∙ cond-false (same_codes k q) (Some loses.left) (coded_at old q) (is_in-other k q outside);
-      weight = λ weight. omega (
+      counts_less = λ weight. omega (
         arith,
-        ap (weight_of_cells weight) loses.is_left,
-        weight-set weight k loses.tally loses.left old loses.was_cell,
-        ap (λ (n : ℕ). weight k * n) loses.minus.facts,
-        sum_by-cons weight k [],
+        counts_less-LosesFact k values old mid count loses weight,
         weight-remove weight k loses.left mid there,
         ap (λ (n : ℕ). weight k * n) empty,
         sum_by-IsPermutation (weigh weight) (remove_entry (same_codes k) mid) new moved,
@@ -313,7 +319,7 @@ AddsIn-TakesIn k values old mid new room adds takes = record {
     | inr apart ↦ rw (takes.others q apart, adds.others q apart) (SameCell-refl (coded_at old q))
   ];
   others = λ q outside. takes.others q outside ∙ adds.others q outside;
-  weight = λ weight. omega (arith, adds.weight weight, takes.weight weight);
+  counts_same = λ weight. omega (arith, adds.counts_more weight, takes.counts_less weight);
 }
 
 -- what follows from two facts of a success

@@ -1,6 +1,6 @@
--- Laws of cells into which others are merged: what one merge says of each look-up and of each weight,
+-- Laws of cells into which others are merged: what one merge says of each look-up and of each count,
 -- and how sets are filled one after another.
-use Rattle.std.proofs.Common.{◌≡◌, ℕ, ◌+◌, ◌*◌, ◌==◌, List, [], ◌∷◌, ◌++◌, Bool, true, false, cond, suc, take, get_or}
+use Rattle.std.proofs.Common.{◌≡◌, ℕ, ◌+◌, ◌==◌, List, [], ◌∷◌, ◌++◌, Bool, true, false, cond, suc, take, get_or}
 use Rattle.std.proofs.Common.{append_assoc, refl, sym, ap, ◌∙◌, subst, arith, inl, inr, length, Option, Some, None}
 use Rattle.std.specs.Prelude.{◌<◌, All, IfSome, IsSome, Result, Ok}
 use Rattle.std.specs.List.{IsDistinct}
@@ -12,37 +12,33 @@ use Rattle.std.proofs.lemmas.List.{length-replicate, length-append, append-nil, 
 use Rattle.std.proofs.lemmas.List.{take_more}
 use Rattle.std.proofs.Math.Seq.{get_or-append_seam}
 use Rattle.std.proofs.lemmas.List.Elements.{All-head, All-tail, All-push, Contains-append_left}
-use Rattle.std.proofs.lemmas.List.Sorted.{sum_by-IsPermutation}
-use Rattle.std.proofs.lemmas.List.Sums.{sum_by-cons}
 use Rattle.cube_counts.specs.Bag.{Bag, held_of}
 use Rattle.cube_cells.specs.Coded.{CodedCells, AreNewCells, same_codes, coded_at, total_codes}
 use Rattle.cube_cells.specs.Cube.{empty_tally, tally_or_empty}
 use Rattle.cube_cells.specs.Fill.{AreMadeFrom, AreMadeLevels, ArePushed, FillsSet, IsFiner, IsMadeLevel, MakesLevels}
 use Rattle.cube_cells.specs.Fill.{MergesIn}
 use Rattle.cube_cells.specs.Tally.{Tally, PlusTally, SameTally}
-use Rattle.cube_cells.specs.Walk.{AreApart, key_in, weight_of_cells}
+use Rattle.cube_cells.specs.Walk.{AreApart, CountMore, key_in}
 use Rattle.cube_cells.specs.declared.cube.codes.Codes.{Codes}
 use Rattle.cube_cells.specs.declared.cube.levels.Level.{Level}
 use Rattle.cube_cells.proofs.Cells.KeptLaws.{All-coded_at}
-use Rattle.cube_cells.proofs.Cells.WalkLaws.{same_codes-exact, same_codes-IsEquivalence, coded_at-set, weight-set}
-use Rattle.cube_cells.proofs.Cells.WalkLaws.{weigh}
-use Rattle.cube_cells.proofs.Cells.WalkLaws.{bag_at-replicate}
+use Rattle.cube_cells.proofs.Cells.WalkLaws.{same_codes-exact, same_codes-IsEquivalence, coded_at-set, bag_at-replicate}
+use Rattle.cube_cells.proofs.Cells.WalkLaws.{CountMore-new, CountMore-set_value}
 
 -- ---- one merge
--- told by its look-ups and weights
+-- told by its look-ups and counts
 MergesIn-coded_at : (k : Codes) (old new : CodedCells) (t more : Tally)
     → ((q : Codes) → coded_at new q ≡ cond (same_codes k q) (Some t) (coded_at old q))
     → PlusTally (tally_or_empty (length more.bags) (coded_at old k)) t more
-    → ((weight : Codes → ℕ) → weight_of_cells weight new ≡ weight_of_cells weight old + weight k * more.facts)
-    → MergesIn k old new more
-MergesIn-coded_at k old new t more look plus weights = record {
+    → CountMore more.facts (k ∷ []) old new → MergesIn k old new more
+MergesIn-coded_at k old new t more look plus counts = record {
   merged = record {
     tally = t;
     is_cell = look k ∙ cond-true (same_codes k k) (Some t) (coded_at old k) (same_codes-IsEquivalence.refl k);
     plus = plus;
   };
   others = λ q other. look q ∙ cond-false (same_codes k q) (Some t) (coded_at old q) other;
-  weight = weights;
+  counts_more = counts;
 }
 
 -- into a cell that is there
@@ -52,13 +48,7 @@ MergesIn-set_value k old new t sum more there is plus =
     let some : IsSome (coded_at old k) = rw there refl in
     MergesIn-coded_at k old new sum more
     (λ q. ap (λ (cells : CodedCells). coded_at cells q) is ∙ coded_at-set k q sum old some)
-    (rw there plus)
-    (λ weight. omega (
-      arith,
-      ap (weight_of_cells weight) is,
-      weight-set weight k t sum old there,
-      ap (λ (n : ℕ). weight k * n) plus.facts,
-    ))
+    (rw there plus) (CountMore-set_value more.facts k old new t sum there is plus.facts)
 
 -- a copy is what is merged into nothing
 PlusTally-empty_tally : (more t : Tally) → SameTally more t → PlusTally (empty_tally (length more.bags)) t more
@@ -82,12 +72,7 @@ pub MergesIn-new : (k : Codes) (old new : CodedCells) (t more : Tally) → coded
     → IsPermutation ((k, t) ∷ old) new → SameTally more t → MergesIn k old new more
 MergesIn-new k old new t more none look moved same =
     MergesIn-coded_at k old new t more look (rw none (PlusTally-empty_tally more t same))
-    (λ weight. omega (
-      arith,
-      sum_by-cons (weigh weight) (k, t) old,
-      sum_by-IsPermutation (weigh weight) ((k, t) ∷ old) new moved,
-      ap (λ (n : ℕ). weight k * n) same.facts,
-    ))
+    (CountMore-new more.facts k old new t moved (sym same.facts))
 
 -- ---- one set
 -- while the cells of a set are filled: these are left

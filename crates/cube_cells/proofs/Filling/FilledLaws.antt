@@ -220,7 +220,7 @@ count_in-IsMerge schema sets dictionaries set cell group old new done s m count 
       rw same (omega (
         arith,
         count_in-weight_of_cells dictionaries s new,
-        m.merges.weight (set_weight dictionaries s),
+        m.merges.counts_more (set_weight dictionaries s),
         ap (λ (n : ℕ). n * cell.1.facts) one,
         count_in-weight_of_cells dictionaries s old,
         count,
@@ -233,7 +233,7 @@ count_in-IsMerge schema sets dictionaries set cell group old new done s m count 
       rw other (omega (
         arith,
         count_in-weight_of_cells dictionaries s new,
-        m.merges.weight (set_weight dictionaries s),
+        m.merges.counts_more (set_weight dictionaries s),
         ap (λ (n : ℕ). n * cell.1.facts) none,
         count_in-weight_of_cells dictionaries s old,
         count,

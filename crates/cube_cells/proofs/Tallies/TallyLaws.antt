@@ -16,6 +16,7 @@ use Rattle.cube_counts.specs.Bag.{Bag, weight_of, size_of, one_at, HasLeast, Has
 use Rattle.cube_cells.specs.Sum.{IsSumOf}
 use Rattle.cube_cells.specs.Tally.{IsBagOf}
 use Rattle.cube_counts.proofs.BagLaws.{weight_of-nothing, OneLess-held_of, one_at-refl, one_at-distinct, int_eq-same}
+use Rattle.cube_cells.proofs.Tallies.SumLaws.{sum_of-weight_of}
 use borrow.Author.Differences.{up, down}
 
 -- how often a number stands in a list of values
@@ -53,7 +54,7 @@ total_of-IsSumOf values bag sum is s = omega (
   arith,
   ints,
   total_of-sum_by values,
-  s.is_sum,
+  s.is_sum ∙ sum_of-weight_of bag,
   weight_of-IsBagOf up values bag is,
   weight_of-IsBagOf down values bag is,
 )

@@ -1,7 +1,17 @@
-use Rattle.std.proofs.Common.{rules, sym}
+use Rattle.std.proofs.Common.{rules, sym, arith, ap}
+use Rattle.cube_cells.specs.Tally.{Tally}
 use Rattle.cube_cells.proofs.Tallies.ValueLaws.{AreWithin-AddsValues, AreWithin-SameBags, take-append-drop}
 use Rattle.cube_cells.proofs.Tallies.FactLaws.{holds_fact-AddsValues}
 use Rattle.cube_cells.proofs.cell.Cell.plus.Goals as goal
+
+pub add_values-requires-clause-fits : goal.add_values-requires-clause-fits
+add_values-requires-clause-fits c = rw c.deref_mut.ensures.value
+    (λ k d inside. omega (
+      arith,
+      c.self.invariant k d inside,
+      c.requires.fits,
+      ap (λ (t : Tally). t.facts) c.self.view_is,
+    ))
 
 pub invariant_of-self : goal.invariant_of-self
 invariant_of-self c =
