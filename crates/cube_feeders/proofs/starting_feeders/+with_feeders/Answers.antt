@@ -1,5 +1,5 @@
 use Rattle.std.proofs.Common.{arith, ap, sym, length, ◌≡◌, ◌≤◌, ◌+◌, ◌∷◌, [], ℕ, List, ◌++◌, ◌∙◌, vec_len}
-use Rattle.std.proofs.lemmas.Bool.{eqb-true}
+use Rattle.std.proofs.lemmas.Bool.{eqb-true, eqb-false}
 use Rattle.std.proofs.lemmas.List.{length-append}
 use Rattle.std.proofs.lemmas.Slice.Zip.{AllZip-long}
 use Rattle.cube_feeders.specs.Feeding.{Feeds}
@@ -33,7 +33,7 @@ returns-in-Ok-Some-clause-ends g t c =
     let joined = rw c.in-Ok-Some.is-1 at c.join-end.ensures in
     let promised = rw c.in-Some.is at last.promises in
     let kept : Feeds last.feeder.feed.to_come last.feeder.outlets.items c.in-Ok-Some.end =
-    rw (← promised.0, ← promised.1) joined in
+    rw (← promised) joined in
     rw (last.split, c.keep_end.ensures.ends) (AllZip-push _ _ _ _ _ answered kept)
 
 pub with_feeders-answer-requires-clause-outlets : goal.with_feeders-answer-requires-clause-outlets
@@ -74,3 +74,13 @@ keep_end-requires g t c =
     ∙ ap (λ (n : ℕ). n + 1) (sym rest.ok.0) in
     room-for _ _ ends.len _ _ count (rest.ok.0 ∙ sym (AllZip-long _ _ _ answered) ∙ sym ends.ok.0)
     c.requires.room.room room
+
+pub unwrap-post-requires : goal.unwrap-post-requires
+unwrap-post-requires g t c =
+    let some = eqb-false (vec_len c.args.feeders) 0 (sym c.is_empty.ensures ∙ c.if-is_empty.false) in
+    c.pop.ensures.variant.1 (omega (arith, some, c.requires.room.posts))
+
+pub start_last-feeders-requires-clause-some : goal.start_last-feeders-requires-clause-some
+start_last-feeders-requires-clause-some g t c κs within =
+    let some = eqb-false (vec_len c.args.feeders) 0 (sym c.is_empty.ensures ∙ c.if-is_empty.false) in
+    omega (arith, some)
