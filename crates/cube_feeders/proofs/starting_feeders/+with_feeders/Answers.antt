@@ -1,24 +1,16 @@
-use Rattle.std.proofs.Common.{arith, ap, sym, length, ◌≡◌, ◌≤◌, ◌+◌, ◌∷◌, [], ℕ, List, ◌++◌, ◌∙◌, vec_len}
+use Rattle.std.proofs.Common.{arith, ap, sym, ◌≡◌, ◌≤◌, ◌+◌, ◌∷◌, [], ℕ, ◌∙◌, vec_len}
 use Rattle.std.proofs.lemmas.Bool.{eqb-true, eqb-false}
-use Rattle.std.proofs.lemmas.List.{length-append}
 use Rattle.std.proofs.lemmas.Slice.Zip.{AllZip-long}
 use Rattle.cube_feeders.specs.Feeding.{Feeds}
-use Rattle.cube_feeders.proofs.PlaceLaws.{All-append_front, AllZip-nil}
+use Rattle.cube_feeders.proofs.PlaceLaws.{All-append_front, AllZip-nil, length-last, room-for}
 use Rattle.cube_core.proofs.ListLaws.{AllZip-push}
 use Rattle.cube_feeders.proofs.starting_feeders.+with_feeders.Goals as goal
-
--- how many are left of a list whose last was taken
-length-last : {A : Type 0} (all rest : List A) (last : A) → all ≡ rest ++ last ∷ [] → length all ≡ length rest + 1
-length-last all rest last split = ap length split ∙ length-append rest (last ∷ [])
 
 less-one : (all rest most : ℕ) → all ≡ rest + 1 → all ≤ most → rest ≤ most
 less-one all rest most count within = omega arith
 
 less-both : (all rest posts left : ℕ) → all ≡ rest + 1 → posts ≡ left + 1 → all ≤ posts → rest ≤ left
 less-both all rest posts left count posts_count within = omega arith
-
-room-for : (all rest ends room later : ℕ) → all ≡ rest + 1 → rest ≡ ends → all ≤ room → room ≤ later → ends + 1 ≤ later
-room-for all rest ends room later count long within grows = omega arith
 
 pub returns-then-is_empty-clause-ends : goal.returns-then-is_empty-clause-ends
 returns-then-is_empty-clause-ends g t c =
