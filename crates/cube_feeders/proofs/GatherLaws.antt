@@ -1,7 +1,8 @@
 -- What was gathered grows look by look.
 use Rattle.std.proofs.Common.{append-nil, ◌≡◌, ◌≢◌, ◌<◌, ◌≤◌, ◌+◌, ◌==◌, ℕ, suc, Bool, true, false, List, [], ◌∷◌, ◌++◌}
 use Rattle.std.proofs.Common.{length, get_or, set, replicate, map, refl, ap, sym, ◌∙◌, ◌⊎◌, inl, inr, arith, rules}
-use Rattle.std.proofs.Common.{eq-eqb, append_assoc, length-set, get_or-set_same, get_or-set_other}
+use Rattle.std.proofs.Common.{eq-eqb, append_assoc, length-set, get_or-set_same, get_or-set_other, subst}
+use Rattle.std.specs.Prelude.{Result, Ok, Err, OnOk, OnErr, is_err}
 use Rattle.std.proofs.lemmas.List.{map-append, map-set, length-map, length-replicate, get_or-map, get_or_default}
 use Rattle.std.proofs.lemmas.List.{get_or-replicate, ext_get_or}
 use Rattle.std.proofs.lemmas.List.FromFn.{get_or-map-range_with_len, length-map-range_with_len}
@@ -39,6 +40,39 @@ eq-cases i j = grind arith
 pub stands-nothing : {B : Type 0} (stands : B → Arrivals → Type 0) (builder : B) (wanting : Bool) (arrivals : Arrivals)
     → StandsAtFirst stands builder wanting arrivals → StandsAtFirst stands builder wanting (arrivals ++ [])
 stands-nothing stands builder wanting arrivals at = rw (append-nil arrivals) at
+
+-- an item was dropped where memory was wanting before
+pub stands-dropped : {B : Type 0} (stands : B → Arrivals → Type 0) (builder : B) (wanting : Bool) (arrivals : Arrivals)
+    (arrival : ℕ × Item) → wanting ≡ true → StandsAtFirst stands builder wanting arrivals
+    → StandsAtFirst stands builder wanting (arrivals ++ arrival ∷ [])
+stands-dropped stands builder wanting arrivals arrival wants at = record {
+  first = at.first;
+  rest = at.rest ++ arrival ∷ [];
+  split = ap (λ (all : Arrivals). all ++ arrival ∷ []) at.split ∙ append_assoc at.first at.rest (arrival ∷ []);
+  stands_at = at.stands_at;
+  at_all = λ enough. cc (sym wants ∙ enough);
+}
+
+-- an item was taken, or memory was wanting for it
+pub stands-taken : {B E : Type 0} (stands : B → Arrivals → Type 0) (before after : B) (answer : Result Unit E)
+    (arrivals : Arrivals) (arrival : ℕ × Item) → StandsAtFirst stands before false arrivals
+    → OnOk answer ((all : Arrivals) → stands before all → stands after (all ++ arrival ∷ []))
+    → OnErr answer ((all : Arrivals) → stands before all → stands after all)
+    → StandsAtFirst stands after (is_err answer) (arrivals ++ arrival ∷ [])
+stands-taken stands before after (Ok done) arrivals arrival at taken stays =
+    let all : arrivals ≡ at.first =
+    at.split ∙ ap (λ (rest : Arrivals). at.first ++ rest) (at.at_all refl) ∙ append-nil at.first in
+    record {
+      first = arrivals ++ arrival ∷ [];
+      rest = [];
+      split = sym (append-nil (arrivals ++ arrival ∷ []));
+      stands_at = taken arrivals (subst (stands before) (sym all) at.stands_at);
+      at_all = λ enough. refl;
+    }
+stands-taken stands before after (Err fault) arrivals arrival at taken stays =
+    let left = stays at.first at.stands_at in
+    stands-dropped stands after true arrivals arrival refl
+    (record { first = at.first; rest = at.rest; split = at.split; stands_at = left; at_all = λ enough. cc enough })
 
 from-append : (source : ℕ) (xs ys : List Item) → from source (xs ++ ys) ≡ from source xs ++ from source ys
 from-append source xs ys = map-append (λ item. (source, item)) xs ys

@@ -1,8 +1,8 @@
 -- Lists that are changed place by place.
-use Rattle.std.proofs.Common.{◌≡◌, ◌<◌, ◌+◌, ◌++◌, ℕ, zero, suc, List, [], ◌∷◌, length, take, get_or, set, map, refl}
+use Rattle.std.proofs.Common.{◌≡◌, ◌<◌, ◌≤◌, ◌+◌, ◌++◌, ℕ, zero, suc, List, [], ◌∷◌, length, take, get_or, set, map, refl}
 use Rattle.std.proofs.Common.{ap, arith, ◌∙◌}
 use Rattle.std.proofs.lemmas.Grind.{common_steps}
-use Rattle.std.proofs.lemmas.List.{get_or_append_left}
+use Rattle.std.proofs.lemmas.List.{get_or_append_left, length-append}
 use Rattle.std.proofs.Math.Seq.{get_or-append_seam, take-append_seam}
 use Rattle.std.specs.List.{All, AllZip}
 
@@ -75,3 +75,12 @@ AllZip-nil R (x ∷ xs) ys a b = absurd (omega (arith, a))
 -- what a lent slice wrote back into a list of its length
 pub take-written_back : {A : Type 0} (xs ys : List A) (n : _) → length xs ≡ n → take n (xs ++ ys) ≡ xs
 take-written_back xs ys n e = rw (← e) (take-append_seam xs ys)
+
+-- how many are left of a list whose last was taken
+pub length-last : {A : Type 0} (all rest : List A) (last : A) → all ≡ rest ++ last ∷ [] → length all ≡ length rest + 1
+length-last all rest last split = ap length split ∙ length-append rest (last ∷ [])
+
+-- there is room for one more where there was room for all
+pub room-for : (all rest kept room later : ℕ) → all ≡ rest + 1 → rest ≡ kept → all ≤ room → room ≤ later
+    → kept + 1 ≤ later
+room-for all rest kept room later count long within grows = omega arith

@@ -15,7 +15,7 @@ use std::alloc::Global;
 use std::io::Read;
 use std::snapshot::Snapshot;
 use std::sync::Wait;
-use std::thread::{Promise, Scope, Threads};
+use std::thread::{Promise, PromisedHandle, Scope, Threads};
 
 // What a builder's thread promises of what it gives back.
 #[derive(Drop)]
@@ -58,6 +58,65 @@ fn keep<B: TakesItems>(gatherer: Gatherer<B>, roster: &mut Roster<B>)
     };
 }
 
+// Starts a builder, which waits for a word before it gathers.
+fn start<'s, 'e: 's, T: Threads + Wait + Sync + 'e, B: TakesItems + Send + 'e, G: Gate + Sync + 'e>(
+    rt: &'e T,
+    scope: &Scope<'s, &'e ()>,
+    gate: &'e G,
+    gatherer: Gatherer<B>,
+    post: Inlet<Word>,
+) -> Option<PromisedHandle<Option<Gatherer<B>>, PromisesGather<B>>>
+    requires ready { IsReady B.sources B.stands gatherer }
+    ensures { IfSome result (λ child. child.promise.old.value ≡ gatherer) }
+{
+    let promise = PromisesGather {
+        old: Snapshot::of(&gatherer),
+    };
+    let started = scope.spawn_with(
+        promise,
+        move || -> Option<Gatherer<B>>
+            requires { IsReady B.sources B.stands gatherer }
+            ensures { IfSome result (HasGathered B.stands gatherer) }
+        { gather_on_word(rt, post, gatherer, gate) },
+    );
+    started.ok()
+}
+
+// Starts the feeders, gathers into the first builder on this thread, and keeps what it gathered.
+fn with_first<
+    's,
+    'e: 's,
+    T: Threads + Wait + Sync + 'e,
+    R: Read + Drop + Send + 'e,
+    B: TakesItems,
+    G: Gate + Sync + 'e,
+>(
+    rt: &'e T,
+    alloc: Global,
+    scope: &Scope<'s, &'e ()>,
+    gate: &'e G,
+    gatherer: Gatherer<B>,
+    feeders: Vec<Feeder<'e, R>>,
+    roster: &mut Roster<B>,
+) -> Result<(), NoThread>
+    requires outlets { All
+        (λ feeder. (1 ≤ vec_len feeder.outlets) × (vec_len feeder.outlets ≤ 8)) feeders.items }
+    requires start { MayStart 1 (vec_len feeders) roster.old }
+    requires ready { IsReady B.sources B.stands gatherer }
+    ensures ends { OnOk result (AllZip
+        (λ feeder end. Feeds feeder.feed.to_come feeder.outlets.items end)
+        feeders.entry.items roster.new.ends.items) }
+    ensures gatherers { OnOk result
+        (AllZip (HasGathered B.stands) (gatherer ∷ []) roster.new.gatherers.items) }
+    ensures room { OnOk result
+        (vec_capacity roster.old.gatherers ≤ vec_capacity roster.new.gatherers) }
+{
+    let mut gatherer = gatherer;
+    with_feeders(rt, alloc, scope, gate, feeders, &mut gatherer, roster)?;
+    keep(gatherer, roster);
+    Ok(())
+}
+
 /// Starts all builders but the first, the last one first, then the feeders, and joins them all. The first builder
 /// gathers on the caller's thread.
 ///
@@ -91,24 +150,12 @@ pub(crate) fn with_builders<
         (vec_capacity roster.old.gatherers ≤ vec_capacity roster.new.gatherers) }
 {
     let mut builders = builders;
-    let mut gatherer = builders.pop().unwrap();
+    let gatherer = builders.pop().unwrap();
     if builders.is_empty() {
-        with_feeders(rt, alloc, scope, gate, feeders, &mut gatherer, roster)?;
-        keep(gatherer, roster);
-        return Ok(());
+        return with_first(rt, alloc, scope, gate, gatherer, feeders, roster);
     }
     let post = roster.posts.pop().unwrap();
-    let promise = PromisesGather {
-        old: Snapshot::of(&gatherer),
-    };
-    let started = scope.spawn_with(
-        promise,
-        move || -> Option<Gatherer<B>>
-            requires { IsReady B.sources B.stands gatherer }
-            ensures { IfSome result (HasGathered B.stands gatherer) }
-        { gather_on_word(rt, post, gatherer, gate) },
-    );
-    let Ok(child) = started else {
+    let Some(child) = start(rt, scope, gate, gatherer, post) else {
         tell_all(&mut roster.words, Word::Stop);
         return Err(NoThread);
     };

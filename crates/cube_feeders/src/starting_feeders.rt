@@ -7,11 +7,11 @@ ghost use Rattle.cube_feeders.specs.Starting.{RosterHasRoom, IsReady, HasGathere
 use crate::feeding::feed_out;
 use crate::gate::Gate;
 use crate::gathering::gather;
-use crate::parcel::{FeederEnd, Parcel};
+use crate::parcel::FeederEnd;
 use crate::roster::{Feeder, Gatherer, NoThread, Roster};
 use crate::words::{Word, tell_all, wait_for_word};
-use cube_feed::{Feed, TakesItems};
-use cube_link::{Inlet, Outlet};
+use cube_feed::TakesItems;
+use cube_link::Inlet;
 use std::alloc::Global;
 use std::io::Read;
 use std::snapshot::Snapshot;
@@ -21,12 +21,12 @@ use std::thread::{Promise, PromisedHandle, Scope, Threads};
 // What a feeder's thread promises of its end.
 #[derive(Drop)]
 struct PromisesFeed<'e, R: Read + Drop> {
-    feed: Snapshot<Feed<'e, R>>,
-    outlets: Snapshot<Vec<Outlet<Parcel>>>,
+    feeder: Snapshot<Feeder<'e, R>>,
 }
 
 impl<'e, R: Read + Drop> Promise<Option<FeederEnd>> for PromisesFeed<'e, R> {
-    ghost kept_by = { λ p r. IfSome r (Feeds p.feed.value.to_come p.outlets.value.items) };
+    ghost kept_by = { λ p r. IfSome r
+        (Feeds p.feeder.value.feed.to_come p.feeder.value.outlets.items) };
 }
 
 fn feed_on_word<W: Wait, R: Read + Drop, G: Gate>(
@@ -90,15 +90,14 @@ fn start_last<
     requires most { vec_len feeders ≤ 64 }
     requires outlets { All
         (λ feeder. (1 ≤ vec_len feeder.outlets) × (vec_len feeder.outlets ≤ 8)) feeders.items }
-    ensures { StartsLast feeders.entry.items result.0.items (λ feeder. IfSome result.1 (λ child.
-        (child.promise.feed.value ≡ feeder.feed) × (child.promise.outlets.value ≡ feeder.outlets))) }
+    ensures { StartsLast feeders.entry.items result.0.items
+        (λ feeder. IfSome result.1 (λ child. child.promise.feeder.value ≡ feeder)) }
 {
+    let source = feeders.len() as u32;
     let mut feeders = feeders;
     let feeder = feeders.pop().unwrap();
-    let source = feeders.len() as u32 + 1;
     let promise = PromisesFeed {
-        feed: Snapshot::of(&feeder.feed),
-        outlets: Snapshot::of(&feeder.outlets),
+        feeder: Snapshot::of(&feeder),
     };
     let started = scope.spawn_with(
         promise,

@@ -2,7 +2,7 @@
 ghost use Rattle.std.specs.Prelude.{◌≡◌, ◌≤◌, [], length, map, vec_len, IfOk, OnOk};
 ghost use Rattle.std.specs.List.{All};
 ghost use Rattle.cube_feed.specs.Feed.{rest_of_feed};
-ghost use Rattle.cube_feeders.specs.Wiring.{Connects, AreLinked};
+ghost use Rattle.cube_feeders.specs.Wiring.{Grows, Connects, AreLinked};
 
 use crate::parcel::Parcel;
 use crate::roster::{Feeder, Gatherer, Place};
@@ -12,6 +12,20 @@ use cube_feed::Feed;
 use cube_link::{Inlet, Outlet, link};
 use std::alloc::{AllocError, Global};
 use std::io::Read;
+
+// A link to a builder.
+fn link_to<B: Drop>(
+    alloc: Global,
+    capacity: usize,
+    gatherer: &mut Gatherer<B>,
+) -> Result<Outlet<Parcel>, AllocError>
+    requires { (1 ≤ capacity) × (capacity ≤ 65536) }
+    ensures { IfOk result (Grows gatherer.old gatherer.new) }
+{
+    let (outlet, inlet) = link(alloc, capacity)?;
+    gatherer.inlets.push(inlet)?;
+    Ok(outlet)
+}
 
 // A link from one source to each builder.
 fn connect<B: Drop>(
@@ -24,8 +38,7 @@ fn connect<B: Drop>(
 {
     let mut outlets = Vec::with_capacity(alloc, gatherers.len())?;
     for gatherer in gatherers.iter_mut() {
-        let (outlet, inlet) = link(alloc, capacity)?;
-        gatherer.inlets.push(inlet)?;
+        let outlet = link_to(alloc, capacity, gatherer)?;
         outlets.push(outlet)?;
     }
     Ok(outlets)

@@ -1,4 +1,4 @@
-use Rattle.std.proofs.Common.{refl, false}
+use Rattle.std.proofs.Common.{refl, ◌∙◌, false}
 use Rattle.cube_feeders.specs.Gathering.{links_ended}
 use Rattle.cube_feeders.proofs.GatherLaws.{gathering-start, gathers-all}
 use Rattle.cube_feeders.proofs.gathering.gather.Goals as goal
@@ -20,3 +20,15 @@ returns-then-have_ended-clause-gathers g c =
       | then-wanting w ↦ rw w.result-is (rw w.if-wanting.true at all)
       | else-wanting w ↦ rw w.result-is (rw w.if-wanting.false at all)
     ]
+
+pub loop-preserved : goal.loop-preserved
+loop-preserved g c = (
+  c.look_round.ensures.sources ∙ c.loop.invariant.0,
+  c.look_round.ensures.gathering c.args.builder.now c.args.inlets.now c.loop.invariant.1,
+)
+
+pub loop-preserved-then-look_round : goal.loop-preserved-then-look_round
+loop-preserved-then-look_round g c = (
+  c.look_round.ensures.sources ∙ c.loop.invariant.0,
+  c.look_round.ensures.gathering c.args.builder.now c.args.inlets.now c.loop.invariant.1,
+)

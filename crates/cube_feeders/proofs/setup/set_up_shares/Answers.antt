@@ -94,3 +94,15 @@ returns-clause-start g c =
         posts = omega (arith, feeds, count, start.for_feeders.posts, sources, builders);
       };
     }
+
+pub link_up-requires-clause-builders : goal.link_up-requires-clause-builders
+link_up-requires-clause-builders g c = omega (arith, ap length c.in_ok-one.ensures, c.in_ok-one.one.ok.0)
+
+pub swap_remove-requires : goal.swap_remove-requires
+swap_remove-requires g c =
+    omega (
+      arith,
+      ap length (c.in_ok-wholes.ensures.builders ∙ c.in_ok-one.ensures),
+      length-map c.in_ok-wholes.wholes.items (λ whole. whole.builder),
+      c.in_ok-wholes.wholes.ok.0,
+    )

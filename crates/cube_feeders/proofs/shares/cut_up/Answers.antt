@@ -1,15 +1,11 @@
-use Rattle.std.proofs.Common.{rules, ◌≡◌, ◌∷◌, ◌++◌, [], ◌∙◌, sym, ap, length, List}
+use Rattle.std.proofs.Common.{rules, ◌≡◌, ◌∷◌, ◌++◌, [], ◌∙◌, sym, ap}
 use Rattle.std.proofs.Common.{sum_by, vec_len, arith, false, refl, append_assoc}
-use Rattle.std.proofs.lemmas.List.{append-nil, map-append}
+use Rattle.std.proofs.lemmas.List.{append-nil, map-append, nil_from_length}
 use Rattle.std.proofs.lemmas.List.Elements.{All-push}
 use Rattle.std.proofs.lemmas.List.Sums.{sum_by-cons}
 use Rattle.cube_feeders.specs.Shares.{inlets_of}
 use Rattle.cube_feeders.proofs.ShareLaws.{inlets-more}
 use Rattle.cube_feeders.proofs.shares.cut_up.Goals as goal
-
-nil : {A : Type 0} (xs : List A) → length xs ≡ 0 → xs ≡ []
-nil [] is = cc
-nil (x ∷ xs) is = absurd (omega (arith, is))
 
 pub loop-builder-preserved : goal.loop-builder-preserved
 loop-builder-preserved g c =
@@ -33,15 +29,23 @@ loop-builder-preserved g c =
       All-push (λ share. share.wanting ≡ false) loop.shares.items _ was.7 refl,
     )
 
+pub split_off-requires : goal.split_off-requires
+split_off-requires g c =
+    let loop = c.loop-builder in
+    let all = g.B.TakesItems.sources in
+    let left : loop.builder-iterator.rest.items ≡ c.in-Some.builder ∷ c.next.new.self.rest.items = search rules in
+    let sum = ap (sum_by all) left ∙ sum_by-cons all c.in-Some.builder c.next.new.self.rest.items in
+    omega (arith, sum, loop.invariant.3, c.sources.ensures)
+
 pub returns-clause-whole : goal.returns-clause-whole
 returns-clause-whole g c =
     let loop = c.loop-builder in
     let was = loop.invariant in
-    let done : loop.builder-iterator.rest.items ≡ [] = nil loop.builder-iterator.rest.items (search rules) in
+    let done : loop.builder-iterator.rest.items ≡ [] = nil_from_length loop.builder-iterator.rest.items (search rules) in
     let all : loop.yielded ≡ c.args.whole.builder.items =
     sym (append-nil loop.yielded) ∙ ap (λ rest. loop.yielded ++ rest) (sym done) ∙ was.6 in
     let none : loop.inlets.items ≡ [] =
-    nil loop.inlets.items (sym loop.inlets.ok.0 ∙ sym was.3 ∙ ap (sum_by g.B.TakesItems.sources) done) in
+    nil_from_length loop.inlets.items (sym loop.inlets.ok.0 ∙ sym was.3 ∙ ap (sum_by g.B.TakesItems.sources) done) in
     record {
       builders = was.0 ∙ all;
       inlets = sym (append-nil (inlets_of loop.shares.items))

@@ -1,5 +1,7 @@
-use Rattle.std.proofs.Common.{◌≡◌, ◌∷◌, ◌++◌, [], ◌∙◌, sym, ap, false}
-use Rattle.std.proofs.lemmas.List.{map-append}
+use Rattle.std.proofs.Common.{rules, ◌≡◌, ◌∷◌, ◌++◌, [], ◌∙◌, sym, ap, false}
+use Rattle.std.proofs.lemmas.Iterator.Adapters.{YieldsList-from_vec}
+use Rattle.std.proofs.lemmas.Iterator.Consumers.{YieldsList-end}
+use Rattle.std.proofs.lemmas.List.{map-append, map-id}
 use Rattle.std.proofs.lemmas.List.Elements.{All-push}
 use Rattle.cube_feeders.proofs.ShareLaws.{inlets-push}
 use Rattle.cube_feeders.proofs.shares.put_together.Goals as goal
@@ -20,3 +22,16 @@ loop-share-preserved g c =
             (sym w.wanting-is ∙ off)
       ],
     )
+
+pub returns : goal.returns
+returns g c =
+    let loop = c.loop-share in
+    let gives = c.into_iter-share-iterator.ensures.into_iter_gives in
+    let ends = YieldsList-end (YieldsList-from_vec c.args.shares.items (search (rules, gives)) (search (rules, gives)))
+    loop.yielded loop.share-iterator loop.yielded_by c.next.result c.next.new.self c.in-None.is c.next.ensures.steps in
+    let all : loop.yielded ≡ c.args.shares.items = sym (map-id loop.yielded) ∙ ends.0 in
+    rw (← all) (record {
+      builders = loop.invariant.0;
+      inlets = loop.invariant.1;
+      enough = loop.invariant.2;
+    })

@@ -1,24 +1,16 @@
-use Rattle.std.proofs.Common.{arith, ap, sym, length, ◌≡◌, ◌≤◌, ◌+◌, ◌∷◌, [], ℕ, List, ◌++◌, ◌∙◌, vec_len}
-use Rattle.std.proofs.lemmas.Bool.{eqb-true}
-use Rattle.std.proofs.lemmas.List.{length-append}
+use Rattle.std.proofs.Common.{arith, ap, sym, ◌≡◌, ◌≤◌, ◌+◌, ◌∷◌, [], ℕ, ◌∙◌, vec_len}
+use Rattle.std.proofs.lemmas.Bool.{eqb-true, eqb-false}
 use Rattle.std.proofs.lemmas.Slice.Zip.{AllZip-long}
 use Rattle.cube_feeders.specs.Feeding.{Feeds}
-use Rattle.cube_feeders.proofs.PlaceLaws.{All-append_front, AllZip-nil}
+use Rattle.cube_feeders.proofs.PlaceLaws.{All-append_front, AllZip-nil, length-last, room-for}
 use Rattle.cube_core.proofs.ListLaws.{AllZip-push}
 use Rattle.cube_feeders.proofs.starting_feeders.+with_feeders.Goals as goal
-
--- how many are left of a list whose last was taken
-length-last : {A : Type 0} (all rest : List A) (last : A) → all ≡ rest ++ last ∷ [] → length all ≡ length rest + 1
-length-last all rest last split = ap length split ∙ length-append rest (last ∷ [])
 
 less-one : (all rest most : ℕ) → all ≡ rest + 1 → all ≤ most → rest ≤ most
 less-one all rest most count within = omega arith
 
 less-both : (all rest posts left : ℕ) → all ≡ rest + 1 → posts ≡ left + 1 → all ≤ posts → rest ≤ left
 less-both all rest posts left count posts_count within = omega arith
-
-room-for : (all rest ends room later : ℕ) → all ≡ rest + 1 → rest ≡ ends → all ≤ room → room ≤ later → ends + 1 ≤ later
-room-for all rest ends room later count long within grows = omega arith
 
 pub returns-then-is_empty-clause-ends : goal.returns-then-is_empty-clause-ends
 returns-then-is_empty-clause-ends g t c =
@@ -33,7 +25,7 @@ returns-in-Ok-Some-clause-ends g t c =
     let joined = rw c.in-Ok-Some.is-1 at c.join-end.ensures in
     let promised = rw c.in-Some.is at last.promises in
     let kept : Feeds last.feeder.feed.to_come last.feeder.outlets.items c.in-Ok-Some.end =
-    rw (← promised.0, ← promised.1) joined in
+    rw (← promised) joined in
     rw (last.split, c.keep_end.ensures.ends) (AllZip-push _ _ _ _ _ answered kept)
 
 pub with_feeders-answer-requires-clause-outlets : goal.with_feeders-answer-requires-clause-outlets
@@ -74,3 +66,13 @@ keep_end-requires g t c =
     ∙ ap (λ (n : ℕ). n + 1) (sym rest.ok.0) in
     room-for _ _ ends.len _ _ count (rest.ok.0 ∙ sym (AllZip-long _ _ _ answered) ∙ sym ends.ok.0)
     c.requires.room.room room
+
+pub unwrap-post-requires : goal.unwrap-post-requires
+unwrap-post-requires g t c =
+    let some = eqb-false (vec_len c.args.feeders) 0 (sym c.is_empty.ensures ∙ c.if-is_empty.false) in
+    c.pop.ensures.variant.1 (omega (arith, some, c.requires.room.posts))
+
+pub start_last-feeders-requires-clause-some : goal.start_last-feeders-requires-clause-some
+start_last-feeders-requires-clause-some g t c κs within =
+    let some = eqb-false (vec_len c.args.feeders) 0 (sym c.is_empty.ensures ∙ c.if-is_empty.false) in
+    omega (arith, some)

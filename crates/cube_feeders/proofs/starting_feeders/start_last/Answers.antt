@@ -20,8 +20,5 @@ returns g c = record {
   promises =
       ok-holds c.spawn_with-started.result c.ok.result _ c.ok.ensures.value
       (IfOk-weaker c.spawn_with-started.result _ _
-      (λ child same. (
-        ap (λ p. p.feed.value) same ∙ c.of.ensures,
-        ap (λ p. p.outlets.value) same ∙ c.of-2.ensures,
-      )) c.spawn_with-started.ensures.ok);
+      (λ child same. ap (λ p. p.feeder.value) same ∙ c.of.ensures) c.spawn_with-started.ensures.ok);
 }

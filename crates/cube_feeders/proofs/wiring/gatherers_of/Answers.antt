@@ -1,5 +1,7 @@
-use Rattle.std.proofs.Common.{◌≡◌, ◌∷◌, ◌++◌, [], ◌∙◌, ap}
-use Rattle.std.proofs.lemmas.List.{map-append}
+use Rattle.std.proofs.Common.{rules, ◌≡◌, ◌∷◌, ◌++◌, [], ◌∙◌, ap, sym}
+use Rattle.std.proofs.lemmas.Iterator.Adapters.{YieldsList-from_vec}
+use Rattle.std.proofs.lemmas.Iterator.Consumers.{YieldsList-end}
+use Rattle.std.proofs.lemmas.List.{map-append, map-id}
 use Rattle.std.proofs.lemmas.List.Elements.{All-push}
 use Rattle.cube_feeders.proofs.wiring.gatherers_of.Goals as goal
 
@@ -12,3 +14,11 @@ loop-builder-preserved g c =
       All-push (λ gatherer. gatherer.inlets.items ≡ []) loop.gatherers.items _ loop.invariant.1
           c.in_ok-inlets.ensures.items,
     )
+
+pub returns-clause-builders : goal.returns-clause-builders
+returns-clause-builders g c =
+    let loop = c.loop-builder in
+    let gives = c.into_iter-builder-iterator.ensures.into_iter_gives in
+    let ends = YieldsList-end (YieldsList-from_vec c.args.builders.items (search (rules, gives)) (search (rules, gives)))
+    loop.yielded loop.builder-iterator loop.yielded_by c.next.result c.next.new.self c.in-None.is c.next.ensures.steps in
+    loop.invariant.0 ∙ sym (map-id loop.yielded) ∙ ends.0
