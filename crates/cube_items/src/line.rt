@@ -221,22 +221,17 @@ fn insert_or_update(
     ensures { IfOk result (λ what.
         what ≡ unless_at_fault (change_by operation schema.now fields.now) schema.now fields.now) }
 {
-    let mut fact = Fact {
-        dims: DimensionValues::new(alloc),
-        measures: SmallSequence::new(alloc),
-    };
-    fact.measures.reserve_exact(schema.measures().len())?;
-    match put::<Option<Text>, Option<i64>, _, _>(
-        alloc,
-        schema,
-        fields,
-        &mut fact.dims,
-        &mut fact.measures,
-    )? {
-        Ok(id) => match operation {
-            Operation::Insert => Ok(Ok(Change::Insert { id, fact })),
-            Operation::Update => Ok(Ok(Change::Update { id, fact })),
-        },
+    let mut measures = SmallSequence::new(alloc);
+    measures.reserve_exact(schema.measures().len())?;
+    let mut dims = DimensionValues::new(alloc);
+    match put::<Option<Text>, Option<i64>, _, _>(alloc, schema, fields, &mut dims, &mut measures)? {
+        Ok(id) => {
+            let fact = Fact { dims, measures };
+            match operation {
+                Operation::Insert => Ok(Ok(Change::Insert { id, fact })),
+                Operation::Update => Ok(Ok(Change::Update { id, fact })),
+            }
+        }
         Err(fault) => Ok(Err(fault)),
     }
 }
