@@ -1,4 +1,5 @@
 -- The bag that the values of a `Counted` hold.
+use Rattle.std.specs.Prelude.{Option, Some, None}
 use Rattle.cube_counts.specs.Bag.{Bag}
 use Rattle.cube_counts.specs.declared.counted.Values.{Values}
 use Rattle.cube_counts.specs.declared.counted.Values.TheVariants.{One, Few, Narrow, Logged, Many}
@@ -10,3 +11,8 @@ bag_of (Few short) = short
 bag_of (Narrow narrow) = narrow.value
 bag_of (Logged log) = log.value
 bag_of (Many table) = table.value
+
+-- what is left of a representation after an edit: the new values where there are some, and else its own bag
+abbrev pub bag_left : Bag → Option Values → Bag
+bag_left own None = own
+bag_left own (Some values) = bag_of values

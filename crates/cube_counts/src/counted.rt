@@ -3,7 +3,7 @@ ghost use Rattle.std.specs.Prelude.{nat_lt, ◌==◌, ℤ, ◌≡◌, ◌<◌, �
 ghost use Rattle.std.specs.Bool.{OnTrue, OnFalse};
 ghost use Rattle.cube_counts.specs.Bag.{Bag, AddsBag, AddsOne, AddsTimes, SameHeld, held_of, size_of, HasLeast, HasGreatest};
 ghost use Rattle.cube_counts.specs.Narrow.{once_each};
-ghost use Rattle.cube_counts.specs.Values.{bag_of};
+ghost use Rattle.cube_counts.specs.Values.{bag_of, bag_left};
 
 use crate::log::Log;
 use crate::narrow::Narrow;
@@ -13,6 +13,7 @@ use crate::table::Table;
 use std::alloc::{AllocError, Global};
 use std::collections::HashMap;
 use std::marker::Model;
+use std::mem;
 
 /// How often a number comes at most that is merged one by one into a narrow list: so many take the room of a pair.
 const SPLIT: u64 = 4;
@@ -196,8 +197,44 @@ impl Counted {
     }
 }
 
-// Adds all numbers of other values.
+// Adds all numbers of other values, or else puts a copy of those in the place of the first, and adds the first to it.
 fn merge_values(alloc: Global, values: &mut Values, more: &Values) -> Result<(), AllocError>
+    requires { size_of (bag_of values.old) + size_of (bag_of more.now) < 2 ^ 64 }
+    ensures { OnOk result (AddsBag (bag_of values.old) (bag_of values.new) (bag_of more.now)) }
+{
+    let Some(copy) = copy_of_larger(alloc, values, more)? else {
+        return append_values(alloc, values, more);
+    };
+    let old = mem::replace(values, copy);
+    append_values(alloc, values, &old)
+}
+
+// A copy of other values, where it takes less to add the first to it: where they are in a form for more numbers, and
+// as a log where two short lists are too long for one.
+fn copy_of_larger(
+    alloc: Global,
+    values: &Values,
+    more: &Values,
+) -> Result<Option<Values>, AllocError>
+    ensures { IfOk result (λ copy. IfSome copy (λ values. SameHeld (bag_of more.now) (bag_of values))) }
+{
+    let copy = match (values, more) {
+        (Values::One(_), Values::Few(short)) => Values::Few(short.copy(alloc)?),
+        (Values::One(single), Values::Narrow(narrow)) => {
+            Values::Narrow(narrow.copy(alloc, usize::from(single.pair().1 > 0))?)
+        }
+        (Values::One(_) | Values::Few(_) | Values::Narrow(_), Values::Logged(log)) => {
+            Values::Logged(log.copy(alloc)?)
+        }
+        (Values::Few(short), Values::Few(more)) if short.pairs().len() + more.pairs().len() > FEW =>
+            { Values::Logged(Log::of_both(alloc, more.pairs(), &[])?) }
+        _ => return Ok(None),
+    };
+    Ok(Some(copy))
+}
+
+// Adds all numbers of other values.
+fn append_values(alloc: Global, values: &mut Values, more: &Values) -> Result<(), AllocError>
     requires { size_of (bag_of values.old) + size_of (bag_of more.now) < 2 ^ 64 }
     ensures { OnOk result (AddsBag (bag_of values.old) (bag_of values.new) (bag_of more.now)) }
 {
@@ -249,61 +286,30 @@ fn merge_pairs(alloc: Global, values: &mut Values, pairs: &[(i64, u64)]) -> Resu
     Ok(())
 }
 
-// Adds the numbers of a short list: behind those of a log at once, to a copy of it where there is one number at most, and
-// as a log of both where two lists are too long for one.
+// Adds the numbers of a short list: behind those of a log at once.
 fn merge_short(alloc: Global, values: &mut Values, more: &Short) -> Result<(), AllocError>
     requires { size_of (bag_of values.old) + size_of more.now < 2 ^ 64 }
     ensures { OnOk result (AddsBag (bag_of values.old) (bag_of values.new) more.now) }
 {
-    let grown = match values {
-        Values::One(single) => single_and_short(alloc, single, more)?,
-        Values::Few(short) if short.pairs().len() + more.pairs().len() > FEW => {
-            Values::Logged(log_of(alloc, short.pairs(), more.pairs())?)
-        }
-        Values::Logged(log) => {
-            if log.append_few(more.pairs())? {
-                return Ok(());
-            }
-            return merge_pairs(alloc, values, more.pairs());
-        }
-        Values::Few(_) | Values::Narrow(_) | Values::Many(_) => {
-            return merge_pairs(alloc, values, more.pairs());
-        }
-    };
-    *values = grown;
-    Ok(())
+    if let Values::Logged(log) = values
+        && log.append_few(more.pairs())?
+    {
+        return Ok(());
+    }
+    merge_pairs(alloc, values, more.pairs())
 }
 
-// A copy of a short list, with the number that is held alone.
-fn single_and_short(alloc: Global, single: &Single, short: &Short) -> Result<Values, AllocError>
-    requires { size_of single.now + size_of short.now < 2 ^ 64 }
-    ensures { IfOk result (λ values. AddsBag single.now (bag_of values) short.now) }
-{
-    let mut values = Values::Few(short.copy(alloc)?);
-    merge_pair(alloc, &mut values, single.pair())?;
-    Ok(values)
-}
-
-// Adds the numbers of a narrow list: behind those of another at once, and to a copy of it where there is one number at
-// most.
+// Adds the numbers of a narrow list: behind those of another at once.
 fn merge_narrow(alloc: Global, values: &mut Values, more: &Narrow) -> Result<(), AllocError>
     requires { size_of (bag_of values.old) + size_of more.now < 2 ^ 64 }
     ensures { OnOk result (AddsBag (bag_of values.old) (bag_of values.new) more.now) }
 {
-    let grown = match values {
-        Values::One(single) => single_and_narrow(alloc, single, more)?,
-        Values::Narrow(narrow) => {
-            if narrow.append(more)? {
-                return Ok(());
-            }
-            return merge_numbers(alloc, values, more.numbers());
-        }
-        Values::Few(_) | Values::Logged(_) | Values::Many(_) => {
-            return merge_numbers(alloc, values, more.numbers());
-        }
-    };
-    *values = grown;
-    Ok(())
+    if let Values::Narrow(narrow) = values
+        && narrow.append(more)?
+    {
+        return Ok(());
+    }
+    merge_numbers(alloc, values, more.numbers())
 }
 
 // Adds numbers, each once.
@@ -317,37 +323,17 @@ fn merge_numbers(alloc: Global, values: &mut Values, numbers: &[i32]) -> Result<
     Ok(())
 }
 
-// A copy of a narrow list, with the number that is held alone.
-fn single_and_narrow(alloc: Global, single: &Single, narrow: &Narrow) -> Result<Values, AllocError>
-    requires { size_of single.now + size_of narrow.now < 2 ^ 64 }
-    ensures { IfOk result (λ values. AddsBag single.now (bag_of values) narrow.now) }
-{
-    let pair = single.pair();
-    let copied = narrow.copy(alloc, usize::from(pair.1 > 0))?;
-    let mut values = Values::Narrow(Box::new(alloc, copied)?);
-    merge_pair(alloc, &mut values, pair)?;
-    Ok(values)
-}
-
-// Adds the numbers of a log: behind those of a log at once, and to a copy of it where there are few.
+// Adds the numbers of a log: behind those of another at once.
 fn merge_log(alloc: Global, values: &mut Values, more: &Log) -> Result<(), AllocError>
     requires { size_of (bag_of values.old) + size_of more.now < 2 ^ 64 }
     ensures { OnOk result (AddsBag (bag_of values.old) (bag_of values.new) more.now) }
 {
-    let grown = match values {
-        Values::One(single) => single_and_log(alloc, single, more)?,
-        Values::Few(short) => short_and_log(alloc, short, more)?,
-        Values::Narrow(narrow) => narrow_and_log(alloc, narrow, more)?,
-        Values::Logged(log) => {
-            if log.append(more)? {
-                return Ok(());
-            }
-            return merge_each(alloc, values, more);
-        }
-        Values::Many(_) => return merge_each(alloc, values, more),
-    };
-    *values = grown;
-    Ok(())
+    if let Values::Logged(log) = values
+        && log.append(more)?
+    {
+        return Ok(());
+    }
+    merge_each(alloc, values, more)
 }
 
 // Adds the numbers of a log, pair by pair.
@@ -360,39 +346,6 @@ fn merge_each(alloc: Global, values: &mut Values, more: &Log) -> Result<(), Allo
     }
     let settled = more.settled(alloc)?;
     merge_pairs(alloc, values, &settled)
-}
-
-// A copy of a log, with the number that is held alone.
-fn single_and_log(alloc: Global, single: &Single, log: &Log) -> Result<Values, AllocError>
-    requires { size_of single.now + size_of log.now < 2 ^ 64 }
-    ensures { IfOk result (λ values. AddsBag single.now (bag_of values) log.now) }
-{
-    let copied = log.copy(alloc)?;
-    let mut values = Values::Logged(Box::new(alloc, copied)?);
-    merge_pair(alloc, &mut values, single.pair())?;
-    Ok(values)
-}
-
-// A copy of a log, with the numbers of a short list.
-fn short_and_log(alloc: Global, short: &Short, log: &Log) -> Result<Values, AllocError>
-    requires { size_of short.now + size_of log.now < 2 ^ 64 }
-    ensures { IfOk result (λ values. AddsBag short.now (bag_of values) log.now) }
-{
-    let copied = log.copy(alloc)?;
-    let mut values = Values::Logged(Box::new(alloc, copied)?);
-    merge_short(alloc, &mut values, short)?;
-    Ok(values)
-}
-
-// A copy of a log, with the numbers of a narrow list.
-fn narrow_and_log(alloc: Global, narrow: &Narrow, log: &Log) -> Result<Values, AllocError>
-    requires { size_of narrow.now + size_of log.now < 2 ^ 64 }
-    ensures { IfOk result (λ values. AddsBag narrow.now (bag_of values) log.now) }
-{
-    let copied = log.copy(alloc)?;
-    let mut values = Values::Logged(Box::new(alloc, copied)?);
-    merge_narrow(alloc, &mut values, narrow)?;
-    Ok(values)
 }
 
 // Adds the numbers of a table.
@@ -418,119 +371,111 @@ fn add_value(alloc: Global, values: &mut Values, value: i64, times: u64) -> Resu
     ensures added { OnOk result (AddsTimes (bag_of values.old) (bag_of values.new) value times) }
     ensures err { OnErr result (bag_of values.new ≡ bag_of values.old) }
 {
+    let more = (value, times);
     let grown = match values {
-        Values::One(single) => {
-            if single.add(value, times) {
-                return Ok(());
-            }
-            two_of(alloc, single, (value, times))?
-        }
-        Values::Few(short) => {
-            if short.add(value, times)? {
-                return Ok(());
-            }
-            Values::Logged(log_of(alloc, short.pairs(), &[(value, times)])?)
-        }
-        Values::Narrow(narrow) => {
-            if narrow.add(value, times)? {
-                return Ok(());
-            }
-            widened(alloc, narrow, (value, times))?
-        }
-        Values::Logged(log) => {
-            if log.add(value, times)? {
-                return Ok(());
-            }
-            Values::Many(table_of(alloc, log, (value, times))?)
-        }
+        Values::One(single) => add_to_single(alloc, single, more),
+        Values::Few(short) => add_to_short(alloc, short, more),
+        Values::Narrow(narrow) => add_to_narrow(alloc, narrow, more),
+        Values::Logged(log) => add_to_log(alloc, log, more),
         Values::Many(table) => return table.add(value, times),
-    };
-    *values = grown;
+    }?;
+    if let Some(grown) = grown {
+        *values = grown;
+    }
     Ok(())
 }
 
-// The number that is held alone and another, so many times: a narrow list where each is of 32 bits and is held once.
-fn two_of(alloc: Global, single: &Single, more: (i64, u64)) -> Result<Values, AllocError>
-    requires held { 0 < size_of single.now }
+// Adds a number so many times to one that is held alone. Where that is another, answers both: as a narrow list where each
+// is of 32 bits and is held once, and else as a short one.
+fn add_to_single(
+    alloc: Global,
+    single: &mut Single,
+    more: (i64, u64),
+) -> Result<Option<Values>, AllocError>
     requires some { 0 < more.1 }
-    ensures { IfOk result (λ values. AddsTimes single.now (bag_of values) more.0 more.1) }
+    requires fits { size_of single.old + more.1 < 2 ^ 64 }
+    ensures added { IfOk result (λ grown. AddsTimes single.old (bag_left single.new grown) more.0 more.1) }
+    ensures err { OnErr result (single.new ≡ single.old) }
 {
-    if let Some(narrow) = Narrow::of_two(alloc, single.pair(), more)? {
-        let narrow = Box::new(alloc, narrow)?;
-        return Ok(Values::Narrow(narrow));
+    if single.add(more.0, more.1) {
+        return Ok(None);
     }
-    let short = Short::of_two(alloc, single.pair(), more)?;
-    Ok(Values::Few(short))
+    let pair = single.pair();
+    if let Some(narrow) = Narrow::of_two(alloc, pair, more)? {
+        return Ok(Some(Values::Narrow(narrow)));
+    }
+    Ok(Some(Values::Few(Short::of_two(alloc, pair, more)?)))
 }
 
-// The numbers of a narrow list and another, so many times, in a form that counts how often each is held: a short list
-// where it has place for all, a table where the numbers repeat, and else a log.
-fn widened(alloc: Global, narrow: &Narrow, more: (i64, u64)) -> Result<Values, AllocError>
+// Adds a number so many times to a short list. Where there is no place for it, answers a log of all.
+fn add_to_short(
+    alloc: Global,
+    short: &mut Short,
+    more: (i64, u64),
+) -> Result<Option<Values>, AllocError>
     requires some { 0 < more.1 }
-    requires fits { size_of narrow.now + more.1 < 2 ^ 64 }
-    ensures { IfOk result (λ values. AddsTimes narrow.now (bag_of values) more.0 more.1) }
+    requires fits { size_of short.old + more.1 < 2 ^ 64 }
+    ensures added { IfOk result (λ grown. AddsTimes short.old (bag_left short.new grown) more.0 more.1) }
+    ensures err { OnErr result (short.new ≡ short.old) }
 {
+    if short.add(more.0, more.1)? {
+        return Ok(None);
+    }
+    let log = Log::of_both(alloc, short.pairs(), &[more])?;
+    Ok(Some(Values::Logged(log)))
+}
+
+// Adds a number so many times to a narrow list. Where that doesn't take it, answers all in a form that counts how often
+// each is held: a short list where it has place for all, a table where the numbers repeat, and else a log.
+fn add_to_narrow(
+    alloc: Global,
+    narrow: &mut Narrow,
+    more: (i64, u64),
+) -> Result<Option<Values>, AllocError>
+    requires some { 0 < more.1 }
+    requires fits { size_of narrow.old + more.1 < 2 ^ 64 }
+    ensures added { IfOk result (λ grown. AddsTimes narrow.old (bag_left narrow.new grown) more.0 more.1) }
+    ensures err { OnErr result (narrow.new ≡ narrow.old) }
+{
+    if narrow.add(more.0, more.1)? {
+        return Ok(None);
+    }
     let numbers = narrow.numbers();
     if let Some(short) = Short::of_numbers(alloc, numbers, more)? {
-        return Ok(Values::Few(short));
+        return Ok(Some(Values::Few(short)));
     }
     if narrow.repeats() {
-        let table = table_of_numbers(alloc, numbers, more)?;
-        return Ok(Values::Many(table));
+        return table_with(alloc, Table::of_numbers(alloc, numbers)?, more);
     }
-    let log = log_of_numbers(alloc, numbers, more)?;
-    Ok(Values::Logged(log))
-}
-
-// A table of numbers that are each held once and another, so many times.
-#[tactic(auto, using(crate::proofs::BagLaws::size_of_same, crate::proofs::BagLaws::adds_to_same))]
-fn table_of_numbers(
-    alloc: Global,
-    numbers: &[i32],
-    more: (i64, u64),
-) -> Result<Box<Table>, AllocError>
-    requires some { 0 < more.1 }
-    requires fits { size_of (once_each numbers.now) + more.1 < 2 ^ 64 }
-    ensures { IfOk result (λ table. AddsTimes (once_each numbers.now) table.value more.0 more.1) }
-{
-    let mut table = Table::of_numbers(alloc, numbers)?;
-    table.add(more.0, more.1)?;
-    let table = Box::new(alloc, table)?;
-    Ok(table)
-}
-
-// A log of numbers that are each held once and another, so many times.
-fn log_of_numbers(alloc: Global, numbers: &[i32], more: (i64, u64)) -> Result<Box<Log>, AllocError>
-    requires { 0 < more.1 }
-    ensures { IfOk result (λ log. AddsTimes (once_each numbers.now) log.value more.0 more.1) }
-{
     let log = Log::of_numbers(alloc, numbers, &[more])?;
-    let log = Box::new(alloc, log)?;
-    Ok(log)
+    Ok(Some(Values::Logged(log)))
 }
 
-// A log of the numbers of few pairs and others.
-fn log_of(alloc: Global, few: &[(i64, u64)], others: &[(i64, u64)]) -> Result<Box<Log>, AllocError>
-    requires few { All (λ e. 0 < e.1) few.now }
-    requires others { All (λ e. 0 < e.1) others.now }
-    ensures { IfOk result (λ log. AddsBag few.now log.value others.now) }
-{
-    let log = Log::of_both(alloc, few, others)?;
-    let log = Box::new(alloc, log)?;
-    Ok(log)
-}
-
-// A table of the numbers of a log and another, so many times.
-#[tactic(auto, using(crate::proofs::BagLaws::size_of_same, crate::proofs::BagLaws::adds_to_same))]
-fn table_of(alloc: Global, log: &Log, more: (i64, u64)) -> Result<Box<Table>, AllocError>
+// Adds a number so many times to a log. Where that doesn't take it, answers a table of all.
+fn add_to_log(alloc: Global, log: &mut Log, more: (i64, u64)) -> Result<Option<Values>, AllocError>
     requires some { 0 < more.1 }
-    requires fits { size_of log.now + more.1 < 2 ^ 64 }
-    ensures { IfOk result (λ table. AddsTimes log.now table.value more.0 more.1) }
+    requires fits { size_of log.old + more.1 < 2 ^ 64 }
+    ensures added { IfOk result (λ grown. AddsTimes log.old (bag_left log.new grown) more.0 more.1) }
+    ensures err { OnErr result (log.new ≡ log.old) }
 {
-    let mut table = table_of_each(alloc, log)?;
+    if log.add(more.0, more.1)? {
+        return Ok(None);
+    }
+    table_with(alloc, table_of_each(alloc, log)?, more)
+}
+
+// A table with a number, so many times.
+fn table_with(
+    alloc: Global,
+    mut table: Table,
+    more: (i64, u64),
+) -> Result<Option<Values>, AllocError>
+    requires some { 0 < more.1 }
+    requires fits { size_of table + more.1 < 2 ^ 64 }
+    ensures { IfOk result (λ grown. AddsTimes table (bag_left table grown) more.0 more.1) }
+{
     table.add(more.0, more.1)?;
-    let table = Box::new(alloc, table)?;
-    Ok(table)
+    Ok(Some(Values::Many(Box::new(alloc, table)?)))
 }
 
 // A table of the numbers of a log.
@@ -631,6 +576,5 @@ fn log_without(alloc: Global, numbers: &[i32], value: i64) -> Result<Box<Log>, A
 {
     let mut log = Log::of_numbers(alloc, numbers, &[])?;
     log.take(value);
-    let log = Box::new(alloc, log)?;
     Ok(log)
 }

@@ -84,56 +84,58 @@ impl Log {
         alloc: Global,
         few: &[(i64, u64)],
         others: &[(i64, u64)],
-    ) -> Result<Log, AllocError>
+    ) -> Result<Box<Log>, AllocError>
         requires few { All (λ e. 0 < e.1) few.now }
         requires others { All (λ e. 0 < e.1) others.now }
-        ensures { IfOk result (λ log. AddsBag few.now log others.now) }
+        ensures { IfOk result (λ log. AddsBag few.now log.value others.now) }
     {
         let mut pairs = Vec::with_capacity(alloc, ROOM)?;
         pairs.extend_from_slice(few)?;
         pairs.extend_from_slice(others)?;
-        Ok(Log::of_pairs(alloc, pairs))
+        Log::of_pairs(alloc, pairs)
     }
 
     /// A log of numbers that are each held once, and of few pairs.
-    pub fn of_numbers(alloc: Global, numbers: &[i32], few: &[(i64, u64)]) -> Result<Log, AllocError>
+    pub fn of_numbers(
+        alloc: Global,
+        numbers: &[i32],
+        few: &[(i64, u64)],
+    ) -> Result<Box<Log>, AllocError>
         requires { All (λ e. 0 < e.1) few.now }
-        ensures { IfOk result (λ log. AddsBag (once_each numbers.now) log few.now) }
+        ensures { IfOk result (λ log. AddsBag (once_each numbers.now) log.value few.now) }
     {
         let mut pairs = pairs_of(alloc, numbers)?;
         pairs.extend_from_slice(few)?;
-        Ok(Log::of_pairs(alloc, pairs))
+        Log::of_pairs(alloc, pairs)
     }
 
     // A log of these pairs.
-    fn of_pairs(alloc: Global, pairs: Vec<(i64, u64)>) -> Log
+    fn of_pairs(alloc: Global, pairs: Vec<(i64, u64)>) -> Result<Box<Log>, AllocError>
         requires { All (λ e. 0 < e.1) pairs.items }
-        ensures { result ≡ pairs.items }
+        ensures { IfOk result (λ log. log.value ≡ pairs.items) }
     {
         let total = total_of(&pairs);
         let ends = ends_of(&pairs);
-        Log {
+        let log = Log {
             pairs,
             taken: Vec::new(alloc),
             total,
             ends,
-        }
+        };
+        Ok(Box::new(alloc, log)?)
     }
 
     /// A log of the same pairs, which owes the same.
-    pub fn copy(&self, alloc: Global) -> Result<Log, AllocError>
-        ensures { IfOk result (λ log. log ≡ self.now) }
+    pub fn copy(&self, alloc: Global) -> Result<Box<Log>, AllocError>
+        ensures { IfOk result (λ log. log.value ≡ self.now) }
     {
-        let mut pairs = Vec::with_capacity(alloc, self.pairs.len())?;
-        pairs.extend_from_slice(&self.pairs)?;
-        let mut taken = Vec::with_capacity(alloc, self.taken.len())?;
-        taken.extend_from_slice(&self.taken)?;
-        Ok(Log {
-            pairs,
-            taken,
+        let copied = Log {
+            pairs: Vec::from_slice(alloc, &self.pairs)?,
+            taken: Vec::from_slice(alloc, &self.taken)?,
             total: self.total,
             ends: self.ends,
-        })
+        };
+        Ok(Box::new(alloc, copied)?)
     }
 
     /// The numbers, each with how often it is held, where nothing is owed; a pair may hold its number no times.
@@ -152,8 +154,7 @@ impl Log {
         requires { size_of self.now < 2 ^ 64 }
         ensures { IfOk result (λ pairs. SameHeld self.now pairs.items) }
     {
-        let mut pairs = Vec::with_capacity(alloc, self.pairs.len())?;
-        pairs.extend_from_slice(&self.pairs)?;
+        let mut pairs = Vec::from_slice(alloc, &self.pairs)?;
         pay(&mut pairs, &self.taken);
         Ok(pairs)
     }

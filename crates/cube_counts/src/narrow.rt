@@ -43,33 +43,34 @@ impl Narrow {
         alloc: Global,
         first: (i64, u64),
         second: (i64, u64),
-    ) -> Result<Option<Narrow>, AllocError>
-        ensures { IfOk result (λ made. IfSome made (λ narrow. AddsTimes (first ∷ []) narrow second.0 second.1)) }
+    ) -> Result<Option<Box<Narrow>>, AllocError>
+        ensures { IfOk result (λ made. IfSome made (λ narrow. AddsTimes (first ∷ []) narrow.value second.0 second.1)) }
     {
         let (Some(first), Some(second)) = (narrowed(first), narrowed(second)) else {
             return Ok(None);
         };
         let mut numbers = Vec::with_capacity(alloc, ROOM)?;
-        numbers.push(first)?;
-        numbers.push(second)?;
-        Ok(Some(Narrow {
+        numbers.extend_from_slice(&[first, second])?;
+        let narrow = Narrow {
             numbers,
             least: first.min(second),
             greatest: first.max(second),
-        }))
+        };
+        Ok(Some(Box::new(alloc, narrow)?))
     }
 
     /// A list of the same numbers, with room for so many more.
-    pub fn copy(&self, alloc: Global, more: usize) -> Result<Narrow, AllocError>
-        ensures { IfOk result (λ narrow. narrow ≡ self.now) }
+    pub fn copy(&self, alloc: Global, more: usize) -> Result<Box<Narrow>, AllocError>
+        ensures { IfOk result (λ narrow. narrow.value ≡ self.now) }
     {
         let mut numbers = Vec::with_capacity(alloc, self.numbers.len().saturating_add(more))?;
         numbers.extend_from_slice(&self.numbers)?;
-        Ok(Narrow {
+        let copied = Narrow {
             numbers,
             least: self.least,
             greatest: self.greatest,
-        })
+        };
+        Ok(Box::new(alloc, copied)?)
     }
 
     /// The numbers, each as often as it is held.

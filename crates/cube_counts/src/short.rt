@@ -62,8 +62,7 @@ impl Short {
         ensures { IfOk result (λ short. AddsTimes (first ∷ []) short second.0 second.1) }
     {
         let mut pairs = Vec::with_capacity(alloc, ROOM)?;
-        pairs.push(first)?;
-        pairs.push(second)?;
+        pairs.extend_from_slice(&[first, second])?;
         Ok(Short { pairs })
     }
 
@@ -71,8 +70,7 @@ impl Short {
     pub fn copy(&self, alloc: Global) -> Result<Short, AllocError>
         ensures { IfOk result (λ short. short ≡ self.now) }
     {
-        let mut pairs = Vec::with_capacity(alloc, self.pairs.len())?;
-        pairs.extend_from_slice(&self.pairs)?;
+        let pairs = Vec::from_slice(alloc, &self.pairs)?;
         Ok(Short { pairs })
     }
 

@@ -6,11 +6,9 @@ ghost use Rattle.cube_feed.specs.Reading.{IsReadingFault};
 ghost use Rattle.cube_feed.specs.Feed.{HasEnded, Gives, IsNumbered, IsTaken, Numbers, TakesHeader, IsFeed, after_header, ended_of, end_answer, number_after, to_come, to_come_of};
 
 use crate::fault::FeedFault;
-use crate::header::is_header;
-use crate::line::change;
-use crate::records::Records;
-use crate::rest::is_read;
+use crate::record_reader::RecordReader;
 use cube_core::{Item, Schema};
+use cube_items::{change_of_record, is_header, is_read};
 use std::alloc::Global;
 use std::io::Read;
 use std::marker::Model;
@@ -31,7 +29,7 @@ enum Stage {
 pub struct Feed<'s, R: Read> {
     alloc: Global,
     schema: &'s Schema,
-    records: Records<R>,
+    records: RecordReader<R>,
     number: u32,
     stage: Stage,
 }
@@ -52,13 +50,13 @@ impl<'s, R: Read> Model for Feed<'s, R> {
 }
 
 // Reads the header; the answer is whether there is any record.
-fn take_header<R: Read>(schema: &Schema, records: &mut Records<R>) -> Result<bool, FeedFault>
+fn take_header<R: Read>(schema: &Schema, records: &mut RecordReader<R>) -> Result<bool, FeedFault>
     ensures { TakesHeader schema.now records.old.left result records.new.left }
 {
     if !records.advance()? {
         return Ok(false);
     }
-    if is_header(schema, &records.fields()) {
+    if is_header(schema, records.fields()) {
         Ok(true)
     } else {
         Err(FeedFault::Header)
@@ -66,24 +64,24 @@ fn take_header<R: Read>(schema: &Schema, records: &mut Records<R>) -> Result<boo
 }
 
 // Whether the record that was taken last is in the schema's shard.
-fn is_last_read<R: Read>(schema: &Schema, records: &Records<R>) -> bool
+fn is_last_read<R: Read>(schema: &Schema, records: &RecordReader<R>) -> bool
     ensures { result ≡ is_read schema.now records.now.fields }
 {
-    is_read(schema, records.row())
+    is_read(schema, records.fields())
 }
 
 // The item of the record that was taken last, which has this number.
 fn item_of<R: Read>(
     alloc: Global,
     schema: &Schema,
-    records: &Records<R>,
+    records: &RecordReader<R>,
     number: u32,
 ) -> Result<Item, FeedFault>
     ensures number { IfOk result (λ item. item.number ≡ number) }
     ensures what { IfOk result (λ item. item.what ≡ change_of schema.now records.now.fields) }
     ensures fault { IfErr result IsReadingFault }
 {
-    match change(alloc, schema, &records.fields()) {
+    match change_of_record(alloc, schema, records.fields()) {
         Ok(what) => Ok(Item { number, what }),
         Err(_) => Err(FeedFault::Memory),
     }
@@ -93,7 +91,7 @@ fn item_of<R: Read>(
 fn take_item<R: Read>(
     alloc: Global,
     schema: &Schema,
-    records: &mut Records<R>,
+    records: &mut RecordReader<R>,
     number: u32,
 ) -> Result<Option<Item>, FeedFault>
     requires { number ≤ schema.now.max_records }
@@ -120,7 +118,7 @@ fn take_item<R: Read>(
 fn take_next<R: Read>(
     alloc: Global,
     schema: &Schema,
-    records: &mut Records<R>,
+    records: &mut RecordReader<R>,
     number: u32,
     stage: Stage,
 ) -> Result<Option<Item>, FeedFault>
@@ -152,7 +150,7 @@ impl<'s, R: Read> Feed<'s, R> {
         Feed {
             alloc,
             schema,
-            records: Records::new(alloc, reader),
+            records: RecordReader::new(alloc, reader),
             number: 0,
             stage: Stage::Start,
         }

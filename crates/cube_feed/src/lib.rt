@@ -4,20 +4,12 @@
 //! several feeds in is told by [`TakesItems`] alone.
 #![tactic(auto)]
 
-mod contiguous;
 mod fault;
 mod feed;
-mod field;
-mod header;
-mod line;
 mod record_reader;
-mod records;
-mod rest;
-mod spelled_list;
 mod takes_items;
 
 pub use fault::FeedFault;
 pub use feed::Feed;
 pub use record_reader::RecordReader;
-pub use rest::{change_of_record, is_read, put_rest};
 pub use takes_items::TakesItems;

@@ -1,28 +1,32 @@
-//! The records of a text that has no header.
+//! The records of a text, one after the other, in one buffer.
 ghost use Rattle.std.specs.Prelude.{◌≡◌, IfOk, IfErr, option_map};
 ghost use Rattle.csv.specs.Records.{fields_of};
 ghost use Rattle.cube_core.specs.Records.{records_of};
 ghost use Rattle.cube_feed.specs.Reading.{Advances, IsReadingFault};
 
 use crate::fault::FeedFault;
-use crate::records::Records;
-use csv::ByteRecord;
+use csv::{ByteRecord, ErrorKind, Reader, ReaderBuilder};
 use std::alloc::Global;
 use std::io::Read;
 use std::marker::Model;
 
-/// The records of a text that has no header, one after another, read as those of a feed are.
+/// The records of a text in turn, read as those of a feed are; each takes the place of the one before. A text may be one
+/// that has no header.
 #[derive(Drop)]
 pub struct RecordReader<R: Read> {
-    records: Records<R>,
+    reader: Reader<R>,
+    row: ByteRecord,
 }
 
 impl<R: Read> Model for RecordReader<R> {
-    ghost use Rattle.cube_feed.specs.Reading.{RecordsView};
+    ghost use Rattle.cube_feed.specs.Reading.{RecordsView, ReadsPlainly, left_of};
+    ghost use Rattle.csv.specs.Records.{fields_of};
 
     ghost Value = { RecordsView };
 
-    ghost view = { λ r. r.records };
+    ghost view = { λ r. record { left = left_of R.remaining r.reader; fields = fields_of r.row } };
+
+    ghost invariant = { λ r. ReadsPlainly r.reader };
 }
 
 impl<R: Read> RecordReader<R> {
@@ -32,8 +36,13 @@ impl<R: Read> RecordReader<R> {
     pub fn new(alloc: Global, reader: R) -> RecordReader<R>
         ensures { result.left ≡ option_map records_of (R.remaining reader) }
     {
+        let reader = ReaderBuilder::new()
+            .has_headers(false)
+            .flexible(true)
+            .from_reader(alloc, reader);
         RecordReader {
-            records: Records::new(alloc, reader),
+            reader,
+            row: ByteRecord::new(alloc),
         }
     }
 
@@ -44,13 +53,19 @@ impl<R: Read> RecordReader<R> {
         ensures takes { IfOk result (λ found. Advances self.old.left found self.new) }
         ensures fault { IfErr result IsReadingFault }
     {
-        self.records.advance()
+        match self.reader.read_byte_record(&mut self.row) {
+            Ok(found) => Ok(found),
+            Err(error) => match error.kind() {
+                ErrorKind::OutOfMemory => Err(FeedFault::Memory),
+                _ => Err(FeedFault::Read),
+            },
+        }
     }
 
     /// The record that was taken last.
     pub fn fields(&self) -> &ByteRecord
         ensures { fields_of result.now ≡ self.now.fields }
     {
-        self.records.row()
+        &self.row
     }
 }

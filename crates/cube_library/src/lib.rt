@@ -19,6 +19,7 @@ pub use cube_core::{
 pub use cube_engine::{BuildFault, Builder, Ledger, build_plain};
 pub use cube_feed::{Feed, FeedFault};
 pub use cube_merge::{InputFault, MergeFault, merge};
-pub use cube_text::{WriteFault, print_cells, print_rows, write_whole};
+pub use cube_text::{print_cells, print_rows};
 pub use cube_threads::{Built, FeedingFault, Gate, OpenGate, Settings, build};
 pub use cube_tool::{Question, Reporter, RunFault, TextFault, answer, run, run_plain};
+pub use cube_writing::{WriteFault, write_whole};

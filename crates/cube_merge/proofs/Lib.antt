@@ -1,11 +1,9 @@
-mod TextLaws
 mod TotalLaws
 mod GatherLaws
 mod JointLaws
 mod MergedLaws
 mod StepLaws
 mod ReadLaws
-mod ParseLaws
 mod LineLaws
 mod LeastLaws
 mod LawfulLaws

@@ -6,8 +6,8 @@ use Rattle.std.proofs.lemmas.Grind.{flat_map-append}
 use Rattle.std.proofs.lemmas.List.{append_cancel_right, length-map}
 use Rattle.cube_core.specs.Text.{answer_text, coord_text, grouping_text, row_fields, row_line}
 use Rattle.cube_core.specs.declared.key.Row.{Row}
-use Rattle.cube_merge.specs.Parts.{part, parts}
-use Rattle.cube_merge.proofs.TextLaws.{EndsLine, EndsLine-line}
+use Rattle.merge_lines.specs.Parts.{part, parts}
+use Rattle.merge_lines.proofs.TextLaws.{EndsLine, EndsLine-line}
 use Rattle.std.specs.Io.KnownBytes.{Consumes, IsAtEnd}
 
 none-of_length : (xs : List ℕ) → length xs ≡ 0 → xs ≡ []

@@ -1,5 +1,4 @@
 pub mod NextLine
-pub mod Parts
 pub mod Made
 pub mod Range
 pub mod Total

@@ -12,9 +12,9 @@ use crate::front::Front;
 use crate::input::Input;
 use crate::source::{Source, sources_of};
 use crate::step::{Joint, fault_of, join_rows, move_inputs, put_answers};
-use crate::text::{push_header, push_line};
 use cube_core::{Answer, Row, Schema};
-use cube_text::write_whole;
+use cube_writing::write_whole;
+use merge_lines::{push_header, push_line};
 use std::alloc::{AllocError, Global};
 use std::io::{Read, Write};
 

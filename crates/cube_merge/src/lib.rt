@@ -7,11 +7,9 @@ mod front;
 mod gather;
 mod input;
 mod lawful;
-mod parse;
 mod read;
 mod source;
 mod step;
-mod text;
 mod total;
 
 pub use cubes::merge;

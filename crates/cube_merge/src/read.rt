@@ -5,13 +5,13 @@ ghost use Rattle.std.specs.Io.Buffered.{reader_remaining};
 ghost use Rattle.cube_core.specs.Text.{row_line};
 ghost use Rattle.cube_merge.specs.Faults.{IsReadFault};
 ghost use Rattle.cube_merge.specs.Lawful.{IsLawfulRow};
-ghost use Rattle.cube_merge.specs.Parts.{key_parts};
+ghost use Rattle.merge_lines.specs.Parts.{key_parts};
 ghost use Rattle.cube_merge.specs.NextLine.{IsNextLine, is_quoted_after, is_quoted_behind};
 
 use crate::fault::InputFault;
 use crate::lawful::{Laws, is_lawful};
-use crate::parse::parse_row;
 use cube_core::{Row, Schema};
+use merge_lines::parse_row;
 use std::alloc::{AllocError, Global};
 use std::io;
 use std::io::{BufRead, BufReader, ErrorKind, Read};

@@ -14,7 +14,7 @@ use Rattle.cube_core.proofs.ListLaws.{AllZip-push}
 use Rattle.cube_cells.specs.Rows.{CellsInOrder, IsRowOf}
 use Rattle.cube_cells.specs.Tally.{Tally}
 use Rattle.cube_text.specs.Lines.{Lines}
-use Rattle.cube_text.specs.Pieces.{text_of_pieces}
+use Rattle.cube_writing.specs.Pieces.{text_of_pieces}
 use Rattle.cube_text.specs.Rows.{AddsRow, GoesOn, IsTextOfPart, RowsGoOn}
 use Rattle.cube_text.proofs.LineLaws.{AddsText-row_line}
 

@@ -1,4 +1,3 @@
 pub mod Lines
-pub mod Pieces
 pub mod Rows
 pub mod Shape

@@ -13,9 +13,9 @@ ghost use Rattle.cube_cells.specs.Tally.{Tally};
 ghost use Rattle.cube_text.specs.Shape.{HasShapeOf};
 
 use crate::lines::{Lines, end_line, into_text, no_lines, put_field};
-use crate::pieces::{Pieces, gather};
 use cube_cells::{CoordRef, KeyedCell, Numbers, OrderedCells, Summary};
 use cube_core::{Agg, Answer, Coord, Row, Schema, Text};
+use cube_writing::{Pieces, gather};
 use itoa::Buffer;
 use std::alloc::{AllocError, Global};
 use std::thread::{Threads, map_indices};

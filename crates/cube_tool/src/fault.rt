@@ -4,8 +4,8 @@ ghost use Rattle.cube_tool.specs.Faults.{fault_of_build, fault_of_feeding, fault
 
 use cube_engine::BuildFault;
 use cube_feed::FeedFault;
-use cube_text::WriteFault;
 use cube_threads::FeedingFault;
+use cube_writing::WriteFault;
 use std::alloc::AllocError;
 use thiserror::Error;
 

@@ -10,7 +10,8 @@ ghost use Rattle.stored_tool.specs.Asking.{AnsweredAt, FailsAt, asked_as};
 use cube_core::{QueryFault, Schema};
 use cube_live::{Live, Question as LiveQuestion};
 use cube_tool::command::{Failure, Question, Status, status_after};
-use cube_tool::{Reporter, TextFault, write_whole};
+use cube_tool::{Reporter, TextFault};
+use cube_writing::write_whole;
 use std::io::Write;
 use std::thread::Threads;
 

@@ -7,8 +7,8 @@ use crate::fault::{RunFault, TextFault};
 use cube_core::{QueryFault, SchemaFault};
 use cube_live::{JournalFault, SessionFault};
 use cube_merge::MergeFault;
-use cube_text::WriteFault;
 use cube_threads::FeedingFault;
+use cube_writing::WriteFault;
 use std::fmt;
 
 /// Why a command failed. Its text is the line for standard error, without the line end.

@@ -1,7 +1,7 @@
 use Rattle.std.proofs.Common.{◌≡◌, ◌≤◌, true, rules, arith, length}
 use Rattle.cube_core.specs.Text.{row_fields}
 use Rattle.cube_merge.specs.Lawful.{IsLawfulRow}
-use Rattle.cube_merge.specs.Parts.{parts}
+use Rattle.merge_lines.specs.Parts.{parts}
 use Rattle.cube_merge.proofs.ReadLaws.{line-of_parts}
 use Rattle.cube_merge.proofs.read.read_row.Goals as goal
 

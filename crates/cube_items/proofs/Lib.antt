@@ -1,0 +1,5 @@
+mod ContiguousLaws
+pub mod FieldLaws
+mod HeaderLaws
+mod LineLaws
+pub mod NumberLaws

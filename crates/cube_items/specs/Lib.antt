@@ -1,0 +1,2 @@
+pub mod Contiguous
+pub mod SoundFields

@@ -1,4 +1,0 @@
-use Rattle.cube_merge.proofs.parse.parse_coords.Goals as goal
-
-pub loop-init : goal.loop-init
-loop-init c = rw c.clear.ensures.items

@@ -1,6 +1,0 @@
-use Rattle.std.proofs.Common.{rules}
-use Rattle.cube_merge.proofs.TextLaws.{AddsParts-plain}
-use Rattle.cube_merge.proofs.text.push_plain.Goals as goal
-
-pub returns : goal.returns
-returns c = AddsParts-plain c.args.field.now c.args.text.now.items c.push.new.self.items c.requires (search rules)

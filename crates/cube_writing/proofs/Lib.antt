@@ -1,0 +1,2 @@
+mod AppendLaws
+mod PieceLaws

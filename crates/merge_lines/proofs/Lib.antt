@@ -1,0 +1,2 @@
+mod ParseLaws
+pub mod TextLaws

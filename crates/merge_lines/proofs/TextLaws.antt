@@ -1,0 +1,186 @@
+-- How a line grows in memory, field by field.
+use Rattle.std.proofs.Common.{◌≡◌, ◌++◌, ◌+◌, ◌^◌, ◌<◌, ◌≤◌, ◌%◌, ◌∷◌, [], ℕ, ℤ, pos, negsuc, suc, true, false, List}
+use Rattle.std.proofs.Common.{length, map, take, get_or, refl, sym, ap, ◌∙◌, append_assoc, length-append, arith}
+use Rattle.std.proofs.Common.{decimal, codes, FitsSigned}
+use Rattle.std.specs.List.{list_any}
+use Rattle.std.specs.Int.{w128}
+use Rattle.std.specs.Fmt.{signed_decimal}
+use Rattle.std.proofs.lemmas.Bool.{ne_eqb}
+use Rattle.std.proofs.lemmas.Fmt.{decimal_by_steps_wide}
+use Rattle.std.proofs.lemmas.Grind.{flat_map-append}
+use Rattle.std.proofs.lemmas.Int.{ints}
+use Rattle.std.proofs.lemmas.List.{append-nil, take_more, map-append}
+use Rattle.std.proofs.lemmas.List.Folds.{list_any-append}
+use Rattle.csv.specs.Writing.{default_writer, escaped, field_text, fields_text, is_blank, needs_byte, needs_quotes}
+use Rattle.csv.specs.Writing.{row_body, row_text}
+use Rattle.csv.proofs.WriteFacts.{escaped-append, escaped-other}
+use Rattle.cube_core.specs.Text.{line}
+use Rattle.merge_lines.specs.Parts.{AddsParts, part, parts}
+
+-- one more field of those that a list gives
+pub AddsParts-more : {X : Type 0} (f : X → List ℕ) (xs : List X) (i : ℕ) (x : X) (start old new : List ℕ)
+    → i < length xs → x ≡ get_or xs i x
+    → old ≡ start ++ parts (map f (take i xs)) → AddsParts (f x ∷ []) old new
+    → new ≡ start ++ parts (map f (take (i + 1) xs))
+AddsParts-more f xs i x start old new inside is so_far adds =
+    let more : map f (take (i + 1) xs) ≡ map f (take i xs) ++ f x ∷ []
+    = ap (map f) (take_more xs i x inside) ∙ map-append f (take i xs) (get_or xs i x ∷ [])
+    ∙ ap (λ y. map f (take i xs) ++ f y ∷ []) (sym is) in
+    adds ∙ ap (λ t. t ++ parts (f x ∷ [])) so_far
+    ∙ append_assoc start (parts (map f (take i xs))) (parts (f x ∷ []))
+    ∙ ap (λ t. start ++ t) (sym (flat_map-append part (map f (take i xs)) (f x ∷ [])) ∙ ap parts (sym more))
+
+map-id : (xs : List (List ℕ)) → map (λ x. x) xs ≡ xs
+map-id [] = refl
+map-id (x ∷ xs) = ap (λ t. x ∷ t) (map-id xs)
+
+-- one more field of those of a list
+pub AddsParts-take : (xs : List (List ℕ)) (i : ℕ) (x : List ℕ) (start old new : List ℕ) → i < length xs
+    → x ≡ get_or xs i x
+    → old ≡ start ++ parts (take i xs) → AddsParts (x ∷ []) old new → new ≡ start ++ parts (take (i + 1) xs)
+AddsParts-take xs i x start old new inside is so_far adds =
+    AddsParts-more (λ x. x) xs i x start old new inside is
+    (so_far ∙ ap (λ t. start ++ parts t) (sym (map-id (take i xs)))) adds
+    ∙ ap (λ t. start ++ parts t) (map-id (take (i + 1) xs))
+
+-- one more byte of a field between quotes
+pub escaped-more : (xs : List ℕ) (i : ℕ) (d : ℕ) (start old new : List ℕ) → i < length xs
+    → old ≡ start ++ escaped default_writer (take i xs) → new ≡ old ++ escaped default_writer (get_or xs i d ∷ [])
+    → new ≡ start ++ escaped default_writer (take (i + 1) xs)
+escaped-more xs i d start old new inside so_far adds =
+    adds ∙ ap (λ t. t ++ escaped default_writer (get_or xs i d ∷ [])) so_far
+    ∙ append_assoc start (escaped default_writer (take i xs)) (escaped default_writer (get_or xs i d ∷ []))
+    ∙ ap (λ t. start ++ t) (sym (escaped-append default_writer (take i xs) (get_or xs i d ∷ []))
+    ∙ ap (escaped default_writer) (sym (take_more xs i d inside)))
+
+-- a quote is doubled, any other byte stands for itself
+pub escaped-quote : escaped default_writer (34 ∷ []) ≡ 34 ∷ 34 ∷ []
+unfolding escaped
+escaped-quote = refl
+
+pub escaped-plain : (b : ℕ) → (b ≡ 34 → ⊥) → escaped default_writer (b ∷ []) ≡ b ∷ []
+escaped-plain b other = escaped-other default_writer b other
+
+pub escaped-none : escaped default_writer [] ≡ []
+unfolding escaped
+escaped-none = refl
+
+-- a field's part alone
+pub parts-one : (field : List ℕ) → parts (field ∷ []) ≡ field_text default_writer field ++ 44 ∷ []
+parts-one field = append-nil (part field)
+
+-- a field that needs no quotes
+pub AddsParts-plain : (field old new : List ℕ) → needs_quotes default_writer field ≡ false
+    → new ≡ (old ++ field) ++ 44 ∷ [] → AddsParts (field ∷ []) old new
+AddsParts-plain field old new plain is =
+    is ∙ append_assoc old field (44 ∷ [])
+    ∙ ap (λ t. old ++ t) (sym (parts-one field ∙ rw plain refl))
+
+-- a field in quotes
+pub AddsParts-quoted : (field old new : List ℕ) → needs_quotes default_writer field ≡ true
+    → new ≡ (((old ++ 34 ∷ []) ++ escaped default_writer field) ++ 34 ∷ []) ++ 44 ∷ [] → AddsParts (field ∷ []) old new
+AddsParts-quoted field old new quotes is =
+    is ∙ ap (λ t. (t ++ 34 ∷ []) ++ 44 ∷ []) (append_assoc old (34 ∷ []) (escaped default_writer field))
+    ∙ ap (λ t. t ++ 44 ∷ []) (append_assoc old (34 ∷ escaped default_writer field) (34 ∷ []))
+    ∙ append_assoc old (34 ∷ (escaped default_writer field ++ 34 ∷ [])) (44 ∷ [])
+    ∙ ap (λ t. old ++ t) (sym (parts-one field ∙ rw quotes refl))
+
+-- parts are a line's body and a comma
+parts-fields_text : (fields : List (List ℕ)) → 44 ∷ parts fields ≡ fields_text default_writer fields ++ 44 ∷ []
+unfolding fields_text
+parts-fields_text [] = refl
+parts-fields_text (field ∷ fields) =
+    ap (λ t. 44 ∷ t) (append_assoc (field_text default_writer field) (44 ∷ []) (parts fields)
+    ∙ ap (λ t. field_text default_writer field ++ t) (parts-fields_text fields)
+    ∙ sym (append_assoc (field_text default_writer field) (fields_text default_writer fields) (44 ∷ [])))
+
+pub parts-row_body : (field : List ℕ) (fields : List (List ℕ))
+    → parts (field ∷ fields) ≡ row_body default_writer (field ∷ fields) ++ 44 ∷ []
+parts-row_body field fields =
+    append_assoc (field_text default_writer field) (44 ∷ []) (parts fields)
+    ∙ ap (λ t. field_text default_writer field ++ t) (parts-fields_text fields)
+    ∙ sym (append_assoc (field_text default_writer field) (fields_text default_writer fields) (44 ∷ []))
+
+-- a line of two fields and more is its body and LF
+row_text-row_body : (fields : List (List ℕ)) → 2 ≤ length fields
+    → row_text default_writer fields ≡ row_body default_writer fields ++ 10 ∷ []
+unfolding is_blank
+row_text-row_body [] many = absurd (omega arith)
+row_text-row_body (field ∷ []) many = absurd (omega arith)
+row_text-row_body (field ∷ other ∷ fields) many = refl
+
+parts-body : (fields : List (List ℕ)) → 2 ≤ length fields → parts fields ≡ row_body default_writer fields ++ 44 ∷ []
+parts-body [] many = absurd (omega arith)
+parts-body (field ∷ fields) many = parts-row_body field fields
+
+-- what a line's end does to a text that ends with a comma
+abbrev pub EndsLine : List ℕ → List ℕ → Type 0
+EndsLine old new = (fields : List ℕ) → old ≡ fields ++ 44 ∷ [] → new ≡ fields ++ 10 ∷ []
+
+-- three runs of fields and the line's end
+pub EndsLine-line : (a b c : List (List ℕ)) (old first second third new : List ℕ) → 1 ≤ length a → 1 ≤ length b
+    → AddsParts a old first → AddsParts b first second → AddsParts c second third → EndsLine third new
+    → new ≡ old ++ line (a ++ b ++ c)
+EndsLine-line a b c old first second third new some_a some_b one two three ended =
+    let fields = a ++ b ++ c in
+    let many : 2 ≤ length fields = omega (arith, some_a, some_b, length-append (a ++ b) c, length-append a b) in
+    let body = row_body default_writer fields in
+    let all : third ≡ (old ++ body) ++ 44 ∷ []
+    = three ∙ ap (λ t. t ++ parts c) (two ∙ ap (λ t. t ++ parts b) one ∙ append_assoc old (parts a) (parts b)
+    ∙ ap (λ t. old ++ t) (sym (flat_map-append part a b)))
+    ∙ append_assoc old (parts (a ++ b)) (parts c)
+    ∙ ap (λ t. old ++ t) (sym (flat_map-append part (a ++ b) c) ∙ parts-body fields many)
+    ∙ sym (append_assoc old body (44 ∷ [])) in
+    ended (old ++ body) all ∙ append_assoc old body (10 ∷ []) ∙ ap (λ t. old ++ t) (sym (row_text-row_body fields many))
+
+-- digits need no quotes
+plain-digit : (b : ℕ) → 45 ≤ b → needs_byte default_writer b ≡ false
+plain-digit b high = rw (
+  ne_eqb b 44 (λ e. omega arith),
+  ne_eqb b 34 (λ e. omega arith),
+  ne_eqb b 13 (λ e. omega arith),
+  ne_eqb b 10 (λ e. omega arith),
+) refl
+
+pub plain-decimal : (n : ℕ) → n < 10 ^ 64 → needs_quotes default_writer (decimal n) ≡ false
+plain-decimal n small =
+    decimal_by_steps_wide (λ _ ds. list_any (needs_byte default_writer) ds ≡ false)
+    (λ d _. rw (plain-digit (48 + d) (omega arith)) refl)
+    (λ m ds _ before. rw (
+      list_any-append (needs_byte default_writer) ds ((48 + m % 10) ∷ []),
+      before,
+      plain-digit (48 + m % 10) (omega arith),
+    ) refl)
+    n small
+
+pub plain-signed_decimal : (z : ℤ) → FitsSigned w128 z → needs_quotes default_writer (signed_decimal z) ≡ false
+plain-signed_decimal (pos n) fits = plain-decimal n (omega (arith, ints))
+plain-signed_decimal (negsuc n) fits = rw (plain-digit 45 (omega arith)) (plain-decimal (suc n) (omega (arith, ints)))
+
+-- nor does a fraction
+pub plain-fraction : (z : ℤ) (q : ℕ) → FitsSigned w128 z → q < 10 ^ 64
+    → needs_quotes default_writer (signed_decimal z ++ codes "/" ++ decimal q) ≡ false
+plain-fraction z q fits small =
+    rw (
+      list_any-append (needs_byte default_writer) (signed_decimal z ++ codes "/") (decimal q),
+      list_any-append (needs_byte default_writer) (signed_decimal z) (codes "/"),
+      plain-signed_decimal z fits,
+      plain-decimal q small,
+    ) refl
+
+-- a fraction, put down part by part
+pub fraction-parts : (old p q a b c d : List ℕ) → a ≡ old ++ p → b ≡ a ++ 47 ∷ [] → c ≡ b ++ q → d ≡ c ++ 44 ∷ []
+    → d ≡ (old ++ (p ++ codes "/" ++ q)) ++ 44 ∷ []
+fraction-parts old p q a b c d a_is b_is c_is d_is =
+    d_is ∙ ap (λ t. t ++ 44 ∷ [])
+    (c_is ∙ ap (λ t. t ++ q) (b_is ∙ ap (λ t. t ++ 47 ∷ []) a_is ∙ append_assoc old p (47 ∷ []))
+    ∙ append_assoc old (p ++ 47 ∷ []) q)
+
+-- what a row shows of its key, its answers, and the line's end
+pub EndsLine-keyed : (a b c : List (List ℕ)) (old key first second new : List ℕ) → 1 ≤ length a → 1 ≤ length b
+    → key ≡ parts (a ++ b) → first ≡ old ++ key → AddsParts c first second → EndsLine second new
+    → new ≡ old ++ line (a ++ b ++ c)
+EndsLine-keyed a b c old key first second new some_a some_b key_is one two ended =
+    let both : first ≡ (old ++ parts a) ++ parts b =
+    one ∙ ap (λ t. old ++ t) (key_is ∙ flat_map-append part a b) ∙ sym (append_assoc old (parts a) (parts b)) in
+    EndsLine-line a b c old (old ++ parts a) first second new some_a some_b refl both two ended
