@@ -16,3 +16,6 @@ loop-item-preserved g c =
     (OnOk-holds c.apply_taken.result _ fine c.apply_taken.ensures.enters)
     (OnOk-holds c.apply_taken.result _ fine c.apply_taken.ensures.stands)
     c.loop-item.invariant
+
+pub returns-in-Err-clause-ok : goal.returns-in-Err-clause-ok
+returns-in-Err-clause-ok g c = tt
