@@ -1,12 +1,16 @@
 -- What a comparison of noted rows with notes has seen.
-use Rattle.std.proofs.Common.{◌≡◌, ℕ, zero, suc, ◌+◌, ◌<◌, ◌≤◌, List, [], ◌∷◌, ◌++◌, length, take, drop, get_or, refl}
+use Rattle.std.proofs.Common.{◌≡◌, ℕ, false, zero, suc, ◌+◌, ◌<◌, ◌≤◌, List, [], ◌∷◌, ◌++◌, length, take, drop, get_or, refl}
 use Rattle.std.proofs.Common.{sym, ap, subst, ◌∙◌, arith, append_assoc}
 use Rattle.std.proofs.lemmas.List.{append-nil, take-append-drop, take_more, length-take-le, length-map, get_or-map}
 use Rattle.std.proofs.lemmas.List.{get_or_default}
 use Rattle.std.proofs.Math.Seq.{take-length}
 use Rattle.sqlite_value.specs.Order.{Row}
+use Rattle.sqlite_trees.specs.View.{View}
 use Rattle.cube_journal.specs.declared.note.FeedNote.{FeedNote}
 use Rattle.cube_journal.specs.Rows.{Entry, row_of, rows_from, entry_of, entries_of, DifferAt}
+use Rattle.cube_journal.specs.State.{OnlyReads, rows_left}
+use Rattle.cube_journal.specs.Reading.{Passes, HasCompared}
+use Rattle.cube_journal.proofs.ReadingLaws.{reads_then}
 use Rattle.cube_journal.proofs.RowLaws.{rows_length, rows_more, rows_append}
 
 -- the rows so far, the next and the others
@@ -118,3 +122,17 @@ module _ (rows : List Row) (notes : List FeedNote) where
     place_is = rows_length 0 (entries_of notes) ∙ length-map notes entry_of;
     apart = λ e. cc;
   }
+
+-- each note agrees, and no row is left
+pub all_same : (old before now : View) (notes : List FeedNote) (at : ℕ) (row : Row) → at ≡ length notes
+    → old.trees 1 ≡ rows_from 0 (take at (entries_of notes)) ++ rows_left before 0 → OnlyReads old before
+    → old.is_broken ≡ false → Passes before now row false → HasCompared old now (entries_of notes)
+all_same old before now notes at row end was reads sound none =
+    let all : old.trees 1 ≡ rows_from 0 (take (length notes) (entries_of notes)) ++ rows_left before 0 =
+    subst (λ n. old.trees 1 ≡ rows_from 0 (take n (entries_of notes)) ++ rows_left before 0) end was in
+    record {
+      same = all_passed (old.trees 1) notes (rows_left before 0) all
+          ∙ ap (λ l. rows_from 0 (entries_of notes) ++ l) none.1 ∙ append-nil (rows_from 0 (entries_of notes));
+      reads = reads_then old before now reads none.0;
+      sound = sound;
+    }

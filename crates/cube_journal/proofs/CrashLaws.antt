@@ -45,7 +45,6 @@ failed_since a b c (kind.Store error) up h = widen h
     widen (inl none) = inl none
     widen (inr f) = inr (wide f)
 failed_since a b c kind.NoTables up h = h
-failed_since a b c kind.NotEmpty up h = h
 failed_since a b c (kind.Feed source) up h = h
 failed_since a b c (kind.Row number) up h = h
 failed_since a b c kind.TooMany up h = h

@@ -4,4 +4,5 @@ mod MakeLaws
 mod OpenLaws
 mod ReadingLaws
 mod RowLaws
+mod StartLaws
 mod ViewLaws

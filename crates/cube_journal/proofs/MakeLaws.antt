@@ -1,8 +1,7 @@
 -- What the making of a store leaves.
-use Rattle.std.proofs.Common.{◌≡◌, ◌⊎◌, inl, inr, ℕ, ◌+◌, ◌<◌, ◌≤◌, ◌^◌, Bool, true, false, List, [], ◌∷◌, ◌++◌, length}
-use Rattle.std.proofs.Common.{take, get_or, IsTrue, refl, sym, ap, subst, ◌∙◌, arith}
+use Rattle.std.proofs.Common.{◌≡◌, ◌⊎◌, inl, inr, ℕ, ◌+◌, ◌<◌, ◌≤◌, ◌^◌, Bool, true, false, not, List, [], ◌∷◌, ◌++◌}
+use Rattle.std.proofs.Common.{length, take, get_or, IsTrue, refl, sym, ap, subst, ◌∙◌, arith, true≢false}
 use Rattle.std.proofs.lemmas.List.{take_more, length-take-le, length-map, get_or-map}
-use Rattle.std.specs.Bool.{MatchBool}
 use Rattle.sqlite_disk.specs.Disk.{MoreFaults}
 use Rattle.sqlite_value.specs.Order.{Row}
 use Rattle.sqlite_trees.specs.declared.error.StoreError.{StoreError}
@@ -10,32 +9,54 @@ use Rattle.sqlite_trees.specs.declared.error.StoreError.TheVariants.{OutOfMemory
 use Rattle.sqlite_trees.specs.declared.store.Shape.{Shape}
 use Rattle.sqlite_trees.specs.declared.store.Shape.TheVariants.{Table}
 use Rattle.sqlite_trees.specs.Tree.{Trees, put_row, with_tree}
-use Rattle.sqlite_trees.specs.View.{View, IsClean, KeepsSchema, IsRolledBack, SetsTree, OnlyWrites, IsQuiet, HasCause}
-use Rattle.sqlite_trees.specs.View.{IsStorableRow}
+use Rattle.sqlite_trees.specs.View.{View, IsClean, IsRolledBack, SetsTree, IsQuiet, HasCause, IsStorableRow}
 use Rattle.sqlite_trees.specs.View.{Commits as StoreCommits}
 use Rattle.cube_journal.specs.declared.note.FeedNote.{FeedNote}
-use Rattle.cube_journal.specs.declared.fault.OpenFault.{OpenFault}
-use Rattle.cube_journal.specs.declared.fault.OpenFault.TheVariants as kind
 use Rattle.cube_journal.specs.Rows.{Entry, row_of, rows_from, entries_in, entry_of, entries_of, AreChanges}
-use Rattle.cube_journal.specs.State.{rows_left, Holds, HasTables, IsStanding, IsJournal, OnlyReads, MakesJournal}
-use Rattle.cube_journal.specs.State.{ForgetsNothing}
-use Rattle.cube_journal.specs.State.{IsCause, Hinders}
-use Rattle.cube_journal.specs.Making.{WritesNotes, IsMade, CantNote, LeavesNotes, PutsNotes}
-use Rattle.cube_journal.specs.Reading.{StandsBeforeFirst}
+use Rattle.cube_journal.specs.State.{rows_left, IsStanding, IsJournal, OnlyReads}
+use Rattle.cube_journal.specs.State.{MakesJournal, ForgetsNothing, IsCause}
+use Rattle.cube_journal.specs.Making.{WritesNotes, IsMade, CantNote, LeavesNotes, LeavesEither, IsBlank, IsSettled}
+use Rattle.cube_journal.specs.Making.{TellsUnmade}
+use Rattle.cube_journal.specs.Reading.{StandsBeforeFirst, Passes, TellsWhether}
 use Rattle.cube_journal.proofs.RowLaws.{put_next, entries_of_rows}
-use Rattle.cube_journal.proofs.ReadingLaws.{cause_then}
+use Rattle.cube_journal.proofs.ReadingLaws.{cause_then, reads_then}
 use Rattle.cube_journal.proofs.CompareLaws.{index_is}
 use Rattle.cube_journal.proofs.ViewLaws.{open_if_sound, clean_if_open}
-use Rattle.cube_journal.proofs.OpenLaws.{was_open, same_trees, same_tables, shut_before}
+use Rattle.cube_journal.proofs.OpenLaws.{same_trees, same_last, same_tables, shut_before}
 
 -- ---- is a table empty?
 
-pub has_row : (old mid : View) (tree : ℕ) (row : Row) (left : List Row) → StandsBeforeFirst old mid tree
-    → rows_left mid 0 ≡ row ∷ left → old.trees tree ≡ [] → ⊥
-has_row old mid tree row left begins step none = let e : row ∷ left ≡ [] = sym step ∙ begins.left ∙ none in absurd (cc)
+-- the first step of a cursor tells whether a table has no row
+pub empty_told : (old mid new : View) (tree : ℕ) (row : Row) (found : Bool) → StandsBeforeFirst old mid tree
+    → old.is_broken ≡ false → Passes mid new row found → TellsWhether old new (old.trees tree ≡ []) (not found)
+empty_told old mid new tree row true begins sound step = record {
+  told = λ none. let e : row ∷ rows_left new 0 ≡ [] = sym step.1 ∙ begins.left ∙ none in absurd (cc);
+  reads = reads_then old mid new begins.reads step.0;
+  sound = sound;
+}
+empty_told old mid new tree row false begins sound step = record {
+  told = sym begins.left ∙ step.1;
+  reads = reads_then old mid new begins.reads step.0;
+  sound = sound;
+}
 
-pub has_none : (old mid : View) (tree : ℕ) → StandsBeforeFirst old mid tree → rows_left mid 0 ≡ [] → old.trees tree ≡ []
-has_none old mid tree begins step = sym begins.left ∙ step
+pub first_told : (old mid : View) → TellsWhether old mid (old.trees 0 ≡ []) false
+    → TellsWhether old mid ((old.trees 0 ≡ []) × (old.trees 1 ≡ [])) false
+first_told old mid was = record { told = λ both. was.told both.0; reads = was.reads; sound = was.sound }
+
+pub both_told : (old mid new : View) (b : Bool) → TellsWhether old mid (old.trees 0 ≡ []) true
+    → TellsWhether mid new (mid.trees 1 ≡ []) b
+    → TellsWhether old new ((old.trees 0 ≡ []) × (old.trees 1 ≡ [])) b
+both_told old mid new true was now = record {
+  told = (was.told, sym (ap (λ (v : View). v.trees 1) was.reads) ∙ now.told);
+  reads = reads_then old mid new was.reads now.reads;
+  sound = was.sound;
+}
+both_told old mid new false was now = record {
+  told = λ both. now.told (ap (λ (v : View). v.trees 1) was.reads ∙ both.1);
+  reads = reads_then old mid new was.reads now.reads;
+  sound = was.sound;
+}
 
 -- ---- notes put one after another
 
@@ -48,18 +69,10 @@ put_cause v fault P Full h = h
 put_cause v fault P Broken h = h
 put_cause v fault P Unstorable h = h
 
-pub writes_then : (old before now : View) (edit : List Row → List Row) → OnlyWrites old before
-    → SetsTree before now 1 edit → OnlyWrites old now
-writes_then old before now edit was sets =
-    let trees = with_tree before.trees 1 (edit (before.trees 1)) in
-    sets.is ∙ ap (λ (v : View). let w : View = record v { trees = trees; cursors = now.cursors } in w) was
-    ∙ ap (λ (t : Trees). let w : View = record old { trees = t; cursors = now.cursors } in
-    w) (sym (ap (λ (v : View). v.trees) sets.is))
-
-pub one_note : (notes : List FeedNote) (at : ℕ) (note : FeedNote) (old before now : List Row) → at < length notes
+pub one_note : (notes : List FeedNote) (at : ℕ) (note : FeedNote) (before now : List Row) → at < length notes
     → note ≡ get_or notes at note → before ≡ rows_from 0 (take at (entries_of notes))
     → now ≡ put_row (row_of at (entry_of note)) before → now ≡ rows_from 0 (take (at + 1) (entries_of notes))
-one_note notes at note old before now within is was put =
+one_note notes at note before now within is was put =
     let long : at < length (entries_of notes) = omega (arith, length-map notes entry_of) in
     let up_to : at ≤ length (entries_of notes) = omega arith in
     let here : get_or (entries_of notes) at (entry_of note) ≡ entry_of note =
@@ -71,43 +84,76 @@ one_note notes at note old before now within is was put =
     put ∙ ap (put_row (row_of at (entry_of note))) was
     ∙ put_next 0 at (take at (entries_of notes)) (entry_of note) place ∙ ap (rows_from 0) (sym more)
 
+-- one note more is written
+pub writes_more : (notes : List FeedNote) (at : ℕ) (other : FeedNote) (old before now : View) → at < length notes
+    → WritesNotes old before (take at (entries_of notes))
+    → SetsTree before now 1 (put_row (row_of at (entry_of (get_or notes at other))))
+    → WritesNotes old now (take (at + 1) (entries_of notes))
+writes_more notes at other old before now within was sets =
+    let trees = with_tree before.trees 1 (put_row (row_of at (entry_of (get_or notes at other))) (before.trees 1)) in
+    record {
+      others = sets.is
+          ∙ ap (λ (v : View). let w : View = record v { trees = trees; cursors = now.cursors } in w) was.others
+          ∙ ap (λ (t : Trees). let w : View = record old { trees = t; cursors = now.cursors } in w)
+          (sym (ap (λ (v : View). v.trees) sets.is));
+      changes = ap (λ (v : View). v.trees 0) sets.is ∙ was.changes;
+      notes_are = one_note notes at _ (before.trees 1) (now.trees 1) within (index_is notes at other within)
+          was.notes_are (ap (λ (v : View). v.trees 1) sets.is);
+    }
+
+pub cant_note : (reals : ℕ) (notes : List FeedNote) (at : ℕ) (note : FeedNote) → at < length notes
+    → note ≡ get_or notes at note
+    → (IsStorableRow reals (row_of at (entry_of note)) → ⊥) ⊎ (2 ^ 63 ≤ note.length)
+    → (reals : ℕ) × CantNote reals notes
+cant_note reals notes at note within is why =
+    (reals, record { place = at; note = note; within = within; note_is = is; why = why })
+
+-- why a note isn't put after others, as of before the first
+pub note_cause : (old before : View) (a b c : ℕ) (notes : List FeedNote) (at : ℕ) (other : FeedNote) (e : StoreError)
+    (written : List Entry) → at < length notes → a ≤ b → WritesNotes old before written
+    → HasCause before (MoreFaults b c)
+    ((IsStorableRow (before.reals 1) (row_of at (entry_of (get_or notes at other))) → ⊥)
+    ⊎ (2 ^ 63 ≤ (get_or notes at other).length)) e
+    → IsCause (MoreFaults a c) (IsTrue old.is_broken) ((reals : ℕ) × CantNote reals notes) e
+note_cause old before a b c notes at other e written within up writes h =
+    let why = (IsStorableRow (before.reals 1) (row_of at (entry_of (get_or notes at other))) → ⊥)
+    ⊎ (2 ^ 63 ≤ (get_or notes at other).length) in
+    let wide : MoreFaults b c → MoreFaults a c = λ f. omega arith in
+    cause_then (MoreFaults b c) (MoreFaults a c) (IsTrue before.is_broken) (IsTrue old.is_broken) why
+    ((reals : ℕ) × CantNote reals notes) e wide
+    (λ broken. sym (ap (λ (v : View). v.is_broken) writes.others) ∙ broken)
+    (cant_note (before.reals 1) notes at (get_or notes at other) within (index_is notes at other within))
+    (put_cause before (MoreFaults b c) why e h)
+
 -- ---- the notes committed
 
-module _ (old mid put : View) (notes : List Entry) (reads : OnlyReads old mid)
-    (none : (old.trees 0 ≡ []) × (old.trees 1 ≡ [])) (writes : WritesNotes mid put notes) where
+module _ (old put : View) (notes : List Entry) (blank : IsBlank old) (writes : WritesNotes old put notes) where
   put_changes : put.trees 0 ≡ []
-  put_changes = writes.changes ∙ ap (λ (v : View). v.trees 0) reads ∙ none.0
+  put_changes = writes.changes ∙ ap (λ (t : Trees). t 0) blank.same ∙ blank.unmade.none.0
 
-  pub put_holds : (db : Trees) → db ≡ put.trees → Holds db [] notes
-  put_holds db is = record {
-    changes_are = ap (λ (t : Trees). t 0) is ∙ put_changes;
-    sources = tt;
-    few = omega arith;
-    notes_are = ap (λ (t : Trees). t 1) is ∙ writes.notes_are;
-  }
-
-  pub puts_notes : (db : Trees) → IsClean old → put.is_broken ≡ false → db ≡ put.trees → PutsNotes old notes db
-  puts_notes db clean sound is = record {
+  pub leaves_notes : (db : Trees) → IsClean old → db ≡ put.trees → LeavesNotes old notes db
+  leaves_notes db clean is = record {
     clean = clean;
-    sound = sym (ap (λ (v : View). v.is_broken) writes.others ∙ ap (λ (v : View). v.is_broken) reads) ∙ sound;
-    none = none;
-    holds = put_holds db is;
+    was_open = blank.unmade.is_open;
+    none_before = blank.unmade.none;
+    holds = record {
+      changes_are = ap (λ (t : Trees). t 0) is ∙ put_changes;
+      sources = tt;
+      few = omega arith;
+      notes_are = ap (λ (t : Trees). t 1) is ∙ writes.notes_are;
+    };
   }
 
-  pub made_is : (now : View) → StoreCommits put now → (old.shape 0 ≡ Table) × (old.shape 1 ≡ Table)
-      → IsMade old now notes
-  made_is now commits tables =
-      let shape : now.shape ≡ old.shape = ap (λ (v : View). v.shape) commits.is
-      ∙ ap (λ (v : View). v.shape) writes.others ∙ ap (λ (v : View). v.shape) reads in
+  pub made_is : (now : View) → StoreCommits put now → IsMade now notes
+  made_is now commits =
+      let shape : now.shape ≡ old.shape =
+      ap (λ (v : View). v.shape) commits.is ∙ ap (λ (v : View). v.shape) writes.others in
       let last : now.committed ≡ put.trees = ap (λ (v : View). v.committed) commits.is in
       record {
-        was_sound =
-            sym (ap (λ (v : View). v.is_broken) writes.others ∙ ap (λ (v : View). v.is_broken) reads) ∙ commits.sound;
-        none_before = none;
         sound = ap (λ (v : View). v.is_broken) commits.is ∙ commits.sound;
         tables = record {
-          changes = ap (λ (s : ℕ → Shape). s 0) shape ∙ tables.0;
-          feeds = ap (λ (s : ℕ → Shape). s 1) shape ∙ tables.1;
+          changes = ap (λ (s : ℕ → Shape). s 0) shape ∙ blank.unmade.tables.changes;
+          feeds = ap (λ (s : ℕ → Shape). s 1) shape ∙ blank.unmade.tables.feeds;
           unaltered = ap (λ (v : View). v.committed_shape) commits.is ∙ sym (ap (λ (v : View). v.shape) commits.is);
         };
         same = ap (λ (v : View). v.trees) commits.is ∙ sym last;
@@ -115,14 +161,23 @@ module _ (old mid put : View) (notes : List Entry) (reads : OnlyReads old mid)
         notes_are = ap (λ (t : Trees). t 1) last ∙ writes.notes_are;
       }
 
+  -- a commit of them fails for want of memory or by a fault
+  pub commit_cause : (a b c : ℕ) (cant : Type 0) (e : StoreError) → a ≤ b → HasCause put (MoreFaults b c) ⊥ e
+      → IsCause (MoreFaults a c) ⊥ cant e
+  commit_cause a b c cant e up h =
+      let wide : MoreFaults b c → MoreFaults a c = λ f. omega arith in
+      cause_then (MoreFaults b c) (MoreFaults a c) (IsTrue put.is_broken) ⊥ ⊥ cant e wide
+      (λ broken. true≢false (sym broken ∙ ap (λ (v : View). v.is_broken) writes.others ∙ blank.sound))
+      (λ x. absurd x) (put_cause put (MoreFaults b c) ⊥ e h)
+
 -- ---- a new journal
 
-module _ (mid now : View) (notes : List Entry) (made : IsMade mid now notes) where
+module _ (now : View) (notes : List Entry) (made : IsMade now notes) where
   no_changes : (rows : List Row) → rows ≡ [] → AreChanges rows 0
   no_changes rows none =
       subst (λ r. AreChanges r 0) (sym none) (record { rows_are = refl; sources = tt; count_is = refl })
 
-  pub made_stands : IsStanding now 0 0
+  made_stands : IsStanding now 0 0
   made_stands = record {
     sound = made.sound;
     held = no_changes (now.trees 0) (ap (λ (t : Trees). t 0) made.same ∙ made.changes);
@@ -131,78 +186,80 @@ module _ (mid now : View) (notes : List Entry) (made : IsMade mid now notes) whe
     notes = made.notes_are ∙ ap (rows_from 0) (sym (ap entries_in made.notes_are ∙ entries_of_rows 0 notes));
   }
 
-  pub makes : (was : View) → IsRolledBack was mid → (mid.is_open ≡ false → IsTrue mid.is_broken)
-      → (now.is_open ≡ false → IsTrue now.is_broken) → IsClean mid → MakesJournal notes was now
-  makes was undone broken shut clean =
-      let trees = same_trees was mid undone broken made.was_sound in
-      record {
-        was_open = was_open was mid undone broken clean made.was_sound;
-        none_before = (
-          ap (λ (t : Trees). t 0) (sym trees) ∙ made.none_before.0,
-          ap (λ (t : Trees). t 1) (sym trees) ∙ made.none_before.1,
-        );
-        is_open = open_if_sound now shut made.sound;
-        stored = ap entries_in made.changes;
-        held = ap (λ (t : Trees). entries_in (t 0)) made.same ∙ ap entries_in made.changes;
-        noted = ap entries_in made.notes_are ∙ entries_of_rows 0 notes;
-      }
+  pub makes : (was : View) → IsBlank was → (now.is_open ≡ false → IsTrue now.is_broken) → MakesJournal notes was now
+  makes was blank shut = record {
+    was_open = blank.unmade.is_open;
+    none_before = blank.unmade.none;
+    is_open = open_if_sound now shut made.sound;
+    stored = ap entries_in made.changes;
+    held = ap (λ (t : Trees). entries_in (t 0)) made.same ∙ ap entries_in made.changes;
+    noted = ap entries_in made.notes_are ∙ entries_of_rows 0 notes;
+  }
 
-  pub made_lasts : (now.is_open ≡ false → IsTrue now.is_broken) → (recovers : Trees → Type 0)
-      → ((db : Trees) → IsTrue now.is_open → recovers db → db ≡ now.committed)
-      → (db : Trees) → recovers db → Holds db [] notes
-  made_lasts shut recovers law db found =
-      let is = law db (open_if_sound now shut made.sound) found in
-      record {
-        changes_are = ap (λ (t : Trees). t 0) is ∙ made.changes;
-        sources = tt;
-        few = omega arith;
-        notes_are = ap (λ (t : Trees). t 1) is ∙ made.notes_are;
-      }
-
-pub made_journal : (mid now : View) (notes : List Entry) → (IsClean now → IsMade mid now notes)
+pub made_journal : (now : View) (notes : List Entry) → (IsClean now → IsMade now notes)
     → (now.is_clean ≡ false → now.is_open ≡ false) → IsJournal now 0 0
-made_journal mid now notes made shut =
-    record {
-      tables = λ h. (made h).tables;
-      few = omega arith;
-      within = omega arith;
-      standing = λ is_open. made_stands mid now notes (made (clean_if_open now shut is_open));
-    }
-
--- what a crash may leave, as of before the rollback
-pub leaves_notes : (was mid : View) (notes : List Entry) (db : Trees) → IsRolledBack was mid
-    → (mid.is_open ≡ false → IsTrue mid.is_broken) → (IsClean mid → IsClean was) → PutsNotes mid notes db
-    → LeavesNotes was notes db
-leaves_notes was mid notes db undone broken back puts =
-    let trees = same_trees was mid undone broken puts.sound in
-    record {
-      clean = back puts.clean;
-      was_open = was_open was mid undone broken puts.clean puts.sound;
-      none_before =
-          (ap (λ (t : Trees). t 0) (sym trees) ∙ puts.none.0, ap (λ (t : Trees). t 1) (sym trees) ∙ puts.none.1);
-      holds = puts.holds;
-    }
+made_journal now notes made shut = record {
+  tables = λ h. (made h).tables;
+  few = omega arith;
+  within = omega arith;
+  standing = λ is_open. made_stands now notes (made (clean_if_open now shut is_open));
+}
 
 -- ---- is anything noted?
 
-pub unmade_is : (was mid : View) (b : Bool) → IsRolledBack was mid → (mid.is_open ≡ false → IsTrue mid.is_broken)
-    → mid.is_broken ≡ false
-    → MatchBool b ((mid.trees 0 ≡ []) × (mid.trees 1 ≡ [])) ((mid.trees 0 ≡ []) × (mid.trees 1 ≡ []) → ⊥)
-    → MatchBool b ((was.committed 0 ≡ []) × (was.committed 1 ≡ []))
-    (HasTables was → (was.committed 0 ≡ []) × (was.committed 1 ≡ []) → ⊥)
-unmade_is was mid true undone broken sound h =
-    subst (λ (t : Trees). (t 0 ≡ []) × (t 1 ≡ [])) (same_trees was mid undone broken sound) h
-unmade_is was mid false undone broken sound h =
-    λ tables. subst (λ (t : Trees). (t 0 ≡ []) × (t 1 ≡ []) → ⊥) (same_trees was mid undone broken sound) h
+module _ (was mid : View) (undone : IsRolledBack was mid) (broken : mid.is_open ≡ false → IsTrue mid.is_broken)
+    (clean : IsClean mid) where
+  settled : (new : View) → OnlyReads mid new → IsSettled was new
+  settled new reads =
+      let same : new.is_open ≡ mid.is_open = ap (λ (v : View). v.is_open) reads in
+      let shape : new.shape ≡ mid.shape = ap (λ (v : View). v.shape) reads in
+      let before : IsTrue new.is_open → IsTrue mid.is_open = λ is_open. sym same ∙ is_open in
+      record {
+        was_open = λ is_open. (undone.kept clean).was_open (before is_open);
+        committed = λ is_open. ap (λ (v : View). v.committed) reads ∙ (undone.kept clean).committed (before is_open);
+        tables = λ have. let shapes = shape ∙ undone.shape (sym have.unaltered) in record {
+          changes = ap (λ (s : ℕ → Shape). s 0) shapes ∙ have.changes;
+          feeds = ap (λ (s : ℕ → Shape). s 1) shapes ∙ have.feeds;
+          unaltered = ap (λ (v : View). v.committed_shape) reads ∙ undone.committed_shape ∙ have.unaltered
+              ∙ sym shapes;
+        };
+      }
 
-pub tables_stay : (was mid now : View) → IsRolledBack was mid → KeepsSchema mid now → HasTables was → HasTables now
-tables_stay was mid now undone schema have =
-    let shape = undone.shape (sym have.unaltered) in
-    record {
-      changes = ap (λ (s : ℕ → Shape). s 0) (schema.shape ∙ shape) ∙ have.changes;
-      feeds = ap (λ (s : ℕ → Shape). s 1) (schema.shape ∙ shape) ∙ have.feeds;
-      unaltered = schema.committed_shape ∙ undone.committed_shape ∙ have.unaltered ∙ sym (schema.shape ∙ shape);
-    }
+  pub no_tables_told : ((mid.shape 0 ≡ Table) × (mid.shape 1 ≡ Table) → ⊥) → TellsUnmade was mid false
+  no_tables_told none = (settled mid refl, λ unmade. none (same_tables was mid undone broken unmade.tables))
+
+  pub unmade_told : (new : View) (b : Bool) → (mid.shape 0 ≡ Table) × (mid.shape 1 ≡ Table)
+      → (mid.is_broken ≡ false → mid.trees ≡ mid.committed → mid.shape ≡ mid.committed_shape)
+      → TellsWhether mid new ((mid.trees 0 ≡ []) × (mid.trees 1 ≡ [])) b → TellsUnmade was new b
+  unmade_told new true tables law told =
+      let trees = same_trees was mid undone broken told.sound in
+      let last = same_last was mid undone broken clean told.sound in
+      let same : mid.trees ≡ mid.committed = trees ∙ sym last in
+      let shape = ap (λ (v : View). v.shape) told.reads in
+      let now : new.committed ≡ mid.trees = ap (λ (v : View). v.committed) told.reads ∙ sym same in (
+        settled new told.reads,
+        record {
+          unmade = record {
+            is_open = ap (λ (v : View). v.is_open) told.reads ∙ open_if_sound mid broken told.sound;
+            tables = record {
+              changes = ap (λ (s : ℕ → Shape). s 0) shape ∙ tables.0;
+              feeds = ap (λ (s : ℕ → Shape). s 1) shape ∙ tables.1;
+              unaltered = ap (λ (v : View). v.committed_shape) told.reads ∙ sym (law told.sound same) ∙ sym shape;
+            };
+            none = (ap (λ (t : Trees). t 0) now ∙ told.told.0, ap (λ (t : Trees). t 1) now ∙ told.told.1);
+          };
+          sound = ap (λ (v : View). v.is_broken) told.reads ∙ told.sound;
+          same = ap (λ (v : View). v.trees) told.reads ∙ sym now;
+        },
+      )
+  unmade_told new false tables law told =
+      let trees = same_trees was mid undone broken told.sound in (
+        settled new told.reads,
+        λ unmade. told.told (
+          ap (λ (t : Trees). t 0) trees ∙ unmade.none.0,
+          ap (λ (t : Trees). t 1) trees ∙ unmade.none.1,
+        ),
+      )
 
 -- why a reading of a store that is rolled back fails, as of before the rollback
 pub cause_before : (was mid : View) (a b c : ℕ) (e : StoreError) → IsRolledBack was mid
@@ -222,81 +279,6 @@ cause_before was mid a b c e undone broken up later closes h =
     still : IsTrue mid.is_open ⊎ MoreFaults a b → IsTrue mid.is_open ⊎ MoreFaults a c
     still (inl is_open) = inl is_open
     still (inr f) = inr (more f)
-
--- ---- why none is made
-
-pub hinders_then : (fault more shut before unstorable tables were is_open was_open : Type 0) (trees others : Trees)
-    (e : OpenFault)
-    → (fault → more) → (shut → before) → (were → tables) → (is_open → was_open) → (is_open → trees ≡ others)
-    → Hinders fault shut unstorable tables is_open trees e → Hinders more before unstorable were was_open others e
-hinders_then fault more shut before unstorable tables were is_open was_open trees others
-    (kind.Store error) up back have sound same h =
-    cause_then fault more shut before unstorable unstorable error up back (λ x. x) h
-hinders_then fault more shut before unstorable tables were is_open was_open trees others kind.NoTables up back have
-    sound same h = λ t. h (have t)
-hinders_then fault more shut before unstorable tables were is_open was_open trees others kind.NotEmpty up back have
-    sound same h =
-    (sound h.0, subst (λ (t : Trees). (t 0 ≡ []) × (t 1 ≡ []) → ⊥) (same h.0) h.1)
-hinders_then fault more shut before unstorable tables were is_open was_open trees others
-    (kind.Feed source) up back have sound same h = h
-hinders_then fault more shut before unstorable tables were is_open was_open trees others
-    (kind.Row number) up back have sound same h = h
-hinders_then fault more shut before unstorable tables were is_open was_open trees others kind.TooMany up back have sound
-    same h = h
-
--- why no journal is made in a store that is rolled back, as of before the rollback
-pub hinders_before : (was mid : View) (a b c : ℕ) (unstorable : Type 0) (e : OpenFault) → IsRolledBack was mid
-    → (mid.is_open ≡ false → IsTrue mid.is_broken) → IsClean mid → a ≤ b → b ≤ c
-    → (IsTrue was.is_open → IsTrue mid.is_open ⊎ MoreFaults a b)
-    → Hinders (MoreFaults b c) (IsTrue mid.is_broken) unstorable ((mid.shape 0 ≡ Table) × (mid.shape 1 ≡ Table))
-    (mid.is_broken ≡ false) mid.trees e
-    → Hinders (MoreFaults a c) ((was.is_open ≡ false) ⊎ MoreFaults a c) unstorable (HasTables was)
-    (IsTrue was.is_open) was.committed e
-hinders_before was mid a b c unstorable e undone broken clean up later closes h =
-    let wide : MoreFaults b c → MoreFaults a c = λ f. omega arith in
-    hinders_then (MoreFaults b c) (MoreFaults a c) (IsTrue mid.is_broken)
-    ((was.is_open ≡ false) ⊎ MoreFaults a c) unstorable
-    ((mid.shape 0 ≡ Table) × (mid.shape 1 ≡ Table)) (HasTables was) (mid.is_broken ≡ false)
-    (IsTrue was.is_open) mid.trees was.committed e wide
-    (shut_before was mid undone broken (MoreFaults a c) (λ is_open. still (closes is_open)))
-    (same_tables was mid undone broken) (was_open was mid undone broken clean) (same_trees was mid undone broken) h
-  where
-    more : MoreFaults a b → MoreFaults a c
-    more f = omega arith
-
-    still : IsTrue mid.is_open ⊎ MoreFaults a b → IsTrue mid.is_open ⊎ MoreFaults a c
-    still (inl is_open) = inl is_open
-    still (inr f) = inr (more f)
-
-pub both_empty : (old mid : View) (b : Bool) → OnlyReads old mid → old.trees 0 ≡ []
-    → MatchBool b (mid.trees 1 ≡ []) (mid.trees 1 ≡ [] → ⊥)
-    → MatchBool b ((old.trees 0 ≡ []) × (old.trees 1 ≡ [])) ((old.trees 0 ≡ []) × (old.trees 1 ≡ []) → ⊥)
-both_empty old mid true reads none h = (none, sym (ap (λ (v : View). v.trees 1) reads) ∙ h)
-both_empty old mid false reads none h = λ both. h (ap (λ (v : View). v.trees 1) reads ∙ both.1)
-
-pub cant_note : (reals : ℕ) (notes : List FeedNote) (at : ℕ) (note : FeedNote) → at < length notes
-    → note ≡ get_or notes at note
-    → (IsStorableRow reals (row_of at (entry_of note)) → ⊥) ⊎ (2 ^ 63 ≤ note.length)
-    → (reals : ℕ) × CantNote reals notes
-cant_note reals notes at note within is why =
-    (reals, record { place = at; note = note; within = within; note_is = is; why = why })
-
--- why a note isn't put after others, as of before the first
-pub note_cause : (old before : View) (a b c : ℕ) (notes : List FeedNote) (at : ℕ) (other : FeedNote) (e : StoreError)
-    → at < length notes → a ≤ b → OnlyWrites old before
-    → HasCause before (MoreFaults b c)
-    ((IsStorableRow (before.reals 1) (row_of at (entry_of (get_or notes at other))) → ⊥)
-    ⊎ (2 ^ 63 ≤ (get_or notes at other).length)) e
-    → IsCause (MoreFaults a c) (IsTrue old.is_broken) ((reals : ℕ) × CantNote reals notes) e
-note_cause old before a b c notes at other e within up writes h =
-    let why = (IsStorableRow (before.reals 1) (row_of at (entry_of (get_or notes at other))) → ⊥)
-    ⊎ (2 ^ 63 ≤ (get_or notes at other).length) in
-    let wide : MoreFaults b c → MoreFaults a c = λ f. omega arith in
-    cause_then (MoreFaults b c) (MoreFaults a c) (IsTrue before.is_broken) (IsTrue old.is_broken) why
-    ((reals : ℕ) × CantNote reals notes) e wide
-    (λ broken. sym (ap (λ (v : View). v.is_broken) writes) ∙ broken)
-    (cant_note (before.reals 1) notes at (get_or notes at other) within (index_is notes at other within))
-    (put_cause before (MoreFaults b c) why e h)
 
 -- ---- calls one after another
 
@@ -328,3 +310,16 @@ module _ {S : Type 0} (view : S → View) (faults : S → ℕ) where
           → IsTrue (view c).is_open ⊎ MoreFaults (faults a) (faults c)
       after h (inl is_open) = last (y.stays h is_open)
       after h (inr f) = inr (wide_first f)
+
+  -- a crash within a commit leaves the notes, or what it left before
+  pub leaves_either : (recovers : S → Trees → Type 0) (notes : List Entry) (a b c : S)
+      → ((db : Trees) → recovers c db → LeavesNotes (view a) notes db ⊎ recovers b db)
+      → ((db : Trees) → recovers b db → recovers a db) → ForgetsNothing view faults a b → ForgetsNothing view faults b c
+      → LeavesEither view faults recovers notes a c
+  leaves_either recovers notes a b c crash before x y =
+      record { crash = λ db h. earlier db (crash db h); on = goes_then a b c x y }
+    where
+      earlier : (db : Trees) → LeavesNotes (view a) notes db ⊎ recovers b db
+          → LeavesNotes (view a) notes db ⊎ recovers a db
+      earlier db (inl left) = inl left
+      earlier db (inr was) = inr (before db was)

@@ -13,6 +13,7 @@ use Rattle.cube_journal.specs.declared.fault.OpenFault.TheVariants as kind
 use Rattle.cube_journal.specs.Rows.{Entry, rows_from, entries_in, AreChanges, AreNotes, DifferAt, IsForeignAt}
 use Rattle.cube_journal.specs.State.{held_in, stored_in, noted_in, Holds, HasTables, IsJournal, IsStore, OnlyReads}
 use Rattle.cube_journal.specs.State.{Finds, IsCause, ExplainsUnopened, IsFailedCall}
+use Rattle.cube_journal.specs.Reading.{HasReplayed}
 use Rattle.cube_journal.proofs.RowLaws.{entries_of_rows, rows_length, changes_from, none_foreign, none_differ}
 use Rattle.cube_journal.proofs.ReadingLaws.{cause_then}
 use Rattle.cube_journal.proofs.ViewLaws.{open_if_sound, clean_if_open}
@@ -27,8 +28,6 @@ explains_then fault more shut before is_open was_open tables were trees others n
     (kind.Store error) up back sound have same h = cause_then fault more shut before ⊥ ⊥ error up back (λ x. x) h
 explains_then fault more shut before is_open was_open tables were trees others notes kind.NoTables up back sound have
     same h = λ t. h (have t)
-explains_then fault more shut before is_open was_open tables were trees others notes kind.NotEmpty up back sound have
-    same h = h
 explains_then fault more shut before is_open was_open tables were trees others notes
     (kind.Feed source) up back sound have same h =
     (sound h.0, subst (λ (t : Trees). DifferAt (t 1) (rows_from 0 notes) source) (same h.0) h.1)
@@ -71,7 +70,6 @@ refuses_none fault more was notes (kind.Store error) tables holds up shut h =
     wide (inl is_shut) = shut is_shut
     wide (inr f) = up f
 refuses_none fault more was notes kind.NoTables tables holds up shut h = absurd (h tables)
-refuses_none fault more was notes kind.NotEmpty tables holds up shut h = h
 refuses_none fault more was notes (kind.Feed source) tables holds up shut h =
     let found = holds h.0 in absurd (none_differ (was.committed 1) (rows_from 0 notes) source found.1.notes_are h.1)
 refuses_none fault more was notes (kind.Row number) tables holds up shut h =
@@ -147,54 +145,59 @@ explains_before was mid a b c notes e undone broken clean up later closes h =
     still (inl is_open) = inl is_open
     still (inr f) = inr (more f)
 
-module _ (was mid now : View) (count : ℕ) (notes : List Entry) (undone : IsRolledBack was mid)
-    (to_mid : IsClean now → IsClean mid) (reads : IsClean now → OnlyReads mid now)
-    (sound : IsClean now → mid.is_broken ≡ false) (changes : IsClean now → AreChanges (mid.trees 0) count)
-    (same : IsClean now → AreNotes (mid.trees 1) notes)
-    (broken : mid.is_open ≡ false → IsTrue mid.is_broken) where
-  trees_are : IsClean now → mid.trees ≡ was.committed
-  trees_are h = same_trees was mid undone broken (sound h)
+pub open_is : {K : Type 0} (was mid now : View) (count : ℕ) (notes : List Entry) (takes : K → Entry → K → Type 0)
+    (start end : K)
+    → IsRolledBack was mid → (IsClean now → IsClean mid)
+    → (IsClean now → HasReplayed takes mid now count start end × AreNotes (mid.trees 1) notes)
+    → (mid.is_open ≡ false → IsTrue mid.is_broken) → count ≤ 2 ^ 62 → (mid.shape 0 ≡ Table) × (mid.shape 1 ≡ Table)
+    → (mid.is_broken ≡ false → mid.trees ≡ mid.committed → mid.shape ≡ mid.committed_shape)
+    → (now.is_clean ≡ false → now.is_open ≡ false) → IsJournal now count count
+open_is was mid now count notes takes start end undone to_mid read broken few tables law shut =
+    record {
+      tables = λ h. let found = read h in
+          let same = same_trees was mid undone broken found.0.sound
+          ∙ sym (same_last was mid undone broken (to_mid h) found.0.sound) in
+          record {
+            changes = ap (λ (v : View). v.shape 0) found.0.reads ∙ tables.0;
+            feeds = ap (λ (v : View). v.shape 1) found.0.reads ∙ tables.1;
+            unaltered = ap (λ (v : View). v.committed_shape) found.0.reads ∙ sym (law found.0.sound same)
+                ∙ sym (ap (λ (v : View). v.shape) found.0.reads);
+          };
+      few = few;
+      within = omega arith;
+      standing = λ is_open. let h = clean_if_open now shut is_open in
+          let found = read h in
+          let trees : now.trees ≡ mid.trees = ap (λ (v : View). v.trees) found.0.reads in
+          let last : now.committed ≡ mid.trees =
+          ap (λ (v : View). v.committed) found.0.reads
+          ∙ same_last was mid undone broken (to_mid h) found.0.sound
+          ∙ sym (same_trees was mid undone broken found.0.sound) in
+          let noted : mid.trees 1 ≡ rows_from 0 notes = found.1 in
+          let back : entries_in (mid.trees 1) ≡ notes = ap entries_in noted ∙ entries_of_rows 0 notes in
+          record {
+            sound = ap (λ (v : View). v.is_broken) found.0.reads ∙ found.0.sound;
+            held = subst (λ (t : Trees). AreChanges (t 0) count) (sym trees) found.0.changes;
+            stored = subst (λ (t : Trees). AreChanges (t 0) count) (sym last) found.0.changes;
+            same_notes = ap (λ (t : Trees). t 1) (trees ∙ sym last);
+            notes = subst (λ (t : Trees). AreNotes (t 1) (entries_in (t 1))) (sym last)
+                (noted ∙ ap (rows_from 0) (sym back));
+          };
+    }
 
-  last_are : IsClean now → mid.committed ≡ was.committed
-  last_are h = same_last was mid undone broken (to_mid h) (sound h)
+module _ (was mid : View) (undone : IsRolledBack was mid) (broken : mid.is_open ≡ false → IsTrue mid.is_broken) where
+  pub open_finds : (now : View) → IsClean mid → OnlyReads mid now → mid.is_broken ≡ false → Finds was now
+  open_finds now clean reads sound =
+      let last = same_last was mid undone broken clean sound in
+      record {
+        was_open = was_open was mid undone broken clean sound;
+        is_open = ap (λ (v : View). v.is_open) reads ∙ mid_is_open was mid undone broken sound;
+        stored = ap (λ (v : View). stored_in v) reads ∙ ap (λ (t : Trees). entries_in (t 0)) last;
+        held = ap (λ (v : View). held_in v) reads
+            ∙ ap (λ (t : Trees). entries_in (t 0)) (same_trees was mid undone broken sound);
+        noted = ap (λ (v : View). noted_in v) reads ∙ ap (λ (t : Trees). entries_in (t 1)) last;
+      }
 
-  pub open_is : count ≤ 2 ^ 62 → (mid.shape 0 ≡ Table) × (mid.shape 1 ≡ Table)
-      → (mid.is_broken ≡ false → mid.trees ≡ mid.committed → mid.shape ≡ mid.committed_shape)
-      → (now.is_clean ≡ false → now.is_open ≡ false) → IsJournal now count count
-  open_is few tables law shut = record {
-    tables = λ h. record {
-      changes = ap (λ (v : View). v.shape 0) (reads h) ∙ tables.0;
-      feeds = ap (λ (v : View). v.shape 1) (reads h) ∙ tables.1;
-      unaltered = ap (λ (v : View). v.committed_shape) (reads h) ∙ sym (law (sound h) (trees_are h ∙ sym (last_are h)))
-          ∙ sym (ap (λ (v : View). v.shape) (reads h));
-    };
-    few = few;
-    within = omega arith;
-    standing = λ is_open. let h = clean_if_open now shut is_open in
-        let trees : now.trees ≡ mid.trees = ap (λ (v : View). v.trees) (reads h) in
-        let last : now.committed ≡ mid.trees =
-        ap (λ (v : View). v.committed) (reads h) ∙ last_are h ∙ sym (trees_are h) in
-        let noted : mid.trees 1 ≡ rows_from 0 notes = same h in
-        let back : entries_in (mid.trees 1) ≡ notes = ap entries_in noted ∙ entries_of_rows 0 notes in
-        record {
-          sound = ap (λ (v : View). v.is_broken) (reads h) ∙ sound h;
-          held = subst (λ (t : Trees). AreChanges (t 0) count) (sym trees) (changes h);
-          stored = subst (λ (t : Trees). AreChanges (t 0) count) (sym last) (changes h);
-          same_notes = ap (λ (t : Trees). t 1) (trees ∙ sym last);
-          notes =
-              subst (λ (t : Trees). AreNotes (t 1) (entries_in (t 1))) (sym last) (noted ∙ ap (rows_from 0) (sym back));
-        };
-  }
-
-  pub open_finds : IsClean now → Finds was now
-  open_finds h = record {
-    was_open = was_open was mid undone broken (to_mid h) (sound h);
-    is_open = ap (λ (v : View). v.is_open) (reads h) ∙ mid_is_open was mid undone broken (sound h);
-    stored = ap (λ (v : View). stored_in v) (reads h) ∙ ap (λ (t : Trees). entries_in (t 0)) (last_are h);
-    held = ap (λ (v : View). held_in v) (reads h) ∙ ap (λ (t : Trees). entries_in (t 0)) (trees_are h);
-    noted = ap (λ (v : View). noted_in v) (reads h) ∙ ap (λ (t : Trees). entries_in (t 1)) (last_are h);
-  }
-
-  pub open_noted : IsClean now → noted_in was ≡ notes
-  open_noted h =
-      ap (λ (t : Trees). entries_in (t 1)) (sym (trees_are h)) ∙ ap entries_in (same h) ∙ entries_of_rows 0 notes
+  pub open_noted : (notes : List Entry) → mid.is_broken ≡ false → AreNotes (mid.trees 1) notes → noted_in was ≡ notes
+  open_noted notes sound same =
+      ap (λ (t : Trees). entries_in (t 1)) (sym (same_trees was mid undone broken sound)) ∙ ap entries_in same
+      ∙ entries_of_rows 0 notes

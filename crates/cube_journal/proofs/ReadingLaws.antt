@@ -1,18 +1,19 @@
 -- What a reading of rows has passed.
-use Rattle.std.proofs.Common.{◌≡◌, ℕ, ◌+◌, ◌≤◌, Bool, true, false, List, [], ◌∷◌, ◌++◌, length, IsTrue, refl, sym, ap}
-use Rattle.std.proofs.Common.{subst, ◌∙◌, arith, append_assoc, length-append}
+use Rattle.std.proofs.Common.{◌≡◌, ◌⊎◌, inl, inr, ℕ, ◌+◌, ◌≤◌, Bool, true, false, List, [], ◌∷◌, ◌++◌, length, IsTrue, refl, sym, ap}
+use Rattle.std.proofs.Common.{subst, ◌∙◌, arith, append_assoc, length-append, Result, Ok, Err, IfOk, IfErr}
 use Rattle.std.proofs.lemmas.List.{append-nil}
+use Rattle.sqlite_disk.specs.Disk.{MoreFaults}
 use Rattle.sqlite_value.specs.declared.keys.Order.{Order}
 use Rattle.sqlite_value.specs.Order.{Row}
 use Rattle.sqlite_trees.specs.declared.store.Direction.TheVariants.{Forward}
 use Rattle.sqlite_trees.specs.declared.error.StoreError.{StoreError}
 use Rattle.sqlite_trees.specs.declared.error.StoreError.TheVariants.{OutOfMemory, Io, Corrupt, Full, Broken, Unstorable}
-use Rattle.sqlite_trees.specs.Tree.{order_of, from_key, sought}
-use Rattle.sqlite_trees.specs.View.{View, with_cursor, Advances, HasCause}
+use Rattle.sqlite_trees.specs.Tree.{Trees, order_of, from_key, sought}
+use Rattle.sqlite_trees.specs.View.{View, IsClean, with_cursor, Advances, HasCause, IsQuiet}
 use Rattle.sqlite_trees.proofs.ListLemmas.{all-append}
 use Rattle.cube_journal.specs.Rows.{Entry, row_of, rows_from, entries_in, IsOfSource, AreChanges, IsForeignAt}
 use Rattle.cube_journal.specs.State.{OnlyReads, rows_left, LeadsTo, IsCause}
-use Rattle.cube_journal.specs.Reading.{StandsBeforeFirst, Passes, HasPassed}
+use Rattle.cube_journal.specs.Reading.{StandsBeforeFirst, Passes, HasPassed, HasReplayed}
 use Rattle.cube_journal.proofs.RowLaws.{rows_more, rows_length, changes_from, entries_of_rows}
 
 from_no_key : (o : Order) (rows : List Row) → from_key o [] rows ≡ rows
@@ -61,6 +62,45 @@ cause_then fault more shut before unstorable wider Full up back wide h = up h
 cause_then fault more shut before unstorable wider Broken up back wide h = back h
 cause_then fault more shut before unstorable wider Unstorable up back wide h = wide h
 
+-- what two clauses say of one result
+pub ok_both : {X Y : Type 0} (r : Result X Y) (P Q R : X → Type 0) → ((x : X) → P x → Q x → R x) → IfOk r P → IfOk r Q
+    → IfOk r R
+ok_both (Ok x) P Q R both p q = both x p q
+ok_both (Err e) P Q R both p q = tt
+
+pub err_both : {X Y : Type 0} (r : Result X Y) (P Q R : Y → Type 0) → ((y : Y) → P y → Q y → R y) → IfErr r P → IfErr r Q
+    → IfErr r R
+err_both (Ok x) P Q R both p q = tt
+err_both (Err e) P Q R both p q = both e p q
+
+pub quiet_then : {S : Type 0} (view : S → View) (faults : S → ℕ) (recovers : S → Trees → Type 0)
+    (shielded : S → Type 0) (a b c : S) → IsQuiet view faults recovers shielded a b
+    → IsQuiet view faults recovers shielded b c
+    → IsQuiet view faults recovers shielded a c
+quiet_then view faults recovers shielded a b c x y = record {
+  shield = λ h. y.shield (x.shield h);
+  clean = omega (arith, x.clean, y.clean);
+  counts = omega (arith, x.counts, y.counts);
+  closes = λ h is_open. let clean_b : IsClean (view b) = omega (arith, y.clean) in after h (x.closes clean_b is_open);
+  outcomes = λ db h. x.outcomes db (y.outcomes db h);
+}
+  where
+    wide_first : MoreFaults (faults a) (faults b) → MoreFaults (faults a) (faults c)
+    wide_first f = omega (arith, y.counts)
+
+    wide_last : MoreFaults (faults b) (faults c) → MoreFaults (faults a) (faults c)
+    wide_last f = omega (arith, x.counts)
+
+    last : IsTrue (view c).is_open ⊎ MoreFaults (faults b) (faults c)
+        → IsTrue (view c).is_open ⊎ MoreFaults (faults a) (faults c)
+    last (inl is_open) = inl is_open
+    last (inr f) = inr (wide_last f)
+
+    after : IsClean (view c) → IsTrue (view b).is_open ⊎ MoreFaults (faults a) (faults b)
+        → IsTrue (view c).is_open ⊎ MoreFaults (faults a) (faults c)
+    after h (inl is_open) = last (y.closes h is_open)
+    after h (inr f) = inr (wide_first f)
+
 takes_more : {K : Type 0} (takes : K → Entry → K → Type 0) (es : List Entry) (start mid end : K) (e : Entry)
     → LeadsTo takes start es mid → takes mid e end → LeadsTo takes start (es ++ e ∷ []) end
 takes_more takes [] start mid end e all one = (end, subst (λ k. takes k e end) (sym all) one, refl)
@@ -90,15 +130,33 @@ module _ {K : Type 0} (takes : K → Entry → K → Type 0) where
         taken = takes_more takes passed start mid end e was.taken one;
       }
 
-  pub all_taken : (rows left : List Row) (at : ℕ) (start end : K) → HasPassed takes rows left at start end → left ≡ []
-      → AreChanges rows at × LeadsTo takes start (entries_in rows) end
-  all_taken rows left at start end was none =
+  pub all_taken : (old before now : View) (row : Row) (at : ℕ) (start end : K)
+      → HasPassed takes (old.trees 0) (rows_left before 0) at start end → OnlyReads old before
+      → old.is_broken ≡ false → Passes before now row false
+      → HasReplayed takes old now at start end
+  all_taken old before now row at start end was reads sound none =
+      let rows = old.trees 0 in
+      let left = rows_left before 0 in
       let is : rows ≡ rows_from 1 was.passed =
-      was.rows_are ∙ ap (λ l. rows_from 1 was.passed ++ l) none ∙ append-nil (rows_from 1 was.passed) in
-      let back : entries_in rows ≡ was.passed = ap entries_in is ∙ entries_of_rows 1 was.passed in (
-        changes_from rows was.passed at is was.sources was.count_is,
-        subst (λ es. LeadsTo takes start es end) (sym back) was.taken,
-      )
+      was.rows_are ∙ ap (λ l. rows_from 1 was.passed ++ l) none.1 ∙ append-nil (rows_from 1 was.passed) in
+      let back : entries_in rows ≡ was.passed = ap entries_in is ∙ entries_of_rows 1 was.passed in
+      record {
+        changes = changes_from rows was.passed at is was.sources was.count_is;
+        taken = subst (λ es. LeadsTo takes start es end) (sym back) was.taken;
+        reads = reads_then old before now reads none.0;
+        sound = sound;
+      }
+
+  -- the same, as of before another reading
+  pub replayed_since : (old mid now : View) (count : ℕ) (start end : K) → OnlyReads old mid
+      → HasReplayed takes mid now count start end → HasReplayed takes old now count start end
+  replayed_since old mid now count start end reads was = record {
+    changes = subst (λ (t : Trees). AreChanges (t 0) count) (ap (λ (v : View). v.trees) reads) was.changes;
+    taken = subst (λ (t : Trees). LeadsTo takes start (entries_in (t 0)) end) (ap (λ (v : View). v.trees) reads)
+        was.taken;
+    reads = reads_then old mid now reads was.reads;
+    sound = sym (ap (λ (v : View). v.is_broken) reads) ∙ was.sound;
+  }
 
   pub foreign_next : (rows before left : List Row) (row : Row) (at : ℕ) (start end : K)
       → HasPassed takes rows before at start end → before ≡ row ∷ left

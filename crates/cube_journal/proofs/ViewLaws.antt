@@ -7,7 +7,7 @@ use Rattle.sqlite_trees.specs.declared.error.StoreError.{StoreError}
 use Rattle.sqlite_trees.specs.declared.error.StoreError.TheVariants.{OutOfMemory, Io, Corrupt, Full, Broken, Unstorable}
 use Rattle.sqlite_trees.specs.declared.store.Shape.{Shape}
 use Rattle.sqlite_trees.specs.Tree.{Trees, put_row}
-use Rattle.sqlite_trees.specs.View.{View, doubt, IsClean, KeepsSchema, KeepsCommitted, SetsTree, IsRolledBack, HasCause}
+use Rattle.sqlite_trees.specs.View.{View, doubt, IsClean, KeepsCommitted, SetsTree, IsRolledBack, HasCause}
 use Rattle.sqlite_trees.specs.View.{Commits as StoreCommits}
 use Rattle.sqlite_trees.proofs.Doubt.{no_doubt}
 use Rattle.cube_journal.specs.Rows.{Entry, row_of, entries_in, IsOfSource, AreChanges, AreNotes}
@@ -30,15 +30,13 @@ clean_if_open v law is_open = clean v.is_clean law
     clean true h = no_doubt true refl
     clean false h = absurd (true≢false (sym is_open ∙ h refl))
 
-pub tables_kept : (old new : View) → KeepsSchema old new → HasTables old → HasTables new
-tables_kept old new schema was = record {
-  changes = ap (λ (s : ℕ → Shape). s 0) schema.shape ∙ was.changes;
-  feeds = ap (λ (s : ℕ → Shape). s 1) schema.shape ∙ was.feeds;
-  unaltered = schema.committed_shape ∙ was.unaltered ∙ sym schema.shape;
+pub tables_kept : (old new : View) → new.shape ≡ old.shape → new.committed_shape ≡ old.committed_shape → HasTables old
+    → HasTables new
+tables_kept old new shape committed_shape was = record {
+  changes = ap (λ (s : ℕ → Shape). s 0) shape ∙ was.changes;
+  feeds = ap (λ (s : ℕ → Shape). s 1) shape ∙ was.feeds;
+  unaltered = committed_shape ∙ was.unaltered ∙ sym shape;
 }
-
-pub schema_itself : (v : View) → KeepsSchema v v
-schema_itself v = record { shape = refl; reals = refl; committed_shape = refl; committed_reals = refl; numbered = refl }
 
 pub kept_itself : (v : View) → KeepsCommitted v v
 kept_itself v = record {
@@ -59,7 +57,7 @@ notes_moved was now same are = subst (λ rows. AreNotes rows (entries_in rows)) 
 
 module _ (old new : View) (count committed : ℕ) (change : Entry) (was : IsJournal old count committed)
     (source : IsOfSource change) (few : count < 2 ^ 62)
-    (back : IsClean new → IsClean old) (schema : KeepsSchema old new)
+    (back : IsClean new → IsClean old)
     (sets : IsClean new → SetsTree old new 0 (put_row (row_of (count + 1) change)))
     (shut : new.is_clean ≡ false → new.is_open ≡ false) where
   rows_are : (h : IsClean new) → new.trees 0 ≡ put_row (row_of (count + 1) change) (old.trees 0)
@@ -85,7 +83,8 @@ module _ (old new : View) (count committed : ℕ) (change : Entry) (was : IsJour
 
   pub append_keeps : IsJournal new (count + 1) committed
   append_keeps = record {
-    tables = λ h. tables_kept old new schema (was.tables (back h));
+    tables = λ h. tables_kept old new (ap (λ (v : View). v.shape) (sets h).is)
+        (ap (λ (v : View). v.committed_shape) (sets h).is) (was.tables (back h));
     few = omega arith;
     within = omega (arith, was.within);
     standing = λ is_open. stands (clean_if_open new shut is_open) is_open;
@@ -107,7 +106,7 @@ module _ (old new : View) (count committed : ℕ) (change : Entry) (was : IsJour
 
 module _ (old mid new : View) (count committed : ℕ) (was : IsJournal old count committed)
     (to_mid : IsClean new → IsClean mid) (to_old : IsClean new → IsClean old)
-    (schema : KeepsSchema old mid) (kept : IsClean mid → KeepsCommitted old mid) (undone : IsRolledBack mid new)
+    (kept : IsClean mid → KeepsCommitted old mid) (undone : IsRolledBack mid new)
     (shut : new.is_clean ≡ false → new.is_open ≡ false) where
   mid_open : IsClean new → IsTrue new.is_open → IsTrue mid.is_open
   mid_open h is_open = (undone.kept h).was_open is_open
@@ -126,7 +125,8 @@ module _ (old mid new : View) (count committed : ℕ) (was : IsJournal old count
 
   undone_tables : IsClean new → HasTables new
   undone_tables h =
-      let before = tables_kept old mid schema (was.tables (to_old h)) in
+      let keeps = kept (to_mid h) in
+      let before = tables_kept old mid keeps.shape keeps.committed_shape (was.tables (to_old h)) in
       let shape = undone.shape (sym before.unaltered) in
       record {
         changes = ap (λ (s : ℕ → Shape). s 0) shape ∙ before.changes;

@@ -1,9 +1,10 @@
 -- The notes of a new store.
-use Rattle.std.specs.Prelude.{◌≡◌, ◌<◌, ◌≤◌, ◌^◌, ◌⊎◌, ℕ, false, List, [], length, get_or, IsTrue}
+use Rattle.std.specs.Prelude.{◌≡◌, ◌<◌, ◌≤◌, ◌^◌, ◌⊎◌, ℕ, Bool, true, false, List, [], length, get_or}
+use Rattle.std.specs.Prelude.{IsTrue}
 use Rattle.sqlite_trees.specs.Tree.{Trees}
 use Rattle.sqlite_trees.specs.View.{View, IsClean, IsStorableRow}
 use Rattle.cube_journal.specs.Rows.{Entry, row_of, entry_of, AreNotes}
-use Rattle.cube_journal.specs.State.{HasTables, Holds}
+use Rattle.cube_journal.specs.State.{HasTables, Holds, IsUnmade, ForgetsNothing}
 use Rattle.cube_journal.specs.declared.note.FeedNote.{FeedNote}
 
 -- The table of notes has these, and nothing else is written (this project's choice).
@@ -20,10 +21,8 @@ pub record CantNote (reals : ℕ) (notes : List FeedNote) : Type 0 where
   pub note_is : note ≡ get_or notes place note
   pub why : (IsStorableRow reals (row_of place (entry_of note)) → ⊥) ⊎ (2 ^ 63 ≤ note.length)
 
--- A store whose tables had no row has these notes committed, and no change (this project's choice).
-pub record IsMade (was now : View) (notes : List Entry) : Type 0 where
-  pub was_sound : was.is_broken ≡ false
-  pub none_before : (was.trees 0 ≡ []) × (was.trees 1 ≡ [])
+-- A store has these notes committed, and no change (this project's choice).
+pub record IsMade (now : View) (notes : List Entry) : Type 0 where
   pub sound : now.is_broken ≡ false
   pub tables : HasTables now
   pub same : now.trees ≡ now.committed
@@ -37,9 +36,26 @@ pub record LeavesNotes (was : View) (notes : List Entry) (db : Trees) : Type 0 w
   pub none_before : (was.committed 0 ≡ []) × (was.committed 1 ≡ [])
   pub holds : Holds db [] notes
 
--- The same, seen from a store that is rolled back (this project's choice).
-pub record PutsNotes (old : View) (notes : List Entry) (db : Trees) : Type 0 where
-  pub clean : IsClean old
-  pub sound : old.is_broken ≡ false
-  pub none : (old.trees 0 ≡ []) × (old.trees 1 ≡ [])
-  pub holds : Holds db [] notes
+-- A call that makes a store forgets nothing, and a crash leaves the notes alone,
+-- or what it left before (this project's choice).
+pub record LeavesEither {S : Type 0} (view : S → View) (faults : S → ℕ) (recovers : S → Trees → Type 0)
+    (notes : List Entry) (old new : S) : Type 0 where
+  pub crash : (db : Trees) → recovers new db → LeavesNotes (view old) notes db ⊎ recovers old db
+  pub on : ForgetsNothing view faults old new
+
+-- A transaction has written nothing, and the two tables have no row (this project's choice).
+pub record IsBlank (v : View) : Type 0 where
+  pub unmade : IsUnmade v
+  pub sound : v.is_broken ≡ false
+  pub same : v.trees ≡ v.committed
+
+-- A store that is rolled back, and then only read, has what it had (this project's choice).
+pub record IsSettled (old new : View) : Type 0 where
+  pub was_open : IsTrue new.is_open → IsTrue old.is_open
+  pub committed : IsTrue new.is_open → new.committed ≡ old.committed
+  pub tables : HasTables old → HasTables new
+
+-- A store that is rolled back is found without a row, or with one (this project's choice).
+abbrev pub TellsUnmade : View → View → Bool → Type 0
+TellsUnmade old new true = IsSettled old new × IsBlank new
+TellsUnmade old new false = IsSettled old new × (IsUnmade old → ⊥)

@@ -138,19 +138,10 @@ IsCause fault shut unstorable Unstorable = unstorable
 abbrev pub ExplainsUnopened : Type 0 → Type 0 → Type 0 → Type 0 → Trees → List Entry → OpenFault → Type 0
 ExplainsUnopened fault shut is_open tables trees notes (kind.Store error) = IsCause fault shut ⊥ error
 ExplainsUnopened fault shut is_open tables trees notes kind.NoTables = tables → ⊥
-ExplainsUnopened fault shut is_open tables trees notes kind.NotEmpty = ⊥
 ExplainsUnopened fault shut is_open tables trees notes (kind.Feed source) =
     is_open × DifferAt (trees 1) (rows_from 0 notes) source
 ExplainsUnopened fault shut is_open tables trees notes (kind.Row number) = is_open × IsForeignAt (trees 0) number
 ExplainsUnopened fault shut is_open tables trees notes kind.TooMany = is_open × (2 ^ 62 < length (trees 0))
-
--- Why no journal is made in a store of these trees: a call failed, a note can't be stored, a table is wanting,
--- or one of them has a row (this project's choice).
-abbrev pub Hinders : Type 0 → Type 0 → Type 0 → Type 0 → Type 0 → Trees → OpenFault → Type 0
-Hinders fault shut unstorable tables is_open trees (kind.Store error) = IsCause fault shut unstorable error
-Hinders fault shut unstorable tables is_open trees kind.NoTables = tables → ⊥
-Hinders fault shut unstorable tables is_open trees kind.NotEmpty = is_open × ((trees 0 ≡ []) × (trees 1 ≡ []) → ⊥)
-Hinders fault shut unstorable tables is_open trees _ = ⊥
 
 -- A call on the store failed, for want of memory or by a fault, and not for what is stored (this project's choice).
 abbrev pub IsFailedCall : Type 0 → OpenFault → Type 0

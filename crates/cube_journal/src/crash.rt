@@ -34,8 +34,5 @@ pub fn crash_and_open<S: Reopen, K: ChangeSink>(
     if let Err(error) = store.crash_and_reopen() {
         return Err((OpenFault::Store(error), store));
     }
-    match open(alloc, store, notes, sink) {
-        Ok(journal) => Ok(journal),
-        Err(refused) => Err(refused),
-    }
+    open(alloc, store, notes, sink)
 }

@@ -2,7 +2,7 @@
 ghost use Rattle.std.specs.Prelude.{◌≡◌, false, [], IsSome, IsTrue, IfOk, IfErr, OnOk};
 ghost use Rattle.std.specs.Bool.{MatchBool};
 ghost use Rattle.sqlite_disk.specs.Disk.{MoreFaults};
-ghost use Rattle.sqlite_trees.specs.View.{IsClean, KeepsSchema, IsQuiet};
+ghost use Rattle.sqlite_trees.specs.View.{IsClean, IsQuiet};
 ghost use Rattle.cube_journal.specs.State.{OnlyReads, IsCause};
 ghost use Rattle.cube_journal.specs.Reading.{StandsBeforeFirst, Passes};
 
@@ -16,7 +16,6 @@ pub fn begin<S: Store>(store: &mut S, row: &mut Row, tree: u32) -> Result<(), St
     ensures ok { OnOk result (IsClean (S.Store.view store.new) → StandsBeforeFirst (S.Store.view store.old) (S.Store.view store.new) tree) }
     ensures live { OnOk result (IsSome ((S.Store.view store.new).cursors 0)) }
     ensures sound { OnOk result (IsClean (S.Store.view store.new) → (S.Store.view store.old).is_broken ≡ false) }
-    ensures schema { KeepsSchema (S.Store.view store.old) (S.Store.view store.new) }
     ensures cause { IsClean (S.Store.view store.new) → IfErr result (IsCause (MoreFaults (S.Store.faults store.old) (S.Store.faults store.new)) (IsTrue (S.Store.view store.old).is_broken) ⊥) }
     ensures quiet { IsQuiet S.Store.view S.Store.faults S.Store.recovers S.Store.is_shielded store.old store.new }
 {
@@ -29,7 +28,6 @@ pub fn step<S: Store>(store: &mut S, row: &mut Row) -> Result<bool, StoreError>
     requires { IsSome ((S.Store.view store.old).cursors 0) }
     ensures ok { IfOk result (λ found. IsClean (S.Store.view store.new) → Passes (S.Store.view store.old) (S.Store.view store.new) row.new found) }
     ensures live { OnOk result (IsSome ((S.Store.view store.new).cursors 0)) }
-    ensures schema { KeepsSchema (S.Store.view store.old) (S.Store.view store.new) }
     ensures cause { IsClean (S.Store.view store.new) → IfErr result (IsCause (MoreFaults (S.Store.faults store.old) (S.Store.faults store.new)) (IsTrue (S.Store.view store.old).is_broken) ⊥) }
     ensures quiet { IsQuiet S.Store.view S.Store.faults S.Store.recovers S.Store.is_shielded store.old store.new }
 {

@@ -7,14 +7,11 @@ use thiserror::Error;
 #[derive(Clone, Copy, Debug, PartialEq, Eq, Error)]
 pub enum OpenFault {
     /// A call on the store failed.
-    #[error("{0}")]
+    #[error(transparent)]
     Store(StoreError),
     /// One of the two tables is wanting.
     #[error("it isn't a store of changes")]
     NoTables,
-    /// A store was to be made where a table has rows.
-    #[error("it has rows")]
-    NotEmpty,
     /// The feed of this source isn't the one that was noted; 0 is the schema's file.
     #[error("feed {0} isn't the one that was noted")]
     Feed(u64),

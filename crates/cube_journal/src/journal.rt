@@ -2,7 +2,7 @@
 ghost use Rattle.std.specs.Prelude.{◌≡◌, ◌⊎◌, ◌+◌, ◌<◌, ◌≤◌, ◌^◌, length, false, IsTrue, IfErr, OnOk, OnErr};
 ghost use Rattle.sqlite_disk.specs.Disk.{MoreFaults};
 ghost use Rattle.sqlite_trees.specs.Tree.{Trees, put_row};
-ghost use Rattle.sqlite_trees.specs.View.{IsClean, KeepsSchema, KeepsCommitted, SetsTree, IsQuiet, HasCause, IsStorableRow};
+ghost use Rattle.sqlite_trees.specs.View.{IsClean, KeepsCommitted, SetsTree, IsQuiet, HasCause, IsStorableRow};
 ghost use Rattle.cube_journal.specs.Rows.{row_of, IsOfSource};
 ghost use Rattle.cube_journal.specs.State.{held_in, stored_in, noted_in, Holds, HasTables, IsStore, Appends, Undoes, Commits, ForgetsNothing, IsCause};
 
@@ -68,7 +68,6 @@ fn put_change<S: Store>(
     ensures change { OnOk result (IsOfSource (source, content.now) × (number ≤ 2 ^ 62)) }
     ensures ok { OnOk result (IsClean (S.Store.view store.new) → SetsTree (S.Store.view store.old) (S.Store.view store.new) 0 (put_row (row_of number (source, content.now)))) }
     ensures kept { IsClean (S.Store.view store.new) → OnErr result (KeepsCommitted (S.Store.view store.old) (S.Store.view store.new)) }
-    ensures schema { KeepsSchema (S.Store.view store.old) (S.Store.view store.new) }
     ensures cause { IsClean (S.Store.view store.new) → IfErr result (HasCause (S.Store.view store.old) (MoreFaults (S.Store.faults store.old) (S.Store.faults store.new))
         ((¬ IsStorableRow ((S.Store.view store.old).reals 0) (row_of number (source, content.now))) ⊎ ((2 ^ 62 < number) ⊎ (¬ IsOfSource (source, content.now))))) }
     ensures quiet { IsQuiet S.Store.view S.Store.faults S.Store.recovers S.Store.is_shielded store.old store.new }

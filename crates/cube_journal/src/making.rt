@@ -1,12 +1,12 @@
 //! The making of a store: what the feeds are is noted, in one commit, before the first change.
-ghost use Rattle.std.specs.Prelude.{◌≡◌, ◌⊎◌, ℕ, [], ◌<◌, ◌≤◌, ◌^◌, false, IsTrue, IfOk, IfErr, OnOk};
-ghost use Rattle.std.specs.Bool.{MatchBool};
+ghost use Rattle.std.specs.Prelude.{◌≡◌, ◌⊎◌, ℕ, [], ◌<◌, ◌≤◌, ◌^◌, IsTrue, IfOk, IfErr, OnOk, false};
 ghost use Rattle.sqlite_disk.specs.Disk.{MoreFaults};
-ghost use Rattle.sqlite_trees.specs.Tree.{Trees, put_row};
-ghost use Rattle.sqlite_trees.specs.View.{IsClean, IsQuiet, KeepsSchema, SetsTree, OnlyWrites, HasCause, IsStorableRow};
+ghost use Rattle.sqlite_trees.specs.Tree.{put_row};
+ghost use Rattle.sqlite_trees.specs.View.{IsClean, IsQuiet, SetsTree, HasCause, IsStorableRow};
 ghost use Rattle.cube_journal.specs.Rows.{row_of, entry_of, entries_of};
-ghost use Rattle.cube_journal.specs.State.{HasTables, Holds, OnlyReads, MakesJournal, ForgetsNothing, IsCause, Hinders};
-ghost use Rattle.cube_journal.specs.Making.{WritesNotes, IsMade, CantNote, LeavesNotes, PutsNotes};
+ghost use Rattle.cube_journal.specs.Reading.{TellsWhether};
+ghost use Rattle.cube_journal.specs.State.{MakesJournal, IsCause, FailsToStart};
+ghost use Rattle.cube_journal.specs.Making.{IsBlank, TellsUnmade, WritesNotes, IsMade, CantNote, LeavesEither};
 
 use crate::cursor::{begin, step};
 use crate::fault::OpenFault;
@@ -25,18 +25,12 @@ const MAX_LENGTH: u64 = 1 << 63;
 /// Whether a table has no row.
 fn is_empty<S: Store>(store: &mut S, row: &mut Row, tree: u32) -> Result<bool, StoreError>
     requires { IsClean (S.Store.view store.old) → (S.Store.view store.old).shape tree ≡ Shape.Table }
-    ensures found { IfOk result (λ empty. IsClean (S.Store.view store.new) → MatchBool empty ((S.Store.view store.old).trees tree ≡ []) ((S.Store.view store.old).trees tree ≡ [] → ⊥)) }
-    ensures reads { OnOk result (IsClean (S.Store.view store.new) → OnlyReads (S.Store.view store.old) (S.Store.view store.new)) }
-    ensures sound { OnOk result (IsClean (S.Store.view store.new) → (S.Store.view store.old).is_broken ≡ false) }
-    ensures schema { KeepsSchema (S.Store.view store.old) (S.Store.view store.new) }
+    ensures found { IfOk result (λ empty. IsClean (S.Store.view store.new) → TellsWhether (S.Store.view store.old) (S.Store.view store.new) ((S.Store.view store.old).trees tree ≡ []) empty) }
     ensures cause { IsClean (S.Store.view store.new) → IfErr result (IsCause (MoreFaults (S.Store.faults store.old) (S.Store.faults store.new)) (IsTrue (S.Store.view store.old).is_broken) ⊥) }
     ensures quiet { IsQuiet S.Store.view S.Store.faults S.Store.recovers S.Store.is_shielded store.old store.new }
 {
     begin(store, row, tree)?;
-    if step(store, row)? {
-        return Ok(false);
-    }
-    Ok(true)
+    Ok(!step(store, row)?)
 }
 
 /// Puts the row of a note into the table.
@@ -49,7 +43,6 @@ fn put_note<S: Store>(
     requires table { IsClean (S.Store.view store.old) → (S.Store.view store.old).shape 1 ≡ Shape.Table }
     requires number { number < 2 ^ 63 }
     ensures ok { OnOk result (IsClean (S.Store.view store.new) → SetsTree (S.Store.view store.old) (S.Store.view store.new) 1 (put_row (row_of number (entry_of note.now)))) }
-    ensures schema { KeepsSchema (S.Store.view store.old) (S.Store.view store.new) }
     ensures cause { IsClean (S.Store.view store.new) → IfErr result (HasCause (S.Store.view store.old) (MoreFaults (S.Store.faults store.old) (S.Store.faults store.new))
         ((¬ IsStorableRow ((S.Store.view store.old).reals 1) (row_of number (entry_of note.now))) ⊎ (2 ^ 63 ≤ note.now.length))) }
     ensures quiet { IsQuiet S.Store.view S.Store.faults S.Store.recovers S.Store.is_shielded store.old store.new }
@@ -65,11 +58,7 @@ fn put_note<S: Store>(
 fn are_empty<S: Store>(store: &mut S, row: &mut Row) -> Result<bool, StoreError>
     requires changes { IsClean (S.Store.view store.old) → (S.Store.view store.old).shape 0 ≡ Shape.Table }
     requires feeds { IsClean (S.Store.view store.old) → (S.Store.view store.old).shape 1 ≡ Shape.Table }
-    ensures found { IfOk result (λ empty. IsClean (S.Store.view store.new) → MatchBool empty (((S.Store.view store.old).trees 0 ≡ []) × ((S.Store.view store.old).trees 1 ≡ []))
-        (((S.Store.view store.old).trees 0 ≡ []) × ((S.Store.view store.old).trees 1 ≡ []) → ⊥)) }
-    ensures reads { OnOk result (IsClean (S.Store.view store.new) → OnlyReads (S.Store.view store.old) (S.Store.view store.new)) }
-    ensures sound { OnOk result (IsClean (S.Store.view store.new) → (S.Store.view store.old).is_broken ≡ false) }
-    ensures schema { KeepsSchema (S.Store.view store.old) (S.Store.view store.new) }
+    ensures found { IfOk result (λ empty. IsClean (S.Store.view store.new) → TellsWhether (S.Store.view store.old) (S.Store.view store.new) (((S.Store.view store.old).trees 0 ≡ []) × ((S.Store.view store.old).trees 1 ≡ [])) empty) }
     ensures cause { IsClean (S.Store.view store.new) → IfErr result (IsCause (MoreFaults (S.Store.faults store.old) (S.Store.faults store.new)) (IsTrue (S.Store.view store.old).is_broken) ⊥) }
     ensures quiet { IsQuiet S.Store.view S.Store.faults S.Store.recovers S.Store.is_shielded store.old store.new }
 {
@@ -81,10 +70,9 @@ fn are_empty<S: Store>(store: &mut S, row: &mut Row) -> Result<bool, StoreError>
 
 /// Puts the rows of all notes into a table that has none.
 fn put_notes<S: Store>(store: &mut S, row: &mut Row, notes: &[FeedNote]) -> Result<(), StoreError>
-    requires { IsClean (S.Store.view store.old) → (S.Store.view store.old).shape 1 ≡ Shape.Table }
-    ensures others { OnOk result (IsClean (S.Store.view store.new) → OnlyWrites (S.Store.view store.old) (S.Store.view store.new)) }
-    ensures rows { OnOk result (IsClean (S.Store.view store.new) → (S.Store.view store.old).trees 1 ≡ [] → WritesNotes (S.Store.view store.old) (S.Store.view store.new) (entries_of notes.now)) }
-    ensures schema { KeepsSchema (S.Store.view store.old) (S.Store.view store.new) }
+    requires table { IsClean (S.Store.view store.old) → (S.Store.view store.old).shape 1 ≡ Shape.Table }
+    requires none { IsClean (S.Store.view store.old) → (S.Store.view store.old).trees 1 ≡ [] }
+    ensures written { OnOk result (IsClean (S.Store.view store.new) → WritesNotes (S.Store.view store.old) (S.Store.view store.new) (entries_of notes.now)) }
     ensures cause { IsClean (S.Store.view store.new) → IfErr result (IsCause (MoreFaults (S.Store.faults store.old) (S.Store.faults store.new)) (IsTrue (S.Store.view store.old).is_broken)
         ((reals : ℕ) × CantNote reals notes.now)) }
     ensures quiet { IsQuiet S.Store.view S.Store.faults S.Store.recovers S.Store.is_shielded store.old store.new }
@@ -96,35 +84,22 @@ fn put_notes<S: Store>(store: &mut S, row: &mut Row, notes: &[FeedNote]) -> Resu
 }
 
 /// Puts the notes into two empty tables, and commits them.
-fn write_notes<S: Store>(store: &mut S, row: &mut Row, notes: &[FeedNote]) -> Result<(), OpenFault>
-    ensures made { OnOk result (IsClean (S.Store.view store.new) → IsMade (S.Store.view store.old) (S.Store.view store.new) (entries_of notes.now)) }
-    ensures crash { (db : Trees) → S.Store.recovers store.new db → PutsNotes (S.Store.view store.old) (entries_of notes.now) db ⊎ S.Store.recovers store.old db }
-    ensures on { ForgetsNothing S.Store.view S.Store.faults store.old store.new }
-    ensures cause { IsClean (S.Store.view store.new) → IfErr result (Hinders (MoreFaults (S.Store.faults store.old) (S.Store.faults store.new)) (IsTrue (S.Store.view store.old).is_broken)
-        ((reals : ℕ) × CantNote reals notes.now) (((S.Store.view store.old).shape 0 ≡ Shape.Table) × ((S.Store.view store.old).shape 1 ≡ Shape.Table))
-        ((S.Store.view store.old).is_broken ≡ false) (S.Store.view store.old).trees) }
+fn write_notes<S: Store>(store: &mut S, row: &mut Row, notes: &[FeedNote]) -> Result<(), StoreError>
+    requires { IsClean (S.Store.view store.old) → IsBlank (S.Store.view store.old) }
+    ensures made { OnOk result (IsClean (S.Store.view store.new) → IsMade (S.Store.view store.new) (entries_of notes.now)) }
+    ensures left { LeavesEither S.Store.view S.Store.faults S.Store.recovers (entries_of notes.now) store.old store.new }
+    ensures cause { IsClean (S.Store.view store.new) → IfErr result (IsCause (MoreFaults (S.Store.faults store.old) (S.Store.faults store.new)) ⊥ ((reals : ℕ) × CantNote reals notes.now)) }
 {
-    if !has_tables(store) {
-        return Err(OpenFault::NoTables);
-    }
-    if !are_empty(store, row)? {
-        return Err(OpenFault::NotEmpty);
-    }
     put_notes(store, row, notes)?;
-    store.commit()?;
-    Ok(())
+    store.commit()
 }
 
 /// Whether a store has no row: it was left after its tables were made and before the feeds were noted.
 ///
 /// What isn't committed is let go; what is committed, and what a crash may leave, stays as it was.
 pub(crate) fn is_unmade<S: Store>(alloc: Global, store: &mut S) -> Result<bool, StoreError>
-    ensures found { IfOk result (λ unmade. IsClean (S.Store.view store.new) → MatchBool unmade (((S.Store.view store.old).committed 0 ≡ []) × ((S.Store.view store.old).committed 1 ≡ []))
-        (HasTables (S.Store.view store.old) → ((S.Store.view store.old).committed 0 ≡ []) × ((S.Store.view store.old).committed 1 ≡ []) → ⊥)) }
-    ensures same { OnOk result (IsClean (S.Store.view store.new) → IsTrue (S.Store.view store.new).is_open → (S.Store.view store.new).committed ≡ (S.Store.view store.old).committed) }
-    ensures opened { OnOk result (IsClean (S.Store.view store.new) → IsTrue (S.Store.view store.new).is_open → IsTrue (S.Store.view store.old).is_open) }
-    ensures tables { OnOk result (HasTables (S.Store.view store.old) → HasTables (S.Store.view store.new)) }
-    ensures cause { IfErr result (λ e. IsClean (S.Store.view store.new) → IsCause (MoreFaults (S.Store.faults store.old) (S.Store.faults store.new)) (((S.Store.view store.old).is_open ≡ false) ⊎ MoreFaults (S.Store.faults store.old) (S.Store.faults store.new)) ⊥ e) }
+    ensures found { IfOk result (λ unmade. IsClean (S.Store.view store.new) → TellsUnmade (S.Store.view store.old) (S.Store.view store.new) unmade) }
+    ensures cause { IsClean (S.Store.view store.new) → IfErr result (IsCause (MoreFaults (S.Store.faults store.old) (S.Store.faults store.new)) (((S.Store.view store.old).is_open ≡ false) ⊎ MoreFaults (S.Store.faults store.old) (S.Store.faults store.new)) ⊥) }
     ensures quiet { IsQuiet S.Store.view S.Store.faults S.Store.recovers S.Store.is_shielded store.old store.new }
 {
     store.rollback();
@@ -132,11 +107,10 @@ pub(crate) fn is_unmade<S: Store>(alloc: Global, store: &mut S) -> Result<bool, 
         return Ok(false);
     }
     let mut row = Row::new(alloc);
-    let unmade = are_empty(store, &mut row)?;
-    Ok(unmade)
+    are_empty(store, &mut row)
 }
 
-/// Makes a store in two empty tables: notes what the schema's file and the feeds are, in one commit.
+/// Makes a store in two tables that have no row: notes what the schema's file and the feeds are, in one commit.
 ///
 /// A crash leaves what it left before, or the notes and no change. An error gives the store back.
 pub(crate) fn make<S: Store>(
@@ -144,17 +118,13 @@ pub(crate) fn make<S: Store>(
     mut store: S,
     notes: &[FeedNote],
 ) -> Result<ChangeJournal<S>, (OpenFault, S)>
+    requires { IsClean (S.Store.view store) → IsBlank (S.Store.view store) }
     ensures made { IfOk result (λ j. IsClean (S.Store.view j.store) → MakesJournal (entries_of notes.now) (S.Store.view store) (S.Store.view j.store)) }
-    ensures durable { IfOk result (λ j. IsClean (S.Store.view j.store) → (db : Trees) → S.Store.recovers j.store db → Holds db [] (entries_of notes.now)) }
-    ensures counts { IfOk result (λ j. (j.count ≡ 0) × (j.committed ≡ 0)) }
-    ensures crash { IfOk result (λ j. (db : Trees) → S.Store.recovers j.store db → LeavesNotes (S.Store.view store) (entries_of notes.now) db ⊎ S.Store.recovers store db) }
-    ensures unharmed { IfErr result (λ e. (db : Trees) → S.Store.recovers e.1 db → LeavesNotes (S.Store.view store) (entries_of notes.now) db ⊎ S.Store.recovers store db) }
-    ensures on { IfOk result (λ j. ForgetsNothing S.Store.view S.Store.faults store j.store) }
-    ensures on_err { IfErr result (λ e. ForgetsNothing S.Store.view S.Store.faults store e.1) }
-    ensures cause { IfErr result (λ e. IsClean (S.Store.view e.1) → Hinders (MoreFaults (S.Store.faults store) (S.Store.faults e.1)) (((S.Store.view store).is_open ≡ false) ⊎ MoreFaults (S.Store.faults store) (S.Store.faults e.1))
-        ((reals : ℕ) × CantNote reals notes.now) (HasTables (S.Store.view store)) (IsTrue (S.Store.view store).is_open) (S.Store.view store).committed e.0) }
+    ensures counts { IfOk result (λ j. j.committed ≡ j.count) }
+    ensures left { IfOk result (λ j. LeavesEither S.Store.view S.Store.faults S.Store.recovers (entries_of notes.now) store j.store) }
+    ensures left_err { IfErr result (λ e. LeavesEither S.Store.view S.Store.faults S.Store.recovers (entries_of notes.now) store e.1) }
+    ensures cause { IfErr result (λ e. IsClean (S.Store.view e.1) → FailsToStart (MoreFaults (S.Store.faults store) (S.Store.faults e.1)) ((reals : ℕ) × CantNote reals notes.now) e.0) }
 {
-    store.rollback();
     let mut row = Row::new(alloc);
     match write_notes(&mut store, &mut row, notes) {
         Ok(()) => Ok(ChangeJournal {
@@ -163,6 +133,6 @@ pub(crate) fn make<S: Store>(
             count: 0,
             committed: 0,
         }),
-        Err(fault) => Err((fault, store)),
+        Err(error) => Err((OpenFault::Store(error), store)),
     }
 }

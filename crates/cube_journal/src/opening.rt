@@ -2,8 +2,9 @@
 ghost use Rattle.std.specs.Prelude.{◌≡◌, ◌↔◌, ◌⊎◌, List, ◌<◌, ◌≤◌, ◌^◌, false, IsTrue, IfOk, IfErr, OnOk, ⊤};
 ghost use Rattle.sqlite_disk.specs.Disk.{MoreFaults};
 ghost use Rattle.sqlite_trees.specs.View.{IsClean, IsQuiet};
-ghost use Rattle.cube_journal.specs.Rows.{Entry, entries_in, entries_of, AreChanges, AreNotes};
-ghost use Rattle.cube_journal.specs.State.{stored_in, noted_in, HasTables, OnlyReads, IsStore, LeadsTo, Finds, ExplainsUnopened, IsFailedCall};
+ghost use Rattle.cube_journal.specs.Rows.{Entry, entries_of, AreNotes};
+ghost use Rattle.cube_journal.specs.Reading.{HasCompared, HasReplayed};
+ghost use Rattle.cube_journal.specs.State.{stored_in, noted_in, HasTables, LeadsTo, Finds, ExplainsUnopened};
 
 use crate::cursor::{begin, step};
 use crate::fault::OpenFault;
@@ -26,9 +27,7 @@ pub(crate) fn has_tables<S: Store>(store: &S) -> bool
 /// Compares what is noted with these notes.
 fn compare<S: Store>(store: &mut S, row: &mut Row, notes: &[FeedNote]) -> Result<(), OpenFault>
     requires { IsClean (S.Store.view store.old) → (S.Store.view store.old).shape 1 ≡ Shape.Table }
-    ensures same { OnOk result (IsClean (S.Store.view store.new) → AreNotes ((S.Store.view store.old).trees 1) (entries_of notes.now)) }
-    ensures reads { OnOk result (IsClean (S.Store.view store.new) → OnlyReads (S.Store.view store.old) (S.Store.view store.new)) }
-    ensures sound { OnOk result (IsClean (S.Store.view store.new) → (S.Store.view store.old).is_broken ≡ false) }
+    ensures seen { OnOk result (IsClean (S.Store.view store.new) → HasCompared (S.Store.view store.old) (S.Store.view store.new) (entries_of notes.now)) }
     ensures cause { IsClean (S.Store.view store.new) → IfErr result (ExplainsUnopened (MoreFaults (S.Store.faults store.old) (S.Store.faults store.new)) (IsTrue (S.Store.view store.old).is_broken)
         ((S.Store.view store.old).is_broken ≡ false) ⊤ (S.Store.view store.old).trees (entries_of notes.now)) }
     ensures quiet { IsQuiet S.Store.view S.Store.faults S.Store.recovers S.Store.is_shielded store.old store.new }
@@ -57,10 +56,7 @@ fn replay<S: Store, K: ChangeSink>(
 ) -> Result<u64, OpenFault>
     requires { IsClean (S.Store.view store.old) → (S.Store.view store.old).shape 0 ≡ Shape.Table }
     ensures few { IfOk result (λ count. count ≤ 2 ^ 62) }
-    ensures changes { IfOk result (λ count. IsClean (S.Store.view store.new) → AreChanges ((S.Store.view store.old).trees 0) count) }
-    ensures taken { OnOk result (IsClean (S.Store.view store.new) → LeadsTo K.ChangeSink.takes sink.old (entries_in ((S.Store.view store.old).trees 0)) sink.new) }
-    ensures reads { OnOk result (IsClean (S.Store.view store.new) → OnlyReads (S.Store.view store.old) (S.Store.view store.new)) }
-    ensures sound { OnOk result (IsClean (S.Store.view store.new) → (S.Store.view store.old).is_broken ≡ false) }
+    ensures read { IfOk result (λ count. IsClean (S.Store.view store.new) → HasReplayed K.ChangeSink.takes (S.Store.view store.old) (S.Store.view store.new) count sink.old sink.new) }
     ensures cause { IsClean (S.Store.view store.new) → IfErr result (λ e. (notes : List Entry) → ExplainsUnopened (MoreFaults (S.Store.faults store.old) (S.Store.faults store.new)) (IsTrue (S.Store.view store.old).is_broken)
         ((S.Store.view store.old).is_broken ≡ false) ⊤ (S.Store.view store.old).trees notes e) }
     ensures quiet { IsQuiet S.Store.view S.Store.faults S.Store.recovers S.Store.is_shielded store.old store.new }
@@ -85,13 +81,9 @@ fn read_all<S: Store, K: ChangeSink>(
     notes: &[FeedNote],
     sink: &mut K,
 ) -> Result<u64, OpenFault>
-    ensures few { IfOk result (λ count. count ≤ 2 ^ 62) }
-    ensures tables { OnOk result (((S.Store.view store.old).shape 0 ≡ Shape.Table) × ((S.Store.view store.old).shape 1 ≡ Shape.Table)) }
-    ensures changes { IfOk result (λ count. IsClean (S.Store.view store.new) → AreChanges ((S.Store.view store.old).trees 0) count) }
-    ensures same { OnOk result (IsClean (S.Store.view store.new) → AreNotes ((S.Store.view store.old).trees 1) (entries_of notes.now)) }
-    ensures taken { OnOk result (IsClean (S.Store.view store.new) → LeadsTo K.ChangeSink.takes sink.old (entries_in ((S.Store.view store.old).trees 0)) sink.new) }
-    ensures reads { OnOk result (IsClean (S.Store.view store.new) → OnlyReads (S.Store.view store.old) (S.Store.view store.new)) }
-    ensures sound { OnOk result (IsClean (S.Store.view store.new) → (S.Store.view store.old).is_broken ≡ false) }
+    ensures fits { IfOk result (λ count. (count ≤ 2 ^ 62) × (((S.Store.view store.old).shape 0 ≡ Shape.Table) × ((S.Store.view store.old).shape 1 ≡ Shape.Table))) }
+    ensures read { IfOk result (λ count. IsClean (S.Store.view store.new) → HasReplayed K.ChangeSink.takes (S.Store.view store.old) (S.Store.view store.new) count sink.old sink.new
+        × AreNotes ((S.Store.view store.old).trees 1) (entries_of notes.now)) }
     ensures cause { IsClean (S.Store.view store.new) → IfErr result (ExplainsUnopened (MoreFaults (S.Store.faults store.old) (S.Store.faults store.new)) (IsTrue (S.Store.view store.old).is_broken)
         ((S.Store.view store.old).is_broken ≡ false) (((S.Store.view store.old).shape 0 ≡ Shape.Table) × ((S.Store.view store.old).shape 1 ≡ Shape.Table)) (S.Store.view store.old).trees (entries_of notes.now)) }
     ensures quiet { IsQuiet S.Store.view S.Store.faults S.Store.recovers S.Store.is_shielded store.old store.new }
@@ -100,29 +92,25 @@ fn read_all<S: Store, K: ChangeSink>(
         return Err(OpenFault::NoTables);
     }
     compare(store, row, notes)?;
-    let count = replay(store, row, sink)?;
-    Ok(count)
+    replay(store, row, sink)
 }
 
 /// Opens a store that was made with these notes, and hands the changes of its last commit over in their order.
 ///
-/// Nothing is written: what a crash may leave stays as it was, also after an error, which gives the store back. A store
-/// whose tables are those of changes and of these notes is refused only where a call on it fails.
+/// Nothing is written: what a crash may leave stays as it was, also after an error, which gives the store back.
 pub(crate) fn open<S: Store, K: ChangeSink>(
     alloc: Global,
     mut store: S,
     notes: &[FeedNote],
     sink: &mut K,
 ) -> Result<ChangeJournal<S>, (OpenFault, S)>
-    ensures found { IfOk result (λ j. IsClean (S.Store.view j.store) → Finds (S.Store.view store) (S.Store.view j.store)) }
-    ensures noted { IfOk result (λ j. IsClean (S.Store.view j.store) → noted_in (S.Store.view store) ≡ entries_of notes.now) }
-    ensures taken { IfOk result (λ j. IsClean (S.Store.view j.store) → LeadsTo K.ChangeSink.takes sink.old (stored_in (S.Store.view store)) sink.new) }
+    ensures found { IfOk result (λ j. IsClean (S.Store.view j.store) → Finds (S.Store.view store) (S.Store.view j.store) × (noted_in (S.Store.view store) ≡ entries_of notes.now)
+        × LeadsTo K.ChangeSink.takes sink.old (stored_in (S.Store.view store)) sink.new) }
     ensures counts { IfOk result (λ j. j.committed ≡ j.count) }
     ensures quiet { IfOk result (λ j. IsQuiet S.Store.view S.Store.faults S.Store.recovers S.Store.is_shielded store j.store) }
     ensures unharmed { IfErr result (λ e. IsQuiet S.Store.view S.Store.faults S.Store.recovers S.Store.is_shielded store e.1) }
     ensures cause { IfErr result (λ e. IsClean (S.Store.view e.1) → ExplainsUnopened (MoreFaults (S.Store.faults store) (S.Store.faults e.1)) (((S.Store.view store).is_open ≡ false) ⊎ MoreFaults (S.Store.faults store) (S.Store.faults e.1))
         (IsTrue (S.Store.view store).is_open) (HasTables (S.Store.view store)) (S.Store.view store).committed (entries_of notes.now) e.0) }
-    ensures accepts { IfErr result (λ e. IsClean (S.Store.view e.1) → IsStore (S.Store.view store) (entries_of notes.now) → IsFailedCall (MoreFaults (S.Store.faults store) (S.Store.faults e.1)) e.0) }
 {
     store.rollback();
     let mut row = Row::new(alloc);

@@ -38,14 +38,8 @@ pub fn open_or_make<S: Store, K: ChangeSink>(
         → FailsToStart (MoreFaults (S.Store.faults store) (S.Store.faults e.1)) ((reals : ℕ) × CantNote reals notes.now) e.0) }
 {
     match is_unmade(alloc, &mut store) {
-        Ok(true) => match make(alloc, store, notes) {
-            Ok(journal) => Ok(journal),
-            Err(refused) => Err(refused),
-        },
-        Ok(false) => match open(alloc, store, notes, sink) {
-            Ok(journal) => Ok(journal),
-            Err(refused) => Err(refused),
-        },
+        Ok(true) => make(alloc, store, notes),
+        Ok(false) => open(alloc, store, notes, sink),
         Err(error) => Err((OpenFault::Store(error), store)),
     }
 }

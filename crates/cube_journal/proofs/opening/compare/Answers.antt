@@ -16,7 +16,8 @@ notes-preserved g c =
       live = search rules;
       reads = λ clean. laws.reads_then old before now (c.notes.invariant.reads (back clean))
           (rw c.if-not-branch.false at (c.in_ok-step.ensures.ok clean)).0;
-      quiet = search rules;
+      quiet = laws.quiet_then g.S.Store.view g.S.Store.faults g.S.Store.recovers g.S.Store.is_shielded
+          c.args.store.now c.notes.store c.step.new.store c.notes.invariant.quiet c.step.ensures.quiet;
       passed = λ clean. compare.passed_more (old.trees 1) c.args.notes.now c.notes.at _ c.step.new.row
           (rows_left before 0) (rows_left now 0) within
           (compare.index_is c.args.notes.now c.notes.at _ within) (c.notes.invariant.passed (back clean))
@@ -66,3 +67,13 @@ returns-then-branch-clause-cause g c = λ clean.
           (c.notes.invariant.passed back)
           (rw c.if-branch.true at (c.in_ok-step-2.ensures.ok clean)).1,
     )
+
+pub returns-clause-seen : goal.returns-clause-seen
+returns-clause-seen g c = λ clean.
+    let old = g.S.Store.view c.args.store.now in
+    let before = g.S.Store.view c.notes.store in
+    let back : IsClean before = omega (arith, c.step-2.ensures.quiet.clean) in
+    let end : c.notes.at ≡ length c.args.notes.now = omega arith in
+    compare.all_same old before (g.S.Store.view c.step-2.new.store) c.args.notes.now c.notes.at c.step-2.new.row end
+    (c.notes.invariant.passed back) (c.notes.invariant.reads back) (c.notes.invariant.sound back)
+    (rw c.if-branch.false at (c.in_ok-step-2.ensures.ok clean))

@@ -18,7 +18,8 @@ changes-preserved g c =
       live = search rules;
       reads = λ clean. laws.reads_then old before now (c.changes.invariant.reads (back clean))
           (rw c.if-not-branch.false at (c.in_ok-step.ensures.ok clean)).0;
-      quiet = search rules;
+      quiet = laws.quiet_then g.S.Store.view g.S.Store.faults g.S.Store.recovers g.S.Store.is_shielded
+          c.args.store.now c.changes.store c.step.new.store c.changes.invariant.quiet c.step.ensures.quiet;
       taken = λ clean. laws.one_taken g.K.ChangeSink.takes (old.trees 0) (rows_left before 0)
           (rows_left now 0) row c.changes.at c.args.sink.now c.changes.sink c.take.new.self change
           (c.changes.invariant.taken (back clean)) (rw c.if-not-branch.false at (c.in_ok-step.ensures.ok clean)).1
@@ -27,30 +28,14 @@ changes-preserved g c =
       sound = λ clean. c.changes.invariant.sound (back clean);
     }
 
-pub returns-then-not-branch-clause-changes : goal.returns-then-not-branch-clause-changes
-returns-then-not-branch-clause-changes g c = λ clean.
+pub returns-then-not-branch-clause-read : goal.returns-then-not-branch-clause-read
+returns-then-not-branch-clause-read g c = λ clean.
     let old = g.S.Store.view c.args.store.now in
     let before = g.S.Store.view c.changes.store in
     let back : IsClean before = omega (arith, c.step.ensures.quiet.clean) in
-    (laws.all_taken g.K.ChangeSink.takes (old.trees 0) (rows_left before 0) c.changes.at c.args.sink.now c.changes.sink
-    (c.changes.invariant.taken back) (rw c.if-not-branch.true at (c.in_ok-step.ensures.ok clean)).1).0
-
-pub returns-then-not-branch-clause-taken : goal.returns-then-not-branch-clause-taken
-returns-then-not-branch-clause-taken g c = λ clean.
-    let old = g.S.Store.view c.args.store.now in
-    let before = g.S.Store.view c.changes.store in
-    let back : IsClean before = omega (arith, c.step.ensures.quiet.clean) in
-    (laws.all_taken g.K.ChangeSink.takes (old.trees 0) (rows_left before 0) c.changes.at c.args.sink.now c.changes.sink
-    (c.changes.invariant.taken back) (rw c.if-not-branch.true at (c.in_ok-step.ensures.ok clean)).1).1
-
-pub returns-then-not-branch-clause-reads : goal.returns-then-not-branch-clause-reads
-returns-then-not-branch-clause-reads g c = λ clean.
-    let old = g.S.Store.view c.args.store.now in
-    let before = g.S.Store.view c.changes.store in
-    let now = g.S.Store.view c.step.new.store in
-    let back : IsClean before = omega (arith, c.step.ensures.quiet.clean) in
-    laws.reads_then old before now (c.changes.invariant.reads back)
-    (rw c.if-not-branch.true at (c.in_ok-step.ensures.ok clean)).0
+    laws.all_taken g.K.ChangeSink.takes old before (g.S.Store.view c.step.new.store) c.step.new.row c.changes.at
+    c.args.sink.now c.changes.sink (c.changes.invariant.taken back) (c.changes.invariant.reads back)
+    (c.changes.invariant.sound back) (rw c.if-not-branch.true at (c.in_ok-step.ensures.ok clean))
 
 pub returns-in-None-clause-cause : goal.returns-in-None-clause-cause
 returns-in-None-clause-cause g c = λ clean notes.

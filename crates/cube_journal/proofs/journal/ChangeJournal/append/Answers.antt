@@ -13,7 +13,7 @@ invariant_of-self g c =
     let source : IsOfSource change = c.in-Ok.ensures.change.0 in
     let few : c.self.inside.count < 2 ^ 62 = omega (arith, c.in-Ok.ensures.change.1) in
     laws.append_keeps old new c.self.inside.count c.self.inside.committed change c.self.invariant source few back
-    c.put_change.ensures.schema c.in-Ok.ensures.ok
+    c.in-Ok.ensures.ok
     (g.met.S.Store.shut_if_dirty c.put_change.new.store)
 
 pub returns-in-Ok-clause-ok : goal.returns-in-Ok-clause-ok
@@ -25,7 +25,7 @@ returns-in-Ok-clause-ok g c =
     let source : IsOfSource change = c.in-Ok.ensures.change.0 in
     let few : c.self.inside.count < 2 ^ 62 = omega (arith, c.in-Ok.ensures.change.1) in
     rw (← c.self.view_is) (laws.append_adds old new c.self.inside.count c.self.inside.committed change c.self.invariant
-    source few back c.put_change.ensures.schema c.in-Ok.ensures.ok
+    source few back c.in-Ok.ensures.ok
     (g.met.S.Store.shut_if_dirty c.put_change.new.store) (g.met.S.Store.broken_if_shut c.put_change.new.store))
 
 pub invariant_of-self-in-Err : goal.invariant_of-self-in-Err
@@ -37,7 +37,7 @@ invariant_of-self-in-Err g c =
     let to_old : IsClean new → IsClean old =
     λ h. omega (arith, c.rollback.ensures.quiet.clean, c.put_change.ensures.quiet.clean) in
     laws.undo_keeps old mid new c.self.inside.count c.self.inside.committed c.self.invariant to_mid to_old
-    c.put_change.ensures.schema c.in-Err.ensures.kept c.rollback.ensures.undone
+    c.in-Err.ensures.kept c.rollback.ensures.undone
     (g.met.S.Store.shut_if_dirty c.rollback.new.self)
 
 pub returns-in-Err-clause-err : goal.returns-in-Err-clause-err
@@ -49,7 +49,7 @@ returns-in-Err-clause-err g c =
     let to_old : IsClean new → IsClean old =
     λ h. omega (arith, c.rollback.ensures.quiet.clean, c.put_change.ensures.quiet.clean) in
     rw (← c.self.view_is) (laws.undo_undoes old mid new c.self.inside.count c.self.inside.committed c.self.invariant
-    to_mid to_old c.put_change.ensures.schema c.in-Err.ensures.kept c.rollback.ensures.undone
+    to_mid to_old c.in-Err.ensures.kept c.rollback.ensures.undone
     (g.met.S.Store.shut_if_dirty c.rollback.new.self))
 
 pub returns-in-Err-clause-cause : goal.returns-in-Err-clause-cause

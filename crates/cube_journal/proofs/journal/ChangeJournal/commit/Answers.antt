@@ -17,7 +17,7 @@ invariant_of-self-in-Err g c =
     let new = g.S.Store.view c.commit.new.self in
     let back : IsClean new → IsClean old = λ h. omega (arith, c.commit.ensures.clean) in
     laws.undo_keeps old old new c.self.inside.count c.self.inside.committed c.self.invariant back back
-    (laws.schema_itself old) (λ _. laws.kept_itself old) c.in-Err.ensures.err
+    (λ _. laws.kept_itself old) c.in-Err.ensures.err
     (g.met.S.Store.shut_if_dirty c.commit.new.self)
 
 pub returns-in-Ok-clause-ok : goal.returns-in-Ok-clause-ok
@@ -45,7 +45,7 @@ returns-in-Err-clause-err g c =
     let new = g.S.Store.view c.commit.new.self in
     let back : IsClean new → IsClean old = λ h. omega (arith, c.commit.ensures.clean) in
     rw (← c.self.view_is) (laws.undo_undoes old old new c.self.inside.count c.self.inside.committed c.self.invariant
-    back back (laws.schema_itself old) (λ _. laws.kept_itself old) c.in-Err.ensures.err
+    back back (λ _. laws.kept_itself old) c.in-Err.ensures.err
     (g.met.S.Store.shut_if_dirty c.commit.new.self))
 
 pub returns-in-Err-clause-cause : goal.returns-in-Err-clause-cause
