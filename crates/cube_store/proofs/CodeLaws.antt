@@ -62,7 +62,6 @@ pub start_fails : (fault cant : Type 0) (e : OpenFault) → journal.FailsToStart
     → TellsFailedCall (open_code_of e)
 start_fails fault cant (kind.Store error) h = stored_fails error
 start_fails fault cant kind.NoTables h = h
-start_fails fault cant kind.NotEmpty h = h
 start_fails fault cant (kind.Feed source) h = h
 start_fails fault cant (kind.Row number) h = h
 start_fails fault cant kind.TooMany h = h

@@ -1,6 +1,6 @@
 -- From the files of a pool to what they hold.
 use Rattle.std.proofs.Common.{◌≡◌, ◌⊎◌, inl, inr, ◌<◌, ◌≤◌, ℕ, Bool, true, false, ◌&&◌, IsTrue, Some, None, List}
-use Rattle.std.proofs.Common.{length, slice_index, refl, sym, ap, ap₂, subst, ◌∙◌, arith, true≢false}
+use Rattle.std.proofs.Common.{Result, Ok, Err, IfOk, length, slice_index, refl, sym, ap, ap₂, subst, ◌∙◌, arith, true≢false}
 use Rattle.std.proofs.lemmas.Bool.{cond-true}
 use Rattle.std.proofs.Math.Logic.{∥∥₁_elim, ∥∥₁_map}
 use Rattle.sqlite_disk.specs.declared.Disk.{Ghosts}
@@ -29,6 +29,13 @@ use Rattle.sqlite_store.specs.Unopened.{state_of, wanted_by, files_of, image, Ha
 use Rattle.sqlite_pages.specs.PageMap.{PageMap}
 use Rattle.cube_journal.specs.State.{HasTables, IsUnmade}
 use Rattle.cube_store.specs.Found.{store_schema, tables_in, StoreIn, ReadsAs, IsFound}
+
+-- ---- what two clauses say of one result
+
+pub ok_both : {X Y : Type 0} (r : Result X Y) (P Q R : X → Type 0) → ((x : X) → P x → Q x → R x) → IfOk r P → IfOk r Q
+    → IfOk r R
+ok_both (Ok x) P Q R both p q = both x p q
+ok_both (Err e) P Q R both p q = tt
 
 -- ---- which files are clean
 

@@ -25,7 +25,6 @@ code_of_failure cause.Unstorable = NoRoom
 abbrev pub open_code_of : OpenFault → StoreFault
 open_code_of (kind.Store error) = code_of_failure error
 open_code_of kind.NoTables = NotAStore
-open_code_of kind.NotEmpty = NotAStore
 open_code_of (kind.Feed source) = Feed source
 open_code_of (kind.Row number) = Row number
 open_code_of kind.TooMany = NotAStore

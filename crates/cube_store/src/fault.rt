@@ -58,7 +58,7 @@ impl From<OpenFault> for StoreFault {
     fn from(fault: OpenFault) -> StoreFault {
         match fault {
             OpenFault::Store(error) => StoreFault::from(error),
-            OpenFault::NoTables | OpenFault::NotEmpty | OpenFault::TooMany => StoreFault::NotAStore,
+            OpenFault::NoTables | OpenFault::TooMany => StoreFault::NotAStore,
             OpenFault::Feed(source) => StoreFault::Feed(source),
             OpenFault::Row(number) => StoreFault::Row(number),
         }

@@ -146,10 +146,7 @@ fn finish<D: Disk>(
     ensures falls { IfErr result (λ e. AreClean D.Disk e.1.log e.1.db → AreClean D.Disk files.log files.db) }
 {
     match unopened(alloc, files, options) {
-        Ok(fresh) => match make_tables(fresh) {
-            Ok(store) => Ok(store),
-            Err(refused) => Err(refused),
-        },
+        Ok(fresh) => make_tables(fresh),
         Err(left) => Err((StoreFault::Memory, left)),
     }
 }
@@ -171,10 +168,7 @@ fn attach_or_finish<D: Disk>(
     match attach(fresh) {
         Ok(store) => Ok(store),
         Err((error, files)) => match error {
-            OpenError::Refused if files.may_be_used() => match finish(alloc, files, options) {
-                Ok(store) => Ok(store),
-                Err(refused) => Err(refused),
-            },
+            OpenError::Refused if files.may_be_used() => finish(alloc, files, options),
             _ => Err((StoreFault::from(error), files)),
         },
     }
@@ -198,10 +192,7 @@ fn open_held<D: Disk>(
         Err(fault) => return Err((fault, files)),
     }
     match unopened(alloc, files, options) {
-        Ok(fresh) => match attach_or_finish(alloc, fresh, options) {
-            Ok(store) => Ok(store),
-            Err(refused) => Err(refused),
-        },
+        Ok(fresh) => attach_or_finish(alloc, fresh, options),
         Err(left) => Err((StoreFault::Memory, left)),
     }
 }
@@ -222,14 +213,8 @@ pub fn open_files<D: Disk>(
 {
     let options = Options::new(seed);
     match hold_none(alloc, &mut files) {
-        Ok(true) => match finish(alloc, files, options) {
-            Ok(store) => Ok(store),
-            Err(refused) => Err(refused),
-        },
-        Ok(false) => match open_held(alloc, files, options) {
-            Ok(store) => Ok(store),
-            Err(refused) => Err(refused),
-        },
+        Ok(true) => finish(alloc, files, options),
+        Ok(false) => open_held(alloc, files, options),
         Err(fault) => Err((fault, files)),
     }
 }

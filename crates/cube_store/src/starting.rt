@@ -50,10 +50,7 @@ pub fn next_open<D: Disk>(journal: &ChangeJournal<FileStore<D>>) -> Result<bool,
     ensures found { IfOk result (λ same. IsTrue same → (left : Image) → (state journal.now.store).may_leave left → (v : View) → IsFound left v
         → ((db : Trees) × recovers journal.now.store db × (v.committed 0 ≡ db 0) × (v.committed 1 ≡ db 1))) }
 {
-    match journal.store().is_over(page_size(), &schema()) {
-        Ok(same) => Ok(same),
-        Err(error) => Err(error),
-    }
+    journal.store().is_over(page_size(), &schema())
 }
 
 /// Copies the log into the file, so that one file is left, and gives the store back, whose `close` gives the two files. What

@@ -1,4 +1,6 @@
 use Rattle.std.proofs.Common.{inl, inr}
+use Rattle.std.proofs.lemmas.Result.{IfOk-weaker, IfErr-weaker}
+use Rattle.cube_store.proofs.FileLaws.{ok_both}
 use Rattle.cube_store.proofs.files.attach_or_finish.Goals as goal
 
 pub returns-in-Ok-clause-found : goal.returns-in-Ok-clause-found
@@ -8,19 +10,26 @@ returns-in-Ok-clause-found g c = λ clean. record {
   found = inl (c.in-Ok.ensures.reads clean);
 }
 
-pub returns-in-Ok-finish-clause-found : goal.returns-in-Ok-finish-clause-found
-returns-in-Ok-finish-clause-found g c = λ clean.
-    let made = c.in-Ok-finish.ensures.made clean in
+pub returns-in-Refused-clause-found : goal.returns-in-Refused-clause-found
+returns-in-Refused-clause-found g c =
+    ok_both c.finish.result _ _ _ (λ it honest h clean.
+    let made = h clean in
     record {
       is_open = made.is_open;
       tables = made.tables;
-      found =
-          inr (made, λ held. rw c.in-Refused.is at (c.in-Err.ensures.cause (c.in-Ok-finish.ensures.honest clean) held));
-    }
+      found = inr (made, λ held. rw c.in-Refused.is at (c.in-Err.ensures.cause (honest clean) held));
+    }) c.finish.ensures.honest c.finish.ensures.made
 
-pub returns-in-Ok-finish-clause-honest : goal.returns-in-Ok-finish-clause-honest
-returns-in-Ok-finish-clause-honest g c = λ clean. c.in-Err.ensures.falls (c.in-Ok-finish.ensures.honest clean)
+pub returns-in-Refused-clause-honest : goal.returns-in-Refused-clause-honest
+returns-in-Refused-clause-honest g c =
+    IfOk-weaker c.finish.result _ _ (λ it honest clean. c.in-Err.ensures.falls (honest clean)) c.finish.ensures.honest
 
-pub returns-in-Err-finish-clause-accepts : goal.returns-in-Err-finish-clause-accepts
-returns-in-Err-finish-clause-accepts g c = λ clean held.
-    absurd (rw c.in-Refused.is at (c.in-Err.ensures.cause (c.in-Err-finish.ensures.falls clean) held))
+pub returns-in-Refused-clause-falls : goal.returns-in-Refused-clause-falls
+returns-in-Refused-clause-falls g c =
+    IfErr-weaker c.finish.result _ _ (λ e falls clean. c.in-Err.ensures.falls (falls clean)) c.finish.ensures.falls
+
+pub returns-in-Refused-clause-accepts : goal.returns-in-Refused-clause-accepts
+returns-in-Refused-clause-accepts g c =
+    IfErr-weaker c.finish.result _ _
+    (λ e falls clean held. absurd (rw c.in-Refused.is at (c.in-Err.ensures.cause (falls clean) held)))
+    c.finish.ensures.falls
