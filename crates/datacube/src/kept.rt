@@ -39,7 +39,7 @@ struct NotedFeeds<'c> {
 
 impl<'c> NotedFeeds<'c> {
     /// The feeds, before the changes of a store.
-    fn before<D: Disk>(self, store: FileStore<D>) -> StoredFeeds<FeedReader<'c, File>, D>
+    fn before<S>(self, store: S) -> StoredFeeds<FeedReader<'c, File>, S>
         ensures { vec_len result.readers ≡ vec_len self.entry.readers }
     {
         StoredFeeds {
@@ -94,7 +94,7 @@ fn serve_over<T: Threads + Wait + Clock + Sync, D: Disk + Drop>(
     threads: &T,
     words: &LiveWords,
     schema: &Schema,
-    feeds: StoredFeeds<FeedReader<'_, File>, D>,
+    feeds: StoredFeeds<FeedReader<'_, File>, FileStore<D>>,
     progress: &Progress<'_, T, Stderr>,
 ) -> Result<Status, StoredFailure>
     requires room { LiveHasRoom words.now }
@@ -184,7 +184,7 @@ fn ask_over<T: Threads + Wait + Clock + Sync, D: Disk + Drop>(
     threads: &T,
     words: &RunWords,
     schema: &Schema,
-    feeds: StoredFeeds<FeedReader<'_, File>, D>,
+    feeds: StoredFeeds<FeedReader<'_, File>, FileStore<D>>,
     question: Question,
     progress: &Progress<'_, T, Stderr>,
 ) -> Result<Status, StoredFailure>
