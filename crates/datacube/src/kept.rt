@@ -109,7 +109,7 @@ fn serve_over<T: Threads + Wait + Clock + Sync, D: Disk + Drop>(
     let (alloc, input, out) = (rt.alloc(), rt.stdin(), &mut rt.stdout());
     match live_stored(threads, alloc, schema, feeds, &settings, &watch, input, out) {
         Ok((status, journal)) => {
-            close(journal.into_journal())?;
+            close(journal)?;
             Ok(status)
         }
         Err((failure, store)) => {
@@ -198,7 +198,7 @@ fn ask_over<T: Threads + Wait + Clock + Sync, D: Disk + Drop>(
     });
     let watch = Watch { progress };
     let out = &mut Output::new(rt.stdout(), progress);
-    match ask_stored(
+    let (ended, store) = match ask_stored(
         threads,
         rt.alloc(),
         schema,
@@ -208,15 +208,11 @@ fn ask_over<T: Threads + Wait + Clock + Sync, D: Disk + Drop>(
         &watch,
         out,
     ) {
-        Ok((status, store)) => {
-            drop(store.close());
-            Ok(status)
-        }
-        Err((failure, store)) => {
-            drop(store.close());
-            Err(failure)
-        }
-    }
+        Ok((status, store)) => (Ok(status), store),
+        Err((failure, store)) => (Err(failure), store),
+    };
+    drop(store.close());
+    ended
 }
 
 /// The store at a path, where a session has made one: no file is made, and an empty one isn't filled.

@@ -10,8 +10,9 @@ use crate::failure::StoredFailure;
 use crate::feeds::StoredFeeds;
 use cube_core::Schema;
 use cube_feed::RecordReader;
+use cube_journal::ChangeJournal;
 use cube_live::open_unsettled;
-use cube_stored::{StoreJournal, serve_stored};
+use cube_stored::serve_stored;
 use cube_threads::{Gate, Settings};
 use cube_tool::Reporter;
 use cube_tool::command::{Failure, Status, status_after};
@@ -43,7 +44,7 @@ pub fn live_stored<
     watcher: &G,
     input: I,
     out: &mut W,
-) -> Result<(Status, StoreJournal<S>), (StoredFailure, S)>
+) -> Result<(Status, ChangeJournal<S>), (StoredFailure, S)>
     requires { vec_len feeds.readers ≤ 64 }
     ensures ok { IfOk result (λ r. IsClean (S.Store.view r.1.store) → OfFeeds schema.now (map R.Read.remaining feeds.readers.items) (λ items.
         IfSome (option_map records_of (I.remaining input)) (λ records. ServesStoredOver schema.now items (S.Store.view feeds.store) (entries_of feeds.notes.items) records r.0
@@ -63,7 +64,7 @@ pub fn live_stored<
     watcher.begins_serving();
     let mut records = RecordReader::new(alloc, input);
     match serve_stored(rt, alloc, live, store, &notes, &mut records, out) {
-        Ok((live, journal)) => Ok((status_after(live.ledger()), journal)),
+        Ok((live, journal)) => Ok((status_after(live.ledger()), journal.into_journal())),
         Err((fault, store)) => Err((StoredFailure::from(fault), store)),
     }
 }

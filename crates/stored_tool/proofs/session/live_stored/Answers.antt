@@ -9,7 +9,7 @@ returns-in-Err-clause-err g c = rw c.from.ensures
 
 pub returns-in-Ok-serve_stored-clause-ok : goal.returns-in-Ok-serve_stored-clause-ok
 returns-in-Ok-serve_stored-clause-ok g c =
-    laws.OfFeeds-served (g.S.Store.view c.args.feeds.store)
+    rw c.into_journal.ensures (laws.OfFeeds-served (g.S.Store.view c.args.feeds.store)
     (entries_of c.args.feeds.notes.items)
     (g.S.Store.recovers c.in-Ok-serve_stored.journal.store) (g.W.Write.contents c.args.out.now)
     (g.W.Write.contents c.serve_stored.new.out)
@@ -18,7 +18,7 @@ returns-in-Ok-serve_stored-clause-ok g c =
     c.status_after.result _ _ c.in-Ok.ensures.schema c.ledger.ensures.live
     (rw c.ledger.ensures.value at c.status_after.ensures)
     (rw c.new-records.ensures at c.in-Ok-serve_stored.ensures.schema)
-    (rw (c.new-records.ensures, c.deref.ensures.value) at c.in-Ok-serve_stored.ensures.ok)
+    (rw (c.new-records.ensures, c.deref.ensures.value) at c.in-Ok-serve_stored.ensures.ok))
 
 pub returns-clause-err : goal.returns-clause-err
 returns-clause-err g c = rw c.from-in-Err-serve_stored.ensures
