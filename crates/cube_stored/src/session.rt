@@ -8,8 +8,8 @@ ghost use Rattle.cube_journal.specs.State.{stored_in, noted_in, IsStore, IsUnmad
 ghost use Rattle.cube_store.specs.Codes.{TellsFailedCall};
 ghost use Rattle.cube_store.specs.Keeping.{HasKept};
 ghost use Rattle.cube_stored.specs.Replay.{TakesStored};
-ghost use Rattle.cube_live.specs.Keeping.{KeepsOn, keeping_after, made_sure};
-ghost use Rattle.cube_live.specs.Serving.{Serves};
+ghost use Rattle.cube_session.specs.Keeping.{KeepsOn, keeping_after, made_sure};
+ghost use Rattle.cube_session.specs.Serving.{Serves};
 ghost use Rattle.cube_stored.specs.Kept.{FailsStored, keeps};
 ghost use Rattle.cube_stored.specs.Serving.{BreaksStored, ServesStored};
 
@@ -17,7 +17,8 @@ use crate::journal::StoreJournal;
 use crate::replay::Replay;
 use cube_feed::RecordReader;
 use cube_journal::FeedNote;
-use cube_live::{Live, SessionFault, serve};
+use cube_live::Live;
+use cube_session::{SessionFault, serve};
 use cube_store::{StoreFault, start};
 use sqlite_trees::store::Store;
 use std::alloc::Global;
