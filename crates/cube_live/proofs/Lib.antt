@@ -1,7 +1,4 @@
 pub mod RequestLaws
-mod ReplyLaws
-mod ServingLaws
-pub mod KeepingLaws
 mod LiveLaws
 pub mod RowLaws
 pub mod RefusalLaws

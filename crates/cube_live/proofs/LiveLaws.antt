@@ -7,14 +7,12 @@ use Rattle.std.specs.Option.{option_map_or}
 use Rattle.std.proofs.lemmas.Bool.{eqb-true, eq-eqb, false_from_ne_true, both_ways}
 use Rattle.std.proofs.lemmas.List.{append-nil, get_or-set_same, get_or-set_other}
 use Rattle.cube_core.specs.Arrival.{Arrivals, of_source}
-use Rattle.cube_core.specs.Items.{change_of, is_read}
 use Rattle.cube_core.specs.declared.change.Change.{Change}
 use Rattle.cube_core.specs.declared.change.Item.{Item}
 use Rattle.cube_core.specs.declared.change.LineFault.{LineFault}
 use Rattle.cube_core.proofs.ArrivalLaws.{of_source-append}
 use Rattle.cube_engine.specs.Ledger.{LedgerStandsAt}
-use Rattle.cube_live.specs.Live.{AreLast, LiveView, TakesChange, TakesNext}
-use Rattle.cube_live.specs.Session.{last_number, said_item}
+use Rattle.cube_live.specs.Live.{AreLast, LiveView, TakesNext, last_number, said_item}
 
 -- the last of items that end with this one
 last_or-append : {A : Type 0} (o : Option A) (xs : List A) (x : A) → last_or o (xs ++ x ∷ []) ≡ Some x
@@ -76,13 +74,3 @@ TakesNext-numbered old new source number what first long last is took set arriva
   said : record { number = number + 1; what = what } ≡ said_item arrivals source what
   said =
       ap (λ n. let item : Item = record { number = n + 1; what = what } in item) (is ∙ stands.numbers source first last)
-
--- a change was taken that is in the schema's shard, or left alone that isn't
-pub TakesChange-read : (source : ℕ) (fields : List (List ℕ)) (what : Result Change LineFault) (old new : LiveView)
-    → is_read old.schema fields ≡ true → what ≡ change_of old.schema fields
-    → TakesNext source what old new → TakesChange source fields old new
-TakesChange-read source fields what old new read is takes arrivals stands = rw (read, ← is) (takes arrivals stands)
-
-pub TakesChange-other : (source : ℕ) (fields : List (List ℕ)) (live : LiveView) → is_read live.schema fields ≡ false
-    → TakesChange source fields live live
-TakesChange-other source fields live other arrivals stands = rw other stands

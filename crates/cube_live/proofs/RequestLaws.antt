@@ -185,20 +185,14 @@ pub slice-Err : (s : Layout) (fields : List (List ℕ)) (fault : QueryFault) →
     → Wrong (Query fault) ≡ slice_request s fields
 slice-Err s fields fault width is = rw (eq-eqb (length fields) (1 + length s.dimensions) width, is) refl
 
-pub at-no_pattern : (s : Layout) (fields : List (List ℕ)) (fault : QueryFault) → spelled_by (drop 2 fields) ≡ Err fault
-    → Err fault ≡ cell_and_dimension s fields
-at-no_pattern s fields fault is = rw is refl
+pub at-no_cell : (s : Layout) (fields : List (List ℕ)) (fault : QueryFault)
+    → cell_by (spelled_by (drop 2 fields)) ≡ Err fault → Err fault ≡ cell_and_dimension s fields
+at-no_cell s fields fault is = rw is refl
 
-pub at-no_cell : (s : Layout) (fields : List (List ℕ)) (pattern : Wanted) (fault : QueryFault)
-    → spelled_by (drop 2 fields) ≡ Ok pattern → cell_of pattern ≡ Err fault
-    → Err fault ≡ cell_and_dimension s fields
-at-no_cell s fields pattern fault is cell = rw (is, cell) refl
-
-pub at-found : (s : Layout) (fields : List (List ℕ)) (pattern : Wanted) (key : Key)
-    → spelled_by (drop 2 fields) ≡ Ok pattern → cell_of pattern ≡ Ok key
+pub at-found : (s : Layout) (fields : List (List ℕ)) (key : Key) → cell_by (spelled_by (drop 2 fields)) ≡ Ok key
     → (place : Result ℕ QueryFault) → place ≡ place_of s (field_at fields 1)
     → with_dimension (Ok key) place ≡ cell_and_dimension s fields
-at-found s fields pattern key is cell place named = rw (is, cell) (ap (with_dimension (Ok key)) named)
+at-found s fields key is place named = rw is (ap (with_dimension (Ok key)) named)
 
 pub drill-found : (s : Layout) (fields : List (List ℕ)) (found : Result (Key × ℕ) QueryFault)
     → length fields ≡ 2 + length s.dimensions → found ≡ cell_and_dimension s fields

@@ -1,12 +1,14 @@
 -- A cube that is kept right:
 -- the ledger of all 64 sources, and the number of the last record of each that was taken (this project's choice).
-use Rattle.std.specs.Prelude.{◌≡◌, ◌≤◌, ◌<◌, ◌-◌, ◌++◌, ◌∷◌, [], ⊤, ℕ, List, length, get_or, Result}
+use Rattle.std.specs.Prelude.{◌≡◌, ◌≤◌, ◌<◌, ◌+◌, ◌-◌, ◌++◌, ◌∷◌, [], ⊤, ℕ, List, length, get_or, None, Result}
+use Rattle.std.specs.List.{last_or}
+use Rattle.std.specs.Option.{option_map_or}
 use Rattle.cube_core.specs.Arrival.{Arrivals, of_source}
 use Rattle.cube_core.specs.Layout.{Layout}
 use Rattle.cube_core.specs.declared.change.Change.{Change}
+use Rattle.cube_core.specs.declared.change.Item.{Item}
 use Rattle.cube_core.specs.declared.change.LineFault.{LineFault}
 use Rattle.cube_engine.specs.Ledger.{LedgerView, LedgerStandsAt}
-use Rattle.cube_live.specs.Session.{arrivals_changed, last_number, said_item}
 use Rattle.cube_live.specs.declared.live.LiveFault.{LiveFault}
 use Rattle.cube_live.specs.declared.live.LiveFault.TheVariants.{TooMany, Memory}
 use Rattle.cube_live.specs.declared.request.Question.{Question}
@@ -28,6 +30,14 @@ pub record IsLive (s : Layout) (ledger : LedgerView) (numbers : List ℕ) : Type
   pub numbered : length numbers ≡ 64
   pub at_most : (place : ℕ) → get_or numbers place 0 ≤ s.max_records
 
+-- the number of the last item, or 0 where there is none
+abbrev pub last_number : List Item → ℕ
+last_number items = option_map_or (λ (item : Item). item.number) (last_or None items) 0
+
+-- the next item of a source at an arrival list, which says this: it is numbered on from the source's last
+abbrev pub said_item : Arrivals → ℕ → Result Change LineFault → Item
+said_item arrivals source what = record { number = last_number (of_source arrivals source) + 1; what = what }
+
 -- each of these numbers is that of the last item that an arrival list has of its source, of the 64
 abbrev pub AreLast : List ℕ → Arrivals → Type 0
 AreLast numbers arrivals =
@@ -43,11 +53,6 @@ abbrev pub TakesNext : ℕ → Result Change LineFault → LiveView → LiveView
 TakesNext source what old new =
     (arrivals : Arrivals) → LiveStandsAt old arrivals
     → LiveStandsAt new (arrivals ++ (source, said_item arrivals source what) ∷ [])
-
--- it took a change of a source, a data record of these fields
-abbrev pub TakesChange : ℕ → List (List ℕ) → LiveView → LiveView → Type 0
-TakesChange source fields old new = (arrivals : Arrivals) → LiveStandsAt old arrivals
-    → LiveStandsAt new (arrivals_changed old.schema arrivals source fields)
 
 -- nothing changed that counts
 pub record SameLive (old new : LiveView) : Type 0 where

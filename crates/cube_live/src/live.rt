@@ -25,7 +25,6 @@ pub enum LiveFault {
 /// The books, the refusals and the cubes of 64 sources, and the number of the last record of each that was taken.
 ///
 /// A change is made in the books at once, and in the cubes before the next question is answered.
-#[derive(Drop)]
 pub struct Live<'s> {
     alloc: Global,
     schema: &'s Schema,
@@ -42,6 +41,19 @@ impl<'s> Model for Live<'s> {
     ghost view = { λ l. record { schema = l.schema.now; ledger = l.parted; numbers = l.numbers.items } };
 
     ghost invariant = { λ l. IsLive l.schema.now l.parted l.numbers.items };
+}
+
+// By hand, so that no caller proves again how its parts are let go.
+impl Drop for Live<'_> {
+    fn drop(self) {
+        let Live {
+            alloc: _,
+            schema: _,
+            parted: _parted,
+            numbers: _numbers,
+            threads: _,
+        } = self;
+    }
 }
 
 impl<'s> Live<'s> {

@@ -66,11 +66,12 @@ impl Opening {
         ensures feeds { IfOk result (λ opening. opening.feeds ≡ feeds) }
         ensures stands { IfOk result (λ opening. OpeningStandsAt opening opening []) }
     {
+        let numbers = no_numbers(alloc)?;
         Ok(Opening {
             ledger: Ledger::new(alloc, schema, 64)?,
             feeds,
             most: schema.max_records(),
-            numbers: no_numbers(alloc)?,
+            numbers,
         })
     }
 

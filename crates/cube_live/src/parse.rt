@@ -1,12 +1,12 @@
 //! What a record of a session asks, read from its fields.
-ghost use Rattle.std.specs.Prelude.{◌≡◌, ◌+◌, ◌<◌, drop, length, position, IfOk};
+ghost use Rattle.std.specs.Prelude.{◌≡◌, ◌+◌, ◌<◌, drop, length, position, IfOk, Ok};
 ghost use Rattle.std.specs.Str.{bytes_eq};
 ghost use Rattle.csv.specs.Records.{fields_of};
 ghost use Rattle.std.specs.Prelude.{Result};
 ghost use Rattle.cube_core.specs.Items.{field_at};
-ghost use Rattle.cube_core.specs.Query.{Says, place_of};
+ghost use Rattle.cube_core.specs.Query.{Says, place_of, spelled_by};
 ghost use Rattle.cube_core.specs.declared.query.QueryFault.{QueryFault as TheFault};
-ghost use Rattle.cube_live.specs.Request.{cell_and_dimension, drill_by, drill_request, of_width, question_of, refusals_asked, refusals_by, request_of, roll_up_request, slice_request};
+ghost use Rattle.cube_live.specs.Request.{cell_and_dimension, cell_by, drill_by, drill_request, of_width, question_of, refusals_asked, refusals_by, request_of, roll_up_request, slice_request, with_dimension};
 
 use crate::number::{count_of, source_of};
 use crate::request::{Question, Request, RequestFault};
@@ -94,6 +94,18 @@ fn rest_of(alloc: Global, fields: &ByteRecord, from: usize) -> Result<ByteRecord
     Ok(rest)
 }
 
+// The pattern that the fields from a place on spell, or what is wrong with them.
+fn pattern_from(
+    alloc: Global,
+    fields: &ByteRecord,
+    from: usize,
+) -> Result<Result<Pattern, QueryFault>, AllocError>
+    ensures { IfOk result (λ said. said ≡ spelled_by (drop from (fields_of fields.now))) }
+{
+    let rest = rest_of(alloc, fields, from)?;
+    unless_memory(Pattern::of_record(alloc, &rest))
+}
+
 // What a slice asks.
 fn slice_request(alloc: Global, schema: &Schema, fields: &ByteRecord) -> Result<Request, AllocError>
     ensures { IfOk result (λ request. request ≡ slice_request schema.now (fields_of fields.now)) }
@@ -101,8 +113,7 @@ fn slice_request(alloc: Global, schema: &Schema, fields: &ByteRecord) -> Result<
     if fields.len() != 1 + schema.dimensions().len() {
         return Ok(Request::Wrong(RequestFault::Shape));
     }
-    let rest = rest_of(alloc, fields, 1)?;
-    match unless_memory(Pattern::of_record(alloc, &rest))? {
+    match pattern_from(alloc, fields, 1)? {
         Ok(pattern) => Ok(Request::Ask(Question::Slice(pattern))),
         Err(fault) => Ok(Request::Wrong(RequestFault::Query(fault))),
     }
@@ -124,6 +135,16 @@ fn position_of(names: &[Text], name: &[u8]) -> Option<usize>
         .position(|other| other.as_str().as_bytes() == name)
 }
 
+// The cell that the fields from the third on spell, or what is wrong with them.
+fn cell_from(alloc: Global, fields: &ByteRecord) -> Result<Result<Key, QueryFault>, AllocError>
+    ensures { IfOk result (λ said. said ≡ cell_by (spelled_by (drop 2 (fields_of fields.now)))) }
+{
+    match pattern_from(alloc, fields, 2)? {
+        Ok(pattern) => unless_memory(pattern.cell(alloc)),
+        Err(fault) => Ok(Err(fault)),
+    }
+}
+
 // The cell that the fields from the third on spell, and the dimension that the second names, or what is wrong with them.
 fn cell_and_dimension(
     alloc: Global,
@@ -132,18 +153,19 @@ fn cell_and_dimension(
 ) -> Result<Result<(Key, usize), QueryFault>, AllocError>
     ensures { IfOk result (λ found. found ≡ cell_and_dimension schema.now (fields_of fields.now)) }
 {
-    let rest = rest_of(alloc, fields, 2)?;
-    let pattern = match unless_memory(Pattern::of_record(alloc, &rest))? {
-        Ok(pattern) => pattern,
-        Err(fault) => return Ok(Err(fault)),
-    };
-    let key = match unless_memory(pattern.cell(alloc))? {
-        Ok(key) => key,
-        Err(fault) => return Ok(Err(fault)),
-    };
-    match place_of(schema, field_at(fields, 1)) {
-        Ok(dimension) => Ok(Ok((key, dimension))),
+    match cell_from(alloc, fields)? {
+        Ok(key) => Ok(with_dimension(key, place_of(schema, field_at(fields, 1)))),
         Err(fault) => Ok(Err(fault)),
+    }
+}
+
+// A cell and a dimension, where there is such a dimension.
+fn with_dimension(key: Key, place: Result<usize, QueryFault>) -> Result<(Key, usize), QueryFault>
+    ensures { result ≡ with_dimension (Ok key) place }
+{
+    match place {
+        Ok(dimension) => Ok((key, dimension)),
+        Err(fault) => Err(fault),
     }
 }
 

@@ -17,6 +17,7 @@ use crate::tables::schema;
 use cube_journal::{ChangeJournal, ChangeSink, FeedNote, open_or_make};
 use sqlite_disk::Disk;
 use sqlite_store::FileStore;
+use sqlite_trees::store::Store;
 use std::alloc::{AllocError, Global};
 
 /// Starts on an open store: notes what the feeds are where it has no row; else it must have these notes, and its changes
@@ -24,17 +25,17 @@ use std::alloc::{AllocError, Global};
 ///
 /// A store of changes and of these notes, or one without a row, is refused only where a call fails. An error gives the store
 /// back.
-pub fn start<D: Disk, K: ChangeSink>(
+pub fn start<S: Store, K: ChangeSink>(
     alloc: Global,
-    store: FileStore<D>,
+    store: S,
     notes: &[FeedNote],
     sink: &mut K,
-) -> Result<ChangeJournal<FileStore<D>>, (StoreFault, FileStore<D>)>
-    ensures found { IfOk result (λ j. IsClean (view j.store) → Starts (entries_of notes.now) (view store) (view j.store)) }
-    ensures taken { IfOk result (λ j. IsClean (view j.store) → LeadsTo K.ChangeSink.takes sink.old (stored_in (view j.store)) sink.new) }
-    ensures crash { IfOk result (λ j. (db : Trees) → recovers j.store db → LeavesNotes (view store) (entries_of notes.now) db ⊎ recovers store db) }
-    ensures unharmed { IfErr result (λ e. (db : Trees) → recovers e.1 db → LeavesNotes (view store) (entries_of notes.now) db ⊎ recovers store db) }
-    ensures accepts { IfErr result (λ e. IsClean (view e.1) → IsStore (view store) (entries_of notes.now) ⊎ IsUnmade (view store) → TellsFailedCall e.0) }
+) -> Result<ChangeJournal<S>, (StoreFault, S)>
+    ensures found { IfOk result (λ j. IsClean (S.Store.view j.store) → Starts (entries_of notes.now) (S.Store.view store) (S.Store.view j.store)) }
+    ensures taken { IfOk result (λ j. IsClean (S.Store.view j.store) → LeadsTo K.ChangeSink.takes sink.old (stored_in (S.Store.view j.store)) sink.new) }
+    ensures crash { IfOk result (λ j. (db : Trees) → S.Store.recovers j.store db → LeavesNotes (S.Store.view store) (entries_of notes.now) db ⊎ S.Store.recovers store db) }
+    ensures unharmed { IfErr result (λ e. (db : Trees) → S.Store.recovers e.1 db → LeavesNotes (S.Store.view store) (entries_of notes.now) db ⊎ S.Store.recovers store db) }
+    ensures accepts { IfErr result (λ e. IsClean (S.Store.view e.1) → IsStore (S.Store.view store) (entries_of notes.now) ⊎ IsUnmade (S.Store.view store) → TellsFailedCall e.0) }
 {
     match open_or_make(alloc, store, notes, sink) {
         Ok(journal) => Ok(journal),

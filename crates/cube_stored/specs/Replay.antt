@@ -4,7 +4,7 @@ use Rattle.cube_core.specs.Arrival.{Arrivals}
 use Rattle.cube_core.specs.Layout.{Layout}
 use Rattle.cube_journal.specs.Rows.{Entry}
 use Rattle.cube_live.specs.Live.{LiveView, LiveStandsAt}
-use Rattle.cube_live.specs.Session.{arrivals_changed}
+use Rattle.cube_session.specs.Session.{arrivals_changed}
 use Rattle.cube_stored.specs.Records.{fields_in}
 
 -- an arrival list after a stored change:

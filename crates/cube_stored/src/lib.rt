@@ -1,4 +1,4 @@
-//! A session's changes, kept in a store: what `cube_live` calls a journal, over `cube_store`.
+//! A session's changes, kept in a store: what `cube_session` calls a journal, over `cube_store`.
 //!
 //! [`StoreJournal`] is told of each change before it is applied, and [`Replay`] takes the changes of a store before a
 //! session's first record; [`serve_stored`] does both.

@@ -2,15 +2,14 @@
 ghost use Rattle.std.specs.Prelude.{◌≡◌, ◌⊎◌, [], IfOk, IfErr, IfSome};
 ghost use Rattle.sqlite_trees.specs.Tree.{Trees};
 ghost use Rattle.sqlite_trees.specs.View.{IsClean};
-ghost use Rattle.sqlite_store.specs.FileStore.{view, recovers};
 ghost use Rattle.cube_journal.specs.Making.{LeavesNotes};
 ghost use Rattle.cube_journal.specs.Rows.{entries_of};
 ghost use Rattle.cube_journal.specs.State.{stored_in, noted_in, IsStore, IsUnmade, LeadsTo};
 ghost use Rattle.cube_store.specs.Codes.{TellsFailedCall};
 ghost use Rattle.cube_store.specs.Keeping.{HasKept};
 ghost use Rattle.cube_stored.specs.Replay.{TakesStored};
-ghost use Rattle.cube_live.specs.Keeping.{KeepsOn, keeping_after, made_sure};
-ghost use Rattle.cube_live.specs.Serving.{Serves};
+ghost use Rattle.cube_session.specs.Keeping.{KeepsOn, keeping_after, made_sure};
+ghost use Rattle.cube_session.specs.Serving.{Serves};
 ghost use Rattle.cube_stored.specs.Kept.{FailsStored, keeps};
 ghost use Rattle.cube_stored.specs.Serving.{BreaksStored, ServesStored};
 
@@ -18,10 +17,9 @@ use crate::journal::StoreJournal;
 use crate::replay::Replay;
 use cube_feed::RecordReader;
 use cube_journal::FeedNote;
-use cube_live::{Live, SessionFault, serve};
+use cube_live::Live;
+use cube_session::{SessionFault, serve};
 use cube_store::{StoreFault, start};
-use sqlite_disk::Disk;
-use sqlite_store::FileStore;
 use sqlite_trees::store::Store;
 use std::alloc::Global;
 use std::io::{Read, Write};
@@ -41,18 +39,18 @@ pub enum StoredFault {
 ///
 /// A store of changes and of these notes is refused only where a call fails, for want of memory, or where it has more changes
 /// of a source than the schema takes. An error gives the store back.
-pub fn resume<'s, D: Disk>(
+pub fn resume<'s, S: Store>(
     alloc: Global,
     live: Live<'s>,
-    store: FileStore<D>,
+    store: S,
     notes: &[FeedNote],
-) -> Result<(Live<'s>, StoreJournal<FileStore<D>>), (StoreFault, FileStore<D>)>
-    ensures taken { IfOk result (λ r. IsClean (view r.1.store) → LeadsTo TakesStored live.entry (stored_in (view store)) r.0) }
-    ensures stored { IfOk result (λ r. IsClean (view r.1.store) → stored_in (view r.1.store) ≡ stored_in (view store)) }
-    ensures noted { IfOk result (λ r. IsClean (view r.1.store) → noted_in (view r.1.store) ≡ entries_of notes.now) }
-    ensures kept { IfOk result (λ r. HasKept view recovers r.1 r.1 [] 0) }
-    ensures unharmed { IfErr result (λ e. (db : Trees) → recovers e.1 db → LeavesNotes (view store) (entries_of notes.now) db ⊎ recovers store db) }
-    ensures accepts { IfErr result (λ e. IsClean (view e.1) → IsStore (view store) (entries_of notes.now) ⊎ IsUnmade (view store) → TellsFailedCall e.0) }
+) -> Result<(Live<'s>, StoreJournal<S>), (StoreFault, S)>
+    ensures taken { IfOk result (λ r. IsClean (S.Store.view r.1.store) → LeadsTo TakesStored live.entry (stored_in (S.Store.view store)) r.0) }
+    ensures stored { IfOk result (λ r. IsClean (S.Store.view r.1.store) → stored_in (S.Store.view r.1.store) ≡ stored_in (S.Store.view store)) }
+    ensures noted { IfOk result (λ r. IsClean (S.Store.view r.1.store) → noted_in (S.Store.view r.1.store) ≡ entries_of notes.now) }
+    ensures kept { IfOk result (λ r. HasKept S.Store.view S.Store.recovers r.1 r.1 [] 0) }
+    ensures unharmed { IfErr result (λ e. (db : Trees) → S.Store.recovers e.1 db → LeavesNotes (S.Store.view store) (entries_of notes.now) db ⊎ S.Store.recovers store db) }
+    ensures accepts { IfErr result (λ e. IsClean (S.Store.view e.1) → IsStore (S.Store.view store) (entries_of notes.now) ⊎ IsUnmade (S.Store.view store) → TellsFailedCall e.0) }
 {
     let mut replay = Replay::new(alloc, live);
     match start(alloc, store, notes, &mut replay) {
@@ -65,22 +63,22 @@ pub fn resume<'s, D: Disk>(
 ///
 /// The answers are those of a session in which the stored changes stood before the first record. Each change is in the store
 /// before it is applied, and certain before a byte of a later answer goes out. An error gives the store back.
-pub fn serve_stored<'s, T: Threads + Sync, D: Disk, R: Read, W: Write>(
+pub fn serve_stored<'s, T: Threads + Sync, S: Store, R: Read, W: Write>(
     rt: &T,
     alloc: Global,
     live: Live<'s>,
-    store: FileStore<D>,
+    store: S,
     notes: &[FeedNote],
     records: &mut RecordReader<R>,
     out: &mut W,
-) -> Result<(Live<'s>, StoreJournal<FileStore<D>>), (StoredFault, FileStore<D>)>
-    ensures ok { IfOk result (λ r. IfSome records.old.left (λ taken. IsClean (view r.1.store) →
-        ServesStored live.entry.schema (view store) (entries_of notes.now) taken live.entry r.0 (view r.1.store) (recovers r.1.store)
+) -> Result<(Live<'s>, StoreJournal<S>), (StoredFault, S)>
+    ensures ok { IfOk result (λ r. IfSome records.old.left (λ taken. IsClean (S.Store.view r.1.store) →
+        ServesStored live.entry.schema (S.Store.view store) (entries_of notes.now) taken live.entry r.0 (S.Store.view r.1.store) (S.Store.recovers r.1.store)
         (W.contents out.old) (W.contents out.new))) }
-    ensures err { IfErr result (λ e. IfSome records.old.left (λ taken. IsClean (view e.1) →
-        BreaksStored live.entry.schema (view store) (entries_of notes.now) taken live.entry (recovers store) (recovers e.1)
+    ensures err { IfErr result (λ e. IfSome records.old.left (λ taken. IsClean (S.Store.view e.1) →
+        BreaksStored live.entry.schema (S.Store.view store) (entries_of notes.now) taken live.entry (S.Store.recovers store) (S.Store.recovers e.1)
         (W.contents out.old) (W.contents out.new) e.0)) }
-    ensures schema { IfOk result (λ r. IfSome records.old.left (λ taken. IsClean (view r.1.store) → r.0.schema ≡ live.entry.schema)) }
+    ensures schema { IfOk result (λ r. IfSome records.old.left (λ taken. IsClean (S.Store.view r.1.store) → r.0.schema ≡ live.entry.schema)) }
 {
     match resume(alloc, live, store, notes) {
         Ok((live, journal)) => match serve_resumed(rt, alloc, live, journal, records, out) {

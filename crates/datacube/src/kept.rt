@@ -39,7 +39,7 @@ struct NotedFeeds<'c> {
 
 impl<'c> NotedFeeds<'c> {
     /// The feeds, before the changes of a store.
-    fn before<D: Disk>(self, store: FileStore<D>) -> StoredFeeds<FeedReader<'c, File>, D>
+    fn before<S>(self, store: S) -> StoredFeeds<FeedReader<'c, File>, S>
         ensures { vec_len result.readers ≡ vec_len self.entry.readers }
     {
         StoredFeeds {
@@ -94,7 +94,7 @@ fn serve_over<T: Threads + Wait + Clock + Sync, D: Disk + Drop>(
     threads: &T,
     words: &LiveWords,
     schema: &Schema,
-    feeds: StoredFeeds<FeedReader<'_, File>, D>,
+    feeds: StoredFeeds<FeedReader<'_, File>, FileStore<D>>,
     progress: &Progress<'_, T, Stderr>,
 ) -> Result<Status, StoredFailure>
     requires room { LiveHasRoom words.now }
@@ -109,7 +109,7 @@ fn serve_over<T: Threads + Wait + Clock + Sync, D: Disk + Drop>(
     let (alloc, input, out) = (rt.alloc(), rt.stdin(), &mut rt.stdout());
     match live_stored(threads, alloc, schema, feeds, &settings, &watch, input, out) {
         Ok((status, journal)) => {
-            close(journal.into_journal())?;
+            close(journal)?;
             Ok(status)
         }
         Err((failure, store)) => {
@@ -184,7 +184,7 @@ fn ask_over<T: Threads + Wait + Clock + Sync, D: Disk + Drop>(
     threads: &T,
     words: &RunWords,
     schema: &Schema,
-    feeds: StoredFeeds<FeedReader<'_, File>, D>,
+    feeds: StoredFeeds<FeedReader<'_, File>, FileStore<D>>,
     question: Question,
     progress: &Progress<'_, T, Stderr>,
 ) -> Result<Status, StoredFailure>
@@ -198,7 +198,7 @@ fn ask_over<T: Threads + Wait + Clock + Sync, D: Disk + Drop>(
     });
     let watch = Watch { progress };
     let out = &mut Output::new(rt.stdout(), progress);
-    match ask_stored(
+    let (ended, store) = match ask_stored(
         threads,
         rt.alloc(),
         schema,
@@ -208,15 +208,11 @@ fn ask_over<T: Threads + Wait + Clock + Sync, D: Disk + Drop>(
         &watch,
         out,
     ) {
-        Ok((status, store)) => {
-            drop(store.close());
-            Ok(status)
-        }
-        Err((failure, store)) => {
-            drop(store.close());
-            Err(failure)
-        }
-    }
+        Ok((status, store)) => (Ok(status), store),
+        Err((failure, store)) => (Err(failure), store),
+    };
+    drop(store.close());
+    ended
 }
 
 /// The store at a path, where a session has made one: no file is made, and an empty one isn't filled.

@@ -453,8 +453,20 @@ fn merge_files<T: Wait + Clock>(
     progress: &Progress<'_, T, Stderr>,
 ) -> Result<Status, Failure> {
     let schema = merge_schema(rt, words)?;
+    merge_for(rt, words, &schema, progress)
+}
+
+/// Merges printed cubes of a schema's partial form into one of the schema, or of that form where the words say so.
+fn merge_for<T: Wait + Clock>(
+    rt: &HostRuntime,
+    words: &MergeWords,
+    schema: &Schema,
+    progress: &Progress<'_, T, Stderr>,
+) -> Result<Status, Failure>
+    requires { length words.now.cubes.items ≤ 64 }
+{
     let partial = schema.partial(rt.alloc())?;
-    let wanted = if words.partial { &partial } else { &schema };
+    let wanted = if words.partial { &partial } else { schema };
     merge_under(rt, words, &partial, wanted, progress)
 }
 

@@ -1,7 +1,6 @@
 //! A question over feeds and the changes in a store.
 ghost use Rattle.std.specs.Prelude.{◌≡◌, ◌≤◌, map, vec_len, IfOk, IfErr};
 ghost use Rattle.sqlite_trees.specs.View.{IsClean};
-ghost use Rattle.sqlite_store.specs.FileStore.{view, recovers};
 ghost use Rattle.cube_core.specs.Arrival.{Arrivals};
 ghost use Rattle.cube_journal.specs.Rows.{entries_of};
 ghost use Rattle.cube_live.specs.Live.{LiveStandsAt};
@@ -18,8 +17,6 @@ use cube_stored::{StoreJournal, resume};
 use cube_threads::{Gate, Settings};
 use cube_tool::Reporter;
 use cube_tool::command::{Failure, Question, Status};
-use sqlite_disk::Disk;
-use sqlite_store::FileStore;
 use sqlite_trees::store::Store;
 use std::alloc::Global;
 use std::io::{Read, Write};
@@ -37,27 +34,27 @@ pub fn ask_stored<
     T: Threads + Wait + Sync,
     R: Read + Drop + Send,
     G: Gate + Reporter + Sync,
-    D: Disk,
+    S: Store,
     W: Write,
 >(
     rt: &T,
     alloc: Global,
     schema: &Schema,
-    feeds: StoredFeeds<R, D>,
+    feeds: StoredFeeds<R, S>,
     settings: &Settings,
     question: Question,
     watcher: &G,
     out: &mut W,
-) -> Result<(Status, FileStore<D>), (StoredFailure, FileStore<D>)>
+) -> Result<(Status, S), (StoredFailure, S)>
     requires readers { vec_len feeds.readers ≤ 64 }
     requires question { Fits schema.now question }
-    ensures ok { IfOk result (λ r. IsClean (view r.1) → OfFeeds schema.now (map R.Read.remaining feeds.readers.items) (λ items.
-        AnswersStored question schema.now items (view feeds.store) (entries_of feeds.notes.items) r.0 (view r.1) (recovers r.1)
+    ensures ok { IfOk result (λ r. IsClean (S.Store.view r.1) → OfFeeds schema.now (map R.Read.remaining feeds.readers.items) (λ items.
+        AnswersStored question schema.now items (S.Store.view feeds.store) (entries_of feeds.notes.items) r.0 (S.Store.view r.1) (S.Store.recovers r.1)
         (W.contents out.old) (W.contents out.new))) }
-    ensures written { IfErr result (λ e. IsClean (view e.1) → LeavesOfText question schema.now (map R.Read.remaining feeds.readers.items)
-        (view feeds.store) e.0 (W.contents out.old) (W.contents out.new)) }
-    ensures unharmed { IfErr result (λ e. IsClean (view e.1) → LeavesSame (view feeds.store) (entries_of feeds.notes.items)
-        (recovers feeds.store) (recovers e.1)) }
+    ensures written { IfErr result (λ e. IsClean (S.Store.view e.1) → LeavesOfText question schema.now (map R.Read.remaining feeds.readers.items)
+        (S.Store.view feeds.store) e.0 (W.contents out.old) (W.contents out.new)) }
+    ensures unharmed { IfErr result (λ e. IsClean (S.Store.view e.1) → LeavesSame (S.Store.view feeds.store) (entries_of feeds.notes.items)
+        (S.Store.recovers feeds.store) (S.Store.recovers e.1)) }
 {
     let StoredFeeds {
         readers,

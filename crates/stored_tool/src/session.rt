@@ -1,7 +1,6 @@
 //! The command that keeps a cube right, and its changes in a store.
 ghost use Rattle.std.specs.Prelude.{◌≤◌, map, option_map, vec_len, IfOk, IfErr, IfSome};
 ghost use Rattle.sqlite_trees.specs.View.{IsClean};
-ghost use Rattle.sqlite_store.specs.FileStore.{view, recovers};
 ghost use Rattle.cube_core.specs.Records.{records_of};
 ghost use Rattle.cube_journal.specs.Rows.{entries_of};
 ghost use Rattle.cube_tool.specs.Run.{OfFeeds};
@@ -11,13 +10,13 @@ use crate::failure::StoredFailure;
 use crate::feeds::StoredFeeds;
 use cube_core::Schema;
 use cube_feed::RecordReader;
+use cube_journal::ChangeJournal;
 use cube_live::open_unsettled;
-use cube_stored::{StoreJournal, serve_stored};
+use cube_stored::serve_stored;
 use cube_threads::{Gate, Settings};
 use cube_tool::Reporter;
 use cube_tool::command::{Failure, Status, status_after};
-use sqlite_disk::Disk;
-use sqlite_store::FileStore;
+use sqlite_trees::store::Store;
 use std::alloc::Global;
 use std::io::{Read, Write};
 use std::sync::Wait;
@@ -33,25 +32,25 @@ pub fn live_stored<
     T: Threads + Wait + Sync,
     R: Read + Drop + Send,
     G: Gate + Reporter + Sync,
-    D: Disk,
+    S: Store,
     I: Read + Drop,
     W: Write,
 >(
     rt: &T,
     alloc: Global,
     schema: &Schema,
-    feeds: StoredFeeds<R, D>,
+    feeds: StoredFeeds<R, S>,
     settings: &Settings,
     watcher: &G,
     input: I,
     out: &mut W,
-) -> Result<(Status, StoreJournal<FileStore<D>>), (StoredFailure, FileStore<D>)>
+) -> Result<(Status, ChangeJournal<S>), (StoredFailure, S)>
     requires { vec_len feeds.readers ≤ 64 }
-    ensures ok { IfOk result (λ r. IsClean (view r.1.store) → OfFeeds schema.now (map R.Read.remaining feeds.readers.items) (λ items.
-        IfSome (option_map records_of (I.remaining input)) (λ records. ServesStoredOver schema.now items (view feeds.store) (entries_of feeds.notes.items) records r.0
-        (view r.1.store) (recovers r.1.store) (W.contents out.old) (W.contents out.new)))) }
-    ensures err { IfErr result (λ e. IsClean (view e.1) → FailsToServeStored schema.now (map R.Read.remaining feeds.readers.items)
-        (option_map records_of (I.remaining input)) (view feeds.store) (entries_of feeds.notes.items) (recovers feeds.store) (recovers e.1) e.0 (W.contents out.old) (W.contents out.new)) }
+    ensures ok { IfOk result (λ r. IsClean (S.Store.view r.1.store) → OfFeeds schema.now (map R.Read.remaining feeds.readers.items) (λ items.
+        IfSome (option_map records_of (I.remaining input)) (λ records. ServesStoredOver schema.now items (S.Store.view feeds.store) (entries_of feeds.notes.items) records r.0
+        (S.Store.view r.1.store) (S.Store.recovers r.1.store) (W.contents out.old) (W.contents out.new)))) }
+    ensures err { IfErr result (λ e. IsClean (S.Store.view e.1) → FailsToServeStored schema.now (map R.Read.remaining feeds.readers.items)
+        (option_map records_of (I.remaining input)) (S.Store.view feeds.store) (entries_of feeds.notes.items) (S.Store.recovers feeds.store) (S.Store.recovers e.1) e.0 (W.contents out.old) (W.contents out.new)) }
 {
     let StoredFeeds {
         readers,
@@ -65,7 +64,7 @@ pub fn live_stored<
     watcher.begins_serving();
     let mut records = RecordReader::new(alloc, input);
     match serve_stored(rt, alloc, live, store, &notes, &mut records, out) {
-        Ok((live, journal)) => Ok((status_after(live.ledger()), journal)),
+        Ok((live, journal)) => Ok((status_after(live.ledger()), journal.into_journal())),
         Err((fault, store)) => Err((StoredFailure::from(fault), store)),
     }
 }

@@ -1,6 +1,5 @@
 use Rattle.std.proofs.Common.{◌≡◌, ◌+◌, ◌∙◌, sym, ap, length, List, ℕ}
 use Rattle.csv.specs.Records.{fields_of}
-use Rattle.cube_core.specs.Query.{spelled_by}
 use Rattle.cube_live.proofs.RequestLaws.{slice-Ok, slice-Err}
 use Rattle.cube_live.proofs.parse.slice_request.Goals as goal
 
@@ -10,8 +9,7 @@ returns-in-Ok c =
     let fields = fields_of c.args.fields.now in
     let width : length fields ≡ 1 + length s.dimensions = sym c.len.ensures ∙ c.if-len-dimensions.false
     ∙ ap (λ (l : List (List ℕ)). 1 + length l) c.dimensions.ensures.value in
-    let spelled = c.in_ok-pattern.ensures (spelled_by (fields_of c.in_ok-rest.rest)) c.of_record.ensures in
-    slice-Ok s fields c.in-Ok.pattern width (sym (ap spelled_by c.in_ok-rest.ensures) ∙ sym spelled ∙ c.in-Ok.is)
+    slice-Ok s fields c.in-Ok.pattern width (sym c.in_ok-pattern.ensures ∙ c.in-Ok.is)
 
 pub returns : goal.returns
 returns c =
@@ -19,5 +17,4 @@ returns c =
     let fields = fields_of c.args.fields.now in
     let width : length fields ≡ 1 + length s.dimensions = sym c.len.ensures ∙ c.if-len-dimensions.false
     ∙ ap (λ (l : List (List ℕ)). 1 + length l) c.dimensions.ensures.value in
-    let spelled = c.in_ok-pattern.ensures (spelled_by (fields_of c.in_ok-rest.rest)) c.of_record.ensures in
-    slice-Err s fields c.in-Err.fault width (sym (ap spelled_by c.in_ok-rest.ensures) ∙ sym spelled ∙ c.in-Err.is)
+    slice-Err s fields c.in-Err.fault width (sym c.in_ok-pattern.ensures ∙ c.in-Err.is)

@@ -1,5 +1,4 @@
 use Rattle.std.proofs.Common.{map, inl, inr}
-use Rattle.sqlite_store.specs.FileStore.{view, recovers}
 use Rattle.cube_journal.specs.Rows.{entries_of}
 use Rattle.stored_tool.proofs.AskingLaws as laws
 use Rattle.stored_tool.proofs.asking.ask_stored.Goals as goal
@@ -7,7 +6,7 @@ use Rattle.stored_tool.proofs.asking.ask_stored.Goals as goal
 pub returns-in-Err-clause-written : goal.returns-in-Err-clause-written
 returns-in-Err-clause-written g c = rw c.from.ensures
     (λ clean. laws.LeavesOfText-unopened c.args.question c.args.schema.now
-    (map g.R.Read.remaining c.args.feeds.readers.items) (view {D = g.row.D.Denot} {g = g.D.Disk} c.args.feeds.store)
+    (map g.R.Read.remaining c.args.feeds.readers.items) (g.S.Store.view c.args.feeds.store)
     c.in-Err.fault (g.W.Write.contents c.args.out.now) c.in-Err.ensures.err)
 
 pub returns-in-Err-clause-unharmed : goal.returns-in-Err-clause-unharmed
@@ -16,24 +15,24 @@ returns-in-Err-clause-unharmed g c = λ clean db may. inr may
 pub returns-in-Ok-ask_resumed-clause-ok : goal.returns-in-Ok-ask_resumed-clause-ok
 returns-in-Ok-ask_resumed-clause-ok g c =
     let now = c.in-Ok-resume.journal in
-    let was = view {D = g.row.D.Denot} {g = g.D.Disk} c.args.feeds.store in
+    let was = g.S.Store.view c.args.feeds.store in
     rw c.in-Ok-ask_resumed.ensures.store
     (λ clean. laws.OfFeeds-answered c.args.schema.now (map g.R.Read.remaining c.args.feeds.readers.items)
     was c.in-Ok.live c.in-Ok-resume.live c.in-Ok.ensures.ok c.in-Ok.ensures.schema (c.in-Ok-resume.ensures.taken clean)
     c.args.question (entries_of c.args.feeds.notes.items) c.in-Ok-ask_resumed.ended.0
-    (view {D = g.row.D.Denot} {g = g.D.Disk} now.store) (recovers {D = g.row.D.Denot} {g = g.D.Disk} now.store)
+    (g.S.Store.view now.store) (g.S.Store.recovers now.store)
     (g.W.Write.contents c.args.out.now) (g.W.Write.contents c.ask_resumed.new.out)
     c.in-Ok-ask_resumed.ensures.ok
-    (laws.held-same (view {D = g.row.D.Denot} {g = g.D.Disk}) (recovers {D = g.row.D.Denot} {g = g.D.Disk}) was
+    (laws.held-same g.S.Store.view g.S.Store.recovers was
     (entries_of c.args.feeds.notes.items) now c.in-Ok-resume.ensures.kept c.in-Ok-resume.ensures.stored
     (rw c.deref.ensures.value at c.in-Ok-resume.ensures.noted) clean)
-    (laws.leaves-same (view {D = g.row.D.Denot} {g = g.D.Disk}) (recovers {D = g.row.D.Denot} {g = g.D.Disk}) was
+    (laws.leaves-same g.S.Store.view g.S.Store.recovers was
     (entries_of c.args.feeds.notes.items) now c.in-Ok-resume.ensures.kept c.in-Ok-resume.ensures.stored
     (rw c.deref.ensures.value at c.in-Ok-resume.ensures.noted) clean))
 
 pub returns-in-Ok-resume-clause-written : goal.returns-in-Ok-resume-clause-written
 returns-in-Ok-resume-clause-written g c =
-    let was = view {D = g.row.D.Denot} {g = g.D.Disk} c.args.feeds.store in
+    let was = g.S.Store.view c.args.feeds.store in
     rw c.in-Err-ask_resumed.ensures.err_store
     (λ clean. laws.LeavesOfText-failed c.args.schema.now (map g.R.Read.remaining c.args.feeds.readers.items)
     was c.in-Ok.live c.in-Ok-resume.live c.in-Ok.ensures.ok c.in-Ok.ensures.schema (c.in-Ok-resume.ensures.taken clean)
@@ -45,13 +44,13 @@ returns-in-Ok-resume-clause-unharmed g c =
     let now = c.in-Ok-resume.journal in
     rw c.in-Err-ask_resumed.ensures.err_store
     (λ clean db may.
-    inl (laws.leaves-same (view {D = g.row.D.Denot} {g = g.D.Disk}) (recovers {D = g.row.D.Denot} {g = g.D.Disk})
-    (view {D = g.row.D.Denot} {g = g.D.Disk} c.args.feeds.store) (entries_of c.args.feeds.notes.items) now
+    inl (laws.leaves-same g.S.Store.view g.S.Store.recovers
+    (g.S.Store.view c.args.feeds.store) (entries_of c.args.feeds.notes.items) now
     c.in-Ok-resume.ensures.kept c.in-Ok-resume.ensures.stored
     (rw c.deref.ensures.value at c.in-Ok-resume.ensures.noted) clean db may))
 
 pub returns-clause-unharmed : goal.returns-clause-unharmed
 returns-clause-unharmed g c = λ clean db may.
-    laws.LeavesSame-refused (view {D = g.row.D.Denot} {g = g.D.Disk} c.args.feeds.store)
-    (entries_of c.args.feeds.notes.items) (recovers {D = g.row.D.Denot} {g = g.D.Disk} c.args.feeds.store) db
+    laws.LeavesSame-refused (g.S.Store.view c.args.feeds.store)
+    (entries_of c.args.feeds.notes.items) (g.S.Store.recovers c.args.feeds.store) db
     (rw c.deref.ensures.value at (c.in-Err-resume.ensures.unharmed db may))

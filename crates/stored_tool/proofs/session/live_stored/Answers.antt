@@ -1,5 +1,4 @@
 use Rattle.std.proofs.Common.{refl}
-use Rattle.sqlite_store.specs.FileStore.{view, recovers}
 use Rattle.cube_journal.specs.Rows.{entries_of}
 use Rattle.stored_tool.proofs.SessionLaws as laws
 use Rattle.stored_tool.proofs.session.live_stored.Goals as goal
@@ -10,22 +9,22 @@ returns-in-Err-clause-err g c = rw c.from.ensures
 
 pub returns-in-Ok-serve_stored-clause-ok : goal.returns-in-Ok-serve_stored-clause-ok
 returns-in-Ok-serve_stored-clause-ok g c =
-    laws.OfFeeds-served (view {D = g.row.D.Denot} {g = g.D.Disk} c.args.feeds.store)
+    rw c.into_journal.ensures (laws.OfFeeds-served (g.S.Store.view c.args.feeds.store)
     (entries_of c.args.feeds.notes.items)
-    (recovers {D = g.row.D.Denot} {g = g.D.Disk} c.in-Ok-serve_stored.journal.store) (g.W.Write.contents c.args.out.now)
+    (g.S.Store.recovers c.in-Ok-serve_stored.journal.store) (g.W.Write.contents c.args.out.now)
     (g.W.Write.contents c.serve_stored.new.out)
     c.in-Ok.live c.in-Ok.ensures.ok c.in-Ok-serve_stored.live
-    (view {D = g.row.D.Denot} {g = g.D.Disk} c.in-Ok-serve_stored.journal.store)
+    (g.S.Store.view c.in-Ok-serve_stored.journal.store)
     c.status_after.result _ _ c.in-Ok.ensures.schema c.ledger.ensures.live
     (rw c.ledger.ensures.value at c.status_after.ensures)
     (rw c.new-records.ensures at c.in-Ok-serve_stored.ensures.schema)
-    (rw (c.new-records.ensures, c.deref.ensures.value) at c.in-Ok-serve_stored.ensures.ok)
+    (rw (c.new-records.ensures, c.deref.ensures.value) at c.in-Ok-serve_stored.ensures.ok))
 
 pub returns-clause-err : goal.returns-clause-err
 returns-clause-err g c = rw c.from-in-Err-serve_stored.ensures
-    (laws.FailsToServeStored-failed (view {D = g.row.D.Denot} {g = g.D.Disk} c.args.feeds.store)
-    (entries_of c.args.feeds.notes.items) (recovers {D = g.row.D.Denot} {g = g.D.Disk} c.in-Err-serve_stored.store)
+    (laws.FailsToServeStored-failed (g.S.Store.view c.args.feeds.store)
+    (entries_of c.args.feeds.notes.items) (g.S.Store.recovers c.in-Err-serve_stored.store)
     (g.W.Write.contents c.args.out.now) (g.W.Write.contents c.serve_stored.new.out)
-    c.in-Ok.live c.in-Ok.ensures.ok (recovers {D = g.row.D.Denot} {g = g.D.Disk} c.args.feeds.store)
+    c.in-Ok.live c.in-Ok.ensures.ok (g.S.Store.recovers c.args.feeds.store)
     c.in-Err-serve_stored.fault _ _ c.in-Ok.ensures.schema
     (rw (c.new-records.ensures, c.deref.ensures.value) at c.in-Err-serve_stored.ensures.err))

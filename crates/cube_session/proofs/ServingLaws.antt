@@ -1,26 +1,29 @@
 -- How far a session has come, and what it leaves where it ends.
 use Rattle.std.proofs.Common.{◌≡◌, ◌+◌, ◌≤◌, ℕ, zero, suc, true, false, List, [], ◌∷◌, ◌++◌, length, take, drop, refl}
 use Rattle.std.proofs.Common.{sym, ap, ◌∙◌, add-one, add-zero, arith, length-append}
-use Rattle.std.specs.Prelude.{Option, None, Some, IfSome}
+use Rattle.std.specs.Prelude.{Option, None, Some, IfSome, Result}
 use Rattle.std.specs.Io.KnownBytes.{Appends}
 use Rattle.std.proofs.lemmas.List.{take_all, take-append-le}
 use Rattle.csv.proofs.WriteFacts.{appends-none, appends-more}
 use Rattle.cube_core.specs.Arrival.{Arrivals, of_source}
-use Rattle.cube_core.specs.Items.{is_read}
+use Rattle.cube_core.specs.Items.{change_of, is_read}
 use Rattle.cube_core.specs.Layout.{Layout}
+use Rattle.cube_core.specs.declared.change.Change.{Change}
+use Rattle.cube_core.specs.declared.change.LineFault.{LineFault}
 use Rattle.cube_feed.specs.Reading.{Advances, RecordsView}
-use Rattle.cube_live.specs.Live.{LiveView, LiveStandsAt}
+use Rattle.cube_live.specs.Live.{LiveView, LiveStandsAt, TakesNext, last_number}
 use Rattle.cube_live.specs.Request.{request_of}
-use Rattle.cube_live.specs.Serving.{Answered, LeavesReplies, Serves, ServingFails, Replied, ReplyFails, IsJournalFault}
-use Rattle.cube_live.specs.Serving.{IsInputFault, WritesNone, WritesPart, WritesReply, BreaksReply, ExplainsChange}
-use Rattle.cube_live.specs.Session.{AreReplies, IsReply, arrivals_after, arrivals_changed, last_number}
+use Rattle.cube_session.specs.Serving.{Answered, LeavesReplies, Serves, ServingFails, Replied, ReplyFails, IsJournalFault}
+use Rattle.cube_session.specs.Serving.{IsInputFault, WritesNone, WritesPart, WritesReply, BreaksReply, ExplainsChange}
+use Rattle.cube_session.specs.Serving.{TakesChange}
+use Rattle.cube_session.specs.Session.{AreReplies, IsReply, arrivals_after, arrivals_changed}
 use Rattle.cube_live.specs.declared.request.Question.{Question}
 use Rattle.cube_live.specs.declared.request.Request.{Request}
 use Rattle.cube_live.specs.declared.request.Request.TheVariants as request
 use Rattle.cube_live.specs.declared.request.RequestFault.{RequestFault}
-use Rattle.cube_live.specs.declared.session.SessionFault.{SessionFault}
-use Rattle.cube_live.specs.declared.session.SessionFault.TheVariants.{Read, TooMany, Full, Write, Journal}
-use Rattle.cube_live.proofs.ReplyLaws.{AreReplies-more, arrivals_after-append, take-next}
+use Rattle.cube_session.specs.declared.session.SessionFault.{SessionFault}
+use Rattle.cube_session.specs.declared.session.SessionFault.TheVariants.{Read, TooMany, Full, Write, Journal}
+use Rattle.cube_session.proofs.ReplyLaws.{AreReplies-more, arrivals_after-append, take-next}
 
 -- so many records were replied to, by so many bytes, and the others are left
 pub record Went (s : Layout) (records : List (List (List ℕ))) (start : Arrivals) (count : ℕ)
@@ -210,6 +213,16 @@ WritesNone-first line text sent Full old new fails = absurd fails
 WritesNone-first line text sent (Journal fault) old new fails = absurd fails
 
 -- ---- one record
+-- a change was taken that is in the schema's shard, or left alone that isn't
+pub TakesChange-read : (source : ℕ) (fields : List (List ℕ)) (what : Result Change LineFault) (old new : LiveView)
+    → is_read old.schema fields ≡ true → what ≡ change_of old.schema fields
+    → TakesNext source what old new → TakesChange source fields old new
+TakesChange-read source fields what old new read is takes arrivals stands = rw (read, ← is) (takes arrivals stands)
+
+pub TakesChange-other : (source : ℕ) (fields : List (List ℕ)) (live : LiveView) → is_read live.schema fields ≡ false
+    → TakesChange source fields live live
+TakesChange-other source fields live other arrivals stands = rw other stands
+
 -- a change has no reply
 pub Replied-change : (s : Layout) (arrivals : Arrivals) (fields : List (List ℕ)) (source : ℕ) (after : LiveView)
     (sent : ℕ) (old : Option (List ℕ)) → request.Change source ≡ request_of s fields

@@ -1,16 +1,11 @@
 -- A session: the replies to its records, one after another, each over what came before it (this project's choice).
-use Rattle.std.specs.Prelude.{◌≡◌, ◌+◌, ℕ, List, [], ◌∷◌, ◌++◌, None, length, drop, codes, decimal, Result}
-use Rattle.std.specs.Prelude.{if◌then◌else◌}
-use Rattle.std.specs.List.{last_or}
-use Rattle.std.specs.Option.{option_map_or}
-use Rattle.cube_core.specs.Arrival.{Arrivals, of_source, of_sources}
+use Rattle.std.specs.Prelude.{◌≡◌, ℕ, List, [], ◌∷◌, ◌++◌, length, drop, codes, decimal, if◌then◌else◌}
+use Rattle.cube_core.specs.Arrival.{Arrivals, of_sources}
 use Rattle.cube_core.specs.Items.{change_of, is_read}
 use Rattle.cube_core.specs.Layout.{Layout}
-use Rattle.cube_core.specs.declared.change.Change.{Change}
-use Rattle.cube_core.specs.declared.change.Item.{Item}
-use Rattle.cube_core.specs.declared.change.LineFault.{LineFault}
 use Rattle.cube_core.specs.declared.query.QueryFault.{QueryFault}
 use Rattle.cube_core.specs.declared.query.QueryFault.TheVariants as query
+use Rattle.cube_live.specs.Live.{said_item}
 use Rattle.cube_live.specs.Request.{request_of}
 use Rattle.cube_live.specs.Shows.{Shows}
 use Rattle.cube_live.specs.declared.request.Request.{Request}
@@ -50,14 +45,6 @@ IsReply s arrivals (request.Change source) reply = reply ≡ []
 IsReply s arrivals (Ask question) reply =
     (text : List ℕ) × Shows question s (of_sources 64 arrivals) text × (reply ≡ ok_line (length text) ++ text)
 IsReply s arrivals (Wrong fault) reply = reply ≡ code_line fault
-
--- the number of the last item, or 0 where there is none
-abbrev pub last_number : List Item → ℕ
-last_number items = option_map_or (λ (item : Item). item.number) (last_or None items) 0
-
--- the next item of a source at an arrival list, which says this: it is numbered on from the source's last
-abbrev pub said_item : Arrivals → ℕ → Result Change LineFault → Item
-said_item arrivals source what = record { number = last_number (of_source arrivals source) + 1; what = what }
 
 -- an arrival list after a change of a source, a data record of these fields:
 -- one item more where the record is in the schema's shard, and else the same

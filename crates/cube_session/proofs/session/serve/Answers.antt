@@ -1,10 +1,10 @@
 use Rattle.std.proofs.Common.{◌∙◌, Result, Ok, Err, refl}
 use Rattle.std.specs.Prelude.{OnOk}
 use Rattle.std.proofs.lemmas.Result.{err_from_is_err_and, on_ok_weaker}
-use Rattle.cube_live.proofs.ServingLaws.{HasGone-none, HasGone-more, HasGone-all, HasGone-fails}
-use Rattle.cube_live.specs.declared.session.SessionFault.TheVariants.{Full}
-use Rattle.cube_live.proofs.KeepingLaws as laws
-use Rattle.cube_live.proofs.session.serve.Goals as goal
+use Rattle.cube_session.proofs.ServingLaws.{HasGone-none, HasGone-more, HasGone-all, HasGone-fails}
+use Rattle.cube_session.specs.declared.session.SessionFault.TheVariants.{Full}
+use Rattle.cube_session.proofs.KeepingLaws as laws
+use Rattle.cube_session.proofs.session.serve.Goals as goal
 
 -- what holds in any case holds where a result is Ok
 OnOk-always : {T E X : Type 0} (r : Result T E) → X → OnOk r X

@@ -5,13 +5,13 @@ use Rattle.std.specs.Io.KnownBytes.{Appends}
 use Rattle.cube_core.specs.Arrival.{Arrivals, of_source}
 use Rattle.cube_core.specs.Items.{is_read}
 use Rattle.cube_core.specs.Layout.{Layout}
-use Rattle.cube_live.specs.Live.{LiveView, LiveStandsAt}
+use Rattle.cube_live.specs.Live.{LiveView, LiveStandsAt, last_number}
 use Rattle.cube_live.specs.Request.{request_of}
-use Rattle.cube_live.specs.Session.{AreReplies, IsReply, arrivals_after, arrivals_with, last_number}
+use Rattle.cube_session.specs.Session.{AreReplies, IsReply, arrivals_after, arrivals_changed, arrivals_with}
 use Rattle.cube_live.specs.declared.request.Request.{Request}
 use Rattle.cube_live.specs.declared.request.Request.TheVariants.{Change}
-use Rattle.cube_live.specs.declared.session.SessionFault.{SessionFault}
-use Rattle.cube_live.specs.declared.session.SessionFault.TheVariants.{Read, TooMany, Full, Write, Journal}
+use Rattle.cube_session.specs.declared.session.SessionFault.{SessionFault}
+use Rattle.cube_session.specs.declared.session.SessionFault.TheVariants.{Read, TooMany, Full, Write, Journal}
 
 -- the replies to the first records of a session, so many, went out
 pub record Answered (s : Layout) (records : List (List (List ℕ))) (start : Arrivals) (count : ℕ)
@@ -125,6 +125,11 @@ IsJournalFault (TooMany source) = ⊥
 IsJournalFault Full = ⊥
 IsJournalFault (Write sent) = ⊥
 IsJournalFault (Journal fault) = ⊤
+
+-- a cube that is kept right took a change of a source, a data record of these fields
+abbrev pub TakesChange : ℕ → List (List ℕ) → LiveView → LiveView → Type 0
+TakesChange source fields old new = (arrivals : Arrivals) → LiveStandsAt old arrivals
+    → LiveStandsAt new (arrivals_changed old.schema arrivals source fields)
 
 -- why a change of a source wasn't taken: it is in the schema's shard,
 -- and the source has the last record that the schema takes; memory or the journal may be wanting at any time

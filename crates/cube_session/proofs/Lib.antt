@@ -1,0 +1,3 @@
+mod ReplyLaws
+mod ServingLaws
+pub mod KeepingLaws
