@@ -1,4 +1,4 @@
-use Rattle.std.proofs.Common.{◌≡◌, ◌∙◌, sym, ap, subst, Some, true, is_lt}
+use Rattle.std.proofs.Common.{◌≡◌, ◌<◌, ◌∙◌, arith, length, sym, ap, subst, Some, true, is_lt}
 use Rattle.cube_core.specs.Order.{key_cmp}
 use Rattle.cube_merge.specs.Front.{IsLeastIn}
 use Rattle.cube_merge.proofs.LeastLaws.{at_place, IsLeastIn-behind, IsLeastIn-none, IsLeastIn-first, IsLeastIn-new}
@@ -71,3 +71,15 @@ returns-else-is_below g c =
 pub bounds-inputs-best : goal.bounds-inputs-best
 bounds-inputs-best g c =
     (subst (λ o. IsLeastIn c.args.inputs.now c.args.behind.now o c.args.place) c.in-Some-least.is c.requires.so_far).0
+
+pub bounds-inputs-place : goal.bounds-inputs-place
+bounds-inputs-place g c = c.requires.inside
+
+pub offset_bounds-inputs-place : goal.offset_bounds-inputs-place
+offset_bounds-inputs-place g c = omega arith
+
+pub offset_bounds-inputs-best : goal.offset_bounds-inputs-best
+offset_bounds-inputs-best g c =
+    let inside : c.in-Some-least.best < length c.args.inputs.now =
+    (subst (λ o. IsLeastIn c.args.inputs.now c.args.behind.now o c.args.place) c.in-Some-least.is c.requires.so_far).0 in
+    omega arith

@@ -42,3 +42,9 @@ returns-clause-uses g c =
     omega (arith, c.loop-place.invariant.width, c.loop-place-test.false, c.loop-place.auto.place-end) in
     AreUses-all c.args.key.now c.loop-place.used.items c.args.inputs.now c.loop-place.place same c.loop-place-test.false
     c.loop-place.invariant.uses
+
+pub bounds-inputs-place : goal.bounds-inputs-place
+bounds-inputs-place g c = c.loop-place-test.true
+
+pub offset_bounds-inputs-place : goal.offset_bounds-inputs-place
+offset_bounds-inputs-place g c = omega arith

@@ -51,3 +51,24 @@ returns-clause-ok g c =
 
 pub loop-place-init : goal.loop-place-init
 loop-place-init g c = record { long = refl; done = λ k below. absurd (omega arith); rest = λ k from. refl }
+
+pub bounds-inputs-place : goal.bounds-inputs-place
+bounds-inputs-place g c = omega (arith, c.loop-place.invariant.long, c.loop-place-test.true)
+
+pub bounds-used-place : goal.bounds-used-place
+bounds-used-place g c = omega (arith, c.requires, c.loop-place-test.true)
+
+pub offset_bounds-inputs-place : goal.offset_bounds-inputs-place
+offset_bounds-inputs-place g c = search rules
+
+pub offset_bounds-inputs-place-in-Err : goal.offset_bounds-inputs-place-in-Err
+offset_bounds-inputs-place-in-Err g c = search rules
+
+pub bounds-inputs-place-in-Err : goal.bounds-inputs-place-in-Err
+bounds-inputs-place-in-Err g c =
+    omega (
+      arith,
+      length-set c.loop-place.inputs c.loop-place.place c.move_on.new.self,
+      c.loop-place.invariant.long,
+      c.loop-place-test.true,
+    )

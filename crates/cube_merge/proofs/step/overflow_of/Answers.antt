@@ -1,4 +1,4 @@
-use Rattle.std.proofs.Common.{◌∙◌, ◌<◌, ap, get_or, length, subst, sym}
+use Rattle.std.proofs.Common.{◌∙◌, ◌<◌, ap, arith, get_or, length, subst, sym}
 use Rattle.cube_merge.specs.Joint.{HasRow}
 use Rattle.cube_merge.specs.Merging.{nothing_left}
 use Rattle.cube_merge.proofs.FaultLaws.{TellsOverflow-told}
@@ -23,3 +23,12 @@ bounds-inputs-place g c =
     let found = (c.in-Some.ensures {u = tt}).lookup in
     (subst (λ p. (p < length inputs) × HasRow (get_or inputs p nothing_left)) (sym (found.3.1 0))
     (HaveRows-in inputs c.args.places.now c.args.which c.requires found.3.0)).0
+
+pub offset_bounds-inputs-place : goal.offset_bounds-inputs-place
+offset_bounds-inputs-place g c =
+    let inputs = c.args.inputs.now in
+    let found = (c.in-Some.ensures {u = tt}).lookup in
+    let inside : c.in-Some.place.now < length inputs =
+    (subst (λ p. (p < length inputs) × HasRow (get_or inputs p nothing_left)) (sym (found.3.1 0))
+    (HaveRows-in inputs c.args.places.now c.args.which c.requires found.3.0)).0 in
+    omega arith
