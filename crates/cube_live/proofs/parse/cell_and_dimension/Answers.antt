@@ -10,6 +10,6 @@ returns-in-Ok c =
     c.with_dimension.ensures ∙ at-found c.args.schema.now (fields_of c.args.fields.now) c.in-Ok.key
     (sym c.in_ok-key.ensures ∙ c.in-Ok.is) c.place_of.result (rw c.field_at.ensures at c.place_of.ensures)
 
-pub returns : goal.returns
-returns c =
+pub returns-in-Err : goal.returns-in-Err
+returns-in-Err c =
     at-no_cell c.args.schema.now (fields_of c.args.fields.now) c.in-Err.fault (sym c.in_ok-key.ensures ∙ c.in-Err.is)

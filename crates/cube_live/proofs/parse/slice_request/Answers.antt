@@ -11,8 +11,8 @@ returns-in-Ok c =
     ∙ ap (λ (l : List (List ℕ)). 1 + length l) c.dimensions.ensures.value in
     slice-Ok s fields c.in-Ok.pattern width (sym c.in_ok-pattern.ensures ∙ c.in-Ok.is)
 
-pub returns : goal.returns
-returns c =
+pub returns-in-Err : goal.returns-in-Err
+returns-in-Err c =
     let s = c.args.schema.now in
     let fields = fields_of c.args.fields.now in
     let width : length fields ≡ 1 + length s.dimensions = sym c.len.ensures ∙ c.if-len-dimensions.false
