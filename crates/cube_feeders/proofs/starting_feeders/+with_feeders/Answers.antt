@@ -6,6 +6,12 @@ use Rattle.cube_feeders.proofs.PlaceLaws.{All-append_front, AllZip-nil, length-l
 use Rattle.cube_core.proofs.ListLaws.{AllZip-push}
 use Rattle.cube_feeders.proofs.starting_feeders.+with_feeders.Goals as goal
 
+some-left : (n : ℕ) → (n ≡ 0 → ⊥) → 1 ≤ n
+some-left n not = omega (arith, not)
+
+some-more : (n most : ℕ) → 1 ≤ n → n ≤ most → 1 ≤ most
+some-more n most some within = omega arith
+
 less-one : (all rest most : ℕ) → all ≡ rest + 1 → all ≤ most → rest ≤ most
 less-one all rest most count within = omega arith
 
@@ -69,10 +75,9 @@ keep_end-requires g t c =
 
 pub unwrap-post-requires : goal.unwrap-post-requires
 unwrap-post-requires g t c =
-    let some = eqb-false (vec_len c.args.feeders) 0 (sym c.is_empty.ensures ∙ c.if-is_empty.false) in
-    c.pop.ensures.variant.1 (omega (arith, some, c.requires.room.posts))
+    let some = some-left _ (eqb-false (vec_len c.args.feeders) 0 (sym c.is_empty.ensures ∙ c.if-is_empty.false)) in
+    c.pop.ensures.variant.1 (some-more _ _ some c.requires.room.posts)
 
 pub start_last-feeders-requires-clause-some : goal.start_last-feeders-requires-clause-some
 start_last-feeders-requires-clause-some g t c κs within =
-    let some = eqb-false (vec_len c.args.feeders) 0 (sym c.is_empty.ensures ∙ c.if-is_empty.false) in
-    omega (arith, some)
+    some-left _ (eqb-false (vec_len c.args.feeders) 0 (sym c.is_empty.ensures ∙ c.if-is_empty.false))
