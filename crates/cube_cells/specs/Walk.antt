@@ -25,8 +25,8 @@ is_in keys codes = list_any (same_codes codes) keys
 abbrev pub weight_of_cells : (Codes → ℕ) → CodedCells → ℕ
 weight_of_cells weight cells = sum_by (λ cell. weight cell.0 * cell.1.facts) cells
 
--- each of these codes counts so many facts more: however codes are weighed, the counts so weighed grow by what the codes
--- weigh, times those facts
+-- each of these codes counts so many facts more:
+-- however codes are weighed, the counts so weighed grow by what the codes weigh, times those facts
 abbrev pub CountMore : ℕ → List Codes → CodedCells → CodedCells → Type 0
 CountMore facts keys old new =
     (weight : Codes → ℕ) → weight_of_cells weight new ≡ weight_of_cells weight old + sum_by weight keys * facts

@@ -68,7 +68,8 @@ starts_since fault more cant (kind.Feed source) up h = h
 starts_since fault more cant (kind.Row number) up h = h
 starts_since fault more cant kind.TooMany up h = h
 
-pub write_fails : (fault cant : Type 0) (e : StoreError) → IsCause fault ⊥ cant e → FailsToStart fault cant (kind.Store e)
+pub write_fails : (fault cant : Type 0) (e : StoreError) → IsCause fault ⊥ cant e
+    → FailsToStart fault cant (kind.Store e)
 write_fails fault cant OutOfMemory h = inl (inl refl)
 write_fails fault cant Io h = inl (inr h)
 write_fails fault cant Corrupt h = inl (inr h)
@@ -110,8 +111,11 @@ opening_fails was mid a b c notes cant e told up later closes h (inl store) =
     wider f = omega arith
 
     holds : IsTrue mid.is_open → (changes : List Entry) × Holds mid.committed changes notes
-    holds is_open =
-        (stored_in was, subst (λ (t : Trees). Holds t (stored_in was) notes) (sym (told.0.committed is_open)) store.holds)
+    holds is_open = (
+      stored_in was,
+      subst (λ (t : Trees). Holds t (stored_in was) notes)
+          (sym (told.0.committed is_open)) store.holds,
+    )
 
     shut_by : mid.is_open ≡ false → IsTrue mid.is_open ⊎ MoreFaults a b → MoreFaults a c
     shut_by is (inl is_open) = absurd (true≢false (sym is_open ∙ is))

@@ -13,8 +13,9 @@ use Rattle.cube_core.specs.declared.change.LineFault.{LineFault}
 use Rattle.cube_feed.specs.Reading.{Advances, RecordsView}
 use Rattle.cube_live.specs.Live.{LiveView, LiveStandsAt, TakesNext, last_number}
 use Rattle.cube_live.specs.Request.{request_of}
-use Rattle.cube_session.specs.Serving.{Answered, LeavesReplies, Serves, ServingFails, Replied, ReplyFails, IsJournalFault}
-use Rattle.cube_session.specs.Serving.{IsInputFault, WritesNone, WritesPart, WritesReply, BreaksReply, ExplainsChange}
+use Rattle.cube_session.specs.Serving.{Answered, LeavesReplies, Serves, ServingFails, Replied, ReplyFails}
+use Rattle.cube_session.specs.Serving.{IsJournalFault, IsInputFault, WritesNone, WritesPart, WritesReply}
+use Rattle.cube_session.specs.Serving.{BreaksReply, ExplainsChange}
 use Rattle.cube_session.specs.Serving.{TakesChange}
 use Rattle.cube_session.specs.Session.{AreReplies, IsReply, arrivals_after, arrivals_changed}
 use Rattle.cube_live.specs.declared.request.Question.{Question}

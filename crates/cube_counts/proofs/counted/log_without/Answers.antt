@@ -19,7 +19,8 @@ pub take-requires-clause-fits : goal.take-requires-clause-fits
 take-requires-clause-fits c =
     let same : SameHeld (once_each c.args.numbers.now) c.in_ok-log.log.value =
     SameHeld-AddsBag_nothing (once_each c.args.numbers.now) c.in_ok-log.log.value (search rules) in
-    rw c.deref_mut.ensures.value (omega (arith, c.requires.fits, size_of_same (once_each c.args.numbers.now) c.in_ok-log.log.value same))
+    rw c.deref_mut.ensures.value (
+    omega (arith, c.requires.fits, size_of_same (once_each c.args.numbers.now) c.in_ok-log.log.value same))
 
 pub returns : goal.returns
 returns c =

@@ -41,7 +41,8 @@ pub returns-clause-whole : goal.returns-clause-whole
 returns-clause-whole g c =
     let loop = c.loop-builder in
     let was = loop.invariant in
-    let done : loop.builder-iterator.rest.items ≡ [] = nil_from_length loop.builder-iterator.rest.items (search rules) in
+    let done : loop.builder-iterator.rest.items ≡ [] =
+    nil_from_length loop.builder-iterator.rest.items (search rules) in
     let all : loop.yielded ≡ c.args.whole.builder.items =
     sym (append-nil loop.yielded) ∙ ap (λ rest. loop.yielded ++ rest) (sym done) ∙ was.6 in
     let none : loop.inlets.items ≡ [] =

@@ -19,6 +19,7 @@ pub returns-clause-builders : goal.returns-clause-builders
 returns-clause-builders g c =
     let loop = c.loop-builder in
     let gives = c.into_iter-builder-iterator.ensures.into_iter_gives in
-    let ends = YieldsList-end (YieldsList-from_vec c.args.builders.items (search (rules, gives)) (search (rules, gives)))
-    loop.yielded loop.builder-iterator loop.yielded_by c.next.result c.next.new.self c.in-None.is c.next.ensures.steps in
+    let from = YieldsList-from_vec c.args.builders.items (search (rules, gives)) (search (rules, gives)) in
+    let ends = YieldsList-end from loop.yielded loop.builder-iterator loop.yielded_by c.next.result c.next.new.self
+    c.in-None.is c.next.ensures.steps in
     loop.invariant.0 ∙ sym (map-id loop.yielded) ∙ ends.0

@@ -80,7 +80,10 @@ returns-in-Ok-false-clause-found g c =
     let notes = entries_of c.args.notes.now in
     let now = g.S.Store.view j.store in
     let found = h clean in
-    inr (laws.finds_before was mid told.0 notes now found.0, laws.noted_before was mid told.0 notes now found.0 found.1))
+    inr (
+      laws.finds_before was mid told.0 notes now found.0,
+      laws.noted_before was mid told.0 notes now found.0 found.1,
+    ))
     c.open.ensures.quiet c.open.ensures.found
 
 pub returns-in-Ok-false-clause-taken : goal.returns-in-Ok-false-clause-taken

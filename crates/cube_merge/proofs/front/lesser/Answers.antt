@@ -81,5 +81,6 @@ offset_bounds-inputs-place g c = omega arith
 pub offset_bounds-inputs-best : goal.offset_bounds-inputs-best
 offset_bounds-inputs-best g c =
     let inside : c.in-Some-least.best < length c.args.inputs.now =
-    (subst (λ o. IsLeastIn c.args.inputs.now c.args.behind.now o c.args.place) c.in-Some-least.is c.requires.so_far).0 in
+    (subst (λ o. IsLeastIn c.args.inputs.now c.args.behind.now o c.args.place)
+    c.in-Some-least.is c.requires.so_far).0 in
     omega arith

@@ -35,7 +35,8 @@ overflow_add-index_mut c =
 
 pub invariant_of-self : goal.invariant_of-self
 invariant_of-self c = All-set (λ (e : ℤ × ℕ). 0 < e.1) c.self.inside.pairs.items c.in-Some.place
-    (c.index_mut.result.now.0, c.index_mut.result.now.1 + c.args.times) (omega (arith, c.requires.some)) c.self.invariant
+    (c.index_mut.result.now.0, c.index_mut.result.now.1 + c.args.times) (omega (arith, c.requires.some))
+    c.self.invariant
 
 pub invariant_of-self-2 : goal.invariant_of-self-2
 invariant_of-self-2 c = rw c.in_ok-push.ensures.items
