@@ -12,7 +12,7 @@ bag_of (Narrow narrow) = narrow.value
 bag_of (Logged log) = log.value
 bag_of (Many table) = table.value
 
--- what is left of a representation after an edit: the new values where there are some, and else its own bag
+-- what is held after numbers were added to a form: by the form that takes its place, if one does, and else by itself
 abbrev pub bag_left : Bag → Option Values → Bag
 bag_left own None = own
 bag_left own (Some values) = bag_of values

@@ -15,7 +15,7 @@ use Rattle.cube_journal.specs.declared.note.FeedNote.{FeedNote}
 use Rattle.cube_journal.specs.Rows.{Entry, row_of, rows_from, entries_in, entry_of, entries_of, AreChanges}
 use Rattle.cube_journal.specs.State.{rows_left, IsStanding, IsJournal, OnlyReads}
 use Rattle.cube_journal.specs.State.{MakesJournal, ForgetsNothing, IsCause}
-use Rattle.cube_journal.specs.Making.{WritesNotes, IsMade, CantNote, LeavesNotes, LeavesEither, IsBlank, IsSettled}
+use Rattle.cube_journal.specs.Making.{WritesNotes, IsMade, CantNote, LeavesNotes, LeavesEither, IsBlank, HasRolledBack}
 use Rattle.cube_journal.specs.Making.{TellsUnmade}
 use Rattle.cube_journal.specs.Reading.{StandsBeforeFirst, Passes, TellsWhether}
 use Rattle.cube_journal.proofs.RowLaws.{put_next, entries_of_rows}
@@ -209,7 +209,7 @@ made_journal now notes made shut = record {
 
 module _ (was mid : View) (undone : IsRolledBack was mid) (broken : mid.is_open ≡ false → IsTrue mid.is_broken)
     (clean : IsClean mid) where
-  settled : (new : View) → OnlyReads mid new → IsSettled was new
+  settled : (new : View) → OnlyReads mid new → HasRolledBack was new
   settled new reads =
       let same : new.is_open ≡ mid.is_open = ap (λ (v : View). v.is_open) reads in
       let shape : new.shape ≡ mid.shape = ap (λ (v : View). v.shape) reads in

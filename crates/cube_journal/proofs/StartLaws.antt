@@ -11,11 +11,11 @@ use Rattle.cube_journal.specs.declared.fault.OpenFault.TheVariants as kind
 use Rattle.cube_journal.specs.Rows.{Entry, entries_in}
 use Rattle.cube_journal.specs.State.{stored_in, noted_in, Holds, HasTables, IsStore, IsUnmade, Finds, MakesJournal}
 use Rattle.cube_journal.specs.State.{IsCause, ExplainsUnopened, IsFailedCall, FailsToStart, ForgetsNothing}
-use Rattle.cube_journal.specs.Making.{LeavesNotes, LeavesEither, IsSettled, TellsUnmade}
+use Rattle.cube_journal.specs.Making.{LeavesNotes, LeavesEither, HasRolledBack, TellsUnmade}
 use Rattle.cube_journal.proofs.MakeLaws.{goes_quiet, goes_then}
 use Rattle.cube_journal.proofs.OpenLaws.{refuses_none, failed}
 
-module _ (was mid : View) (settled : IsSettled was mid) (notes : List Entry) where
+module _ (was mid : View) (settled : HasRolledBack was mid) (notes : List Entry) where
   pub makes_before : (now : View) → MakesJournal notes mid now → MakesJournal notes was now
   makes_before now makes =
       let same = settled.committed makes.was_open in
@@ -127,7 +127,7 @@ opening_fails was mid a b c notes cant e told up later closes h (inl store) =
 module _ {S : Type 0} (view : S → View) (faults : S → ℕ) (recovers : S → Trees → Type 0) (shielded : S → Type 0)
     (notes : List Entry) (a b c : S) (quiet : IsQuiet view faults recovers shielded a b) where
   -- a making after a look
-  pub either_after : (IsClean (view b) → IsSettled (view a) (view b)) → LeavesEither view faults recovers notes b c
+  pub either_after : (IsClean (view b) → HasRolledBack (view a) (view b)) → LeavesEither view faults recovers notes b c
       → LeavesEither view faults recovers notes a c
   either_after settled left = record {
     crash = λ db h. since db (left.crash db h);

@@ -50,12 +50,12 @@ pub record IsBlank (v : View) : Type 0 where
   pub same : v.trees ≡ v.committed
 
 -- A store that is rolled back, and then only read, has what it had (this project's choice).
-pub record IsSettled (old new : View) : Type 0 where
+pub record HasRolledBack (old new : View) : Type 0 where
   pub was_open : IsTrue new.is_open → IsTrue old.is_open
   pub committed : IsTrue new.is_open → new.committed ≡ old.committed
   pub tables : HasTables old → HasTables new
 
 -- A store that is rolled back is found without a row, or with one (this project's choice).
 abbrev pub TellsUnmade : View → View → Bool → Type 0
-TellsUnmade old new true = IsSettled old new × IsBlank new
-TellsUnmade old new false = IsSettled old new × (IsUnmade old → ⊥)
+TellsUnmade old new true = HasRolledBack old new × IsBlank new
+TellsUnmade old new false = HasRolledBack old new × (IsUnmade old → ⊥)
