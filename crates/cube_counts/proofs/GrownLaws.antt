@@ -2,7 +2,7 @@
 use Rattle.std.proofs.Common.{◌≡◌, ℕ, arith, ap, sym}
 use Rattle.std.specs.Prelude.{Option, Some, None, ℤ}
 use Rattle.cube_counts.specs.declared.counted.Values.{Values}
-use Rattle.cube_counts.specs.Bag.{Bag, held_of, SameHeld, AddsBag, AddsTimes}
+use Rattle.cube_numbers.specs.Bag.{Bag, held_of, SameHeld, AddsBag, AddsTimes}
 use Rattle.cube_counts.specs.Values.{bag_left}
 
 -- a copy

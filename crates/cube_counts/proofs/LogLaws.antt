@@ -15,11 +15,12 @@ use Rattle.std.proofs.lemmas.List.Elements.{All-head, All-tail}
 use Rattle.std.proofs.lemmas.List.Sorted.{sorted_far, ranks_by}
 use Rattle.std.proofs.lemmas.Cmp.{int_cmp_total}
 use Rattle.std.proofs.lemmas.List.Sums.{sum_by-append, sum_by-le}
-use Rattle.cube_counts.specs.Bag.{Bag, one_at, held_of, size_of, SameHeld, AddsBag, AddsOne, HasLeast, HasGreatest}
-use Rattle.cube_counts.specs.Log.{HasEnds, Rises, IsJoined, IsOrdered, IsLastOf, IsCut}
-use Rattle.cube_counts.proofs.BagLaws.{part, weight_of-cons, weight_of-set, one_at-refl, one_at-distinct, int_eq-same}
-use Rattle.cube_counts.proofs.BagLaws.{held_of-absent, held_le_size, held_of-get_or, least_of_pairs, greatest_of_pairs}
-use Rattle.cube_counts.proofs.BagLaws.{AddsOne-set, count_at}
+use Rattle.cube_numbers.specs.Bag.{Bag, one_at, held_of, size_of, SameHeld, AddsBag, AddsOne, HasLeast, HasGreatest}
+use Rattle.cube_numbers.specs.Bag.{HasEnds}
+use Rattle.cube_counts.specs.Log.{Rises, IsJoined, IsOrdered, IsLastOf, IsCut}
+use Rattle.cube_numbers.proofs.BagLaws.{part, weight_of-cons, weight_of-set, one_at-refl, one_at-distinct, int_eq-same}
+use Rattle.cube_numbers.proofs.BagLaws.{held_of-absent, held_le_size, held_of-get_or, least_of_pairs, greatest_of_pairs}
+use Rattle.cube_numbers.proofs.BagLaws.{AddsOne-set, count_at}
 
 -- ---- pairs that count nothing
 -- without them each number is held as often
@@ -92,80 +93,6 @@ HasGreatest-Rises bag p d rises within counts after = record {
 pub size_of-AllWithin : (bag : Bag) → AllWithin (λ e. e.1 ≡ 0) bag 0 (length bag) → size_of bag ≡ 0
 size_of-AllWithin bag none =
     omega (arith, sum_by-le (part (λ _. 1)) 0 bag (λ k d within. omega (arith, none k d (omega arith) within)))
-
--- what is held is of the whole
-pub held_of-size_of : (bag : Bag) (x : ℤ) → 0 < held_of bag x → size_of bag ≡ 0 → ⊥
-held_of-size_of bag x some none = omega (arith, held_le_size bag x, some, none)
-
--- ---- two lists, one behind the other
-pub AddsBag-append : (old more : Bag) → AddsBag old (old ++ more) more
-AddsBag-append old more = record { held = λ x. sum_by-append (part (one_at x)) old more }
-
--- the ends of a pair
-pub HasEnds-pair : (v : ℤ) (n : ℕ) → 0 < n → HasEnds ((v, n) ∷ []) v v
-HasEnds-pair v n some = record {
-  least = record { held = here; below = λ x h. omega (arith, ints, only x h) };
-  greatest = record { held = here; above = λ x h. omega (arith, ints, only x h) };
-} where
-  here : 0 < held_of ((v, n) ∷ []) v
-  here = omega (arith, some, weight_of-cons (one_at v) (v, n) [], ap (λ m. m * n) (one_at-refl v))
-
-  only : (x : ℤ) → 0 < held_of ((v, n) ∷ []) x → x ≡ v
-  only x h = elim (int_eq x v) as (λ b. int_eq x v ≡ b → x ≡ v) [
-    | true ↦ λ t. int_eq-same x v t
-    | false ↦
-        λ t. absurd (omega (arith, h, weight_of-cons (one_at x) (v, n) [], ap (λ m. m * n) (one_at-distinct x v t)))
-  ] refl
-
--- the ends of pairs, by their least and greatest numbers
-pub HasEnds-keys_of : (bag : Bag) (l g : ℤ) → All (λ e. 0 < e.1) bag → Contains (keys_of bag) l
-    → All (λ e. l ≤ℤ e.0) bag → Contains (keys_of bag) g → All (λ e. e.0 ≤ℤ g) bag → HasEnds bag l g
-HasEnds-keys_of bag l g some at_least below at_most above = record {
-  least = least_of_pairs bag (Some l) some at_least below;
-  greatest = greatest_of_pairs bag (Some g) some at_most above;
-}
-
--- the ends of both
-pub HasEnds-AddsBag : (old new more : Bag) (l g m h : ℤ) → AddsBag old new more → HasEnds old l g → HasEnds more m h
-    → HasEnds new (int_min l m) (int_max g h)
-HasEnds-AddsBag old new more l g m h both first second = record {
-  least = record {
-    held = low;
-    below = λ x some.
-        ⊎_elim (λ a. below_first x (first.least.below x a)) (λ b. below_second x (second.least.below x b)) (of x some);
-  };
-  greatest = record {
-    held = high;
-    above = λ x some. ⊎_elim (λ a. above_first x (first.greatest.above x a))
-        (λ b. above_second x (second.greatest.above x b)) (of x some);
-  };
-} where
-  of : (x : ℤ) → 0 < held_of new x → (0 < held_of old x) ⊎ (0 < held_of more x)
-  of x some = ⊎_elim inl (λ none. inr (omega (arith, some, both.held x, none))) (cases_lt 0 (held_of old x))
-
-  low : 0 < held_of new (int_min l m)
-  low = elim (int_lt m l) as (λ b. 0 < held_of new (cond b m l)) [
-    | true ↦ omega (arith, both.held m, second.least.held)
-    | false ↦ omega (arith, both.held l, first.least.held)
-  ]
-
-  high : 0 < held_of new (int_max g h)
-  high = elim (int_lt h g) as (λ b. 0 < held_of new (cond b g h)) [
-    | true ↦ omega (arith, both.held g, first.greatest.held)
-    | false ↦ omega (arith, both.held h, second.greatest.held)
-  ]
-
-  below_first : (x : ℤ) → l ≤ℤ x → int_min l m ≤ℤ x
-  below_first x le = grind (arith, ints, le)
-
-  below_second : (x : ℤ) → m ≤ℤ x → int_min l m ≤ℤ x
-  below_second x le = grind (arith, ints, le)
-
-  above_first : (x : ℤ) → x ≤ℤ g → x ≤ℤ int_max g h
-  above_first x le = grind (arith, ints, le)
-
-  above_second : (x : ℤ) → x ≤ℤ h → x ≤ℤ int_max g h
-  above_second x le = grind (arith, ints, le)
 
 -- ---- where a number is counted in a list in order
 pub int_eq-distinct : (v x : ℤ) → (v ≡ x → ⊥) → int_eq v x ≡ false

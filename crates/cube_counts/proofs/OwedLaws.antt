@@ -8,11 +8,12 @@ use Rattle.std.proofs.lemmas.Int.{ints}
 use Rattle.std.specs.Ordering.{int_eq}
 use Rattle.std.proofs.lemmas.List.{drop_all, take_all, take-append-le}
 use Rattle.std.proofs.lemmas.List.Sums.{sum_by-append, sum_by-cons, sum_by_push, sum_by-drop_more}
-use Rattle.cube_counts.specs.Bag.{Bag, one_at, held_of, size_of, SameHeld, AddsBag, AddsTimes, AddsOne}
-use Rattle.cube_counts.specs.Log.{times_in, without_one, without, Covers, TakesAll, Owes, HasEnds, IsOrdered, IsSettled}
+use Rattle.cube_numbers.specs.Bag.{Bag, one_at, held_of, size_of, SameHeld, AddsBag, AddsTimes, AddsOne, HasEnds}
+use Rattle.cube_numbers.specs.Narrow.{times_in}
+use Rattle.cube_counts.specs.Log.{without_one, without, Covers, TakesAll, Owes, IsOrdered, IsSettled}
 use Rattle.cube_counts.proofs.LogLaws.{int_eq-distinct}
-use Rattle.cube_counts.proofs.BagLaws.{part, weight_of-cons, one_at-refl, one_at-distinct, int_eq-same, size_of_same}
-use Rattle.cube_counts.proofs.BagLaws.{size_of_one}
+use Rattle.cube_numbers.proofs.BagLaws.{part, weight_of-cons, one_at-refl, one_at-distinct, int_eq-same, size_of_same}
+use Rattle.cube_numbers.proofs.BagLaws.{size_of_one}
 
 -- how often a number is held in a bag without one v
 held_of-without_one : (v : ℤ) (bag : Bag) (x : ℤ) → held_of (without_one v bag) x ≡ held_of bag x - one_at x v
@@ -148,19 +149,6 @@ HasEnds-taken old new v low high ends taken above below = record {
 } where
   apart : (x : ℤ) → (x ≡ v → ⊥) → one_at x v ≡ 0
   apart x other = one_at-distinct x v (int_eq-distinct x v other)
-
--- equal bags have equal ends
-pub HasEnds-SameHeld : (old new : Bag) (low high : ℤ) → SameHeld old new → HasEnds old low high → HasEnds new low high
-HasEnds-SameHeld old new low high same ends = record {
-  least = record {
-    held = omega (arith, same.held low, ends.least.held);
-    below = λ x some. ends.least.below x (omega (arith, same.held x, some));
-  };
-  greatest = record {
-    held = omega (arith, same.held high, ends.greatest.held);
-    above = λ x some. ends.greatest.above x (omega (arith, same.held x, some));
-  };
-}
 
 -- ---- what is owed is taken, number by number
 -- the number at a place is among those from it on

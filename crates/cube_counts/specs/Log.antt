@@ -3,11 +3,8 @@ use Rattle.std.specs.Prelude.{◌≡◌, ℕ, ◌+◌, ◌^◌, ◌<◌, ◌≤�
 use Rattle.std.specs.Prelude.{IfNone, length, slice_index_or, sum_by, if◌then◌else◌}
 use Rattle.std.specs.Ordering.{int_eq}
 use Rattle.std.specs.List.{AllWithin}
-use Rattle.cube_counts.specs.Bag.{Bag, one_at, held_of, size_of, HasLeast, HasGreatest}
-
--- how often a number stands in a list
-abbrev pub times_in : List ℤ → ℤ → ℕ
-times_in numbers x = sum_by (one_at x) numbers
+use Rattle.cube_numbers.specs.Bag.{Bag, held_of, size_of}
+use Rattle.cube_numbers.specs.Narrow.{times_in}
 
 -- the bag without one v, where it holds one
 abbrev pub without_one : ℤ → Bag → Bag
@@ -34,11 +31,6 @@ pub record Owes (bag : Bag) (owed : List ℤ) (total : Option ℕ) : Type 0 wher
   pub covered : Covers bag owed
   pub size : IfSome total (λ n. (size_of bag ≤ n) × (n < 2 ^ 64))
   pub none : IfNone total (owed ≡ [])
-
--- these are the ends of the bag
-pub record HasEnds (bag : Bag) (low high : ℤ) : Type 0 where
-  pub least : HasLeast bag low
-  pub greatest : HasGreatest bag high
 
 -- the numbers of the pairs rise, equal ones side by side
 abbrev pub Rises : Bag → Type 0

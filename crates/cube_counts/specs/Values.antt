@@ -1,6 +1,6 @@
 -- The bag that the values of a `Counted` hold.
 use Rattle.std.specs.Prelude.{Option, Some, None}
-use Rattle.cube_counts.specs.Bag.{Bag}
+use Rattle.cube_numbers.specs.Bag.{Bag}
 use Rattle.cube_counts.specs.declared.counted.Values.{Values}
 use Rattle.cube_counts.specs.declared.counted.Values.TheVariants.{One, Few, Narrow, Logged, Many}
 

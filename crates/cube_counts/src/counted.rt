@@ -1,15 +1,14 @@
 //! A multiset of numbers.
 ghost use Rattle.std.specs.Prelude.{nat_lt, ◌==◌, ℤ, ◌≡◌, ◌<◌, ◌≤◌, ◌+◌, ◌^◌, ◌↔◌, All, IsTrue, IsNone, IfNone, IfSome, IfOk, OnOk, OnErr};
 ghost use Rattle.std.specs.Bool.{OnTrue, OnFalse};
-ghost use Rattle.cube_counts.specs.Bag.{Bag, AddsBag, AddsOne, AddsTimes, SameHeld, held_of, size_of, HasLeast, HasGreatest};
-ghost use Rattle.cube_counts.specs.Narrow.{once_each};
+ghost use Rattle.cube_numbers.specs.Bag.{Bag, AddsBag, AddsOne, AddsTimes, SameHeld, held_of, size_of, HasLeast, HasGreatest};
+ghost use Rattle.cube_numbers.specs.Narrow.{once_each};
 ghost use Rattle.cube_counts.specs.Values.{bag_of, bag_left};
 
 use crate::log::Log;
-use crate::narrow::Narrow;
 use crate::short::{FEW, Short};
-use crate::single::Single;
 use crate::table::Table;
+use cube_numbers::{Narrow, Single};
 use std::alloc::{AllocError, Global};
 use std::collections::HashMap;
 use std::marker::Model;
@@ -52,7 +51,7 @@ enum Values {
 
 impl Model for Counted {
     ghost use Rattle.std.specs.Prelude.{◌≡◌};
-    ghost use Rattle.cube_counts.specs.Bag.{Bag, size_of};
+    ghost use Rattle.cube_numbers.specs.Bag.{Bag, size_of};
 
     ghost Value = { Bag };
 
@@ -77,7 +76,7 @@ impl Counted {
     }
 
     /// Adds one `value`. Where memory is wanting, the multiset stays as it was.
-    #[tactic(auto, using(crate::proofs::BagLaws::size_of_once, crate::proofs::BagLaws::adds_once))]
+    #[tactic(auto, using(cube_numbers::proofs::BagLaws::size_of_once, cube_numbers::proofs::BagLaws::adds_once))]
     pub fn add(&mut self, value: i64) -> Result<(), AllocError>
         requires { size_of self.old + 1 < 2 ^ 64 }
         ensures added { OnOk result (AddsOne self.old self.new value) }
@@ -118,7 +117,7 @@ impl Counted {
 
     /// Takes one `value` away, which is held; a log makes no search for it where it lies between the ends. Where memory is
     /// wanting, it does without.
-    #[tactic(auto, using(crate::proofs::BagLaws::size_of_one, crate::proofs::BagLaws::held_before))]
+    #[tactic(auto, using(cube_numbers::proofs::BagLaws::size_of_one, cube_numbers::proofs::BagLaws::held_before))]
     pub fn take(&mut self, value: i64)
         requires { 0 < held_of self.old value }
         ensures taken { AddsOne self.new self.old value }
@@ -129,7 +128,7 @@ impl Counted {
     }
 
     /// Takes one `value` away; answers whether there was one. Where memory is wanting, it does without.
-    #[tactic(auto, using(crate::proofs::BagLaws::size_of_one, crate::proofs::BagLaws::held_before))]
+    #[tactic(auto, using(cube_numbers::proofs::BagLaws::size_of_one, cube_numbers::proofs::BagLaws::held_before))]
     pub fn remove(&mut self, value: i64) -> bool
         ensures found { IsTrue result ↔ (0 < held_of self.old value) }
         ensures taken { OnTrue result (AddsOne self.new self.old value) }
@@ -181,7 +180,7 @@ impl Counted {
     }
 
     /// How many numbers are held, each counted as often as it is held.
-    #[tactic(auto, using(crate::proofs::BagLaws::held_le_size))]
+    #[tactic(auto, using(cube_numbers::proofs::BagLaws::held_le_size))]
     pub fn len(&self) -> u64
         ensures len { result ≡ size_of self.now }
         ensures held { (v : ℤ) → held_of self.now v ≤ result }

@@ -1,19 +1,14 @@
 //! Counted values: [`Counted`] is a multiset of numbers, which makes the least and the greatest value right under
-//! deletes. [`Summary`] keeps how many there are and these two alone, where no number is taken away; [`Numbers`] is
-//! what both have in common.
+//! deletes. It takes one of five forms, two of which ([`Single`](cube_numbers::Single), [`Narrow`](cube_numbers::Narrow))
+//! stand in `cube_numbers`, as do [`Summary`], which keeps the size and the ends alone where no number is taken away,
+//! and [`Numbers`], what both have in common.
 #![tactic(auto)]
 
 mod counted;
 mod log;
-mod narrow;
 mod numbers;
-mod repeats;
 mod short;
-mod single;
-mod summary;
 mod table;
-mod trace;
 
 pub use counted::Counted;
-pub use numbers::Numbers;
-pub use summary::Summary;
+pub use cube_numbers::{Numbers, Summary};

@@ -3,12 +3,12 @@ ghost use Rattle.std.specs.Prelude.{true, false, Ok, ◌≡◌, ◌<◌, ◌≤�
 ghost use Rattle.std.specs.Bool.{OnTrue, OnFalse};
 ghost use Rattle.std.specs.Int.{int_min, int_max};
 ghost use Rattle.std.specs.List.{HoldsAt, AllWithin};
-ghost use Rattle.cube_counts.specs.Bag.{Bag, AddsBag, AddsOne, AddsTimes, SameHeld, held_of, size_of, HasLeast, HasGreatest};
-ghost use Rattle.cube_counts.specs.Log.{HasEnds, Rises, IsJoined, IsOrdered, IsLastOf, IsCut, times_in, without, Covers, TakesAll};
-ghost use Rattle.cube_counts.specs.Narrow.{once_each};
+ghost use Rattle.cube_numbers.specs.Bag.{Bag, AddsBag, AddsOne, AddsTimes, SameHeld, held_of, size_of, HasLeast, HasGreatest, HasEnds};
+ghost use Rattle.cube_counts.specs.Log.{Rises, IsJoined, IsOrdered, IsLastOf, IsCut, without, Covers, TakesAll};
+ghost use Rattle.cube_numbers.specs.Narrow.{times_in, once_each};
 
-use crate::repeats::is_repetitive;
 use crate::short::{greatest_number, least_number};
+use cube_numbers::is_repetitive;
 use std::alloc::{AllocError, Global};
 use std::marker::Model;
 
@@ -68,8 +68,8 @@ impl Ends {
 
 impl Model for Log {
     ghost use Rattle.std.specs.Prelude.{IfSome, IfNone};
-    ghost use Rattle.cube_counts.specs.Bag.{Bag};
-    ghost use Rattle.cube_counts.specs.Log.{HasEnds, IsSettled, Owes, without};
+    ghost use Rattle.cube_numbers.specs.Bag.{Bag, HasEnds};
+    ghost use Rattle.cube_counts.specs.Log.{IsSettled, Owes, without};
 
     ghost Value = { Bag };
 

@@ -3,8 +3,8 @@ ghost use Rattle.std.specs.Prelude.{true, false, Ok, ◌≡◌, ◌<◌, ◌≤�
 ghost use Rattle.std.specs.Ordering.{int_eq};
 ghost use Rattle.std.specs.Bool.{OnTrue, OnFalse};
 ghost use Rattle.std.specs.List.{HoldsAt};
-ghost use Rattle.cube_counts.specs.Bag.{Bag, AddsOne, AddsTimes, held_of, size_of, HasLeast, HasGreatest};
-ghost use Rattle.cube_counts.specs.Narrow.{once_each};
+ghost use Rattle.cube_numbers.specs.Bag.{Bag, AddsOne, AddsTimes, held_of, size_of, HasLeast, HasGreatest};
+ghost use Rattle.cube_numbers.specs.Narrow.{once_each};
 
 use std::alloc::{AllocError, Global};
 use std::marker::Model;
@@ -55,7 +55,7 @@ impl Short {
     }
 
     /// Two numbers, each with how often it is held.
-    #[tactic(auto, using(crate::proofs::BagLaws::adds_pair))]
+    #[tactic(auto, using(cube_numbers::proofs::BagLaws::adds_pair))]
     pub fn of_two(alloc: Global, first: (i64, u64), second: (i64, u64)) -> Result<Short, AllocError>
         requires first { 0 < first.1 }
         requires second { 0 < second.1 }
@@ -127,7 +127,7 @@ impl Short {
     }
 
     /// Whether `value` is held.
-    #[tactic(auto, using(crate::proofs::BagLaws::held_by_place, crate::proofs::BagLaws::absent_by_place))]
+    #[tactic(auto, using(cube_numbers::proofs::BagLaws::held_by_place, cube_numbers::proofs::BagLaws::absent_by_place))]
     pub fn holds(&self, value: i64) -> bool
         ensures held { OnTrue result (0 < held_of self.now value) }
         ensures absent { OnFalse result (held_of self.now value ≡ 0) }
@@ -136,7 +136,7 @@ impl Short {
     }
 
     /// The least number held; it looks at each pair.
-    #[tactic(auto, using(crate::proofs::BagLaws::least_of_pairs, crate::proofs::BagLaws::no_pairs))]
+    #[tactic(auto, using(cube_numbers::proofs::BagLaws::least_of_pairs, cube_numbers::proofs::BagLaws::no_pairs))]
     pub fn least(&self) -> Option<i64>
         ensures none { IsNone result ↔ (size_of self.now ≡ 0) }
         ensures least { IfSome result (HasLeast self.now) }
@@ -145,7 +145,7 @@ impl Short {
     }
 
     /// The greatest number held; it looks at each pair.
-    #[tactic(auto, using(crate::proofs::BagLaws::greatest_of_pairs, crate::proofs::BagLaws::no_pairs))]
+    #[tactic(auto, using(cube_numbers::proofs::BagLaws::greatest_of_pairs, cube_numbers::proofs::BagLaws::no_pairs))]
     pub fn greatest(&self) -> Option<i64>
         ensures none { IsNone result ↔ (size_of self.now ≡ 0) }
         ensures greatest { IfSome result (HasGreatest self.now) }

@@ -5,8 +5,8 @@ ghost use Rattle.std.specs.HashMap.{get};
 ghost use Rattle.std.specs.Map.{values_of, keys_of, lookup, set_value, remove_entry};
 ghost use Rattle.std.specs.List.Sorted.{IsPermutation};
 ghost use Rattle.std.specs.Ordering.{int_eq};
-ghost use Rattle.cube_counts.specs.Bag.{Bag, AddsOne, AddsTimes, SameHeld, held_of, size_of, HasLeast, HasGreatest};
-ghost use Rattle.cube_counts.specs.Narrow.{once_each};
+ghost use Rattle.cube_numbers.specs.Bag.{Bag, AddsOne, AddsTimes, SameHeld, held_of, size_of, HasLeast, HasGreatest};
+ghost use Rattle.cube_numbers.specs.Narrow.{once_each};
 
 use std::alloc::{AllocError, Global};
 use std::collections::HashMap;
@@ -72,7 +72,7 @@ impl Table {
     }
 
     /// The numbers, each with how often it is held.
-    #[tactic(auto, using(crate::proofs::BagLaws::some_entries))]
+    #[tactic(auto, using(cube_numbers::proofs::BagLaws::some_entries))]
     pub fn counts(&self) -> &HashMap<i64, u64>
         ensures counts { result.now.entries ≡ self.now }
         ensures some { All (λ e. 0 < e.1) self.now }
@@ -81,7 +81,7 @@ impl Table {
     }
 
     /// Adds `value` `times` times.
-    #[tactic(auto, using(crate::proofs::BagLaws::count_found, crate::proofs::BagLaws::adds_found, crate::proofs::BagLaws::adds_entry, crate::proofs::BagLaws::some_put, crate::proofs::BagLaws::some_set))]
+    #[tactic(auto, using(cube_numbers::proofs::BagLaws::count_found, cube_numbers::proofs::BagLaws::adds_found, cube_numbers::proofs::BagLaws::adds_entry, cube_numbers::proofs::BagLaws::some_put, cube_numbers::proofs::BagLaws::some_set))]
     pub fn add(&mut self, value: i64, times: u64) -> Result<(), AllocError>
         requires some { 0 < times }
         requires fits { size_of self.old + times < 2 ^ 64 }
@@ -96,7 +96,7 @@ impl Table {
     }
 
     /// Takes one `value` away; answers whether there was one.
-    #[tactic(auto, using(crate::proofs::BagLaws::held_of_none, crate::proofs::BagLaws::takes_found, crate::proofs::BagLaws::takes_entry, crate::proofs::BagLaws::some_set, crate::proofs::BagLaws::some_left))]
+    #[tactic(auto, using(cube_numbers::proofs::BagLaws::held_of_none, cube_numbers::proofs::BagLaws::takes_found, cube_numbers::proofs::BagLaws::takes_entry, cube_numbers::proofs::BagLaws::some_set, cube_numbers::proofs::BagLaws::some_left))]
     pub fn remove(&mut self, value: i64) -> bool
         ensures taken { OnTrue result (AddsOne self.new self.old value) }
         ensures absent { OnFalse result (held_of self.old value ≡ 0) }
@@ -114,7 +114,7 @@ impl Table {
     }
 
     /// Whether `value` is held.
-    #[tactic(auto, using(crate::proofs::BagLaws::held_of_none, crate::proofs::BagLaws::held_found))]
+    #[tactic(auto, using(cube_numbers::proofs::BagLaws::held_of_none, cube_numbers::proofs::BagLaws::held_found))]
     pub fn holds(&self, value: i64) -> bool
         ensures held { OnTrue result (0 < held_of self.now value) }
         ensures absent { OnFalse result (held_of self.now value ≡ 0) }
@@ -123,7 +123,7 @@ impl Table {
     }
 
     /// The least number held; it looks at each number.
-    #[tactic(auto, using(crate::proofs::BagLaws::least_of_table, crate::proofs::BagLaws::no_entries))]
+    #[tactic(auto, using(cube_numbers::proofs::BagLaws::least_of_table, cube_numbers::proofs::BagLaws::no_entries))]
     pub fn least(&self) -> Option<i64>
         ensures none { IsNone result ↔ (size_of self.now ≡ 0) }
         ensures least { IfSome result (HasLeast self.now) }
@@ -132,7 +132,7 @@ impl Table {
     }
 
     /// The greatest number held; it looks at each number.
-    #[tactic(auto, using(crate::proofs::BagLaws::greatest_of_table, crate::proofs::BagLaws::no_entries))]
+    #[tactic(auto, using(cube_numbers::proofs::BagLaws::greatest_of_table, cube_numbers::proofs::BagLaws::no_entries))]
     pub fn greatest(&self) -> Option<i64>
         ensures none { IsNone result ↔ (size_of self.now ≡ 0) }
         ensures greatest { IfSome result (HasGreatest self.now) }

@@ -1,8 +1,8 @@
 use Rattle.std.proofs.Common.{◌≡◌, arith, rules}
 use Rattle.std.proofs.lemmas.Result.{IfOk-weaker}
-use Rattle.cube_counts.specs.Bag.{Bag, SameHeld, AddsTimes}
+use Rattle.cube_numbers.specs.Bag.{Bag, SameHeld, AddsTimes}
 use Rattle.cube_counts.specs.Values.{bag_left}
-use Rattle.cube_counts.proofs.BagLaws.{size_of_same}
+use Rattle.cube_numbers.proofs.BagLaws.{size_of_same}
 use Rattle.cube_counts.proofs.GrownLaws.{AddsTimes-of_copy}
 use Rattle.cube_counts.proofs.counted.add_to_narrow.Goals as goal
 

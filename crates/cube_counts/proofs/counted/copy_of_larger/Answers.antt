@@ -1,6 +1,6 @@
 use Rattle.std.proofs.Common.{rules}
 use Rattle.cube_counts.specs.Values.{bag_of}
-use Rattle.cube_counts.proofs.NarrowLaws.{SameHeld-AddsBag_nothing}
+use Rattle.cube_numbers.proofs.NarrowLaws.{SameHeld-AddsBag_nothing}
 use Rattle.cube_counts.proofs.GrownLaws.{SameHeld-from_equal}
 use Rattle.cube_counts.proofs.counted.copy_of_larger.Goals.{
   in-One-Few+in_ok-copy-in-One-Few,

@@ -1,10 +1,10 @@
 use Rattle.std.proofs.Common.{arith, rules, FitsSigned, w64}
 use Rattle.std.proofs.lemmas.Int.{to_z-of_z}
-use Rattle.cube_counts.specs.Bag.{SameHeld}
-use Rattle.cube_counts.specs.Narrow.{once_each}
-use Rattle.cube_counts.proofs.BagLaws.{size_of_same}
+use Rattle.cube_numbers.specs.Bag.{SameHeld}
+use Rattle.cube_numbers.specs.Narrow.{once_each}
+use Rattle.cube_numbers.proofs.BagLaws.{size_of_same}
 use Rattle.cube_counts.proofs.OwedLaws.{held_of-paid, AddsOne-paid}
-use Rattle.cube_counts.proofs.NarrowLaws.{SameHeld-AddsBag_nothing}
+use Rattle.cube_numbers.proofs.NarrowLaws.{SameHeld-AddsBag_nothing}
 use Rattle.cube_counts.proofs.counted.log_without.Goals as goal
 
 pub take-requires-clause-held : goal.take-requires-clause-held

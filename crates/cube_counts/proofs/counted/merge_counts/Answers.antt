@@ -3,7 +3,7 @@ use Rattle.std.specs.Prelude.{All, ℤ}
 use Rattle.std.proofs.lemmas.Int.{to_z-of_z}
 use Rattle.std.proofs.lemmas.List.Elements.{All-tail}
 use Rattle.cube_counts.specs.Values.{bag_of}
-use Rattle.cube_counts.proofs.BagLaws.{IsMerging, IsMerging-more, IsMerging-room, IsMerging-AddsBag}
+use Rattle.cube_numbers.proofs.BagLaws.{IsMerging, IsMerging-more, IsMerging-room, IsMerging-AddsBag}
 use Rattle.cube_counts.proofs.counted.merge_counts.Goals as goal
 
 pub add_value-requires-clause-fits : goal.add_value-requires-clause-fits

@@ -1,7 +1,7 @@
 use Rattle.std.proofs.Common.{◌<◌}
 use Rattle.std.specs.Prelude.{All}
 use Rattle.cube_counts.specs.Values.{bag_of}
-use Rattle.cube_counts.proofs.BagLaws.{IsMerging}
+use Rattle.cube_numbers.proofs.BagLaws.{IsMerging}
 use Rattle.cube_counts.proofs.counted.merge_counts.Given as goal
 
 abbrev pub invariant-loop-value : goal.invariant-loop-value

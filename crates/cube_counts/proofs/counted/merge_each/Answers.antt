@@ -1,8 +1,8 @@
 use Rattle.std.proofs.Common.{arith, rules}
 use Rattle.std.proofs.lemmas.Result.{on_ok_weaker}
-use Rattle.cube_counts.specs.Bag.{SameHeld}
+use Rattle.cube_numbers.specs.Bag.{SameHeld}
 use Rattle.cube_counts.specs.Values.{bag_of}
-use Rattle.cube_counts.proofs.BagLaws.{size_of_same}
+use Rattle.cube_numbers.proofs.BagLaws.{size_of_same}
 use Rattle.cube_counts.proofs.OwedLaws.{AddsBag-SameHeld}
 use Rattle.cube_counts.proofs.counted.merge_each.Goals as goal
 

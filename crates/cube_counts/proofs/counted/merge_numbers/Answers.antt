@@ -1,8 +1,8 @@
 use Rattle.std.proofs.Common.{ℤ, List, pos, get_or, arith, rules}
 use Rattle.std.proofs.lemmas.Int.{to_z-of_z}
-use Rattle.cube_counts.specs.Bag.{AddsTimes}
+use Rattle.cube_numbers.specs.Bag.{AddsTimes}
 use Rattle.cube_counts.specs.Values.{bag_of}
-use Rattle.cube_counts.proofs.NarrowLaws.{IsMerging-room_once, IsMerging-more_once, IsMerging-AddsBag_once}
+use Rattle.cube_numbers.proofs.NarrowLaws.{IsMerging-room_once, IsMerging-more_once, IsMerging-AddsBag_once}
 use Rattle.cube_counts.proofs.counted.merge_numbers.Goals as goal
 
 pub add_value-requires-clause-fits : goal.add_value-requires-clause-fits

@@ -1,7 +1,7 @@
 use Rattle.std.proofs.Common.{drop}
-use Rattle.cube_counts.specs.Narrow.{once_each}
+use Rattle.cube_numbers.specs.Narrow.{once_each}
 use Rattle.cube_counts.specs.Values.{bag_of}
-use Rattle.cube_counts.proofs.BagLaws.{IsMerging}
+use Rattle.cube_numbers.proofs.BagLaws.{IsMerging}
 use Rattle.cube_counts.proofs.counted.merge_numbers.Given as goal
 
 abbrev pub invariant-loop-number : goal.invariant-loop-number

@@ -1,6 +1,6 @@
 use Rattle.std.proofs.Common.{arith, pos}
 use Rattle.cube_counts.specs.Values.{bag_of}
-use Rattle.cube_counts.proofs.BagLaws.{IsMerging-more_at, IsMerging-room_at, IsMerging-AddsBag_past}
+use Rattle.cube_numbers.proofs.BagLaws.{IsMerging-more_at, IsMerging-room_at, IsMerging-AddsBag_past}
 use Rattle.cube_counts.proofs.counted.merge_pairs.Goals as goal
 
 pub merge_pair-requires : goal.merge_pair-requires

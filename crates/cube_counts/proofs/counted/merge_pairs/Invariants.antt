@@ -1,6 +1,6 @@
 use Rattle.std.proofs.Common.{drop}
 use Rattle.cube_counts.specs.Values.{bag_of}
-use Rattle.cube_counts.proofs.BagLaws.{IsMerging}
+use Rattle.cube_numbers.proofs.BagLaws.{IsMerging}
 use Rattle.cube_counts.proofs.counted.merge_pairs.Given as goal
 
 abbrev pub invariant-loop-pair : goal.invariant-loop-pair

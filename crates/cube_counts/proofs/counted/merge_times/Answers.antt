@@ -1,8 +1,8 @@
 use Rattle.std.proofs.Common.{◌≡◌, subst, arith, rules}
 use Rattle.std.proofs.lemmas.Int.{to_z-of_z}
-use Rattle.cube_counts.specs.Bag.{AddsTimes}
+use Rattle.cube_numbers.specs.Bag.{AddsTimes}
 use Rattle.cube_counts.specs.Values.{bag_of}
-use Rattle.cube_counts.proofs.BagLaws.{weight_of-times, AddsTimes-more}
+use Rattle.cube_numbers.proofs.BagLaws.{weight_of-times, AddsTimes-more}
 use Rattle.cube_counts.proofs.counted.merge_times.Goals as goal
 
 pub add_value-requires-clause-fits : goal.add_value-requires-clause-fits

@@ -1,4 +1,4 @@
-use Rattle.cube_counts.specs.Bag.{AddsTimes}
+use Rattle.cube_numbers.specs.Bag.{AddsTimes}
 use Rattle.cube_counts.specs.Values.{bag_of}
 use Rattle.cube_counts.proofs.counted.merge_times.Given as goal
 

@@ -1,7 +1,7 @@
 use Rattle.std.proofs.Common.{arith, rules}
 use Rattle.std.proofs.lemmas.Result.{IfOk-weaker}
-use Rattle.cube_counts.specs.Bag.{SameHeld}
-use Rattle.cube_counts.proofs.BagLaws.{size_of_same}
+use Rattle.cube_numbers.specs.Bag.{SameHeld}
+use Rattle.cube_numbers.proofs.BagLaws.{size_of_same}
 use Rattle.cube_counts.proofs.OwedLaws.{SameHeld-both}
 use Rattle.cube_counts.proofs.counted.table_of_each.Goals as goal
 

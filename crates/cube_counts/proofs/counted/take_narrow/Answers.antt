@@ -1,7 +1,7 @@
 use Rattle.std.proofs.Common.{ℤ, List, ◌≤◌, ◌<◌, length, arith}
-use Rattle.cube_counts.specs.Bag.{held_of}
-use Rattle.cube_counts.specs.Narrow.{once_each}
-use Rattle.cube_counts.proofs.NarrowLaws.{takes_last, size_of-once_each}
+use Rattle.cube_numbers.specs.Bag.{held_of}
+use Rattle.cube_numbers.specs.Narrow.{once_each}
+use Rattle.cube_numbers.proofs.NarrowLaws.{takes_last, size_of-once_each}
 use Rattle.cube_counts.proofs.counted.take_narrow.Goals as goal
 
 pub returns-then-count-le1-clause-other : goal.returns-then-count-le1-clause-other

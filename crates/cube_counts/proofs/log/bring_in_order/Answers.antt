@@ -1,5 +1,5 @@
 use Rattle.std.proofs.Common.{arith}
-use Rattle.cube_counts.proofs.BagLaws.{size_of_same}
+use Rattle.cube_numbers.proofs.BagLaws.{size_of_same}
 use Rattle.cube_counts.proofs.log.bring_in_order.Goals as goal
 
 pub join_counts-requires-clause-fits : goal.join_counts-requires-clause-fits

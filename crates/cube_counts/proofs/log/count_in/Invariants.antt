@@ -1,5 +1,5 @@
 use Rattle.std.proofs.Common.{◌≡◌, ◌≤◌, ◌+◌, drop}
-use Rattle.cube_counts.specs.Log.{times_in}
+use Rattle.cube_numbers.specs.Narrow.{times_in}
 use Rattle.cube_counts.proofs.log.count_in.Given as goal
 
 abbrev pub invariant-loop-number : goal.invariant-loop-number

@@ -4,8 +4,8 @@ use Rattle.std.specs.Ordering.{int_eq}
 use Rattle.std.proofs.lemmas.Bool.{false_from_ne_true}
 use Rattle.std.proofs.lemmas.Int.{to_z-of_z}
 use Rattle.std.proofs.lemmas.List.{drop_all}
-use Rattle.cube_counts.specs.Bag.{Bag, one_at, held_of}
-use Rattle.cube_counts.proofs.BagLaws.{weight_of-drop_more, int_eq-same, one_at-refl, one_at-distinct}
+use Rattle.cube_numbers.specs.Bag.{Bag, one_at, held_of}
+use Rattle.cube_numbers.proofs.BagLaws.{weight_of-drop_more, int_eq-same, one_at-refl, one_at-distinct}
 use Rattle.cube_counts.proofs.log.counts_more.Goals.{then-pair-value+else-pair-left, else-pair-value}
 use Rattle.cube_counts.proofs.log.counts_more.Goals as goal
 

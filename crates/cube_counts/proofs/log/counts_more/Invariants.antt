@@ -1,5 +1,5 @@
 use Rattle.std.proofs.Common.{◌≡◌, ◌+◌, drop}
-use Rattle.cube_counts.specs.Bag.{held_of}
+use Rattle.cube_numbers.specs.Bag.{held_of}
 use Rattle.cube_counts.proofs.log.counts_more.Given as goal
 
 abbrev pub invariant-loop-pair : goal.invariant-loop-pair

@@ -1,6 +1,6 @@
 use Rattle.std.proofs.Common.{rules, FitsSigned, w64}
 use Rattle.std.proofs.lemmas.Int.{to_z-of_z}
-use Rattle.cube_counts.proofs.LogLaws.{HasEnds-keys_of}
+use Rattle.cube_numbers.proofs.EndLaws.{HasEnds-keys_of}
 use Rattle.cube_counts.proofs.log.ends_of.Goals as goal
 
 pub returns-in-Some-Some-clause-some : goal.returns-in-Some-Some-clause-some

@@ -1,5 +1,5 @@
 use Rattle.std.proofs.Common.{◌≡◌, length}
-use Rattle.cube_counts.specs.Bag.{SameHeld}
+use Rattle.cube_numbers.specs.Bag.{SameHeld}
 use Rattle.cube_counts.specs.Log.{Rises, IsJoined}
 use Rattle.cube_counts.proofs.log.join_counts.Given as goal
 

@@ -1,6 +1,6 @@
 use Rattle.std.proofs.Common.{ℤ, List, ◌≡◌, ◌++◌, ◌∷◌, ◌∙◌, [], pos, get_or, rules}
 use Rattle.std.proofs.lemmas.Int.{to_z-of_z}
-use Rattle.cube_counts.proofs.NarrowLaws.{once_each-more, once_each-all}
+use Rattle.cube_numbers.proofs.NarrowLaws.{once_each-more, once_each-all}
 use Rattle.cube_counts.proofs.log.pairs_of.Goals as goal
 
 pub loop-number-preserved : goal.loop-number-preserved

@@ -1,5 +1,5 @@
-use Rattle.cube_counts.specs.Log.{HasEnds}
-use Rattle.cube_counts.proofs.OwedLaws.{HasEnds-SameHeld}
+use Rattle.cube_numbers.specs.Bag.{HasEnds}
+use Rattle.cube_numbers.proofs.EndLaws.{HasEnds-SameHeld}
 use Rattle.cube_counts.proofs.log.reopened.Goals as goal
 
 pub returns-clause-ends : goal.returns-clause-ends

@@ -1,5 +1,5 @@
 use Rattle.std.proofs.Common.{◌≡◌, ◌+◌, drop}
-use Rattle.cube_counts.specs.Bag.{size_of}
+use Rattle.cube_numbers.specs.Bag.{size_of}
 use Rattle.cube_counts.proofs.log.total_of.Given as goal
 
 abbrev pub invariant-loop-pair : goal.invariant-loop-pair

@@ -1,7 +1,7 @@
 use Rattle.std.proofs.Common.{ℤ, ℕ, ◌≡◌, false, rules, tests}
 use Rattle.std.specs.Ordering.{int_eq}
 use Rattle.std.proofs.lemmas.Iterator.{YieldsList-from_slice, IsFirst-from_position}
-use Rattle.cube_counts.proofs.PlaceLaws.{IsFirst, IsFirst-absent, IsFirst-within, IsFirst-found}
+use Rattle.cube_numbers.proofs.PlaceLaws.{IsFirst, IsFirst-absent, IsFirst-within, IsFirst-found}
 use Rattle.cube_counts.proofs.short.place_of.Goals as goal
 
 pub returns : goal.returns

@@ -1,6 +1,6 @@
 use Rattle.std.proofs.Common.{arith, ap}
-use Rattle.cube_counts.specs.Bag.{size_of}
-use Rattle.cube_counts.proofs.BagLaws.{held_le_size}
+use Rattle.cube_numbers.specs.Bag.{size_of}
+use Rattle.cube_numbers.proofs.BagLaws.{held_le_size}
 use Rattle.cube_counts.proofs.counted.Counted.len.Goals as goal
 
 pub returns-clause-held : goal.returns-clause-held

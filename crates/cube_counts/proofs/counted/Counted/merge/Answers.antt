@@ -1,7 +1,7 @@
 use Rattle.std.proofs.Common.{arith, rules}
-use Rattle.cube_counts.specs.Bag.{AddsBag}
+use Rattle.cube_numbers.specs.Bag.{AddsBag}
 use Rattle.cube_counts.specs.Values.{bag_of}
-use Rattle.cube_counts.proofs.BagLaws.{size_of-bag}
+use Rattle.cube_numbers.proofs.BagLaws.{size_of-bag}
 use Rattle.cube_counts.proofs.counted.Counted.merge.Goals as goal
 
 pub invariant_of-self-2 : goal.invariant_of-self-2

@@ -1,5 +1,5 @@
 use Rattle.std.proofs.Common.{arith, rules, ◌≡◌}
-use Rattle.cube_counts.specs.Bag.{held_of}
+use Rattle.cube_numbers.specs.Bag.{held_of}
 use Rattle.cube_counts.specs.Values.{bag_of}
 use Rattle.cube_counts.proofs.counted.Counted.remove.Goals as goal
 

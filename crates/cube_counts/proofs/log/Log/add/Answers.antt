@@ -1,9 +1,9 @@
 use Rattle.std.proofs.Common.{ℤ, List, ◌≡◌, ◌+◌, ◌^◌, ◌<◌, ◌++◌, ◌∷◌, [], Some, arith, rules, FitsSigned, w64}
 use Rattle.std.proofs.lemmas.Int.{to_z-of_z}
-use Rattle.cube_counts.specs.Bag.{Bag}
-use Rattle.cube_counts.specs.Log.{HasEnds, Owes, without}
-use Rattle.cube_counts.proofs.BagLaws.{weight_of-cons}
-use Rattle.cube_counts.proofs.LogLaws.{HasEnds-pair, HasEnds-AddsBag}
+use Rattle.cube_numbers.specs.Bag.{Bag, HasEnds}
+use Rattle.cube_counts.specs.Log.{Owes, without}
+use Rattle.cube_numbers.proofs.BagLaws.{weight_of-cons}
+use Rattle.cube_numbers.proofs.EndLaws.{HasEnds-pair, HasEnds-AddsBag}
 use Rattle.cube_counts.proofs.OwedLaws.{Owes-append, AddsBag-without, AddsTimes-AddsBag_pair}
 use Rattle.cube_counts.proofs.log.Log.add.Goals as goal
 

@@ -1,7 +1,7 @@
 use Rattle.std.proofs.Common.{ℤ, List, ◌≡◌, ◌+◌, ◌^◌, ◌<◌, ◌++◌, Some, rules}
-use Rattle.cube_counts.specs.Bag.{Bag}
-use Rattle.cube_counts.specs.Log.{HasEnds, Owes, without}
-use Rattle.cube_counts.proofs.LogLaws.{HasEnds-AddsBag}
+use Rattle.cube_numbers.specs.Bag.{Bag, HasEnds}
+use Rattle.cube_counts.specs.Log.{Owes, without}
+use Rattle.cube_numbers.proofs.EndLaws.{HasEnds-AddsBag}
 use Rattle.cube_counts.proofs.OwedLaws.{Owes-append, AddsBag-without}
 use Rattle.cube_counts.proofs.log.Log.append_pairs.Goals as goal
 

@@ -1,6 +1,7 @@
 use Rattle.std.proofs.Common.{rules}
-use Rattle.cube_counts.specs.Log.{HasEnds, without}
-use Rattle.cube_counts.proofs.LogLaws.{held_of-size_of}
+use Rattle.cube_numbers.specs.Bag.{HasEnds}
+use Rattle.cube_counts.specs.Log.{without}
+use Rattle.cube_numbers.proofs.EndLaws.{held_of-size_of}
 use Rattle.cube_counts.proofs.log.Log.greatest.Goals as goal
 
 pub returns-in-Some-clause-none : goal.returns-in-Some-clause-none

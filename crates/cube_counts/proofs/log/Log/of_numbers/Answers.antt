@@ -1,7 +1,7 @@
 use Rattle.std.proofs.Common.{◌≡◌, ◌++◌, ◌<◌, rules}
 use Rattle.std.proofs.lemmas.List.Elements.{All-append}
-use Rattle.cube_counts.specs.Narrow.{once_each}
-use Rattle.cube_counts.proofs.NarrowLaws.{some_once_each}
+use Rattle.cube_numbers.specs.Narrow.{once_each}
+use Rattle.cube_numbers.proofs.NarrowLaws.{some_once_each}
 use Rattle.cube_counts.proofs.log.Log.of_numbers.Goals as goal
 
 pub of_pairs-requires : goal.of_pairs-requires

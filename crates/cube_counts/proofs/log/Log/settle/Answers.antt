@@ -1,6 +1,6 @@
 use Rattle.std.proofs.Common.{ℤ, List, [], ◌∙◌, refl, rules, FitsSigned, w64}
 use Rattle.std.proofs.lemmas.Int.{to_z-of_z}
-use Rattle.cube_counts.specs.Bag.{Bag, SameHeld, AddsOne}
+use Rattle.cube_numbers.specs.Bag.{Bag, SameHeld, AddsOne}
 use Rattle.cube_counts.specs.Log.{without}
 use Rattle.cube_counts.proofs.OwedLaws.{Owes-nothing, size_of-settled, AddsOne-SameHeld_new, IfNone-IsSettled}
 use Rattle.cube_counts.proofs.OwedLaws.{written_back}

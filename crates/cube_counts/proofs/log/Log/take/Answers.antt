@@ -1,9 +1,9 @@
 use Rattle.std.proofs.Common.{ℤ, List, [], ◌∷◌, ◌++◌, ◌≡◌, ◌<◌, ◌∙◌, None, refl, arith, rules, FitsSigned, w64}
 use Rattle.std.specs.Prelude.{IsSome, ◌<ℤ◌}
 use Rattle.std.proofs.lemmas.Int.{to_z-of_z}
-use Rattle.cube_counts.specs.Bag.{Bag, AddsOne, held_of}
-use Rattle.cube_counts.specs.Log.{HasEnds, IsSettled, without}
-use Rattle.cube_counts.proofs.BagLaws.{size_of_one}
+use Rattle.cube_numbers.specs.Bag.{Bag, AddsOne, held_of, HasEnds}
+use Rattle.cube_counts.specs.Log.{IsSettled, without}
+use Rattle.cube_numbers.proofs.BagLaws.{size_of_one}
 use Rattle.cube_counts.proofs.OwedLaws.{AddsOne-owed, HasEnds-taken, Owes-owed, Owes-nothing, written_back}
 use Rattle.cube_counts.proofs.log.Log.take.Goals as goal
 

@@ -2,8 +2,8 @@ use Rattle.std.proofs.Common.{ℤ, ℕ, ◌≡◌, ◌+◌, ◌<◌, ◌++◌, �
 use Rattle.std.specs.List.{HoldsAt}
 use Rattle.std.proofs.lemmas.Int.{to_z-of_z}
 use Rattle.std.proofs.lemmas.List.Elements.{All-set, All-push}
-use Rattle.cube_counts.specs.Bag.{Bag, size_of}
-use Rattle.cube_counts.proofs.BagLaws.{adds_at, adds_pair, count_at}
+use Rattle.cube_numbers.specs.Bag.{Bag, size_of}
+use Rattle.cube_numbers.proofs.BagLaws.{adds_at, adds_pair, count_at}
 use Rattle.cube_counts.proofs.short.Short.add.Goals as goal
 
 pub returns-in-Some-clause-added : goal.returns-in-Some-clause-added

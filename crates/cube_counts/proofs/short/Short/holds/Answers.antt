@@ -2,7 +2,7 @@ use Rattle.std.proofs.Common.{◌≡◌, ◌<◌, All, length, rules, false}
 use Rattle.std.specs.Prelude.{IfSome, IfNone}
 use Rattle.std.specs.List.{HoldsAt}
 use Rattle.std.specs.Ordering.{int_eq}
-use Rattle.cube_counts.proofs.BagLaws.{held_by_place, absent_by_place}
+use Rattle.cube_numbers.proofs.BagLaws.{held_by_place, absent_by_place}
 use Rattle.cube_counts.proofs.short.Short.holds.Goals as goal
 
 pub returns-clause-held : goal.returns-clause-held

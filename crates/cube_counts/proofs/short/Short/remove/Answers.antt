@@ -2,9 +2,9 @@ use Rattle.std.proofs.Common.{ℤ, ℕ, ◌≡◌, ◌<◌, ◌-◌, ◌∙◌, 
 use Rattle.std.specs.List.{HoldsAt}
 use Rattle.std.specs.Ordering.{int_eq}
 use Rattle.std.proofs.lemmas.List.Elements.{All-set}
-use Rattle.cube_counts.specs.Bag.{Bag}
-use Rattle.cube_counts.proofs.BagLaws.{held_of-absent, takes_at, takes_pair}
-use Rattle.cube_counts.proofs.PlaceLaws.{read_twice}
+use Rattle.cube_numbers.specs.Bag.{Bag}
+use Rattle.cube_numbers.proofs.BagLaws.{held_of-absent, takes_at, takes_pair}
+use Rattle.cube_numbers.proofs.PlaceLaws.{read_twice}
 use Rattle.cube_counts.proofs.short.Short.remove.Goals as goal
 
 pub returns-in_default-clause-absent : goal.returns-in_default-clause-absent

@@ -2,7 +2,7 @@ use Rattle.std.proofs.Common.{◌≡◌, ◌+◌, arith, rules, Some}
 use Rattle.std.specs.Map.{lookup, set_value}
 use Rattle.std.specs.Ordering.{int_eq}
 use Rattle.std.proofs.lemmas.Int.{to_z-of_z}
-use Rattle.cube_counts.proofs.BagLaws.{adds_found, adds_entry, some_set}
+use Rattle.cube_numbers.proofs.BagLaws.{adds_found, adds_entry, some_set}
 use Rattle.cube_counts.proofs.table.Table.add.Goals as goal
 
 pub returns-in-Some-clause-added : goal.returns-in-Some-clause-added

@@ -1,7 +1,7 @@
 use Rattle.std.proofs.Common.{ℤ, List, pos, get_or, arith, rules}
 use Rattle.std.proofs.lemmas.Int.{to_z-of_z}
-use Rattle.cube_counts.specs.Bag.{AddsTimes}
-use Rattle.cube_counts.proofs.NarrowLaws.{IsSplit-room_once, IsSplit-more_once, IsSplit-SameHeld_once}
+use Rattle.cube_numbers.specs.Bag.{AddsTimes}
+use Rattle.cube_numbers.proofs.NarrowLaws.{IsSplit-room_once, IsSplit-more_once, IsSplit-SameHeld_once}
 use Rattle.cube_counts.proofs.table.Table.of_numbers.Goals as goal
 
 pub add-requires-clause-fits : goal.add-requires-clause-fits

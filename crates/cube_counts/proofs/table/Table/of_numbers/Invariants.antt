@@ -1,5 +1,5 @@
-use Rattle.cube_counts.specs.Narrow.{once_each}
-use Rattle.cube_counts.proofs.BagLaws.{IsSplit}
+use Rattle.cube_numbers.specs.Narrow.{once_each}
+use Rattle.cube_numbers.proofs.BagLaws.{IsSplit}
 use Rattle.cube_counts.proofs.table.Table.of_numbers.Given as goal
 
 abbrev pub invariant-loop-number : goal.invariant-loop-number

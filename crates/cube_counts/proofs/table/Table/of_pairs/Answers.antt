@@ -1,5 +1,5 @@
 use Rattle.std.proofs.Common.{arith, pos}
-use Rattle.cube_counts.proofs.BagLaws.{IsSplit-room, IsSplit-more, IsSplit-SameHeld}
+use Rattle.cube_numbers.proofs.BagLaws.{IsSplit-room, IsSplit-more, IsSplit-SameHeld}
 use Rattle.cube_counts.proofs.table.Table.of_pairs.Goals as goal
 
 pub add_pair-requires : goal.add_pair-requires

@@ -1,4 +1,4 @@
-use Rattle.cube_counts.proofs.BagLaws.{IsSplit}
+use Rattle.cube_numbers.proofs.BagLaws.{IsSplit}
 use Rattle.cube_counts.proofs.table.Table.of_pairs.Given as goal
 
 abbrev pub invariant-loop-pair : goal.invariant-loop-pair

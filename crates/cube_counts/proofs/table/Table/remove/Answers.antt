@@ -3,7 +3,7 @@ use Rattle.std.specs.List.Sorted.{IsPermutation}
 use Rattle.std.specs.Map.{lookup, remove_entry}
 use Rattle.std.specs.Ordering.{int_eq}
 use Rattle.std.proofs.lemmas.Int.{to_z-of_z}
-use Rattle.cube_counts.proofs.BagLaws.{held_of_none, some_left, takes_entry}
+use Rattle.cube_numbers.proofs.BagLaws.{held_of_none, some_left, takes_entry}
 use Rattle.cube_counts.proofs.table.Table.remove.Goals as goal
 
 pub returns-in_default-clause-absent : goal.returns-in_default-clause-absent

@@ -1,0 +1,5 @@
+pub mod BagLaws
+pub mod EndLaws
+pub mod NarrowLaws
+pub mod PlaceLaws
+mod SummaryLaws

@@ -1,0 +1,3 @@
+pub mod Bag
+pub mod Narrow
+pub mod Summary
