@@ -10,7 +10,7 @@ use Rattle.cube_core.specs.Items.{RestOfFeed, FeedEnd, Good, WrongHeader, TooMan
 use Rattle.cube_core.specs.Run.{IsGood, AreItemsOf}
 use Rattle.cube_core.specs.declared.change.Item.{Item}
 use Rattle.cube_feed.specs.Faults.{IsEndOf, IsFaultOf}
-use Rattle.cube_feed.specs.Feed.{KnownRest, FeedView, Gives, fault_of, nothing_but, to_come}
+use Rattle.cube_feed.specs.Feed.{KnownRest, FeedView, Gives, fault_of, nothing_but, with_fault}
 use Rattle.cube_feed.specs.declared.fault.FeedFault.{FeedFault}
 use Rattle.cube_feed.specs.declared.fault.FeedFault.TheVariants.{Memory, Read, Header, TooMany}
 use Rattle.cube_feed.proofs.TurnLaws.{from_source}
@@ -19,7 +19,7 @@ use Rattle.cube_engine.specs.Ledger.{LedgerView, AtSource, Enters, LedgerStandsA
 
 -- what is to come of a feed at its start, where its bytes are told
 abbrev pub start_of : Layout → Option (List ℕ) → KnownRest
-start_of s bytes = option_map (λ (known : List ℕ). to_come (items_of s (records_of known))) bytes
+start_of s bytes = option_map (λ (known : List ℕ). with_fault (items_of s (records_of known))) bytes
 
 -- what was to come at the start are the items done, and then what is to come now
 abbrev pub LeftOf : KnownRest → List Item → KnownRest → Type 0

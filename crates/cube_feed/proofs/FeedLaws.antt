@@ -6,7 +6,7 @@ use Rattle.cube_core.specs.Layout.{Layout}
 use Rattle.cube_core.specs.Items.{RestOfFeed, item_then, change_of, is_read, items_after}
 use Rattle.cube_core.specs.declared.change.Item.{Item}
 use Rattle.cube_feed.specs.Reading.{RecordsView, Advances, IsReadingFault}
-use Rattle.cube_feed.specs.Feed.{KnownRest, Left, Gives, to_come, after_header}
+use Rattle.cube_feed.specs.Feed.{KnownRest, Left, Gives, after_header, with_fault}
 use Rattle.cube_feed.specs.declared.fault.FeedFault.{FeedFault}
 use Rattle.cube_feed.specs.declared.fault.FeedFault.TheVariants.{Memory, Read, Header, TooMany}
 
@@ -17,22 +17,22 @@ StillComes (Some then) now = now ≡ Some then
 
 pub StillComes-refl : (now : KnownRest) → StillComes now now
 StillComes-refl None = tt
-StillComes-refl (Some coming) = refl
+StillComes-refl (Some ahead) = refl
 
 pub StillComes-Gives : (then now new : KnownRest) (answer : Result (Option Item) FeedFault) → StillComes then now
     → Gives now answer new → Gives then answer new
 StillComes-Gives None now new answer same gives = tt
-StillComes-Gives (Some coming) now new answer same gives = subst
-    (λ (ahead : KnownRest). Gives ahead answer new) same gives
+StillComes-Gives (Some ahead) now new answer same gives = subst
+    (λ (at : KnownRest). Gives at answer new) same gives
 
 -- a record of another shard is passed over
-skip-Some : (s : Layout) (number : ℕ) (coming : RestOfFeed (Option FeedFault)) (old : Left) (new : RecordsView)
+skip-Some : (s : Layout) (number : ℕ) (ahead : RestOfFeed (Option FeedFault)) (old : Left) (new : RecordsView)
     → number < s.max_records
-    → Advances old true new → is_read s new.fields ≡ false → after_header s number old ≡ Some coming
-    → after_header s (number + 1) new.left ≡ Some coming
-skip-Some s number coming None new below advances other is = cc is
-skip-Some s number coming (Some []) new below advances other is = cc advances
-skip-Some s number coming (Some (fields ∷ rest)) new below advances other is =
+    → Advances old true new → is_read s new.fields ≡ false → after_header s number old ≡ Some ahead
+    → after_header s (number + 1) new.left ≡ Some ahead
+skip-Some s number ahead None new below advances other is = cc is
+skip-Some s number ahead (Some []) new below advances other is = cc advances
+skip-Some s number ahead (Some (fields ∷ rest)) new below advances other is =
     let unread : is_read s fields ≡ false = subst (λ (fs : List (List ℕ)). is_read s fs ≡ false) advances.1 other in
     rw advances.2 (rw (lt-ltb number s.max_records below, unread) at is)
 
@@ -41,8 +41,8 @@ pub StillComes-skip : (s : Layout) (number : ℕ) (then : KnownRest) (old : Left
     → Advances old true new → is_read s new.fields ≡ false → StillComes then (after_header s number old)
     → StillComes then (after_header s (number + 1) new.left)
 StillComes-skip s number None old new below advances other same = tt
-StillComes-skip s number (Some coming) old new below advances other same =
-    skip-Some s number coming old new below advances other same
+StillComes-skip s number (Some ahead) old new below advances other same =
+    skip-Some s number ahead old new below advances other same
 
 -- the item of a record of the shard
 pub item-Gives : (s : Layout) (number : ℕ) (old : Left) (new : RecordsView) (item : Item) → number < s.max_records
@@ -53,10 +53,11 @@ item-Gives s number None new item below advances read is says = tt
 item-Gives s number (Some []) new item below advances read is says = cc advances
 item-Gives s number (Some (fields ∷ rest)) new item below advances read is says =
     let known : is_read s fields ≡ true = subst (λ (fs : List (List ℕ)). is_read s fs ≡ true) advances.1 read in
-    (to_come (items_after s (number + 1) rest), first_of known, rw (advances.2, is) refl)
+    (with_fault (items_after s (number + 1) rest), first_of known, rw (advances.2, is) refl)
   where
     first_of : is_read s fields ≡ true
-        → to_come (items_after s number (fields ∷ rest)) ≡ item_then item (to_come (items_after s (number + 1) rest))
+        → with_fault (items_after s number (fields ∷ rest))
+        ≡ item_then item (with_fault (items_after s (number + 1) rest))
     first_of known = rw (lt-ltb number s.max_records below, known, is, says, advances.1) refl
 
 -- no record is left
@@ -77,7 +78,7 @@ too_many-Gives s number (Some (fields ∷ rest)) new ahead full advances = rw fu
 -- a fault of the reader or of memory may come at any time
 pub reading-Gives : (ahead now : KnownRest) (fault : FeedFault) → IsReadingFault fault → Gives ahead (Err fault) now
 reading-Gives None now fault is = tt
-reading-Gives (Some coming) now Memory is = tt
-reading-Gives (Some coming) now Read is = tt
-reading-Gives (Some coming) now Header is = absurd is
-reading-Gives (Some coming) now TooMany is = absurd is
+reading-Gives (Some ahead) now Memory is = tt
+reading-Gives (Some ahead) now Read is = tt
+reading-Gives (Some ahead) now Header is = absurd is
+reading-Gives (Some ahead) now TooMany is = absurd is

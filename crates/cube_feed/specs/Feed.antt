@@ -28,9 +28,9 @@ fault_of Good = None
 fault_of WrongHeader = Some Header
 fault_of TooManyRecords = Some TooMany
 
--- what records give is what is to come of them
-abbrev pub to_come : RestOfFeed FeedEnd → RestOfFeed (Option FeedFault)
-to_come coming = record { items = coming.items; end = fault_of coming.end }
+-- the rest of a feed, where its end is told as a fault
+abbrev pub with_fault : RestOfFeed FeedEnd → RestOfFeed (Option FeedFault)
+with_fault rest = record { items = rest.items; end = fault_of rest.end }
 
 -- nothing is to come but this end
 abbrev pub nothing_but : Option FeedFault → RestOfFeed (Option FeedFault)
@@ -38,15 +38,15 @@ nothing_but end = record { items = []; end = end }
 
 -- what is to come of a feed of these bytes, where its reader tells them
 abbrev pub rest_of_feed : Layout → Option (List ℕ) → KnownRest
-rest_of_feed schema bytes = option_map (λ (known : List ℕ). to_come (items_of schema (records_of known))) bytes
+rest_of_feed schema bytes = option_map (λ (known : List ℕ). with_fault (items_of schema (records_of known))) bytes
 
 -- what is to come before the header was read, and after it
 abbrev pub before_header : Layout → Left → KnownRest
-before_header schema left = option_map (λ (records : List (List (List ℕ))). to_come (items_of schema records)) left
+before_header schema left = option_map (λ (records : List (List (List ℕ))). with_fault (items_of schema records)) left
 
 abbrev pub after_header : Layout → ℕ → Left → KnownRest
 after_header schema number left =
-    option_map (λ (records : List (List (List ℕ))). to_come (items_after schema number records)) left
+    option_map (λ (records : List (List (List ℕ))). with_fault (items_after schema number records)) left
 
 -- what a caller sees of a feed:
 -- its schema, the number of its last item, its end once it has come there, and what is to come,

@@ -1,9 +1,9 @@
 //! A feed: the items that its bytes say, one after the other.
 ghost use Rattle.std.specs.Prelude.{◌≡◌, ◌≤◌, ◌+◌, None, Some, IfOk, IfErr, IfSome, IfNone, option_map};
 ghost use Rattle.cube_core.specs.Records.{records_of};
-ghost use Rattle.cube_core.specs.Items.{change_of, is_read, items_of};
+ghost use Rattle.cube_core.specs.Items.{change_of, items_of};
 ghost use Rattle.cube_feed.specs.Reading.{IsReadingFault};
-ghost use Rattle.cube_feed.specs.Feed.{HasEnded, Gives, IsNumbered, IsTaken, Numbers, TakesHeader, IsFeed, after_header, ended_of, end_answer, number_after, to_come, to_come_of};
+ghost use Rattle.cube_feed.specs.Feed.{HasEnded, Gives, IsNumbered, IsTaken, Numbers, TakesHeader, IsFeed, after_header, ended_of, end_answer, number_after, to_come_of, with_fault};
 
 use crate::fault::FeedFault;
 use crate::record_reader::RecordReader;
@@ -63,13 +63,6 @@ fn take_header<R: Read>(schema: &Schema, records: &mut RecordReader<R>) -> Resul
     }
 }
 
-// Whether the record that was taken last is in the schema's shard.
-fn is_last_read<R: Read>(schema: &Schema, records: &RecordReader<R>) -> bool
-    ensures { result ≡ is_read schema.now records.now.fields }
-{
-    is_read(schema, records.fields())
-}
-
 // The item of the record that was taken last, which has this number.
 fn item_of<R: Read>(
     alloc: Global,
@@ -104,7 +97,7 @@ fn take_item<R: Read>(
         if !records.advance()? {
             return Ok(None);
         }
-        if is_last_read(schema, records) {
+        if is_read(schema, records.fields()) {
             return Ok(Some(item_of(alloc, schema, records, before + 1)?));
         }
     }
@@ -145,7 +138,7 @@ impl<'s, R: Read> Feed<'s, R> {
         ensures schema { result.schema ≡ schema.now }
         ensures number { result.number ≡ 0 }
         ensures open { result.ended ≡ None }
-        ensures to_come { result.to_come ≡ option_map (λ bytes. to_come (items_of schema.now (records_of bytes))) (R.remaining reader) }
+        ensures to_come { result.to_come ≡ option_map (λ bytes. with_fault (items_of schema.now (records_of bytes))) (R.remaining reader) }
     {
         Feed {
             alloc,

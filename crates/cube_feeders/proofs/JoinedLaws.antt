@@ -49,12 +49,12 @@ ready-linked {B} all stands sources builders outs gatherers linked count most sa
     }
 
 -- the end of each feeder, by what was to come of its feed and by its outlets
-pub record EndsOf (comings : List KnownRest) (outs : List (List (Sending Parcel)))
+pub record EndsOf (rests : List KnownRest) (outs : List (List (Sending Parcel)))
     (ends : List FeederEnd) : Type 0 where
   pub same_outs : length outs ≡ length ends
-  pub same_comings : length comings ≡ length ends
+  pub same_rests : length rests ≡ length ends
   pub each : (k : ℕ) (e : FeederEnd) → k < length ends
-      → Feeds (get_or comings k None) (get_or outs k []) (get_or ends k e)
+      → Feeds (get_or rests k None) (get_or outs k []) (get_or ends k e)
 
 pub ends-joined : {P : Type 0} (feed : P → KnownRest) (outs : P → List (Sending Parcel)) (feeders : List P)
     (ends : List FeederEnd) →
@@ -64,7 +64,7 @@ ends-joined feed outs feeders ends joined =
     let same = AllZip-length (λ feeder end. Feeds (feed feeder) (outs feeder) end) feeders ends joined in
     record {
       same_outs = length-map feeders outs ∙ same;
-      same_comings = length-map feeders feed ∙ same;
+      same_rests = length-map feeders feed ∙ same;
       each = λ k e below.
           let low : k < length feeders = omega arith in
           let f = some_of feeders k low in
@@ -103,17 +103,17 @@ length-gathered old new same = sym (length-map new (λ (inlet : Receiving Parcel
 
 -- what ends tell after the joins
 pub tell-joined : {B : Type 0} (stands : B → B → Arrivals → Type 0) (s : Layout) (sources : SourceBytes)
-    (comings : List KnownRest)
+    (rests : List KnownRest)
     (outs : List (List (Sending Parcel))) (ends : List FeederEnd) (old mid : List (Gatherer B)) →
-    AreLinked outs old → comings ≡ map (rest_of_feed s) sources → EndsOf comings outs ends
+    AreLinked outs old → rests ≡ map (rest_of_feed s) sources → EndsOf rests outs ends
     → AllZip (HasGathered stands) old mid → AllTell s sources (map received_by mid) ends
-tell-joined stands s sources comings outs ends old mid linked come joined gathered =
+tell-joined stands s sources rests outs ends old mid linked come joined gathered =
     let count = AllZip-length (HasGathered stands) old mid gathered in
     let outs_too = joined.same_outs in
-    let comings_too = joined.same_comings in
+    let rests_too = joined.same_rests in
     let rows = map received_by mid in
     let number : length rows ≡ length mid = length-map mid received_by in
-    let told : length comings ≡ length sources = ap length come ∙ length-map sources (rest_of_feed s) in
+    let told : length rests ≡ length sources = ap length come ∙ length-map sources (rest_of_feed s) in
     record {
       all = omega arith;
       links = λ j inside.
@@ -159,12 +159,12 @@ tell-joined stands s sources comings outs ends old mid linked come joined gather
     }
 
 -- what ends tell of the feeds alone
-pub tell-ends : (s : Layout) (sources : SourceBytes) (comings : List KnownRest) (outs : List (List (Sending Parcel)))
-    (ends : List FeederEnd) → comings ≡ map (rest_of_feed s) sources → EndsOf comings outs ends
+pub tell-ends : (s : Layout) (sources : SourceBytes) (rests : List KnownRest) (outs : List (List (Sending Parcel)))
+    (ends : List FeederEnd) → rests ≡ map (rest_of_feed s) sources → EndsOf rests outs ends
     → AllTell s sources [] ends
-tell-ends s sources comings outs ends come joined =
-    let too = joined.same_comings in
-    let told : length comings ≡ length sources = ap length come ∙ length-map sources (rest_of_feed s) in
+tell-ends s sources rests outs ends come joined =
+    let too = joined.same_rests in
+    let told : length rests ≡ length sources = ap length come ∙ length-map sources (rest_of_feed s) in
     record {
       all = omega arith;
       links = λ j inside. absurd (omega arith);

@@ -96,9 +96,9 @@ abbrev pub Names : List Item → Sending Parcel → Sending Parcel → Type 0
 Names items received receipt = (receipt.link ≡ received.link) × (receipt.sent ≡ parcels_of items)
 
 -- an end has items, of which its stop tells, and whose parcels each of its receipts names
-pub record Tells (coming : KnownRest) (received : List (List (Sending Parcel))) (k : ℕ) (end : FeederEnd) : Type 0 where
+pub record Tells (rest : KnownRest) (received : List (List (Sending Parcel))) (k : ℕ) (end : FeederEnd) : Type 0 where
   pub items : List Item
-  pub stops : Stops coming items end.stop
+  pub stops : Stops rest items end.stop
   pub names : (j : ℕ) (d : Sending Parcel) → j < length received
       → IfSome (receipt_of end j) (Names items (get_or (get_or received j []) k d))
 

@@ -12,11 +12,11 @@ use Rattle.cube_feeders.specs.declared.parcel.FeederEnd.{FeederEnd}
 
 -- these are all the items to come, and that is how they end
 abbrev pub AreAll : RestOfFeed (Option FeedFault) → List Item → Option FeedFault → Type 0
-AreAll coming items end = coming ≡ record { items = items; end = end }
+AreAll rest items end = rest ≡ record { items = items; end = end }
 
 -- these are the first of the items to come
 abbrev pub AreFirst : RestOfFeed (Option FeedFault) → List Item → Type 0
-AreFirst coming items = (rest : List Item) × (coming.items ≡ items ++ rest)
+AreFirst rest items = (more : List Item) × (rest.items ≡ items ++ more)
 
 -- what a feeder's stop says of the items that it sent, where the reader tells its bytes:
 -- without one, or by a fault of the feed's
@@ -24,16 +24,16 @@ AreFirst coming items = (rest : List Item) × (coming.items ≡ items ++ rest)
 -- by want of memory or a fault of the reader they are the first of them
 abbrev pub Stops : KnownRest → List Item → Option FeedFault → Type 0
 Stops None items stop = ⊤
-Stops (Some coming) items None = AreAll coming items None
-Stops (Some coming) items (Some Memory) = AreFirst coming items
-Stops (Some coming) items (Some Read) = AreFirst coming items
-Stops (Some coming) items (Some Header) = AreAll coming items (Some Header)
-Stops (Some coming) items (Some TooMany) = AreAll coming items (Some TooMany)
+Stops (Some rest) items None = AreAll rest items None
+Stops (Some rest) items (Some Memory) = AreFirst rest items
+Stops (Some rest) items (Some Read) = AreFirst rest items
+Stops (Some rest) items (Some Header) = AreAll rest items (Some Header)
+Stops (Some rest) items (Some TooMany) = AreAll rest items (Some TooMany)
 
 -- the items that came of a feed until it stopped were sent on each link, and then the end
-pub record SendsAll (coming : KnownRest) (old new : List (Sending Parcel)) (stop : Option FeedFault) : Type 0 where
+pub record SendsAll (rest : KnownRest) (old new : List (Sending Parcel)) (stop : Option FeedFault) : Type 0 where
   pub items : List Item
-  pub stops : Stops coming items stop
+  pub stops : Stops rest items stop
   pub sent : new ≡ map (sends (parcels_of items)) old
 
 -- the receipt of an outlet's link, which names all that was sent on it
@@ -49,7 +49,7 @@ pub record AreReceipts (outlets : List (Sending Parcel)) (receipts : List (Optio
 -- what a feeder leaves: some items, of which its stop tells, and for each link the receipt,
 -- where one was given, which names what was
 -- sent before and then the parcels of these items
-pub record Feeds (coming : KnownRest) (outlets : List (Sending Parcel)) (end : FeederEnd) : Type 0 where
+pub record Feeds (rest : KnownRest) (outlets : List (Sending Parcel)) (end : FeederEnd) : Type 0 where
   pub items : List Item
-  pub stops : Stops coming items end.stop
+  pub stops : Stops rest items end.stop
   pub sealed : AreReceipts (map (sends (parcels_of items)) outlets) end.receipts

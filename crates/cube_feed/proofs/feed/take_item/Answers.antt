@@ -1,4 +1,4 @@
-use Rattle.std.proofs.Common.{◌≡◌, ◌<◌, ◌+◌, arith, false, refl, rules, Some, None, Ok, Err}
+use Rattle.std.proofs.Common.{◌≡◌, ◌<◌, arith, false, refl, rules, Some, None, Ok, Err}
 use Rattle.std.specs.Prelude.{nat_lt}
 use Rattle.cube_core.proofs.ItemLaws.{takes-change_of}
 use Rattle.cube_feed.specs.Feed.{after_header}
@@ -20,8 +20,8 @@ returns-then-not-branch-clause-gives g c =
     (none-Gives s c.loop-before.before left c.advance.new.self new
     (rw c.if-not-branch.true at c.in_ok-advance.ensures.takes))
 
-pub returns-then-is_last_read-clause-gives : goal.returns-then-is_last_read-clause-gives
-returns-then-is_last_read-clause-gives g c =
+pub returns-then-is_read-clause-gives : goal.returns-then-is_read-clause-gives
+returns-then-is_read-clause-gives g c =
     let s = c.args.schema.now in
     let before = c.loop-before.before in
     let left = c.loop-before.records.left in
@@ -33,8 +33,8 @@ returns-then-is_last_read-clause-gives g c =
     (rw c.if-not-branch.false at c.in_ok-advance.ensures.takes) (search rules)
     c.in_ok-item_of.ensures.number c.in_ok-item_of.ensures.what)
 
-pub returns-then-is_last_read-clause-taken : goal.returns-then-is_last_read-clause-taken
-returns-then-is_last_read-clause-taken g c =
+pub returns-then-is_read-clause-taken : goal.returns-then-is_read-clause-taken
+returns-then-is_read-clause-taken g c =
     rw c.in_ok-item_of.ensures.what (takes-change_of c.args.schema.now c.advance.new.self.fields)
 
 pub returns-then-branch-clause-gives : goal.returns-then-branch-clause-gives

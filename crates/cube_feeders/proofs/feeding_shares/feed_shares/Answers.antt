@@ -51,9 +51,9 @@ joined g c =
     (OnOk-holds c.run_together-roster.result.1 _ (fine g c) c.run_together-roster.ensures.ends)
 
 -- what was to come of each feed
-coming : (g : Over) (c : In-Ok g) → map (λ f. f.feed.to_come) c.in-Ok.setup.feeders.items
+rests : (g : Over) (c : In-Ok g) → map (λ f. f.feed.to_come) c.in-Ok.setup.feeders.items
     ≡ map (rest_of_feed c.args.schema.now) (map g.R.Read.remaining c.args.readers.items)
-coming g c =
+rests g c =
     c.in-Ok.ensures.feeds ∙ map-told g.R.Read.remaining (rest_of_feed c.args.schema.now) c.args.readers.items
 
 -- what the ends of the feeders tell of the feeds of all sources
@@ -62,7 +62,7 @@ feeds : (g : Over) (c : Else-is_err g) → AllTell c.args.schema.now (map g.R.Re
 feeds g c =
     tell-ends c.args.schema.now (map g.R.Read.remaining c.args.readers.items)
     (map (λ f. f.feed.to_come) c.in-Ok.setup.feeders.items) (map (λ f. f.outlets.items) c.in-Ok.setup.feeders.items)
-    c.run_together-roster.result.0.ends.items (coming g (goal.at.Else-is_err g c).In-Ok) (joined g c)
+    c.run_together-roster.result.0.ends.items (rests g (goal.at.Else-is_err g c).In-Ok) (joined g c)
 
 -- there are as many ends as there are readers
 all-ended : (g : Over) (c : Else-is_err g)
@@ -94,7 +94,7 @@ tell g c =
     tell-joined (StandInShares g.B.TakesItems.sources g.B.TakesItems.stands) c.args.schema.now
     (map g.R.Read.remaining c.args.readers.items) (map (λ f. f.feed.to_come) c.in-Ok.setup.feeders.items)
     (map (λ f. f.outlets.items) c.in-Ok.setup.feeders.items) c.run_together-roster.result.0.ends.items
-    (linked.whole ∷ []) c.in-Ok-whole_of.wholes.items linked.linked (coming g at.In-Ok) (joined g at.Else-is_err)
+    (linked.whole ∷ []) c.in-Ok-whole_of.wholes.items linked.linked (rests g at.In-Ok) (joined g at.Else-is_err)
     (gathered g c)
 
 pub first_stop-requires : goal.first_stop-requires
