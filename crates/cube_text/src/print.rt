@@ -15,7 +15,7 @@ ghost use Rattle.cube_text.specs.Shape.{HasShapeOf};
 use crate::lines::{Lines, end_line, into_text, no_lines, put_field};
 use cube_cells::{CoordRef, KeyedCell, Numbers, OrderedCells, Summary};
 use cube_core::{Agg, Answer, Coord, Row, Schema, Text};
-use cube_writing::{Pieces, gather};
+use cube_writing::Pieces;
 use itoa::Buffer;
 use std::alloc::{AllocError, Global};
 use std::thread::{Threads, map_indices};
@@ -69,7 +69,7 @@ pub fn print_cells_in_pieces<T: Threads + Sync>(
     let parts = threads.max(1);
     let size = cells.len().div_ceil(parts);
     let texts = texts_of_parts(rt, alloc, cells, size, parts)?;
-    gather(alloc, header, texts)
+    Pieces::of(alloc, header, texts)
 }
 
 // The lines of the cells of each part, each made on a thread of its own.

@@ -35,6 +35,24 @@ impl Pieces {
         }
     }
 
+    /// A first piece, and the pieces that these results are. It fails where memory is wanting, also where numbers for so
+    /// many bytes are, and where a result is no piece: then with the error of the first such result.
+    pub fn of(
+        alloc: Global,
+        first: Vec<u8>,
+        results: Vec<Result<Vec<u8>, AllocError>>,
+    ) -> Result<Pieces, AllocError>
+        ensures { IfOk result (GathersPieces first.items results.items) }
+    {
+        let mut text = Pieces::new(alloc);
+        text.push(first)?;
+        for result in results {
+            let piece = result?;
+            text.push(piece)?;
+        }
+        Ok(text)
+    }
+
     /// Puts a piece at the end. The only error is want of memory, also of numbers for so many bytes.
     pub fn push(&mut self, piece: Vec<u8>) -> Result<(), AllocError>
         ensures ok { OnOk result (self.new ≡ self.old ++ piece.items) }
@@ -56,20 +74,4 @@ impl Pieces {
         let _size = self.size;
         &self.pieces
     }
-}
-
-/// A first piece, and the pieces that these results are, if each of them is one.
-pub fn gather(
-    alloc: Global,
-    first: Vec<u8>,
-    results: Vec<Result<Vec<u8>, AllocError>>,
-) -> Result<Pieces, AllocError>
-    ensures { IfOk result (GathersPieces first.items results.items) }
-{
-    let mut text = Pieces::new(alloc);
-    text.push(first)?;
-    for result in results {
-        text.push(result?)?;
-    }
-    Ok(text)
 }

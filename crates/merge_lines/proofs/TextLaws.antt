@@ -9,13 +9,14 @@ use Rattle.std.proofs.lemmas.Bool.{ne_eqb}
 use Rattle.std.proofs.lemmas.Fmt.{decimal_by_steps_wide}
 use Rattle.std.proofs.lemmas.Grind.{flat_map-append}
 use Rattle.std.proofs.lemmas.Int.{ints}
-use Rattle.std.proofs.lemmas.List.{append-nil, take_more, map-append}
+use Rattle.std.proofs.lemmas.List.{append-nil, append_cancel_right, length-map, take_more, map-append}
 use Rattle.std.proofs.lemmas.List.Folds.{list_any-append}
 use Rattle.csv.specs.Writing.{default_writer, escaped, field_text, fields_text, is_blank, needs_byte, needs_quotes}
 use Rattle.csv.specs.Writing.{row_body, row_text}
 use Rattle.csv.proofs.WriteFacts.{escaped-append, escaped-other}
-use Rattle.cube_core.specs.Text.{line}
-use Rattle.merge_lines.specs.Parts.{AddsParts, part, parts}
+use Rattle.cube_core.specs.Text.{answer_text, coord_text, grouping_text, line, row_fields, row_line}
+use Rattle.cube_core.specs.declared.key.Row.{Row}
+use Rattle.merge_lines.specs.Parts.{AddsParts, EndsLine, part, parts}
 
 -- one more field of those that a list gives
 pub AddsParts-more : {X : Type 0} (f : X → List ℕ) (xs : List X) (i : ℕ) (x : X) (start old new : List ℕ)
@@ -113,9 +114,24 @@ parts-body : (fields : List (List ℕ)) → 2 ≤ length fields → parts fields
 parts-body [] many = absurd (omega arith)
 parts-body (field ∷ fields) many = parts-row_body field fields
 
--- what a line's end does to a text that ends with a comma
-abbrev pub EndsLine : List ℕ → List ℕ → Type 0
-EndsLine old new = (fields : List ℕ) → old ≡ fields ++ 44 ∷ [] → new ≡ fields ++ 10 ∷ []
+-- a line whose last comma became its end, where the text of its row's fields ended with that comma
+pub EndsLine-row : (row : Row) (text : List ℕ) → text ≡ parts (row_fields row) → 1 ≤ length row.key.coords
+    → EndsLine text (row_line row)
+EndsLine-row row text shown some fields is =
+    let a = map coord_text row.key.coords in
+    let b = map grouping_text row.key.coords in
+    let c = map answer_text row.answers in
+    let many : 2 ≤ length (row_fields row) = omega (
+      arith,
+      some,
+      length-append (a ++ b) c,
+      length-append a b,
+      length-map row.key.coords coord_text,
+      length-map row.key.coords grouping_text,
+    ) in
+    row_text-row_body (row_fields row) many
+    ∙ ap (λ t. t ++ 10 ∷ []) (append_cancel_right (row_body default_writer (row_fields row)) fields (44 ∷ [])
+    (sym (shown ∙ parts-body (row_fields row) many) ∙ is))
 
 -- three runs of fields and the line's end
 pub EndsLine-line : (a b c : List (List ℕ)) (old first second third new : List ℕ) → 1 ≤ length a → 1 ≤ length b

@@ -21,3 +21,7 @@ AddsParts fields old new = new ≡ old ++ parts fields
 -- the texts of what a row shows of its key: its dimensions and their GROUPING columns, each with a comma
 abbrev pub key_parts : Key → List ℕ
 key_parts key = parts (map coord_text key.coords ++ map grouping_text key.coords)
+
+-- what a line's end does to a text that ends with a comma
+abbrev pub EndsLine : List ℕ → List ℕ → Type 0
+EndsLine old new = (fields : List ℕ) → old ≡ fields ++ 44 ∷ [] → new ≡ fields ++ 10 ∷ []

@@ -6,8 +6,8 @@ ghost use Rattle.std.specs.Prelude.{◌≡◌, ◌<◌, ◌≤◌, ◌+◌, ◌�
 ghost use Rattle.std.specs.Fmt.{signed_decimal};
 ghost use Rattle.std.specs.Int.{w128};
 ghost use Rattle.csv.specs.Writing.{default_writer, escaped, needs_quotes};
-ghost use Rattle.cube_core.specs.Text.{answer_text, coord_text, grouping_text, row_fields};
-ghost use Rattle.merge_lines.specs.Parts.{key_parts, part, parts};
+ghost use Rattle.cube_core.specs.Text.{answer_text, coord_text, grouping_text, row_fields, row_line};
+ghost use Rattle.merge_lines.specs.Parts.{EndsLine, key_parts, part, parts};
 
 use crate::text::{needs_byte, needs_quotes};
 use cube_core::{Agg, Answer, Coord, Key, Row, Schema, Sequence, Text};
@@ -33,6 +33,8 @@ pub fn parse_row(
 ) -> Result<Option<(Row, usize)>, AllocError>
     ensures line { IfOk result (λ found. IfSome found (λ read.
         text.now ≡ parts (row_fields read.0))) }
+    ensures ended { IfOk result (λ found. IfSome found (λ read.
+        1 ≤ length read.0.key.coords → EndsLine text.now (row_line read.0))) }
     ensures key { IfOk result (λ found. IfSome found (λ read.
         take read.1 text.now ≡ key_parts read.0.key)) }
 {

@@ -7,7 +7,7 @@ ghost use Rattle.std.specs.Fmt.{signed_decimal};
 ghost use Rattle.csv.specs.Writing.{default_writer, escaped, needs_byte, needs_quotes};
 ghost use Rattle.cube_core.specs.Text.{answer_text, coord_text, grouping_text, header_fields, grouping_name, line};
 ghost use Rattle.cube_core.specs.declared.key.Key.{Key};
-ghost use Rattle.merge_lines.specs.Parts.{AddsParts, key_parts};
+ghost use Rattle.merge_lines.specs.Parts.{AddsParts, EndsLine, key_parts};
 
 use cube_core::{Answer, Schema, Text};
 use itoa::Buffer;
@@ -38,7 +38,7 @@ pub fn push_header(alloc: Global, text: &mut Vec<u8>, schema: &Schema) -> Result
 
 // Puts the end of a line in place of the last comma.
 fn end_line(text: &mut Vec<u8>) -> Result<(), AllocError>
-    ensures { OnOk result ((fields : List ℕ) → text.old.items ≡ fields ++ 44 ∷ [] → text.new.items ≡ fields ++ 10 ∷ []) }
+    ensures { OnOk result (EndsLine text.old.items text.new.items) }
 {
     text.pop();
     text.push(b'\n')?;

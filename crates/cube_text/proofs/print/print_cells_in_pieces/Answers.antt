@@ -17,7 +17,7 @@ returns g c =
     let parts = c.max-parts.result in
     let size = c.div_ceil-size.result in
     let some : 0 < parts = search rules in
-    IfOk-weaker c.gather.result _ _ (λ text gathers.
+    IfOk-weaker c.of.result _ _ (λ text gathers.
     let results = c.in_ok-texts.texts.items in
     let count : length gathers.pieces ≡ parts = sym (length-map gathers.pieces Ok)
     ∙ ap (λ (l : List (Result (Vec ℕ) AllocError)). length l) gathers.are ∙ c.in_ok-texts.ensures.long in
@@ -32,4 +32,4 @@ returns g c =
       are_rows = rw (take_all _ o.cells covers) at made.1;
       text_is = gathers.text_is ∙ ap (λ (l : List ℕ). l ++ text_of_pieces gathers.pieces) c.in_ok-header.ensures
           ∙ ap (λ (l : List ℕ). line (header_fields c.args.schema.now) ++ l) made.2;
-    }) c.gather.ensures
+    }) c.of.ensures
