@@ -1,22 +1,19 @@
 //! What crosses a link, on one thread and between two, ends dropped early, and what may move to another thread.
+ghost use Rattle.std.specs.Prelude.{◌≡◌};
+
 use crate::crossing::cross;
 use cube_link::{Inlet, Outlet, Receipt, link};
 use std::alloc::Global;
+use std::process::Abort;
 use std::sync::Arc;
 use std::test::Fail;
 
 #[test]
 fn numbers_cross_in_order(rt: HostRuntime) -> Result<(), Fail> {
     for capacity in [1, 3] {
-        let mut numbers = Vec::with_capacity(rt.alloc(), 100_000)?;
-        for number in 1..=100_000u64 {
-            numbers.push(number)?;
-        }
+        let numbers = (1..=100_000u64).collect(rt.alloc())?;
         let received = cross(&rt, rt.alloc(), capacity, numbers).expect(&rt, "all of them");
-        assert_eq!(rt; received.len(), 100_000);
-        for (index, number) in received.iter().enumerate() {
-            assert_eq!(rt; *number, index as u64 + 1);
-        }
+        assert!(rt; received.into_iter().eq(1..=100_000));
     }
     Ok(())
 }
@@ -26,24 +23,30 @@ fn a_full_link_gives_the_item_back(rt: HostRuntime) -> Result<(), Fail> {
     let (mut outlet, mut inlet) = link(rt.alloc(), 2)?;
     let offered = [outlet.offer(1u64), outlet.offer(2), outlet.offer(3)];
     assert_eq!(rt; offered, [Ok(()), Ok(()), Err(3)]);
-    assert_eq!(rt; inlet.take(), Some(1));
-    assert_eq!(rt; outlet.offer(3), Ok(()));
+    assert!(rt; inlet.take() == Some(1));
+    assert!(rt; outlet.offer(3).is_ok());
     let taken = [inlet.take(), inlet.take(), inlet.take()];
     assert_eq!(rt; taken, [Some(2), Some(3), None]);
-    let mut receipt = outlet.finish().expect(&rt, "a receipt");
-    assert_eq!(rt; inlet.left_after(&mut receipt), 0);
+    assert!(rt; left_after(&rt, outlet, &mut inlet) == 0);
     Ok(())
+}
+
+// How many items are left to take once the outlet is finished.
+fn left_after(rt: &impl Abort, outlet: Outlet<u64>, inlet: &mut Inlet<u64>) -> usize
+    requires { outlet.link ≡ inlet.old.link }
+{
+    let mut receipt = outlet.finish().expect(rt, "a receipt");
+    inlet.left_after(&mut receipt)
 }
 
 #[test]
 fn what_a_receipt_leaves_is_taken(rt: HostRuntime) -> Result<(), Fail> {
     let (mut outlet, mut inlet) = link(rt.alloc(), 2)?;
-    assert_eq!(rt; [outlet.offer(7u64), outlet.offer(8)], [Ok(()), Ok(())]);
+    assert!(rt; outlet.offer(7u64).is_ok() && outlet.offer(8).is_ok());
     let mut receipt = outlet.finish().expect(&rt, "a receipt");
     assert!(rt; inlet.left_after(&mut receipt) == 2);
     assert_eq!(rt; [inlet.take_known(), inlet.take_known()], [7, 8]);
-    assert_eq!(rt; inlet.left_after(&mut receipt), 0);
-    assert_eq!(rt; inlet.take(), None);
+    assert!(rt; inlet.left_after(&mut receipt) == 0 && inlet.take().is_none());
     Ok(())
 }
 
@@ -68,7 +71,7 @@ fn items_in_the_ring_are_dropped_with_the_outlet(rt: HostRuntime) -> Result<(), 
     drop(inlet);
     assert!(rt; outlet.offer(share).is_ok());
     assert!(rt; outlet.finish().is_none());
-    assert_eq!(rt; Arc::strong_count(&item), 1);
+    assert!(rt; Arc::strong_count(&item) == 1);
     Ok(())
 }
 
@@ -78,9 +81,9 @@ fn items_in_the_ring_are_dropped_with_the_inlet(rt: HostRuntime) -> Result<(), F
     let (outlet, mut inlet) = link_of_shares(rt.alloc(), &item)?;
     drop(outlet);
     assert!(rt; inlet.take().is_some());
-    assert_eq!(rt; Arc::strong_count(&item), 2);
+    assert!(rt; Arc::strong_count(&item) == 2);
     drop(inlet);
-    assert_eq!(rt; Arc::strong_count(&item), 1);
+    assert!(rt; Arc::strong_count(&item) == 1);
     Ok(())
 }
 
