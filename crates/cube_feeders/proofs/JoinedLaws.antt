@@ -13,17 +13,17 @@ use Rattle.cube_core.specs.declared.change.Item.{Item}
 use Rattle.cube_feed.specs.Feed.{KnownRest, rest_of_feed}
 use Rattle.cube_link.specs.Link.{Sending, Receiving, Link}
 use Rattle.cube_feeders.specs.FeedingAll.{IsNew, TakesFeeds, TakeAll}
-use Rattle.cube_feeders.specs.Feeding.{Feeds, IsReceiptOf}
-use Rattle.cube_feeders.specs.Parcels.{parcels_of, sends}
-use Rattle.cube_feeders.specs.Settling.{received_on, received_by, kept_of, receipt_of, SettlesBuilders}
+use Rattle.cube_handover.specs.Feeding.{Feeds, IsReceiptOf}
+use Rattle.cube_handover.specs.Parcels.{parcels_of, sends}
+use Rattle.cube_handover.specs.Settling.{received_on, received_by, kept_of, receipt_of, SettlesBuilders}
 use Rattle.cube_feeders.specs.Starting.{IsReady, HasGathered}
 use Rattle.cube_feeders.specs.Wiring.{AreLinked}
-use Rattle.cube_feeders.specs.declared.parcel.Parcel.{Parcel}
-use Rattle.cube_feeders.specs.declared.parcel.FeederEnd.{FeederEnd}
-use Rattle.cube_feeders.specs.declared.roster.Gatherer.{Gatherer}
+use Rattle.cube_handover.specs.declared.parcel.Parcel.{Parcel}
+use Rattle.cube_handover.specs.declared.parcel.FeederEnd.{FeederEnd}
+use Rattle.cube_handover.specs.declared.gatherer.Gatherer.{Gatherer}
 use Rattle.cube_feeders.proofs.TakeLaws.{Names, AllTell, all_zip-at, all_zip-each, came-from, items-settled}
 use Rattle.cube_feeders.proofs.TakeLaws.{same-settled, takes-feeds}
-use Rattle.cube_feeders.proofs.WireLaws.{some_of}
+use Rattle.cube_handover.proofs.PlaceLaws.{some_of}
 use Rattle.cube_feed.proofs.FaultLaws.{OnOk-holds}
 
 -- linked builders that have taken nothing are ready

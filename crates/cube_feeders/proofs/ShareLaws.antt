@@ -14,34 +14,18 @@ use Rattle.cube_core.specs.Arrival.{Arrivals, of_source, of_sources}
 use Rattle.cube_core.specs.declared.change.Item.{Item}
 use Rattle.cube_feed.proofs.TurnLaws.{in_turn, of_sources-in_turn}
 use Rattle.cube_link.specs.Link.{Sending, Receiving}
-use Rattle.cube_feeders.specs.Gathering.{AreFresh}
-use Rattle.cube_feeders.specs.Parcels.{parcels_of}
-use Rattle.cube_feeders.specs.Shares.{StandAtShares, StandInShares, inlets_of, IsWholeOf, AreLinkedInShares}
+use Rattle.cube_handover.specs.Gathering.{AreFresh}
+use Rattle.cube_handover.specs.Parcels.{parcels_of}
+use Rattle.cube_feeders.specs.Shares.{StandAtShares, StandInShares, AreLinkedInShares}
+use Rattle.cube_handover.specs.Wholes.{inlets_of, IsWholeOf}
 use Rattle.cube_feeders.specs.Starting.{IsReady, HasGathered}
 use Rattle.cube_feeders.specs.Wiring.{AreLinked}
-use Rattle.cube_feeders.specs.declared.parcel.Parcel.{Parcel}
-use Rattle.cube_feeders.specs.declared.roster.Gatherer.{Gatherer}
+use Rattle.cube_handover.specs.declared.parcel.Parcel.{Parcel}
+use Rattle.cube_handover.specs.declared.gatherer.Gatherer.{Gatherer}
 
 -- each builder has a link from each of its sources
 abbrev pub HaveLinks : {B : Type 0} → (B → ℕ) → List (Gatherer B) → Type 0
 HaveLinks all shares = All (λ share. vec_len share.inlets ≡ all share.builder) shares
-
--- the inlets with those of one builder more
-pub inlets-push : {B : Type 0} (shares : List (Gatherer B)) (share : Gatherer B)
-    → inlets_of (shares ++ share ∷ []) ≡ inlets_of shares ++ share.inlets.items
-inlets-push {B} shares share =
-    flat_map-append (λ (g : Gatherer B). g.inlets.items) shares (share ∷ [])
-    ∙ ap (λ l. inlets_of shares ++ l) (append-nil share.inlets.items)
-
--- one share more is cut off
-pub inlets-more : {B : Type 0} (shares : List (Gatherer B)) (share : Gatherer B) (n : ℕ)
-    (inlets left whole : List (Receiving Parcel)) → inlets_of shares ++ inlets ≡ whole
-    → share.inlets.items ≡ take n inlets → left ≡ drop n inlets → inlets_of (shares ++ share ∷ []) ++ left ≡ whole
-inlets-more shares share n inlets left whole was own rest =
-    ap (λ l. l ++ left) (inlets-push shares share)
-    ∙ append_assoc (inlets_of shares) share.inlets.items left
-    ∙ ap (λ l. inlets_of shares ++ l) ((λ i. own i ++ rest i) ∙ take-append-drop n inlets)
-    ∙ was
 
 -- all sources are those of the shares
 pub sources-shares : {B : Type 0} (all : B → ℕ) (shares : List (Gatherer B)) → HaveLinks all shares →

@@ -12,24 +12,23 @@ use Rattle.cube_core.specs.Records.{records_of}
 use Rattle.cube_core.specs.Run.{SourceBytes, IsGood, AreItemsOf, AreGood}
 use Rattle.cube_core.specs.declared.change.Item.{Item}
 use Rattle.cube_feed.specs.Faults.{IsFaultOf, IsLowestFault}
-use Rattle.cube_feeders.specs.declared.fault.FeedingFault.{FeedingFault}
-use Rattle.cube_feeders.specs.declared.fault.FeedingFault.TheVariants as feeding_fault
+use Rattle.cube_handover.specs.declared.fault.FeedingFault.{FeedingFault}
+use Rattle.cube_handover.specs.declared.fault.FeedingFault.TheVariants as feeding_fault
 use Rattle.cube_feed.specs.Feed.{KnownRest, rest_of_feed}
 use Rattle.cube_feed.specs.declared.fault.FeedFault.{FeedFault}
 use Rattle.cube_feed.specs.declared.fault.FeedFault.TheVariants.{Memory, Read, Header, TooMany}
 use Rattle.cube_link.specs.Link.{Sending, Receiving}
 use Rattle.cube_feeders.specs.FeedingAll.{TakesFeeds, ExplainsFeeding, HasReceived}
-use Rattle.cube_feeders.specs.Ends.{HasNoStop, IsFirstStop, IsSealed}
-use Rattle.cube_feeders.specs.Feeding.{Stops}
+use Rattle.cube_handover.specs.Ends.{HasNoStop, IsFirstStop, IsSealed}
+use Rattle.cube_handover.specs.Feeding.{Stops}
 use Rattle.cube_feeders.specs.Starting.{HasGathered}
-use Rattle.cube_feeders.specs.Parcels.{parcels_of}
-use Rattle.cube_feeders.specs.Settling.{received_on, received_by, Kept, kept_of, receipt_of, Begins, AllFitLinks}
-use Rattle.cube_feeders.specs.Settling.{AllBegin}
-use Rattle.cube_feeders.specs.Settling.{StopsFeeding}
-use Rattle.cube_feeders.specs.declared.parcel.Parcel.{Parcel}
-use Rattle.cube_feeders.specs.declared.parcel.FeederEnd.{FeederEnd}
-use Rattle.cube_feeders.specs.declared.roster.Gatherer.{Gatherer}
-use Rattle.cube_feeders.proofs.WireLaws.{some_of}
+use Rattle.cube_handover.specs.Parcels.{parcels_of}
+use Rattle.cube_handover.specs.Settling.{received_on, received_by, Kept, kept_of, receipt_of, Begins, AllFitLinks}
+use Rattle.cube_handover.specs.Settling.{AllBegin, StopsFeeding}
+use Rattle.cube_handover.specs.declared.parcel.Parcel.{Parcel}
+use Rattle.cube_handover.specs.declared.parcel.FeederEnd.{FeederEnd}
+use Rattle.cube_handover.specs.declared.gatherer.Gatherer.{Gatherer}
+use Rattle.cube_handover.proofs.PlaceLaws.{some_of}
 use Rattle.cube_feed.proofs.FaultLaws.{fault_of-None, fault_of-Header, fault_of-TooMany}
 
 -- ---- lists place by place

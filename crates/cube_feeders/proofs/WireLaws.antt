@@ -9,21 +9,9 @@ use Rattle.std.specs.Prelude.{Result, Ok, Err, IfOk}
 use Rattle.std.specs.Result.{result_ok}
 use Rattle.cube_link.specs.Link.{Sending, Receiving}
 use Rattle.cube_feeders.specs.Wiring.{Grows, ConnectsFirst, Connects, AreLinked}
-use Rattle.cube_feeders.specs.declared.parcel.Parcel.{Parcel}
-use Rattle.cube_feeders.specs.declared.roster.Gatherer.{Gatherer}
-
-pub lt-cases : (i n : ℕ) → i < n + 1 → (i < n) ⊎ (i ≡ n)
-lt-cases i n below = grind arith
-
-pub get_or-last : {A : Type 0} (xs : List A) (x d : A) (i : ℕ) → i ≡ length xs → get_or (xs ++ x ∷ []) i d ≡ x
-get_or-last xs x d i e = rw e (get_or-append_seam xs x [] d)
-
-pub length-one_more : {A : Type 0} (xs : List A) (x : A) → length (xs ++ x ∷ []) ≡ length xs + 1
-length-one_more xs x = grind (arith, common_steps)
-
-pub some_of : {A : Type 0} (xs : List A) (j : ℕ) → j < length xs → A
-some_of [] j below = absurd (omega arith)
-some_of (x ∷ xs) j below = x
+use Rattle.cube_handover.specs.declared.parcel.Parcel.{Parcel}
+use Rattle.cube_handover.specs.declared.gatherer.Gatherer.{Gatherer}
+use Rattle.cube_handover.proofs.PlaceLaws.{lt-cases, get_or-last, length-one_more, some_of}
 
 -- one builder more got its link
 pub connects-more : {B : Type 0} (n : ℕ) (old now : List (Gatherer B)) (outlets : List (Sending Parcel))

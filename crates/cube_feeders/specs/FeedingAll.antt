@@ -6,12 +6,12 @@ use Rattle.cube_core.specs.Layout.{Layout}
 use Rattle.cube_core.specs.Run.{SourceBytes, AreItemsOf, AreGood}
 use Rattle.cube_core.specs.declared.change.Item.{Item}
 use Rattle.cube_feed.specs.Faults.{IsLowestFault}
-use Rattle.cube_feeders.specs.declared.fault.FeedingFault.{FeedingFault}
-use Rattle.cube_feeders.specs.declared.fault.FeedingFault.TheVariants as feeding_fault
+use Rattle.cube_handover.specs.declared.fault.FeedingFault.{FeedingFault}
+use Rattle.cube_handover.specs.declared.fault.FeedingFault.TheVariants as feeding_fault
 use Rattle.cube_link.specs.Link.{Receiving}
-use Rattle.cube_feeders.specs.Parcels.{parcels_of}
-use Rattle.cube_feeders.specs.declared.parcel.Parcel.{Parcel}
-use Rattle.cube_feeders.specs.declared.roster.Gatherer.{Gatherer}
+use Rattle.cube_handover.specs.Parcels.{parcels_of}
+use Rattle.cube_handover.specs.declared.parcel.Parcel.{Parcel}
+use Rattle.cube_handover.specs.declared.gatherer.Gatherer.{Gatherer}
 
 -- a builder of so many sources that has taken nothing
 pub record IsNew {B : Type 0} (all : B → ℕ) (stands : B → B → Arrivals → Type 0) (sources : ℕ) (builder : B)

@@ -1,10 +1,5 @@
-pub mod Parcels
-pub mod Feeding
-pub mod Ends
-pub mod Gathering
 pub mod Starting
 pub mod Wiring
-pub mod Settling
 pub mod FeedingAll
 pub mod Shares
 pub mod Settings

@@ -1,14 +1,15 @@
 -- Shares of the sources: builders of which each takes the feeds of sources of its own,
 -- the first of the first sources, the next of those that follow, and so on (this project's choice).
-use Rattle.std.specs.Prelude.{◌≡◌, ℕ, List, [], ◌∷◌, ◌++◌, false, map, flat_map}
+use Rattle.std.specs.Prelude.{◌≡◌, ℕ, List, [], ◌∷◌, ◌++◌}
 use Rattle.std.specs.Global.{Vec}
-use Rattle.std.specs.List.{All, sum_by}
+use Rattle.std.specs.List.{sum_by}
 use Rattle.cube_core.specs.Arrival.{Arrivals, of_sources}
 use Rattle.cube_core.specs.declared.change.Item.{Item}
-use Rattle.cube_link.specs.Link.{Sending, Receiving}
+use Rattle.cube_link.specs.Link.{Sending}
+use Rattle.cube_handover.specs.Wholes.{IsWholeOf}
 use Rattle.cube_feeders.specs.Wiring.{AreLinked}
-use Rattle.cube_feeders.specs.declared.parcel.Parcel.{Parcel}
-use Rattle.cube_feeders.specs.declared.roster.Gatherer.{Gatherer}
+use Rattle.cube_handover.specs.declared.parcel.Parcel.{Parcel}
+use Rattle.cube_handover.specs.declared.gatherer.Gatherer.{Gatherer}
 
 -- builders stand at feeds in shares:
 -- the first stands at an arrival list that has of each of its sources one of the first feeds, in their order,
@@ -26,16 +27,6 @@ StandAtShares all stands (old ∷ olds) (new ∷ news) feeds =
 abbrev pub StandInShares : {B : Type 0} → (B → ℕ) → (B → B → Arrivals → Type 0) → Vec B → Vec B → Arrivals → Type 0
 StandInShares all stands olds news arrivals =
     StandAtShares all stands olds.items news.items (of_sources (sum_by all olds.items) arrivals)
-
--- the inlets of builders, one builder's after another's
-abbrev pub inlets_of : {B : Type 0} → List (Gatherer B) → List (Receiving Parcel)
-inlets_of gatherers = flat_map (λ gatherer. gatherer.inlets.items) gatherers
-
--- what builders are together: the list of them, with the inlets of all, and memory was wanting where it was for one
-pub record IsWholeOf {B : Type 0} (gatherers : List (Gatherer B)) (whole : Gatherer (Vec B)) : Type 0 where
-  pub builders : map (λ gatherer. gatherer.builder) gatherers ≡ whole.builder.items
-  pub inlets : inlets_of gatherers ≡ whole.inlets.items
-  pub enough : whole.wanting ≡ false → All (λ gatherer. gatherer.wanting ≡ false) gatherers
 
 -- one builder alone, what these are together
 pub record AreWholeOf {B : Type 0} (gatherers : List (Gatherer B)) (wholes : List (Gatherer (Vec B))) : Type 0 where

@@ -1,9 +1,9 @@
 -- What is known of builders and feeders before their threads start, and after they were joined.
 use Rattle.std.specs.Prelude.{◌≡◌, ◌+◌, ◌≤◌, ℕ, List, [], ◌∷◌, ◌++◌, false, length, map, vec_len, vec_capacity}
 use Rattle.cube_core.specs.Arrival.{Arrivals, of_sources}
-use Rattle.cube_feeders.specs.Gathering.{AreFresh}
-use Rattle.cube_feeders.specs.Parcels.{parcels_of}
-use Rattle.cube_feeders.specs.declared.roster.Gatherer.{Gatherer}
+use Rattle.cube_handover.specs.Gathering.{AreFresh}
+use Rattle.cube_handover.specs.Parcels.{parcels_of}
+use Rattle.cube_handover.specs.declared.gatherer.Gatherer.{Gatherer}
 use Rattle.cube_feeders.specs.declared.roster.Roster.{Roster}
 
 -- a builder that has taken nothing, with a link from each source, from which nothing was received

@@ -1,8 +1,8 @@
 -- How feeders and builders are linked.
 use Rattle.std.specs.Prelude.{◌≡◌, ◌<◌, ◌≤◌, ℕ, List, [], ◌∷◌, ◌++◌, length, slice_index_or}
 use Rattle.cube_link.specs.Link.{Sending, Receiving}
-use Rattle.cube_feeders.specs.declared.parcel.Parcel.{Parcel}
-use Rattle.cube_feeders.specs.declared.roster.Gatherer.{Gatherer}
+use Rattle.cube_handover.specs.declared.parcel.Parcel.{Parcel}
+use Rattle.cube_handover.specs.declared.gatherer.Gatherer.{Gatherer}
 
 -- the builder got one link more, on which nothing was sent or received; its outlet is this
 pub record Grows {B : Type 0} (old new : Gatherer B) (outlet : Sending Parcel) : Type 0 where

@@ -4,15 +4,11 @@ ghost use Rattle.std.specs.List.{All};
 ghost use Rattle.cube_core.specs.Run.{AreGood};
 ghost use Rattle.cube_feeders.specs.FeedingAll.{IsNew, TakeAll, ExplainsFeeding};
 
-use crate::ends::first_stop;
-use crate::fault::FeedingFault;
-use crate::gate::Gate;
-use crate::roster::Gatherer;
-use crate::settling::settle;
 use crate::setup::{Setup, set_up};
 use crate::together::run_together;
 use cube_core::Schema;
 use cube_feed::TakesItems;
+use cube_handover::{FeedingFault, Gate, Gatherer, first_stop, settle};
 use std::alloc::Global;
 use std::io::Read;
 use std::sync::Wait;

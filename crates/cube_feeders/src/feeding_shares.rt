@@ -5,16 +5,11 @@ ghost use Rattle.cube_core.specs.Run.{AreGood};
 ghost use Rattle.cube_feeders.specs.FeedingAll.{TakeAll, ExplainsFeeding};
 ghost use Rattle.cube_feeders.specs.Shares.{AreWholeOf, StandInShares};
 
-use crate::ends::first_stop;
-use crate::fault::FeedingFault;
-use crate::gate::Gate;
-use crate::roster::Gatherer;
-use crate::settling::settle;
 use crate::setup::{Setup, set_up_shares};
-use crate::shares::{only, put_together};
 use crate::together::run_together;
 use cube_core::Schema;
 use cube_feed::TakesItems;
+use cube_handover::{FeedingFault, Gate, Gatherer, first_stop, only, put_together, settle};
 use std::alloc::{AllocError, Global};
 use std::io::Read;
 use std::sync::Wait;

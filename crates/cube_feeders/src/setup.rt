@@ -6,11 +6,11 @@ ghost use Rattle.cube_feeders.specs.Shares.{AreLinkedInShares};
 ghost use Rattle.cube_feed.specs.Feed.{rest_of_feed};
 ghost use Rattle.cube_feeders.specs.Wiring.{AreLinked};
 
-use crate::roster::{Feeder, Gatherer, Roster};
-use crate::shares::{cut_up, only};
+use crate::roster::{Feeder, Roster};
 use crate::wiring::{feeders_of, gatherers_of, words_for};
 use cube_core::Schema;
 use cube_feed::TakesItems;
+use cube_handover::{Gatherer, cut_up, only};
 use std::alloc::{AllocError, Global};
 use std::io::Read;
 

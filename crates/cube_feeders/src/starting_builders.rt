@@ -1,15 +1,14 @@
 //! Starting and joining the builders.
 ghost use Rattle.std.specs.Prelude.{◌≡◌, ◌≤◌, ◌+◌, ◌++◌, ◌∷◌, [], vec_len, vec_capacity, OnOk, IfSome};
 ghost use Rattle.std.specs.List.{All, AllZip};
-ghost use Rattle.cube_feeders.specs.Feeding.{Feeds};
+ghost use Rattle.cube_handover.specs.Feeding.{Feeds};
 ghost use Rattle.cube_feeders.specs.Starting.{MayStart, IsReady, HasGathered};
 
-use crate::gate::Gate;
-use crate::parcel::Parcel;
-use crate::roster::{Feeder, Gatherer, NoThread, Roster};
+use crate::roster::{Feeder, NoThread, Roster};
 use crate::starting_feeders::{gather_all, with_feeders};
 use crate::words::{Word, tell_all, wait_for_word};
 use cube_feed::TakesItems;
+use cube_handover::{Gate, Gatherer, Parcel};
 use cube_link::Inlet;
 use std::alloc::Global;
 use std::io::Read;

@@ -1,16 +1,13 @@
 //! Starting and joining the feeders.
 ghost use Rattle.std.specs.Prelude.{◌≡◌, ◌≤◌, ◌+◌, ◌++◌, ◌∷◌, [], vec_len, vec_capacity, OnOk, IfSome};
 ghost use Rattle.std.specs.List.{All, AllZip};
-ghost use Rattle.cube_feeders.specs.Feeding.{Feeds};
+ghost use Rattle.cube_handover.specs.Feeding.{Feeds};
 ghost use Rattle.cube_feeders.specs.Starting.{RosterHasRoom, IsReady, HasGathered, StartsLast};
 
-use crate::feeding::feed_out;
-use crate::gate::Gate;
-use crate::gathering::gather;
-use crate::parcel::FeederEnd;
-use crate::roster::{Feeder, Gatherer, NoThread, Roster};
+use crate::roster::{Feeder, NoThread, Roster};
 use crate::words::{Word, tell_all, wait_for_word};
 use cube_feed::TakesItems;
+use cube_handover::{FeederEnd, Gate, Gatherer, feed_out, gather};
 use cube_link::Inlet;
 use std::alloc::Global;
 use std::io::Read;

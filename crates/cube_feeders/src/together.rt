@@ -1,13 +1,13 @@
 //! All threads of a run, in one scope.
 ghost use Rattle.std.specs.Prelude.{◌≡◌, ◌≤◌, [], vec_len, OnOk};
 ghost use Rattle.std.specs.List.{All, AllZip};
-ghost use Rattle.cube_feeders.specs.Feeding.{Feeds};
+ghost use Rattle.cube_handover.specs.Feeding.{Feeds};
 ghost use Rattle.cube_feeders.specs.Starting.{MayStart, IsReady, HasGathered};
 
-use crate::gate::Gate;
-use crate::roster::{Feeder, Gatherer, NoThread, Roster};
+use crate::roster::{Feeder, NoThread, Roster};
 use crate::starting_builders::with_builders;
 use cube_feed::TakesItems;
+use cube_handover::{Gate, Gatherer};
 use std::alloc::Global;
 use std::io::Read;
 use std::sync::Wait;

@@ -4,11 +4,11 @@ ghost use Rattle.std.specs.List.{All};
 ghost use Rattle.cube_feed.specs.Feed.{rest_of_feed};
 ghost use Rattle.cube_feeders.specs.Wiring.{Grows, Connects, AreLinked};
 
-use crate::parcel::Parcel;
-use crate::roster::{Feeder, Gatherer, Place};
+use crate::roster::Feeder;
 use crate::words::Word;
 use cube_core::Schema;
 use cube_feed::Feed;
+use cube_handover::{Gatherer, Parcel, Place};
 use cube_link::{Inlet, Outlet, link};
 use std::alloc::{AllocError, Global};
 use std::io::Read;

@@ -17,7 +17,7 @@ use Rattle.cube_engine.specs.Taking.{LedgerStandsFrom}
 use Rattle.cube_engine.proofs.StandLaws.{LedgerStandsAt-new}
 use Rattle.cube_feeders.specs.FeedingAll.{TakesFeeds, TakeAll}
 use Rattle.cube_feeders.specs.Shares.{StandAtShares, StandInShares}
-use Rattle.cube_feeders.specs.declared.roster.Gatherer.{Gatherer}
+use Rattle.cube_handover.specs.declared.gatherer.Gatherer.{Gatherer}
 use Rattle.cube_threads.specs.Drafts.{DraftView, StandsFrom, IsDrafted}
 use Rattle.cube_threads.specs.Shares.{AreNewLedgers, TakenInParts}
 

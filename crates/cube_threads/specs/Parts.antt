@@ -14,8 +14,8 @@ use Rattle.cube_engine.specs.Ledger.{LedgerView, all_facts}
 use Rattle.cube_engine.specs.Parted.{ArePartsOf, IsPartOver}
 use Rattle.cube_link.specs.Link.{Receiving}
 use Rattle.cube_feeders.specs.FeedingAll.{HasReceived}
-use Rattle.cube_feeders.specs.declared.parcel.Parcel.{Parcel}
-use Rattle.cube_feeders.specs.declared.roster.Gatherer.{Gatherer}
+use Rattle.cube_handover.specs.declared.parcel.Parcel.{Parcel}
+use Rattle.cube_handover.specs.declared.gatherer.Gatherer.{Gatherer}
 use Rattle.cube_threads.specs.Drafts.{DraftView, IsMadeOf}
 
 -- what a caller sees of the builders of a run: the builders by their parts, and the inlets of each

@@ -6,7 +6,7 @@ use Rattle.cube_core.specs.Layout.{Layout}
 use Rattle.cube_core.specs.Run.{SourceBytes, AreGood}
 use Rattle.cube_engine.specs.Ledger.{LedgerView, LedgerStandsAt}
 use Rattle.cube_feeders.specs.FeedingAll.{TakeAll}
-use Rattle.cube_feeders.specs.declared.roster.Gatherer.{Gatherer}
+use Rattle.cube_handover.specs.declared.gatherer.Gatherer.{Gatherer}
 use Rattle.cube_threads.specs.Drafts.{DraftView, StandsFrom, AreNewDrafts}
 
 -- so many ledgers that have taken nothing, with so many sources together

@@ -8,8 +8,8 @@ use Rattle.cube_core.specs.Arrival.{Arrivals, of_sources}
 use Rattle.cube_core.specs.Layout.{Layout}
 use Rattle.cube_core.specs.Run.{SourceBytes}
 use Rattle.cube_feeders.specs.FeedingAll.{ExplainsFeeding}
-use Rattle.cube_feeders.specs.declared.fault.FeedingFault.{FeedingFault}
-use Rattle.cube_feeders.specs.declared.fault.FeedingFault.TheVariants as feeding_fault
+use Rattle.cube_handover.specs.declared.fault.FeedingFault.{FeedingFault}
+use Rattle.cube_handover.specs.declared.fault.FeedingFault.TheVariants as feeding_fault
 use Rattle.cube_journal.specs.Making.{LeavesNotes}
 use Rattle.cube_journal.specs.Rows.{Entry, entries_in}
 use Rattle.cube_journal.specs.State.{Holds, LeadsTo, held_in, noted_in, stored_in}

@@ -4,17 +4,17 @@ use Rattle.std.proofs.lemmas.List.{get_or-map, length-map}
 use Rattle.std.specs.List.{All, AllZip}
 use Rattle.std.specs.Prelude.{is_err}
 use Rattle.cube_feed.proofs.FaultLaws.{OnOk-holds}
-use Rattle.cube_feeders.specs.Ends.{HasNoStop, IsFirstStop}
+use Rattle.cube_handover.specs.Ends.{HasNoStop, IsFirstStop}
 use Rattle.cube_feeders.specs.Shares.{StandInShares}
 use Rattle.cube_feeders.specs.Starting.{HasGathered}
-use Rattle.cube_feeders.specs.Settling.{received_by}
+use Rattle.cube_handover.specs.Settling.{received_by}
 use Rattle.cube_feed.specs.Feed.{rest_of_feed}
 use Rattle.cube_feeders.proofs.JoinedLaws.{EndsOf, ends-joined, map-told, tell-ends, tell-joined, takes-settled}
 use Rattle.cube_feeders.proofs.JoinedLaws.{on_ok-then}
 use Rattle.cube_feeders.proofs.ShareLaws.{gathered-whole}
 use Rattle.cube_feeders.proofs.TakeLaws.{AllTell, fit-tell, good-all, explains-stops}
-use Rattle.cube_feeders.specs.declared.fault.FeedingFault.TheVariants as feeding_fault
-use Rattle.cube_feeders.specs.declared.parcel.FeederEnd.{FeederEnd}
+use Rattle.cube_handover.specs.declared.fault.FeedingFault.TheVariants as feeding_fault
+use Rattle.cube_handover.specs.declared.parcel.FeederEnd.{FeederEnd}
 use Rattle.cube_feeders.proofs.feeding_shares.feed_shares.Given.{Over}
 use Rattle.cube_feeders.proofs.feeding_shares.feed_shares.Goals.{In-Ok, Else-is_err, In-Ok-whole_of}
 use Rattle.cube_feeders.proofs.feeding_shares.feed_shares.Goals as goal

@@ -1,6 +1,6 @@
 use Rattle.std.proofs.Common.{arith, ◌≡◌, ◌∙◌, ap, length, map, drop}
-use Rattle.cube_feeders.specs.declared.roster.Gatherer.{Gatherer}
-use Rattle.cube_feeders.proofs.PlaceLaws.{take-written_back}
+use Rattle.cube_handover.specs.declared.gatherer.Gatherer.{Gatherer}
+use Rattle.cube_handover.proofs.PlaceLaws.{take-written_back}
 use Rattle.cube_feeders.proofs.setup.link_up.Goals as goal
 
 pub feeders_of-requires-clause-none : goal.feeders_of-requires-clause-none

@@ -2,7 +2,7 @@ use Rattle.std.proofs.Common.{arith, ◌≡◌, ap, length}
 use Rattle.std.proofs.lemmas.List.{length-map}
 use Rattle.cube_feed.specs.Feed.{rest_of_feed}
 use Rattle.cube_feeders.specs.declared.roster.Feeder.{Feeder}
-use Rattle.cube_feeders.specs.declared.roster.Gatherer.{Gatherer}
+use Rattle.cube_handover.specs.declared.gatherer.Gatherer.{Gatherer}
 use Rattle.cube_feeders.proofs.setup.set_up.Goals as goal
 
 pub returns-clause-count : goal.returns-clause-count

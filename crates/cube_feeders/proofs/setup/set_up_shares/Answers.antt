@@ -4,7 +4,7 @@ use Rattle.std.proofs.lemmas.List.{length-map}
 use Rattle.cube_feed.specs.Feed.{rest_of_feed}
 use Rattle.cube_feeders.specs.Wiring.{AreLinked}
 use Rattle.cube_feeders.specs.Shares.{AreLinkedInShares}
-use Rattle.cube_feeders.specs.declared.roster.Gatherer.{Gatherer}
+use Rattle.cube_handover.specs.declared.gatherer.Gatherer.{Gatherer}
 use Rattle.cube_feeders.proofs.ShareLaws.{linked-whole, ready-shares}
 use Rattle.cube_feeders.proofs.setup.set_up_shares.Given.{Over}
 use Rattle.cube_feeders.proofs.setup.set_up_shares.Goals.{After-swap_remove, In_ok-gatherers}

@@ -4,7 +4,7 @@ use Rattle.std.proofs.lemmas.List.{nil_from_length}
 use Rattle.std.proofs.lemmas.Slice.Zip.{AllZip-long}
 use Rattle.cube_feeders.specs.Starting.{MayStart, IsReady, HasGathered}
 use Rattle.cube_feeders.specs.declared.roster.Roster.{Roster}
-use Rattle.cube_feeders.proofs.PlaceLaws.{All-append_front, All-append_last, length-last, room-for}
+use Rattle.cube_handover.proofs.PlaceLaws.{All-append_front, All-append_last, length-last, room-for}
 use Rattle.cube_core.proofs.ListLaws.{AllZip-push}
 use Rattle.cube_feeders.proofs.starting_builders.+with_builders.Goals as goal
 

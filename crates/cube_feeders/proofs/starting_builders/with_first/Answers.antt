@@ -1,6 +1,6 @@
 use Rattle.std.proofs.Common.{rules, refl, length, ◌≡◌, []}
 use Rattle.cube_feeders.specs.Starting.{HasGathered}
-use Rattle.cube_feeders.proofs.PlaceLaws.{AllZip-nil}
+use Rattle.cube_handover.proofs.PlaceLaws.{AllZip-nil}
 use Rattle.cube_core.proofs.ListLaws.{AllZip-push}
 use Rattle.cube_feeders.proofs.starting_builders.with_first.Goals as goal
 

@@ -1,8 +1,8 @@
 use Rattle.std.proofs.Common.{arith, ap, sym, ◌≡◌, ◌≤◌, ◌+◌, ◌∷◌, [], ℕ, ◌∙◌, vec_len}
 use Rattle.std.proofs.lemmas.Bool.{eqb-true, eqb-false}
 use Rattle.std.proofs.lemmas.Slice.Zip.{AllZip-long}
-use Rattle.cube_feeders.specs.Feeding.{Feeds}
-use Rattle.cube_feeders.proofs.PlaceLaws.{All-append_front, AllZip-nil, length-last, room-for}
+use Rattle.cube_handover.specs.Feeding.{Feeds}
+use Rattle.cube_handover.proofs.PlaceLaws.{All-append_front, AllZip-nil, length-last, room-for}
 use Rattle.cube_core.proofs.ListLaws.{AllZip-push}
 use Rattle.cube_feeders.proofs.starting_feeders.+with_feeders.Goals as goal
 

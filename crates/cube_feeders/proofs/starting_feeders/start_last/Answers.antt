@@ -1,6 +1,6 @@
 use Rattle.std.proofs.Common.{arith, ◌≤◌, ◌∙◌, ap, vec_len}
 use Rattle.std.proofs.lemmas.Result.{IfOk-weaker}
-use Rattle.cube_feeders.proofs.PlaceLaws.{All-append_last}
+use Rattle.cube_handover.proofs.PlaceLaws.{All-append_last}
 use Rattle.cube_feeders.proofs.WireLaws.{ok-holds}
 use Rattle.cube_feeders.proofs.starting_feeders.start_last.Goals as goal
 

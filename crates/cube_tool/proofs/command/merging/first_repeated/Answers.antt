@@ -1,6 +1,6 @@
 use Rattle.std.proofs.Common.{◌≡◌, inl, inr, ℕ, List, Bor, length, map, subst, arith}
 use Rattle.std.proofs.lemmas.List.{length-map}
-use Rattle.cube_feeders.proofs.WireLaws.{lt-cases}
+use Rattle.cube_handover.proofs.PlaceLaws.{lt-cases}
 use Rattle.cube_tool.specs.MergingCubes.{StandsBefore}
 use Rattle.cube_tool.proofs.command.merging.first_repeated.Goals as goal
 

@@ -1,7 +1,7 @@
 use Rattle.std.proofs.Common.{◌<◌, ◌∙◌, inl, inr, length, sym, arith}
 use Rattle.std.proofs.lemmas.Bool.{both_ways}
 use Rattle.std.proofs.lemmas.Slice.Eq.{bytes_eq-Decides}
-use Rattle.cube_feeders.proofs.WireLaws.{lt-cases}
+use Rattle.cube_handover.proofs.PlaceLaws.{lt-cases}
 use Rattle.cube_tool.proofs.MergingLaws.{text-at}
 use Rattle.cube_tool.proofs.command.merging.stands_before.Goals as goal
 

@@ -1,0 +1,5 @@
+pub mod PlaceLaws
+mod SendLaws
+mod GatherLaws
+mod SettleLaws
+mod WholeLaws
