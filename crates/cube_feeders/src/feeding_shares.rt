@@ -5,11 +5,11 @@ ghost use Rattle.cube_core.specs.Run.{AreGood};
 ghost use Rattle.cube_feeders.specs.FeedingAll.{TakeAll, ExplainsFeeding};
 ghost use Rattle.cube_feeders.specs.Shares.{AreWholeOf, StandInShares};
 
-use crate::setup::{Setup, set_up_shares};
+use crate::setup::{Setup, only, set_up_shares};
 use crate::together::run_together;
 use cube_core::Schema;
 use cube_feed::TakesItems;
-use cube_handover::{FeedingFault, Gate, Gatherer, first_stop, only, put_together, settle};
+use cube_handover::{FeedingFault, Gate, Gatherer, first_stop, put_together, settle};
 use std::alloc::{AllocError, Global};
 use std::io::Read;
 use std::sync::Wait;

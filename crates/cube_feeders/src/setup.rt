@@ -1,5 +1,5 @@
 //! What is made before a thread starts.
-ghost use Rattle.std.specs.Prelude.{◌≡◌, ◌≤◌, [], map, sum_by, vec_len, IfOk};
+ghost use Rattle.std.specs.Prelude.{◌≡◌, ◌≤◌, ◌∷◌, [], map, sum_by, vec_len, IfOk};
 ghost use Rattle.std.specs.List.{All};
 ghost use Rattle.cube_feeders.specs.Starting.{IsReady, MayStart};
 ghost use Rattle.cube_feeders.specs.Shares.{AreLinkedInShares};
@@ -10,7 +10,7 @@ use crate::roster::{Feeder, Roster};
 use crate::wiring::{feeders_of, gatherers_of, words_for};
 use cube_core::Schema;
 use cube_feed::TakesItems;
-use cube_handover::{Gatherer, cut_up, only};
+use cube_handover::{Gatherer, cut_up};
 use std::alloc::{AllocError, Global};
 use std::io::Read;
 
@@ -134,4 +134,13 @@ pub fn set_up_shares<'e, R: Read + Drop, B: TakesItems>(
         feeders,
         roster,
     })
+}
+
+/// A list of one element. The only error is want of memory.
+pub(crate) fn only<X: Drop>(alloc: Global, one: X) -> Result<Vec<X>, AllocError>
+    ensures { IfOk result (λ list. list.items ≡ one ∷ []) }
+{
+    let mut list = Vec::with_capacity(alloc, 1)?;
+    list.push(one)?;
+    Ok(list)
 }

@@ -25,4 +25,4 @@ pub use gatherer::{Gatherer, Place};
 pub use gathering::gather;
 pub use parcel::{FeederEnd, Parcel};
 pub use settling::settle;
-pub use shares::{cut_up, only, put_together};
+pub use shares::{cut_up, put_together};

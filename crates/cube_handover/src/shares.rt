@@ -9,15 +9,6 @@ use cube_feed::TakesItems;
 use cube_link::Inlet;
 use std::alloc::{AllocError, Global};
 
-/// A list of one element. The only error is want of memory.
-pub fn only<X: Drop>(alloc: Global, one: X) -> Result<Vec<X>, AllocError>
-    ensures { IfOk result (λ list. list.items ≡ one ∷ []) }
-{
-    let mut list = Vec::with_capacity(alloc, 1)?;
-    list.push(one)?;
-    Ok(list)
-}
-
 /// Gives each of these builders the links of its sources: the first those of the first sources, the next of those that
 /// follow, and so on. The only error is want of memory.
 pub fn cut_up<B: TakesItems>(
