@@ -1,5 +1,5 @@
 //! A multiset of numbers.
-ghost use Rattle.std.specs.Prelude.{nat_lt, ◌==◌, ℤ, ◌≡◌, ◌<◌, ◌≤◌, ◌+◌, ◌^◌, ◌↔◌, All, IsTrue, IsNone, IfNone, IfSome, IfOk, OnOk, OnErr};
+ghost use Rattle.std.specs.Prelude.{nat_lt, ◌==◌, ℤ, [], ◌∷◌, ◌≡◌, ◌<◌, ◌≤◌, ◌+◌, ◌^◌, ◌↔◌, All, IsTrue, IsNone, IfNone, IfSome, IfOk, OnOk, OnErr};
 ghost use Rattle.std.specs.Bool.{OnTrue, OnFalse};
 ghost use Rattle.cube_numbers.specs.Bag.{Bag, AddsBag, AddsOne, AddsTimes, SameHeld, held_of, size_of, HasLeast, HasGreatest};
 ghost use Rattle.cube_numbers.specs.Narrow.{once_each};
@@ -384,8 +384,7 @@ fn add_value(alloc: Global, values: &mut Values, value: i64, times: u64) -> Resu
     Ok(())
 }
 
-// Adds a number so many times to one that is held alone. Where that is another, answers both: as a narrow list where each
-// is of 32 bits and is held once, and else as a short one.
+// Adds a number so many times to one that is held alone. Where that is another, answers both.
 fn add_to_single(
     alloc: Global,
     single: &mut Single,
@@ -399,11 +398,21 @@ fn add_to_single(
     if single.add(more.0, more.1) {
         return Ok(None);
     }
-    let pair = single.pair();
-    if let Some(narrow) = Narrow::of_two(alloc, pair, more)? {
-        return Ok(Some(Values::Narrow(narrow)));
+    Ok(Some(two_of(alloc, single.pair(), more)?))
+}
+
+// Two numbers, each with how often it is held: a narrow list where each is of 32 bits and is held once, and else a short
+// one.
+#[cold]
+fn two_of(alloc: Global, first: (i64, u64), second: (i64, u64)) -> Result<Values, AllocError>
+    requires first { 0 < first.1 }
+    requires second { 0 < second.1 }
+    ensures { IfOk result (λ values. AddsTimes (first ∷ []) (bag_of values) second.0 second.1) }
+{
+    if let Some(narrow) = Narrow::of_two(alloc, first, second)? {
+        return Ok(Values::Narrow(narrow));
     }
-    Ok(Some(Values::Few(Short::of_two(alloc, pair, more)?)))
+    Ok(Values::Few(Short::of_two(alloc, first, second)?))
 }
 
 // Adds a number so many times to a short list. Where there is no place for it, answers a log of all.
@@ -425,7 +434,7 @@ fn add_to_short(
 }
 
 // Adds a number so many times to a narrow list. Where that doesn't take it, answers all in a form that counts how often
-// each is held: a short list where it has place for all, a table where the numbers repeat, and else a log.
+// each is held.
 fn add_to_narrow(
     alloc: Global,
     narrow: &mut Narrow,
@@ -439,15 +448,26 @@ fn add_to_narrow(
     if narrow.add(more.0, more.1)? {
         return Ok(None);
     }
+    Ok(Some(widened(alloc, narrow, more)?))
+}
+
+// The numbers of a narrow list and another, so many times, in a form that counts how often each is held: a short list
+// where it has place for all, a table where the numbers repeat, and else a log.
+#[cold]
+fn widened(alloc: Global, narrow: &Narrow, more: (i64, u64)) -> Result<Values, AllocError>
+    requires some { 0 < more.1 }
+    requires fits { size_of narrow.now + more.1 < 2 ^ 64 }
+    ensures { IfOk result (λ values. AddsTimes narrow.now (bag_of values) more.0 more.1) }
+{
     let numbers = narrow.numbers();
     if let Some(short) = Short::of_numbers(alloc, numbers, more)? {
-        return Ok(Some(Values::Few(short)));
+        return Ok(Values::Few(short));
     }
     if narrow.repeats() {
         return table_with(alloc, Table::of_numbers(alloc, numbers)?, more);
     }
     let log = Log::of_numbers(alloc, numbers, &[more])?;
-    Ok(Some(Values::Logged(log)))
+    Ok(Values::Logged(log))
 }
 
 // Adds a number so many times to a log. Where that doesn't take it, answers a table of all.
@@ -460,21 +480,27 @@ fn add_to_log(alloc: Global, log: &mut Log, more: (i64, u64)) -> Result<Option<V
     if log.add(more.0, more.1)? {
         return Ok(None);
     }
+    Ok(Some(table_of(alloc, log, more)?))
+}
+
+// A table of the numbers of a log and another, so many times.
+#[cold]
+fn table_of(alloc: Global, log: &Log, more: (i64, u64)) -> Result<Values, AllocError>
+    requires some { 0 < more.1 }
+    requires fits { size_of log.now + more.1 < 2 ^ 64 }
+    ensures { IfOk result (λ values. AddsTimes log.now (bag_of values) more.0 more.1) }
+{
     table_with(alloc, table_of_each(alloc, log)?, more)
 }
 
 // A table with a number, so many times.
-fn table_with(
-    alloc: Global,
-    mut table: Table,
-    more: (i64, u64),
-) -> Result<Option<Values>, AllocError>
+fn table_with(alloc: Global, mut table: Table, more: (i64, u64)) -> Result<Values, AllocError>
     requires some { 0 < more.1 }
     requires fits { size_of table + more.1 < 2 ^ 64 }
-    ensures { IfOk result (λ grown. AddsTimes table (bag_left table grown) more.0 more.1) }
+    ensures { IfOk result (λ values. AddsTimes table (bag_of values) more.0 more.1) }
 {
     table.add(more.0, more.1)?;
-    Ok(Some(Values::Many(Box::new(alloc, table)?)))
+    Ok(Values::Many(Box::new(alloc, table)?))
 }
 
 // A table of the numbers of a log.
