@@ -6,3 +6,4 @@ pub mod TakeLaws
 mod SettleLaws
 mod JoinedLaws
 mod ShareLaws
+mod KeepLaws
