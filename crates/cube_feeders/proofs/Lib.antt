@@ -2,3 +2,4 @@ pub mod WireLaws
 pub mod TakeLaws
 mod JoinedLaws
 mod ShareLaws
+mod KeepLaws

@@ -1,5 +1,6 @@
 -- What is known of builders and feeders before their threads start, and after they were joined.
 use Rattle.std.specs.Prelude.{◌≡◌, ◌+◌, ◌≤◌, ℕ, List, [], ◌∷◌, ◌++◌, false, length, map, vec_len, vec_capacity}
+use Rattle.std.specs.Prelude.{Option, Some, Result, Ok}
 use Rattle.cube_core.specs.Arrival.{Arrivals, of_sources}
 use Rattle.cube_handover.specs.Gathering.{AreFresh}
 use Rattle.cube_handover.specs.Parcels.{parcels_of}
@@ -44,3 +45,10 @@ pub record StartsLast {P : Type 0} (feeders rest : List P) (Promises : P → Typ
   pub feeder : P
   pub split : feeders ≡ rest ++ feeder ∷ []
   pub promises : Promises feeder
+
+-- what a joined thread gave back was kept behind what is kept of others, whose answer is that all came to their ends
+pub record Keeps {A E : Type 0} (answer : Result (Unit {0}) E) (given : Option A) (old new : List A) : Type 0 where
+  pub all : answer ≡ Ok tt
+  pub one : A
+  pub is : given ≡ Some one
+  pub kept : new ≡ old ++ one ∷ []

@@ -1,8 +1,8 @@
 //! Starting and joining the builders.
-ghost use Rattle.std.specs.Prelude.{◌≡◌, ◌≤◌, ◌+◌, ◌++◌, ◌∷◌, [], vec_len, vec_capacity, OnOk, IfSome};
+ghost use Rattle.std.specs.Prelude.{◌≡◌, ◌≤◌, ◌+◌, ◌∷◌, [], vec_len, vec_capacity, OnOk, IfSome};
 ghost use Rattle.std.specs.List.{All, AllZip};
 ghost use Rattle.cube_handover.specs.Feeding.{Feeds};
-ghost use Rattle.cube_feeders.specs.Starting.{MayStart, IsReady, HasGathered};
+ghost use Rattle.cube_feeders.specs.Starting.{MayStart, IsReady, HasGathered, Keeps};
 
 use crate::roster::{Feeder, NoThread, Roster};
 use crate::starting_feeders::{gather_all, with_feeders};
@@ -45,16 +45,27 @@ fn gather_on_word<W: Wait, B: TakesItems, G: Gate>(
     }
 }
 
-// Keeps what a builder gathered, for which there is room.
-fn keep<B: TakesItems>(gatherer: Gatherer<B>, roster: &mut Roster<B>)
-    requires { vec_len roster.old.gatherers + 1 ≤ vec_capacity roster.old.gatherers }
-    ensures gatherers { roster.new.gatherers.items ≡ roster.old.gatherers.items ++ gatherer ∷ [] }
-    ensures ends { roster.new.ends ≡ roster.old.ends }
+// Keeps what a builder gathered, for which there is room, where it and all that were started after it came to their ends.
+fn keep<B: TakesItems>(
+    answer: Result<(), NoThread>,
+    gatherer: Option<Gatherer<B>>,
+    roster: &mut Roster<B>,
+) -> Result<(), NoThread>
+    requires { OnOk answer (vec_len roster.old.gatherers + 1 ≤ vec_capacity roster.old.gatherers) }
+    ensures gatherers { OnOk result
+        (Keeps answer gatherer roster.old.gatherers.items roster.new.gatherers.items) }
     ensures room { vec_capacity roster.old.gatherers ≤ vec_capacity roster.new.gatherers }
+    ensures ends { roster.new.ends ≡ roster.old.ends }
 {
-    let Ok(()) = roster.gatherers.push(gatherer) else {
-        unreachable!()
-    };
+    match (answer, gatherer) {
+        (Ok(()), Some(gatherer)) => {
+            let Ok(()) = roster.gatherers.push(gatherer) else {
+                unreachable!()
+            };
+            Ok(())
+        }
+        _ => Err(NoThread),
+    }
 }
 
 // Starts a builder, which waits for a word before it gathers.
@@ -111,9 +122,8 @@ fn with_first<
         (vec_capacity roster.old.gatherers ≤ vec_capacity roster.new.gatherers) }
 {
     let mut gatherer = gatherer;
-    with_feeders(rt, alloc, scope, gate, feeders, &mut gatherer, roster)?;
-    keep(gatherer, roster);
-    Ok(())
+    let answer = with_feeders(rt, alloc, scope, gate, feeders, &mut gatherer, roster);
+    keep(answer, Some(gatherer), roster)
 }
 
 /// Starts all builders but the first, the last one first, then the feeders, and joins them all. The first builder
@@ -159,11 +169,5 @@ pub(crate) fn with_builders<
         return Err(NoThread);
     };
     let answer = with_builders(rt, alloc, scope, gate, builders, feeders, roster);
-    match (answer, child.join(rt)) {
-        (Ok(()), Some(gatherer)) => {
-            keep(gatherer, roster);
-            Ok(())
-        }
-        _ => Err(NoThread),
-    }
+    keep(answer, child.join(rt), roster)
 }

@@ -1,8 +1,8 @@
 //! Starting and joining the feeders.
-ghost use Rattle.std.specs.Prelude.{◌≡◌, ◌≤◌, ◌+◌, ◌++◌, ◌∷◌, [], vec_len, vec_capacity, OnOk, IfSome};
+ghost use Rattle.std.specs.Prelude.{◌≡◌, ◌≤◌, ◌+◌, vec_len, vec_capacity, OnOk, IfSome};
 ghost use Rattle.std.specs.List.{All, AllZip};
 ghost use Rattle.cube_handover.specs.Feeding.{Feeds};
-ghost use Rattle.cube_feeders.specs.Starting.{RosterHasRoom, IsReady, HasGathered, StartsLast};
+ghost use Rattle.cube_feeders.specs.Starting.{RosterHasRoom, IsReady, HasGathered, Keeps, StartsLast};
 
 use crate::roster::{Feeder, NoThread, Roster};
 use crate::words::{Word, tell_all, wait_for_word};
@@ -106,16 +106,26 @@ fn start_last<
     (feeders, started.ok())
 }
 
-// Keeps what a feeder left, for which there is room.
-fn keep_end<B: Drop>(end: FeederEnd, roster: &mut Roster<B>)
-    requires { vec_len roster.old.ends + 1 ≤ vec_capacity roster.old.ends }
-    ensures ends { roster.new.ends.items ≡ roster.old.ends.items ++ end ∷ [] }
-    ensures gatherers { roster.new.gatherers ≡ roster.old.gatherers }
+// Keeps what a feeder left, for which there is room, where it and all that were started after it came to their ends.
+fn keep_end<B: Drop>(
+    answer: Result<(), NoThread>,
+    end: Option<FeederEnd>,
+    roster: &mut Roster<B>,
+) -> Result<(), NoThread>
+    requires { OnOk answer (vec_len roster.old.ends + 1 ≤ vec_capacity roster.old.ends) }
+    ensures ends { OnOk result (Keeps answer end roster.old.ends.items roster.new.ends.items) }
     ensures room { vec_capacity roster.old.ends ≤ vec_capacity roster.new.ends }
+    ensures gatherers { roster.new.gatherers ≡ roster.old.gatherers }
 {
-    let Ok(()) = roster.ends.push(end) else {
-        unreachable!()
-    };
+    match (answer, end) {
+        (Ok(()), Some(end)) => {
+            let Ok(()) = roster.ends.push(end) else {
+                unreachable!()
+            };
+            Ok(())
+        }
+        _ => Err(NoThread),
+    }
 }
 
 /// Starts the feeders, the last source's first, gathers beside them into the first builder, and joins them.
@@ -160,12 +170,5 @@ pub(crate) fn with_feeders<
         return Err(NoThread);
     };
     let answer = with_feeders(rt, alloc, scope, gate, feeders, own, roster);
-    let end = child.join(rt);
-    match (answer, end) {
-        (Ok(()), Some(end)) => {
-            keep_end(end, roster);
-            Ok(())
-        }
-        _ => Err(NoThread),
-    }
+    keep_end(answer, child.join(rt), roster)
 }

@@ -1,5 +1,5 @@
 -- Lists that are changed place by place.
-use Rattle.std.proofs.Common.{◌≡◌, ◌<◌, ◌≤◌, ◌+◌, ◌++◌, ℕ, zero, suc, List, [], ◌∷◌, length, take}
+use Rattle.std.proofs.Common.{◌≡◌, ◌<◌, ◌+◌, ◌++◌, ℕ, zero, suc, List, [], ◌∷◌, length, take}
 use Rattle.std.proofs.Common.{get_or, set, map, refl}
 use Rattle.std.proofs.Common.{ap, arith, ◌∙◌, ◌⊎◌, inl, inr}
 use Rattle.std.proofs.lemmas.Grind.{common_steps}
@@ -80,11 +80,6 @@ take-written_back xs ys n e = rw (← e) (take-append_seam xs ys)
 -- how many are left of a list whose last was taken
 pub length-last : {A : Type 0} (all rest : List A) (last : A) → all ≡ rest ++ last ∷ [] → length all ≡ length rest + 1
 length-last all rest last split = ap length split ∙ length-append rest (last ∷ [])
-
--- there is room for one more where there was room for all
-pub room-for : (all rest kept room later : ℕ) → all ≡ rest + 1 → rest ≡ kept → all ≤ room → room ≤ later
-    → kept + 1 ≤ later
-room-for all rest kept room later count long within grows = omega arith
 
 -- ---- a list with one element more
 pub lt-cases : (i n : ℕ) → i < n + 1 → (i < n) ⊎ (i ≡ n)

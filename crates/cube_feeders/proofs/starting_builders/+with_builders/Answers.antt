@@ -1,11 +1,13 @@
-use Rattle.std.proofs.Common.{arith, ap, sym, ◌≡◌, ◌+◌, ◌∷◌, [], ◌∙◌, ℕ, vec_len}
+use Rattle.std.proofs.Common.{arith, sym, ◌∷◌, [], ◌∙◌, ℕ, vec_len}
 use Rattle.std.proofs.lemmas.Bool.{eqb-true}
 use Rattle.std.proofs.lemmas.List.{nil_from_length}
-use Rattle.std.proofs.lemmas.Slice.Zip.{AllZip-long}
+use Rattle.std.proofs.lemmas.Result.{on_ok_weaker}
+use Rattle.std.specs.List.{AllZip}
+use Rattle.cube_handover.specs.Feeding.{Feeds}
 use Rattle.cube_feeders.specs.Starting.{MayStart, IsReady, HasGathered}
 use Rattle.cube_feeders.specs.declared.roster.Roster.{Roster}
-use Rattle.cube_handover.proofs.PlaceLaws.{All-append_front, All-append_last, length-last, room-for}
-use Rattle.cube_core.proofs.ListLaws.{AllZip-push}
+use Rattle.cube_feeders.proofs.KeepLaws.{AllZip-Keeps, grows-Keeps, known-Keeps, room-kept}
+use Rattle.cube_handover.proofs.PlaceLaws.{All-append_front, All-append_last, length-last}
 use Rattle.cube_feeders.proofs.starting_builders.+with_builders.Goals as goal
 
 -- where several builders may be started, one may
@@ -36,16 +38,28 @@ with_builders-answer-requires-clause-ready g t c κs within =
     All-append_front c.pop.new.self.items (c.unwrap-gatherer.result ∷ [])
     (IsReady g.B.TakesItems.sources g.B.TakesItems.stands) (rw whole at c.requires.ready)
 
-pub returns-in-Ok-Some-clause-gatherers : goal.returns-in-Ok-Some-clause-gatherers
-returns-in-Ok-Some-clause-gatherers g t c =
+pub returns-clause-gatherers : goal.returns-clause-gatherers
+returns-clause-gatherers g t c =
     let whole = rw c.unwrap-gatherer.ensures at c.pop.ensures.items in
-    let answered = rw c.in-Ok-Some.is-0 at c.with_builders-answer.ensures.gatherers in
-    let joined = rw c.in-Ok-Some.is-1 at c.join.ensures in
     let promised = rw c.in-Some.is at c.start.ensures in
-    let kept : HasGathered g.B.TakesItems.stands c.unwrap-gatherer.result c.in-Ok-Some.gatherer =
-    rw (← promised) joined in
-    rw (whole, c.keep.ensures.gatherers)
-    (AllZip-push (HasGathered g.B.TakesItems.stands) _ _ _ _ answered kept)
+    on_ok_weaker c.keep.result
+    (AllZip-Keeps (HasGathered g.B.TakesItems.stands) c.args.builders.items c.pop.new.self.items
+    c.unwrap-gatherer.result c.with_builders-answer.result c.join.result _ _ whole
+    c.with_builders-answer.ensures.gatherers (rw promised at c.join.ensures))
+    c.keep.ensures.gatherers
+
+pub returns-clause-ends : goal.returns-clause-ends
+returns-clause-ends g t c = rw c.keep.ensures.ends
+    (known-Keeps
+    (AllZip (λ feeder end. Feeds feeder.feed.to_come feeder.outlets.items end) c.args.feeders.items
+    c.with_builders-answer.new.roster.ends.items)
+    c.with_builders-answer.result c.keep.result c.join.result _ _ c.with_builders-answer.ensures.ends
+    c.keep.ensures.gatherers)
+
+pub returns-clause-room : goal.returns-clause-room
+returns-clause-room g t c =
+    grows-Keeps c.with_builders-answer.result c.keep.result c.join.result _ _ _ _ _
+    c.with_builders-answer.ensures.room c.keep.ensures.room c.keep.ensures.gatherers
 
 pub returns-then-is_empty-clause-gatherers : goal.returns-then-is_empty-clause-gatherers
 returns-then-is_empty-clause-gatherers g t c =
@@ -66,14 +80,9 @@ with_first-requires-clause-start g t c κs within = may_start-one _ _ _ c.requir
 
 pub keep-requires : goal.keep-requires
 keep-requires g t c =
-    let rest = c.pop.new.self in
-    let kept = c.with_builders-answer.new.roster.gatherers in
-    let answered = rw c.in-Ok-Some.is-0 at c.with_builders-answer.ensures.gatherers in
-    let room = rw c.in-Ok-Some.is-0 at c.with_builders-answer.ensures.room in
-    let count : c.args.builders.len ≡ rest.len + 1 =
-    c.args.builders.ok.0
-    ∙ length-last c.args.builders.items rest.items c.unwrap-gatherer.result
-    (rw c.unwrap-gatherer.ensures at c.pop.ensures.items)
-    ∙ ap (λ (n : ℕ). n + 1) (sym rest.ok.0) in
-    room-for _ _ kept.len _ _ count (rest.ok.0 ∙ sym (AllZip-long _ _ _ answered) ∙ sym kept.ok.0)
-    c.requires.start.room room
+    let whole = rw c.unwrap-gatherer.ensures at c.pop.ensures.items in
+    room-kept _ c.pop.new.self.items c.with_builders-answer.new.roster.gatherers.items c.with_builders-answer.result
+    c.args.builders.len _ _ _
+    (c.args.builders.ok.0 ∙ length-last c.args.builders.items c.pop.new.self.items c.unwrap-gatherer.result whole)
+    c.with_builders-answer.new.roster.gatherers.ok.0 c.requires.start.room c.with_builders-answer.ensures.gatherers
+    c.with_builders-answer.ensures.room

@@ -1,9 +1,9 @@
 use Rattle.std.proofs.Common.{arith, ap, sym, ◌≡◌, ◌≤◌, ◌+◌, ◌∷◌, [], ℕ, ◌∙◌, vec_len}
 use Rattle.std.proofs.lemmas.Bool.{eqb-true, eqb-false}
-use Rattle.std.proofs.lemmas.Slice.Zip.{AllZip-long}
-use Rattle.cube_handover.specs.Feeding.{Feeds}
-use Rattle.cube_handover.proofs.PlaceLaws.{All-append_front, AllZip-nil, length-last, room-for}
-use Rattle.cube_core.proofs.ListLaws.{AllZip-push}
+use Rattle.std.proofs.lemmas.Result.{on_ok_weaker}
+use Rattle.cube_feeders.specs.Starting.{HasGathered}
+use Rattle.cube_feeders.proofs.KeepLaws.{AllZip-Keeps, grows-Keeps, known-Keeps, room-kept}
+use Rattle.cube_handover.proofs.PlaceLaws.{All-append_front, AllZip-nil, length-last}
 use Rattle.cube_feeders.proofs.starting_feeders.+with_feeders.Goals as goal
 
 some-left : (n : ℕ) → (n ≡ 0 → ⊥) → 1 ≤ n
@@ -24,15 +24,28 @@ returns-then-is_empty-clause-ends g t c =
     (sym c.args.feeders.ok.0 ∙ eqb-true (vec_len c.args.feeders) 0 (sym c.is_empty.ensures ∙ c.if-is_empty.true))
     (sym c.args.roster.now.ends.ok.0 ∙ c.requires.room.none)
 
-pub returns-in-Ok-Some-clause-ends : goal.returns-in-Ok-Some-clause-ends
-returns-in-Ok-Some-clause-ends g t c =
+pub returns-clause-ends : goal.returns-clause-ends
+returns-clause-ends g t c =
     let last = c.start_last-feeders.ensures in
-    let answered = rw c.in-Ok-Some.is-0 at c.with_feeders-answer.ensures.ends in
-    let joined = rw c.in-Ok-Some.is-1 at c.join-end.ensures in
     let promised = rw c.in-Some.is at last.promises in
-    let kept : Feeds last.feeder.feed.to_come last.feeder.outlets.items c.in-Ok-Some.end =
-    rw (← promised) joined in
-    rw (last.split, c.keep_end.ensures.ends) (AllZip-push _ _ _ _ _ answered kept)
+    on_ok_weaker c.keep_end.result
+    (AllZip-Keeps _ c.args.feeders.items c.start_last-feeders.result.0.items last.feeder c.with_feeders-answer.result
+    c.join.result _ _ last.split c.with_feeders-answer.ensures.ends (rw promised at c.join.ensures))
+    c.keep_end.ensures.ends
+
+pub returns-clause-own : goal.returns-clause-own
+returns-clause-own g t c =
+    known-Keeps (HasGathered g.B.TakesItems.stands c.args.own.now c.with_feeders-answer.new.own)
+    c.with_feeders-answer.result c.keep_end.result c.join.result _ _ c.with_feeders-answer.ensures.own
+    c.keep_end.ensures.ends
+
+pub returns-clause-room : goal.returns-clause-room
+returns-clause-room g t c =
+    grows-Keeps c.with_feeders-answer.result c.keep_end.result c.join.result _ _ _ _ _
+    c.with_feeders-answer.ensures.room c.keep_end.ensures.room c.keep_end.ensures.ends
+
+pub returns-clause-gatherers : goal.returns-clause-gatherers
+returns-clause-gatherers g t c = c.keep_end.ensures.gatherers ∙ c.with_feeders-answer.ensures.gatherers
 
 pub with_feeders-answer-requires-clause-outlets : goal.with_feeders-answer-requires-clause-outlets
 with_feeders-answer-requires-clause-outlets g t c κs within =
@@ -63,15 +76,11 @@ with_feeders-answer-requires-clause-room g t c κs within =
 pub keep_end-requires : goal.keep_end-requires
 keep_end-requires g t c =
     let last = c.start_last-feeders.ensures in
-    let rest = c.start_last-feeders.result.0 in
-    let ends = c.with_feeders-answer.new.roster.ends in
-    let answered = rw c.in-Ok-Some.is-0 at c.with_feeders-answer.ensures.ends in
-    let room = rw c.in-Ok-Some.is-0 at c.with_feeders-answer.ensures.room in
-    let count : c.args.feeders.len ≡ rest.len + 1 =
-    c.args.feeders.ok.0 ∙ length-last c.args.feeders.items rest.items last.feeder last.split
-    ∙ ap (λ (n : ℕ). n + 1) (sym rest.ok.0) in
-    room-for _ _ ends.len _ _ count (rest.ok.0 ∙ sym (AllZip-long _ _ _ answered) ∙ sym ends.ok.0)
-    c.requires.room.room room
+    room-kept _ c.start_last-feeders.result.0.items c.with_feeders-answer.new.roster.ends.items
+    c.with_feeders-answer.result c.args.feeders.len _ _ _
+    (c.args.feeders.ok.0 ∙ length-last c.args.feeders.items c.start_last-feeders.result.0.items last.feeder last.split)
+    c.with_feeders-answer.new.roster.ends.ok.0 c.requires.room.room c.with_feeders-answer.ensures.ends
+    c.with_feeders-answer.ensures.room
 
 pub unwrap-post-requires : goal.unwrap-post-requires
 unwrap-post-requires g t c =
