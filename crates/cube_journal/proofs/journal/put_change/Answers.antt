@@ -6,7 +6,8 @@ use Rattle.sqlite_trees.specs.View.{View, HasCause}
 use Rattle.cube_journal.proofs.journal.put_change.Goals as goal
 
 -- a cause among more
-HasCause-wider : (v : View) (fault P Q : Type 0) (e : StoreError) → (P → Q) → HasCause v fault P e → HasCause v fault Q e
+HasCause-wider : (v : View) (fault P Q : Type 0) (e : StoreError) → (P → Q) → HasCause v fault P e
+    → HasCause v fault Q e
 HasCause-wider v fault P Q OutOfMemory wider h = h
 HasCause-wider v fault P Q Io wider h = h
 HasCause-wider v fault P Q Corrupt wider h = h

@@ -1,4 +1,4 @@
-use Rattle.std.proofs.Common.{ap, ◌∙◌, subst}
+use Rattle.std.proofs.Common.{ap, ◌∙◌, subst, rules}
 use Rattle.sqlite_store.specs.FileStore.{view}
 use Rattle.sqlite_store.specs.declared.store.FileStore.{FileStore}
 use Rattle.cube_store.specs.Closing.{IsUnharmed}
@@ -20,3 +20,6 @@ returns-in-Err-clause-unharmed g c =
       cause = λ clean. rw c.from.ensures
           (codes.copy_fails (view c.into_store-store.result) _ c.in-Err.error (c.in-Err.ensures.cause clean));
     })
+
+pub returns-in-Ok-clause-emptied : goal.returns-in-Ok-clause-emptied
+returns-in-Ok-clause-emptied g c = search (rules, c.into_store-store.ensures.value)

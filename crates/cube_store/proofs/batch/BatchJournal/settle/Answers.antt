@@ -17,3 +17,9 @@ returns-clause-kept g c =
     rw (← c.self.view_is) (λ first changes sure kept.
     laws.HasKept-commit g.S.Store.view g.S.Store.recovers g.S.Store.faults first old new changes sure kept
     c.commit.ensures.on c.in_ok-commit.ensures.ok c.in_ok-commit.ensures.durable)
+
+pub returns-then-self-eq0-clause-kept : goal.returns-then-self-eq0-clause-kept
+returns-then-self-eq0-clause-kept g c =
+    let now : Batch g.row.S.Denot = record { store = c.self.inside.journal.store; waiting = c.self.inside.waiting } in
+    rw (← c.self.view_is) (λ first changes sure kept.
+    laws.HasKept-settled g.S.Store.view g.S.Store.recovers first now changes sure c.if-self-eq0.true kept)
