@@ -48,12 +48,10 @@ impl Figures {
     ) -> fmt::Result {
         let lines = self.lines;
         let ending = if inputs == 1 { "" } else { "s" };
+        write!(f, "{what} {inputs} {input}{ending}: {lines} lines")?;
         match rate(lines, self.millis) {
-            Some(rate) => write!(
-                f,
-                "{what} {inputs} {input}{ending}: {lines} lines, {rate} a second"
-            ),
-            None => write!(f, "{what} {inputs} {input}{ending}: {lines} lines"),
+            Some(rate) => write!(f, ", {rate} a second"),
+            None => Ok(()),
         }
     }
 }

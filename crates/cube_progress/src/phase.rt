@@ -1,7 +1,7 @@
 //! What a command is at.
 
 /// What a command is at, as the progress line says it.
-#[derive(Clone, Copy, Debug, PartialEq, Eq)]
+#[derive(Clone, Copy)]
 pub enum Phase {
     /// So many feeds are read, and then the cube is filled from them.
     Reading { feeds: usize },
