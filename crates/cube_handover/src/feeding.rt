@@ -17,18 +17,17 @@ fn send_all<W: Wait, R: Read + Drop, G: Gate>(
     rt: &W,
     alloc: Global,
     source: u32,
-    feed: Feed<'_, R>,
+    feed: &mut Feed<'_, R>,
     outlets: &mut [Outlet<Parcel>],
     gate: &G,
 ) -> Option<FeedFault>
     requires { (1 ≤ length outlets.old) × (length outlets.old ≤ 8) }
-    ensures { SendsAll feed.entry.to_come outlets.old outlets.new result }
+    ensures { SendsAll feed.old.to_come outlets.old outlets.new result }
 {
-    let mut feed = feed;
     let mut copies = Vec::new(alloc);
     let mut offering = Offering::new(source, gate);
     for _ in rt.forever() {
-        let stop = match next_copies(alloc, &mut feed, outlets.len(), &mut copies) {
+        let stop = match next_copies(alloc, feed, outlets.len(), &mut copies) {
             Ok(Some(item)) => {
                 offer_copies(rt, &mut offering, outlets, item, &mut copies);
                 continue;
@@ -71,8 +70,10 @@ pub fn feed_out<W: Wait, R: Read + Drop, G: Gate>(
     requires { (1 ≤ vec_len outlets) × (vec_len outlets ≤ 8) }
     ensures { Feeds feed.entry.to_come outlets.items result }
 {
+    let mut feed = feed;
     let mut outlets = outlets;
-    let stop = send_all(rt, alloc, source, feed, outlets.as_mut_slice(), gate);
+    let stop = send_all(rt, alloc, source, &mut feed, outlets.as_mut_slice(), gate);
+    drop(feed);
     FeederEnd {
         receipts: finish_all(outlets),
         stop,

@@ -7,7 +7,7 @@ use Rattle.cube_handover.proofs.feeding.send_all.Goals as goal
 use Rattle.cube_handover.proofs.feeding.send_all.Goals.{in-Ok-None, in-Err}
 
 pub loop-init : goal.loop-init
-loop-init g c = (refl, has_sent-none c.args.feed.to_come c.args.outlets.now)
+loop-init g c = (refl, has_sent-none c.args.feed.now.to_come c.args.outlets.now)
 
 pub loop-preserved : goal.loop-preserved
 loop-preserved g c =
@@ -15,8 +15,8 @@ loop-preserved g c =
     let item = c.in-Ok-Some.item in
     let sent = c.offer_copies.ensures in (
       ap length sent ∙ length-map loop.outlets (sends (Line item ∷ [])) ∙ loop.invariant.0,
-      has_sent-more c.args.feed.to_come loop.feed.to_come c.next_copies.new.feed.to_come c.args.outlets.now loop.outlets
-          c.offer_copies.new.outlets item loop.invariant.1
+      has_sent-more c.args.feed.now.to_come loop.feed.to_come c.next_copies.new.feed.to_come c.args.outlets.now
+          loop.outlets c.offer_copies.new.outlets item loop.invariant.1
           (rw c.in-Ok-Some.field-0-is at c.in-Ok-Some.ensures.gives) sent,
     )
 
@@ -26,12 +26,12 @@ returns-in-loop g c =
     elim c.match-next_copies.branch [
       | in-Ok-None w ↦
           rw w.stop-is
-          (sends_all-end c.args.feed.to_come loop.feed.to_come c.next_copies.new.feed.to_come c.args.outlets.now
+          (sends_all-end c.args.feed.now.to_come loop.feed.to_come c.next_copies.new.feed.to_come c.args.outlets.now
           loop.outlets c.offer_end.new.outlets loop.invariant.1
           (rw w.in-Ok-None.field-0-is at w.in-Ok-None.ensures.gives) c.offer_end.ensures)
       | in-Err w ↦
           rw w.stop-is
-          (sends_all-fault c.args.feed.to_come loop.feed.to_come c.next_copies.new.feed.to_come c.args.outlets.now
+          (sends_all-fault c.args.feed.now.to_come loop.feed.to_come c.next_copies.new.feed.to_come c.args.outlets.now
           loop.outlets c.offer_end.new.outlets w.in-Err.fault loop.invariant.1
           w.in-Err.ensures.gives c.offer_end.ensures)
     ]
