@@ -25,7 +25,7 @@ fn obey(
 ) -> Result<()> {
     match words_of(call) {
         ("apply", record) => apply_record(alloc, schema, book, record, out),
-        ("get", id) => answer_found(book, &Text::from_str(alloc, id)?, out),
+        ("get", id) => answer_found(alloc, book, id, out),
         ("len", "") => Ok(out.answer(book.len())?),
         _ => bail!("no call of a book"),
     }
@@ -54,8 +54,9 @@ fn apply_change(book: &mut Book, change: Change, out: &mut Printout) -> Result<(
     Ok(answered?)
 }
 
-fn answer_found(book: &Book, id: &Text, out: &mut Printout) -> Result<()> {
-    Ok(answer_fact("", book.get(id), out)?)
+fn answer_found(alloc: Global, book: &Book, id: &str, out: &mut Printout) -> Result<()> {
+    let id = Text::from_str(alloc, id)?;
+    Ok(answer_fact("", book.get(&id), out)?)
 }
 
 fn answer_delta(delta: &Delta, out: &mut Printout) -> Result<(), AllocError> {

@@ -46,13 +46,21 @@ fn obey(
     call: &str,
     out: &mut Printout,
 ) -> Result<()> {
-    let answered = match words_of(call) {
-        ("apply", words) => return apply(alloc, schema, builder, words),
-        ("foreign", words) => return apply(alloc, foreign, builder, words),
-        ("facts", "") => out.answer(builder.facts()),
-        ("sources", "") => out.answer(builder.sources()),
-        ("rows", "") => answer_rows(alloc, builder.cube(), out),
-        ("refusals", "") => answer_refusals(builder, out),
+    match words_of(call) {
+        ("apply", words) => apply(alloc, schema, builder, words),
+        ("foreign", words) => apply(alloc, foreign, builder, words),
+        (verb, "") => ask(alloc, builder, verb, out),
+        _ => bail!("no call of a builder"),
+    }
+}
+
+// A call of one word.
+fn ask(alloc: Global, builder: &Builder, verb: &str, out: &mut Printout) -> Result<()> {
+    let answered = match verb {
+        "facts" => out.answer(builder.facts()),
+        "sources" => out.answer(builder.sources()),
+        "rows" => answer_rows(alloc, builder.cube(), out),
+        "refusals" => answer_refusals(builder, out),
         _ => bail!("no call of a builder"),
     };
     Ok(answered?)

@@ -4,7 +4,7 @@ ghost use Rattle.std.specs.Prelude.{◌≡◌, ◌<◌, IfOk, OnOk, length};
 
 use crate::facts::fact_of;
 use crate::script::{Printout, words_of};
-use crate::text::push_answer;
+use crate::text::push_answers;
 use anyhow::{Result, bail, ensure};
 use cube_cells::Cell;
 use cube_core::{Agg, Fact, Schema};
@@ -113,10 +113,13 @@ fn answers_at(cell: &Cell, place: usize, out: &mut Printout) -> Result<(), Alloc
     requires { place < length cell.now.bags }
 {
     write!(out.text, "{}", cell.count())?;
-    push_answer(&mut out.text, &cell.answer(&Agg::Count(place)))?;
-    push_answer(&mut out.text, &cell.answer(&Agg::Sum(place)))?;
-    push_answer(&mut out.text, &cell.answer(&Agg::Min(place)))?;
-    push_answer(&mut out.text, &cell.answer(&Agg::Max(place)))?;
-    push_answer(&mut out.text, &cell.answer(&Agg::Avg(place)))?;
+    let answers = [
+        cell.answer(&Agg::Count(place)),
+        cell.answer(&Agg::Sum(place)),
+        cell.answer(&Agg::Min(place)),
+        cell.answer(&Agg::Max(place)),
+        cell.answer(&Agg::Avg(place)),
+    ];
+    push_answers(&mut out.text, &answers)?;
     out.answer("")
 }

@@ -28,13 +28,26 @@ fn obey_all(
 
 fn obey(values: &mut Counted, other: &mut Counted, call: &str, out: &mut Printout) -> Result<()> {
     match words_of(call) {
-        ("add", value) => add_or_again(values, value.parse()?)?,
-        ("remove", value) => out.answer(values.remove(value.parse()?))?,
-        ("holds", value) => out.answer(values.holds(value.parse()?))?,
-        ("shrink", "") => values.shrink_to_fit(),
-        ("show", "") => show(values, out)?,
-        ("merge", "") => merge(values, other)?,
-        ("swap", "") => swap(values, other),
+        ("add", value) => add_or_again(values, value.parse()?),
+        ("remove", value) => Ok(out.answer(values.remove(value.parse()?))?),
+        ("holds", value) => Ok(out.answer(values.holds(value.parse()?))?),
+        (verb, "") => obey_verb(values, other, verb, out),
+        _ => bail!("no call of a multiset"),
+    }
+}
+
+// A call of one word.
+fn obey_verb(
+    values: &mut Counted,
+    other: &mut Counted,
+    verb: &str,
+    out: &mut Printout,
+) -> Result<()> {
+    match verb {
+        "shrink" => values.shrink_to_fit(),
+        "show" => show(values, out)?,
+        "merge" => merge(values, other)?,
+        "swap" => swap(values, other),
         _ => bail!("no call of a multiset"),
     }
     Ok(())

@@ -55,22 +55,29 @@ fn obey(
     ensures { OnOk result (cube.new.schema ≡ cube.old.schema) }
 {
     match words_of(call) {
-        ("add", fact) => add_or_again(schema, cube, &fact_of(alloc, schema, fact)?),
-        ("remove", fact) => remove(cube, &fact_of(alloc, schema, fact)?, out),
-        ("gather", fact) => Ok(gathered.push(fact_of(alloc, schema, fact)?)?),
+        ("add", fields) => add_or_again(alloc, schema, cube, fields),
+        ("remove", fields) => remove(alloc, schema, cube, fields, out),
+        ("gather", fields) => gather(alloc, schema, gathered, fields),
         ("fill", "") => fill_or_again(schema, cube, gathered),
         _ => ask(alloc, schema, cube, call, out),
     }
 }
 
 // Adds a fact, and once more where memory was wanting.
-fn add_or_again(schema: &Schema, cube: &mut Cube, fact: &Fact) -> Result<()>
+fn add_or_again(alloc: Global, schema: &Schema, cube: &mut Cube, fields: &str) -> Result<()>
     requires { cube.old.schema ≡ schema.now }
     ensures { cube.new.schema ≡ cube.old.schema }
 {
-    if add(schema, cube, fact).is_err() {
-        add(schema, cube, fact)?;
+    let fact = fact_of(alloc, schema, fields)?;
+    match add(schema, cube, &fact) {
+        Ok(()) => Ok(()),
+        Err(_) => add(schema, cube, &fact),
     }
+}
+
+// Adds a fact to those with which the cube is filled.
+fn gather(alloc: Global, schema: &Schema, gathered: &mut Vec<Fact>, fields: &str) -> Result<()> {
+    gathered.push(fact_of(alloc, schema, fields)?)?;
     Ok(())
 }
 
@@ -79,10 +86,10 @@ fn fill_or_again(schema: &Schema, cube: &mut Cube, facts: &[Fact]) -> Result<()>
     requires { cube.old.schema ≡ schema.now }
     ensures { cube.new.schema ≡ cube.old.schema }
 {
-    if fill(schema, cube, facts).is_err() {
-        fill(schema, cube, facts)?;
+    match fill(schema, cube, facts) {
+        Ok(()) => Ok(()),
+        Err(_) => fill(schema, cube, facts),
     }
-    Ok(())
 }
 
 fn add(schema: &Schema, cube: &mut Cube, fact: &Fact) -> Result<()>
@@ -95,13 +102,20 @@ fn add(schema: &Schema, cube: &mut Cube, fact: &Fact) -> Result<()>
     Ok(())
 }
 
-fn remove(cube: &mut Cube, fact: &Fact, out: &mut Printout) -> Result<()>
+// Removes a fact that is held.
+fn remove(
+    alloc: Global,
+    schema: &Schema,
+    cube: &mut Cube,
+    fields: &str,
+    out: &mut Printout,
+) -> Result<()>
     ensures { cube.new.schema ≡ cube.old.schema }
 {
-    if cube.holds(fact) {
-        cube.remove(fact);
-    } else {
-        out.answer("not held")?;
+    let fact = fact_of(alloc, schema, fields)?;
+    if !cube.holds(&fact) {
+        return Ok(out.answer("not held")?);
     }
+    cube.remove(&fact);
     Ok(())
 }

@@ -60,15 +60,29 @@ fn run_script(
     let (first, calls) = script.split_once('\n').unwrap_or((script, ""));
     out.next_line();
     match words_of(first) {
-        ("schema", "") => schemas::run(alloc, schema, calls, out),
-        ("cube", "") => cubes::run(alloc, schema, (0, 1), calls, out),
         ("part", words) => cubes::run(alloc, schema, part_of(words)?, calls, out),
-        ("counted", "") => counted::run(alloc, calls, out),
-        ("cell", "") => cells::run(alloc, schema, calls, out),
-        ("book", "") => books::run(alloc, schema, calls, out),
         ("builder", sources) => {
             builders::run(alloc, schema, foreign, sources.parse()?, calls, out)
         }
+        (name, "") => run_calls(alloc, schema, name, calls, out),
+        _ => bail!("nothing that calls are of"),
+    }
+}
+
+// Does the calls on what a name alone says.
+fn run_calls(
+    alloc: Global,
+    schema: &Schema,
+    name: &str,
+    calls: &str,
+    out: &mut Printout,
+) -> Result<()> {
+    match name {
+        "schema" => schemas::run(alloc, schema, calls, out),
+        "cube" => cubes::run(alloc, schema, (0, 1), calls, out),
+        "counted" => counted::run(alloc, calls, out),
+        "cell" => cells::run(alloc, schema, calls, out),
+        "book" => books::run(alloc, schema, calls, out),
         _ => bail!("nothing that calls are of"),
     }
 }
@@ -81,12 +95,19 @@ fn part_of(words: &str) -> Result<(u32, u32)> {
 
 // The schema, and the foreign one.
 fn schemas_of(rt: &HostRuntime) -> Result<(Schema, Schema)> {
+    let (path, foreign_path) = paths_of(rt)?;
+    let schema = schema_of(rt, path)?;
+    let foreign = schema_of(rt, foreign_path)?;
+    Ok((schema, foreign))
+}
+
+// The words, of which there are at most two.
+fn paths_of(rt: &HostRuntime) -> Result<(Option<String>, Option<String>)> {
     let mut words = env::args(rt)?;
     let _program = words.next();
-    let schema = schema_of(rt, words.next())?;
-    let foreign = schema_of(rt, words.next())?;
+    let paths = (words.next(), words.next());
     ensure!(words.next().is_none(), "more than two words");
-    Ok((schema, foreign))
+    Ok(paths)
 }
 
 fn schema_of(rt: &HostRuntime, path: Option<String>) -> Result<Schema> {

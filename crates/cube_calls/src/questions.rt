@@ -6,9 +6,10 @@ use crate::facts::fact_of;
 use crate::script::{Printout, words_of};
 use crate::text::text_of;
 use anyhow::{Result, bail};
-use cube_cells::Cube;
-use cube_core::{Fact, Key, Pattern, QueryFault, Schema};
+use cube_cells::{Cell, Cube};
+use cube_core::{Key, Pattern, QueryFault, Schema};
 use std::alloc::{AllocError, Global};
+use std::fmt::Display;
 
 /// Asks a cube.
 pub fn ask(
@@ -20,18 +21,34 @@ pub fn ask(
 ) -> Result<()>
     requires { cube.now.schema ≡ schema.now }
 {
-    let answered = match words_of(call) {
-        ("facts", "") => out.answer(cube.facts()),
-        ("rows", "") => answer_rows(alloc, cube, out),
-        ("holds", fact) => return answer_held(cube, &fact_of(alloc, schema, fact)?, out),
-        ("get", word) => out.answer_lines(found(alloc, schema, cube, word)),
-        ("slice", word) => out.answer_lines(sliced(alloc, schema, cube, word)),
-        ("rollup", words) => out.answer_lines(rolled_up(alloc, schema, cube, words)),
-        ("drill", words) => out.answer_lines(drilled(alloc, schema, cube, words)),
-        ("code", words) => out.answer_lines(code_of(alloc, schema, cube, words)),
+    match words_of(call) {
+        ("facts", "") => Ok(out.answer(cube.facts())?),
+        ("rows", "") => Ok(answer_rows(alloc, cube, out)?),
+        ("holds", fields) => answer_held(alloc, schema, cube, fields, out),
+        (verb, words) => ask_for_lines(alloc, schema, cube, verb, words, out),
+    }
+}
+
+// A question that is answered by lines, or by a fault.
+fn ask_for_lines(
+    alloc: Global,
+    schema: &Schema,
+    cube: &Cube,
+    verb: &str,
+    words: &str,
+    out: &mut Printout,
+) -> Result<()>
+    requires { cube.now.schema ≡ schema.now }
+{
+    let lines = match verb {
+        "get" => found(alloc, schema, cube, words),
+        "slice" => sliced(alloc, schema, cube, words),
+        "rollup" => rolled_up(alloc, schema, cube, words),
+        "drill" => drilled(alloc, schema, cube, words),
+        "code" => code_of(alloc, schema, cube, words),
         _ => bail!("no call of a cube"),
     };
-    Ok(answered?)
+    Ok(out.answer_lines(lines)?)
 }
 
 /// Prints the rows of a cube.
@@ -41,15 +58,20 @@ pub fn answer_rows(alloc: Global, cube: &Cube, out: &mut Printout) -> Result<(),
     out.text.push_str(text.as_str())
 }
 
-fn answer_held(cube: &Cube, fact: &Fact, out: &mut Printout) -> Result<()> {
-    Ok(out.answer(cube.holds(fact))?)
+fn answer_held(
+    alloc: Global,
+    schema: &Schema,
+    cube: &Cube,
+    fields: &str,
+    out: &mut Printout,
+) -> Result<()> {
+    let is_held = cube.holds(&fact_of(alloc, schema, fields)?);
+    Ok(out.answer(is_held)?)
 }
 
 fn found(alloc: Global, schema: &Schema, cube: &Cube, word: &str) -> Result<String, QueryFault> {
-    match cube.get(&key_of(alloc, schema, word)?) {
-        Some(cell) => Ok(format!(in alloc; "{}\n", cell.count())?),
-        None => Ok(String::from_str(alloc, "none\n")?),
-    }
+    let key = key_of(alloc, schema, word)?;
+    Ok(line_of(alloc, cube.get(&key).map(Cell::count))?)
 }
 
 fn sliced(alloc: Global, schema: &Schema, cube: &Cube, word: &str) -> Result<String, QueryFault> {
@@ -60,18 +82,14 @@ fn sliced(alloc: Global, schema: &Schema, cube: &Cube, word: &str) -> Result<Str
 fn drilled(alloc: Global, schema: &Schema, cube: &Cube, words: &str) -> Result<String, QueryFault>
     requires { cube.now.schema ≡ schema.now }
 {
-    let (name, word) = words_of(words);
-    let key = key_of(alloc, schema, word)?;
-    let place = place_of(schema, name)?;
+    let (key, place) = step_of(alloc, schema, words)?;
     Ok(text_of(alloc, &cube.drill_down(&key, place)?)?)
 }
 
 fn rolled_up(alloc: Global, schema: &Schema, cube: &Cube, words: &str) -> Result<String, QueryFault>
     requires { cube.now.schema ≡ schema.now }
 {
-    let (name, word) = words_of(words);
-    let key = key_of(alloc, schema, word)?;
-    let place = place_of(schema, name)?;
+    let (key, place) = step_of(alloc, schema, words)?;
     match cube.roll_up(&key, place)? {
         Some(row) => Ok(text_of(alloc, &[row])?),
         None => Ok(String::from_str(alloc, "none\n")?),
@@ -82,10 +100,27 @@ fn code_of(alloc: Global, schema: &Schema, cube: &Cube, words: &str) -> Result<S
     requires { cube.now.schema ≡ schema.now }
 {
     let (name, text) = words_of(words);
-    match cube.code_of(place_of(schema, name)?, text) {
-        Some(code) => Ok(format!(in alloc; "{code}\n")?),
-        None => Ok(String::from_str(alloc, "none\n")?),
+    let place = place_of(schema, name)?;
+    Ok(line_of(alloc, cube.code_of(place, text))?)
+}
+
+// A line with an answer, or one that says that there is none.
+fn line_of<A: Display + Drop>(alloc: Global, answer: Option<A>) -> Result<String, AllocError> {
+    match answer {
+        Some(answer) => format!(in alloc; "{answer}\n"),
+        None => String::from_str(alloc, "none\n"),
     }
+}
+
+// The cell and the place of the dimension that words name, the dimension first.
+fn step_of(alloc: Global, schema: &Schema, words: &str) -> Result<(Key, usize), QueryFault>
+    ensures key { IfOk result (λ step. length step.0.coords ≡ length schema.now.dimensions) }
+    ensures place { IfOk result (λ step. step.1 < length schema.now.dimensions) }
+{
+    let (name, word) = words_of(words);
+    let key = key_of(alloc, schema, word)?;
+    let place = place_of(schema, name)?;
+    Ok((key, place))
 }
 
 /// The key of the cell that a word spells.
