@@ -1,6 +1,6 @@
 -- A feed taken into a ledger, item by item: what was taken, and what is to come.
 use Rattle.std.proofs.Common.{◌≡◌, ℕ, List, [], ◌∷◌, ◌++◌, length, refl, sym, ap, ◌∙◌, subst, append_assoc}
-use Rattle.std.specs.Prelude.{⊤, Option, Some, None, option_map, Ok, Err}
+use Rattle.std.specs.Prelude.{⊤, Option, Some, None, Ok, Err}
 use Rattle.std.proofs.Math.ListN.{length-set}
 use Rattle.std.proofs.lemmas.List.{append-nil, map-append}
 use Rattle.cube_core.specs.Arrival.{Arrivals}
@@ -10,16 +10,12 @@ use Rattle.cube_core.specs.Items.{RestOfFeed, FeedEnd, Good, WrongHeader, TooMan
 use Rattle.cube_core.specs.Run.{IsGood, AreItemsOf}
 use Rattle.cube_core.specs.declared.change.Item.{Item}
 use Rattle.cube_feed.specs.Faults.{IsEndOf, IsFaultOf}
-use Rattle.cube_feed.specs.Feed.{KnownRest, FeedView, Gives, fault_of, nothing_but, with_fault}
+use Rattle.cube_feed.specs.Feed.{KnownRest, FeedView, Gives, fault_of, nothing_but, rest_of_feed}
 use Rattle.cube_feed.specs.declared.fault.FeedFault.{FeedFault}
 use Rattle.cube_feed.specs.declared.fault.FeedFault.TheVariants.{Memory, Read, Header, TooMany}
 use Rattle.cube_feed.proofs.TurnLaws.{from_source}
 use Rattle.cube_engine.specs.Build.{TakesFeed}
 use Rattle.cube_engine.specs.Ledger.{LedgerView, AtSource, Enters, LedgerStandsAt}
-
--- what is to come of a feed at its start, where its bytes are told
-abbrev pub start_of : Layout → Option (List ℕ) → KnownRest
-start_of s bytes = option_map (λ (known : List ℕ). with_fault (items_of s (records_of known))) bytes
 
 -- what was to come at the start are the items done, and then what is to come now
 abbrev pub LeftOf : KnownRest → List Item → KnownRest → Type 0
@@ -102,7 +98,7 @@ ends-well TooManyRecords is = cc
 
 -- where nothing is to come but a good end, the items done are all, and the feed is good
 all-done : (s : Layout) (bytes : Option (List ℕ)) (done : List Item) (now next : KnownRest)
-    → LeftOf (start_of s bytes) done now → Gives now (Ok None) next → AreItemsOf s bytes done × IsGood s bytes
+    → LeftOf (rest_of_feed s bytes) done now → Gives now (Ok None) next → AreItemsOf s bytes done × IsGood s bytes
 all-done s None done now next left gives = (tt, tt)
 all-done s (Some known) done now next left gives =
     let given : left.0 ≡ nothing_but None = subst (λ (n : KnownRest). Gives n (Ok None) next) left.1 gives in (
@@ -112,10 +108,10 @@ all-done s (Some known) done now next left gives =
     )
 
 pub TakesFeed-all : (s : Layout) (bytes : Option (List ℕ)) (start : KnownRest) (source : ℕ) (old now : LedgerView)
-    (feed next : FeedView) → start ≡ start_of s bytes → HasTaken start source old feed now
+    (feed next : FeedView) → start ≡ rest_of_feed s bytes → HasTaken start source old feed now
     → Gives feed.to_come (Ok None) next.to_come → TakesFeed s bytes source old now
 TakesFeed-all s bytes start source old now feed next is taken gives =
-    let left : LeftOf (start_of s bytes) taken.done feed.to_come =
+    let left : LeftOf (rest_of_feed s bytes) taken.done feed.to_come =
     subst (λ (a : KnownRest). LeftOf a taken.done feed.to_come) is taken.left in
     let done = all-done s bytes taken.done feed.to_come next.to_come left gives in
     record {
@@ -139,7 +135,7 @@ ends-so TooManyRecords TooMany is = refl
 
 -- where nothing is to come but a fault, it is the feed's
 fault-given : (s : Layout) (known : List ℕ) (done : List Item) (now next : KnownRest) (fault : FeedFault)
-    → LeftOf (start_of s (Some known)) done now → Gives now (Err fault) next
+    → LeftOf (rest_of_feed s (Some known)) done now → Gives now (Err fault) next
     → IsEndOf (items_of s (records_of known)).end fault
 fault-given s known done now next Memory left gives = tt
 fault-given s known done now next Read left gives = tt
@@ -155,7 +151,7 @@ fault-given s known done now next TooMany left gives =
     (left.3 ∙ ap (λ (t : RestOfFeed (Option FeedFault)). t.end) given)
 
 pub fault-told : (s : Layout) (bytes : Option (List ℕ)) (start : KnownRest) (source : ℕ) (old now : LedgerView)
-    (feed next : FeedView) (fault : FeedFault) → start ≡ start_of s bytes → HasTaken start source old feed now
+    (feed next : FeedView) (fault : FeedFault) → start ≡ rest_of_feed s bytes → HasTaken start source old feed now
     → Gives feed.to_come (Err fault) next.to_come → IsFaultOf s bytes fault
 fault-told s None start source old now feed next fault is taken gives = tt
 fault-told s (Some known) start source old now feed next fault is taken gives =

@@ -263,18 +263,18 @@ module _ (s : Layout) (count place : ℕ) where
       ap (is_read part) (record-seam done records fields number as_many) in
       elim (cases_Bool (nat_lt number s.max_records)) [
         | inl within ↦
-            let feed = ap (λ (coming : RestOfFeed FeedEnd). filter (is_of_part all) coming.items)
+            let feed = ap (λ (rest : RestOfFeed FeedEnd). filter (is_of_part all) rest.items)
             (items_after-whole number fields records whole within) in
             elim (cases_Bool (is_read part fields)) [
               | inl read ↦
-                  ap (λ (coming : RestOfFeed FeedEnd). coming.items)
+                  ap (λ (rest : RestOfFeed FeedEnd). rest.items)
                   (items_after-inside number fields records within read)
                   ∙ ap (λ items. item_at s number fields ∷ items) after
                   ∙ sym (filter-passed (is_of_part all) (item_at s number fields)
                   (items_after s (number + 1) records).items (here ∙ read))
                   ∙ sym feed
               | inr other ↦
-                  ap (λ (coming : RestOfFeed FeedEnd). coming.items)
+                  ap (λ (rest : RestOfFeed FeedEnd). rest.items)
                   (items_after-outside number fields records within other)
                   ∙ after
                   ∙ sym (filter-failed (is_of_part all) (item_at s number fields)
@@ -282,8 +282,8 @@ module _ (s : Layout) (count place : ℕ) where
                   ∙ sym feed
             ]
         | inr past ↦
-            ap (λ (coming : RestOfFeed FeedEnd). coming.items) (items_after-past part number fields records past)
-            ∙ sym (ap (λ (coming : RestOfFeed FeedEnd). filter (is_of_part all) coming.items)
+            ap (λ (rest : RestOfFeed FeedEnd). rest.items) (items_after-past part number fields records past)
+            ∙ sym (ap (λ (rest : RestOfFeed FeedEnd). filter (is_of_part all) rest.items)
             (items_after-past s number fields records past))
       ]
 

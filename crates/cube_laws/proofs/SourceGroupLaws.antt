@@ -66,7 +66,7 @@ AreSurviving-partial : (s : Layout) (bytes : List ℕ) (facts : List Fact)
     → AreSurviving (partial_form s) (items_of (partial_form s) (records_of bytes)).items facts
     → AreSurviving s (items_of s (records_of bytes)).items facts
 AreSurviving-partial s bytes facts survive =
-    subst (λ (coming : RestOfFeed FeedEnd). Survive (changes_of s coming.items) facts)
+    subst (λ (rest : RestOfFeed FeedEnd). Survive (changes_of s rest.items) facts)
     (items_of-partial s (records_of bytes))
     (subst (λ changes. Survive changes facts)
     (changes_of-partial s (items_of (partial_form s) (records_of bytes)).items) survive)
