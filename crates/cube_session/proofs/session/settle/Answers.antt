@@ -1,0 +1,4 @@
+use Rattle.cube_session.proofs.session.settle.Goals as goal
+
+pub returns-in-Ok-clause-kept : goal.returns-in-Ok-clause-kept
+returns-in-Ok-clause-kept g c = c.in-Ok.ensures.ok
