@@ -1,6 +1,16 @@
-use Rattle.std.proofs.Common.{arith}
-use Rattle.std.proofs.lemmas.Grind.{common_steps}
+use Rattle.std.proofs.Common.{◌<◌, ◌∙◌, ap, arith, length, sym}
+use Rattle.std.proofs.lemmas.List.{get_or_default}
+use Rattle.cube_handover.specs.declared.parcel.FeederEnd.{FeederEnd}
 use Rattle.cube_handover.proofs.ends.first_stop.Goals as goal
 
 pub returns-in-Some-clause-some : goal.returns-in-Some-clause-some
-returns-in-Some-clause-some c = grind (arith, common_steps)
+returns-in-Some-clause-some c =
+    let inside : c.loop-end.end-index < length c.args.ends.now = omega arith in
+    record {
+      place = c.loop-end.end-index;
+      source_is = c.loop-end.invariant.0;
+      within = inside;
+      is = λ d. ap (λ (e : FeederEnd). e.stop)
+          (get_or_default c.args.ends.now c.loop-end.end-index d c.end-item.result inside ∙ sym c.end-item.is) ∙ c.in-Some.is;
+      lower = c.loop-end.invariant.1;
+    }

@@ -1,12 +1,13 @@
 use Rattle.std.proofs.Common.{◌≡◌, ◌∙◌, refl, sym, subst}
-use Rattle.std.proofs.lemmas.Result.{IfErr-weaker, on_ok_weaker}
+use Rattle.std.proofs.lemmas.Result.{IfErr-weaker, IfOk-weaker, on_ok_weaker}
 use Rattle.csv.specs.Records.{fields_of}
 use Rattle.cube_live.specs.Request.{request_of}
 use Rattle.cube_live.specs.declared.request.Request.{Request}
 use Rattle.cube_live.specs.declared.request.Request.TheVariants as request
 use Rattle.cube_live.proofs.RequestLaws.{IsSound, IsSound-request_of}
 use Rattle.cube_session.proofs.KeepingLaws as keeping
-use Rattle.cube_session.proofs.ServingLaws.{Replied-change, ReplyFails-breaks, ReplyFails-change}
+use Rattle.cube_session.proofs.ServingLaws.{Replied-ask, Replied-change, Replied-wrong}
+use Rattle.cube_session.proofs.ServingLaws.{ReplyFails-breaks, ReplyFails-change}
 use Rattle.cube_session.proofs.session.take_record.Goals as goal
 
 pub change-requires-clause-first : goal.change-requires-clause-first
@@ -51,6 +52,26 @@ returns-in-Err-clause-err g c =
     let within = subst (λ (r : Request). IsSound s r) (sym asks) (IsSound-request_of s fields) in
     λ arrivals stands. ReplyFails-change s c.args.live.now arrivals fields c.in-Change.source c.args.sent c.in-Err.fault
     _ refl asks within stands c.in-Err.ensures.fault
+
+pub returns-in-Ask-clause-ok : goal.returns-in-Ask-clause-ok
+returns-in-Ask-clause-ok g c =
+    let s = c.args.live.now.schema in
+    let fields = fields_of c.args.fields.now in
+    let asks : request.Ask c.in-Ask.question ≡ request_of s fields =
+    sym c.in-Ask.is ∙ (rw c.schema.ensures at c.in_ok-source.ensures) in
+    IfOk-weaker c.answer.result _ _
+    (λ total writes. λ arrivals stands. Replied-ask s arrivals fields c.in-Ask.question c.answer.new.live
+    c.args.sent total _ _ asks (rw c.answer.ensures.same stands) (writes arrivals stands)) c.answer.ensures.ok
+
+pub returns-in-Wrong-clause-ok : goal.returns-in-Wrong-clause-ok
+returns-in-Wrong-clause-ok g c =
+    let s = c.args.live.now.schema in
+    let fields = fields_of c.args.fields.now in
+    let asks : request.Wrong c.in-Wrong.fault ≡ request_of s fields =
+    sym c.in-Wrong.is ∙ (rw c.schema.ensures at c.in_ok-source.ensures) in
+    IfOk-weaker c.refuse.result _ _
+    (λ total writes. λ arrivals stands. Replied-wrong s arrivals fields c.in-Wrong.fault c.args.live.now
+    c.args.sent total _ _ asks stands (writes s arrivals)) c.refuse.ensures.ok
 
 pub returns-in-Ask-clause-err : goal.returns-in-Ask-clause-err
 returns-in-Ask-clause-err g c =
