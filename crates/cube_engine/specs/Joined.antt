@@ -1,5 +1,5 @@
 -- What is asked of the cubes of all parts, and answered as the whole cube would answer it (this project's choice).
-use Rattle.std.specs.Prelude.{◌<◌, ℕ, Bool, List, length, get_or, Option}
+use Rattle.std.specs.Prelude.{◌≡◌, ◌<◌, ℕ, Bool, List, length, get_or, Option}
 use Rattle.cube_core.specs.Cube.{AreRows, AreRowsOver}
 use Rattle.cube_core.specs.Layout.{Layout}
 use Rattle.cube_core.specs.Query.{AreRowsWhere}
@@ -19,6 +19,14 @@ AnswersIn test cube rows = (facts : List Fact) → IsCubeOf cube facts
 abbrev pub OrdersCells : Lattice → CellsInOrder → Type 0
 OrdersCells cube ordered = (rows : List Row) → AreRowsInOrder ordered rows → (facts : List Fact) → IsCubeOf cube facts
     → AreRowsOver cube.sets (length cube.schema.dimensions) cube.schema.aggregates facts rows
+
+-- these are the cells of the first of these holders' cubes, in key order
+pub record OrdersFirst {Holder : Type 0} (cube_of : Holder → Lattice) (parts : List Holder) (ordered : CellsInOrder)
+    : Type 0 where
+  pub first : Holder
+  pub at : first ≡ get_or parts 0 first
+  pub cells : OrdersCells (cube_of first) ordered
+  pub aggregates : ordered.aggregates ≡ (cube_of first).schema.aggregates
 
 -- these are the parts of one cube: that of some facts under some schema
 pub record ArePartsOfOne {Holder : Type 0} (cube_of : Holder → Lattice) (parts : List Holder) : Type 0 where

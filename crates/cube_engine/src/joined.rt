@@ -1,5 +1,5 @@
 //! The cells and the rows of all parts of a cube, in key order: what each part has, one part's after the other's, sorted.
-ghost use Rattle.std.specs.Prelude.{◌≡◌, ◌<◌, true, Bool, List, IfOk, length};
+ghost use Rattle.std.specs.Prelude.{◌≡◌, ◌<◌, true, Bool, List, IfOk, OnOk, length};
 ghost use Rattle.std.specs.List.Sorted.{IsPermutation, IsSortedBy};
 ghost use Rattle.std.specs.Ordering.{is_lt};
 ghost use Rattle.std.specs.Thread.{IsSync};
@@ -10,7 +10,7 @@ ghost use Rattle.cube_core.specs.declared.key.Key.{Key as TheKey};
 ghost use Rattle.cube_core.specs.declared.key.Row.{Row as TheRow};
 ghost use Rattle.cube_cells.specs.Cube.{Lattice};
 ghost use Rattle.cube_cells.specs.Rows.{AreRowsInOrder};
-ghost use Rattle.cube_engine.specs.Joined.{AnswersIn, AnswersInWhole, ArePartsOfOne, AreRowsOfWhole, EachSchema, IsRowOfWhole, OrdersCells};
+ghost use Rattle.cube_engine.specs.Joined.{AnswersIn, AnswersInWhole, ArePartsOfOne, AreRowsOfWhole, EachSchema, IsRowOfWhole, OrdersCells, OrdersFirst};
 
 use cube_cells::{Cube, Numbers, OrderedCells, Summary};
 use cube_core::{Key, Pattern, Row};
@@ -207,12 +207,27 @@ fn ordered_by<'c, N: Numbers, O: Orders<N>, P: HoldsCube<N>>(
         AreRowsOfWhole P.lattice parts.now rows) }
 {
     let mut cells = order.ordered(parts[0].held())?;
+    join_others(order, parts, &mut cells)?;
+    Ok(cells)
+}
+
+// Puts the cells of the other parts behind those of the first, and all in key order.
+fn join_others<'c, N: Numbers, O: Orders<N>, P: HoldsCube<N>>(
+    order: &O,
+    parts: &'c [P],
+    cells: &mut OrderedCells<'c, N>,
+) -> Result<(), AllocError>
+    requires shared { O.is_shared order.now }
+    requires parts { ArePartsOfOne P.lattice parts.now }
+    requires first { OrdersFirst P.lattice parts.now cells.old }
+    ensures { OnOk result ((rows : List TheRow) → AreRowsInOrder cells.new rows →
+        AreRowsOfWhole P.lattice parts.now rows) }
+{
     if parts.len() == 1 {
-        return Ok(cells);
+        return Ok(());
     }
     for part in 1..parts.len() {
         cells.append(order.ordered(parts[part].held())?)?;
     }
-    cells.sort()?;
-    Ok(cells)
+    cells.sort()
 }

@@ -152,13 +152,14 @@ fn merge_rows<R: Read, W: Write>(
     ensures err { IfErr result (λ fault. RestFails given.now wanted.now inputs.old
         fault (W.contents w.old) (W.contents w.new)) }
 {
+    let mut text = Vec::new(alloc);
+    push_header(alloc, &mut text, wanted)?;
     let mut desk = Desk {
         joint: Joint::new(alloc),
         answers: Vec::new(alloc),
-        text: Vec::new(alloc),
+        text,
     };
     let mut front = Front::new(alloc);
-    push_header(alloc, &mut desk.text, wanted)?;
     let mut sent = 0;
     for _ in 0..u64::MAX {
         if !put_next(alloc, given, sources, inputs, &mut front, &mut desk)? {

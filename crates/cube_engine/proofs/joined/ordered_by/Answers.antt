@@ -1,34 +1,14 @@
-use Rattle.std.proofs.Common.{rules, ◌∙◌, sym}
-use Rattle.cube_engine.proofs.WholeLaws.{aggregates-at, cells-all, cells-alone, cells-first, cells-more}
-use Rattle.cube_engine.proofs.joined.ordered_by.Goals.{In_ok-ordered}
+use Rattle.std.proofs.Common.{◌≡◌, rules, subst}
+use Rattle.cube_cells.specs.Cube.{Lattice}
+use Rattle.cube_engine.specs.Joined.{OrdersCells}
 use Rattle.cube_engine.proofs.joined.ordered_by.Goals as goal
 
-pub returns-then-parts-eq1 : goal.returns-then-parts-eq1
-returns-then-parts-eq1 g c =
-    cells-alone g.P.HoldsCube.lattice c.args.parts.now c.index-parts-0.result c.held.result.now c.in_ok-cells.cells
-    (search rules) (search rules) c.in_ok-cells.ensures.cube
-
-pub loop-part-init : goal.loop-part-init
-loop-part-init g c =
-    cells-first g.P.HoldsCube.lattice c.args.parts.now c.index-parts-0.result c.held.result.now c.in_ok-cells.cells
-    (search rules) c.in_ok-cells.ensures.cube c.in_ok-cells.ensures.aggregates
-
-pub append-requires : goal.append-requires
-append-requires g c =
-    aggregates-at g.P.HoldsCube.lattice c.requires.parts.schema c.requires.parts.facts c.args.parts.now
-    c.loop-part.part c.index-parts-part.result c.held-in-loop-part.result.now c.in_ok-ordered.field-0
-    c.in_ok-ordered.ensures.aggregates c.requires.parts.are (search rules) (search rules)
-    ∙ sym (c.loop-part.invariant.aggregates c.requires.parts.schema c.requires.parts.facts c.requires.parts.are)
-
-pub loop-part-preserved : goal.loop-part-preserved
-loop-part-preserved g c =
-    cells-more g.P.HoldsCube.lattice c.args.parts.now c.loop-part.part c.index-parts-part.result
-    c.held-in-loop-part.result.now c.loop-part.cells c.in_ok-ordered.field-0 c.append.new.self (search rules)
-    (search rules) c.in_ok-ordered.ensures.cube
-    (append-requires g (goal.at.loop-part-preserved g c).In_ok-ordered) c.append.ensures.aggregates
-    c.in_ok-append.ensures.cells c.loop-part.invariant
-
-pub returns : goal.returns
-returns g c =
-    cells-all g.P.HoldsCube.lattice c.args.parts.now c.loop-part.part c.loop-part.cells c.sort.new.self (search rules)
-    c.sort.ensures.aggregates c.sort.ensures.same c.in_ok-sort.ensures.order c.loop-part.invariant
+pub join_others-requires-clause-first : goal.join_others-requires-clause-first
+join_others-requires-clause-first g c =
+    let is : c.held.result.now ≡ g.P.HoldsCube.lattice c.index-parts-0.result = search rules in
+    record {
+      first = c.index-parts-0.result;
+      at = search rules;
+      cells = subst (λ (l : Lattice). OrdersCells l c.in_ok-cells.cells) is c.in_ok-cells.ensures.cube;
+      aggregates = rw is at c.in_ok-cells.ensures.aggregates;
+    }

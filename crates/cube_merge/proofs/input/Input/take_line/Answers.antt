@@ -1,5 +1,7 @@
-use Rattle.std.proofs.Common.{◌≡◌, ◌<◌, rules, arith, sym, subst, length}
+use Rattle.std.proofs.Common.{◌≡◌, ◌<◌, [], rules, arith, sym, subst, length}
 use Rattle.std.proofs.lemmas.Grind.{common_steps}
+use Rattle.std.proofs.lemmas.List.{nil_from_length}
+use Rattle.std.specs.Prelude.{None}
 use Rattle.std.specs.Io.KnownBytes.{Consumes}
 use Rattle.cube_core.specs.Text.{row_line}
 use Rattle.cube_merge.specs.Faults.{HasMore, HasRowBelow}
@@ -31,7 +33,12 @@ returns-then-not-is_after-clause-err g c =
     )
 
 pub returns-then-is_empty-clause-ok : goal.returns-then-is_empty-clause-ok
-returns-then-is_empty-clause-ok g c = grind (arith, common_steps)
+returns-then-is_empty-clause-ok g c =
+    let none : length c.read_line.new.line.items ≡ 0 = search (rules, arith) in
+    let empty = nil_from_length c.read_line.new.line.items none in
+    let row : c.self.inside.row ≡ None = rw (← c.self.view_is) at c.requires in
+    rw (← c.self.view_is, row)
+    (subst (Consumes _ _) empty c.in_ok-read_line.ensures.taken, c.in_ok-read_line.ensures.end empty)
 
 pub returns-then-not-is_complete-clause-err : goal.returns-then-not-is_complete-clause-err
 returns-then-not-is_complete-clause-err g c = grind (arith, common_steps)
