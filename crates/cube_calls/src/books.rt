@@ -3,7 +3,7 @@ use crate::facts::item_of;
 use crate::script::{Printout, words_of};
 use anyhow::{Result, bail, ensure};
 use cube_core::{Change, Fact, HashKey, Schema, Text};
-use cube_engine::{Book, Delta};
+use cube_engine::{Book, BookFault, Delta};
 use std::alloc::{AllocError, Global};
 
 /// Does the calls on a book.
@@ -47,11 +47,14 @@ fn apply_record(
 
 fn apply_change(book: &mut Book, change: Change, out: &mut Printout) -> Result<()> {
     ensure!(!matches!(change, Change::Amend { .. }), "an amendment");
-    let answered = match book.apply(change) {
+    Ok(answer_applied(book.apply(change), out)?)
+}
+
+fn answer_applied(applied: Result<Delta, BookFault>, out: &mut Printout) -> Result<(), AllocError> {
+    match applied {
         Ok(delta) => answer_delta(&delta, out),
         Err(fault) => out.answer(fault),
-    };
-    Ok(answered?)
+    }
 }
 
 fn answer_found(alloc: Global, book: &Book, id: &str, out: &mut Printout) -> Result<()> {

@@ -113,9 +113,10 @@ fn remove(
     ensures { cube.new.schema ≡ cube.old.schema }
 {
     let fact = fact_of(alloc, schema, fields)?;
-    if !cube.holds(&fact) {
-        return Ok(out.answer("not held")?);
+    if cube.holds(&fact) {
+        cube.remove(&fact);
+        return Ok(());
     }
-    cube.remove(&fact);
-    Ok(())
+    drop(fact);
+    Ok(out.answer("not held")?)
 }
