@@ -33,7 +33,7 @@ fn writer_of(alloc: Global, room: usize) -> Narrow {
 }
 
 #[test]
-fn a_failed_write_tells_how_much_went_out(rt: HostRuntime) -> Result<(), Fail> {
+fn a_failed_write_tells_how_much_went_out(rt: HostRuntime) {
     let alloc = rt.alloc();
     let ten = RunFault::Write { sent: 10 };
     let mut out = writer_of(alloc, 10);
@@ -42,28 +42,29 @@ fn a_failed_write_tells_how_much_went_out(rt: HostRuntime) -> Result<(), Fail> {
         Err(Failure::Run(ten))
     );
     assert_eq!(rt; out.taken.as_slice(), b"region,kin".as_slice());
-    let mut out = writer_of(alloc, 10);
+}
+
+#[test]
+fn a_failed_write_of_a_run_in_threads_tells_how_much_went_out(rt: HostRuntime) -> Result<(), Fail> {
+    let alloc = rt.alloc();
     let schema = Schema::sample(alloc)?;
-    let fault = run_texts(
-        &rt,
-        alloc,
-        &schema,
-        &[FEED, FEED],
-        1,
-        2,
-        &OpenGate,
-        &mut out,
-    )
-    .err();
-    assert_eq!(rt; fault, Some(ten));
+    let mut out = writer_of(alloc, 10);
+    let feeds = [FEED, FEED];
+    let ran = run_texts(&rt, alloc, &schema, &feeds, 1, 2, &OpenGate, &mut out);
+    assert_eq!(rt; ran, Err(RunFault::Write { sent: 10 }));
     assert_eq!(rt; out.taken.as_slice(), b"region,kin".as_slice());
+    Ok(())
+}
+
+#[test]
+fn a_failed_write_of_a_check_tells_how_much_went_out(rt: HostRuntime) {
+    let alloc = rt.alloc();
     for room in [0, 1, 2] {
         let mut out = writer_of(alloc, room);
         let fault = RunFault::Write { sent: room };
         assert_eq!(rt; check(alloc, SCHEMA, &mut out), Err(Failure::Run(fault)));
         assert_eq!(rt; Some(out.taken.as_slice()), b"ok\n".get(..room));
     }
-    Ok(())
 }
 
 #[test]

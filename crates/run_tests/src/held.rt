@@ -1,18 +1,51 @@
 //! Runs of which one source is held while the others go on.
 ghost use Rattle.std.specs.Prelude.{◌≤◌, length};
 
-use crate::feeds::{one_of, thousand_of};
+use crate::feeds::{ones_to, thousands_of_three};
 use crate::gates::Held;
 use crate::texts::{plain_text, run_texts};
 use cube_core::Schema;
-use cube_threads::OpenGate;
-use std::alloc::Global;
+use cube_threads::{Gate, OpenGate};
+use std::alloc::{AllocError, Global};
+use std::process::Abort;
 use std::str;
 use std::sync::Wait;
 use std::test::Fail;
 use std::thread::Threads;
 
-// Whether a run whose source was held until so many parcels of the others were taken writes this text.
+// What the run on one thread writes of the feeds.
+fn plain_of<'a>(alloc: Global, feeds: &[&'a str]) -> Result<Vec<u8>, Fail>
+    requires { length feeds.now ≤ 64 }
+{
+    let schema = Schema::sample(alloc)?;
+    let plain = plain_text(alloc, &schema, feeds);
+    Ok(plain.ok().ok_or("the run on one thread failed")?)
+}
+
+// Whether a run writes this text.
+fn writes<'a, T: Threads + Wait + Sync, G: Gate + Sync>(
+    rt: &T,
+    alloc: Global,
+    feeds: &[&'a str],
+    capacity: usize,
+    builders: u32,
+    gate: &G,
+    wanted: &[u8],
+) -> Result<bool, Fail>
+    requires feeds { (1 ≤ length feeds.now) × (length feeds.now ≤ 64) }
+    requires capacity { (1 ≤ capacity) × (capacity ≤ 65536) }
+    requires builders { (1 ≤ builders) × (builders ≤ 8) }
+{
+    let schema = Schema::sample(alloc)?;
+    let mut out = Vec::new(alloc);
+    let ran = run_texts(
+        rt, alloc, &schema, feeds, capacity, builders, gate, &mut out,
+    );
+    ran.ok().ok_or("the run failed")?;
+    Ok(out.as_slice() == wanted)
+}
+
+// Whether a run whose source is held until so many parcels of the others were taken writes this text.
 fn writes_though_held<'a, T: Threads + Wait + Sync>(
     rt: &T,
     alloc: Global,
@@ -26,13 +59,8 @@ fn writes_though_held<'a, T: Threads + Wait + Sync>(
     requires capacity { (1 ≤ capacity) × (capacity ≤ 65536) }
     requires builders { (1 ≤ builders) × (builders ≤ 8) }
 {
-    let schema = Schema::sample(alloc)?;
-    let mut out = Vec::new(alloc);
-    let ran = run_texts(
-        rt, alloc, &schema, feeds, capacity, builders, gate, &mut out,
-    );
-    ran.ok().ok_or("the run failed")?;
-    Ok(gate.was_met() && out.as_slice() == wanted)
+    let is_written = writes(rt, alloc, feeds, capacity, builders, gate, wanted)?;
+    Ok(is_written && gate.was_met())
 }
 
 // Each of three sources is held in turn, until the first parcel and until all parcels of the others were taken; each
@@ -46,13 +74,9 @@ fn three_held_in_turn<T: Threads + Wait + Sync>(
     requires capacity { (1 ≤ capacity) × (capacity ≤ 65536) }
     requires builders { (1 ≤ builders) × (builders ≤ 8) }
 {
-    let schema = Schema::sample(alloc)?;
-    let one = thousand_of(alloc, 1)?;
-    let two = thousand_of(alloc, 2)?;
-    let three = thousand_of(alloc, 3)?;
+    let [one, two, three] = thousands_of_three(alloc)?;
     let feeds = [one.as_str(), two.as_str(), three.as_str()];
-    let plain = plain_text(alloc, &schema, &feeds);
-    let plain = plain.ok().ok_or("the run on one thread failed")?;
+    let plain = plain_of(alloc, &feeds)?;
     let all = 2 * 1501 * builders as u64;
     for source in 1..4u32 {
         for awaited in [1, all] {
@@ -101,29 +125,25 @@ fn more_builders_wait_for_a_held_source(rt: HostRuntime) -> Result<(), Fail> {
 #[test]
 fn three_sources_print_what_one_thread_prints(rt: HostRuntime) -> Result<(), Fail> {
     let alloc = rt.alloc();
-    let schema = Schema::sample(alloc)?;
-    let one = thousand_of(alloc, 1)?;
-    let two = thousand_of(alloc, 2)?;
-    let three = thousand_of(alloc, 3)?;
+    let [one, two, three] = thousands_of_three(alloc)?;
     let feeds = [one.as_str(), two.as_str(), three.as_str()];
-    let plain = plain_text(alloc, &schema, &feeds);
-    let plain = plain.ok().ok_or("the run on one thread failed")?;
-    let text = str::from_utf8(&plain)?;
+    let plain = plain_of(alloc, &feeds)?;
+    assert_lines(&rt, str::from_utf8(&plain)?);
+    for (capacity, builders) in [(1, 8), (2, 3)] {
+        let is_written = writes(&rt, alloc, &feeds, capacity, builders, &OpenGate, &plain)?;
+        assert!(rt; is_written, "at {capacity} with {builders}");
+    }
+    Ok(())
+}
+
+// Looks at the number of lines of the cube of three sources, at the first cell and at the last.
+fn assert_lines(rt: &impl Abort, text: &str) {
     assert_eq!(rt; text.lines().count(), 33);
     assert_eq!(rt; text.lines().nth(1), Some("w0,k1,0,0,71,35287,7,987,497/1"));
     assert_eq!(rt;
         text.lines().last(),
         Some("\\N,\\N,1,1,1500,750000,1,999,500/1")
     );
-    for (capacity, builders) in [(1, 8), (2, 3)] {
-        let mut out = Vec::new(alloc);
-        let ran = run_texts(
-            &rt, alloc, &schema, &feeds, capacity, builders, &OpenGate, &mut out,
-        );
-        assert!(rt; ran.is_ok());
-        assert!(rt; out == plain, "at {capacity} with {builders}");
-    }
-    Ok(())
 }
 
 // Each of 64 sources is held in turn until all parcels of the others were taken, over links of one parcel; each feed
@@ -135,23 +155,37 @@ fn sixty_four_held_in_turn<T: Threads + Wait + Sync>(
 ) -> Result<bool, Fail>
     requires { (1 ≤ builders) × (builders ≤ 8) }
 {
-    let schema = Schema::sample(alloc)?;
-    let mut texts = Vec::with_capacity(alloc, 64)?;
-    for source in 1..65 {
-        texts.push(one_of(alloc, source)?)?;
-    }
-    let mut feeds = Vec::with_capacity(alloc, 64)?;
-    for text in &texts {
-        feeds.push(text.as_str())?;
-    }
+    let texts = ones_to(alloc, 64)?;
+    let feeds = strs_of(alloc, &texts)?;
     if feeds.len() != 64 {
         return Err(Fail::new("64 feeds"));
     }
-    let plain = plain_text(alloc, &schema, &feeds);
-    let plain = plain.ok().ok_or("the run on one thread failed")?;
+    each_held_in_turn(rt, alloc, &feeds, builders)
+}
+
+// The texts as what a run takes.
+fn strs_of(alloc: Global, texts: &[String]) -> Result<Vec<&str>, AllocError> {
+    let mut strs = Vec::with_capacity(alloc, texts.len())?;
+    for text in texts {
+        strs.push(text.as_str())?;
+    }
+    Ok(strs)
+}
+
+// Each of 64 feeds is held in turn.
+fn each_held_in_turn<'a, T: Threads + Wait + Sync>(
+    rt: &T,
+    alloc: Global,
+    feeds: &[&'a str],
+    builders: u32,
+) -> Result<bool, Fail>
+    requires feeds { (1 ≤ length feeds.now) × (length feeds.now ≤ 64) }
+    requires builders { (1 ≤ builders) × (builders ≤ 8) }
+{
+    let plain = plain_of(alloc, feeds)?;
     for source in 1..65u32 {
         let gate = Held::new(source, 63 * 2 * builders as u64);
-        if !writes_though_held(rt, alloc, &feeds, 1, builders, &gate, &plain)? {
+        if !writes_though_held(rt, alloc, feeds, 1, builders, &gate, &plain)? {
             return Ok(false);
         }
     }
