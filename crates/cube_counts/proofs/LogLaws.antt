@@ -1,10 +1,8 @@
 -- Laws of logs: what sorting, joining and counting down leave held, and where a number is counted in a list in order.
-use Rattle.std.proofs.Common.{◌≡◌, ℕ, ◌+◌, ◌-◌, ◌*◌, ◌<◌, ◌≤◌, [], ◌∷◌, ◌++◌, refl, arith, ap, sym, ◌∙◌, length, get_or}
-use Rattle.std.proofs.Common.{set, true, false, cond, subst, not, inl, inr, ◌⊎◌}
-use Rattle.std.specs.Prelude.{ℤ, ◌≤ℤ◌, Some, All, Contains, int_lt, nat_lt, filter}
+use Rattle.std.proofs.Common.{◌≡◌, ℕ, ◌+◌, ◌-◌, ◌*◌, ◌<◌, ◌≤◌, [], ◌∷◌, refl, arith, ap, sym, ◌∙◌, length, get_or}
+use Rattle.std.proofs.Common.{set, true, false, cond, subst, not}
+use Rattle.std.specs.Prelude.{ℤ, ◌≤ℤ◌, All, int_lt, nat_lt, filter}
 use Rattle.std.specs.List.Sorted.{IsPartitionedBy, IsPartitionPoint, IsSortedByKey}
-use Rattle.std.specs.Map.{keys_of}
-use Rattle.std.specs.Int.{int_min, int_max}
 use Rattle.std.specs.List.{HoldsAt, AllWithin}
 use Rattle.std.specs.Ordering.{int_eq, int_cmp, is_lt}
 use Rattle.std.proofs.Math.Logic.{⊎_elim}
@@ -14,12 +12,11 @@ use Rattle.std.proofs.lemmas.List.{get_or_default, get_or-set_same, get_or-set_o
 use Rattle.std.proofs.lemmas.List.Elements.{All-head, All-tail}
 use Rattle.std.proofs.lemmas.List.Sorted.{sorted_far, ranks_by}
 use Rattle.std.proofs.lemmas.Cmp.{int_cmp_total}
-use Rattle.std.proofs.lemmas.List.Sums.{sum_by-append, sum_by-le}
-use Rattle.cube_numbers.specs.Bag.{Bag, one_at, held_of, size_of, SameHeld, AddsBag, AddsOne, HasLeast, HasGreatest}
-use Rattle.cube_numbers.specs.Bag.{HasEnds}
+use Rattle.std.proofs.lemmas.List.Sums.{sum_by-le}
+use Rattle.cube_numbers.specs.Bag.{Bag, one_at, held_of, size_of, SameHeld, AddsOne, HasLeast, HasGreatest}
 use Rattle.cube_counts.specs.Log.{Rises, IsJoined, IsOrdered, IsLastOf, IsCut}
 use Rattle.cube_numbers.proofs.BagLaws.{part, weight_of-cons, weight_of-set, one_at-refl, one_at-distinct, int_eq-same}
-use Rattle.cube_numbers.proofs.BagLaws.{held_of-absent, held_le_size, held_of-get_or, least_of_pairs, greatest_of_pairs}
+use Rattle.cube_numbers.proofs.BagLaws.{held_of-absent, held_of-get_or}
 use Rattle.cube_numbers.proofs.BagLaws.{AddsOne-set, count_at}
 
 -- ---- pairs that count nothing

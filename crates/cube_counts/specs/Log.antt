@@ -1,6 +1,6 @@
 -- What a log keeps of its pairs: of those that were added, of the numbers that were taken away, and of pairs in order.
 use Rattle.std.specs.Prelude.{◌≡◌, ℕ, ◌+◌, ◌^◌, ◌<◌, ◌≤◌, ◌≤ℤ◌, ◌<ℤ◌, ℤ, List, [], ◌∷◌, suc, zero, Option, IfSome}
-use Rattle.std.specs.Prelude.{IfNone, length, slice_index_or, sum_by, if◌then◌else◌}
+use Rattle.std.specs.Prelude.{IfNone, length, slice_index_or, if◌then◌else◌}
 use Rattle.std.specs.Ordering.{int_eq}
 use Rattle.std.specs.List.{AllWithin}
 use Rattle.cube_numbers.specs.Bag.{Bag, held_of, size_of}

@@ -4,7 +4,8 @@ use Rattle.std.proofs.Common.{arith, IfSome}
 use Rattle.std.proofs.lemmas.List.{get_or-map, get_or_default, length-map, set-get_or}
 use Rattle.std.proofs.Math.Seq.{map-set_same}
 use Rattle.cube_link.specs.Link.{Sending, Receiving}
-use Rattle.cube_handover.specs.Settling.{received_on, received_by, Kept, kept_of, receipt_of, IsOfLink, Begins, FitLinks}
+use Rattle.cube_handover.specs.Settling.{received_on, received_by, Kept, kept_of, receipt_of, IsOfLink, Begins}
+use Rattle.cube_handover.specs.Settling.{FitLinks}
 use Rattle.cube_handover.specs.Settling.{BeginReceipts}
 use Rattle.cube_handover.specs.declared.parcel.Parcel.{Parcel}
 use Rattle.cube_handover.specs.declared.parcel.FeederEnd.{FeederEnd}

@@ -1,5 +1,6 @@
 -- Laws of the ends of bags.
-use Rattle.std.proofs.Common.{◌≡◌, ℕ, ◌+◌, ◌*◌, ◌<◌, ◌≤◌, [], ◌∷◌, ◌++◌, refl, arith, ap, true, false, cond, inl, inr, ◌⊎◌}
+use Rattle.std.proofs.Common.{◌≡◌, ℕ, ◌*◌, ◌<◌, [], ◌∷◌, ◌++◌, refl, arith, ap}
+use Rattle.std.proofs.Common.{true, false, cond, inl, inr, ◌⊎◌}
 use Rattle.std.specs.Prelude.{ℤ, ◌≤ℤ◌, Some, All, Contains, int_lt}
 use Rattle.std.specs.Map.{keys_of}
 use Rattle.std.specs.Int.{int_min, int_max}

@@ -13,7 +13,8 @@ use Rattle.std.proofs.lemmas.List.Sums.{sum_by-cons, sum_by-append, sum_by_push,
 use Rattle.std.proofs.lemmas.List.Sums.{get_or-le-sum_by}
 use Rattle.cube_numbers.specs.Bag.{Bag, one_at, held_of, size_of, SameHeld, AddsBag, AddsTimes, AddsOne, HasEnds}
 use Rattle.cube_numbers.specs.Narrow.{times_in, once_each}
-use Rattle.cube_numbers.proofs.BagLaws.{weight_of-cons, one_at-refl, one_at-distinct, int_eq-same, IsSplit, IsSplit-room}
+use Rattle.cube_numbers.proofs.BagLaws.{weight_of-cons, one_at-refl, one_at-distinct, int_eq-same}
+use Rattle.cube_numbers.proofs.BagLaws.{IsSplit, IsSplit-room}
 use Rattle.cube_numbers.proofs.BagLaws.{IsSplit-more, IsSplit-SameHeld, IsMerging, IsMerging-room_at, IsMerging-more_at}
 use Rattle.cube_numbers.proofs.BagLaws.{IsMerging-AddsBag_past}
 use Rattle.cube_numbers.proofs.EndLaws.{HasEnds-pair, HasEnds-AddsBag, HasEnds-keys_of}
