@@ -1,7 +1,7 @@
-use Rattle.std.proofs.Common.{ap, ◌∙◌, subst}
+use Rattle.std.proofs.Common.{ap, ◌∙◌, subst, rules}
 use Rattle.sqlite_store.specs.FileStore.{view}
 use Rattle.sqlite_store.specs.declared.store.FileStore.{FileStore}
-use Rattle.cube_store.specs.Closing.{IsEmptied, IsUnharmed}
+use Rattle.cube_store.specs.Closing.{IsUnharmed}
 use Rattle.cube_store.proofs.ClosingLaws as laws
 use Rattle.cube_store.proofs.CodeLaws as codes
 use Rattle.cube_store.proofs.starting.copy_log.Goals as goal
@@ -22,6 +22,4 @@ returns-in-Err-clause-unharmed g c =
     })
 
 pub returns-in-Ok-clause-emptied : goal.returns-in-Ok-clause-emptied
-returns-in-Ok-clause-emptied g c =
-    subst (λ (was : FileStore g.row.D.Denot g.D.Disk). IsEmptied was c.checkpoint.new.self)
-    c.into_store-store.ensures.value c.in-Ok.ensures.moved
+returns-in-Ok-clause-emptied g c = search (rules, c.into_store-store.ensures.value)
