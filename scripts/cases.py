@@ -24,7 +24,8 @@ is ../examples. A case is a block of lines:
     bytes NAME N         a file of N bytes: the sample schema and then a comment
     stdin FILE           what stands on standard input, and `stdin` alone the lines below it; it is empty else, and
                          `stdin closed` closes it
-    stdout WAY           where the output goes: `closed`, `full` (a full disk), `gone` (a pipe that nobody reads)
+    stdout WAY           where the output goes: `closed`, `full` (a full disk), `gone` (a pipe that nobody reads), or a number:
+                         a file that has room for so many bytes
     out                  the output, as the lines below it; `out FILE` as that file, `out has TEXT` with this text in it
     err TEXT             the line on standard error; `err has TEXT` with this text in it
     status N             the status
@@ -36,8 +37,10 @@ No line `out` or `err` means that nothing is written there, and no `status` mean
 import argparse
 import os
 import re
+import resource
 import shlex
 import shutil
+import signal
 import subprocess
 import sys
 import tempfile
@@ -199,8 +202,7 @@ def make(room, kind, name, what):
     elif kind == "locked":
         os.chmod(path, 0)
     elif kind == "bytes":
-        with open(f"{room}/sample.toml", "rb") as sample:
-            start = sample.read()
+        start = read_whole(f"{room}/sample.toml")
         with open(path, "wb") as file:
             file.write(start + b"#" * (what - len(start)))
 
@@ -211,8 +213,7 @@ def wanted_of(what):
     if kind == "lines":
         return "is", "".join(value).encode()
     if kind == "file":
-        with open(f"{ROOT}/{value}", "rb") as file:
-            return "is", file.read()
+        return "is", read_whole(f"{ROOT}/{value}")
     return kind, value
 
 
@@ -250,14 +251,31 @@ def run(case, room):
         os.close(reading)
     if closed:
         how["preexec_fn"] = lambda: [os.close(fd) for fd in closed]
+    has_room = case.stdout is not None and case.stdout.isdigit()
+    if has_room:
+        how["stdout"] = open(f"{room}/stdout", "wb")
+        how["preexec_fn"] = lambda: limit_files(int(case.stdout))
     try:
         ran = subprocess.run(words, **how)
     except subprocess.TimeoutExpired:
         return f"it doesn't end in {SECONDS} seconds"
-    found = [wrong("the output", case.out, ran.stdout or b""), wrong("standard error", case.err, ran.stderr)]
+    out = read_whole(f"{room}/stdout") if has_room else ran.stdout or b""
+    found = [wrong("the output", case.out, out), wrong("standard error", case.err, ran.stderr)]
     if ran.returncode != case.status:
         found.append(f"the status is {ran.returncode}, and not {case.status}")
     return "; ".join(it for it in found if it) or None
+
+
+def limit_files(size):
+    """Lets no file of the process grow past a size: a write gives what fits, and the next one fails."""
+    signal.signal(signal.SIGXFSZ, signal.SIG_IGN)
+    resource.setrlimit(resource.RLIMIT_FSIZE, (size, size))
+
+
+def read_whole(path):
+    """The bytes of a file."""
+    with open(path, "rb") as file:
+        return file.read()
 
 
 def give_away(room):

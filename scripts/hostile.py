@@ -233,9 +233,14 @@ def refusals_in_turn(trials):
         trials.trial(f"random bytes refused: {name}", lambda: trials.in_turn("chance", words, [r"no random key"], given))
         trials.trial(f"one byte a read: {name}", lambda: short(program, words, given, "read 1"))
         trials.trial(f"one byte a write: {name}", lambda: short(program, words, given, "write 1"))
+    one = ["print", "schema.toml", program.write("one.csv", oracle.encode([SAMPLE.header(), ONE]))]
+    trials.trial("writes of a byte failing in turn: print, one fact",
+                 lambda: trials.in_turn("write", one, [r"G6 \d+"], short="write 1"))
+    trials.trial("writes of a byte that take nothing: print, one fact",
+                 lambda: trials.in_turn("none", one, [r"G6 \d+"], short="write 1"))
     many = ["print", "--ring", "1", "--builders", "8", "schema.toml", *files]
     trials.trial("threads refused in turn: print, 64 feeds, 8 builders", lambda: trials.in_turn("thread", many, [r"G2"]))
-    few = [program.write("one.csv", oracle.encode([SAMPLE.header(), ONE]))] * 64
+    few = [one[-1]] * 64
     for builders in ("1", "2", "8"):
         words = ["print", "--ring", "1", "--builders", builders, "schema.toml", *few]
         trials.trial(f"memory refused in turn: print, 64 feeds, {builders} builders",

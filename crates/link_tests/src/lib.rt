@@ -1,7 +1,5 @@
-//! Tests of links, on one thread and between two.
+//! Tests of links.
 #![tactic(auto)]
 
-#[cfg(test)]
-mod crossing;
 #[cfg(test)]
 mod tests;

@@ -1,22 +1,11 @@
-//! What crosses a link, on one thread and between two, ends dropped early, and what may move to another thread.
+//! A link that is full, ends that are dropped early, and what may move to another thread.
 ghost use Rattle.std.specs.Prelude.{◌≡◌};
 
-use crate::crossing::cross;
 use cube_link::{Inlet, Outlet, Receipt, link};
 use std::alloc::Global;
 use std::process::Abort;
 use std::sync::Arc;
 use std::test::Fail;
-
-#[test]
-fn numbers_cross_in_order(rt: HostRuntime) -> Result<(), Fail> {
-    for capacity in [1, 3] {
-        let numbers = (1..=100_000u64).collect(rt.alloc())?;
-        let received = cross(&rt, rt.alloc(), capacity, numbers).expect(&rt, "all of them");
-        assert!(rt; received.into_iter().eq(1..=100_000));
-    }
-    Ok(())
-}
 
 #[test]
 fn a_full_link_gives_the_item_back(rt: HostRuntime) -> Result<(), Fail> {
@@ -37,17 +26,6 @@ fn left_after(rt: &impl Abort, outlet: Outlet<u64>, inlet: &mut Inlet<u64>) -> u
 {
     let mut receipt = outlet.finish().expect(rt, "a receipt");
     inlet.left_after(&mut receipt)
-}
-
-#[test]
-fn what_a_receipt_leaves_is_taken(rt: HostRuntime) -> Result<(), Fail> {
-    let (mut outlet, mut inlet) = link(rt.alloc(), 2)?;
-    assert!(rt; outlet.offer(7u64).is_ok() && outlet.offer(8).is_ok());
-    let mut receipt = outlet.finish().expect(&rt, "a receipt");
-    assert!(rt; inlet.left_after(&mut receipt) == 2);
-    assert_eq!(rt; [inlet.take_known(), inlet.take_known()], [7, 8]);
-    assert!(rt; inlet.left_after(&mut receipt) == 0 && inlet.take().is_none());
-    Ok(())
 }
 
 // A link of three items, of which two are there, each a share of the item.

@@ -90,30 +90,16 @@ fn names<T: Threads + Wait + Sync>(
 }
 
 #[test]
-fn a_fault_is_named_before_and_after_all_else(rt: HostRuntime) -> Result<(), Fail> {
-    let alloc = rt.alloc();
-    for text in [ONE_MORE, MANY_MORE] {
-        for builders in [1, 3] {
-            for (feeds, source) in [
-                ([text, GOOD, GOOD], 1),
-                ([GOOD, text, GOOD], 2),
-                ([GOOD, GOOD, text], 3),
-            ] {
-                for held in [1, 2, 3] {
-                    let is_named = names(&rt, alloc, feeds, builders, held, source)?;
-                    assert!(rt; is_named, "of {source} with {held} held");
-                }
-            }
-        }
-    }
-    Ok(())
-}
-
-#[test]
-fn the_lowest_of_two_faults_is_named_whichever_comes_first(rt: HostRuntime) -> Result<(), Fail> {
+fn the_lowest_fault_is_named_whichever_comes_first(rt: HostRuntime) -> Result<(), Fail> {
     let alloc = rt.alloc();
     for builders in [1, 3] {
         for (feeds, source) in [
+            ([ONE_MORE, GOOD, GOOD], 1),
+            ([GOOD, ONE_MORE, GOOD], 2),
+            ([GOOD, GOOD, ONE_MORE], 3),
+            ([MANY_MORE, GOOD, GOOD], 1),
+            ([GOOD, MANY_MORE, GOOD], 2),
+            ([GOOD, GOOD, MANY_MORE], 3),
             ([ONE_MORE, MANY_MORE, GOOD], 1),
             ([MANY_MORE, GOOD, ONE_MORE], 1),
             ([GOOD, ONE_MORE, MANY_MORE], 2),

@@ -5,10 +5,8 @@ use crate::feeds::{ones_to, thousands_of_three};
 use crate::gates::Held;
 use crate::texts::{plain_text, run_texts};
 use cube_core::Schema;
-use cube_threads::{Gate, OpenGate};
+use cube_threads::Gate;
 use std::alloc::{AllocError, Global};
-use std::process::Abort;
-use std::str;
 use std::sync::Wait;
 use std::test::Fail;
 use std::thread::Threads;
@@ -90,60 +88,18 @@ fn three_held_in_turn<T: Threads + Wait + Sync>(
 }
 
 #[test]
-fn one_builder_waits_for_a_held_source(rt: HostRuntime) -> Result<(), Fail> {
-    for capacity in [1, 2, 3, 64, 65536] {
-        assert!(rt;
-            three_held_in_turn(&rt, rt.alloc(), capacity, 1)?,
-            "at {capacity}"
-        );
+fn builders_wait_for_a_held_source(rt: HostRuntime) -> Result<(), Fail> {
+    for builders in [1, 2] {
+        for capacity in [1, 2, 3, 64, 65536] {
+            let is_written = three_held_in_turn(&rt, rt.alloc(), capacity, builders)?;
+            assert!(rt; is_written, "at {capacity} with {builders}");
+        }
     }
-    Ok(())
-}
-
-#[test]
-fn two_builders_wait_for_a_held_source(rt: HostRuntime) -> Result<(), Fail> {
-    for capacity in [1, 2, 3, 64, 65536] {
-        assert!(rt;
-            three_held_in_turn(&rt, rt.alloc(), capacity, 2)?,
-            "at {capacity}"
-        );
-    }
-    Ok(())
-}
-
-#[test]
-fn more_builders_wait_for_a_held_source(rt: HostRuntime) -> Result<(), Fail> {
     for builders in [3, 8] {
-        assert!(rt;
-            three_held_in_turn(&rt, rt.alloc(), 64, builders)?,
-            "at {builders}"
-        );
+        let is_written = three_held_in_turn(&rt, rt.alloc(), 64, builders)?;
+        assert!(rt; is_written, "with {builders}");
     }
     Ok(())
-}
-
-#[test]
-fn three_sources_print_what_one_thread_prints(rt: HostRuntime) -> Result<(), Fail> {
-    let alloc = rt.alloc();
-    let [one, two, three] = thousands_of_three(alloc)?;
-    let feeds = [one.as_str(), two.as_str(), three.as_str()];
-    let plain = plain_of(alloc, &feeds)?;
-    assert_lines(&rt, str::from_utf8(&plain)?);
-    for (capacity, builders) in [(1, 8), (2, 3)] {
-        let is_written = writes(&rt, alloc, &feeds, capacity, builders, &OpenGate, &plain)?;
-        assert!(rt; is_written, "at {capacity} with {builders}");
-    }
-    Ok(())
-}
-
-// Looks at the number of lines of the cube of three sources, at the first cell and at the last.
-fn assert_lines(rt: &impl Abort, text: &str) {
-    assert_eq!(rt; text.lines().count(), 33);
-    assert_eq!(rt; text.lines().nth(1), Some("w0,k1,0,0,71,35287,7,987,497/1"));
-    assert_eq!(rt;
-        text.lines().last(),
-        Some("\\N,\\N,1,1,1500,750000,1,999,500/1")
-    );
 }
 
 // Each of 64 sources is held in turn until all parcels of the others were taken, over links of one parcel; each feed
@@ -193,13 +149,10 @@ fn each_held_in_turn<'a, T: Threads + Wait + Sync>(
 }
 
 #[test]
-fn sixty_four_sources_are_held_with_one_builder(rt: HostRuntime) -> Result<(), Fail> {
-    assert!(rt; sixty_four_held_in_turn(&rt, rt.alloc(), 1)?);
-    Ok(())
-}
-
-#[test]
-fn sixty_four_sources_are_held_with_two_builders(rt: HostRuntime) -> Result<(), Fail> {
-    assert!(rt; sixty_four_held_in_turn(&rt, rt.alloc(), 2)?);
+fn sixty_four_sources_are_held(rt: HostRuntime) -> Result<(), Fail> {
+    for builders in [1, 2, 8] {
+        let is_written = sixty_four_held_in_turn(&rt, rt.alloc(), builders)?;
+        assert!(rt; is_written, "with {builders}");
+    }
     Ok(())
 }

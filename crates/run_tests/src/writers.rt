@@ -4,17 +4,17 @@ use std::alloc::Global;
 use std::io;
 use std::io::Write;
 
-/// What a writer does once it is full.
+// What a writer does once it is full.
 #[derive(Clone, Copy)]
-pub enum Full {
+enum Full {
     TakesNothing,
     Fails(io::ErrorKind),
 }
 
-/// A writer that takes few bytes at a time and counts its calls.
+// A writer that takes few bytes at a time and counts its calls.
 #[derive(Drop)]
-pub struct Narrow {
-    pub taken: Vec<u8>,
+struct Narrow {
+    taken: Vec<u8>,
     width: usize,
     room: usize,
     full: Full,
@@ -24,8 +24,8 @@ pub struct Narrow {
 }
 
 impl Narrow {
-    /// Nothing was taken yet.
-    pub fn new(alloc: Global, width: usize, room: usize, full: Full) -> Narrow {
+    // Nothing was taken yet.
+    fn new(alloc: Global, width: usize, room: usize, full: Full) -> Narrow {
         Narrow {
             taken: Vec::new(alloc),
             width,
