@@ -1,10 +1,10 @@
 //! Where the answers to the wanted aggregates come from.
-ghost use Rattle.std.specs.Prelude.{◌≡◌, IfNone, IfOk, IfSome, Some, slice_get, false, true, List};
+ghost use Rattle.std.specs.Prelude.{◌≡◌, IfNone, IfOk, IfSome, Some, slice_get, false, List};
 ghost use Rattle.std.specs.List.{AllZip, list_all};
 ghost use Rattle.cube_core.specs.Merged.{IsMerged};
 ghost use Rattle.cube_merge.specs.Made.{AreMadeOfRows};
 ghost use Rattle.cube_merge.specs.Source.{IsSourceOf, can_be_made};
-ghost use Rattle.cube_core.specs.PartialForm.{has_aggregate, is_aggregate};
+ghost use Rattle.cube_core.specs.PartialForm.{has_aggregate};
 ghost use Rattle.cube_core.specs.declared.aggregate.Agg.{Agg};
 ghost use Rattle.cube_core.specs.declared.key.Row.{Row};
 
@@ -63,25 +63,11 @@ pub(crate) fn place_of(given: &[Agg], wanted: &Agg) -> Option<usize>
     ensures none { IfNone result (has_aggregate wanted.now given.now ≡ false) }
 {
     for place in 0..given.len() {
-        if is_same(wanted, &given[place]) {
+        if given[place] == *wanted {
             return Some(place);
         }
     }
     None
-}
-
-fn is_same(one: &Agg, other: &Agg) -> bool
-    ensures same { result ≡ true → one.now ≡ other.now }
-    ensures tells { result ≡ is_aggregate one.now other.now }
-{
-    match one {
-        Agg::CountAll => matches!(other, Agg::CountAll),
-        Agg::Count(m) => matches!(other, Agg::Count(n) if m == n),
-        Agg::Sum(m) => matches!(other, Agg::Sum(n) if m == n),
-        Agg::Min(m) => matches!(other, Agg::Min(n) if m == n),
-        Agg::Max(m) => matches!(other, Agg::Max(n) if m == n),
-        Agg::Avg(m) => matches!(other, Agg::Avg(n) if m == n),
-    }
 }
 
 /// The answer from a source, of what the answers at each place made.
