@@ -1,7 +1,7 @@
 //! Calls of a book: `apply RECORD` (what went and what came, or the fault; no amendment), `get ID` and `len`.
 use crate::facts::item_of;
 use crate::script::{Printout, words_of};
-use anyhow::{Result, bail, ensure};
+use anyhow::{Result, bail};
 use cube_core::{Change, Fact, HashKey, Schema, Text};
 use cube_engine::{Book, BookFault, Delta};
 use std::alloc::{AllocError, Global};
@@ -40,14 +40,10 @@ fn apply_record(
 ) -> Result<()> {
     let item = item_of(alloc, schema, record)?;
     match item.what {
-        Ok(change) => apply_change(book, change, out),
+        Ok(Change::Amend { .. }) => bail!("an amendment"),
+        Ok(change) => Ok(answer_applied(book.apply(change), out)?),
         Err(fault) => Ok(out.answer(fault)?),
     }
-}
-
-fn apply_change(book: &mut Book, change: Change, out: &mut Printout) -> Result<()> {
-    ensure!(!matches!(change, Change::Amend { .. }), "an amendment");
-    Ok(answer_applied(book.apply(change), out)?)
 }
 
 fn answer_applied(applied: Result<Delta, BookFault>, out: &mut Printout) -> Result<(), AllocError> {
@@ -70,23 +66,36 @@ fn answer_delta(delta: &Delta, out: &mut Printout) -> Result<(), AllocError> {
 // A line of a fact's values behind a name.
 fn answer_fact(name: &str, fact: Option<&Fact>, out: &mut Printout) -> Result<(), AllocError> {
     out.text.push_str(name)?;
-    let Some(fact) = fact else {
-        return out.answer("none");
-    };
-    for place in 0..fact.dims.len() {
-        write!(out.text, "{},", fact.dims.get(place).unwrap_or("\\N"))?;
+    match fact {
+        Some(fact) => answer_values(fact, out),
+        None => out.answer("none"),
     }
+}
+
+fn answer_values(fact: &Fact, out: &mut Printout) -> Result<(), AllocError> {
+    push_dimensions(&mut out.text, fact)?;
     push_measures(&mut out.text, fact.measures.as_slice())?;
     out.answer("")
+}
+
+fn push_dimensions(text: &mut String, fact: &Fact) -> Result<(), AllocError> {
+    for place in 0..fact.dims.len() {
+        write!(text, "{},", fact.dims.get(place).unwrap_or("\\N"))?;
+    }
+    Ok(())
 }
 
 fn push_measures(text: &mut String, measures: &[Option<i64>]) -> Result<(), AllocError> {
     for (place, measure) in measures.iter().enumerate() {
         text.push_str(if place > 0 { "," } else { "" })?;
-        match measure {
-            Some(measure) => write!(text, "{measure}")?,
-            None => text.push_str("\\N")?,
-        }
+        push_measure(text, *measure)?;
     }
     Ok(())
+}
+
+fn push_measure(text: &mut String, measure: Option<i64>) -> Result<(), AllocError> {
+    match measure {
+        Some(measure) => write!(text, "{measure}"),
+        None => text.push_str("\\N"),
+    }
 }

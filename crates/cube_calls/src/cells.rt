@@ -13,9 +13,21 @@ use std::alloc::{AllocError, Global};
 /// Does the calls on a cell of the schema's measures.
 pub fn run(alloc: Global, schema: &Schema, calls: &str, out: &mut Printout) -> Result<()> {
     let mut cell = Cell::new(alloc, schema.measures().len())?;
+    obey_all(alloc, schema, &mut cell, calls, out)
+}
+
+fn obey_all(
+    alloc: Global,
+    schema: &Schema,
+    cell: &mut Cell,
+    calls: &str,
+    out: &mut Printout,
+) -> Result<()>
+    requires { length cell.old.bags ≡ length schema.now.measures }
+{
     for call in calls.lines() {
         out.next_line();
-        obey(alloc, schema, &mut cell, call, out)?;
+        obey(alloc, schema, cell, call, out)?;
     }
     Ok(())
 }
@@ -33,12 +45,27 @@ fn obey(
     match words_of(call) {
         ("count", "") => Ok(out.answer(cell.count())?),
         ("answers", place) => answers(schema, cell, place, out),
-        (verb, fields) => obey_with(cell, verb, &measured(alloc, schema, fields)?, out),
+        (verb, fields) => obey_with(alloc, schema, cell, verb, fields, out),
     }
 }
 
 // A call with a fact.
-fn obey_with(cell: &mut Cell, verb: &str, fact: &Fact, out: &mut Printout) -> Result<()>
+fn obey_with(
+    alloc: Global,
+    schema: &Schema,
+    cell: &mut Cell,
+    verb: &str,
+    fields: &str,
+    out: &mut Printout,
+) -> Result<()>
+    requires { length cell.old.bags ≡ length schema.now.measures }
+    ensures { length cell.new.bags ≡ length cell.old.bags }
+{
+    let fact = measured(alloc, schema, fields)?;
+    obey_fact(cell, verb, &fact, out)
+}
+
+fn obey_fact(cell: &mut Cell, verb: &str, fact: &Fact, out: &mut Printout) -> Result<()>
     requires { length fact.now.measures ≡ length cell.old.bags }
     ensures { length cell.new.bags ≡ length cell.old.bags }
 {

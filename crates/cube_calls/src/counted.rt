@@ -28,12 +28,20 @@ fn obey_all(
 
 fn obey(values: &mut Counted, other: &mut Counted, call: &str, out: &mut Printout) -> Result<()> {
     match words_of(call) {
-        ("add", value) => add_or_again(values, value.parse()?),
-        ("remove", value) => Ok(out.answer(values.remove(value.parse()?))?),
-        ("holds", value) => Ok(out.answer(values.holds(value.parse()?))?),
         (verb, "") => obey_verb(values, other, verb, out),
+        (verb, value) => obey_with(values, verb, value.parse()?, out),
+    }
+}
+
+// A call with a number.
+fn obey_with(values: &mut Counted, verb: &str, value: i64, out: &mut Printout) -> Result<()> {
+    match verb {
+        "add" => add_or_again(values, value)?,
+        "remove" => out.answer(values.remove(value))?,
+        "holds" => out.answer(values.holds(value))?,
         _ => bail!("no call of a multiset"),
     }
+    Ok(())
 }
 
 // A call of one word.

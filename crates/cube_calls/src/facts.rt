@@ -6,14 +6,20 @@ use std::alloc::{AllocError, Global};
 
 /// The item of a record.
 pub fn item_of(alloc: Global, schema: &Schema, record: &str) -> Result<Item> {
-    let mut text = String::from_str(alloc, "op,id")?;
-    push_names(&mut text, schema.dimensions())?;
-    push_names(&mut text, schema.measures())?;
-    write!(text, "\n{record}\n")?;
+    let text = feed_of(alloc, schema, record)?;
     match first_of(alloc, schema, text.as_bytes())? {
         Some(item) => Ok(item),
         None => bail!("no record"),
     }
+}
+
+// The feed of one record.
+fn feed_of(alloc: Global, schema: &Schema, record: &str) -> Result<String, AllocError> {
+    let mut text = String::from_str(alloc, "op,id")?;
+    push_names(&mut text, schema.dimensions())?;
+    push_names(&mut text, schema.measures())?;
+    write!(text, "\n{record}\n")?;
+    Ok(text)
 }
 
 // The first item of a feed.

@@ -7,7 +7,7 @@ use crate::script::{Printout, words_of};
 use crate::text::text_of;
 use anyhow::{Result, bail};
 use cube_cells::{Cell, Cube};
-use cube_core::{Key, Pattern, QueryFault, Schema};
+use cube_core::{Key, Pattern, QueryFault, Row, Schema};
 use std::alloc::{AllocError, Global};
 use std::fmt::Display;
 
@@ -90,9 +90,15 @@ fn rolled_up(alloc: Global, schema: &Schema, cube: &Cube, words: &str) -> Result
     requires { cube.now.schema ≡ schema.now }
 {
     let (key, place) = step_of(alloc, schema, words)?;
-    match cube.roll_up(&key, place)? {
-        Some(row) => Ok(text_of(alloc, &[row])?),
-        None => Ok(String::from_str(alloc, "none\n")?),
+    let row = cube.roll_up(&key, place)?;
+    Ok(text_of_one(alloc, row)?)
+}
+
+// The line of a row, or one that says that there is none.
+fn text_of_one(alloc: Global, row: Option<Row>) -> Result<String, AllocError> {
+    match row {
+        Some(row) => text_of(alloc, &[row]),
+        None => String::from_str(alloc, "none\n"),
     }
 }
 
