@@ -61,7 +61,7 @@ STATUS = {"S": 3, "P": 2, "G": 1, "Q": 1, "M": 1}
 MEMORY = [r"S1", r"G1", r"G2", r"G3 \d+ F1", r"G4", r"P6", r"M1"]
 READS = [r"G3 \d+ F2", r"schema unreadable", r"Q3", r"M3 \d+( \d+)?"]
 # (what the short form refuses memory, reads and writes; threads are refused everywhere)
-SHORT = ("no words", "check", "print, 3 feeds, 2 builders", "slice", "live", "merge")
+SHORT = ("no words", "check", "print, one fact", "print, 3 feeds, 2 builders", "slice", "live", "merge")
 # (what is said where there is no memory for the words themselves)
 NO_WORDS = b"error: out of memory\n"
 
