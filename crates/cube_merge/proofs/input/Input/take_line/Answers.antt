@@ -1,12 +1,11 @@
-use Rattle.std.proofs.Common.{◌≡◌, ◌<◌, [], rules, arith, sym, subst, length}
-use Rattle.std.proofs.lemmas.Grind.{common_steps}
+use Rattle.std.proofs.Common.{◌≡◌, ◌<◌, rules, arith, sym, subst, length}
 use Rattle.std.proofs.lemmas.List.{nil_from_length}
 use Rattle.std.specs.Prelude.{None}
 use Rattle.std.specs.Io.KnownBytes.{Consumes}
 use Rattle.cube_core.specs.Text.{row_line}
-use Rattle.cube_merge.specs.Faults.{HasMore, HasRowBelow}
+use Rattle.cube_merge.specs.Faults.{HasMore, HasRowBelow, LacksTotal}
 use Rattle.cube_merge.specs.Merging.{InputView}
-use Rattle.cube_merge.proofs.ReadLaws.{more-taken}
+use Rattle.cube_merge.proofs.ReadLaws.{IsAtEnd-none, is_total-not, more-taken}
 use Rattle.cube_merge.proofs.input.Input.take_line.Goals as goal
 
 pub returns-in_default-2-clause-err : goal.returns-in_default-2-clause-err
@@ -41,4 +40,17 @@ returns-then-is_empty-clause-ok g c =
     (subst (Consumes _ _) empty c.in_ok-read_line.ensures.taken, c.in_ok-read_line.ensures.end empty)
 
 pub returns-then-not-is_complete-clause-err : goal.returns-then-not-is_complete-clause-err
-returns-then-not-is_complete-clause-err g c = grind (arith, common_steps)
+returns-then-not-is_complete-clause-err g c =
+    let none : length c.read_line.new.line.items ≡ 0 = search (rules, arith) in
+    let empty = nil_from_length c.read_line.new.line.items none in
+    let lacks = c.is_complete.ensures c.if-not-is_complete.true in (
+      search rules,
+      subst (λ (i : InputView). LacksTotal c.args.schema.now
+          (record { left = i.left; row = c.args.before.now; lines = i.lines })) c.self.view_is
+          (record {
+            at_end = IsAtEnd-none _ _ (subst (Consumes _ _) empty c.in_ok-read_line.ensures.taken)
+                (c.in_ok-read_line.ensures.end empty);
+            kept = lacks.0;
+            last = is_total-not _ _ lacks.1;
+          }),
+    )
