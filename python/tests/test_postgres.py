@@ -459,6 +459,8 @@ class Rows(Base):
                 follower = self.follower()
                 self.run_sql(f"INSERT INTO {{table}} VALUES (17, {values})")
                 self.stopped(follower, RowUnsayable, f"table public.{self.table}, key (id)=(17), column {column}: ")
+                # (so that the next follower can make its own)
+                self.assertEqual(PRIVATE.ask("SELECT slot_name FROM pg_replication_slots"), [])
                 self.refused(RowUnsayable, f"table public.{self.table}, key (id)=(17), column {column}: ")
 
     def test_scales_are_exact(self):
