@@ -267,7 +267,7 @@ def run(case, room):
 
 
 def limit_files(size):
-    """Lets no file of the process grow past a size: a write gives what fits, and the next one fails."""
+    """Lets no file of the process grow past a size: a write takes what fits, and the next one fails."""
     signal.signal(signal.SIGXFSZ, signal.SIG_IGN)
     resource.setrlimit(resource.RLIMIT_FSIZE, (size, size))
 

@@ -174,12 +174,18 @@ class Follower(Questions, Running):
             failure = CantFollow(text_of_error(why))
         except BaseException as why:
             failure = why
-        # (before the failure is told: whoever is told may begin another follower, whose slot has the same name)
+        self._set(is_connected=False)
+        try:
+            # (before the failure is told: whoever is told may begin another follower, whose slot has the same name)
+            self._drop_own_slot()
+        finally:
+            self._set(failure=failure)
+            self._put_mirror(None)
+
+    def _drop_own_slot(self) -> None:
         if self._has_slot:
             with contextlib.suppress(psycopg2.Error, CantFollow), contextlib.closing(connect(self.dsn)) as connection:
                 drop_slot(connection, self.slot)
-        self._set(failure=failure, is_connected=False)
-        self._put_mirror(None)
 
     def _follow_copies(self) -> None:
         """Follows until the end; where the slot or the session is lost, it begins with a copy again."""
