@@ -1,4 +1,5 @@
-"""The gate: what takes seconds first, then the proofs, then whether the released program is what they give.
+"""The gate: what takes seconds first, then the proofs, then whether the released program is what they give, and what runs
+programs that the proofs left. Parts that need no proof run side by side.
 
     scripts/test.sh [--quick | --anew]
 
@@ -6,11 +7,14 @@ The program that the first parts run is one that was built here from these very 
 line is `N passed, M failed` over all parts; before it stands a table of the seconds that each part took.
 """
 import argparse
+import collections
+import concurrent.futures
 import os
 import re
 import shutil
 import subprocess
 import sys
+import tempfile
 import threading
 import time
 
@@ -23,6 +27,9 @@ RELEASE = f"{ROOT}/release/x86_64-linux"
 COUNTS = re.compile(r"(\d+) passed, (\d+) failed")
 # (the status of a part that says which packages it lacks)
 LEFT_OUT = 77
+
+# What came of a part: its status, the lines that it said, and its seconds of the clock and of processors.
+Part = collections.namedtuple("Part", "status lines clock spent")
 
 
 class Tally:
@@ -37,20 +44,20 @@ class Tally:
         self.passed, self.failed = self.passed + is_right, self.failed + (not is_right)
         print(f"{'ok     ' if is_right else 'FAILED '} {what}", flush=True)
 
-    def run(self, name, command):
-        """Runs a part, shows what it says but for its last line, and adds up what that counts."""
-        print(f"== {name}", flush=True)
-        start, before = time.time(), os.times()
-        said = stream(command)
-        after = os.times()
-        spent = after.children_user + after.children_system - before.children_user - before.children_system
-        self.rows.append((name, time.time() - start, spent))
-        self.add(said)
+    def run(self, parts):
+        """Runs parts side by side, as many as there are processors; shows of each in turn what it says but for its last
+        line, and adds up what that counts."""
+        with concurrent.futures.ThreadPoolExecutor(len(os.sched_getaffinity(0))) as pool:
+            for name, ran in [(name, pool.submit(run_part, command)) for name, command in parts]:
+                print(f"== {name}", flush=True)
+                part = ran.result()
+                print(*part.lines[:-1], sep="", end="", flush=True)
+                self.rows.append((name, part.clock, part.spent))
+                self.add(part.status, "".join(part.lines[-1:]).strip())
 
-    def add(self, ran):
+    def add(self, status, last):
         """Adds up what a part's last line counts; a part without such a line, or with a status that it doesn't tell of,
         failed, but for one that was left out."""
-        status, last = ran
         if status == LEFT_OUT:
             print("left out")
             return
@@ -61,8 +68,20 @@ class Tally:
         self.passed, self.failed = self.passed + passed, self.failed + (failed or int(status != 0))
 
 
+def run_part(command):
+    """Runs a command to its end, and gives what came of it."""
+    start = time.monotonic()
+    with tempfile.TemporaryFile("w+", encoding="utf-8", errors="replace") as said:
+        ran = subprocess.Popen(command, cwd=ROOT, stdin=subprocess.DEVNULL, stdout=said, stderr=subprocess.STDOUT)
+        _, status, use = os.wait4(ran.pid, 0)
+        clock = time.monotonic() - start
+        ran.returncode = os.waitstatus_to_exitcode(status)
+        said.seek(0)
+        return Part(ran.returncode, said.readlines(), clock, use.ru_utime + use.ru_stime)
+
+
 def stream(command):
-    """Runs a command and shows what it says but for its last line; gives its status and that line."""
+    """Runs a command and shows what it says but for its last line as it comes; gives its status and that line."""
     ran = subprocess.Popen(command, cwd=ROOT, stdin=subprocess.DEVNULL, stdout=subprocess.PIPE, stderr=subprocess.STDOUT, text=True, errors="replace")
     last = ""
     for line in ran.stdout:
@@ -138,6 +157,19 @@ def quick_parts(program):
     return parts
 
 
+def parts_of_proved(program):
+    """The parts that run programs which the proofs left, and those that take other packages."""
+    parts = [
+        ("cases of the library", ["scripts/library_cases.py"]),
+        ("cases of the benchmarks", ["scripts/cases.py", "--folder", "cases/bench", "--program", "crates/bench/out/bench"]),
+        ("the same question in SQL", ["scripts/sql.py", "--program", program]),
+        ("the page in a browser", ["scripts/explorer.sh"]),
+    ]
+    if shutil.which("cc"):
+        parts.append(("calls of the library with memory refused", ["scripts/hostile.sh", "--library", "--program", program]))
+    return parts
+
+
 def prove(tally, is_anew):
     """Proves everything from nothing, and records what was built."""
     ci = ["rt", "ci"]
@@ -148,7 +180,7 @@ def prove(tally, is_anew):
     sampler = Sampler()
     sampler.start()
     os.environ.setdefault("RT_JOBS", shell("checks_side_by_side"))
-    tally.add(stream(ci))
+    tally.add(*stream(ci))
     sampler.ended.set()
     sampler.join()
     rows = sampler.rows()
@@ -199,20 +231,13 @@ def main():
     program = programs.found()
     if program:
         print(f"the program that is run: {os.path.relpath(program, ROOT)}", flush=True)
-        for name, command in quick_parts(program):
-            tally.run(name, command)
+        tally.run(quick_parts(program))
     else:
         tally.note(False, "there is a program to run the cases on")
     if not given.quick:
         prove(tally, given.anew)
         see_release(tally)
-        tally.run("cases of the library", ["scripts/library_cases.py"])
-        if shutil.which("cc"):
-            tally.run("calls of the library with memory refused", ["scripts/hostile.sh", "--library", "--program", program or f"{BUILT}/datacube"])
-        bench = ["--folder", "cases/bench", "--program", "crates/bench/out/bench"]
-        tally.run("cases of the benchmarks", ["scripts/cases.py", *bench])
-        tally.run("the same question in SQL", ["scripts/sql.py", "--program", program or f"{BUILT}/datacube"])
-        tally.run("the page in a browser", ["scripts/explorer.sh"])
+        tally.run(parts_of_proved(program or f"{BUILT}/datacube"))
     print("== seconds of the clock, and of processors")
     for name, clock, spent in tally.rows:
         print(f"{clock:8.0f} {spent:8.0f}  {name}")

@@ -3,7 +3,7 @@ use crate::facts::item_of;
 use crate::script::{Printout, words_of};
 use anyhow::{Result, bail};
 use cube_core::{Change, Fact, HashKey, Schema, Text};
-use cube_engine::{Book, BookFault, Delta};
+use cube_ledger::{Book, BookFault, Delta};
 use std::alloc::{AllocError, Global};
 
 /// Does the calls on a book.

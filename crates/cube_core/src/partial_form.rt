@@ -1,7 +1,7 @@
 //! The partial form of a schema, under which cubes can be merged.
 ghost use Rattle.std.specs.Prelude.{◌≡◌, IfOk, OnOk, get_or, [], map};
 ghost use Rattle.cube_core.specs.Layout.{spelling_of, spelled_with};
-ghost use Rattle.cube_core.specs.PartialForm.{AnswersPartial, has_aggregate, is_aggregate, partial_aggregates, with_aggregate, with_parts};
+ghost use Rattle.cube_core.specs.PartialForm.{AnswersPartial, has_aggregate, partial_aggregates, with_aggregate, with_parts};
 
 use crate::aggregate::Agg;
 use crate::schema::Schema;
@@ -73,22 +73,7 @@ fn add_missing(aggregates: &mut Vec<Agg>, aggregate: Agg) -> Result<(), AllocErr
 fn has_aggregate(aggregate: &Agg, aggregates: &[Agg]) -> bool
     ensures { result ≡ has_aggregate aggregate.now aggregates.now }
 {
-    aggregates
-        .iter()
-        .any(|other| is_aggregate(aggregate, other))
-}
-
-fn is_aggregate(aggregate: &Agg, other: &Agg) -> bool
-    ensures { result ≡ is_aggregate aggregate.now other.now }
-{
-    match aggregate {
-        Agg::CountAll => matches!(other, Agg::CountAll),
-        Agg::Count(m) => matches!(other, Agg::Count(n) if m == n),
-        Agg::Sum(m) => matches!(other, Agg::Sum(n) if m == n),
-        Agg::Min(m) => matches!(other, Agg::Min(n) if m == n),
-        Agg::Max(m) => matches!(other, Agg::Max(n) if m == n),
-        Agg::Avg(m) => matches!(other, Agg::Avg(n) if m == n),
-    }
+    aggregates.iter().any(|other| aggregate == other)
 }
 
 // How a schema spells these aggregates.

@@ -13,12 +13,13 @@ use Rattle.cube_core.specs.declared.change.Item.{Item}
 use Rattle.cube_core.specs.declared.fact.Fact.{Fact}
 use Rattle.cube_cells.specs.Cube.{Lattice, AddsFact, HoldsFact, IsCubeOf, IsNewLattice, SameCells, SameSets, TakesFact}
 use Rattle.cube_cells.proofs.Cells.CubeLaws.{IsCubeOf-permutation, SameCells-IsCubeOf, HoldsFact-IsCubeOf}
-use Rattle.cube_engine.specs.Book.{facts_of}
+use Rattle.cube_ledger.specs.Book.{facts_of}
 use Rattle.cube_engine.specs.Builder.{BuilderView, HasFacts, IsBuilder, StandsAt}
-use Rattle.cube_engine.specs.Ledger.{AccountView, AllFit, AtSource, Enters, Exchanges, LedgerView, account_of}
-use Rattle.cube_engine.specs.Ledger.{all_facts, new_account, with_refusal}
-use Rattle.cube_engine.proofs.LedgerLaws.{AllFit-come, All-append_right, all_facts-new, all_facts-set}
-use Rattle.cube_engine.proofs.StandLaws.{LedgerStandsAt-Enters}
+use Rattle.cube_ledger.specs.Ledger.{AccountView, AllFit, AtSource, Enters, Exchanges, LedgerView, account_of}
+use Rattle.cube_ledger.specs.Ledger.{all_facts, new_account, with_refusal}
+use Rattle.cube_ledger.proofs.LedgerLaws.{AllFit-exchange, All-append_right, all_facts-exchange, all_facts-new}
+use Rattle.cube_ledger.proofs.LedgerLaws.{all_facts-refuse}
+use Rattle.cube_ledger.proofs.StandLaws.{LedgerStandsAt-Enters}
 
 -- a cube has the same facts in another order
 pub HasFacts-permutation : (facts moved : List Fact) (cube : Lattice) → IsPermutation facts moved → HasFacts facts cube
@@ -62,27 +63,7 @@ SameCells-HasFacts facts old new same had has =
 pub SameSets-trans : (a b c : Lattice) → SameSets a b → SameSets b c → SameSets a c
 SameSets-trans a b c first second = record { schema = second.schema ∙ first.schema; sets = second.sets ∙ first.sets }
 
--- ---- the facts of all books where a fact of one source gives way
-
-pub all_facts-exchange : (old new : LedgerView) (source : ℕ) (id : List ℕ) (out come : Option Fact) → 1 ≤ source
-    → source ≤ length old.accounts
-    → AtSource (Exchanges id out come) source old new
-    → IsPermutation (option_to_list come ++ all_facts old.accounts) (option_to_list out ++ all_facts new.accounts)
-all_facts-exchange old new source id out come first last at =
-    subst (λ accounts. IsPermutation (option_to_list come ++ all_facts old.accounts)
-    (option_to_list out ++ all_facts accounts)) (sym at.accounts)
-    (all_facts-set old.accounts (source - 1) at.account come out (omega (arith, first, last)) at.changed.book.moved)
-
--- what is gone and what is left fit, where what comes does
-pub AllFit-exchange : (old new : LedgerView) (source : ℕ) (id : List ℕ) (out come : Option Fact) → 1 ≤ source
-    → source ≤ length old.accounts
-    → AtSource (Exchanges id out come) source old new → AllFit old.schema (all_facts old.accounts)
-    → IfSome come (λ fact. fits old.schema fact ≡ true)
-    → AllFit old.schema (option_to_list out ++ all_facts new.accounts)
-AllFit-exchange old new source id out come first last at all fit =
-    All-permutation (λ fact. fits old.schema fact ≡ true) _ _
-    (all_facts-exchange old new source id out come first last at)
-    (AllFit-come old.schema come (all_facts old.accounts) fit all)
+-- ---- a fact of one source gives way
 
 -- a builder whose ledger changed so, and whose cube has the facts
 pub IsBuilder-exchange : (old new : LedgerView) (before after : Lattice) (source : ℕ) (id : List ℕ)
@@ -121,15 +102,6 @@ IsBuilder-new ledger cube schema sets sources same are new cells = record {
 }
 
 -- ---- an item refused
-
-pub all_facts-refuse : (old new : LedgerView) (source number code : ℕ) → 1 ≤ source → source ≤ length old.accounts
-    → AtSource (λ o n. n ≡ with_refusal o number code) source old new
-    → IsPermutation (all_facts old.accounts) (all_facts new.accounts)
-all_facts-refuse old new source number code first last at =
-    subst (λ accounts. IsPermutation (all_facts old.accounts) (all_facts accounts)) (sym at.accounts)
-    (all_facts-set old.accounts (source - 1) at.account None None (omega (arith, first, last))
-    (subst (λ (a : AccountView). IsPermutation (facts_of (account_of old source).book) (facts_of a.book))
-    (sym at.changed) (IsPermutation-refl _)))
 
 -- a builder stays one where an item is refused, or the refusal found no memory
 pub IsBuilder-refuse : {T E : Type 0} (old new : LedgerView) (cube : Lattice) (source number code : ℕ)
@@ -174,12 +146,3 @@ HasFacts-put old new before after source id out fact first last at adds cells ha
     HasFacts-permutation (fact ∷ all_facts old.accounts) (option_to_list out ++ all_facts new.accounts) after
     (all_facts-exchange old new source id out (Some fact) first last at)
     (HasFacts-add fact (all_facts old.accounts) before after adds cells has)
-
--- what is out fits
-pub fits-out : (old new : LedgerView) (source : ℕ) (id : List ℕ) (fact : Fact) (come : Option Fact) → 1 ≤ source
-    → source ≤ length old.accounts
-    → AtSource (Exchanges id (Some fact) come) source old new → AllFit old.schema (all_facts old.accounts)
-    → IfSome come (λ f. fits old.schema f ≡ true)
-    → fits old.schema fact ≡ true
-fits-out old new source id fact come first last at all fit =
-    AllFit-exchange old new source id (Some fact) come first last at all fit 0 fact (omega arith)

@@ -8,11 +8,11 @@ use Rattle.cube_core.specs.declared.fact.Fact.{Fact}
 use Rattle.cube_core.specs.Layout.{Layout}
 use Rattle.cube_cells.specs.Cube.{Lattice, IsCubeOf, IsNewLattice}
 use Rattle.cube_cells.specs.Fill.{IsCubeOfAll}
-use Rattle.cube_engine.specs.Book.{facts_of}
+use Rattle.cube_ledger.specs.Book.{facts_of}
 use Rattle.cube_engine.specs.Builder.{GainsFacts, HasFacts}
-use Rattle.cube_engine.specs.Ledger.{AccountView, AllFit, all_facts}
+use Rattle.cube_ledger.specs.Ledger.{AccountView, AllFit, all_facts}
 use Rattle.cube_engine.proofs.BuilderLaws.{HasFacts-permutation, SameSets-trans}
-use Rattle.cube_engine.proofs.LedgerLaws.{swap-front}
+use Rattle.cube_ledger.proofs.LedgerLaws.{swap-front}
 
 -- while a cube is filled with facts: some of them are in it, and these are left
 pub record IsFilling (all left : List Fact) (old now : Lattice) : Type 0 where

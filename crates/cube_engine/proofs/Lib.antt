@@ -1,12 +1,3 @@
-mod BookLaws
-mod FitLaws
-mod LedgerLaws
-pub mod StandLaws
-pub mod SurvivorLaws
-mod SurvivorFitLaws
-mod FeedLaws
-mod BuildLaws
-mod RulingLaws
 pub mod BuilderLaws
 mod FillLaws
 mod TakingLaws

@@ -16,13 +16,13 @@ use Rattle.cube_core.specs.Takes.{fits}
 use Rattle.cube_core.specs.declared.fact.Fact.{Fact}
 use Rattle.cube_cells.specs.Cube.{HoldsFact, IsCubeOf, Lattice, SameSets, TakesFact}
 use Rattle.cube_engine.specs.Builder.{GainsFacts, HasFacts}
-use Rattle.cube_engine.specs.Ledger.{AllFit, AtSource, Exchanges, LedgerView, all_facts, with_refusal}
+use Rattle.cube_ledger.specs.Ledger.{AllFit, AtSource, Exchanges, LedgerView, all_facts, with_refusal}
 use Rattle.cube_engine.specs.Parted.{AllFill, AllSettle, AreBehind, ArePartsOver, ArePartsWith, IsPartOver, LosesFacts}
 use Rattle.cube_engine.specs.Parted.{MaySettle, Settles}
 use Rattle.cube_engine.specs.declared.parted.Part.{Part}
-use Rattle.cube_engine.proofs.BuilderLaws.{AllFit-exchange, HasFacts-permutation, HasFacts-remove, HoldsFact-HasFacts}
-use Rattle.cube_engine.proofs.BuilderLaws.{SameSets-trans, all_facts-exchange, all_facts-refuse}
-use Rattle.cube_engine.proofs.LedgerLaws.{AllFit-come, All-append_left, All-append_right, swap-front}
+use Rattle.cube_engine.proofs.BuilderLaws.{HasFacts-permutation, HasFacts-remove, HoldsFact-HasFacts, SameSets-trans}
+use Rattle.cube_ledger.proofs.LedgerLaws.{AllFit-come, AllFit-exchange, All-append_left, All-append_right}
+use Rattle.cube_ledger.proofs.LedgerLaws.{all_facts-exchange, all_facts-refuse, swap-front}
 
 -- ---- facts less
 
@@ -297,8 +297,3 @@ AreBehind-refused old new parts come gone source number code (Err e) first last 
     subst (λ (l : LedgerView). AreBehind l parts come gone) (sym err) behind
 AreBehind-refused old new parts come gone source number code (Ok x) first last ok err behind =
     AreBehind-refuse old new parts come gone source number code first last ok behind
-
--- a list of no fact
-pub none-of : (facts : List Fact) → length facts ≡ 0 → facts ≡ []
-none-of [] none = refl
-none-of (fact ∷ facts) none = absurd (omega (arith, none))

@@ -1,4 +1,4 @@
--- Ledgers and builders stand further on after an item, and where they stood after none.
+-- Builders stand further on after an item, and where they stood after none.
 use Rattle.std.proofs.Common.{◌≡◌, ℕ, List, [], ◌∷◌, ◌++◌, length, sym, ap, subst, ◌∙◌}
 use Rattle.cube_core.specs.Arrival.{Arrivals}
 use Rattle.cube_core.specs.declared.change.Item.{Item}
@@ -6,28 +6,9 @@ use Rattle.cube_core.specs.declared.fact.Fact.{Fact}
 use Rattle.cube_cells.specs.Cube.{Lattice, SameCells, SameSets}
 use Rattle.cube_cells.proofs.Cells.CubeLaws.{IsCubeOf-SameCells}
 use Rattle.cube_engine.specs.Builder.{BuilderView, HasFacts, SameBuilder, StandsAt}
-use Rattle.cube_engine.specs.Ledger.{AtSource, Enters, LedgerView, LedgerStandsAt, all_facts}
-use Rattle.cube_engine.specs.Taking.{LedgerStandsFrom, BuilderStandsFrom}
+use Rattle.cube_ledger.specs.Ledger.{LedgerView, LedgerStandsAt, all_facts}
+use Rattle.cube_engine.specs.Taking.{BuilderStandsFrom}
 use Rattle.cube_engine.proofs.BuilderLaws.{SameSets-trans}
-use Rattle.cube_engine.proofs.RulingLaws.{AtSource-length}
-
--- a ledger that took an item
-pub ledger-further : (old new : LedgerView) (source : ℕ) (item : Item)
-    → AtSource (Enters old.schema item) source old new
-    → ((arrivals : Arrivals) → LedgerStandsAt old arrivals → LedgerStandsAt new (arrivals ++ (source, item) ∷ []))
-    → (first : LedgerView) (arrivals : Arrivals) → LedgerStandsFrom first old arrivals
-    → LedgerStandsFrom first new (arrivals ++ (source, item) ∷ [])
-ledger-further old new source item at stands first arrivals from = record {
-  schema = at.schema ∙ from.schema;
-  all = AtSource-length _ source old new at ∙ from.all;
-  stands_at = stands arrivals from.stands_at;
-}
-
--- a ledger that is as it was
-pub ledger-same : (old new : LedgerView) → new ≡ old → (first : LedgerView) (arrivals : Arrivals)
-    → LedgerStandsFrom first old arrivals → LedgerStandsFrom first new arrivals
-ledger-same old new same first arrivals from =
-    subst (λ (l : LedgerView). LedgerStandsFrom first l arrivals) (sym same) from
 
 -- a cube whose cells count the same has the same facts
 HasFacts-SameCells : (facts : List Fact) (old new : Lattice) → SameCells old new → HasFacts facts old

@@ -3,7 +3,7 @@ use Rattle.std.specs.Prelude.{◌≡◌, ◌++◌, List, length}
 use Rattle.cube_core.specs.Arrival.{Arrivals}
 use Rattle.cube_core.specs.declared.fact.Fact.{Fact}
 use Rattle.cube_cells.specs.Cube.{Lattice, IsCubeOf, SameCells, SameSets}
-use Rattle.cube_engine.specs.Ledger.{AllFit, LedgerView, LedgerStandsAt, all_facts}
+use Rattle.cube_ledger.specs.Ledger.{AllFit, LedgerView, LedgerStandsAt, all_facts}
 
 -- the books and the refusals of all sources, and the cells
 pub record BuilderView : Type 0 where

@@ -1,5 +1,3 @@
-pub mod Book
-pub mod Ledger
 pub mod Builder
 pub mod Build
 pub mod Taking

@@ -8,7 +8,7 @@ use Rattle.cube_core.specs.Layout.{Layout}
 use Rattle.cube_core.specs.declared.fact.Fact.{Fact}
 use Rattle.cube_cells.specs.Cube.{Lattice, SameSets}
 use Rattle.cube_engine.specs.Builder.{HasFacts}
-use Rattle.cube_engine.specs.Ledger.{AllFit, LedgerView, all_facts}
+use Rattle.cube_ledger.specs.Ledger.{AllFit, LedgerView, all_facts}
 use Rattle.cube_engine.specs.declared.parted.Part.{Part}
 
 -- a cube over the same sets has these facts less

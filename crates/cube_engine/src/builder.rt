@@ -6,14 +6,13 @@ ghost use Rattle.cube_core.specs.Takes.{fits};
 ghost use Rattle.cube_core.specs.declared.fact.Fact.{Fact as TheFact};
 ghost use Rattle.cube_cells.specs.Cube.{SameSets};
 ghost use Rattle.cube_engine.specs.Builder.{HasFacts, SameBuilder, StandsAt};
-ghost use Rattle.cube_engine.specs.Ledger.{AllFit, AtSource, Enters, Exchanges, IsRemoval, account_of, all_facts};
+ghost use Rattle.cube_ledger.specs.Ledger.{AllFit, AtSource, Enters, Exchanges, IsRemoval, account_of, all_facts};
 
 use crate::fill::{fill_cube, fill_cube_with};
 use crate::joined::HoldsCube;
-use crate::ledger::Ledger;
-use crate::ruling::Ruling;
 use cube_cells::{Counted, Cube, Numbers, Summary};
 use cube_core::{Fact, Item, Refusal, Schema, Text};
+use cube_ledger::{Ledger, Ruling};
 use std::alloc::{AllocError, Global};
 use std::marker::Model;
 use std::thread::Threads;

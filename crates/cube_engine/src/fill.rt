@@ -1,16 +1,15 @@
 //! Filling a cube with the facts of a ledger's books.
-ghost use Rattle.std.specs.Prelude.{◌≡◌, ◌<◌, ◌++◌, ◌∷◌, [], true, length, map, IfOk, OnOk};
+ghost use Rattle.std.specs.Prelude.{◌≡◌, ◌<◌, ◌∷◌, [], true, length, IfOk, OnOk};
 ghost use Rattle.cube_cells.specs.Fill.{IsCubeOfAll, finest_set};
 ghost use Rattle.cube_core.specs.Takes.{fits};
-ghost use Rattle.cube_engine.specs.Book.{facts_of};
+ghost use Rattle.cube_ledger.specs.Book.{facts_of};
 ghost use Rattle.cube_engine.specs.Builder.{GainsFacts};
-ghost use Rattle.cube_engine.specs.Ledger.{AllFit, all_facts};
+ghost use Rattle.cube_ledger.specs.Ledger.{AllFit, all_facts};
 ghost use Rattle.cube_engine.specs.Parted.{Fills};
 
-use crate::book::Book;
-use crate::ledger::Ledger;
 use cube_cells::{Cube, Summary};
 use cube_core::Fact;
+use cube_ledger::{Book, Ledger};
 use std::alloc::AllocError;
 use std::thread::Threads;
 
@@ -94,16 +93,4 @@ fn finest_with<T: Threads + Sync>(
 {
     let facts = ledger.facts()?;
     cube.finest_of(rt, threads, &facts)
-}
-
-/// Puts the facts of a book behind others. The only error is want of memory.
-pub fn push_facts<'b>(facts: &mut Vec<&'b Fact>, book: &'b Book) -> Result<(), AllocError>
-    ensures { OnOk result (map (λ fact. fact.now) facts.new.items
-        ≡ map (λ fact. fact.now) facts.old.items ++ facts_of book.now) }
-{
-    facts.reserve(book.len())?;
-    for fact in book.facts() {
-        facts.push(fact)?;
-    }
-    Ok(())
 }

@@ -5,16 +5,15 @@ ghost use Rattle.cube_core.specs.Arrival.{Arrivals};
 ghost use Rattle.cube_core.specs.Takes.{fits};
 ghost use Rattle.cube_core.specs.declared.fact.Fact.{Fact as TheFact};
 ghost use Rattle.cube_engine.specs.Builder.{GainsFacts, HasFacts};
-ghost use Rattle.cube_engine.specs.Ledger.{AllFit, AtSource, Enters, Exchanges, LedgerStandsAt, account_of, all_facts};
+ghost use Rattle.cube_ledger.specs.Ledger.{AllFit, AtSource, Enters, Exchanges, LedgerStandsAt, account_of, all_facts};
 ghost use Rattle.cube_engine.specs.Parted.{AllFill, AllSettle, ArePartsOver, ArePartsWith, Fills, LosesFacts, MaySettle, Notes, Settles};
 ghost use Rattle.cube_engine.specs.declared.parted.Part.{Part as ThePart};
 
 use crate::fill::{add_counted, fill_cube};
 use crate::joined::HoldsCube;
-use crate::ledger::Ledger;
-use crate::ruling::Ruling;
 use cube_cells::{Counted, Cube};
 use cube_core::{Fact, Item, Text};
+use cube_ledger::{Ledger, Ruling};
 use std::alloc::{AllocError, Global};
 use std::marker::Model;
 use std::thread::{Threads, for_each_mut};
@@ -58,7 +57,7 @@ pub struct Parted {
 
 impl Model for Parted {
     ghost use Rattle.std.specs.Prelude.{◌≡◌, false};
-    ghost use Rattle.cube_engine.specs.Ledger.{LedgerView};
+    ghost use Rattle.cube_ledger.specs.Ledger.{LedgerView};
     ghost use Rattle.cube_engine.specs.Parted.{AreBehind};
 
     ghost Value = { LedgerView };

@@ -44,6 +44,25 @@ fn connect<B: Drop>(
     Ok(outlets)
 }
 
+// The feeder of a reader, linked to every builder.
+fn feeder_of<'e, R: Read + Drop, B: Drop>(
+    alloc: Global,
+    schema: &'e Schema,
+    reader: R,
+    capacity: usize,
+    gatherers: &mut [Gatherer<B>],
+) -> Result<Feeder<'e, R>, AllocError>
+    requires { (1 ≤ capacity) × (capacity ≤ 65536) }
+    ensures connects { IfOk result (λ feeder.
+        Connects gatherers.old gatherers.new feeder.outlets.items) }
+    ensures feed { IfOk result (λ feeder.
+        feeder.feed.to_come ≡ rest_of_feed schema.now (R.Read.remaining reader)) }
+{
+    let outlets = connect(alloc, capacity, gatherers)?;
+    let feed = Feed::new(alloc, schema, reader);
+    Ok(Feeder { feed, outlets })
+}
+
 /// The feeders of all readers, each linked to every builder.
 pub(crate) fn feeders_of<'e, R: Read + Drop, B: Drop>(
     alloc: Global,
@@ -63,9 +82,8 @@ pub(crate) fn feeders_of<'e, R: Read + Drop, B: Drop>(
 {
     let mut feeders = Vec::with_capacity(alloc, readers.len())?;
     for reader in readers {
-        let outlets = connect(alloc, capacity, gatherers)?;
-        let feed = Feed::new(alloc, schema, reader);
-        feeders.push(Feeder { feed, outlets })?;
+        let feeder = feeder_of(alloc, schema, reader, capacity, gatherers)?;
+        feeders.push(feeder)?;
     }
     Ok(feeders)
 }

@@ -30,6 +30,7 @@ use Rattle.cube_core.proofs.KeyOrderLaws.{key_cmp-IsTotalOrder, key_cmp-exact}
 use Rattle.cube_core.proofs.ListLaws.{AllByRecursion-Contains, Contains-AllByRecursion, Contains-cases, Contains-head}
 use Rattle.cube_core.proofs.ListLaws.{Contains-tail, Contains-nil, Contains-map, map-Contains, filter-passed}
 use Rattle.cube_core.proofs.ListLaws.{filter-failed}
+use Rattle.cube_merge.proofs.MergedLaws.{AllByRecursion-append, is_eq-Equal, key_cmp-refl}
 use Rattle.cube_laws.specs.Merging.{joined, AreMergedOf, CanBeMadeOf}
 use Rattle.cube_laws.proofs.RowLaws.{IsStrictlySortedBy-above}
 use Rattle.cube_laws.proofs.RowOrderLaws.{IsPermutation-Reordered, Reordered-IsPermutation, filter-Reordered}
@@ -37,11 +38,6 @@ use Rattle.cube_laws.proofs.SharesLaws.{Share, facts_in, row_in, Answers, AreMer
 use Rattle.cube_laws.proofs.SharesLaws.{AreMerged-IsPermutation}
 
 -- ---- the rows with a key among rows in key order
-is_eq-Equal : (o : Ordering) → is_eq o ≡ true → o ≡ Equal
-is_eq-Equal Less e = cc
-is_eq-Equal Equal e = refl
-is_eq-Equal Greater e = cc
-
 -- of rows without the key none
 rows_at-none : (key : Key) (rows : List Row) → (Contains (map key_of rows) key → ⊥) → rows_at key rows ≡ []
 rows_at-none key [] none = refl
@@ -52,14 +48,6 @@ rows_at-none key (row ∷ rows) none =
     (Contains-head row.key (map key_of rows)))) in
     filter-failed (λ (r : Row). is_eq (key_cmp key r.key)) row rows other
     ∙ rows_at-none key rows (λ among. none (Contains-tail row.key (map key_of rows) key among))
-
--- a key isn't below itself
-key_cmp-refl : (key : Key) → key_cmp key key ≡ Equal
-key_cmp-refl key = self (key_cmp key key) (key_cmp-IsTotalOrder.antisymm key key) where
-  self : (o : Ordering) → o ≡ ordering_reverse o → o ≡ Equal
-  self Less e = cc
-  self Equal e = refl
-  self Greater e = cc
 
 -- after a row in key order none has its key
 rows_at-after : (row : Row) (rows : List Row) → IsStrictlySortedBy key_cmp (map key_of (row ∷ rows))
@@ -96,12 +84,6 @@ record AreShared (given : List Agg) (facts : List Fact) (rows : List Row) : Type
   each : AllByRecursion (Answers given) shares
   facts_are : flat_map facts_in shares ≡ facts
   rows_are : map row_in shares ≡ rows
-
--- what holds of all elements of two lists holds of all of both, joined
-pub AllByRecursion-append : {X : Type 0} (P : X → Type 0) (xs ys : List X) → AllByRecursion P xs → AllByRecursion P ys
-    → AllByRecursion P (xs ++ ys)
-AllByRecursion-append P [] ys here after = after
-AllByRecursion-append P (x ∷ xs) ys here after = (here.0, AllByRecursion-append P xs ys here.1 after)
 
 AreShared-append : (given : List Agg) (facts others : List Fact) (rows others_rows : List Row)
     → AreShared given facts rows → AreShared given others others_rows

@@ -172,12 +172,12 @@ is_aggregate-itself (Min m) = eq-eqb m m refl
 is_aggregate-itself (Max m) = eq-eqb m m refl
 is_aggregate-itself (Avg m) = eq-eqb m m refl
 
+has_aggregate-among : (given : List Agg) (agg : Agg) → Contains given agg → has_aggregate agg given ≡ true
+has_aggregate-among given agg among = Contains-list_any (is_aggregate agg) given agg among (is_aggregate-itself agg)
+
 -- what stands there isn't added again
 with_aggregate-there : (given : List Agg) (agg : Agg) → Contains given agg → with_aggregate given agg ≡ given
-with_aggregate-there given agg among =
-    let there : has_aggregate agg given ≡ true =
-    Contains-list_any (is_aggregate agg) given agg among (is_aggregate-itself agg) in
-    rw there refl
+with_aggregate-there given agg among = rw (has_aggregate-among given agg among) refl
 
 -- the sum and the count of each mean stand there
 abbrev HasPartsOf : List Agg → Agg → Type 0
@@ -219,17 +219,6 @@ partial_form-itself s =
 each-passes : (p : Agg → Bool) (xs : List Agg) → AllByRecursion (λ x. p x ≡ true) xs → list_all p xs ≡ true
 each-passes p [] all = refl
 each-passes p (x ∷ xs) all = rw (all.0, each-passes p xs all.1) refl
-
-is_aggregate-refl : (agg : Agg) → is_aggregate agg agg ≡ true
-is_aggregate-refl CountAll = refl
-is_aggregate-refl (Count m) = eq-eqb m m refl
-is_aggregate-refl (Sum m) = eq-eqb m m refl
-is_aggregate-refl (Min m) = eq-eqb m m refl
-is_aggregate-refl (Max m) = eq-eqb m m refl
-is_aggregate-refl (Avg m) = eq-eqb m m refl
-
-has_aggregate-among : (given : List Agg) (agg : Agg) → Contains given agg → has_aggregate agg given ≡ true
-has_aggregate-among given agg among = Contains-list_any (is_aggregate agg) given agg among (is_aggregate-refl agg)
 
 partial-makes : (aggregates : List Agg) (agg : Agg) → Contains (partial_aggregates aggregates) agg
     → can_be_made (partial_aggregates aggregates) agg ≡ true

@@ -35,7 +35,7 @@ use Rattle.cube_core.proofs.ListLaws.{Contains-tail, filter-failed, filter-passe
 use Rattle.cube_core.proofs.RefusalLaws.{refusals_of-more}
 use Rattle.cube_laws.specs.Merging.{joined}
 use Rattle.cube_laws.specs.Shards.{has_record, of_shard, places}
-use Rattle.cube_laws.proofs.MergedLaws.{AllByRecursion-append}
+use Rattle.cube_merge.proofs.MergedLaws.{AllByRecursion-append}
 
 -- ---- lists
 -- what stands right after the front

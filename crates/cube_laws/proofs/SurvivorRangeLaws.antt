@@ -39,7 +39,8 @@ use Rattle.cube_core.proofs.ListLaws.{AllByRecursion-Contains, Contains-AllByRec
 use Rattle.cube_core.proofs.ListLaws.{Contains-tail, list_any-Contains, map-Contains}
 use Rattle.cube_laws.specs.Merging.{joined}
 use Rattle.cube_laws.specs.Told.{CanBePrinted, HasSmallValues}
-use Rattle.cube_laws.proofs.MergedLaws.{AllByRecursion-append, filter-none}
+use Rattle.cube_laws.proofs.MergedLaws.{filter-none}
+use Rattle.cube_merge.proofs.MergedLaws.{AllByRecursion-append}
 use Rattle.cube_laws.proofs.RangeLaws.{AllByRecursion-cons_option, length-cons_option-le}
 use Rattle.cube_laws.proofs.RowOrderLaws.{IsPermutation-Reordered, length-Reordered}
 use Rattle.cube_laws.proofs.SurvivorLaws.{filter_map-map, head-once}

@@ -9,4 +9,4 @@ pub use Rattle.cube_core.specs.Takes
 pub use Rattle.cube_core.specs.declared.change.Change
 pub use Rattle.cube_core.specs.declared.fact.Fact
 pub use Rattle.cube_engine.specs.Builder
-pub use Rattle.cube_engine.specs.Ledger
+pub use Rattle.cube_ledger.specs.Ledger

@@ -11,7 +11,8 @@ use Rattle.cube_core.specs.declared.change.Change.{Change}
 use Rattle.cube_core.specs.declared.change.Item.{Item}
 use Rattle.cube_core.specs.declared.change.LineFault.{LineFault}
 use Rattle.cube_core.proofs.ArrivalLaws.{of_source-append}
-use Rattle.cube_engine.specs.Ledger.{LedgerStandsAt}
+use Rattle.cube_ledger.specs.Ledger.{LedgerStandsAt}
+use Rattle.cube_ledger.proofs.StandLaws.{of_source-other}
 use Rattle.cube_live.specs.Live.{AreLast, LiveView, TakesNext, last_number, said_item}
 
 -- the last of items that end with this one
@@ -27,13 +28,6 @@ last_number-own arrivals source item =
     of_source-append arrivals ((source, item) ∷ []) source ∙ rw (eq-eqb source source refl) refl in
     ap last_number own ∙ ap (λ (last : Option Item). option_map_or (λ (it : Item). it.number) last 0)
     (last_or-append None (of_source arrivals source) item)
-
-pub of_source-other : (arrivals : Arrivals) (source other : ℕ) (item : Item) → source ≢ other
-    → of_source (arrivals ++ (source, item) ∷ []) other ≡ of_source arrivals other
-of_source-other arrivals source other item apart =
-    let differs : (source == other) ≡ false =
-    false_from_ne_true (source == other) (λ same. apart (eqb-true source other same)) in
-    of_source-append arrivals ((source, item) ∷ []) other ∙ rw differs (append-nil (of_source arrivals other))
 
 -- numbers are those of the last items where that of a source is its next item's
 pub AreLast-more : (numbers more : List ℕ) (arrivals : Arrivals) (source : ℕ) (item : Item) → 1 ≤ source → source ≤ 64

@@ -7,7 +7,7 @@ use Rattle.std.proofs.lemmas.List.{append-nil, get_or-map}
 use Rattle.cube_core.proofs.SetLaws.{range_with_len-more}
 use Rattle.cube_core.specs.Text.{lines_of_source, refusal_line}
 use Rattle.cube_core.specs.declared.change.Refusal.{Refusal}
-use Rattle.cube_engine.specs.Ledger.{AccountView, new_account}
+use Rattle.cube_ledger.specs.Ledger.{AccountView, new_account}
 use Rattle.cube_text.specs.Lines.{Lines, AddsText, HoldsLine}
 
 -- the refusals of each account

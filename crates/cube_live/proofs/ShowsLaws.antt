@@ -10,8 +10,8 @@ use Rattle.cube_core.specs.Text.{text_of_refusals}
 use Rattle.cube_core.specs.declared.change.Item.{Item}
 use Rattle.cube_core.specs.declared.change.Refusal.{Refusal}
 use Rattle.cube_core.specs.declared.key.Key.{Key}
-use Rattle.cube_engine.specs.Ledger.{AccountStandsAt, AccountView, LedgerStandsAt, LedgerView, all_facts, new_account}
-use Rattle.cube_engine.proofs.SurvivorLaws.{SurviveTogether-stands}
+use Rattle.cube_ledger.specs.Ledger.{AccountStandsAt, AccountView, LedgerStandsAt, LedgerView, all_facts, new_account}
+use Rattle.cube_ledger.proofs.SurvivorLaws.{SurviveTogether-stands}
 use Rattle.cube_live.specs.Live.{IsLive}
 use Rattle.cube_live.specs.Shows.{AsksRows, IsTextWhere, Shows, ShowsCube, ShowsRows, asks_for, text_after}
 use Rattle.cube_live.specs.declared.request.Question.{Question}

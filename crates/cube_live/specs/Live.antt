@@ -8,7 +8,7 @@ use Rattle.cube_core.specs.Layout.{Layout}
 use Rattle.cube_core.specs.declared.change.Change.{Change}
 use Rattle.cube_core.specs.declared.change.Item.{Item}
 use Rattle.cube_core.specs.declared.change.LineFault.{LineFault}
-use Rattle.cube_engine.specs.Ledger.{LedgerView, LedgerStandsAt}
+use Rattle.cube_ledger.specs.Ledger.{LedgerView, LedgerStandsAt}
 use Rattle.cube_live.specs.declared.live.LiveFault.{LiveFault}
 use Rattle.cube_live.specs.declared.live.LiveFault.TheVariants.{TooMany, Memory}
 use Rattle.cube_live.specs.declared.request.Question.{Question}

@@ -6,7 +6,7 @@ use Rattle.cube_core.specs.Arrival.{Arrivals, of_source, of_sources}
 use Rattle.cube_core.specs.Layout.{Layout}
 use Rattle.cube_core.specs.Run.{SourceBytes, AreGood, AreItemsOf}
 use Rattle.cube_core.specs.declared.change.Item.{Item}
-use Rattle.cube_engine.specs.Ledger.{LedgerView, LedgerStandsAt}
+use Rattle.cube_ledger.specs.Ledger.{LedgerView, LedgerStandsAt}
 use Rattle.cube_live.specs.Live.{AreLast}
 
 -- an arrival list that has of each source with a feed the items of its feed, and of the others nothing

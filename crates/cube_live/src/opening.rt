@@ -7,9 +7,10 @@ ghost use Rattle.cube_live.specs.Opening.{OpeningStandsAt, OpeningView, OpensOve
 
 use crate::live::Live;
 use cube_core::{Item, Schema};
-use cube_engine::{Ledger, Parted};
+use cube_engine::Parted;
 use cube_feed::TakesItems;
 use cube_feeders::{FeedingFault, Gate, Gatherer, Settings, feed_all};
+use cube_ledger::Ledger;
 use std::alloc::{AllocError, Global};
 use std::io::Read;
 use std::marker::Model;

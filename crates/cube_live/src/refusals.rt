@@ -6,7 +6,7 @@ ghost use Rattle.cube_core.specs.Text.{lines_of_sources, refusal_header, refusal
 ghost use Rattle.cube_text.specs.Lines.{AddsFields, AddsText};
 
 use cube_core::Refusal;
-use cube_engine::Ledger;
+use cube_ledger::Ledger;
 use cube_text::{Lines, end_line, into_text, no_lines, put_field};
 use itoa::Buffer;
 use std::alloc::{AllocError, Global};

@@ -4,7 +4,7 @@ ghost use Rattle.cube_core.specs.Printed.{IsPrinted};
 ghost use Rattle.cube_core.specs.Query.{AreRowsWhere, matches, rolled_up};
 ghost use Rattle.cube_core.specs.declared.fact.Fact.{Fact};
 ghost use Rattle.cube_cells.specs.Cube.{IsCubeOf};
-ghost use Rattle.cube_engine.specs.Ledger.{all_facts};
+ghost use Rattle.cube_ledger.specs.Ledger.{all_facts};
 ghost use Rattle.cube_live.specs.Live.{CanAsk};
 ghost use Rattle.cube_live.specs.Shows.{AsksRows, IsTextWhere, asks_for, is_key};
 

@@ -21,7 +21,7 @@ use Rattle.cube_merge.specs.Merging.{IsNotBelow, Gave, IsEnded, TookHeader, Took
 use Rattle.cube_merge.specs.Merging.{MergesInputs}
 use Rattle.cube_merge.specs.Merging.{IsToldTextOf}
 use Rattle.cube_merge.proofs.LeastLaws.{past, not_below-none}
-use Rattle.cube_merge.proofs.StepLaws.{IsMerging-start, nothing-ordered}
+use Rattle.cube_merge.proofs.StepLaws.{IsMerging-start}
 
 -- what a vector holds after its slice was written whole
 pub refill-same : {X : Type 0} (n : ℕ) (news olds : List X) → length news ≡ length olds → n ≡ length olds
@@ -182,12 +182,6 @@ pub Gave-none : (start : Option (List ℕ)) (input : InputView) → Consumes sta
     → Gave start input []
 Gave-none start input c none =
     subst (λ o. Consumes start input.left (flat_map row_line ([] ++ option_to_list o))) (sym none) c
-
-pub AreOfSchema-none : (s : Layout) (input : InputView) → input.row ≡ None → AreOfSchema s input []
-AreOfSchema-none s input none = subst (λ o. AllByRecursion (IsLawfulRow s) (option_to_list o)) (sym none) tt
-
-pub AreInKeyOrder-none : (input : InputView) → input.row ≡ None → AreInKeyOrder input []
-AreInKeyOrder-none input none = nothing-ordered input none
 
 -- past the inputs, of which each is used, nothing is left
 pub IsEnded-unused : (start : Option (List ℕ)) (us : List Bool) (inputs : List InputView) (k : ℕ)

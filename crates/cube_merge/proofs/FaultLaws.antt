@@ -40,11 +40,11 @@ use Rattle.cube_merge.specs.declared.fault.InputFault.{InputFault}
 use Rattle.cube_merge.specs.declared.fault.InputFault.TheVariants as why
 use Rattle.cube_merge.specs.declared.fault.MergeFault.{MergeFault}
 use Rattle.cube_merge.specs.declared.fault.MergeFault.TheVariants.{Memory, Aggregates, Input, Write}
-use Rattle.cube_merge.proofs.CubesLaws.{AreInKeyOrder-none, AreOfSchema-none, Gave-none, lefts-at, taken-TookHeaders}
+use Rattle.cube_merge.proofs.CubesLaws.{Gave-none, lefts-at, taken-TookHeaders}
 use Rattle.cube_merge.proofs.CubesLaws.{taken-header, taken-lines, taken-row}
 use Rattle.cube_merge.proofs.LineLaws.{next_line-line}
 use Rattle.cube_merge.proofs.MergedLaws.{is_eq-above, rows_at-all, rows_at-none}
-use Rattle.cube_merge.proofs.StepLaws.{below-used}
+use Rattle.cube_merge.proofs.StepLaws.{AreInKeyOrder-none, AreOfSchema-none, below-used}
 
 -- a text behind the lines of rows
 stands-at : (s : Layout) (text start left : Option (List ℕ)) (rows : List Row) (number : ℕ)

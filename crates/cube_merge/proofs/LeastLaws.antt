@@ -15,7 +15,7 @@ use Rattle.cube_core.proofs.KeyOrderLaws.{key_cmp-IsTotalOrder, key_cmp-exact}
 use Rattle.cube_merge.specs.Front.{AreAbove, AreUnused, IsInFront, IsLeastIn}
 use Rattle.cube_merge.specs.Merging.{InputView, IsBelow, nothing_left, Moves, AllMove, IsUse, AreUses, used_rows}
 use Rattle.cube_merge.specs.Merging.{IsNotBelow, IsLeastSoFar}
-use Rattle.cube_merge.proofs.MergedLaws.{key_cmp-refl}
+use Rattle.cube_merge.proofs.MergedLaws.{is_eq-Equal, key_cmp-refl}
 
 same_row : (a b : Row) → Some a ≡ Some b → a ≡ b
 same_row a b e = cc
@@ -279,11 +279,7 @@ IsUse-other key input row is above other =
 
 pub IsUse-same : (key : Key) (input : InputView) (row : Row) → input.row ≡ Some row → is_eq (key_cmp row.key key) ≡ true
     → IsUse key true input
-IsUse-same key input row is same = (row, is, key_cmp-exact row.key key (equal (key_cmp row.key key) same)) where
-  equal : (o : Ordering) → is_eq o ≡ true → o ≡ Equal
-  equal Less e = cc
-  equal Equal e = refl
-  equal Greater e = cc
+IsUse-same key input row is same = (row, is, key_cmp-exact row.key key (is_eq-Equal (key_cmp row.key key) same))
 
 -- one more input moved
 pub AllMove-more : (s : Layout) (us : List Bool) (start olds : List InputView) (place : ℕ) (old new : InputView)
@@ -333,18 +329,8 @@ pub AreUses-push : (key : Key) (us : List Bool) (inputs : List InputView) (u : B
     → IsUse key (get_or (us ++ u ∷ []) k false) (get_or inputs k nothing_left)
 AreUses-push key us inputs u place x long inside is use_is done =
     below-next (λ k. IsUse key (get_or (us ++ u ∷ []) k false) (get_or inputs k nothing_left)) place
-    (λ k below. rw (before us u k (omega (arith, long, below))) (done k below))
-    (rw (at_place inputs place x inside is, last us u place long) use_is) where
-      before : (xs : List Bool) (y : Bool) (k : ℕ) → k < length xs → get_or (xs ++ y ∷ []) k false ≡ get_or xs k false
-      before [] y k h = absurd (omega (arith, h))
-      before (x ∷ xs) y zero h = refl
-      before (x ∷ xs) y (suc k) h = before xs y k (omega (arith, h))
-
-      last : (xs : List Bool) (y : Bool) (k : ℕ) → length xs ≡ k → get_or (xs ++ y ∷ []) k false ≡ y
-      last [] y zero h = refl
-      last [] y (suc k) h = absurd (omega (arith, h))
-      last (x ∷ xs) y zero h = absurd (omega (arith, h))
-      last (x ∷ xs) y (suc k) h = last xs y k (omega (arith, h))
+    (λ k below. rw (pushed-other us u k (λ e. absurd (omega (arith, long, below, e)))) (done k below))
+    (rw (at_place inputs place x inside is, pushed-last us u place long) use_is)
 
 pub AreUses-all : (key : Key) (us : List Bool) (inputs : List InputView) (place : ℕ) → length us ≡ length inputs
     → length inputs ≤ place

@@ -1,7 +1,7 @@
 mod TotalLaws
 mod GatherLaws
 mod JointLaws
-mod MergedLaws
+pub mod MergedLaws
 mod StepLaws
 mod ReadLaws
 mod LineLaws

@@ -1,5 +1,5 @@
 -- How merged rows grow by the row of the next key.
-use Rattle.std.proofs.Common.{◌≡◌, ◌++◌, ◌<◌, ◌∷◌, [], false, List, Contains, map, length, refl, sym, ap, ◌∙◌, subst}
+use Rattle.std.proofs.Common.{◌≡◌, ◌++◌, ◌<◌, ◌∷◌, [], true, false, List, Contains, map, length, refl, sym, ap, ◌∙◌, subst}
 use Rattle.std.proofs.Common.{arith, inl, inr, Ordering, Less, Equal, Greater, is_eq}
 use Rattle.std.specs.List.{AllByRecursion, AllZip}
 use Rattle.std.specs.List.Sorted.{IsStrictlySortedBy}
@@ -26,6 +26,11 @@ key_cmp-refl key = self (key_cmp key key) (key_cmp-IsTotalOrder.antisymm key key
   self Less e = cc
   self Equal e = refl
   self Greater e = cc
+
+pub is_eq-Equal : (o : Ordering) → is_eq o ≡ true → o ≡ Equal
+is_eq-Equal Less e = cc
+is_eq-Equal Equal e = refl
+is_eq-Equal Greater e = cc
 
 is_eq-Less : (o : Ordering) → o ≡ Less → is_eq o ≡ false
 is_eq-Less o e = ap is_eq e
@@ -61,12 +66,18 @@ sorted-push (k ∷ keys) key sorted below = (
   pushed [] all one = (one, tt)
   pushed (y ∷ ks) all one = (all.0, pushed ks all.1 one)
 
-AllByRecursion-append : {X : Type 0} (P Q : X → Type 0) (xs : List X) (x : X) → AllByRecursion P xs
+-- what holds of all elements of two lists holds of all of both, joined
+pub AllByRecursion-append : {X : Type 0} (P : X → Type 0) (xs ys : List X) → AllByRecursion P xs → AllByRecursion P ys
+    → AllByRecursion P (xs ++ ys)
+AllByRecursion-append P [] ys here after = after
+AllByRecursion-append P (x ∷ xs) ys here after = (here.0, AllByRecursion-append P xs ys here.1 after)
+
+AllByRecursion-push : {X : Type 0} (P Q : X → Type 0) (xs : List X) (x : X) → AllByRecursion P xs
     → ((y : X) → P y → Contains xs y → Q y) → Q x → AllByRecursion Q (xs ++ x ∷ [])
-AllByRecursion-append P Q [] x all step one = (one, tt)
-AllByRecursion-append P Q (y ∷ xs) x all step one = (
+AllByRecursion-push P Q [] x all step one = (one, tt)
+AllByRecursion-push P Q (y ∷ xs) x all step one = (
   step y all.0 (Contains-head y xs),
-  AllByRecursion-append P Q xs x all.1 (λ z p among. step z p (Contains-append_right (y ∷ []) xs z among)) one,
+  AllByRecursion-push P Q xs x all.1 (λ z p among. step z p (Contains-append_right (y ∷ []) xs z among)) one,
 )
 
 AllByRecursion-map : {X : Type 0} (P Q : X → Type 0) (xs : List X) → ((x : X) → P x → Q x) → AllByRecursion P xs
@@ -141,7 +152,7 @@ module _ (given wanted : List Agg) (parts rows used : List Row) (row : Row) (are
     cells = λ key. (cells-there key, cells-back key);
     ordered = subst (IsStrictlySortedBy key_cmp) (sym (map-append key_of rows (row ∷ [])))
         (sorted-push (map key_of rows) row.key are.ordered below);
-    answers = AllByRecursion-append (HasMergedAnswers given wanted parts)
+    answers = AllByRecursion-push (HasMergedAnswers given wanted parts)
         (HasMergedAnswers given wanted (parts ++ used)) rows row are.answers
         (λ old has among.
         subst (λ group. AllZip (IsMerged given group) wanted old.answers) (sym (rows_at-old old among)) has)
@@ -152,6 +163,6 @@ module _ (given wanted : List Agg) (parts rows used : List Row) (row : Row) (are
   pub AreInRange-push : AllByRecursion (IsMadeInRange given parts) rows → AreInRange given used
       → AllByRecursion (IsMadeInRange given (parts ++ used)) (rows ++ row ∷ [])
   AreInRange-push fit new =
-      AllByRecursion-append (IsMadeInRange given parts) (IsMadeInRange given (parts ++ used)) rows row fit
+      AllByRecursion-push (IsMadeInRange given parts) (IsMadeInRange given (parts ++ used)) rows row fit
       (λ old has among. subst (λ group. AreInRange given group) (sym (rows_at-old old among)) has)
       (subst (λ group. AreInRange given group) (sym rows_at-new) new)

@@ -7,19 +7,16 @@ use Rattle.cube_core.specs.Cube.{is_total}
 use Rattle.cube_core.specs.GroupingSet.{is_all_coord}
 use Rattle.cube_core.specs.declared.key.Row.{Row}
 use Rattle.std.proofs.Common.{length-append}
+use Rattle.std.proofs.lemmas.List.{nil_from_length}
 use Rattle.std.specs.Prelude.{◌≢◌}
 use Rattle.std.specs.Io.KnownBytes.{Consumes, IsAtEnd}
-
-none-of_length : (xs : List ℕ) → length xs ≡ 0 → xs ≡ []
-none-of_length [] e = refl
-none-of_length (x ∷ xs) e = absurd (omega (arith, e))
 
 -- nothing is left of what was at its end
 pub IsAtEnd-Consumes : (a b : Option (List ℕ)) (bs : List ℕ) → Consumes a b bs → IsAtEnd a → IfSome a (λ _. IsAtEnd b)
 IsAtEnd-Consumes None b bs c end = tt
 IsAtEnd-Consumes (Some x) None bs c end = absurd c
 IsAtEnd-Consumes (Some x) (Some y) bs c end =
-    none-of_length y (omega (arith, length-append bs y, ap length (sym c ∙ end)))
+    nil_from_length y (omega (arith, length-append bs y, ap length (sym c ∙ end)))
 
 -- the same of a text that was known before
 pub IsAtEnd-first : (a b c : Option (List ℕ)) (bs cs : List ℕ) → Consumes a b bs → Consumes b c cs → IsAtEnd b

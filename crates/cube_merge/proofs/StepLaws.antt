@@ -29,7 +29,7 @@ use Rattle.cube_merge.specs.Merging.{AreOfSchema, InputView, IsAbove, TakesLine,
 use Rattle.cube_merge.specs.Merging.{used_row, used_of_each, used_rows, Gave, IsCounted, IsEnded, IsBelow}
 use Rattle.cube_merge.specs.Merging.{AreInKeyOrder}
 use Rattle.cube_merge.specs.Merging.{all_rows, nothing_left, IsMerging}
-use Rattle.cube_merge.proofs.MergedLaws.{AreInRange-push, AreMerged-push, sorted-push}
+use Rattle.cube_merge.proofs.MergedLaws.{AllByRecursion-append, AreInRange-push, AreMerged-push, sorted-push}
 
 -- one input that took a line, or stays
 TakesLine-line : (s : Layout) (old new : InputView) → TakesLine s old new
@@ -92,11 +92,6 @@ AreInKeyOrder-Moves s true old new rows first ordered moved = by_row new.row mov
       subst (IsStrictlySortedBy key_cmp) (sym (map-append key_of (rows ++ option_to_list old.row) (r ∷ [])))
       (sorted-push (map key_of (rows ++ option_to_list old.row)) r.key ordered (under old.row r first ordered m.1))
 
-AllByRecursion-both : {X : Type 0} (P : X → Type 0) (xs ys : List X) → AllByRecursion P xs → AllByRecursion P ys
-    → AllByRecursion P (xs ++ ys)
-AllByRecursion-both P [] ys a b = b
-AllByRecursion-both P (x ∷ xs) ys a b = (a.0, AllByRecursion-both P xs ys a.1 b)
-
 -- one more row of an input is one of the schema
 AreOfSchema-Moves : (s : Layout) (used : Bool) (old new : InputView) (rows : List Row) → AreOfSchema s old rows
     → Moves s used old new → AreOfSchema s new (rows ++ used_row used old)
@@ -104,7 +99,7 @@ AreOfSchema-Moves s false old new rows are same =
     subst (λ (input : InputView). AreOfSchema s input (rows ++ [])) (sym same)
     (subst (λ rs. AreOfSchema s old rs) (sym (append-nil rows)) are)
 AreOfSchema-Moves s true old new rows are moved =
-    AllByRecursion-both (IsLawfulRow s) (rows ++ option_to_list old.row) (option_to_list new.row) are
+    AllByRecursion-append (IsLawfulRow s) (rows ++ option_to_list old.row) (option_to_list new.row) are
     (by_row new.row moved)
   where
     by_row : (row : Option Row) → TakesLine s old (record { left = new.left; row = row; lines = new.lines })
@@ -237,7 +232,7 @@ used_rows-key : (key : Key) (us : List Bool) (inputs : List InputView) → lengt
 used_rows-key key [] inputs same uses = tt
 used_rows-key key (u ∷ us) [] same uses = absurd (omega (arith, same))
 used_rows-key key (u ∷ us) (i ∷ is) same uses =
-    AllByRecursion-both (λ (r : Row). r.key ≡ key) (used_row u i) (used_rows us is) (used_row-key key u i (uses 0))
+    AllByRecursion-append (λ (r : Row). r.key ≡ key) (used_row u i) (used_rows us is) (used_row-key key u i (uses 0))
     (used_rows-key key us is (omega (arith, same)) (λ k. uses (suc k)))
 
 -- a key below every input's row is below the key that is used
@@ -352,12 +347,12 @@ IsMerging-step given wanted starts olds news rows us row m same same_news uses s
     }
 
 -- no row is in order
-pub nothing-ordered : (input : InputView) → input.row ≡ None → AreInKeyOrder input []
+pub AreInKeyOrder-none : (input : InputView) → input.row ≡ None → AreInKeyOrder input []
 unfolding IsStrictlySortedBy
-nothing-ordered input none = subst (λ o. IsStrictlySortedBy key_cmp (map key_of (option_to_list o))) (sym none) tt
+AreInKeyOrder-none input none = subst (λ o. IsStrictlySortedBy key_cmp (map key_of (option_to_list o))) (sym none) tt
 
-nothing-of_schema : (s : Layout) (input : InputView) → input.row ≡ None → AreOfSchema s input []
-nothing-of_schema s input none = subst (λ o. AllByRecursion (IsLawfulRow s) (option_to_list o)) (sym none) tt
+pub AreOfSchema-none : (s : Layout) (input : InputView) → input.row ≡ None → AreOfSchema s input []
+AreOfSchema-none s input none = subst (λ o. AllByRecursion (IsLawfulRow s) (option_to_list o)) (sym none) tt
 
 -- nothing is merged yet, and each input took its first line
 replicate_empty : List InputView → List (List Row)
@@ -401,11 +396,11 @@ IsMerging-start given wanted starts olds news us gave rows ones ended same moved
   ordered =
       λ k. subst (λ rs. AreInKeyOrder (get_or news k nothing_left) rs) (none_used k ∙ sym (replicate_empty-at news k))
       (AreInKeyOrder-Moves given (get_or us k false) (get_or olds k nothing_left) (get_or news k nothing_left) []
-      (λ _. refl) (nothing-ordered (get_or olds k nothing_left) (rows k)) (moved k));
+      (λ _. refl) (AreInKeyOrder-none (get_or olds k nothing_left) (rows k)) (moved k));
   of_schema = λ k.
       subst (λ rs. AreOfSchema given (get_or news k nothing_left) rs) (none_used k ∙ sym (replicate_empty-at news k))
       (AreOfSchema-Moves given (get_or us k false) (get_or olds k nothing_left) (get_or news k nothing_left) []
-      (nothing-of_schema given (get_or olds k nothing_left) (rows k)) (moved k));
+      (AreOfSchema-none given (get_or olds k nothing_left) (rows k)) (moved k));
   counted = λ k. subst (λ rs. IsCounted (get_or news k nothing_left) rs) (sym (replicate_empty-at news k))
       (counted-first given (get_or us k false) (get_or olds k nothing_left) (get_or news k nothing_left) (rows k)
       (ones k) (moved k));

@@ -1,7 +1,8 @@
 //! The merge of printed cubes from readers into a writer.
-ghost use Rattle.std.specs.Prelude.{◌≡◌, ◌<◌, ◌≤◌, ◌+◌, ◌++◌, ℕ, List, Some, true, false, IfErr, IfOk, IfSome, OnOk, length, map, get_or};
+ghost use Rattle.std.specs.Prelude.{◌≡◌, ◌<◌, ◌≤◌, ◌+◌, ◌++◌, [], ℕ, List, Some, true, false, IfErr, IfOk, IfSome, OnOk, length, map, get_or};
 ghost use Rattle.std.specs.List.{AllZip};
 ghost use Rattle.std.specs.Io.KnownBytes.{Appends};
+ghost use Rattle.cube_core.specs.Text.{text_of_rows};
 ghost use Rattle.cube_merge.specs.Front.{AreAbove, AreUnused, IsInFront};
 ghost use Rattle.cube_merge.specs.Source.{IsSourceOf, TellsLack};
 ghost use Rattle.cube_merge.specs.Faults.{FailsToMerge, FailsToOpen, FailsToOpenAll, FailsToSend, InputsFail, RestFails, StepFails};
@@ -83,9 +84,23 @@ fn merge_inputs<R: Read, W: Write>(
     ensures err { IfErr result (λ fault. InputsFail given.now wanted.now inputs.old
         fault (W.contents w.old) (W.contents w.new)) }
 {
+    let mut desk = new_desk(alloc, wanted)?;
     let used = all_used(alloc, inputs.len())?;
     move_inputs(alloc, given, inputs, used.as_slice())?;
-    merge_rows(alloc, given, wanted, sources, inputs, w)
+    merge_rows(alloc, given, wanted, sources, inputs, &mut desk, w)
+}
+
+// A desk on which the header line of the schema waits.
+fn new_desk(alloc: Global, schema: &Schema) -> Result<Desk, AllocError>
+    ensures { IfOk result (λ desk. desk.text.items ≡ text_of_rows schema.now []) }
+{
+    let mut text = Vec::new(alloc);
+    push_header(alloc, &mut text, schema)?;
+    Ok(Desk {
+        joint: Joint::new(alloc),
+        answers: Vec::new(alloc),
+        text,
+    })
 }
 
 fn open_inputs<R: Read + Drop>(
@@ -137,32 +152,27 @@ fn all_used(alloc: Global, count: usize) -> Result<Vec<bool>, AllocError>
     Ok(used)
 }
 
-// Merges the rows of inputs that took their first line, and writes the merged cube.
+// Merges the rows of inputs that took their first line, and writes the merged cube, whose header line waits on the desk.
 fn merge_rows<R: Read, W: Write>(
     alloc: Global,
     given: &Schema,
     wanted: &Schema,
     sources: &[Source],
     inputs: &mut [Input<R>],
+    desk: &mut Desk,
     w: &mut W,
 ) -> Result<(), MergeFault>
-    requires { AllZip (IsSourceOf given.now.aggregates) wanted.now.aggregates sources.now }
+    requires sources { AllZip (IsSourceOf given.now.aggregates) wanted.now.aggregates sources.now }
+    requires header { desk.old.text.items ≡ text_of_rows wanted.now [] }
     ensures ok { OnOk result (MergesRest given.now wanted.now inputs.old
         (W.contents w.old) (W.contents w.new)) }
     ensures err { IfErr result (λ fault. RestFails given.now wanted.now inputs.old
         fault (W.contents w.old) (W.contents w.new)) }
 {
-    let mut text = Vec::new(alloc);
-    push_header(alloc, &mut text, wanted)?;
-    let mut desk = Desk {
-        joint: Joint::new(alloc),
-        answers: Vec::new(alloc),
-        text,
-    };
     let mut front = Front::new(alloc);
     let mut sent = 0;
     for _ in 0..u64::MAX {
-        if !put_next(alloc, given, sources, inputs, &mut front, &mut desk)? {
+        if !put_next(alloc, given, sources, inputs, &mut front, desk)? {
             send(w, desk.text.as_slice(), sent)?;
             return Ok(());
         }

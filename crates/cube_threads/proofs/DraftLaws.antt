@@ -10,7 +10,7 @@ use Rattle.cube_core.specs.Layout.{Layout}
 use Rattle.cube_core.specs.Run.{SourceBytes, AreItemsOf, AreGood}
 use Rattle.cube_core.specs.declared.change.Item.{Item}
 use Rattle.cube_engine.specs.Builder.{BuilderView}
-use Rattle.cube_engine.specs.Ledger.{LedgerView, AccountStandsAt, LedgerStandsAt}
+use Rattle.cube_ledger.specs.Ledger.{LedgerView, AccountStandsAt, LedgerStandsAt}
 use Rattle.cube_feeders.specs.FeedingAll.{IsNew, TakesFeeds, TakeAll}
 use Rattle.cube_handover.specs.Parcels.{parcels_of}
 use Rattle.cube_handover.specs.declared.gatherer.Gatherer.{Gatherer}

@@ -19,10 +19,10 @@ use Rattle.cube_core.specs.Layout.{Layout}
 use Rattle.cube_core.specs.Run.{SourceBytes}
 use Rattle.cube_core.specs.declared.fact.Fact.{Fact}
 use Rattle.cube_core.specs.declared.change.Item.{Item}
-use Rattle.cube_engine.specs.Book.{Entries, IsBook, fact_at, facts_of}
+use Rattle.cube_ledger.specs.Book.{Entries, IsBook, fact_at, facts_of}
 use Rattle.cube_engine.specs.Builder.{BuilderView}
 use Rattle.cube_engine.specs.Joined.{ArePartsOfOne, EachSchema}
-use Rattle.cube_engine.specs.Ledger.{AccountView, LedgerView, AccountStandsAt, LedgerStandsAt, all_facts}
+use Rattle.cube_ledger.specs.Ledger.{AccountView, LedgerView, AccountStandsAt, LedgerStandsAt, all_facts}
 use Rattle.cube_threads.specs.Parts.{BuiltView, first_ledger, schema_of_run, AreParts, StandsInParts, BuildsParts}
 use Rattle.cube_engine.proofs.BuilderLaws.{HasFacts-permutation}
 use Rattle.cube_handover.proofs.PlaceLaws.{some_of}

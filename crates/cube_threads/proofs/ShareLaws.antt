@@ -12,9 +12,9 @@ use Rattle.cube_core.specs.Layout.{Layout}
 use Rattle.cube_core.specs.Run.{SourceBytes, AreItemsOf, AreGood}
 use Rattle.cube_core.specs.declared.change.Item.{Item}
 use Rattle.cube_core.proofs.ListLaws.{AllZip-append}
-use Rattle.cube_engine.specs.Ledger.{LedgerView, AccountStandsAt, new_account}
-use Rattle.cube_engine.specs.Taking.{LedgerStandsFrom}
-use Rattle.cube_engine.proofs.StandLaws.{LedgerStandsAt-new}
+use Rattle.cube_ledger.specs.Ledger.{LedgerView, AccountStandsAt, new_account}
+use Rattle.cube_ledger.specs.Taking.{LedgerStandsFrom}
+use Rattle.cube_ledger.proofs.StandLaws.{LedgerStandsAt-new}
 use Rattle.cube_feeders.specs.FeedingAll.{TakesFeeds, TakeAll}
 use Rattle.cube_feeders.specs.Shares.{StandAtShares, StandInShares}
 use Rattle.cube_handover.specs.declared.gatherer.Gatherer.{Gatherer}

@@ -5,7 +5,7 @@ use Rattle.cube_core.specs.Arrival.{Arrivals}
 use Rattle.cube_core.specs.Layout.{Layout}
 use Rattle.cube_cells.specs.Cube.{Lattice, SameSets}
 use Rattle.cube_engine.specs.Builder.{BuilderView, HasFacts}
-use Rattle.cube_engine.specs.Ledger.{LedgerView, LedgerStandsAt, all_facts}
+use Rattle.cube_ledger.specs.Ledger.{LedgerView, LedgerStandsAt, all_facts}
 use Rattle.cube_engine.specs.Parted.{IsPartOver}
 use Rattle.cube_handover.specs.declared.gatherer.Gatherer.{Gatherer}
 use Rattle.cube_threads.specs.declared.making.MadePart.{MadePart}

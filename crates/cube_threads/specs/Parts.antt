@@ -10,7 +10,7 @@ use Rattle.cube_core.specs.declared.key.Key.{Key}
 use Rattle.cube_core.specs.declared.key.Row.{Row}
 use Rattle.cube_cells.specs.Rows.{IsRowOver}
 use Rattle.cube_engine.specs.Builder.{BuilderView, StandsAt}
-use Rattle.cube_engine.specs.Ledger.{LedgerView, all_facts}
+use Rattle.cube_ledger.specs.Ledger.{LedgerView, all_facts}
 use Rattle.cube_engine.specs.Parted.{ArePartsOf, IsPartOver}
 use Rattle.cube_link.specs.Link.{Receiving}
 use Rattle.cube_feeders.specs.FeedingAll.{HasReceived}

@@ -6,8 +6,9 @@ ghost use Rattle.cube_threads.specs.Drafts.{DraftView, StandsFrom, IsNewDraft, A
 
 use cube_cells::{Cube, Summary};
 use cube_core::{Item, Schema};
-use cube_engine::{Builder, Ledger};
+use cube_engine::Builder;
 use cube_feed::TakesItems;
+use cube_ledger::Ledger;
 use std::alloc::{AllocError, Global};
 use std::marker::Model;
 use std::thread::Threads;

@@ -7,8 +7,8 @@ ghost use Rattle.cube_threads.specs.Shares.{AreNewLedgers, TakenInParts};
 
 use crate::draft::Draft;
 use cube_core::Schema;
-use cube_engine::Ledger;
 use cube_feeders::{FeedingFault, Gate, Gatherer, Settings, feed_shares};
+use cube_ledger::Ledger;
 use std::alloc::{AllocError, Global};
 use std::io::Read;
 use std::sync::Wait;

@@ -14,11 +14,12 @@ use Rattle.cube_core.specs.declared.key.Key.{Key}
 use Rattle.cube_core.specs.declared.key.Row.{Row}
 use Rattle.cube_core.specs.declared.query.QueryFault.{QueryFault}
 use Rattle.cube_cells.specs.Rows.{GivesUnless}
-use Rattle.cube_engine.specs.Build.{BuildsWhole, ExplainsBuild}
+use Rattle.cube_engine.specs.Build.{BuildsWhole}
+use Rattle.cube_ledger.specs.Build.{ExplainsBuild}
 use Rattle.cube_engine.specs.Builder.{BuilderView}
-use Rattle.cube_engine.specs.Ledger.{AllFit, all_facts}
-use Rattle.cube_engine.specs.declared.fault.BuildFault.{BuildFault}
-use Rattle.cube_engine.specs.declared.fault.BuildFault.TheVariants as build_fault
+use Rattle.cube_ledger.specs.Ledger.{AllFit, all_facts}
+use Rattle.cube_ledger.specs.declared.fault.BuildFault.{BuildFault}
+use Rattle.cube_ledger.specs.declared.fault.BuildFault.TheVariants as build_fault
 use Rattle.cube_feeders.specs.FeedingAll.{ExplainsFeeding}
 use Rattle.cube_handover.specs.declared.fault.FeedingFault.{FeedingFault}
 use Rattle.cube_handover.specs.declared.fault.FeedingFault.TheVariants as feeding_fault

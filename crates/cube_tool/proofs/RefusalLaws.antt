@@ -1,7 +1,7 @@
 -- Whether there are refusals of sources one after another.
 use Rattle.std.proofs.Common.{◌≡◌, ◌<◌, ◌+◌, ℕ, zero, suc, List, [], ◌∷◌, length, get_or, take, refl, ap, ◌∙◌, arith}
 use Rattle.cube_core.specs.declared.change.Refusal.{Refusal}
-use Rattle.cube_engine.specs.Ledger.{AccountView, new_account}
+use Rattle.cube_ledger.specs.Ledger.{AccountView, new_account}
 use Rattle.cube_live.proofs.RefusalLaws.{refusals_of_accounts}
 use Rattle.cube_tool.specs.Command.{status_after}
 use Rattle.cube_tool.specs.declared.command.status.Status.TheVariants.{Done, LinesRefused}

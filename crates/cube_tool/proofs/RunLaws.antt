@@ -13,8 +13,8 @@ use Rattle.cube_core.specs.declared.change.Item.{Item}
 use Rattle.cube_core.specs.declared.change.Refusal.{Refusal}
 use Rattle.cube_engine.specs.Build.{BuildsWhole}
 use Rattle.cube_engine.specs.Builder.{BuilderView, StandsAt}
-use Rattle.cube_engine.specs.Ledger.{AccountStandsAt, LedgerView, LedgerStandsAt, all_facts}
-use Rattle.cube_engine.proofs.SurvivorLaws.{SurviveTogether-stands}
+use Rattle.cube_ledger.specs.Ledger.{AccountStandsAt, LedgerView, LedgerStandsAt, all_facts}
+use Rattle.cube_ledger.proofs.SurvivorLaws.{SurviveTogether-stands}
 use Rattle.cube_link.specs.Link.{Receiving}
 use Rattle.cube_live.proofs.RefusalLaws.{refusals_of_accounts}
 use Rattle.cube_live.proofs.ShowsLaws.{refusals-each}

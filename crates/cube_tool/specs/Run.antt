@@ -14,8 +14,8 @@ use Rattle.cube_core.specs.Text.{text_of_refusals}
 use Rattle.cube_core.specs.declared.change.Item.{Item}
 use Rattle.cube_core.specs.declared.change.Refusal.{Refusal}
 use Rattle.cube_core.specs.declared.fact.Fact.{Fact}
-use Rattle.cube_engine.specs.Build.{ExplainsBuild}
-use Rattle.cube_engine.specs.declared.fault.BuildFault.{BuildFault}
+use Rattle.cube_ledger.specs.Build.{ExplainsBuild}
+use Rattle.cube_ledger.specs.declared.fault.BuildFault.{BuildFault}
 use Rattle.cube_live.specs.Shows.{IsTextWhere, is_key}
 use Rattle.cube_feeders.specs.FeedingAll.{ExplainsFeeding}
 use Rattle.cube_handover.specs.declared.fault.FeedingFault.{FeedingFault}

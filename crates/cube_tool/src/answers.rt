@@ -2,13 +2,17 @@
 //!
 //! Each is the text that its question asks for, made in memory and then written; where memory runs out nothing is
 //! written.
-ghost use Rattle.std.specs.Prelude.{◌≡◌, ◌≤◌, ◌<◌, length, map, option_to_list, All, IfOk};
+ghost use Rattle.std.specs.Prelude.{◌≡◌, ◌≤◌, ◌<◌, length, map, option_to_list, All, IfOk, List, Option, None, ℕ};
+ghost use Rattle.cube_core.specs.Layout.{Layout};
 ghost use Rattle.cube_core.specs.Text.{text_of_refusals, text_of_rows};
-ghost use Rattle.cube_engine.specs.Ledger.{AllFit, all_facts};
+ghost use Rattle.cube_core.specs.declared.change.Refusal.{Refusal};
+ghost use Rattle.cube_core.specs.declared.fact.Fact.{Fact};
+ghost use Rattle.cube_ledger.specs.Ledger.{AllFit, all_facts};
 ghost use Rattle.cube_text.specs.Shape.{HasShapeOf};
 ghost use Rattle.cube_threads.specs.Parts.{facts_of_run, first_ledger, schema_of_run};
-ghost use Rattle.cube_tool.specs.Answering.{Answers, Fits, Writes, refusals_of_run};
+ghost use Rattle.cube_tool.specs.Answering.{Answers, Fits, Writes, question_fault, refusals_of_run};
 ghost use Rattle.cube_tool.specs.Run.{Tells};
+ghost use Rattle.cube_tool.specs.declared.question.Question.{Question as TheQuestion};
 
 use crate::command::Failure;
 use crate::fault::TextFault;
@@ -42,16 +46,28 @@ pub fn answer<T: Threads + Sync, P: Reporter, W: Write>(
         result (W.contents out.old) (W.contents out.new) }
 {
     match question {
-        Question::Cube => Ok(write_cube(rt, alloc, schema, built, threads, reporter, out)?),
-        Question::Slice { pattern } => Ok(write_slice(alloc, schema, built, pattern, out)?),
+        Question::Cube => {
+            told(write_cube(rt, alloc, schema, built, threads, reporter, out))
+        }
+        Question::Slice { pattern } => told(write_slice(alloc, schema, built, pattern, out)),
         Question::Drill { key, dimension } => {
             write_drill(alloc, schema, built, key, *dimension, out)
         }
         Question::RollUp { key, dimension } => {
-            Ok(write_roll_up(alloc, schema, built, key, *dimension, out)?)
+            told(write_roll_up(alloc, schema, built, key, *dimension, out))
         }
-        Question::Refusals => Ok(write_refusals(alloc, built, out)?),
+        Question::Refusals => told(write_refusals(alloc, built, out)),
     }
+}
+
+// What is told of a text that was written, or wasn't: the answer to its question, where that can't be refused.
+fn told(written: Result<(), TextFault>) -> Result<(), Failure>
+    ensures { (question : TheQuestion) (s : Layout) (facts : List Fact) (refusals : List (List Refusal))
+        (old new : Option (List ℕ)) → question_fault s question ≡ None →
+        Writes (Tells question s facts refusals) written old new →
+        Answers question s facts refusals result old new }
+{
+    Ok(written?)
 }
 
 /// Writes the printed cube of what was built of a schema, which so many threads sort and print, and tells a reporter

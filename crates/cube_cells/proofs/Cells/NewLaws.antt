@@ -29,16 +29,14 @@ use Rattle.cube_cells.specs.Cube.{IsLattice, IsCubeOf, IsNewLattice, cell_at}
 use Rattle.cube_cells.specs.Tally.{Tally, IsTallyOf}
 use Rattle.cube_cells.specs.declared.cube.codes.Codes.{Codes}
 use Rattle.cube_cells.proofs.Cells.WalkLaws.{same_codes-exact}
+use Rattle.cube_cells.proofs.Codes.KeyLaws.{all_code-replicate}
 use Rattle.cube_core.proofs.AncestorLaws.{mask_of_coords-All}
 
 -- ---- the kept sets
 
 -- ---- the codes of the grand total
 are_codes-replicate : (n k : ℕ) → n ≤ k → are_codes (replicate n []) (replicate k all_code) ≡ true
-are_codes-replicate zero k room = alls k where
-  alls : (m : ℕ) → list_all (λ code. code == all_code) (replicate m all_code) ≡ true
-  alls zero = refl
-  alls (suc m) = alls m
+are_codes-replicate zero k room = all_code-replicate k
 are_codes-replicate (suc n) zero room = absurd (omega (arith, room))
 are_codes-replicate (suc n) (suc k) room = are_codes-replicate n k (omega (arith, room))
 

@@ -83,27 +83,23 @@ is_listed-StandsAt text (t ∷ texts) zero stands =
 is_listed-StandsAt text (t ∷ texts) (suc place) stands = or_right (bytes_eq text t) (is_listed text texts)
     (is_listed-StandsAt text texts place (record { below = omega (arith, stands.below); is_text = stands.is_text }))
 
+-- a text that isn't listed stands at no place
+stands_nowhere : (t text : List ℕ) (texts : List (List ℕ)) (b : ℕ) → not (is_listed t texts) ≡ true → t ≡ text
+    → StandsAt text texts b → ⊥
+stands_nowhere t text texts b alone same at_b = both_ways (is_listed t texts) (not-true (is_listed t texts) alone)
+    (ap (λ (x : List ℕ). is_listed x texts) same ∙ is_listed-StandsAt text texts b at_b)
+
 -- texts that differ stand at one place each
 pub StandsAt-are_distinct : (text : List ℕ) (texts : List (List ℕ)) (a b : ℕ) → are_distinct texts ≡ true
     → StandsAt text texts a → StandsAt text texts b → a ≡ b
 StandsAt-are_distinct text [] a b distinct at_a at_b = absurd (omega (arith, at_a.below))
 StandsAt-are_distinct text (t ∷ texts) zero zero distinct at_a at_b = refl
 StandsAt-are_distinct text (t ∷ texts) zero (suc b) distinct at_a at_b = absurd
-    (twice t text texts b (and_parts (not (is_listed t texts)) (are_distinct texts) distinct).0 at_a.is_text
+    (stands_nowhere t text texts b (and_parts (not (is_listed t texts)) (are_distinct texts) distinct).0 at_a.is_text
     (record { below = omega (arith, at_b.below); is_text = at_b.is_text }))
-  where
-    twice : (t text : List ℕ) (texts : List (List ℕ)) (b : ℕ) → not (is_listed t texts) ≡ true → t ≡ text
-        → StandsAt text texts b → ⊥
-    twice t text texts b alone same at_b = both_ways (is_listed t texts) (not-true (is_listed t texts) alone)
-        (ap (λ (x : List ℕ). is_listed x texts) same ∙ is_listed-StandsAt text texts b at_b)
 StandsAt-are_distinct text (t ∷ texts) (suc a) zero distinct at_a at_b = absurd
-    (twice t text texts a (and_parts (not (is_listed t texts)) (are_distinct texts) distinct).0 at_b.is_text
+    (stands_nowhere t text texts a (and_parts (not (is_listed t texts)) (are_distinct texts) distinct).0 at_b.is_text
     (record { below = omega (arith, at_a.below); is_text = at_a.is_text }))
-  where
-    twice : (t text : List ℕ) (texts : List (List ℕ)) (b : ℕ) → not (is_listed t texts) ≡ true → t ≡ text
-        → StandsAt text texts b → ⊥
-    twice t text texts b alone same at_b = both_ways (is_listed t texts) (not-true (is_listed t texts) alone)
-        (ap (λ (x : List ℕ). is_listed x texts) same ∙ is_listed-StandsAt text texts b at_b)
 StandsAt-are_distinct text (t ∷ texts) (suc a) (suc b) distinct at_a at_b =
     ap suc (StandsAt-are_distinct text texts a b (and_parts (not (is_listed t texts)) (are_distinct texts) distinct).1
     (record {

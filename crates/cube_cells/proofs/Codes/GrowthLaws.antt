@@ -185,6 +185,13 @@ All-is_among P (first ∷ sets) set all among = elim (or_cases (first == set) (i
   | inr later ↦ All-is_among P sets set (All-tail P first sets all) later
 ]
 
+-- what is among the first and others
+first_among : (x : ℕ) (xs : List ℕ) → is_among x (x ∷ xs) ≡ true
+first_among x xs = rw (eq-eqb x x refl) refl
+
+later_among : (x y : ℕ) (xs : List ℕ) → is_among y xs ≡ true → is_among y (x ∷ xs) ≡ true
+later_among x y xs later = elim (cases_Bool (x == y)) [ inl same ↦ rw same refl | inr apart ↦ rw apart later ]
+
 -- the weight of keys of some sets
 sum_by-codes_in_none : (weight : Codes → ℕ) (codes : Codes) (set : ℕ) (sets : List ℕ)
     → ((other : ℕ) → is_among other sets ≡ true → weight (key_in codes other) ≡ (if other == set then 1 else 0))
@@ -202,12 +209,7 @@ sum_by-codes_in_none weight codes set (first ∷ sets) at_each among = elim (cas
         sum_by-codes_in_none weight codes set sets (λ other later. at_each other (later_among first other sets later))
             (rw apart at among),
       )
-] where
-  first_among : (x : ℕ) (xs : List ℕ) → is_among x (x ∷ xs) ≡ true
-  first_among x xs = rw (eq-eqb x x refl) refl
-
-  later_among : (x y : ℕ) (xs : List ℕ) → is_among y xs ≡ true → is_among y (x ∷ xs) ≡ true
-  later_among x y xs later = elim (cases_Bool (x == y)) [ inl same ↦ rw same refl | inr apart ↦ rw apart later ]
+]
 
 pub is_among-below : (set : ℕ) (sets : List ℕ) → All (λ other. set < other) sets → is_among set sets ≡ false
 is_among-below set sets above = false_from_ne_true (is_among set sets)
@@ -241,12 +243,7 @@ sum_by-codes_in_one weight codes set (first ∷ sets) at_each ascending among = 
         sum_by-codes_in_one weight codes set sets (λ other later. at_each other (later_among first other sets later))
             (IsStrictlySortedBy-tail first sets ascending) (rw apart at among),
       )
-] where
-  first_among : (x : ℕ) (xs : List ℕ) → is_among x (x ∷ xs) ≡ true
-  first_among x xs = rw (eq-eqb x x refl) refl
-
-  later_among : (x y : ℕ) (xs : List ℕ) → is_among y xs ≡ true → is_among y (x ∷ xs) ≡ true
-  later_among x y xs later = elim (cases_Bool (x == y)) [ inl same ↦ rw same refl | inr apart ↦ rw apart later ]
+]
 
 -- codes in a set weigh 1 in it and 0 in others
 pub set_weight-key_in : (dictionaries : Dictionaries) (fact : Fact) (codes : Codes) (set other : ℕ)

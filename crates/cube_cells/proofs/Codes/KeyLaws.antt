@@ -88,7 +88,8 @@ coord-IsCodeOf texts (coord.Text text) is = elim (StandsAt-position_or_len text 
   | inr nowhere ↦ (_, IsCodeOf-no_code texts text is nowhere.0)
 ]
 
-all_code-replicate : (n : ℕ) → list_all (λ code. code == all_code) (replicate n all_code) ≡ true
+-- codes of ALL alone
+pub all_code-replicate : (n : ℕ) → list_all (λ code. code == all_code) (replicate n all_code) ≡ true
 all_code-replicate zero = refl
 all_code-replicate (suc n) = all_code-replicate n
 

@@ -60,7 +60,7 @@ use Rattle.cube_cells.proofs.Codes.GrowthLaws.{AreGrown-refl, count_in-weight_of
 use Rattle.cube_cells.proofs.Codes.GrowthLaws.{texts_with-append}
 use Rattle.cube_cells.proofs.Tallies.GroupLaws.{AreCodesOf-coords_at}
 use Rattle.cube_cells.proofs.Cells.KeptLaws.{All-coded_at}
-use Rattle.cube_cells.proofs.Codes.KeyLaws.{HasFactCodes, key-HasCodes, look_up-coded, no_cell-width}
+use Rattle.cube_cells.proofs.Codes.KeyLaws.{HasFactCodes, all_code-replicate, key-HasCodes, look_up-coded, no_cell-width}
 use Rattle.cube_cells.proofs.Cells.JoinLaws.{AreApart-append, AreApart-append_right, cell_at-append, either}
 use Rattle.cube_cells.proofs.Cells.JoinLaws.{is_some-either}
 use Rattle.cube_cells.proofs.Filling.LevelLaws.{IsLeveled-alone}
@@ -302,10 +302,6 @@ row_codes (column ∷ columns) (value ∷ values) place tail widths each alls =
           ∙ ap (λ (cs : List Coord). coord_of_value value ∷ cs) rest.1,
     )
 
-list_all-replicate : (n : ℕ) → list_all (λ code. code == all_code) (replicate n all_code) ≡ true
-list_all-replicate zero = refl
-list_all-replicate (suc n) = list_all-replicate n
-
 -- the texts of each dimension differ
 pub All-dictionaries_of : (coded : CodedFacts) → AreCoded coded → All IsDictionary (dictionaries_of coded.columns.items)
 All-dictionaries_of coded are = λ k d inside.
@@ -365,7 +361,7 @@ HasPlace-AreCoded coded place unused are inside = record {
       × (coords_at (dictionaries_of columns) codes ≡ map coord_of_value fact.dims)
   row = row_codes columns fact.dims place (replicate (8 - length columns) all_code) width
       (λ d spare below. (are.columns.each d spare (omega (arith, below, are.columns.long))).each place unused inside)
-      (list_all-replicate (8 - length columns))
+      (all_code-replicate (8 - length columns))
 
 -- ---- cells over the finest set
 HaveAll-AreFinestCells : (coded : CodedFacts) (facts : List Fact) (cells : CodedCells)

@@ -1,6 +1,7 @@
 //! The command that keeps a cube right: changes and questions in, replies out.
-ghost use Rattle.std.specs.Prelude.{◌≤◌, map, option_map, vec_len, IfOk, IfErr, IfSome};
+ghost use Rattle.std.specs.Prelude.{◌≡◌, ◌≤◌, map, option_map, vec_len, IfOk, IfErr, IfSome, OnOk};
 ghost use Rattle.cube_core.specs.Records.{records_of};
+ghost use Rattle.cube_session.specs.Serving.{Serves, ServingFails};
 ghost use Rattle.cube_tool.specs.Run.{OfFeeds};
 ghost use Rattle.cube_tool.specs.Session.{FailsToServe, ServesOver};
 
@@ -9,8 +10,8 @@ use crate::command::status::{Status, status_after};
 use crate::reporter::Reporter;
 use cube_core::Schema;
 use cube_feed::RecordReader;
-use cube_live::open;
-use cube_session::{NoJournal, serve};
+use cube_live::{Live, open};
+use cube_session::{NoJournal, SessionFault, serve};
 use cube_threads::{Gate, Settings};
 use std::alloc::Global;
 use std::io::{Read, Write};
@@ -49,7 +50,25 @@ pub fn live<
 {
     let mut live = open(rt, alloc, schema, readers, settings, watcher)?;
     watcher.begins_serving();
-    let mut records = RecordReader::new(alloc, input);
-    serve(rt, alloc, &mut live, &mut records, &mut NoJournal, out)?;
+    serve_input(rt, alloc, &mut live, input, out)?;
     Ok(status_after(live.ledger()))
+}
+
+// Takes the records of an input, which has no header.
+fn serve_input<T: Threads + Sync, I: Read + Drop, W: Write>(
+    rt: &T,
+    alloc: Global,
+    live: &mut Live<'_>,
+    input: I,
+    out: &mut W,
+) -> Result<(), SessionFault>
+    ensures ok { OnOk result (IfSome (option_map records_of (I.remaining input)) (λ records.
+        Serves live.old.schema records live.old live.new (W.contents out.old) (W.contents out.new))) }
+    ensures err { IfErr result (λ fault. IfSome (option_map records_of (I.remaining input)) (λ records.
+        ServingFails live.old.schema records fault live.old
+        (W.contents out.old) (W.contents out.new))) }
+    ensures schema { live.new.schema ≡ live.old.schema }
+{
+    let mut records = RecordReader::new(alloc, input);
+    serve(rt, alloc, live, &mut records, &mut NoJournal, out)
 }

@@ -4,7 +4,7 @@ ghost use Rattle.cube_tool.specs.Answering.{refusals_of_run};
 ghost use Rattle.cube_tool.specs.Command.{status_after, status_code};
 
 use crate::answers::first_builder;
-use cube_engine::Ledger;
+use cube_ledger::Ledger;
 use cube_threads::Built;
 
 /// What the program ends with.

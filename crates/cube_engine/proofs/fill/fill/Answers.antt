@@ -1,9 +1,9 @@
 use Rattle.std.proofs.Common.{◌≡◌, ◌+◌, true, drop, rules, subst}
 use Rattle.cube_core.specs.Takes.{fits}
-use Rattle.cube_engine.specs.Book.{facts_of}
-use Rattle.cube_engine.specs.Ledger.{AllFit, all_facts}
+use Rattle.cube_ledger.specs.Book.{facts_of}
+use Rattle.cube_ledger.specs.Ledger.{AllFit, all_facts}
 use Rattle.cube_engine.proofs.FillLaws.{GainsFacts-all, IsFilling-more, all_facts-drop, all_facts-past}
-use Rattle.cube_engine.proofs.LedgerLaws.{All-append_left, All-append_right}
+use Rattle.cube_ledger.proofs.LedgerLaws.{All-append_left, All-append_right}
 use Rattle.cube_engine.proofs.fill.fill.Goals as goal
 
 pub fill_from_book-requires : goal.fill_from_book-requires

@@ -1,5 +1,5 @@
 use Rattle.std.proofs.Common.{drop}
-use Rattle.cube_engine.specs.Ledger.{AllFit, all_facts}
+use Rattle.cube_ledger.specs.Ledger.{AllFit, all_facts}
 use Rattle.cube_engine.proofs.FillLaws.{IsFilling}
 use Rattle.cube_engine.proofs.fill.fill.Given as goal
 

@@ -1,4 +1,4 @@
-use Rattle.cube_engine.specs.Ledger.{all_facts}
+use Rattle.cube_ledger.specs.Ledger.{all_facts}
 use Rattle.cube_engine.proofs.FillLaws.{HasFacts-filled, IsCubeOfAll-gained}
 use Rattle.cube_engine.proofs.fill.fill_cube.Goals as goal
 

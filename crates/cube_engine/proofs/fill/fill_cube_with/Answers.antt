@@ -1,5 +1,5 @@
 use Rattle.cube_cells.specs.Fill.{IsCubeOfAll}
-use Rattle.cube_engine.specs.Ledger.{all_facts}
+use Rattle.cube_ledger.specs.Ledger.{all_facts}
 use Rattle.cube_engine.proofs.fill.fill_cube_with.Goals as goal
 
 pub returns : goal.returns

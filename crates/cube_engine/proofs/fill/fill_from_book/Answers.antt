@@ -1,8 +1,8 @@
 use Rattle.std.proofs.Common.{◌≡◌, true, ◌∷◌, [], subst}
 use Rattle.std.proofs.lemmas.List.Elements.{All-tail}
 use Rattle.cube_core.specs.Takes.{fits}
-use Rattle.cube_engine.specs.Book.{facts_of}
-use Rattle.cube_engine.specs.Ledger.{AllFit}
+use Rattle.cube_ledger.specs.Book.{facts_of}
+use Rattle.cube_ledger.specs.Ledger.{AllFit}
 use Rattle.cube_engine.proofs.FillLaws.{GainsFacts-all, IsFilling-more}
 use Rattle.cube_engine.proofs.fill.fill_from_book.Goals as goal
 

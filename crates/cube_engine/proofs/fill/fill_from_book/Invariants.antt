@@ -1,5 +1,5 @@
-use Rattle.cube_engine.specs.Book.{facts_of}
-use Rattle.cube_engine.specs.Ledger.{AllFit}
+use Rattle.cube_ledger.specs.Book.{facts_of}
+use Rattle.cube_ledger.specs.Ledger.{AllFit}
 use Rattle.cube_engine.proofs.FillLaws.{IsFilling}
 use Rattle.cube_engine.proofs.fill.fill_from_book.Given as goal
 

@@ -1,6 +1,6 @@
 use Rattle.std.proofs.Common.{sym, subst}
 use Rattle.cube_core.specs.Layout.{Layout}
-use Rattle.cube_engine.specs.Ledger.{AllFit}
+use Rattle.cube_ledger.specs.Ledger.{AllFit}
 use Rattle.cube_engine.proofs.PartedLaws.{Settles-both, has-gone}
 use Rattle.cube_engine.proofs.parted.settle_cube.Goals as goal
 

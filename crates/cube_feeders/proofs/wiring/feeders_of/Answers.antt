@@ -12,12 +12,13 @@ loop-reader-init g c = rw c.in_ok-feeders.ensures.items (linked-none c.args.gath
 pub loop-reader-preserved : goal.loop-reader-preserved
 loop-reader-preserved g c =
     let loop = c.loop-reader in
-    let connects = c.in_ok-outlets.ensures in
+    let connects = c.in_ok-feeder.ensures.connects in
+    let outlets = c.in_ok-feeder.feeder.outlets.items in
     let more =
-    linked-more _ loop.gatherers c.connect.new.gatherers c.in_ok-outlets.outlets.items loop.invariant.0 connects in (
+    linked-more _ loop.gatherers c.feeder_of.new.gatherers outlets loop.invariant.0 connects in (
       rw (c.in_ok-push.ensures.items, map-append) more,
       rw (c.in_ok-push.ensures.items, map-append, map-append, loop.invariant.1) (search rules),
-      builders-connects loop.gatherers c.connect.new.gatherers c.in_ok-outlets.outlets.items connects
+      builders-connects loop.gatherers c.feeder_of.new.gatherers outlets connects
           ∙ loop.invariant.2,
     )
 

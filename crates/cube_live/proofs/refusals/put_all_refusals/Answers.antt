@@ -2,7 +2,7 @@ use Rattle.std.proofs.Common.{◌≡◌, ◌+◌, ◌-◌, ℕ, List, get_or, ap
 use Rattle.std.specs.List.{flat_map}
 use Rattle.cube_core.specs.Text.{refusal_line}
 use Rattle.cube_core.specs.declared.change.Refusal.{Refusal}
-use Rattle.cube_engine.specs.Ledger.{new_account}
+use Rattle.cube_ledger.specs.Ledger.{new_account}
 use Rattle.cube_text.specs.Lines.{AddsText}
 use Rattle.cube_live.proofs.RefusalLaws.{AddsText-both, lines_up_to, lines_up_to-more}
 use Rattle.cube_live.proofs.refusals.put_all_refusals.Goals as goal

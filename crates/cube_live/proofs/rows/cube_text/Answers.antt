@@ -1,6 +1,6 @@
 use Rattle.std.proofs.lemmas.Result.{IfOk-weaker}
 use Rattle.cube_core.specs.Cube.{AreRows}
-use Rattle.cube_engine.specs.Ledger.{all_facts}
+use Rattle.cube_ledger.specs.Ledger.{all_facts}
 use Rattle.cube_live.proofs.rows.cube_text.Goals as goal
 
 pub ordered_parts-requires : goal.ordered_parts-requires

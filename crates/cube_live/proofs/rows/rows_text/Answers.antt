@@ -3,7 +3,7 @@ use Rattle.std.proofs.lemmas.List.Sums.{list_all-from_AllPass}
 use Rattle.std.proofs.lemmas.Result.{IfOk-weaker}
 use Rattle.cube_core.specs.Layout.{Layout}
 use Rattle.cube_core.specs.Takes.{fits}
-use Rattle.cube_engine.specs.Ledger.{all_facts}
+use Rattle.cube_ledger.specs.Ledger.{all_facts}
 use Rattle.cube_text.proofs.RowShapeLaws.{HasShapeOf-AreRowsWhere}
 use Rattle.cube_live.specs.Live.{CanAsk}
 use Rattle.cube_live.specs.Shows.{asks_for}

@@ -11,16 +11,9 @@ use Rattle.cube_merge.proofs.LeastLaws.{AreAbove-none}
 use Rattle.cube_merge.proofs.FaultLaws.{Stops-sending, Stops-waiting}
 use Rattle.cube_merge.proofs.cubes.merge_rows.Goals as goal
 
-pub returns-in_err-push_header-clause-err : goal.returns-in_err-push_header-clause-err
-returns-in_err-push_header-clause-err g c =
-    let p = err_from_is_err_and c.from_residual.result c.from_residual.ensures.1 in
-    rw (p.1, p.2)
-    (λ starts m. Stops-waiting c.args.given.now c.args.wanted.now starts (length c.args.inputs.now) c.args.inputs.now []
-    [] (text_of_rows c.args.wanted.now []) refl m refl Memory _ _ (Appends-nil (g.W.Write.contents c.args.w.now)) tt)
-
 pub returns-in_err-put_next-clause-err : goal.returns-in_err-put_next-clause-err
 returns-in_err-put_next-clause-err g c =
-    let p = err_from_is_err_and c.from_residual-in_err-put_next.result c.from_residual-in_err-put_next.ensures.1 in
+    let p = err_from_is_err_and c.from_residual.result c.from_residual.ensures.1 in
     rw (p.1, p.2) (λ starts m.
     let so_far = c.loop.invariant.merging starts m in
     Stops-waiting c.args.given.now c.args.wanted.now starts (length c.args.inputs.now) c.loop.inputs so_far.0 so_far.1
@@ -61,7 +54,7 @@ returns-in-Err-clause-err g c starts m =
     let on : c.in_ok-put_next.field-0 ≡ true = search rules in
     let put = subst
     (λ b. PutsNext c.args.given.now c.args.sources.now c.loop.inputs c.put_next.new.inputs c.loop.desk.text.items
-    c.put_next.new.desk.text.items b) on (c.in_ok-put_next.ensures.ok) c.args.wanted.now.aggregates c.requires in
+    c.put_next.new.desk.text.items b) on (c.in_ok-put_next.ensures.ok) c.args.wanted.now.aggregates c.requires.sources in
     let so_far = c.loop.invariant.merging starts m in
     Stops-sending c.args.given.now c.args.wanted.now starts (length c.args.inputs.now) c.put_next.new.inputs
     (so_far.0 ++ put.0 ∷ []) so_far.1 c.put_next.new.desk.text.items
@@ -78,7 +71,7 @@ loop-preserved g c =
       merging = λ starts m.
           let put = subst
           (λ b. PutsNext c.args.given.now c.args.sources.now c.loop.inputs c.put_next.new.inputs c.loop.desk.text.items
-          c.put_next.new.desk.text.items b) on (c.in_ok-put_next.ensures.ok) c.args.wanted.now.aggregates c.requires in
+          c.put_next.new.desk.text.items b) on (c.in_ok-put_next.ensures.ok) c.args.wanted.now.aggregates c.requires.sources in
           let so_far = c.loop.invariant.merging starts m in
           let sent = c.in-Ok.ensures.ok in (
             so_far.0 ++ put.0 ∷ [],
@@ -100,9 +93,8 @@ returns-clause-err g c starts m =
 
 pub loop-init : goal.loop-init
 loop-init g c =
-    let header : c.push_header.new.text.items ++ [] ≡ text_of_rows c.args.wanted.now [] = search rules in
     record {
       above =
           AreAbove-none c.new-front.result.bound c.new-front.result.behind.items c.args.inputs.now c.new-front.ensures;
-      merging = λ starts m. ([], [], refl, m, Appends-nil (g.W.Write.contents c.args.w.now), search rules, refl);
+      merging = λ starts m. ([], [], refl, m, Appends-nil (g.W.Write.contents c.args.w.now), c.requires.header, refl);
     }

@@ -1,15 +1,9 @@
-use Rattle.std.proofs.Common.{◌∙◌, Result, Ok, Err, refl}
-use Rattle.std.specs.Prelude.{OnOk}
+use Rattle.std.proofs.Common.{◌∙◌, refl}
 use Rattle.std.proofs.lemmas.Result.{err_from_is_err_and, on_ok_weaker}
 use Rattle.cube_session.proofs.ServingLaws.{HasGone-none, HasGone-more, HasGone-all, HasGone-fails}
 use Rattle.cube_session.specs.declared.session.SessionFault.TheVariants.{Full}
 use Rattle.cube_session.proofs.KeepingLaws as laws
 use Rattle.cube_session.proofs.session.serve.Goals as goal
-
--- what holds in any case holds where a result is Ok
-OnOk-always : {T E X : Type 0} (r : Result T E) → X → OnOk r X
-OnOk-always (Ok value) holds = holds
-OnOk-always (Err fault) holds = tt
 
 pub loop-turn-init : goal.loop-turn-init
 loop-turn-init g c = record {
@@ -23,7 +17,7 @@ loop-turn-init g c = record {
 pub returns-then-not-branch-clause-ok : goal.returns-then-not-branch-clause-ok
 returns-then-not-branch-clause-ok g c =
     let ended = rw c.if-not-branch.true at c.in_ok-advance.ensures.takes in
-    OnOk-always c.settle.result
+    laws.OnOk-always c.settle.result
     (HasGone-all c.args.live.now.schema c.args.records.now.left c.args.live.now c.loop-turn.records.left
     c.loop-turn.live c.advance.new.records c.loop-turn.sent _ _
     c.loop-turn.invariant.gone ended)

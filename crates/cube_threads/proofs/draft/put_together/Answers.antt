@@ -3,7 +3,7 @@ use Rattle.std.proofs.Common.{append_assoc}
 use Rattle.std.proofs.lemmas.List.{append-nil, flat_map_more, length-append}
 use Rattle.std.proofs.lemmas.List.Elements.{All-tail}
 use Rattle.std.proofs.lemmas.List.Sums.{sum_by-cons}
-use Rattle.cube_engine.specs.Ledger.{LedgerView}
+use Rattle.cube_ledger.specs.Ledger.{LedgerView}
 use Rattle.cube_threads.proofs.ShareLaws.{sources_of}
 use Rattle.cube_threads.proofs.draft.put_together.Goals as goal
 

@@ -1,7 +1,7 @@
 use Rattle.std.proofs.Common.{◌≡◌, ◌∙◌, ℕ, ap, arith, get_or, length, map, subst, sum_by, sym}
 use Rattle.std.specs.Global.{Vec}
 use Rattle.std.proofs.lemmas.List.{length-map}
-use Rattle.cube_engine.specs.Ledger.{LedgerView}
+use Rattle.cube_ledger.specs.Ledger.{LedgerView}
 use Rattle.cube_threads.specs.Shares.{AreNewLedgers}
 use Rattle.cube_handover.specs.declared.gatherer.Gatherer.{Gatherer}
 use Rattle.cube_threads.proofs.ShareLaws.{HasTakenShares, AreOfSchema, sources_of, taken-shares, drafted-taken}

@@ -1,6 +1,6 @@
 use Rattle.std.proofs.Common.{◌≡◌, ◌+◌, [], length, sum_by}
 use Rattle.std.specs.List.{All}
-use Rattle.cube_engine.specs.Ledger.{LedgerStandsAt}
+use Rattle.cube_ledger.specs.Ledger.{LedgerStandsAt}
 use Rattle.cube_threads.proofs.ShareLaws.{sources_of, AreOfSchema}
 use Rattle.cube_threads.proofs.shares.new_ledgers.Given as goal
 

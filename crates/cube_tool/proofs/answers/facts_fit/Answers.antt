@@ -1,5 +1,5 @@
 use Rattle.std.proofs.Common.{subst}
-use Rattle.cube_engine.specs.Ledger.{AllFit, LedgerView, all_facts}
+use Rattle.cube_ledger.specs.Ledger.{AllFit, LedgerView, all_facts}
 use Rattle.cube_tool.proofs.answers.facts_fit.Goals as goal
 
 pub returns : goal.returns

@@ -1,7 +1,7 @@
 use Rattle.std.proofs.Common.{◌∙◌, refl}
 use Rattle.std.proofs.lemmas.Result.{err_from_is_err_and}
 use Rattle.cube_core.specs.Cube.{AreRows}
-use Rattle.cube_engine.specs.Ledger.{all_facts}
+use Rattle.cube_ledger.specs.Ledger.{all_facts}
 use Rattle.cube_tool.proofs.AnsweringLaws.{Writes-weaker}
 use Rattle.cube_live.proofs.RowLaws.{AreRows-AreRowsOver}
 use Rattle.cube_tool.proofs.answers.write_plain_cube.Goals as goal

@@ -1,7 +1,7 @@
 use Rattle.std.proofs.Common.{ap, refl, ◌∙◌}
 use Rattle.std.proofs.lemmas.Result.{err_from_is_err_and}
 use Rattle.cube_core.specs.Text.{text_of_refusals}
-use Rattle.cube_engine.specs.Ledger.{LedgerView}
+use Rattle.cube_ledger.specs.Ledger.{LedgerView}
 use Rattle.cube_tool.proofs.AnsweringLaws.{Writes-weaker}
 use Rattle.cube_live.proofs.RefusalLaws.{refusals_of_accounts}
 use Rattle.cube_tool.proofs.answers.write_refusals.Goals as goal

@@ -1,5 +1,5 @@
 use Rattle.std.proofs.Common.{◌∙◌, subst}
-use Rattle.cube_engine.specs.Ledger.{AllFit, LedgerView, all_facts}
+use Rattle.cube_ledger.specs.Ledger.{AllFit, LedgerView, all_facts}
 use Rattle.cube_engine.proofs.builder.Builder+Summary.of_with.Goals as goal
 
 pub invariant_of-result : goal.invariant_of-result

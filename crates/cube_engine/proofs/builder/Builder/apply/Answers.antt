@@ -1,10 +1,10 @@
 use Rattle.std.proofs.Common.{◌≤◌, length}
 use Rattle.std.proofs.lemmas.Result.{on_ok_weaker, on_err_weaker}
 use Rattle.cube_engine.proofs.BuilderLaws.{IsBuilder-refuse, StandsAt-Enters}
-use Rattle.cube_engine.proofs.RulingLaws.{AtSource-Obeys, AtSource-length, AtSource-put, AtSource-take}
-use Rattle.cube_engine.proofs.RulingLaws.{IsRemoval-refused, IsRemoval-puts}
-use Rattle.cube_engine.specs.Ledger.{account_of}
-use Rattle.cube_engine.specs.declared.ruling.Ruling.TheVariants.{Refuse, Put, Take}
+use Rattle.cube_ledger.proofs.RulingLaws.{AtSource-Obeys, AtSource-length, AtSource-put, AtSource-take}
+use Rattle.cube_ledger.proofs.RulingLaws.{IsRemoval-refused, IsRemoval-puts}
+use Rattle.cube_ledger.specs.Ledger.{account_of}
+use Rattle.cube_ledger.specs.declared.ruling.Ruling.TheVariants.{Refuse, Put, Take}
 use Rattle.cube_cells.proofs.Cells.WalkLaws.{OnOk-both}
 use Rattle.cube_engine.proofs.builder.Builder.apply.Goals as goal
 

@@ -2,9 +2,10 @@ use Rattle.std.proofs.Common.{◌≡◌, ◌≤◌, ◌∷◌, ◌∙◌, true, 
 use Rattle.cube_core.specs.Layout.{Layout}
 use Rattle.cube_core.specs.Takes.{fits}
 use Rattle.cube_engine.specs.Builder.{HasFacts}
-use Rattle.cube_engine.specs.Ledger.{AtSource, Exchanges, all_facts}
+use Rattle.cube_ledger.specs.Ledger.{AtSource, Exchanges, all_facts}
 use Rattle.cube_engine.proofs.BuilderLaws.{HasFacts-add, HasFacts-put, HasFacts-remove, HoldsFact-HasFacts}
-use Rattle.cube_engine.proofs.BuilderLaws.{IsBuilder-exchange, SameCells-HasFacts, SameSets-trans, fits-out}
+use Rattle.cube_engine.proofs.BuilderLaws.{IsBuilder-exchange, SameCells-HasFacts, SameSets-trans}
+use Rattle.cube_ledger.proofs.LedgerLaws.{fits-out}
 use Rattle.cube_engine.proofs.builder.Builder.put.Goals as goal
 
 pub remove-requires : goal.remove-requires

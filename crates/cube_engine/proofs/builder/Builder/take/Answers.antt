@@ -1,9 +1,10 @@
 use Rattle.std.proofs.Common.{◌≤◌, ◌∷◌, ◌∙◌, length, Some, None, ap, refl}
 use Rattle.cube_core.specs.Layout.{Layout}
 use Rattle.cube_core.specs.Takes.{fits}
-use Rattle.cube_engine.specs.Ledger.{AtSource, Exchanges, all_facts}
+use Rattle.cube_ledger.specs.Ledger.{AtSource, Exchanges, all_facts}
 use Rattle.cube_engine.proofs.BuilderLaws.{HasFacts-permutation, HasFacts-remove, HoldsFact-HasFacts}
-use Rattle.cube_engine.proofs.BuilderLaws.{IsBuilder-exchange, all_facts-exchange, fits-out}
+use Rattle.cube_engine.proofs.BuilderLaws.{IsBuilder-exchange}
+use Rattle.cube_ledger.proofs.LedgerLaws.{all_facts-exchange, fits-out}
 use Rattle.cube_engine.proofs.builder.Builder.take.Goals as goal
 
 pub remove-requires : goal.remove-requires

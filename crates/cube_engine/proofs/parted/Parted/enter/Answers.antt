@@ -1,9 +1,9 @@
 use Rattle.std.proofs.Common.{◌≤◌, length}
 use Rattle.std.proofs.lemmas.Result.{on_ok_weaker}
 use Rattle.cube_engine.proofs.PartedLaws.{AreBehind-refused}
-use Rattle.cube_engine.proofs.RulingLaws.{AtSource-Obeys, AtSource-put, AtSource-take}
-use Rattle.cube_engine.proofs.StandLaws.{LedgerStandsAt-Enters}
-use Rattle.cube_engine.specs.declared.ruling.Ruling.TheVariants.{Refuse, Put, Take}
+use Rattle.cube_ledger.proofs.RulingLaws.{AtSource-Obeys, AtSource-put, AtSource-take}
+use Rattle.cube_ledger.proofs.StandLaws.{LedgerStandsAt-Enters}
+use Rattle.cube_ledger.specs.declared.ruling.Ruling.TheVariants.{Refuse, Put, Take}
 use Rattle.cube_engine.proofs.parted.Parted.enter.Goals as goal
 
 pub invariant_of-self : goal.invariant_of-self

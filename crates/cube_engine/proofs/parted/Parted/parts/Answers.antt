@@ -1,5 +1,6 @@
 use Rattle.std.proofs.Common.{◌≡◌, length, rules}
-use Rattle.cube_engine.proofs.PartedLaws.{ArePartsWith-behind, none-of}
+use Rattle.std.proofs.lemmas.List.{nil_from_length}
+use Rattle.cube_engine.proofs.PartedLaws.{ArePartsWith-behind}
 use Rattle.cube_engine.proofs.parted.Parted.parts.Goals as goal
 
 pub returns-clause-parts : goal.returns-clause-parts
@@ -9,5 +10,5 @@ returns-clause-parts c =
     let none_come : length come ≡ 0 = search rules in
     let none_gone : length gone ≡ 0 = search rules in
     rw (← c.self.view_is, c.as_slice.ensures.value)
-    (ArePartsWith-behind c.self.inside.ledger c.self.inside.parts.items come gone (none-of come none_come)
-    (none-of gone none_gone) (c.self.invariant c.if-self.false))
+    (ArePartsWith-behind c.self.inside.ledger c.self.inside.parts.items come gone (nil_from_length come none_come)
+    (nil_from_length gone none_gone) (c.self.invariant c.if-self.false))

@@ -1,6 +1,6 @@
 use Rattle.std.proofs.Common.{◌≡◌, ◌≤◌, ◌++◌, ◌∷◌, [], true, length, Some}
 use Rattle.cube_core.specs.Takes.{fits}
-use Rattle.cube_engine.specs.Ledger.{AtSource, Exchanges}
+use Rattle.cube_ledger.specs.Ledger.{AtSource, Exchanges}
 use Rattle.cube_engine.proofs.PartedLaws.{AreBehind-exchange, is_copy, neither}
 use Rattle.cube_engine.proofs.parted.Parted.put.Goals as goal
 

@@ -1,6 +1,6 @@
 use Rattle.std.proofs.Common.{◌≤◌, length, None, sym}
 use Rattle.std.proofs.lemmas.List.{append-nil}
-use Rattle.cube_engine.specs.Ledger.{AtSource, Exchanges}
+use Rattle.cube_ledger.specs.Ledger.{AtSource, Exchanges}
 use Rattle.cube_engine.proofs.PartedLaws.{AreBehind-exchange, neither}
 use Rattle.cube_engine.proofs.parted.Parted.take.Goals as goal
 

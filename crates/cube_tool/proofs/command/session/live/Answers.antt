@@ -8,19 +8,19 @@ returns-in_err-live-clause-err g c =
     let p = err_from_is_err_and c.from_residual.result c.from_residual.ensures.1 in
     rw (p.1, p.2) (refl, record { why = c.in_err-live.field-0.0; is = refl; explains = c.in_err-live.ensures.err })
 
-pub returns-in_err-serve-clause-err : goal.returns-in_err-serve-clause-err
-returns-in_err-serve-clause-err g c =
-    let p = err_from_is_err_and c.from_residual-in_err-serve.result c.from_residual-in_err-serve.ensures.1 in
+pub returns-in_err-serve_input-clause-err : goal.returns-in_err-serve_input-clause-err
+returns-in_err-serve_input-clause-err g c =
+    let p = err_from_is_err_and c.from_residual-in_err-serve_input.result c.from_residual-in_err-serve_input.ensures.1 in
     rw (p.1, p.2)
-    (OfFeeds-broken c.in_ok-live.live _ c.in_err-serve.field-0.0 _ _ c.in_ok-live.ensures.schema c.in_ok-live.ensures.ok
-    (rw c.new-records.ensures at c.in_err-serve.ensures.err))
+    (OfFeeds-broken c.in_ok-live.live _ c.in_err-serve_input.field-0.0 _ _ c.in_ok-live.ensures.schema
+    c.in_ok-live.ensures.ok c.in_err-serve_input.ensures.err)
 
 pub returns-clause-ok : goal.returns-clause-ok
 returns-clause-ok g c =
-    OfFeeds-served c.in_ok-live.live c.serve.new.live _ c.status_after.result _ _ c.in_ok-live.ensures.schema
+    OfFeeds-served c.in_ok-live.live c.serve_input.new.live _ c.status_after.result _ _ c.in_ok-live.ensures.schema
     c.in_ok-live.ensures.ok
     (rw (
-      c.serve.ensures.schema,
+      c.serve_input.ensures.schema,
       c.in_ok-live.ensures.schema,
     ) at c.ledger.ensures.live) (rw c.ledger.ensures.value at c.status_after.ensures)
-    (rw c.new-records.ensures at c.in_ok-serve.ensures.ok)
+    c.in_ok-serve_input.ensures.ok

@@ -1,5 +1,5 @@
 use Rattle.std.proofs.Common.{◌≡◌, ◌<◌, ◌+◌, ◌-◌, ℕ, get_or, length, ap, arith, rules, sym, ◌∙◌}
-use Rattle.cube_engine.specs.Ledger.{new_account}
+use Rattle.cube_ledger.specs.Ledger.{new_account}
 use Rattle.cube_tool.proofs.RefusalLaws.{status_after-none, status_after-some}
 use Rattle.cube_tool.proofs.command.status.status_after.Goals as goal
 

@@ -1,9 +1,0 @@
-use Rattle.std.proofs.lemmas.Result.{on_ok_weaker}
-use Rattle.cube_engine.proofs.StandLaws.{LedgerStandsAt-Enters}
-use Rattle.cube_engine.proofs.ledger.Ledger.apply.Goals as goal
-
-pub returns-clause-stands : goal.returns-clause-stands
-returns-clause-stands c =
-    on_ok_weaker c.enter.result
-    (λ at. LedgerStandsAt-Enters _ _ c.args.source c.args.item c.requires.first c.requires.last at)
-    c.enter.ensures.enters

@@ -1,0 +1,4 @@
+pub mod Book
+pub mod Ledger
+pub mod Build
+pub mod Taking
