@@ -81,7 +81,7 @@ impl Book {
     }
 
     /// The facts, in no order that is told.
-    pub(crate) fn facts(&self) -> Values<'_, Text, Fact>
+    pub fn facts(&self) -> Values<'_, Text, Fact>
         ensures { result ≡ facts_of self.now }
     {
         self.facts.values()

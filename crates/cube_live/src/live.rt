@@ -98,6 +98,7 @@ impl<'s> Live<'s> {
         let place = source as usize - 1;
         let number = self.numbers[place];
         if number == self.schema.max_records() {
+            drop(what);
             return Err(LiveFault::TooMany);
         }
         let number = number + 1;

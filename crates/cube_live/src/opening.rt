@@ -89,6 +89,7 @@ impl Opening {
     {
         let number = item.number;
         if number > self.most {
+            drop(item);
             return Err(AllocError);
         }
         self.ledger.apply(source, item)?;

@@ -1,7 +1,5 @@
-use Rattle.std.proofs.Common.{◌∙◌, ap, sym}
+use Rattle.std.proofs.Common.{◌∙◌, sym}
 use Rattle.csv.specs.Records.{fields_of}
-use Rattle.cube_core.specs.Query.{place_of}
-use Rattle.cube_live.specs.Request.{with_dimension}
 use Rattle.cube_live.proofs.RequestLaws.{at-found, at-no_cell}
 use Rattle.cube_live.proofs.parse.cell_and_dimension.Goals as goal
 
