@@ -1,6 +1,5 @@
 //! What a ledger keeps of one source.
 ghost use Rattle.std.specs.Prelude.{◌≡◌, Ok, None, Some, true, IfOk, IfErr, OnOk, OnErr, IfNone, is_some};
-ghost use Rattle.std.specs.Option.{option_map};
 ghost use Rattle.cube_core.specs.Life.{id_of};
 ghost use Rattle.cube_core.specs.Refusals.{code_by_presence};
 ghost use Rattle.cube_core.specs.Takes.{takes};
@@ -31,7 +30,7 @@ impl Model for Account {
 
 impl Account {
     /// The account of a source of which no item came; it takes no memory.
-    pub fn new(alloc: Global, key: HashKey) -> Account
+    pub(crate) fn new(alloc: Global, key: HashKey) -> Account
         ensures { result ≡ new_account }
     {
         Account {
@@ -42,7 +41,7 @@ impl Account {
 
     /// What an item comes to whose change, where it says one, the schema takes: its refusal, a fact that is put under
     /// an id, or an id whose fact is taken out. The only error is want of memory, and only an amendment takes some.
-    pub fn rule(
+    pub(crate) fn rule(
         &self,
         alloc: Global,
         schema: &Schema,
@@ -119,7 +118,7 @@ impl Account {
     /// Takes an item whose change, where it says one, the schema takes: a refused one is noted with its code, and the
     /// change of any other is made in the book. Where memory is wanting, the account is as it was, and the item is
     /// given up.
-    pub fn enter(&mut self, schema: &Schema, item: Item) -> Result<(), AllocError>
+    pub(crate) fn enter(&mut self, schema: &Schema, item: Item) -> Result<(), AllocError>
         requires all_fit { AllFit schema.now (facts_of self.old.book) }
         requires taken { says_taken schema.now item.what ≡ true }
         ensures enters { OnOk result (Enters schema.now item self.old self.new) }
@@ -139,7 +138,7 @@ impl Account {
     }
 
     /// Notes a refused item; where memory is wanting, the account is as it was.
-    pub fn refuse(&mut self, number: u32, code: u8) -> Result<(), AllocError>
+    pub(crate) fn refuse(&mut self, number: u32, code: u8) -> Result<(), AllocError>
         ensures ok { OnOk result (self.new ≡ with_refusal self.old number code) }
         ensures err { OnErr result (self.new ≡ self.old) }
         ensures book { self.new.book ≡ self.old.book }
@@ -150,7 +149,7 @@ impl Account {
 
     /// Puts a fact under an id; the fact that was there comes out. Where memory is wanting, the account is as it was,
     /// and the fact comes back.
-    pub fn put(&mut self, id: Text, fact: Fact) -> Result<Option<Fact>, Fact>
+    pub(crate) fn put(&mut self, id: Text, fact: Fact) -> Result<Option<Fact>, Fact>
         ensures put { IfOk result (λ gone. Exchanges id gone (Some fact) self.old self.new) }
         ensures back { IfErr result (λ back. back ≡ fact) }
         ensures err { OnErr result (self.new ≡ self.old) }
@@ -159,17 +158,10 @@ impl Account {
     }
 
     /// Takes the fact under an id out, if there is one. It takes no memory.
-    pub fn take(&mut self, id: &Text) -> Option<Fact>
+    pub(crate) fn take(&mut self, id: &Text) -> Option<Fact>
         ensures { Exchanges id.now result None self.old self.new }
     {
         self.book.take(id)
-    }
-
-    /// The fact under an id, `None` where the id is absent.
-    pub fn get(&self, id: &Text) -> Option<&Fact>
-        ensures { option_map (λ fact. fact.now) result ≡ fact_at self.now.book id.now }
-    {
-        self.book.get(id)
     }
 
     /// The facts of the source, each under its id.
