@@ -109,6 +109,8 @@ class Private:
         with self.connected() as cursor:
             cursor.execute(facts)
             cursor.copy_expert(rf"COPY ({sql.cube(like)}) TO STDOUT WITH (FORMAT csv, NULL '\N')", out)
+            # (the server would drop it when it has seen that the connection is closed, which may be later)
+            cursor.execute("DROP VIEW facts")
         out.seek(0)
         return header + out.read().decode()
 
