@@ -46,9 +46,7 @@ pub fn answer<T: Threads + Sync, P: Reporter, W: Write>(
         result (W.contents out.old) (W.contents out.new) }
 {
     match question {
-        Question::Cube => {
-            told(write_cube(rt, alloc, schema, built, threads, reporter, out))
-        }
+        Question::Cube => { told(write_cube(rt, alloc, schema, built, threads, reporter, out)) }
         Question::Slice { pattern } => told(write_slice(alloc, schema, built, pattern, out)),
         Question::Drill { key, dimension } => {
             write_drill(alloc, schema, built, key, *dimension, out)

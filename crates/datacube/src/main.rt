@@ -71,13 +71,18 @@ fn run<T: Threads + Wait + Clock + Sync>(
         Ok(words) => words,
         Err(error) => {
             let refusal = unreadable_words(alloc, &error);
-            return Ok(answer_words(alloc, &refusal, &mut rt.stdout(), &mut rt.stderr())?);
+            return told(answer_words(alloc, &refusal, &mut rt.stdout(), &mut rt.stderr()));
         }
     };
     match read_words(alloc, words.as_slice()) {
         Ok(request) => watched(rt, threads, &request),
-        Err(answer) => Ok(answer_words(alloc, &answer, &mut rt.stdout(), &mut rt.stderr())?),
+        Err(answer) => told(answer_words(alloc, &answer, &mut rt.stdout(), &mut rt.stderr())),
     }
+}
+
+/// How a request without a store ended, as one that may have a store.
+fn told(ended: Result<Status, Failure>) -> Result<Status, StoredFailure> {
+    Ok(ended?)
 }
 
 /// The words of the command line, of which the first is the program's name.
@@ -148,10 +153,10 @@ fn obey<T: Threads + Wait + Clock + Sync>(
     requires { IsInBounds request.now }
 {
     let Some(shard) = shard_of(request) else {
-        return Ok(refuse_shard(rt)?);
+        return told(refuse_shard(rt));
     };
     if has_clash(request) {
-        return Ok(refuse_clash(rt)?);
+        return told(refuse_clash(rt));
     }
     obey_words(rt, threads, request, shard, progress)
 }
@@ -167,11 +172,10 @@ fn obey_words<T: Threads + Wait + Clock + Sync>(
     requires bounds { IsInBounds request.now }
     requires shard { IsShard shard }
 {
-    let alloc = rt.alloc();
     match request {
-        Request::Sample => Ok(print_sample(rt)?),
-        Request::Check { schema } => Ok(check(alloc, open_schema(rt, schema)?, &mut rt.stdout())?),
-        Request::Explain { code } => Ok(explain_code(rt, *code)?),
+        Request::Sample => told(print_sample(rt)),
+        Request::Check { schema } => told(check_file(rt, schema)),
+        Request::Explain { code } => told(explain_code(rt, *code)),
         Request::Print { run, partial } => {
             let is_partial = *partial;
             answer(
@@ -204,13 +208,18 @@ fn obey_words<T: Threads + Wait + Clock + Sync>(
             answer(rt, threads, run, shard, asked, progress)
         }
         Request::Live { live } => serve(rt, threads, live, shard, progress),
-        Request::Merge { merge } => Ok(merge_files(rt, merge, progress)?),
+        Request::Merge { merge } => told(merge_files(rt, merge, progress)),
     }
 }
 
 /// Prints the cube of standard input under the sample schema.
 fn print_sample(rt: &HostRuntime) -> Result<Status, Failure> {
     run_sample(rt.alloc(), drawn_key(rt)?, rt.stdin(), &mut rt.stdout())
+}
+
+/// Checks the schema file at a path.
+fn check_file(rt: &HostRuntime, path: &str) -> Result<Status, Failure> {
+    check(rt.alloc(), open_schema(rt, path)?, &mut rt.stdout())
 }
 
 /// A key of the run's own, under which ids and texts are hashed.
@@ -288,7 +297,7 @@ fn answer<T: Threads + Wait + Clock + Sync>(
     let schema = schema_of(rt, words.schema, &words.feeds, 1, shard)?;
     match words.store {
         Some(path) => ask_kept(rt, threads, words, path, &schema, asked, progress),
-        None => Ok(answer_fed(rt, threads, words, &schema, asked, progress)?),
+        None => told(answer_fed(rt, threads, words, &schema, asked, progress)),
     }
 }
 
@@ -422,7 +431,7 @@ fn serve<T: Threads + Wait + Clock + Sync>(
     let schema = schema_of(rt, words.schema, &words.feeds, 0, shard)?;
     match words.store {
         Some(path) => serve_kept(rt, threads, words, path, &schema, progress),
-        None => Ok(serve_fed(rt, threads, words, &schema, progress)?),
+        None => told(serve_fed(rt, threads, words, &schema, progress)),
     }
 }
 
