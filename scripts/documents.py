@@ -1,10 +1,11 @@
 #!/usr/bin/env python3
-"""Makes what documents and completions say of codes and of the command line from what the program says, and what
-docs/PROMISES.md says of calls from the code.
+"""Makes what documents and completions say of codes and of the command line from what the program says, what
+docs/PROMISES.md says of calls from the code, and what docs/ARCHITECTURE.md says that crates stand on from crates.txt.
 
     scripts/documents.py [--program PATH]            writes docs/datacube.1, the tables of codes in docs/FORMATS.md, the
-                                                     completions for shells (completions/), and the tables of calls in
-                                                     docs/PROMISES.md (scripts/promises.py)
+                                                     completions for shells (completions/), the tables of calls in
+                                                     docs/PROMISES.md (scripts/promises.py), and the last column of the
+                                                     crates in docs/ARCHITECTURE.md
     scripts/documents.py --check [--program PATH]    says what of them isn't what the program or the code says; the last
                                                      line is `N passed, M failed`, and it fails where something isn't
 
@@ -23,9 +24,13 @@ import programs
 import promises
 
 ROOT = os.path.dirname(os.path.dirname(os.path.realpath(__file__)))
+ARCHITECTURE = f"{ROOT}/docs/ARCHITECTURE.md"
 FORMATS = f"{ROOT}/docs/FORMATS.md"
 PROMISES = f"{ROOT}/docs/PROMISES.md"
 MANUAL = f"{ROOT}/docs/datacube.1"
+# a line of crates.txt: a crate, and those that it stands on; a crate's row in docs/ARCHITECTURE.md
+CRATE = re.compile(r"^(\w+)[^:#\n]*:(.*)$", re.MULTILINE)
+ROW = re.compile(r"^(\| `(\w+)` \| [^|]* \| )[^|]* \|$", re.MULTILINE)
 
 
 class Program:
@@ -70,6 +75,16 @@ def formats_with(notes, text):
     if missing:
         sys.exit(f"docs/FORMATS.md has no table of the codes about: {', '.join(missing)}")
     return pattern.sub(lambda it: it[1] + table_of(notes, it[2]) + it[3], text)
+
+
+def architecture_with(text):
+    """docs/ARCHITECTURE.md with what crates.txt says that each crate stands on."""
+    below = {name: names.split() for name, names in CRATE.findall(text_at(f"{ROOT}/crates.txt"))}
+    lacking = below.keys() - {row[1] for row in ROW.findall(text)}
+    if lacking:
+        sys.exit(f"docs/ARCHITECTURE.md has no row for {', '.join(sorted(lacking))}")
+    named = lambda name: ", ".join(f"`{it}`" for it in below[name]) or "the standard library alone"
+    return ROW.sub(lambda row: f"{row[1]}{named(row[2])} |" if row[2] in below else row[0], text)
 
 
 def roff(text):
@@ -117,6 +132,7 @@ def wanted(program):
         list(dict.fromkeys(note["code"] for note in notes)),
     )
     made = {
+        ARCHITECTURE: architecture_with(text_at(ARCHITECTURE)),
         FORMATS: formats_with(notes, text_at(FORMATS)),
         PROMISES: promises.page_with(text_at(PROMISES)),
         MANUAL: manual_of(program, notes),
