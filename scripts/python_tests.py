@@ -53,15 +53,20 @@ def unittests(env):
     return count - bad - skipped, bad or int(ran.returncode != 0)
 
 
-def types():
-    """Whether mypy is content with the package, or None where there is no mypy."""
+def begin_types():
+    """mypy over the package, begun, or None where there is no mypy."""
     if not shutil.which("mypy"):
         print("left out, since there is no mypy: the types of the package")
         return None
-    ran = subprocess.run(["mypy", "--cache-dir", os.devnull], cwd=f"{ROOT}/python", stdout=subprocess.PIPE, stderr=subprocess.STDOUT, text=True)
-    if ran.returncode:
-        print(ran.stdout)
-    return ran.returncode == 0
+    return subprocess.Popen(["mypy", "--cache-dir", os.devnull], cwd=f"{ROOT}/python", stdout=subprocess.PIPE, stderr=subprocess.STDOUT, text=True)
+
+
+def has_right_types(mypy):
+    """Whether mypy is content with the package."""
+    said, _ = mypy.communicate()
+    if mypy.returncode:
+        print(said)
+    return mypy.returncode == 0
 
 
 def main():
@@ -73,9 +78,11 @@ def main():
     if given.long:
         env["DATACUBE_LONG"] = "1"
     python = next((it for it in (DEBIANS, sys.executable) if has_pytest(it)), None)
+    mypy = begin_types()
     passed, failed = pytest(python, env) if python else unittests(env)
-    are_right = types()
-    passed, failed = passed + (are_right is True), failed + (are_right is False)
+    if mypy:
+        is_right = has_right_types(mypy)
+        passed, failed = passed + is_right, failed + (not is_right)
     print(f"{passed} passed, {failed} failed")
     return 1 if failed else 0
 
