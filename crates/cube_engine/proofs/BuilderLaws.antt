@@ -1,11 +1,11 @@
 -- A cube that follows the books: facts more, facts less, and facts in another order.
 use Rattle.std.proofs.Common.{◌≡◌, ◌≤◌, ◌-◌, ℕ, true, List, [], ◌∷◌, ◌++◌, length, replicate, sym, ap, ◌∙◌, subst}
 use Rattle.std.proofs.Common.{arith}
-use Rattle.std.specs.Prelude.{Option, Some, None, IfSome, Result, Ok, Err, OnOk, OnErr}
+use Rattle.std.specs.Prelude.{Option, Some, IfSome, Result, Ok, Err, OnOk, OnErr}
 use Rattle.std.specs.Option.{option_to_list}
 use Rattle.std.specs.List.Sorted.{IsPermutation}
 use Rattle.std.proofs.lemmas.List.Elements.{All-nil}
-use Rattle.std.proofs.lemmas.List.Sorted.{All-permutation, IsPermutation-refl, length_permutation}
+use Rattle.std.proofs.lemmas.List.Sorted.{All-permutation, length_permutation}
 use Rattle.cube_core.specs.Arrival.{Arrivals}
 use Rattle.cube_core.specs.Layout.{Layout}
 use Rattle.cube_core.specs.Takes.{fits}
@@ -13,9 +13,8 @@ use Rattle.cube_core.specs.declared.change.Item.{Item}
 use Rattle.cube_core.specs.declared.fact.Fact.{Fact}
 use Rattle.cube_cells.specs.Cube.{Lattice, AddsFact, HoldsFact, IsCubeOf, IsNewLattice, SameCells, SameSets, TakesFact}
 use Rattle.cube_cells.proofs.Cells.CubeLaws.{IsCubeOf-permutation, SameCells-IsCubeOf, HoldsFact-IsCubeOf}
-use Rattle.cube_ledger.specs.Book.{facts_of}
 use Rattle.cube_engine.specs.Builder.{BuilderView, HasFacts, IsBuilder, StandsAt}
-use Rattle.cube_ledger.specs.Ledger.{AccountView, AllFit, AtSource, Enters, Exchanges, LedgerView, account_of}
+use Rattle.cube_ledger.specs.Ledger.{AccountView, AllFit, AtSource, Enters, Exchanges, LedgerView}
 use Rattle.cube_ledger.specs.Ledger.{all_facts, new_account, with_refusal}
 use Rattle.cube_ledger.proofs.LedgerLaws.{AllFit-exchange, All-append_right, all_facts-exchange, all_facts-new}
 use Rattle.cube_ledger.proofs.LedgerLaws.{all_facts-refuse}

@@ -1,5 +1,5 @@
 //! The builder of whole feeds, one source after another.
-ghost use Rattle.std.specs.Prelude.{◌≡◌, ◌≤◌, map, vec_len, IfOk, IfErr};
+ghost use Rattle.std.specs.Prelude.{◌≤◌, map, vec_len, IfOk, IfErr};
 ghost use Rattle.cube_engine.specs.Build.{BuildsWhole};
 ghost use Rattle.cube_ledger.specs.Build.{ExplainsBuild};
 

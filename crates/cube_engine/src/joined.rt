@@ -1,5 +1,5 @@
 //! The cells and the rows of all parts of a cube, in key order: what each part has, one part's after the other's, sorted.
-ghost use Rattle.std.specs.Prelude.{◌≡◌, ◌<◌, true, Bool, List, IfOk, OnOk, length};
+ghost use Rattle.std.specs.Prelude.{◌≡◌, ◌<◌, Bool, List, IfOk, OnOk, length};
 ghost use Rattle.std.specs.List.Sorted.{IsPermutation, IsSortedBy};
 ghost use Rattle.std.specs.Ordering.{is_lt};
 ghost use Rattle.std.specs.Thread.{IsSync};

@@ -5,7 +5,7 @@ ghost use Rattle.cube_core.specs.Arrival.{Arrivals};
 ghost use Rattle.cube_core.specs.Takes.{fits};
 ghost use Rattle.cube_core.specs.declared.fact.Fact.{Fact as TheFact};
 ghost use Rattle.cube_engine.specs.Builder.{GainsFacts, HasFacts};
-ghost use Rattle.cube_ledger.specs.Ledger.{AllFit, AtSource, Enters, Exchanges, LedgerStandsAt, account_of, all_facts};
+ghost use Rattle.cube_ledger.specs.Ledger.{AllFit, AtSource, Enters, Exchanges, LedgerStandsAt, all_facts};
 ghost use Rattle.cube_engine.specs.Parted.{AllFill, AllSettle, ArePartsOver, ArePartsWith, Fills, LosesFacts, MaySettle, Notes, Settles};
 ghost use Rattle.cube_engine.specs.declared.parted.Part.{Part as ThePart};
 

@@ -1,5 +1,5 @@
 //! Feeding all sources to all that takes items.
-ghost use Rattle.std.specs.Prelude.{◌≡◌, ◌≤◌, map, vec_len, IfOk, IfErr, OnOk};
+ghost use Rattle.std.specs.Prelude.{◌≤◌, map, vec_len, IfOk, IfErr, OnOk};
 ghost use Rattle.std.specs.List.{All};
 ghost use Rattle.cube_core.specs.Run.{AreGood};
 ghost use Rattle.cube_feeders.specs.FeedingAll.{IsNew, TakeAll, ExplainsFeeding};

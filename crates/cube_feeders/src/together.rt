@@ -1,5 +1,5 @@
 //! All threads of a run, in one scope.
-ghost use Rattle.std.specs.Prelude.{◌≡◌, ◌≤◌, [], vec_len, OnOk};
+ghost use Rattle.std.specs.Prelude.{◌≤◌, vec_len, OnOk};
 ghost use Rattle.std.specs.List.{All, AllZip};
 ghost use Rattle.cube_handover.specs.Feeding.{Feeds};
 ghost use Rattle.cube_feeders.specs.Starting.{MayStart, IsReady, HasGathered};

@@ -1,5 +1,5 @@
 //! The links from the feeders to the builders, made before any thread starts.
-ghost use Rattle.std.specs.Prelude.{◌≡◌, ◌≤◌, [], length, map, vec_len, IfOk, OnOk};
+ghost use Rattle.std.specs.Prelude.{◌≡◌, ◌≤◌, [], map, vec_len, IfOk, OnOk};
 ghost use Rattle.std.specs.List.{All};
 ghost use Rattle.cube_feed.specs.Feed.{rest_of_feed};
 ghost use Rattle.cube_feeders.specs.Wiring.{Grows, Connects, AreLinked};

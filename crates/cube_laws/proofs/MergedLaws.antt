@@ -1,6 +1,6 @@
 -- The merged rows of the cubes of parts of the facts are the rows of the cube of all facts.
 use Rattle.std.proofs.Common.{◌≡◌, ℕ, ◌≤◌, ◌||◌, Bool, true, false, filter, List, [], ◌∷◌, ◌++◌, length, map, flat_map}
-use Rattle.std.proofs.Common.{Contains, IsTrue, ◌↔◌, IsPermutation, is_eq, Less, Equal, Greater, Ordering, refl, sym}
+use Rattle.std.proofs.Common.{Contains, IsTrue, ◌↔◌, IsPermutation, is_eq, Less, Equal, refl, sym}
 use Rattle.std.proofs.Common.{ap, ap₂, ◌∙◌, subst, inl, inr, arith}
 use Rattle.std.specs.List.{AllByRecursion, AllZip, list_any}
 use Rattle.std.specs.List.Sorted.{IsStrictlySortedBy}

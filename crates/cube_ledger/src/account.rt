@@ -1,5 +1,5 @@
 //! What a ledger keeps of one source.
-ghost use Rattle.std.specs.Prelude.{◌≡◌, Ok, None, Some, true, IfOk, IfErr, OnOk, OnErr, IfNone, is_some};
+ghost use Rattle.std.specs.Prelude.{◌≡◌, Ok, None, Some, true, IfOk, IfErr, OnOk, OnErr, is_some};
 ghost use Rattle.cube_core.specs.Life.{id_of};
 ghost use Rattle.cube_core.specs.Refusals.{code_by_presence};
 ghost use Rattle.cube_core.specs.Takes.{takes};

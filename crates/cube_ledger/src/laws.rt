@@ -1,5 +1,5 @@
 //! What standing at an arrival list says of a ledger's facts.
-ghost use Rattle.std.specs.Prelude.{◌≡◌, length};
+ghost use Rattle.std.specs.Prelude.{length};
 ghost use Rattle.cube_core.specs.Arrival.{Arrivals, of_sources};
 ghost use Rattle.cube_core.specs.Sources.{SurviveTogether};
 ghost use Rattle.cube_ledger.specs.Ledger.{LedgerView, LedgerStandsAt, all_facts};

@@ -1,6 +1,5 @@
 //! The books and the refusals of all sources.
-ghost use Rattle.std.specs.Prelude.{◌≡◌, ◌≤◌, ◌+◌, ◌++◌, ◌∷◌, [], None, Some, true, length, map, IfOk, IfErr, OnOk, OnErr, IfSome, replicate};
-ghost use Rattle.std.specs.Option.{option_map};
+ghost use Rattle.std.specs.Prelude.{◌≡◌, ◌≤◌, ◌+◌, ◌++◌, ◌∷◌, [], None, Some, true, length, map, IfOk, IfErr, OnOk, OnErr, replicate};
 ghost use Rattle.cube_core.specs.Arrival.{Arrivals};
 ghost use Rattle.cube_core.specs.Takes.{fits};
 ghost use Rattle.cube_ledger.specs.Book.{facts_of};

@@ -16,7 +16,7 @@ use Rattle.cube_core.specs.declared.aggregate.Agg.{Agg}
 use Rattle.cube_core.specs.declared.key.Row.{Row}
 use Rattle.cube_core.proofs.ListLaws.{AllZip-length}
 use Rattle.cube_merge.specs.Lawful.{IsLawfulRow}
-use Rattle.cube_merge.specs.Merging.{InputView, AreInKeyOrder, AreOfSchema, nothing_left, IsMergeOf, IsLeastSoFar}
+use Rattle.cube_merge.specs.Merging.{InputView, nothing_left, IsMergeOf, IsLeastSoFar}
 use Rattle.cube_merge.specs.Merging.{IsNotBelow, Gave, IsEnded, TookHeader, TookHeaders, AllMove, IsMerging}
 use Rattle.cube_merge.specs.Merging.{MergesInputs}
 use Rattle.cube_merge.specs.Merging.{IsToldTextOf}

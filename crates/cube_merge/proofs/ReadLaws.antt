@@ -1,5 +1,5 @@
 -- What is left of a text that was at its end, and what a row that is read last lacks.
-use Rattle.std.proofs.Common.{◌≡◌, ◌<◌, [], ◌∷◌, ℕ, List, Option, Some, None, IfSome, length, refl, sym, ap, ◌∙◌, arith}
+use Rattle.std.proofs.Common.{◌≡◌, ◌<◌, [], ℕ, List, Option, Some, None, IfSome, length, sym, ap, ◌∙◌, arith}
 use Rattle.std.proofs.Math.Bool.{and-false}
 use Rattle.std.specs.Prelude.{◌==◌, ◌&&◌, false}
 use Rattle.std.specs.List.{list_all}

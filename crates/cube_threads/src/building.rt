@@ -1,5 +1,5 @@
 //! The build: builders of the feeds of all sources, in threads.
-ghost use Rattle.std.specs.Prelude.{◌≡◌, ◌≤◌, [], map, option_map, vec_len, IfOk, IfErr, OnOk, Some};
+ghost use Rattle.std.specs.Prelude.{◌≡◌, ◌≤◌, [], map, vec_len, IfOk, IfErr, OnOk};
 ghost use Rattle.cube_feeders.specs.FeedingAll.{ExplainsFeeding};
 ghost use Rattle.cube_threads.specs.Parts.{AreAllMade, BuildsParts, schema_of_run};
 ghost use Rattle.cube_threads.specs.Shares.{TakenInParts};

@@ -1,5 +1,5 @@
 //! Making the builders of all parts, side by side.
-ghost use Rattle.std.specs.Prelude.{◌≡◌, ◌≤◌, ◌<◌, ◌++◌, ◌∷◌, [], ℕ, map, option_map, slice_index_or, vec_len, IfOk, IfSome, OnOk, Option, Some};
+ghost use Rattle.std.specs.Prelude.{◌≡◌, ◌<◌, ◌++◌, ◌∷◌, [], ℕ, map, option_map, slice_index_or, vec_len, IfOk, IfSome, OnOk, Option, Some};
 ghost use Rattle.cube_threads.specs.Drafts.{IsMadePart};
 
 use crate::draft::Draft;

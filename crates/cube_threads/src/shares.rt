@@ -1,5 +1,5 @@
 //! The feeds of all sources taken in shares: consecutive sources, each share into a ledger of its own.
-ghost use Rattle.std.specs.Prelude.{◌≡◌, ◌≤◌, [], length, map, flat_map, sum_by, vec_len, IfOk, IfErr};
+ghost use Rattle.std.specs.Prelude.{◌≡◌, ◌≤◌, length, map, sum_by, vec_len, IfOk, IfErr};
 ghost use Rattle.std.specs.List.{All};
 ghost use Rattle.cube_feeders.specs.FeedingAll.{ExplainsFeeding};
 ghost use Rattle.cube_threads.specs.Drafts.{IsDrafted};

@@ -3,7 +3,6 @@ use Rattle.std.proofs.Common.{subst}
 use Rattle.std.proofs.KnownBytes.{Appends-nil, Appends-trans}
 use Rattle.std.proofs.lemmas.Result.{err_from_is_err_and}
 use Rattle.std.specs.Io.KnownBytes.{Appends}
-use Rattle.cube_core.specs.Text.{text_of_rows}
 use Rattle.cube_merge.specs.Merging.{PutsNext}
 use Rattle.cube_merge.specs.declared.fault.MergeFault.TheVariants.{Memory}
 use Rattle.cube_merge.proofs.CubesLaws.{text_of_rows-more, text_of_rows-push}
