@@ -157,13 +157,19 @@ def quick_parts(program):
     return parts
 
 
+def long_parts(program):
+    """The parts that need no kit, but a database and a browser."""
+    return [
+        ("the same question in SQL", ["scripts/sql.py", "--program", program]),
+        ("the page in a browser", ["scripts/explorer.sh"]),
+    ]
+
+
 def parts_of_proved(program):
-    """The parts that run programs which the proofs left, and those that take other packages."""
+    """The parts that run programs which the proofs left."""
     parts = [
         ("cases of the library", ["scripts/library_cases.py"]),
         ("cases of the benchmarks", ["scripts/cases.py", "--folder", "cases/bench", "--program", "crates/bench/out/bench"]),
-        ("the same question in SQL", ["scripts/sql.py", "--program", program]),
-        ("the page in a browser", ["scripts/explorer.sh"]),
     ]
     if shutil.which("cc"):
         parts.append(("calls of the library with memory refused", ["scripts/hostile.sh", "--library", "--program", program]))
@@ -231,7 +237,7 @@ def main():
     program = programs.found()
     if program:
         print(f"the program that is run: {os.path.relpath(program, ROOT)}", flush=True)
-        tally.run(quick_parts(program))
+        tally.run(quick_parts(program) + ([] if given.quick else long_parts(program)))
     else:
         tally.note(False, "there is a program to run the cases on")
     if not given.quick:
