@@ -4,7 +4,7 @@ programs that the proofs left. Parts that need no proof run side by side.
     scripts/test.sh [--quick | --anew]
 
 The program that the first parts run is one that was built here from these very sources, else the released one. The last
-line is `N passed, M failed` over all parts; before it stands a table of the seconds that each part took.
+line is `N passed, M failed` over all parts; before it stands a table of the seconds that each part took, and all of them.
 """
 import argparse
 import collections
@@ -233,7 +233,7 @@ def main():
     parser.add_argument("--quick", action="store_true")
     parser.add_argument("--anew", action="store_true")
     given = parser.parse_args()
-    tally = Tally()
+    start, tally = time.monotonic(), Tally()
     program = programs.found()
     if program:
         print(f"the program that is run: {os.path.relpath(program, ROOT)}", flush=True)
@@ -247,6 +247,7 @@ def main():
     print("== seconds of the clock, and of processors")
     for name, clock, spent in tally.rows:
         print(f"{clock:8.0f} {spent:8.0f}  {name}")
+    print(f"{time.monotonic() - start:8.0f} {sum(os.times()[:4]):8.0f}  everything")
     print(f"{tally.passed} passed, {tally.failed} failed")
     return 1 if tally.failed or not tally.passed else 0
 

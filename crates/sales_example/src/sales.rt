@@ -1,10 +1,10 @@
 //! The sales of a shop, and their cube.
-ghost use Rattle.std.specs.Prelude.{◌≡◌, [], IfOk, OnOk, length, option_map};
+ghost use Rattle.std.specs.Prelude.{◌≡◌, ◌<◌, ◌+◌, ◌^◌, [], IfOk, IfSome, OnOk, length, option_map};
 ghost use Rattle.cube_library.specs.Builder.{StandsAt};
 ghost use Rattle.cube_library.specs.Ledger.{account_of};
 ghost use Rattle.sales_example.specs.Sales.{TakesSale, sale};
 
-use anyhow::{Result, ensure};
+use anyhow::{Result, bail};
 use cube_library::{Builder, Change, Cube, Fact, Item, Refusal, Schema, Text};
 use std::alloc::{AllocError, Global};
 
@@ -81,15 +81,25 @@ impl Sales {
     fn take(&mut self, change: Change) -> Result<()>
         ensures { OnOk result (TakesSale self.new.changes change self.old.builder self.new.builder) }
     {
-        ensure!(self.changes < u32::MAX, "too many changes");
-        ensure!(self.builder.facts() < u64::MAX, "too many facts");
-        self.changes += 1;
-        let item = Item {
-            number: self.changes,
-            what: Ok(change),
+        let Some(number) = self.next_number() else {
+            drop(change);
+            bail!("too many changes, or too many facts");
         };
-        self.builder.apply(SHOP, item)?;
+        self.changes = number;
+        let what = Ok(change);
+        self.builder.apply(SHOP, Item { number, what })?;
         Ok(())
+    }
+
+    // The number of the next change; none where no change can be numbered, or no fact counted.
+    fn next_number(&self) -> Option<u32>
+        ensures number { IfSome result (λ number. self.now.changes + 1 ≡ number) }
+        ensures room { IfSome result (λ number. self.now.builder.cube.facts + 1 < 2 ^ 64) }
+    {
+        if self.builder.facts() == u64::MAX {
+            return None;
+        }
+        self.changes.checked_add(1)
     }
 
     /// The schema of the sales.
