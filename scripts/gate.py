@@ -1,5 +1,5 @@
-"""The gate: what takes seconds first, then the proofs, then whether the released program is what they give, and what runs
-programs that the proofs left. Parts that need no proof run side by side.
+"""The gate: what takes seconds first, then the proofs and the must-fail edits, then whether the released program is what the
+proofs give, and what runs programs that they left. Parts that need no proof run side by side.
 
     scripts/test.sh [--quick | --anew]
 
@@ -9,6 +9,7 @@ line is `N passed, M failed` over all parts; before it stands a table of the sec
 import argparse
 import collections
 import concurrent.futures
+import glob
 import os
 import re
 import shutil
@@ -19,6 +20,7 @@ import threading
 import time
 
 sys.dont_write_bytecode = True
+import edits
 import programs
 
 ROOT = os.path.dirname(os.path.dirname(os.path.realpath(__file__)))
@@ -80,23 +82,26 @@ def run_part(command):
         return Part(ran.returncode, said.readlines(), clock, use.ru_utime + use.ru_stime)
 
 
-def stream(command):
-    """Runs a command and shows what it says but for its last line as it comes; gives its status and that line."""
-    ran = subprocess.Popen(command, cwd=ROOT, stdin=subprocess.DEVNULL, stdout=subprocess.PIPE, stderr=subprocess.STDOUT, text=True, errors="replace")
+def stream(command, folder, see):
+    """Runs a command in a folder and shows what it says but for its last line as it comes; gives its status and that line.
+    Each line is handed on."""
+    ran = subprocess.Popen(command, cwd=folder, stdin=subprocess.DEVNULL, stdout=subprocess.PIPE, stderr=subprocess.STDOUT, text=True, errors="replace")
     last = ""
     for line in ran.stdout:
         if last:
             print(last, end="", flush=True)
         last = line
+        see(line)
     return ran.wait(), last.strip()
 
 
 class Sampler(threading.Thread):
-    """Looks twice a second which crates the prover is at, and adds up the seconds of each crate's proof, tests and edits."""
+    """Looks twice a second which crates of a copy the prover is at, and adds up the seconds of each crate's proof, tests and
+    edits."""
 
-    def __init__(self):
+    def __init__(self, copy):
         super().__init__(daemon=True)
-        self.ended = threading.Event()
+        self.copy, self.ended = copy, threading.Event()
         self.seen = {}
         self.spans = {}
 
@@ -115,7 +120,7 @@ class Sampler(threading.Thread):
             return
         crate = words[words.index(b"--crate-name") + 1].decode()
         folder = os.readlink(f"/proc/{process}/cwd")
-        if not folder.startswith(ROOT + "/") and "/rt-edit-" not in folder:
+        if not folder.startswith(self.copy + "/") and edits.ROOM not in folder:
             return
         with open(f"/proc/{process}/stat", encoding="utf-8") as file:
             fields = file.read().rpartition(")")[2].split()
@@ -126,7 +131,7 @@ class Sampler(threading.Thread):
         self.spans[key] = self.spans.get(key, (now, now))[0], now
 
     def kind(self, words, folder):
-        if "/rt-edit-" in folder:
+        if edits.ROOM in folder:
             return "edits"
         return "tests" if b"--test" in words else "building" if b"--crate-checked" in words else "proof"
 
@@ -177,22 +182,38 @@ def parts_of_proved(program):
 
 
 def prove(tally, is_anew):
-    """Proves everything from nothing, and records what was built."""
+    """Proves everything from nothing, tries each must-fail edit, and records what was built."""
     ci = ["rt", "ci"]
     if is_anew and "--anew" in subprocess.run(["rt", "help"], stdout=subprocess.PIPE, stderr=subprocess.STDOUT, text=True).stdout:
         ci.append("--anew")
-    print("== proofs, tests and edits of all crates; this takes the better part of an hour on four processors", flush=True)
-    sources, start = shell(f"sources_of {ROOT}"), time.time()
-    sampler = Sampler()
-    sampler.start()
+    print("== proofs and tests of all crates, and must-fail edits; this takes the better part of an hour on four processors", flush=True)
     os.environ.setdefault("RT_JOBS", shell("checks_side_by_side"))
-    tally.add(*stream(ci))
-    sampler.ended.set()
-    sampler.join()
-    rows = sampler.rows()
-    tally.rows += [("proofs, tests and edits", time.time() - start, sum(it[2] for it in rows)), *sorted(rows, key=lambda it: -it[2])]
-    if os.path.exists(f"{BUILT}/datacube") and shell(f"sources_of {ROOT}") == sources:
-        shell(f"record {BUILT} {sources}")
+    with tempfile.TemporaryDirectory(prefix="datacube-gate-") as copy:
+        edits.copy_sources(copy)
+        start, sampler, trials = time.time(), Sampler(copy), edits.Trials(copy, "must-fail", is_anew)
+        sampler.start()
+        tally.add(*stream(ci, copy, trials.see))
+        found = trials.results()
+        sampler.ended.set()
+        sampler.join()
+        rows = sampler.rows()
+        tally.rows += [("proofs, tests and edits", time.time() - start, sum(it[2] for it in rows)), *sorted(rows, key=lambda it: -it[2])]
+        take_programs(copy)
+    for it in found:
+        tally.note(it.is_refused, it.text)
+    print(f"{sum(it.is_kept for it in found)} of the {len(found)} must-fail edits were refused in an earlier run on this machine", flush=True)
+
+
+def take_programs(copy):
+    """Takes the programs that were built in a copy, and records of which sources `datacube` is."""
+    for path in glob.glob(f"{copy}/crates/*/out/*"):
+        name = os.path.basename(path)
+        if path == f"{copy}/crates/{name}/out/{name}" and os.path.isfile(path):
+            os.makedirs(f"{ROOT}/crates/{name}/out", exist_ok=True)
+            shutil.copy(path, f"{ROOT}/crates/{name}/out/{name}.new")
+            os.replace(f"{ROOT}/crates/{name}/out/{name}.new", f"{ROOT}/crates/{name}/out/{name}")
+    if os.path.exists(f"{copy}/crates/datacube/out/datacube"):
+        shell(f"record {BUILT} $(sources_of {copy})")
 
 
 def see_release(tally):

@@ -6,7 +6,7 @@ ghost use Rattle.cube_words.specs.CommandLine.{RunHasRoom, LiveHasRoom};
 use crate::watch::Watch;
 use crate::{Asked, open_feed, open_schema, question_of, session_threads, settings_of};
 use cube_core::Schema;
-use cube_journal::FeedNote;
+use cube_journal::{ChangeJournal, FeedNote};
 use cube_progress::{Counts, FeedReader, Output, Phase, Progress};
 use cube_store::{NoteFault, StoreFault, Unknown, Wary, close, note_of, open_files, open_path};
 use cube_tool::RunFault;
@@ -15,6 +15,7 @@ use cube_words::{LiveWords, RunWords};
 use sqlite_disk::{Disk, Start};
 use sqlite_std_file::FileFrom;
 use sqlite_store::FileStore;
+use sqlite_trees::store::Store;
 use std::fs::{self, File};
 use std::hash::{BuildHasher, RandomState};
 use std::io::{Seek, Stderr};
@@ -85,11 +86,11 @@ fn serve_from<T: Threads + Wait + Clock + Sync, S: Start>(
 {
     let noted = noted_feeds(rt, words.schema, &words.feeds, progress.counts())?;
     let feeds = noted.before(open_store(rt, place.path, place.start)?);
-    serve_over(rt, threads, words, schema, feeds, progress)
+    serve_and_close(rt, threads, words, schema, feeds, progress)
 }
 
-/// The same, over the feeds and the store that were opened.
-fn serve_over<T: Threads + Wait + Clock + Sync, D: Disk + Drop>(
+/// The same, over the feeds and the store that were opened. The store is closed.
+fn serve_and_close<T: Threads + Wait + Clock + Sync, D: Disk + Drop>(
     rt: &HostRuntime,
     threads: &T,
     words: &LiveWords,
@@ -100,14 +101,7 @@ fn serve_over<T: Threads + Wait + Clock + Sync, D: Disk + Drop>(
     requires room { LiveHasRoom words.now }
     requires feeds { vec_len feeds.readers ≤ 64 }
 {
-    let wanted = session_threads(threads, words.threads);
-    let settings = settings_of(threads, words.ring, 1, wanted);
-    progress.begin(Phase::Reading {
-        feeds: feeds.readers.len(),
-    });
-    let watch = Watch { progress };
-    let (alloc, input, out) = (rt.alloc(), rt.stdin(), &mut rt.stdout());
-    match live_stored(threads, alloc, schema, feeds, &settings, &watch, input, out) {
+    match serve_over(rt, threads, words, schema, feeds, progress) {
         Ok((status, journal)) => {
             close(journal)?;
             Ok(status)
@@ -117,6 +111,28 @@ fn serve_over<T: Threads + Wait + Clock + Sync, D: Disk + Drop>(
             Err(failure)
         }
     }
+}
+
+/// The same, over a store of any kind, which is given back.
+fn serve_over<T: Threads + Wait + Clock + Sync, S: Store>(
+    rt: &HostRuntime,
+    threads: &T,
+    words: &LiveWords,
+    schema: &Schema,
+    feeds: StoredFeeds<FeedReader<'_, File>, S>,
+    progress: &Progress<'_, T, Stderr>,
+) -> Result<(Status, ChangeJournal<S>), (StoredFailure, S)>
+    requires room { LiveHasRoom words.now }
+    requires feeds { vec_len feeds.readers ≤ 64 }
+{
+    let wanted = session_threads(threads, words.threads);
+    let settings = settings_of(threads, words.ring, 1, wanted);
+    progress.begin(Phase::Reading {
+        feeds: feeds.readers.len(),
+    });
+    let watch = Watch { progress };
+    let (alloc, input, out) = (rt.alloc(), rt.stdin(), &mut rt.stdout());
+    live_stored(threads, alloc, schema, feeds, &settings, &watch, input, out)
 }
 
 /// Answers a command with feeds over these and the changes in the store at a path. The log isn't copied into the file, so that
@@ -175,11 +191,11 @@ fn ask_from<T: Threads + Wait + Clock + Sync, S: Start>(
 {
     let noted = noted_feeds(rt, words.schema, &words.feeds, progress.counts())?;
     let feeds = noted.before(open_made_store(rt, place.path, place.start)?);
-    ask_over(rt, threads, words, schema, feeds, question, progress)
+    ask_and_close(rt, threads, words, schema, feeds, question, progress)
 }
 
-/// The same, over the feeds and the store that were opened.
-fn ask_over<T: Threads + Wait + Clock + Sync, D: Disk + Drop>(
+/// The same, over the feeds and the store that were opened. The store is closed.
+fn ask_and_close<T: Threads + Wait + Clock + Sync, D: Disk + Drop>(
     rt: &HostRuntime,
     threads: &T,
     words: &RunWords,
@@ -192,13 +208,35 @@ fn ask_over<T: Threads + Wait + Clock + Sync, D: Disk + Drop>(
     requires feeds { vec_len feeds.readers ≤ 64 }
     requires question { Fits schema.now question }
 {
+    let (ended, store) = match ask_over(rt, threads, words, schema, feeds, question, progress) {
+        Ok((status, store)) => (Ok(status), store),
+        Err((failure, store)) => (Err(failure), store),
+    };
+    drop(store.close());
+    ended
+}
+
+/// The same, over a store of any kind, which is given back.
+fn ask_over<T: Threads + Wait + Clock + Sync, S: Store>(
+    rt: &HostRuntime,
+    threads: &T,
+    words: &RunWords,
+    schema: &Schema,
+    feeds: StoredFeeds<FeedReader<'_, File>, S>,
+    question: Question,
+    progress: &Progress<'_, T, Stderr>,
+) -> Result<(Status, S), (StoredFailure, S)>
+    requires room { RunHasRoom words.now }
+    requires feeds { vec_len feeds.readers ≤ 64 }
+    requires question { Fits schema.now question }
+{
     let settings = settings_of(threads, words.ring, 1, words.threads);
     progress.begin(Phase::Reading {
         feeds: feeds.readers.len(),
     });
     let watch = Watch { progress };
     let out = &mut Output::new(rt.stdout(), progress);
-    let (ended, store) = match ask_stored(
+    ask_stored(
         threads,
         rt.alloc(),
         schema,
@@ -207,12 +245,7 @@ fn ask_over<T: Threads + Wait + Clock + Sync, D: Disk + Drop>(
         question,
         &watch,
         out,
-    ) {
-        Ok((status, store)) => (Ok(status), store),
-        Err((failure, store)) => (Err(failure), store),
-    };
-    drop(store.close());
-    ended
+    )
 }
 
 /// The store at a path, where a session has made one: no file is made, and an empty one isn't filled.

@@ -63,7 +63,9 @@ pub fn live_stored<
     };
     watcher.begins_serving();
     let mut records = RecordReader::new(alloc, input);
-    match serve_stored(rt, alloc, live, store, &notes, &mut records, out) {
+    let served = serve_stored(rt, alloc, live, store, &notes, &mut records, out);
+    drop(records);
+    match served {
         Ok((live, journal)) => Ok((status_after(live.ledger()), journal.into_journal())),
         Err((fault, store)) => Err((StoredFailure::from(fault), store)),
     }

@@ -1,0 +1,215 @@
+"""Tries must-fail edits: each puts a wrong body into a function, and the prover has to refuse it.
+
+A crate's edits (`crates/NAME/must-fail/`, in the form that the kit's `rt must-fail` reads) are tried in a copy of the
+repository in which the crate was proved and the libraries below it stand built. Each is tried on the functions that it
+changes and what those call: where the prover refuses one of them it refuses the crate, and what else the crate has was
+proved. (`rt ci` and `rt must-fail` try the same edits, but check the whole crate once more first, which takes as long as
+all its edits.) What was refused is kept on this machine, by a checksum of all that the try read.
+"""
+import collections
+import concurrent.futures
+import contextlib
+import functools
+import glob
+import hashlib
+import os
+import re
+import shutil
+import subprocess
+import tempfile
+
+ROOT = os.path.dirname(os.path.dirname(os.path.realpath(__file__)))
+PARTS = ("src", "specs", "proofs")
+# (what the folders of tries are named)
+ROOM = "/must-fail-"
+KEPT = os.path.expanduser(f"{os.environ.get('XDG_CACHE_HOME') or '~/.cache'}/datacube/edits")
+FUNCTION = re.compile(r"^( *)(?:pub(?:\(\w+\))? )?(?:const )?fn (\w+)", re.M)
+IMPL = re.compile(r"^impl\b([^{]*)\{", re.M)
+PROVED = re.compile(r"rt: (\w+) (?:proved|is kept:)")
+REFUSED = re.compile(r"^fn \S+: (?:not proved|no proof).*^only=\d+ proved=\d+$\s*\Z", re.M | re.S)
+
+# What came of an edit: whether the prover refused it, whether it did so in an earlier run, and what to say.
+Tried = collections.namedtuple("Tried", "is_refused is_kept text")
+
+
+class Trials:
+    """The tries of edits in a copy of the repository, each begun when its crate is proved there, beside what else runs."""
+
+    def __init__(self, copy, folder, is_anew=False, names=()):
+        """The edits in a folder of each crate, or of those with these names, to be tried in a copy."""
+        self.copy, self.is_anew, self.begun = copy, is_anew, {}
+        self.edits = [it for it in sorted(glob.glob(f"{ROOT}/crates/*/{folder}/*.edit")) if not names or crate_of(it) in names]
+        self.pool = concurrent.futures.ThreadPoolExecutor(max(1, len(os.sched_getaffinity(0)) // 2))
+
+    def see(self, line):
+        """Begins with a crate's edits where a line of `rt ci` says that the crate is proved."""
+        proved = PROVED.match(line)
+        for edit in self.edits:
+            if proved and crate_of(edit) == proved[1]:
+                self.begun[edit] = self.pool.submit(tried, edit, self.copy, self.is_anew)
+
+    def results(self):
+        """What came of each edit, once all were tried."""
+        untried = "NOT TRIED, since its crate is not proved"
+        return [self.begun[it].result() if it in self.begun else Tried(False, False, f"{label_of(it)}: {untried}") for it in self.edits]
+
+
+def copy_sources(to):
+    """Copies what `rt ci` proves into a folder, without the edits, which it would try in its own way."""
+    for name in ("crates.txt", "HANDLES"):
+        shutil.copy(f"{ROOT}/{name}", to)
+    shutil.copytree(f"{ROOT}/crates", f"{to}/crates", ignore=shutil.ignore_patterns("out", "must-fail", "wrong-bodies"))
+
+
+def crate_of(edit):
+    return edit.split("/")[-3]
+
+
+def label_of(edit):
+    return f"{crate_of(edit)}/{os.path.basename(edit).removesuffix('.edit')}"
+
+
+def tried(edit, copy, is_anew):
+    """What comes of an edit, or came of it in an earlier run over the same files, which serves unless all is done anew."""
+    kept = f"{KEPT}/{sum_of(edit, copy)}"
+    if not is_anew and os.path.exists(kept):
+        return Tried(True, True, f"{label_of(edit)}: refused in an earlier run on this machine")
+    found = attempt(edit, copy)
+    if found.is_refused:
+        with contextlib.suppress(OSError):
+            os.makedirs(KEPT, exist_ok=True)
+            with open(kept, "w", encoding="utf-8") as file:
+                file.write(found.text)
+    return found
+
+
+def sum_of(edit, copy):
+    """A checksum of all that the try of an edit reads: the kit, the edit, the crate's files and the libraries that were built."""
+    crate = crate_of(edit)
+    named, own = libraries_of(copy, crate)
+    files = [edit, *(f"{place_of(copy, name)}/{name}.rlib/format" for name in sorted(own))]
+    for part in PARTS:
+        files += sorted(it for it in glob.glob(f"{copy}/crates/{crate}/{part}/**", recursive=True) if os.path.isfile(it))
+    found = hashlib.sha256(repr([kit_line(), named]).encode())
+    for path in files:
+        with open(path, "rb") as file:
+            found.update(repr([os.path.relpath(path, copy) if path != edit else "", file.read()]).encode())
+    return found.hexdigest()
+
+
+def attempt(edit, copy):
+    """Tries an edit on its crate in a copy of the repository, and gives what came of it."""
+    crate, label = crate_of(edit), label_of(edit)
+    with tempfile.TemporaryDirectory(prefix=ROOM[1:]) as room:
+        for part in PARTS:
+            if os.path.isdir(f"{copy}/crates/{crate}/{part}"):
+                shutil.copytree(f"{copy}/crates/{crate}/{part}", f"{room}/{part}")
+        functions, why = apply(edit, room)
+        if why or not functions:
+            return Tried(False, False, f"{label}: BAD EDIT: {why or 'it changes no function'}")
+        words = ["nice", *check_of(copy, crate), *(word for name in functions for word in ("--only", name))]
+        ran = subprocess.run(words, cwd=room, stdin=subprocess.DEVNULL, stdout=subprocess.PIPE, stderr=subprocess.STDOUT, text=True)
+    lines = ran.stdout.splitlines()
+    if ran.returncode == 1 and REFUSED.search(ran.stdout):
+        why = next((line for line in lines if ": error" in line or line.startswith("note: ")), "")
+        return Tried(True, False, f"{label}: refused, as it must be: {why[:120]}")
+    if ran.returncode == 0:
+        return Tried(False, False, f"{label}: NOT REFUSED: {', '.join(functions)} is still proved")
+    return Tried(False, False, "\n".join([f"{label}: NOT TRIED: its check ended with status {ran.returncode}", *lines[-4:]]))
+
+
+def apply(edit, crate):
+    """Makes the changes of an edit in a crate's folder; gives the names of the functions that they lie in, or why it can't."""
+    functions, path, old = [], None, None
+    with open(edit, encoding="utf-8") as file:
+        lines = file.read().split("\n")
+    for line in lines:
+        word, _, text = line.partition(":")
+        text = text.removeprefix(" ")
+        if word == "file":
+            path = text
+        elif word == "old":
+            old = text
+        elif word == "new":
+            function, why = replace(f"{crate}/{path}", old, text, module_of(path))
+            if why:
+                return [], f"{path} {why}"
+            functions += [function] * (function not in [None, *functions])
+    return functions, None
+
+
+def replace(path, old, new, module):
+    """Puts a text in the place of another; gives the name of the function there, if any, or why it can't."""
+    with open(path, encoding="utf-8") as file:
+        text = file.read()
+    if text.count(old) != 1:
+        return None, f"has {old!r} {text.count(old)} times, and not once"
+    with open(path, "w", encoding="utf-8") as file:
+        file.write(text.replace(old, new))
+    return function_at(text, text.index(old) + len(old), module), None
+
+
+def module_of(path):
+    """The modules that lead to a file of a crate: none for its root."""
+    return [word for word in path.removesuffix(".rt").split("/")[1:] if word not in ("lib", "main")]
+
+
+def function_at(text, at, module):
+    """The name by which a check asks for the function that encloses a place of a file, where one does: its path, or its type
+    and name where it is a method; the file's module where it is one of a trait, or of a type with arguments."""
+    before = [it for it in FUNCTION.finditer(text) if it.start() < at]
+    if not before:
+        return None
+    indent, name = before[-1].groups()
+    if not indent:
+        return "::".join([*module, name])
+    block = [it[1] for it in IMPL.finditer(text) if it.start() < before[-1].start()][-1]
+    method = re.fullmatch(r"(?:<.*>)? (\w+) |<.*> (\w+)<.*> ", block)
+    return f"{method[1] or method[2]}::{name}" if method and " for " not in block else "::".join(module)
+
+
+@functools.lru_cache
+def kit():
+    """The folder of the kit whose command stands on the PATH."""
+    return os.path.dirname(said_by("doc"))
+
+
+@functools.lru_cache
+def kit_line():
+    """The kit's line about itself."""
+    return said_by("version")
+
+
+def said_by(verb):
+    """What a verb of the kit's command says."""
+    return subprocess.run(["rt", verb], stdout=subprocess.PIPE, text=True, check=True).stdout.strip()
+
+
+def check_of(copy, crate):
+    """The words that check a crate in its folder, over libraries that were built in a copy of the repository."""
+    named, own = libraries_of(copy, crate)
+    root = "src/main.rt" if os.path.exists(f"{copy}/crates/{crate}/src/main.rt") else "src/lib.rt"
+    words = [f"{kit()}/bin/rattle", "check", "--crate-name", crate, root, "-L", f"dependency={kit()}/rlibs"]
+    for name in ["std", *named]:
+        words += ["--extern", f"{name}={place_of(copy, name)}/{name}.rlib"]
+    for name in own:
+        words += ["-L", f"dependency={place_of(copy, name)}"]
+    return [*words, "--antt-project", f"{kit()}/rattle/logic/antt-project.json", "--logic-built", f"{kit()}/logic_built", "--links", f"{crate}=", "--jobs", "1"]
+
+
+def place_of(copy, library):
+    """The folder in which a library stands built: one of a copy of the repository, or else one of the kit."""
+    own = f"{copy}/crates/{library}"
+    return f"{own}/out/rlib" if os.path.isdir(own) else f"{kit()}/rlibs"
+
+
+def libraries_of(copy, crate):
+    """The libraries that a crate names, and those of the repository that it stands on."""
+    with open(f"{copy}/crates.txt", encoding="utf-8") as file:
+        lines = [line.partition(":") for line in file if line[0] != "#"]
+    needs = {left.split()[0]: right.split() for left, _, right in lines}
+    own, ahead = [], [crate]
+    while ahead:
+        below = [it for it in needs[ahead.pop()] if it in needs and it not in own]
+        own, ahead = own + below, ahead + below
+    return needs[crate], own
