@@ -17,6 +17,7 @@ import re
 import shutil
 import subprocess
 import tempfile
+import threading
 
 ROOT = os.path.dirname(os.path.dirname(os.path.realpath(__file__)))
 PARTS = ("src", "specs", "proofs")
@@ -39,17 +40,28 @@ class Trials:
         """The edits in a folder of each crate, or of those with these names, to be tried in a copy."""
         self.copy, self.is_anew, self.begun = copy, is_anew, {}
         self.edits = [it for it in sorted(glob.glob(f"{ROOT}/crates/*/{folder}/*.edit")) if not names or crate_of(it) in names]
-        self.pool = concurrent.futures.ThreadPoolExecutor(max(1, len(os.sched_getaffinity(0)) // 2))
+        processors = len(os.sched_getaffinity(0))
+        self.pool = concurrent.futures.ThreadPoolExecutor(processors)
+        # (while the proofs run, the tries get by with half of the processors, so that memory serves both)
+        self.left = processors // 2
+        self.room = threading.Semaphore(processors - self.left)
 
     def see(self, line):
         """Begins with a crate's edits where a line of `rt ci` says that the crate is proved."""
         proved = PROVED.match(line)
         for edit in self.edits:
             if proved and crate_of(edit) == proved[1]:
-                self.begun[edit] = self.pool.submit(tried, edit, self.copy, self.is_anew)
+                self.begun[edit] = self.pool.submit(self.try_edit, edit)
+
+    def try_edit(self, edit):
+        """What comes of an edit, once there is room for its try."""
+        with self.room:
+            return tried(edit, self.copy, self.is_anew)
 
     def results(self):
-        """What came of each edit, once all were tried."""
+        """What came of each edit, once all were tried. The proofs are over by now, so the tries have all processors."""
+        for _ in range(self.left):
+            self.room.release()
         untried = "NOT TRIED, since its crate is not proved"
         return [self.begun[it].result() if it in self.begun else Tried(False, False, f"{label_of(it)}: {untried}") for it in self.edits]
 
