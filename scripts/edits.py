@@ -3,8 +3,11 @@
 A crate's edits (`crates/NAME/must-fail/`, in the form that the kit's `rt must-fail` reads) are tried in a copy of the
 repository in which the crate was proved and the libraries below it stand built. Each is tried on the functions that it
 changes and what those call: where the prover refuses one of them it refuses the crate, and what else the crate has was
-proved. (`rt ci` and `rt must-fail` try the same edits, but check the whole crate once more first, which takes as long as
-all its edits.) What was refused is kept on this machine, by a checksum of all that the try read.
+proved. Edits of different functions are tried in one check, most of whose time goes into what it reads: a proof rests on
+the contracts of what its function calls, not on their bodies, so a function that is told `not proved` has a wrong body of
+its own (one that calls it is told `no proof`). An edit of which the check doesn't tell that is tried again by itself.
+(`rt ci` and `rt must-fail` try the same edits one by one, after a check of the whole crate.) What was refused is kept on
+this machine, by a checksum of all that the try read.
 """
 import collections
 import concurrent.futures
@@ -12,6 +15,7 @@ import contextlib
 import functools
 import glob
 import hashlib
+import itertools
 import os
 import re
 import shutil
@@ -49,21 +53,21 @@ class Trials:
     def see(self, line):
         """Begins with a crate's edits where a line of `rt ci` says that the crate is proved."""
         proved = PROVED.match(line)
-        for edit in self.edits:
-            if proved and crate_of(edit) == proved[1]:
-                self.begun[edit] = self.pool.submit(self.try_edit, edit)
+        for together in rounds_of([it for it in self.edits if proved and crate_of(it) == proved[1]], self.copy):
+            begun = self.pool.submit(self.try_together, together)
+            self.begun.update(dict.fromkeys(together, begun))
 
-    def try_edit(self, edit):
-        """What comes of an edit, once there is room for its try."""
+    def try_together(self, edits):
+        """What comes of edits of different functions of a crate, once there is room for their try."""
         with self.room:
-            return tried(edit, self.copy, self.is_anew)
+            return tried(edits, self.copy, self.is_anew)
 
     def results(self):
         """What came of each edit, once all were tried. The proofs are over by now, so the tries have all processors."""
         for _ in range(self.left):
             self.room.release()
         untried = "NOT TRIED, since its crate is not proved"
-        return [self.begun[it].result() if it in self.begun else Tried(False, False, f"{label_of(it)}: {untried}") for it in self.edits]
+        return [self.begun[it].result()[it] if it in self.begun else Tried(False, False, f"{label_of(it)}: {untried}") for it in self.edits]
 
 
 def copy_sources(to):
@@ -81,17 +85,35 @@ def label_of(edit):
     return f"{crate_of(edit)}/{os.path.basename(edit).removesuffix('.edit')}"
 
 
-def tried(edit, copy, is_anew):
-    """What comes of an edit, or came of it in an earlier run over the same files, which serves unless all is done anew."""
-    kept = f"{KEPT}/{sum_of(edit, copy)}"
-    if not is_anew and os.path.exists(kept):
-        return Tried(True, True, f"{label_of(edit)}: refused in an earlier run on this machine")
-    found = attempt(edit, copy)
-    if found.is_refused:
-        with contextlib.suppress(OSError):
-            os.makedirs(KEPT, exist_ok=True)
-            with open(kept, "w", encoding="utf-8") as file:
-                file.write(found.text)
+def rounds_of(edits, copy):
+    """The edits of a crate in rounds, in each of which no two change the same function; one that changes several places,
+    which may be more than a body, has a round of its own."""
+    rounds = []
+    for edit in edits:
+        function = function_of(edit, copy)
+        free = next((it for it in rounds if function and not {function, None} & it.keys()), None)
+        if free is None:
+            free = {}
+            rounds.append(free)
+        free[function] = edit
+    return [list(it.values()) for it in rounds]
+
+
+def tried(edits, copy, is_anew):
+    """What comes of edits of different functions of a crate, each by itself; or what came of one in an earlier run over the
+    same files, which serves unless all is done anew."""
+    kept = {it: f"{KEPT}/{sum_of(it, copy)}" for it in edits}
+    known = [it for it in edits if not is_anew and os.path.exists(kept[it])]
+    found = {it: Tried(True, True, f"{label_of(it)}: refused in an earlier run on this machine") for it in known}
+    left = [it for it in edits if it not in found]
+    together = attempt(left, copy) if len(left) > 1 else {}
+    for edit in left:
+        found[edit] = together.get(edit) or attempt([edit], copy)[edit]
+        if found[edit].is_refused:
+            with contextlib.suppress(OSError):
+                os.makedirs(KEPT, exist_ok=True)
+                with open(kept[edit], "w", encoding="utf-8") as file:
+                    file.write(found[edit].text)
     return found
 
 
@@ -109,30 +131,54 @@ def sum_of(edit, copy):
     return found.hexdigest()
 
 
-def attempt(edit, copy):
-    """Tries an edit on its crate in a copy of the repository, and gives what came of it."""
-    crate, label = crate_of(edit), label_of(edit)
+def attempt(edits, copy):
+    """Tries edits of a crate in one check. Gives what came of one; of several, those that are refused for their own change."""
+    crate = crate_of(edits[0])
     with tempfile.TemporaryDirectory(prefix=ROOM[1:]) as room:
         for part in PARTS:
             if os.path.isdir(f"{copy}/crates/{crate}/{part}"):
                 shutil.copytree(f"{copy}/crates/{crate}/{part}", f"{room}/{part}")
-        functions, why = apply(edit, room)
-        if why or not functions:
-            return Tried(False, False, f"{label}: BAD EDIT: {why or 'it changes no function'}")
-        words = ["nice", *check_of(copy, crate), *(word for name in functions for word in ("--only", name))]
+        functions, whys = zip(*(apply(it, room) for it in edits))
+        if not all(functions):
+            bad = Tried(False, False, f"{label_of(edits[0])}: BAD EDIT: {whys[0] or 'it changes no function'}")
+            return {edits[0]: bad} if len(edits) == 1 else {}
+        words = ["nice", *check_of(copy, crate), *(word for name in itertools.chain(*functions) for word in ("--only", name))]
         ran = subprocess.run(words, cwd=room, stdin=subprocess.DEVNULL, stdout=subprocess.PIPE, stderr=subprocess.STDOUT, text=True)
-    lines = ran.stdout.splitlines()
-    if ran.returncode == 1 and REFUSED.search(ran.stdout):
-        why = next((line for line in lines if ": error" in line or line.startswith("note: ")), "")
-        return Tried(True, False, f"{label}: refused, as it must be: {why[:120]}")
+    is_refused = ran.returncode == 1 and REFUSED.search(ran.stdout)
+    if len(edits) == 1 and not is_refused:
+        return {edits[0]: unrefused(edits[0], functions[0], ran)}
+    refused = [is_refused and (len(edits) == 1 or f"::{names[0]}: not proved\n" in ran.stdout) for names in functions]
+    return {edit: refusal(edit, names, ran.stdout) for edit, names, it in zip(edits, functions, refused) if it}
+
+
+def refusal(edit, functions, said):
+    """That an edit is refused, with the first thing that is said against a proof of what it changes, if any, or of another."""
+    lines = [it for it in said.splitlines() if ": error" in it or it.startswith("note: ")]
+    own = [it for it in lines for name in functions if f"/{name.replace('::', '/')}/" in it.partition(":")[0]]
+    return Tried(True, False, f"{label_of(edit)}: refused, as it must be: {[*own, *lines, ''][0][:120]}")
+
+
+def unrefused(edit, functions, ran):
+    """What a check says of an edit that it doesn't refuse."""
     if ran.returncode == 0:
-        return Tried(False, False, f"{label}: NOT REFUSED: {', '.join(functions)} is still proved")
-    return Tried(False, False, "\n".join([f"{label}: NOT TRIED: its check ended with status {ran.returncode}", *lines[-4:]]))
+        return Tried(False, False, f"{label_of(edit)}: NOT REFUSED: {', '.join(functions)} is still proved")
+    return Tried(False, False, "\n".join([f"{label_of(edit)}: NOT TRIED: its check ended with status {ran.returncode}", *ran.stdout.splitlines()[-4:]]))
 
 
 def apply(edit, crate):
     """Makes the changes of an edit in a crate's folder; gives the names of the functions that they lie in, or why it can't."""
-    functions, path, old = [], None, None
+    functions = []
+    for path, old, new in changes_of(edit):
+        function, why = replace(f"{crate}/{path}", old, new, module_of(path))
+        if why:
+            return [], f"{path} {why}"
+        functions += [function] * (function not in [None, *functions])
+    return functions, None
+
+
+def changes_of(edit):
+    """The changes of an edit: of each the file, the text that stands there once, and the one that takes its place."""
+    path, old = None, None
     with open(edit, encoding="utf-8") as file:
         lines = file.read().split("\n")
     for line in lines:
@@ -143,11 +189,15 @@ def apply(edit, crate):
         elif word == "old":
             old = text
         elif word == "new":
-            function, why = replace(f"{crate}/{path}", old, text, module_of(path))
-            if why:
-                return [], f"{path} {why}"
-            functions += [function] * (function not in [None, *functions])
-    return functions, None
+            yield path, old, text
+
+
+def function_of(edit, copy):
+    """The function that an edit changes, where it changes one place."""
+    (path, old, _), *others = changes_of(edit)
+    with open(f"{copy}/crates/{crate_of(edit)}/{path}", encoding="utf-8") as file:
+        text = file.read()
+    return None if others else function_at(text, text.find(old) + len(old), module_of(path))
 
 
 def replace(path, old, new, module):
