@@ -5,7 +5,7 @@ repository in which the crate was proved and the libraries below it stand built.
 changes and what those call: where the prover refuses one of them it refuses the crate, and what else the crate has was
 proved. Edits of different functions are tried in one check, most of whose time goes into what it reads: a proof rests on
 the contracts of what its function calls, not on their bodies, so a function that is told `not proved` has a wrong body of
-its own (one that calls it is told `no proof`). An edit of which the check doesn't tell that is tried again by itself.
+its own. One that calls it is told `no proof`: its edit is tried again without those that were refused.
 (`rt ci` and `rt must-fail` try the same edits one by one, after a check of the whole crate.) What was refused is kept on
 this machine, by a checksum of all that the try read.
 """
@@ -106,14 +106,16 @@ def tried(edits, copy, is_anew):
     known = [it for it in edits if not is_anew and os.path.exists(kept[it])]
     found = {it: Tried(True, True, f"{label_of(it)}: refused in an earlier run on this machine") for it in known}
     left = [it for it in edits if it not in found]
-    together = attempt(left, copy) if len(left) > 1 else {}
-    for edit in left:
-        found[edit] = together.get(edit) or attempt([edit], copy)[edit]
-        if found[edit].is_refused:
-            with contextlib.suppress(OSError):
-                os.makedirs(KEPT, exist_ok=True)
-                with open(kept[edit], "w", encoding="utf-8") as file:
-                    file.write(found[edit].text)
+    while left:
+        told = attempt(left, copy) or attempt(left[:1], copy)
+        for edit in told:
+            if told[edit].is_refused:
+                with contextlib.suppress(OSError):
+                    os.makedirs(KEPT, exist_ok=True)
+                    with open(kept[edit], "w", encoding="utf-8") as file:
+                        file.write(told[edit].text)
+        found |= told
+        left = [it for it in left if it not in found]
     return found
 
 
