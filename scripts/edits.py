@@ -196,10 +196,13 @@ def changes_of(edit):
 
 def function_of(edit, copy):
     """The function that an edit changes, where it changes one place."""
-    (path, old, _), *others = changes_of(edit)
+    changes = list(changes_of(edit))
+    if len(changes) != 1:
+        return None
+    path, old, _ = changes[0]
     with open(f"{copy}/crates/{crate_of(edit)}/{path}", encoding="utf-8") as file:
         text = file.read()
-    return None if others else function_at(text, text.find(old) + len(old), module_of(path))
+    return function_at(text, text.find(old) + len(old), module_of(path))
 
 
 def replace(path, old, new, module):

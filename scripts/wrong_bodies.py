@@ -2,7 +2,7 @@
 
     scripts/wrong_bodies.sh [NAME...]
 
-All crates that have some are tried, or those named. It takes the kit, and at most a quarter of a minute an edit once all crates are
+All crates that have some are tried, or those named. It takes the kit, and a quarter of a minute an edit once all crates are
 proved, which comes first where the kit hasn't kept it from an earlier run. The last line is `N passed, M failed`.
 """
 import subprocess
