@@ -4,8 +4,9 @@ A crate's edits (`crates/NAME/must-fail/`, in the form that the kit's `rt must-f
 repository in which the crate was proved and the libraries below it stand built. Each is tried on the functions that it
 changes and what those call: where the prover refuses one of them it refuses the crate, and what else the crate has was
 proved. Edits of different functions are tried in one check, most of whose time goes into what it reads: a proof rests on
-the contracts of what its function calls, not on their bodies, so a function that is told `not proved` has a wrong body of
-its own. One that calls it is told `no proof`: its edit is tried again without those that were refused.
+the contracts of what its function calls, not on their bodies, so a function that is told `not proved`, or that `search` did
+not prove a goal of, has a wrong body of its own. One that calls it is told so: its edit is tried again without those that
+were refused. One that the prover can't read, as where it doesn't cover a form, is not refused.
 (`rt ci` and `rt must-fail` try the same edits one by one, after a check of the whole crate.) What was refused is kept on
 this machine, by a checksum of all that the try read.
 """
@@ -31,7 +32,9 @@ KEPT = os.path.expanduser(f"{os.environ.get('XDG_CACHE_HOME') or '~/.cache'}/dat
 FUNCTION = re.compile(r"^( *)(?:pub(?:\(\w+\))? )?(?:const )?fn (\w+)", re.M)
 IMPL = re.compile(r"^impl\b([^{]*)\{", re.M)
 PROVED = re.compile(r"rt: (\w+) (?:proved|is kept:)")
-REFUSED = re.compile(r"^fn \S+: (?:not proved|no proof).*^only=\d+ proved=\d+$\s*\Z", re.M | re.S)
+# What a check says of a function whose own body it refuses: of one that calls it, or that it can't read, it says otherwise.
+REFUSED = r"^fn (?:\w+::)+{}: (?:not proved\b|no proof: .*`search` did not prove )"
+ENDED = re.compile(r"^only=\d+ proved=\d+$\s*\Z", re.M)
 
 # What came of an edit: whether the prover refused it, whether it did so in an earlier run, and what to say.
 Tried = collections.namedtuple("Tried", "is_refused is_kept text")
@@ -146,16 +149,18 @@ def attempt(edits, copy):
             return {edits[0]: bad} if len(edits) == 1 else {}
         words = ["nice", *check_of(copy, crate), *(word for name in itertools.chain(*functions) for word in ("--only", name))]
         ran = subprocess.run(words, cwd=room, stdin=subprocess.DEVNULL, stdout=subprocess.PIPE, stderr=subprocess.STDOUT, text=True)
-    is_refused = ran.returncode == 1 and REFUSED.search(ran.stdout)
-    if len(edits) == 1 and not is_refused:
+    # (of a method of a trait only the module is known; no other edit changes one of its functions where it is alone)
+    within = r"(?:::\S+)?" if len(edits) == 1 else ""
+    is_over = ran.returncode == 1 and ENDED.search(ran.stdout)
+    refused = [is_over and any(re.search(REFUSED.format(re.escape(it) + within), ran.stdout, re.M) for it in names) for names in functions]
+    if len(edits) == 1 and not refused[0]:
         return {edits[0]: unrefused(edits[0], functions[0], ran)}
-    refused = [is_refused and (len(edits) == 1 or f"::{names[0]}: not proved\n" in ran.stdout) for names in functions]
     return {edit: refusal(edit, names, ran.stdout) for edit, names, it in zip(edits, functions, refused) if it}
 
 
 def refusal(edit, functions, said):
     """That an edit is refused, with the first thing that is said against a proof of what it changes, if any, or of another."""
-    lines = [it for it in said.splitlines() if ": error" in it or it.startswith("note: ")]
+    lines = [it for it in said.splitlines() if ": error" in it or "it is not proved that" in it]
     own = [it for it in lines for name in functions if f"/{name.replace('::', '/')}/" in it.partition(":")[0]]
     return Tried(True, False, f"{label_of(edit)}: refused, as it must be: {[*own, *lines, ''][0][:120]}")
 
@@ -164,7 +169,9 @@ def unrefused(edit, functions, ran):
     """What a check says of an edit that it doesn't refuse."""
     if ran.returncode == 0:
         return Tried(False, False, f"{label_of(edit)}: NOT REFUSED: {', '.join(functions)} is still proved")
-    return Tried(False, False, "\n".join([f"{label_of(edit)}: NOT TRIED: its check ended with status {ran.returncode}", *ran.stdout.splitlines()[-4:]]))
+    lines = ran.stdout.splitlines()
+    told = [it for it in lines if it.startswith("fn ") and not it.endswith(": proved")] or lines[-4:]
+    return Tried(False, False, "\n".join([f"{label_of(edit)}: NOT TRIED: its check ended with status {ran.returncode}", *told]))
 
 
 def apply(edit, crate):
