@@ -33,7 +33,7 @@ FUNCTION = re.compile(r"^( *)(?:pub(?:\(\w+\))? )?(?:const )?fn (\w+)", re.M)
 IMPL = re.compile(r"^impl\b([^{]*)\{", re.M)
 PROVED = re.compile(r"rt: (\w+) (?:proved|is kept:)")
 # What a check says of a function whose own body it refuses: of one that calls it, or that it can't read, it says otherwise.
-REFUSED = r"^fn (?:\w+::)+{}: (?:not proved\b|no proof: .*`search` did not prove )"
+REFUSED = r"^fn (?:\w+::)+{}: (?:not proved|no proof: [^;\n]*; `search` did not prove [^;\n]*)$"
 ENDED = re.compile(r"^only=\d+ proved=\d+$\s*\Z", re.M)
 
 # What came of an edit: whether the prover refused it, whether it did so in an earlier run, and what to say.
