@@ -33,7 +33,7 @@ FUNCTION = re.compile(r"^( *)(?:pub(?:\(\w+\))? )?(?:const )?fn (\w+)", re.M)
 IMPL = re.compile(r"^impl\b([^{]*)\{", re.M)
 PROVED = re.compile(r"rt: (\w+) (?:proved|is kept:)")
 # What a check says of a function whose own body it refuses: of one that calls it, or that it can't read, it says otherwise.
-REFUSED = r"^fn (?:\w+::)+{}: (?:not proved|no proof: [^;\n]*; `search` did not prove [^;\n]*)$"
+REFUSED = r"^fn (?:\w+::)+{}: (?:no proof: [^;\n]*; )?(not proved|`search` did not prove [^;\n]*)$"
 ENDED = re.compile(r"^only=\d+ proved=\d+$\s*\Z", re.M)
 
 # What came of an edit: whether the prover refused it, whether it did so in an earlier run, and what to say.
@@ -149,20 +149,21 @@ def attempt(edits, copy):
             return {edits[0]: bad} if len(edits) == 1 else {}
         words = ["nice", *check_of(copy, crate), *(word for name in itertools.chain(*functions) for word in ("--only", name))]
         ran = subprocess.run(words, cwd=room, stdin=subprocess.DEVNULL, stdout=subprocess.PIPE, stderr=subprocess.STDOUT, text=True)
-    # (of a method of a trait only the module is known; no other edit changes one of its functions where it is alone)
-    within = r"(?:::\S+)?" if len(edits) == 1 else ""
     is_over = ran.returncode == 1 and ENDED.search(ran.stdout)
-    refused = [is_over and any(re.search(REFUSED.format(re.escape(it) + within), ran.stdout, re.M) for it in names) for names in functions]
-    if len(edits) == 1 and not refused[0]:
+    refusals = [is_over and refusal(ran.stdout, names, len(edits) == 1) for names in functions]
+    if len(edits) == 1 and not refusals[0]:
         return {edits[0]: unrefused(edits[0], functions[0], ran)}
-    return {edit: refusal(edit, names, ran.stdout) for edit, names, it in zip(edits, functions, refused) if it}
+    return {edit: Tried(True, False, f"{label_of(edit)}: refused, as it must be: {it[:120]}") for edit, it in zip(edits, refusals) if it}
 
 
-def refusal(edit, functions, said):
-    """That an edit is refused, with the first thing that is said against a proof of what it changes, if any, or of another."""
-    lines = [it for it in said.splitlines() if ": error" in it or "it is not proved that" in it]
-    own = [it for it in lines for name in functions if f"/{name.replace('::', '/')}/" in it.partition(":")[0]]
-    return Tried(True, False, f"{label_of(edit)}: refused, as it must be: {[*own, *lines, ''][0][:120]}")
+def refusal(said, functions, is_alone):
+    """What a check says first against the own body of one of these functions, where it refuses one."""
+    # (of a method of a trait only the module is known, so that an edit of one is seen to be refused where it is alone)
+    within = r"(?:::\S+)?" if is_alone else ""
+    told = [found[1] for it in functions for found in re.finditer(REFUSED.format(re.escape(it) + within), said, re.M)]
+    folders = [f"/{it.replace('::', '/')}/" for it in functions]
+    own = [line for line in said.splitlines() if ": error" in line and any(it in line.partition(":")[0] for it in folders)]
+    return [*own, *told][0] if told else None
 
 
 def unrefused(edit, functions, ran):
