@@ -13,7 +13,7 @@ import sys
 
 ROOT = os.path.dirname(os.path.dirname(os.path.realpath(__file__)))
 # the crates of the library, from the values up
-CRATES = ["cube_core", "cube_items", "cube_feed", "cube_numbers", "cube_counts", "cube_cells", "cube_ledger", "cube_engine", "cube_link", "cube_handover",
+CRATES = ["cube_core", "cube_feed", "cube_numbers", "cube_counts", "cube_cells", "cube_ledger", "cube_engine", "cube_link", "cube_handover",
           "cube_feeders", "cube_threads", "cube_words", "cube_writing", "cube_text", "cube_tool", "cube_live", "cube_session",
           "merge_lines", "cube_merge", "cube_library", "cube_journal", "cube_store", "cube_stored", "stored_tool"]
 PLACE = re.compile(r"(<!-- promises -->\n).*?(<!-- end of promises -->)", re.DOTALL)

@@ -1,3 +1,8 @@
+mod ContiguousLaws
+pub mod FieldLaws
+mod HeaderLaws
+mod LineLaws
+pub mod NumberLaws
 mod RecordLaws
 mod FeedLaws
 pub mod FaultLaws

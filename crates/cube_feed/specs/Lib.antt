@@ -1,3 +1,5 @@
+pub mod Contiguous
+pub mod SoundFields
 pub mod Reading
 pub mod Feed
 pub mod Faults

@@ -6,9 +6,10 @@ ghost use Rattle.cube_feed.specs.Reading.{IsReadingFault};
 ghost use Rattle.cube_feed.specs.Feed.{HasEnded, Gives, IsNumbered, IsTaken, Numbers, TakesHeader, IsFeed, after_header, ended_of, end_answer, number_after, to_come_of, with_fault};
 
 use crate::fault::FeedFault;
+use crate::header::is_header;
 use crate::record_reader::RecordReader;
+use crate::rest::{change_of_record, is_read};
 use cube_core::{Item, Schema};
-use cube_items::{change_of_record, is_header, is_read};
 use std::alloc::Global;
 use std::io::Read;
 use std::marker::Model;

@@ -12,7 +12,7 @@ use crate::number::{count_of, source_of};
 use crate::request::{Question, Request, RequestFault};
 use csv::ByteRecord;
 use cube_core::{Key, Pattern, QueryFault, Schema, Text};
-use cube_items::put_rest;
+use cube_feed::put_rest;
 use std::alloc::{AllocError, Global};
 
 /// What a record asks under a schema. The only error is want of memory.

@@ -8,8 +8,7 @@ ghost use Rattle.cube_stored.specs.Replay.{TakesStored};
 
 use crate::plain::{is_plain, read_pieces};
 use csv::ByteRecord;
-use cube_feed::RecordReader;
-use cube_items::{change_of_record, is_read, put_rest};
+use cube_feed::{RecordReader, change_of_record, is_read, put_rest};
 use cube_journal::ChangeSink;
 use cube_live::Live;
 use std::alloc::{AllocError, Global};

@@ -1,6 +1,6 @@
 use Rattle.std.proofs.Common.{refl}
 use Rattle.std.proofs.lemmas.Str.{is_utf8-from_IsUtf8}
-use Rattle.cube_items.proofs.FieldLaws.{is_utf8-IsUtf8}
+use Rattle.cube_feed.proofs.FieldLaws.{is_utf8-IsUtf8}
 use Rattle.cube_live.proofs.number.count_of.Goals as goal
 
 pub returns-in-Ok : goal.returns-in-Ok

@@ -1,5 +1,5 @@
 use Rattle.std.proofs.Common.{◌∙◌}
-use Rattle.cube_items.proofs.NumberLaws.{ParsesSigned-number_of}
+use Rattle.cube_feed.proofs.NumberLaws.{ParsesSigned-number_of}
 use Rattle.cube_live.proofs.number.number.Goals as goal
 
 pub returns : goal.returns

@@ -1,6 +1,6 @@
 use Rattle.std.proofs.Common.{sym}
 use Rattle.csv.specs.Records.{fields_of}
-use Rattle.cube_items.proofs.FieldLaws.{field_at-Some, field_at-None}
+use Rattle.cube_feed.proofs.FieldLaws.{field_at-Some, field_at-None}
 use Rattle.cube_live.proofs.parse.field_at.Goals as goal
 
 pub returns-in-Some : goal.returns-in-Some

@@ -1,5 +1,0 @@
-mod ContiguousLaws
-pub mod FieldLaws
-mod HeaderLaws
-mod LineLaws
-pub mod NumberLaws

@@ -1,2 +1,0 @@
-pub mod Contiguous
-pub mod SoundFields
