@@ -4,15 +4,17 @@ docs/PROMISES.md says of calls from the code, and what docs/ARCHITECTURE.md says
 
     scripts/documents.py [--program PATH]            writes docs/datacube.1, the tables of codes in docs/FORMATS.md, the
                                                      completions for shells (completions/), the tables of calls in
-                                                     docs/PROMISES.md (scripts/promises.py), and the last column of the
-                                                     crates in docs/ARCHITECTURE.md
-    scripts/documents.py --check [--program PATH]    says what of them isn't what the program or the code says; the last
+                                                     docs/PROMISES.md (scripts/promises.py), the last column of the
+                                                     crates in docs/ARCHITECTURE.md and their map, docs/crates.svg
+    scripts/documents.py --check [--program PATH]    says what of them isn't what the program or the code says, and which
+                                                     functions docs/ARCHITECTURE.md names that aren't there; the last
                                                      line is `N passed, M failed`, and it fails where something isn't
 
 The program is the one at PATH, else the one that `./datacube` would run. In docs/FORMATS.md a table stands between
 `<!-- codes: ABOUT -->` and `<!-- end of codes -->`; ABOUT is what the program's notes say that a code is about.
 """
 import argparse
+import glob
 import os
 import re
 import subprocess
@@ -20,6 +22,7 @@ import sys
 
 sys.dont_write_bytecode = True
 import completions
+import crate_map
 import programs
 import promises
 
@@ -28,9 +31,12 @@ ARCHITECTURE = f"{ROOT}/docs/ARCHITECTURE.md"
 FORMATS = f"{ROOT}/docs/FORMATS.md"
 PROMISES = f"{ROOT}/docs/PROMISES.md"
 MANUAL = f"{ROOT}/docs/datacube.1"
-# a line of crates.txt: a crate, and those that it stands on; a crate's row in docs/ARCHITECTURE.md
+MAP = f"{ROOT}/docs/crates.svg"
+CRATES = f"{ROOT}/crates.txt"
+# a line of crates.txt: a crate, and those that it stands on; a crate's row in docs/ARCHITECTURE.md, and a function of one
 CRATE = re.compile(r"^(\w+)[^:#\n]*:(.*)$", re.MULTILINE)
 ROW = re.compile(r"^(\| `(\w+)` \| [^|]* \| )[^|]* \|$", re.MULTILINE)
+FUNCTION = re.compile(r"`(\w+)::(?:\w+::)*(\w+)`")
 
 
 class Program:
@@ -79,12 +85,24 @@ def formats_with(notes, text):
 
 def architecture_with(text):
     """docs/ARCHITECTURE.md with what crates.txt says that each crate stands on."""
-    below = {name: names.split() for name, names in CRATE.findall(text_at(f"{ROOT}/crates.txt"))}
+    below = {name: names.split() for name, names in CRATE.findall(text_at(CRATES))}
     lacking = below.keys() - {row[1] for row in ROW.findall(text)}
     if lacking:
         sys.exit(f"docs/ARCHITECTURE.md has no row for {', '.join(sorted(lacking))}")
     named = lambda name: ", ".join(f"`{it}`" for it in below[name]) or "the standard library alone"
     return ROW.sub(lambda row: f"{row[1]}{named(row[2])} |" if row[2] in below else row[0], text)
+
+
+def lost_functions(text):
+    """The functions that a text names as `crate::function` or `crate::Type::function`, and that the crate hasn't."""
+    crates = dict(CRATE.findall(text_at(CRATES)))
+    named = sorted({it for it in FUNCTION.findall(text) if it[0] in crates})
+    return [f"{crate}::{name}" for crate, name in named if not re.search(rf"\b(fn|mod) {name}\b", code_of(crate))]
+
+
+def code_of(crate):
+    """The text of all files of a crate's code."""
+    return "".join(text_at(path) for path in sorted(glob.glob(f"{ROOT}/crates/{crate}/src/**/*.rt", recursive=True)))
 
 
 def roff(text):
@@ -136,6 +154,7 @@ def wanted(program):
         FORMATS: formats_with(notes, text_at(FORMATS)),
         PROMISES: promises.page_with(text_at(PROMISES)),
         MANUAL: manual_of(program, notes),
+        MAP: crate_map.picture(text_at(CRATES)),
     }
     return {**made, **{f"{ROOT}/completions/{name}": text for name, text in completions.made_of(line).items()}}
 
@@ -158,8 +177,12 @@ def main():
         stale = [path for path, text in documents.items() if text_at(path) != text]
         for path in stale:
             print(f"FAILED: {os.path.relpath(path, ROOT)} isn't what the program or the code says: scripts/documents.py writes it anew")
-        print(f"{len(documents) - len(stale)} passed, {len(stale)} failed")
-        return 1 if stale else 0
+        lost = lost_functions(text_at(ARCHITECTURE))
+        for name in lost:
+            print(f"FAILED: docs/ARCHITECTURE.md names {name}, which isn't there")
+        failed = len(stale) + len(lost)
+        print(f"{len(documents) + 1 - len(stale) - (len(lost) > 0)} passed, {failed} failed")
+        return 1 if failed else 0
     for path, text in documents.items():
         os.makedirs(os.path.dirname(path), exist_ok=True)
         with open(path, "w", encoding="utf-8") as file:
