@@ -30,8 +30,9 @@ COUNTS = re.compile(r"(\d+) passed, (\d+) failed")
 # (the status of a part that says which packages it lacks)
 LEFT_OUT = 77
 
-# What came of a part: its status, the lines that it said, and its seconds of the clock and of processors.
-Part = collections.namedtuple("Part", "status lines clock spent")
+# What came of a part: its status, the lines that it said, its seconds of the clock and of processors, and the names that it
+# left in the folder for temporary files.
+Part = collections.namedtuple("Part", "status lines clock spent left")
 
 
 class Tally:
@@ -56,6 +57,7 @@ class Tally:
                 print(*part.lines[:-1], sep="", end="", flush=True)
                 self.rows.append((name, part.clock, part.spent))
                 self.add(part.status, "".join(part.lines[-1:]).strip())
+                self.note(not part.left, "it leaves nothing in the folder for temporary files" + "".join(f"; {it}" for it in part.left[:10]))
 
     def add(self, status, last):
         """Adds up what a part's last line counts; a part without such a line, or with a status that it doesn't tell of,
@@ -71,15 +73,26 @@ class Tally:
 
 
 def run_part(command):
-    """Runs a command to its end, and gives what came of it."""
+    """Runs a command to its end, with a folder of its own for temporary files, and gives what came of it."""
     start = time.monotonic()
-    with tempfile.TemporaryFile("w+", encoding="utf-8", errors="replace") as said:
-        ran = subprocess.Popen(command, cwd=ROOT, stdin=subprocess.DEVNULL, stdout=said, stderr=subprocess.STDOUT)
+    room_of = lambda: tempfile.TemporaryDirectory(prefix="datacube-gate-", dir=place_of(command), ignore_cleanup_errors=True)
+    with tempfile.TemporaryFile("w+", encoding="utf-8", errors="replace") as said, room_of() as room:
+        # (as open as /tmp: a part that root runs may run others as somebody else)
+        os.chmod(room, 0o1777)
+        how = {"stdin": subprocess.DEVNULL, "stdout": said, "stderr": subprocess.STDOUT, "env": {**os.environ, "TMPDIR": room}}
+        ran = subprocess.Popen(command, cwd=ROOT, **how)
         _, status, use = os.wait4(ran.pid, 0)
         clock = time.monotonic() - start
         ran.returncode = os.waitstatus_to_exitcode(status)
         said.seek(0)
-        return Part(ran.returncode, said.readlines(), clock, use.ru_utime + use.ru_stime)
+        return Part(ran.returncode, said.readlines(), clock, use.ru_utime + use.ru_stime, sorted(os.listdir(room)))
+
+
+def place_of(command):
+    """Where a part's temporary files go: where the caller says, else of the trials of stores, which sync at each commit, in
+    memory, where that can be."""
+    is_of_stores = command[0] == "scripts/store_trials.py" and "TMPDIR" not in os.environ and os.access("/dev/shm", os.W_OK)
+    return "/dev/shm" if is_of_stores else None
 
 
 def stream(command, folder, see):
