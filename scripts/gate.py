@@ -164,6 +164,7 @@ def quick_parts(program):
         ("a wrong program", ["scripts/spoil.py", "--program", program]),
         ("merges beside a slow program", ["scripts/merges.py", "--cases", "40", "--program", program]),
         ("sessions beside a slow program", ["scripts/sessions.py", "--cases", "10", "--program", program]),
+        ("starting, installing and packing it", ["scripts/installing.py", "--program", program]),
         ("the progress line in a terminal", ["scripts/progress.py", "--program", program]),
         ("the Python package", ["scripts/python_tests.py", "--program", program]),
         ("a session over a store, the short form", ["scripts/store_trials.py", "--short", "--program", program]),
