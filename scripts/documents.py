@@ -1,11 +1,13 @@
 #!/usr/bin/env python3
 """Makes what documents and completions say of codes and of the command line from what the program says, what
-docs/PROMISES.md says of calls from the code, and what docs/ARCHITECTURE.md says that crates stand on from crates.txt.
+docs/PROMISES.md says of calls from the code, what docs/ARCHITECTURE.md says that crates stand on from crates.txt, and what
+README.md and docs/DEFINITIONS.md say of the bounds of a schema from its definition.
 
     scripts/documents.py [--program PATH]            writes docs/datacube.1, the tables of codes in docs/FORMATS.md, the
                                                      completions for shells (completions/), the tables of calls in
-                                                     docs/PROMISES.md (scripts/promises.py), and the last column of the
-                                                     crates in docs/ARCHITECTURE.md
+                                                     docs/PROMISES.md (scripts/promises.py), the last column of the
+                                                     crates in docs/ARCHITECTURE.md, and the bounds in README.md and
+                                                     docs/DEFINITIONS.md
     scripts/documents.py --check [--program PATH]    says what of them isn't what the program or the code says; the last
                                                      line is `N passed, M failed`, and it fails where something isn't
 
@@ -27,10 +29,21 @@ ROOT = os.path.dirname(os.path.dirname(os.path.realpath(__file__)))
 ARCHITECTURE = f"{ROOT}/docs/ARCHITECTURE.md"
 FORMATS = f"{ROOT}/docs/FORMATS.md"
 PROMISES = f"{ROOT}/docs/PROMISES.md"
+DEFINITIONS = f"{ROOT}/docs/DEFINITIONS.md"
+README = f"{ROOT}/README.md"
 MANUAL = f"{ROOT}/docs/datacube.1"
 # a line of crates.txt: a crate, and those that it stands on; a crate's row in docs/ARCHITECTURE.md
 CRATE = re.compile(r"^(\w+)[^:#\n]*:(.*)$", re.MULTILINE)
 ROW = re.compile(r"^(\| `(\w+)` \| [^|]* \| )[^|]* \|$", re.MULTILINE)
+# where the bounds of a schema and of a run stand, and how documents say them
+BOUND = re.compile(r"pub (\w+)_at_most : length \S+ ≤ (\d+)")
+BOUNDED = {
+    DEFINITIONS: ["1 to {dimensions} dimensions, 1 to {measures} measures, 1 to {aggregates} aggregates of these measures"],
+    README: ["at most {dimensions} dimensions, {measures} measures and {sources} feeds"],
+}
+# what README.md says in its first lines, so many
+FIRST_LINES = 20
+FIRST_SAID = ["whole numbers of 64 bits", "dimensions", "status 4", "Licence: none has been chosen yet"]
 
 
 class Program:
@@ -89,6 +102,33 @@ def architecture_with(text):
         sys.exit(f"docs/ARCHITECTURE.md has no row for {', '.join(sorted(lacking))}")
     named = lambda name: ", ".join(f"`{it}`" for it in below[name]) or "the standard library alone"
     return ROW.sub(lambda row: f"{row[1]}{named(row[2])} |" if row[2] in below else row[0], text)
+
+
+def bounds():
+    """The most parts that a schema has, and the most sources of a ledger, as their definitions say."""
+    files = [f"{ROOT}/crates/{it}" for it in ("cube_core/specs/Layout.antt", "cube_ledger/specs/Ledger.antt")]
+    return dict(found for it in files for found in BOUND.findall(text_at(it)))
+
+
+def bounded(path):
+    """A document's text with the bounds that the definitions say."""
+    text, most = text_at(path), bounds()
+    for said in BOUNDED[path]:
+        pattern = re.sub(r"\\\{\w+\\\}", r"\\d+", re.escape(said))
+        text, count = re.subn(pattern, said.format(**most), text)
+        if count != 1:
+            sys.exit(f"{os.path.relpath(path, ROOT)} doesn't say, once: {said.format(**most)}")
+    return text
+
+
+def readme():
+    """README.md with its bounds; its first lines say what a newcomer has to know."""
+    text = bounded(README)
+    head = "\n".join(text.split("\n")[:FIRST_LINES])
+    lacking = [it for it in FIRST_SAID if it not in head]
+    if lacking:
+        sys.exit(f"the first {FIRST_LINES} lines of README.md don't say: {', '.join(lacking)}")
+    return text
 
 
 def roff(text):
@@ -165,7 +205,7 @@ def formats_in_manual(program):
     page += ".PP\nOne step below Leeds, along the products:\n" + ask("drill", named[0], "'=Leeds,\\A,\\A'", "product", *named[1:])
     page += ".PP\nThe lines that were refused, each with its source, its number and a code:\n" + ask("refusals", *named)
     statuses = text[text.index("| Status | Meaning |") :]
-    return page + ".SH EXIT STATUS\n" + from_markdown(statuses)
+    return page + ".SH EXIT STATUS\n" + from_markdown(statuses.partition("\n\n")[0])
 
 
 def commands_of(program):
@@ -208,6 +248,8 @@ def wanted(program):
         ARCHITECTURE: architecture_with(text_at(ARCHITECTURE)),
         FORMATS: formats_with(notes, text_at(FORMATS)),
         PROMISES: promises.page_with(text_at(PROMISES)),
+        DEFINITIONS: bounded(DEFINITIONS),
+        README: readme(),
         MANUAL: manual_of(program, notes),
     }
     return {**made, **{f"{ROOT}/completions/{name}": text for name, text in completions.made_of(line).items()}}
