@@ -7,6 +7,7 @@ root=$(dirname -- "$(dirname -- "$(readlink -f -- "$0")")")
 to=$(readlink -f -- "${1:-.}")
 room=$(mktemp -d)
 trap 'rm -rf "$room"' EXIT
+trap 'exit 1' HUP INT TERM
 umask 022
 mkdir "$room/files" "$room/files/DEBIAN"
 chmod 755 "$room/files"

@@ -9,6 +9,7 @@ line is `N passed, M failed` over all parts; before it stands a table of the sec
 import argparse
 import collections
 import concurrent.futures
+import contextlib
 import glob
 import os
 import re
@@ -47,6 +48,10 @@ class Tally:
         self.passed, self.failed = self.passed + is_right, self.failed + (not is_right)
         print(f"{'ok     ' if is_right else 'FAILED '} {what}", flush=True)
 
+    def note_left(self, names):
+        """Counts whether nothing was left in the folder for temporary files."""
+        self.note(not names, f"nothing is left in the folder for temporary files{''.join(f': {it}' for it in names[:10])}")
+
     def run(self, parts):
         """Runs parts side by side, as many as there are processors; shows of each in turn what it says but for its last
         line, and adds up what that counts."""
@@ -57,7 +62,7 @@ class Tally:
                 print(*part.lines[:-1], sep="", end="", flush=True)
                 self.rows.append((name, part.clock, part.spent))
                 self.add(part.status, "".join(part.lines[-1:]).strip())
-                self.note(not part.left, "it leaves nothing in the folder for temporary files" + "".join(f"; {it}" for it in part.left[:10]))
+                self.note_left(part.left)
 
     def add(self, status, last):
         """Adds up what a part's last line counts; a part without such a line, or with a status that it doesn't tell of,
@@ -72,13 +77,18 @@ class Tally:
         self.passed, self.failed = self.passed + passed, self.failed + (failed or int(status != 0))
 
 
+@contextlib.contextmanager
+def temporary_files(place=None):
+    """A fresh folder for temporary files, as open as /tmp: a part that root runs may run others as somebody else."""
+    with tempfile.TemporaryDirectory(prefix="datacube-gate-", dir=place, ignore_cleanup_errors=True) as room:
+        os.chmod(room, 0o1777)
+        yield room
+
+
 def run_part(command):
     """Runs a command to its end, with a folder of its own for temporary files, and gives what came of it."""
     start = time.monotonic()
-    room_of = lambda: tempfile.TemporaryDirectory(prefix="datacube-gate-", dir=place_of(command), ignore_cleanup_errors=True)
-    with tempfile.TemporaryFile("w+", encoding="utf-8", errors="replace") as said, room_of() as room:
-        # (as open as /tmp: a part that root runs may run others as somebody else)
-        os.chmod(room, 0o1777)
+    with tempfile.TemporaryFile("w+", encoding="utf-8", errors="replace") as said, temporary_files(place_of(command)) as room:
         how = {"stdin": subprocess.DEVNULL, "stdout": said, "stderr": subprocess.STDOUT, "env": {**os.environ, "TMPDIR": room}}
         ran = subprocess.Popen(command, cwd=ROOT, **how)
         _, status, use = os.wait4(ran.pid, 0)
@@ -202,6 +212,23 @@ def prove(tally, is_anew):
         ci.append("--anew")
     print("== proofs and tests of all crates, and must-fail edits; this takes the better part of an hour on four processors", flush=True)
     os.environ.setdefault("RT_JOBS", shell("checks_side_by_side"))
+    with temporary_files() as room:
+        before = os.environ.get("TMPDIR"), tempfile.tempdir
+        os.environ["TMPDIR"] = tempfile.tempdir = room
+        found = prove_copy(tally, ci, is_anew)
+        if before[0] is None:
+            del os.environ["TMPDIR"]
+        else:
+            os.environ["TMPDIR"] = before[0]
+        tempfile.tempdir = before[1]
+        tally.note_left(sorted(os.listdir(room)))
+    for it in found:
+        tally.note(it.is_refused, it.text)
+    print(f"{sum(it.is_kept for it in found)} of the {len(found)} must-fail edits were refused in an earlier run on this machine", flush=True)
+
+
+def prove_copy(tally, ci, is_anew):
+    """Does so in a copy of the sources, and gives what came of the edits."""
     with tempfile.TemporaryDirectory(prefix="datacube-gate-") as copy:
         edits.copy_sources(copy)
         start, sampler, trials = time.time(), Sampler(copy), edits.Trials(copy, "must-fail", is_anew)
@@ -213,9 +240,7 @@ def prove(tally, is_anew):
         rows = sampler.rows()
         tally.rows += [("proofs, tests and edits", time.time() - start, sum(it[2] for it in rows)), *sorted(rows, key=lambda it: -it[2])]
         take_programs(copy)
-    for it in found:
-        tally.note(it.is_refused, it.text)
-    print(f"{sum(it.is_kept for it in found)} of the {len(found)} must-fail edits were refused in an earlier run on this machine", flush=True)
+        return found
 
 
 def take_programs(copy):
