@@ -3,7 +3,7 @@
 
     scripts/installing.py [--program PATH] [--only WORD]
 
-Each is tried in a copy of the repository whose released program is the one at PATH, else the one that `./datacube` would
+All is tried in a copy of the repository whose released program is the one at PATH, else the one that `./datacube` would
 run, with a record that fits. The kit's command `rt` is a script there that says that it was called. Where there is no
 dpkg-deb, or no man, what needs it is left out. Each trial is a line; the last line is `N passed, M failed`.
 """
@@ -358,16 +358,19 @@ def main():
     given = asks.parse_args()
     program = os.path.abspath(given.program or programs.datacube())
     passed = failed = 0
-    for name, trial in TRIALS.items():
-        if given.only not in name:
-            continue
+    left = [it for it in TRIALS.items() if given.only in it[0]]
+    while left:
+        # (a trial leaves the copy as it was, but for one that failed)
         with tempfile.TemporaryDirectory(prefix="datacube-installing-") as folder:
-            try:
-                told, mark = trial(Copy(folder, program)), "ok     "
-            except Exception as why:
-                told, mark = str(why) if isinstance(why, AssertionError) else repr(why), "FAILED "
-        passed, failed = passed + (mark == "ok     "), failed + (mark != "ok     ")
-        print(f"{mark} {name}{f': {told}' if told else ''}", flush=True)
+            copy, is_right = Copy(folder, program), True
+            while left and is_right:
+                name, trial = left.pop(0)
+                try:
+                    told, is_right = trial(copy), True
+                except Exception as why:
+                    told, is_right = str(why) if isinstance(why, AssertionError) else repr(why), False
+                passed, failed = passed + is_right, failed + (not is_right)
+                print(f"{'ok     ' if is_right else 'FAILED '} {name}{f': {told}' if told else ''}", flush=True)
     print(f"{passed} passed, {failed} failed")
     return 1 if failed or not passed else 0
 

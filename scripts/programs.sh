@@ -111,9 +111,10 @@ find_program() {
 
 # Keeps the program that was found in a folder, with what was looked at before, which stands in a new file that was made
 # at a time: only if all of it is still the same, and each file is a plain one that had rested for two seconds then, by
-# the clock of that file's system, so that a change from then on has another time.
+# the clock of that file's system, so that a change from then on has another time. Where find can't say all that, nothing
+# is kept.
 keep_found() {
-    if look_at "$1" | cmp -s - "$2" &&
+    if look_at "$1" | cmp -s - "$2" && grep -q ' crates\.txt$' "$2" &&
         awk -v now="$3" '$1 != "boot" && ($1 != "f" || $2 >= now - 2 || $3 >= now - 2) { exit 1 }' "$2" &&
         { echo "${program#"$1"/}" && cat "$2"; } 2>/dev/null >"$2.whole" && chmod 644 "$2.whole"; then
         mv -f "$2.whole" "$1/out/program.txt" || true
