@@ -7,7 +7,7 @@
 #                                                folder $DESTDIR where that is set
 #
 # The program is the one that `./datacube` would run; where there is none, nothing is installed. PREFIX/share/doc/datacube
-# is laid out as the repository, so that paths in documents and examples hold there. The folders that were made are noted
+# is laid out as the repository, so that commands in documents and examples hold there. The folders that were made are noted
 # there, in `folders`, which no package needs; --uninstall takes those of them away that are empty then.
 set -eu
 root=$(dirname -- "$(dirname -- "$(readlink -f -- "$0")")")
