@@ -18,6 +18,7 @@ import heapq
 import logging
 import os
 import re
+import secrets
 import shutil
 import signal
 import subprocess
@@ -397,14 +398,29 @@ def look_around(client: Any, job: Job, feeds: Sequence[str], needs_shards: bool)
         raise Stop(f"datacube_dask: the workers have different programs: {', '.join(sorted(versions))}")
 
 
+def security_of(words: argparse.Namespace) -> Any:
+    """What Dask is told of TLS: nothing, or the authority, the certificate and its key, and that nothing goes without them."""
+    files = words.tls_ca_file, words.tls_cert, words.tls_key
+    if not any(files):
+        return None
+    from distributed.security import Security
+
+    for path in files:
+        if not os.access(path, os.R_OK):
+            raise Stop(f"datacube_dask: {path} can't be read", 2)
+    ca_file, cert, key = files
+    return Security(tls_ca_file=ca_file, tls_client_cert=cert, tls_client_key=key, require_encryption=True)
+
+
 @contextlib.contextmanager
-def connected(address: str, seconds: int) -> Iterator[Any]:
+def connected(words: argparse.Namespace) -> Iterator[Any]:
     """A client of a scheduler that has a worker."""
     from distributed import Client
 
+    address, seconds = words.scheduler, words.wait
     try:
-        client = Client(address, timeout=seconds)
-    except (OSError, ValueError) as why:
+        client = Client(address, timeout=seconds, security=security_of(words))
+    except (OSError, ValueError, RuntimeError, TypeError) as why:
         raise Stop(f"datacube_dask: there is no scheduler at {address}: {why}") from None
     with client:
         try:
@@ -431,8 +447,7 @@ def hand_out(path: str, to: Optional[str]) -> None:
     """Puts the finished text where it is wanted: a file is there whole or not at all."""
     try:
         if to:
-            shutil.copyfile(path, f"{to}.part")
-            os.replace(f"{to}.part", to)
+            put_whole(path, to)
             return
         with open(path, "rb") as text:
             shutil.copyfileobj(text, sys.stdout.buffer)
@@ -441,6 +456,22 @@ def hand_out(path: str, to: Optional[str]) -> None:
         # (what standard output still holds is not to be tried again at the end)
         os.dup2(os.open(os.devnull, os.O_WRONLY), 1)
         raise Stop(f"datacube_dask: the output couldn't be written to its end: {why.strerror}") from None
+
+
+def put_whole(path: str, to: str) -> None:
+    """Copies a file beside its place, into a new one of a name that can't be guessed, and then renames it. So nothing that
+    lies there already is written through, whoever put it."""
+    part = os.path.join(os.path.dirname(to), f".datacube-{secrets.token_hex(16)}.part")
+    flags = os.O_WRONLY | os.O_CREAT | os.O_EXCL | os.O_NOFOLLOW | os.O_CLOEXEC
+    with open(os.open(part, flags, 0o666), "wb") as out:
+        try:
+            with open(path, "rb") as text:
+                shutil.copyfileobj(text, out)
+            out.close()
+            os.replace(part, to)
+        except BaseException:
+            os.unlink(part)
+            raise
 
 
 @contextlib.contextmanager
@@ -463,7 +494,7 @@ def cube(words: argparse.Namespace, feeds: Sequence[str]) -> int:
     with scratch_in(words.scratch, words.schema) as folder:
         sizes = sizes_of(feeds)
         job = Job(words.program, folder, words.threads, words.refusals)
-        with connected(words.scheduler, words.wait) as client:
+        with connected(words) as client:
             look_around(client, job, feeds, words.shards > 1)
             slots = sum(client.nthreads().values())
             shares = shares_of(feeds, sizes, words.share_bytes, words.shards, slots)
@@ -505,6 +536,9 @@ def asked() -> argparse.Namespace:
     asks.add_argument("--threads", type=up_to(1, 16), default=1, metavar="N", help="the threads of each share [1]")
     asks.add_argument("--retries", type=up_to(0, 100), default=2, metavar="N", help="how often a share is tried again [2]")
     asks.add_argument("--fan-in", type=up_to(2, MOST_CUBES), default=MOST_CUBES, metavar="N", help="how many cubes a merge takes [64]")
+    asks.add_argument("--tls-ca-file", metavar="FILE", help="the certificate of the authority by which scheduler and workers are known")
+    asks.add_argument("--tls-cert", metavar="FILE", help="the certificate by which this run is known to them")
+    asks.add_argument("--tls-key", metavar="FILE", help="its key; the three are given together, for a scheduler at tls://..")
     asks.add_argument("--wait", type=up_to(1, 3600), default=10, metavar="SECONDS", help="for the scheduler, and for a worker where none is there [10]")
     asks.add_argument("--refusals", action="store_true", help="the refused lines of all feeds, in place of the cube")
     asks.add_argument("--quiet", action="store_true", help="say nothing of how far it is")
@@ -513,6 +547,8 @@ def asked() -> argparse.Namespace:
     words = asks.parse_args()
     if bool(words.feeds) == bool(words.list):
         asks.error("feeds are named as words, or by --list")
+    if len({bool(it) for it in (words.tls_ca_file, words.tls_cert, words.tls_key)}) > 1:
+        asks.error("--tls-ca-file, --tls-cert and --tls-key are given together")
     return words
 
 

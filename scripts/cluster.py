@@ -4,10 +4,11 @@
 
 200 feeds in groups, beside what scripts/oracle.py writes, while a worker is killed in the middle; faults, told with the
 number over all feeds; a worker without room, a program that is killed; 16 shards of a feed of N lines (a million), beside
-one run. The program is the one at PATH, else the one that `./datacube` would run. It installs nothing: where a package
+one run; a cluster under TLS, and keys that it doesn't know. The program is the one at PATH, else the one that `./datacube` would run. It installs nothing: where a package
 or the command `merge` is missing it says so, and ends with status 77. The last line is `N passed, M failed`.
 """
 import argparse
+import glob
 import os
 import random
 import re
@@ -38,18 +39,44 @@ exec "$DATACUBE" "$@"
 """
 
 
-class Cluster:
-    """A scheduler, and workers on the addresses 127.0.0.2 and on; each is a process that is ended with it."""
+class Keys:
+    """An authority of its own, and a certificate by it with a key, in files of a folder."""
 
-    def __init__(self, folder, program):
-        self.folder, self.workers, self.shares, self.count = folder, {}, f"{folder}/shares", 0
+    def __init__(self, folder, name):
+        self.files = [f"{folder}/{name}-{it}" for it in ("ca.pem", "cert.pem", "key.pem")]
+        ca_file, cert, key = self.files
+        ca_key, asked = f"{folder}/{name}-ca.key", f"{folder}/{name}.csr"
+        made = lambda who, to: ["req", "-newkey", "rsa:2048", "-nodes", "-subj", f"/CN={who}", "-keyout", to]
+        for words in (
+            [*made(f"{name} authority", ca_key), "-x509", "-days", "2", "-out", ca_file],
+            [*made(name, key), "-out", asked],
+            ["x509", "-req", "-in", asked, "-CA", ca_file, "-CAkey", ca_key, "-CAcreateserial", "-days", "2", "-out", cert],
+        ):
+            subprocess.run(["openssl", *words], check=True, stdout=subprocess.DEVNULL, stderr=subprocess.DEVNULL)
+
+    def words(self):
+        return [word for pair in zip(("--tls-ca-file", "--tls-cert", "--tls-key"), self.files) for word in pair]
+
+    def security(self):
+        from distributed.security import Security
+
+        ca_file, cert, key = self.files
+        return Security(tls_ca_file=ca_file, tls_client_cert=cert, tls_client_key=key, require_encryption=True)
+
+
+class Cluster:
+    """A scheduler, and workers on the addresses 127.0.0.2 and on, under TLS where there are keys; each is a process that is
+    ended with it."""
+
+    def __init__(self, folder, program, keys=None):
+        self.folder, self.workers, self.shares, self.count, self.keys = folder, {}, f"{folder}/shares", 0, keys
         self.program = f"{folder}/datacube"
         with open(self.program, "w") as out:
             out.write(PROGRAM)
         os.chmod(self.program, 0o755)
-        self.room = {**os.environ, "DATACUBE": program, "SHARES": self.shares, "DASK_LOGGING__DISTRIBUTED": "error"}
+        self.room = {**os.environ, "DATACUBE": program, "SHARES": self.shares, "DASK_LOGGING__DISTRIBUTED": "error", "TMPDIR": folder}
         with socket.create_server(("127.0.0.1", 0)) as free:
-            self.address = f"tcp://127.0.0.1:{free.getsockname()[1]}"
+            self.address = f"{'tls' if keys else 'tcp'}://127.0.0.1:{free.getsockname()[1]}"
         port = self.address.rpartition(":")[2]
         self.scheduler = self.begin("scheduler", ["--host", "127.0.0.1", "--port", port, "--no-dashboard", "--no-show"], {})
 
@@ -64,7 +91,7 @@ class Cluster:
     def begin(self, name, words, more):
         with open(f"{self.folder}/{name}.log", "wb") as log:
             how = {"stdin": subprocess.DEVNULL, "stdout": log, "stderr": log, "cwd": self.folder, "env": {**self.room, **more}}
-            return subprocess.Popen(["dask", name.partition("-")[0], *words], **how)
+            return subprocess.Popen(["dask", name.partition("-")[0], *words, *(self.keys.words() if self.keys else [])], **how)
 
     def with_workers(self, **settings):
         """Has a worker for each name, with these variables in its environment, and no others."""
@@ -76,7 +103,7 @@ class Cluster:
             self.count += 1
             host = ["--host", f"127.0.0.{1 + self.count}", "--name", name, "--no-nanny", "--nthreads", "1", "--no-dashboard"]
             self.workers[name] = self.begin(f"worker-{name}", [self.address, *host], more)
-        with Client(self.address, timeout=120) as client:
+        with Client(self.address, timeout=120, security=self.keys and self.keys.security()) as client:
             while {it["id"] for it in client.scheduler_info()["workers"].values()} != set(settings):
                 time.sleep(0.1)
 
@@ -162,11 +189,16 @@ def two_hundred(cluster, tally):
     got = cluster.ended(driver)
     tally.note(was_there and got == (run.status, run.print(), ""), "200 feeds, a worker is killed in the middle: the bytes of one machine", got)
     count = len(cluster.begun())
+    write(f"{folder}/victim", b"theirs")
+    os.symlink("victim", f"{folder}/cube.csv.part")
     again = cluster.run("--share-bytes", share, "--fan-in", "4", "--list", "names", "--out", "cube.csv", "schema.toml")
     shares = len(cluster.begun())
     tally.note(count > shares > 20, f"{shares} shares, of which {count - shares} began again", again)
     with open(f"{folder}/cube.csv", "rb") as file:
         tally.note(again == (run.status, b"", "") and file.read() == run.print(), "the same from a list into a file, in bytes", again)
+    with open(f"{folder}/victim", "rb") as file:
+        is_kept = file.read() == b"theirs" and os.path.islink(f"{folder}/cube.csv.part")
+        tally.note(is_kept and not glob.glob(f"{folder}/.datacube-*"), "a link that was planted beside the file isn't written through")
     got = cluster.run("--refusals", "--share-bytes", share, "--fan-in", "5", "schema.toml", *names)
     tally.note(got == (run.status, run.refusals(), "") and run.refused, "its refusals, by the numbers of all feeds", got)
     faults(cluster, tally, names)
@@ -223,6 +255,32 @@ def without_workers(cluster, tally):
     tally.note(got == (1, b"", told), "the last worker is killed: it waits for another, and then says so", got)
 
 
+def under_tls(folder, tally, program):
+    """A cluster under TLS, asked with its keys, without any, with those of others, and one without TLS asked with keys."""
+    if not shutil.which("openssl"):
+        print("left out, since there is no openssl: a cluster under TLS")
+        return
+    keys, others = Keys(folder, "ours"), Keys(folder, "theirs")
+    wanted = subprocess.run([program, "print", "schema.toml", "feed1.csv", "feed2.csv"], cwd=folder, stdout=subprocess.PIPE)
+    asked = ["--wait", "5", "schema.toml", "feed1.csv", "feed2.csv"]
+    with Cluster(folder, program, keys) as cluster:
+        cluster.with_workers(first={}, second={})
+        got = cluster.run(*keys.words(), *asked)
+        tally.note(got == (wanted.returncode, wanted.stdout, ""), "under TLS: the bytes of one machine", got)
+        no_scheduler = f"datacube_dask: there is no scheduler at {cluster.address}: "
+        for words, name in (([], "without keys"), (others.words(), "with keys of another authority")):
+            got = cluster.run(*words, *asked)
+            tally.note(got[:2] == (1, b"") and got[2].startswith(no_scheduler), f"under TLS, {name}: there is no scheduler", got)
+        got = cluster.run(*keys.words()[:4], *asked)
+        tally.note(got[:2] == (2, b"") and "are given together" in got[2], "a certificate without its key is refused", got)
+        got = cluster.run(*keys.words()[:5], f"{folder}/none.pem", *asked)
+        tally.note(got == (2, b"", f"datacube_dask: {folder}/none.pem can't be read\n"), "a key that isn't there is refused", got)
+    with Cluster(folder, program) as cluster:
+        cluster.with_workers(first={})
+        got = cluster.run(*keys.words(), *asked)
+        tally.note(got[:2] == (1, b"") and "encryption" in got[2], "keys for a cluster without TLS: nothing is sent", got)
+
+
 def shards(cluster, tally, program, lines):
     """A feed that is too large, in 16 shards."""
     folder, rng = cluster.folder, random.Random(3)
@@ -269,6 +327,7 @@ def main():
         shards(cluster, tally, program, words.lines)
         without_room(cluster, tally)
         without_workers(cluster, tally)
+        under_tls(folder, tally, program)
     print(f"{tally.passed} passed, {tally.failed} failed")
     return 1 if tally.failed else 0
 

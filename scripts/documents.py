@@ -1,11 +1,13 @@
 #!/usr/bin/env python3
 """Makes what documents and completions say of codes and of the command line from what the program says, what
-docs/PROMISES.md says of calls from the code, and what docs/ARCHITECTURE.md says that crates stand on from crates.txt.
+docs/PROMISES.md says of calls from the code, what docs/ARCHITECTURE.md says that crates stand on from crates.txt, and what
+README.md and docs/DEFINITIONS.md say of the bounds of a schema from its definition.
 
     scripts/documents.py [--program PATH]            writes docs/datacube.1, the tables of codes in docs/FORMATS.md, the
                                                      completions for shells (completions/), the tables of calls in
                                                      docs/PROMISES.md (scripts/promises.py), the last column of the
-                                                     crates in docs/ARCHITECTURE.md and their map, docs/crates.svg
+                                                     crates in docs/ARCHITECTURE.md and their map, docs/crates.svg, and
+                                                     the bounds in README.md and docs/DEFINITIONS.md
     scripts/documents.py --check [--program PATH]    says what of them isn't what the program or the code says, and which
                                                      functions docs/ARCHITECTURE.md names that aren't there; the last
                                                      line is `N passed, M failed`, and it fails where something isn't
@@ -30,6 +32,8 @@ ROOT = os.path.dirname(os.path.dirname(os.path.realpath(__file__)))
 ARCHITECTURE = f"{ROOT}/docs/ARCHITECTURE.md"
 FORMATS = f"{ROOT}/docs/FORMATS.md"
 PROMISES = f"{ROOT}/docs/PROMISES.md"
+DEFINITIONS = f"{ROOT}/docs/DEFINITIONS.md"
+README = f"{ROOT}/README.md"
 MANUAL = f"{ROOT}/docs/datacube.1"
 MAP = f"{ROOT}/docs/crates.svg"
 CRATES = f"{ROOT}/crates.txt"
@@ -37,17 +41,30 @@ CRATES = f"{ROOT}/crates.txt"
 CRATE = re.compile(r"^(\w+)[^:#\n]*:(.*)$", re.MULTILINE)
 ROW = re.compile(r"^(\| `(\w+)` \| [^|]* \| )[^|]* \|$", re.MULTILINE)
 FUNCTION = re.compile(r"`(\w+)::(?:\w+::)*(\w+)`")
+# where the bounds of a schema and of a run stand, and how documents say them
+BOUND = re.compile(r"pub (\w+)_at_most : length \S+ ≤ (\d+)")
+BOUNDED = {
+    DEFINITIONS: ["1 to {dimensions} dimensions, 1 to {measures} measures, 1 to {aggregates} aggregates of these measures"],
+    README: ["at most {dimensions} dimensions, {measures} measures and {sources} feeds"],
+}
+# what README.md says in its first lines, so many
+FIRST_LINES = 20
+FIRST_SAID = ["whole numbers of 64 bits", "dimensions", "status 4", "Licence: none has been chosen yet"]
 
 
 class Program:
     """The program that is asked."""
 
     def __init__(self, path):
-        self.path = path
+        self.path = os.path.abspath(path)
 
-    def said(self, *words):
-        """What it prints."""
-        return subprocess.run([self.path, *words], stdin=subprocess.DEVNULL, stdout=subprocess.PIPE, check=True).stdout.decode()
+    def said(self, *words, folder=ROOT, given=os.devnull):
+        """What it prints in a folder, with a file on standard input."""
+        with open(given, "rb") as file:
+            ran = subprocess.run([self.path, *words], cwd=folder, stdin=file, stdout=subprocess.PIPE)
+        if ran.returncode not in (0, 4):
+            sys.exit(f"{self.path} {' '.join(words)}: status {ran.returncode}")
+        return ran.stdout.decode()
 
 
 def read_notes(program):
@@ -105,14 +122,108 @@ def code_of(crate):
     return "".join(text_at(path) for path in sorted(glob.glob(f"{ROOT}/crates/{crate}/src/**/*.rt", recursive=True)))
 
 
+def bounds():
+    """The most parts that a schema has, and the most sources of a ledger, as their definitions say."""
+    files = [f"{ROOT}/crates/{it}" for it in ("cube_core/specs/Layout.antt", "cube_ledger/specs/Ledger.antt")]
+    return dict(found for it in files for found in BOUND.findall(text_at(it)))
+
+
+def bounded(path):
+    """A document's text with the bounds that the definitions say."""
+    text, most = text_at(path), bounds()
+    for said in BOUNDED[path]:
+        pattern = re.sub(r"\\\{\w+\\\}", r"\\d+", re.escape(said))
+        text, count = re.subn(pattern, said.format(**most), text)
+        if count != 1:
+            sys.exit(f"{os.path.relpath(path, ROOT)} doesn't say, once: {said.format(**most)}")
+    return text
+
+
+def readme():
+    """README.md with its bounds; its first lines say what a newcomer has to know."""
+    text = bounded(README)
+    head = "\n".join(text.split("\n")[:FIRST_LINES])
+    lacking = [it for it in FIRST_SAID if it not in head]
+    if lacking:
+        sys.exit(f"the first {FIRST_LINES} lines of README.md don't say: {', '.join(lacking)}")
+    return text
+
+
 def roff(text):
     """A text as roff shows it."""
-    lines = text.replace("\\", "\\e").replace("-", "\\-").split("\n")
-    return "\n".join("\\&" + it if it[:1] in (".", "'") else it for it in lines)
+    lines = text.replace("\\", "\\e").replace("-", "\\-").replace("'", "\\(aq").split("\n")
+    return "\n".join("\\&" + it if it[:1] == "." else it for it in lines)
 
 
 def literal(text):
     return f".nf\n{roff(text.rstrip())}\n.fi\n"
+
+
+def example(text):
+    """An example of several lines, set in."""
+    return f".PP\n.RS 4\n{literal(text)}.RE\n"
+
+
+def run_on(text):
+    """A text of Markdown in one paragraph, as roff shows it: code and what is strong in bold, of links the words alone."""
+    bold = lambda it: f"\\fB{roff(it[1] or it[2])}\\fR".replace("\n", " ")
+    plain, made, at = re.sub(r"\[([^]]*)\]\([^)]*\)", r"\1", text), "", 0
+    for found in re.finditer(r"`([^`]+)`|\*\*([^*]+)\*\*", plain):
+        made, at = made + roff(plain[at : found.start()]) + bold(found), found.end()
+    made += roff(plain[at:])
+    return made if made[:1] != "." else "\\&" + made
+
+
+def cells_of(row):
+    """The cells of a row of a table of Markdown."""
+    return [it.strip().replace("\\|", "|") for it in re.split(r"(?<!\\)\|", row)[1:-1]]
+
+
+def from_markdown(text):
+    """Paragraphs, lists, tables and examples of Markdown as roff: a table is a list of its first cells with what the others say."""
+    made = ""
+    for part in re.findall(r"```.*?\n.*?```|(?:(?!```)[^\n]+\n?)+", text, re.DOTALL):
+        lines = part.strip("\n").split("\n")
+        if part.startswith("```"):
+            made += example("\n".join(lines[1:-1]))
+        elif part.startswith("|"):
+            for first, *rest in map(cells_of, lines[2:]):
+                made += f".TP\n{run_on(first)}\n{run_on(': '.join(it for it in rest if it))}\n"
+        elif part.startswith("- "):
+            made += "".join(f".IP \\(bu 2\n{run_on(it[2:])}\n" for it in lines)
+        else:
+            made += f".PP\n{run_on(' '.join(lines))}\n"
+    return made
+
+
+def section_of(text, title):
+    """A section of docs/FORMATS.md up to its first heading below, without the tables of codes and what leads to them."""
+    found = re.search(rf"^## {title}\n(.*?)(?=^##)", text + "\n##", re.DOTALL | re.MULTILINE)[1]
+    return re.sub(r"[^\n]*\n\n<!-- codes: .*?<!-- end of codes -->", "", found, flags=re.DOTALL)
+
+
+def formats_in_manual(program):
+    """The sections of the manual page on schemas, feeds and printed cubes, with examples, and on statuses."""
+    text = text_at(FORMATS)
+    shop = f"{ROOT}/examples/shop"
+    feed = f"{ROOT}/examples/first/feed.csv"
+    named = ["schema.toml", "market.csv", "street.csv", "online.csv"]
+    ask = lambda *words: example(f"$ datacube {' '.join(words)}\n{program.said(*(it.strip(chr(39)) for it in words), folder=shop)}")
+    page = ".SH SCHEMAS\n" + from_markdown(section_of(text, "The schema"))
+    page += ".PP\nCODES below has the faults of a schema, S1 to S10.\n"
+    page += ".SH FEEDS\n" + from_markdown(section_of(text, "A feed"))
+    page += ".PP\nA feed under the sample schema, which inserts three facts:\n" + example(text_at(feed))
+    page += ".PP\nCODES has the faults of lines, L1 to L6, by which a line is refused, and those of a whole feed, F1 to F4.\n"
+    page += ".SH THE PRINTED CUBE\n" + from_markdown(section_of(text, "The printed cube"))
+    page += ".PP\nOf the feed above, in a file feed.csv:\n" + example(f"$ datacube < feed.csv\n{program.said(given=feed)}")
+    page += ".SH EXAMPLES\n.PP\nThe schema of a shop's sales, examples/shop/schema.toml:\n" + example(text_at(f"{shop}/schema.toml"))
+    page += ".PP\nThe feed of one of its sources, street.csv, whose last line is refused:\n" + example(text_at(f"{shop}/street.csv"))
+    page += ".PP\nWhat was sold in each city, over all products and payments, by the feeds of three sources:\n"
+    page += ask("slice", named[0], "'?,\\A,\\A'", *named[1:])
+    page += ".PP\nOne step below Leeds, along the products:\n" + ask("drill", named[0], "'=Leeds,\\A,\\A'", "product", *named[1:])
+    page += ".PP\nThe lines that were refused, each with its source, its number and a code:\n" + ask("refusals", *named)
+    statuses = text[text.index("| Status | Meaning |") :]
+    return page + ".SH EXIT STATUS\n" + from_markdown(statuses.partition("\n\n")[0])
 
 
 def commands_of(program):
@@ -133,12 +244,14 @@ def manual_of(program, notes):
     page += ".SH COMMANDS\n"
     for name in commands_of(program):
         page += f".SS {name}\n" + literal(program.said(name, "--help"))
+    page += formats_in_manual(program)
     page += ".SH CODES\n"
     for note in notes:
         page += f'.TP\n.B "{roff(note["code"])}"\n({roff(note["about"])}) {roff(note["means"])} {roff(note["mend"])}\n'
         if note["example"]:
             page += ".br\n" + roff(note["example"]) + "\n"
-    return page + ".SH FILES\n.TP\ndocs/FORMATS.md\nthe formats of schemas, feeds, cells and cubes\n"
+    files = "the whole of the formats, options and codes, in the repository, and below share/doc/datacube where it is installed"
+    return page + f".SH FILES\n.TP\ndocs/FORMATS.md\n{files}\n.TP\nexamples/shop\nthe examples, likewise\n"
 
 
 def wanted(program):
@@ -153,6 +266,8 @@ def wanted(program):
         ARCHITECTURE: architecture_with(text_at(ARCHITECTURE)),
         FORMATS: formats_with(notes, text_at(FORMATS)),
         PROMISES: promises.page_with(text_at(PROMISES)),
+        DEFINITIONS: bounded(DEFINITIONS),
+        README: readme(),
         MANUAL: manual_of(program, notes),
         MAP: crate_map.picture(text_at(CRATES)),
     }

@@ -61,6 +61,45 @@ setInterval(() => {
   last = now;
 }, 10);
 """
+# the least contrast of a text (WCAG 2.2, 1.4.3), and what is done with a button
+CONTRAST = 4.5
+STATES = [[], ["hover"], ["focus", "focus-visible"], ["hover", "active"]]
+# of each button its text, and the least contrast of what is written on it with what is painted below
+CONTRASTS = """
+const dot = new OffscreenCanvas(1, 1).getContext("2d", { willReadFrequently: true });
+const seen = new Map();
+const rgba = (text) => {
+  if (!seen.has(text)) {
+    dot.clearRect(0, 0, 1, 1);
+    dot.fillStyle = text;
+    dot.fillRect(0, 0, 1, 1);
+    const [red, green, blue, alpha] = dot.getImageData(0, 0, 1, 1).data;
+    seen.set(text, [[red, green, blue], alpha / 255]);
+  }
+  return seen.get(text);
+};
+const mix = (part, one, other) => one.map((it, at) => part * it + (1 - part) * other[at]);
+const over = (text, below) => mix(rgba(text)[1], rgba(text)[0], below);
+const paint = (chain, at, isText, below) => {
+  const style = getComputedStyle(chain[at]), ground = over(style.backgroundColor, below);
+  const inside = at + 1 < chain.length ? paint(chain, at + 1, isText, ground) : isText ? over(style.color, ground) : ground;
+  return mix(Number(style.opacity), inside, below);
+};
+const luminance = (colour) => {
+  const [red, green, blue] = colour.map((it) => it / 255 <= 0.04045 ? it / 255 / 12.92 : ((it / 255 + 0.055) / 1.055) ** 2.4);
+  return 0.2126 * red + 0.7152 * green + 0.0722 * blue;
+};
+const contrast = (it) => {
+  const chain = [];
+  for (; it; it = it.parentElement) chain.unshift(it);
+  const [high, low] = [true, false].map((isText) => luminance(paint(chain, 0, isText, [255, 255, 255]))).sort((a, b) => b - a);
+  return (high + 0.05) / (low + 0.05);
+};
+const texts = (it) => [it, ...it.querySelectorAll("*")].filter(
+  (part) => [...part.childNodes].some((node) => node.nodeType === 3 && node.data.trim()));
+return [...document.querySelectorAll("button")].map((it) => [it.textContent, Math.min(...texts(it).map(contrast))])
+  .filter((it) => Number.isFinite(it[1]));
+"""
 DROP = """
 const [name, text] = arguments, data = new DataTransfer();
 data.items.add(new File([text], name));
@@ -176,6 +215,21 @@ class Page:
 
     def shown(self):
         return self.js(SHOWN)
+
+    def colours(self, look):
+        """Asks for light or dark colours, and for no motion."""
+        asked = {"prefers-color-scheme": look, "prefers-reduced-motion": "reduce"}
+        features = [{"name": name, "value": value} for name, value in asked.items()]
+        self.driver.execute_cdp_cmd("Emulation.setEmulatedMedia", {"features": features})
+
+    def force(self, state):
+        """Has each button, and each row of the table, look as in a state: with the pointer on it, or the focus."""
+        ask = self.driver.execute_cdp_cmd
+        for name in ("DOM.enable", "CSS.enable"):
+            ask(name, {})
+        root = ask("DOM.getDocument", {"depth": 0})["root"]["nodeId"]
+        for node in ask("DOM.querySelectorAll", {"nodeId": root, "selector": "button, tr"})["nodeIds"]:
+            ask("CSS.forcePseudoState", {"nodeId": node, "forcedPseudoClasses": state})
 
     def command(self):
         """The words of the command that the page shows for its view."""
@@ -346,6 +400,29 @@ def shop_heat(trials, page, cube):
     trials.see("the address brings the heat map back", page.shown()["body"], wanted)
     page.click("#scroller [data-cell]")
     trials.see("a cell drilled down", page.command()[3], "=Leeds,=coffee,?")
+
+
+def shop_contrast(trials, page, cube):
+    """Each button can be read, in light and in dark colours, whatever is done with it."""
+    for look in ("light", "dark"):
+        page.colours(look)
+        page.fresh()
+        see_contrast(trials, page, f"{look}, the start", 4)
+        for name, address in (("table", "#slice=%3F,%3F,%5CA"), ("heat map", "#slice=%3F,%3F,%5CA&form=heat&colour=9")):
+            page.open(cube, address)
+            see_contrast(trials, page, f"{look}, the {name}", 20)
+    page.colours("light")
+
+
+def see_contrast(trials, page, name, least):
+    """Sees that each button of the page, also of what is hidden now, has enough contrast; there are so many at least."""
+    for state in STATES:
+        page.force(state)
+        found = page.js(CONTRASTS)
+        where = f"{name}, {' and '.join(state) or 'at rest'}"
+        trials.see(f"{where}: each button can be read", [it for it in found if it[1] < CONTRAST], [])
+        trials.see(f"{where}: buttons were looked at", len(found) >= least)
+    page.force([])
 
 
 def shop_means(trials, page, cube):
@@ -759,8 +836,9 @@ def large_pictures(page):
     page.driver.set_window_size(1280, 800)
 
 
-def chromium():
-    """A headless Chromium, or None with a line that says what isn't installed, or why it doesn't start."""
+def chromium(room):
+    """A headless Chromium with its own files in a folder, or None with a line that says what isn't installed, or why it doesn't
+    start."""
     try:
         from selenium import webdriver
         from selenium.common.exceptions import WebDriverException
@@ -779,7 +857,7 @@ def chromium():
     if os.geteuid() == 0:
         options.add_argument("--no-sandbox")
     try:
-        return webdriver.Chrome(service=Service(driver), options=options)
+        return webdriver.Chrome(service=Service(driver, env={**os.environ, "TMPDIR": room}), options=options)
     except WebDriverException as why:
         print(f"explorer: the browser can't be driven here: {why.msg}")
         return None
@@ -789,7 +867,7 @@ def try_small(trials, page, room, given):
     """Runs the trials of small cubes."""
     cube = f"{room}/shop.csv"
     print_cube(cube, SHOP_SCHEMA, *SHOP)
-    for trial in (shop_views, shop_order, shop_heat, shop_means, shop_keys):
+    for trial in (shop_views, shop_order, shop_heat, shop_contrast, shop_means, shop_keys):
         trials.run(trial, page, cube)
     for trial in (strange_texts, rolled_up):
         trials.run(trial, page, room)
@@ -822,16 +900,17 @@ def main():
     parser.add_argument("--rows", type=int, default=1_000_000)
     parser.add_argument("--only", default="")
     given = parser.parse_args()
-    driver = chromium()
-    if not driver:
-        print("0 passed, 0 failed")
-        return 77
     trials = Trials(given.loud, given.only)
-    try:
-        with tempfile.TemporaryDirectory(prefix="datacube-explorer-") as room:
+    room_of = lambda name: tempfile.TemporaryDirectory(prefix=f"datacube-{name}-", ignore_cleanup_errors=True)
+    with room_of("browser") as browsers, room_of("explorer") as room:
+        driver = chromium(browsers)
+        if not driver:
+            print("0 passed, 0 failed")
+            return 77
+        try:
             try_all(trials, Page(driver), room, given)
-    finally:
-        driver.quit()
+        finally:
+            driver.quit()
     print(f"{trials.passed} passed, {trials.failed} failed")
     return 1 if trials.failed or not trials.passed else 0
 

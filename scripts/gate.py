@@ -9,6 +9,7 @@ line is `N passed, M failed` over all parts; before it stands a table of the sec
 import argparse
 import collections
 import concurrent.futures
+import contextlib
 import glob
 import os
 import re
@@ -30,8 +31,9 @@ COUNTS = re.compile(r"(\d+) passed, (\d+) failed")
 # (the status of a part that says which packages it lacks)
 LEFT_OUT = 77
 
-# What came of a part: its status, the lines that it said, and its seconds of the clock and of processors.
-Part = collections.namedtuple("Part", "status lines clock spent")
+# What came of a part: its status, the lines that it said, its seconds of the clock and of processors, and the names that it
+# left in the folder for temporary files.
+Part = collections.namedtuple("Part", "status lines clock spent left")
 
 
 class Tally:
@@ -46,6 +48,10 @@ class Tally:
         self.passed, self.failed = self.passed + is_right, self.failed + (not is_right)
         print(f"{'ok     ' if is_right else 'FAILED '} {what}", flush=True)
 
+    def note_left(self, names):
+        """Counts whether nothing was left in the folder for temporary files."""
+        self.note(not names, f"nothing is left in the folder for temporary files{''.join(f': {it}' for it in names[:10])}")
+
     def run(self, parts):
         """Runs parts side by side, as many as there are processors; shows of each in turn what it says but for its last
         line, and adds up what that counts."""
@@ -56,6 +62,7 @@ class Tally:
                 print(*part.lines[:-1], sep="", end="", flush=True)
                 self.rows.append((name, part.clock, part.spent))
                 self.add(part.status, "".join(part.lines[-1:]).strip())
+                self.note_left(part.left)
 
     def add(self, status, last):
         """Adds up what a part's last line counts; a part without such a line, or with a status that it doesn't tell of,
@@ -70,16 +77,32 @@ class Tally:
         self.passed, self.failed = self.passed + passed, self.failed + (failed or int(status != 0))
 
 
+@contextlib.contextmanager
+def temporary_files(place=None):
+    """A fresh folder for temporary files, as open as /tmp: a part that root runs may run others as somebody else."""
+    with tempfile.TemporaryDirectory(prefix="datacube-gate-", dir=place, ignore_cleanup_errors=True) as room:
+        os.chmod(room, 0o1777)
+        yield room
+
+
 def run_part(command):
-    """Runs a command to its end, and gives what came of it."""
+    """Runs a command to its end, with a folder of its own for temporary files, and gives what came of it."""
     start = time.monotonic()
-    with tempfile.TemporaryFile("w+", encoding="utf-8", errors="replace") as said:
-        ran = subprocess.Popen(command, cwd=ROOT, stdin=subprocess.DEVNULL, stdout=said, stderr=subprocess.STDOUT)
+    with tempfile.TemporaryFile("w+", encoding="utf-8", errors="replace") as said, temporary_files(place_of(command)) as room:
+        how = {"stdin": subprocess.DEVNULL, "stdout": said, "stderr": subprocess.STDOUT, "env": {**os.environ, "TMPDIR": room}}
+        ran = subprocess.Popen(command, cwd=ROOT, **how)
         _, status, use = os.wait4(ran.pid, 0)
         clock = time.monotonic() - start
         ran.returncode = os.waitstatus_to_exitcode(status)
         said.seek(0)
-        return Part(ran.returncode, said.readlines(), clock, use.ru_utime + use.ru_stime)
+        return Part(ran.returncode, said.readlines(), clock, use.ru_utime + use.ru_stime, sorted(os.listdir(room)))
+
+
+def place_of(command):
+    """Where a part's temporary files go: where the caller says, else of the trials of stores, which sync at each commit, in
+    memory, where that can be."""
+    is_of_stores = command[0] == "scripts/store_trials.py" and "TMPDIR" not in os.environ and os.access("/dev/shm", os.W_OK)
+    return "/dev/shm" if is_of_stores else None
 
 
 def stream(command, folder, see):
@@ -151,6 +174,7 @@ def quick_parts(program):
         ("a wrong program", ["scripts/spoil.py", "--program", program]),
         ("merges beside a slow program", ["scripts/merges.py", "--cases", "40", "--program", program]),
         ("sessions beside a slow program", ["scripts/sessions.py", "--cases", "10", "--program", program]),
+        ("starting, installing and packing it", ["scripts/installing.py", "--program", program]),
         ("the progress line in a terminal", ["scripts/progress.py", "--program", program]),
         ("the Python package", ["scripts/python_tests.py", "--program", program]),
         ("a session over a store, the short form", ["scripts/store_trials.py", "--short", "--program", program]),
@@ -188,6 +212,23 @@ def prove(tally, is_anew):
         ci.append("--anew")
     print("== proofs and tests of all crates, and must-fail edits; this takes the better part of an hour on four processors", flush=True)
     os.environ.setdefault("RT_JOBS", shell("checks_side_by_side"))
+    with temporary_files() as room:
+        before = os.environ.get("TMPDIR"), tempfile.tempdir
+        os.environ["TMPDIR"] = tempfile.tempdir = room
+        found = prove_copy(tally, ci, is_anew)
+        if before[0] is None:
+            del os.environ["TMPDIR"]
+        else:
+            os.environ["TMPDIR"] = before[0]
+        tempfile.tempdir = before[1]
+        tally.note_left(sorted(os.listdir(room)))
+    for it in found:
+        tally.note(it.is_refused, it.text)
+    print(f"{sum(it.is_kept for it in found)} of the {len(found)} must-fail edits were refused in an earlier run on this machine", flush=True)
+
+
+def prove_copy(tally, ci, is_anew):
+    """Does so in a copy of the sources, and gives what came of the edits."""
     with tempfile.TemporaryDirectory(prefix="datacube-gate-") as copy:
         edits.copy_sources(copy)
         start, sampler, trials = time.time(), Sampler(copy), edits.Trials(copy, "must-fail", is_anew)
@@ -199,9 +240,7 @@ def prove(tally, is_anew):
         rows = sampler.rows()
         tally.rows += [("proofs, tests and edits", time.time() - start, sum(it[2] for it in rows)), *sorted(rows, key=lambda it: -it[2])]
         take_programs(copy)
-    for it in found:
-        tally.note(it.is_refused, it.text)
-    print(f"{sum(it.is_kept for it in found)} of the {len(found)} must-fail edits were refused in an earlier run on this machine", flush=True)
+        return found
 
 
 def take_programs(copy):

@@ -29,6 +29,8 @@ HERE = os.path.dirname(os.path.abspath(__file__))
 BENCH = os.path.join(HERE, "..", "crates", "bench", "out", "bench")
 # (it makes a call that adds something once more where memory was wanting)
 DRIVER = os.path.join(HERE, "..", "crates", "cube_calls", "out", "cube_calls")
+# (the folder of the driver for Dask)
+DASK = os.path.join(HERE, "..", "cluster")
 SAMPLE = oracle.Schema(
     ["region", "kind"], ["amount"], [("count", None), ("sum", 0), ("min", 0), ("max", 0), ("avg", 0)]
 )
@@ -410,6 +412,29 @@ def endless(program):
     return None if (answer.status, answer.code(), answer.out) == (1, "G3 1 F4", b"") else f"{answer.status}, {answer.err!r}"
 
 
+def planted_links(program):
+    """The driver for Dask writes its text through no link that lies where it writes, and leaves nothing where it can't."""
+    folder = os.path.join(program.folder, "planted")
+    os.mkdir(folder)
+    at = lambda name: os.path.join(folder, name)
+    for name in ("theirs", "also theirs"):
+        program.write(f"planted/{name}", b"theirs")
+    program.write("planted/text", b"ours")
+    os.symlink("theirs", at("cube.csv.part"))
+    os.symlink("also theirs", at("cube.csv"))
+    call = "import sys; sys.path.insert(0, sys.argv[1]); import datacube_dask as it; it.hand_out(*sys.argv[2:])"
+    run = lambda *paths: subprocess.run([sys.executable, "-B", "-c", call, DASK, *paths], stderr=subprocess.PIPE)
+    if run(at("text"), at("cube.csv")).returncode:
+        return "the text wasn't handed out"
+    found = {name: open(at(name), "rb").read() for name in ("theirs", "also theirs", "cube.csv")}
+    if found != {"theirs": b"theirs", "also theirs": b"theirs", "cube.csv": b"ours"} or os.path.islink(at("cube.csv")):
+        return f"written through a link: {found}"
+    was = sorted(os.listdir(folder))
+    if not run(at("text"), at("theirs/cube.csv")).returncode or not run(at("none"), at("other.csv")).returncode:
+        return "a text that can't be handed out was"
+    return None if sorted(os.listdir(folder)) == was else f"left behind: {sorted(os.listdir(folder))}"
+
+
 def big_inputs(trials):
     program = trials.program
     program.write("schema.toml", SAMPLE.toml())
@@ -651,6 +676,7 @@ def main():
         ends_of_output(trials)
         cut_feeds(trials)
         cut_cubes(trials)
+        trials.trial("links planted where the driver for Dask writes", lambda: planted_links(trials.program))
         if not given.short:
             growths_in_turn(trials)
             big_inputs(trials)

@@ -12,14 +12,14 @@ SECONDS = 120
 
 
 def found():
-    """The program that `./datacube` would run without building it, or None; the released one too where it is of other sources."""
+    """The program that `./datacube` would run, or None; the released one too where it is of other sources."""
     ran = subprocess.run([f"{ROOT}/scripts/program.sh", "--any"], stdout=subprocess.PIPE, text=True)
     return None if ran.returncode else ran.stdout.strip()
 
 
 def datacube():
     """The same; where there is none, the script ends."""
-    return found() or sys.exit("no program is there to run: ./datacube builds it")
+    return found() or sys.exit("no program is there to run: scripts/build.sh builds it")
 
 
 class Room:

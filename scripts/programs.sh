@@ -67,6 +67,80 @@ is_whole() {
     [ -x "$1/datacube" ] && [ "$(recorded "$1" program)" = "$(sum_of "$1/datacube")" ]
 }
 
+# What says which program there is to run in a folder, a line each: the boot that the machine is in, the C library, and
+# each file with its kind, its times, its size and its inode. No file has other bytes while its line stays: each change
+# sets the time of the last change anew.
+look_at() (
+    cd "$1"
+    boot=''
+    read -r boot 2>/dev/null </proc/sys/kernel/random/boot_id || boot=unknown
+    echo "boot $boot"
+    LC_ALL=C find -H /lib64/ld-linux-x86-64.so.2 crates.txt HANDLES crates/*/src crates/*/specs crates/*/proofs \
+        crates/datacube/out/datacube crates/datacube/out/datacube.txt release/*/datacube release/*/datacube.txt \
+        ! -type d -printf '%y %C@ %T@ %s %i %p\n' 2>/dev/null || true
+)
+
+# Finds the program to run in a folder: one that was built there from these very sources, else the released one, if it is
+# of these sources and can run here. Its path is then in `program`. Where there is none the status is 1, `why` says why,
+# and `program` has the released one if it could run, or nothing.
+#
+# What was found is kept in out/program.txt, with what it was found by, and holds until that is another. Where nothing
+# may be written there, all is looked at anew each time.
+find_program() {
+    why='' program='' new=''
+    kept=$1/out/program.txt
+    if [ -r "$kept" ] && read -r program <"$kept" && { echo "$program" && look_at "$1"; } | cmp -s - "$kept"; then
+        program=$1/$program
+        return
+    fi
+    trap 'rm -f "$new" "$new.whole"; exit 1' HUP INT TERM
+    if mkdir -p "$1/out" 2>/dev/null; then
+        new=$(mktemp "$1/out/program.XXXXXX" 2>/dev/null) || new=''
+    fi
+    if [ -n "$new" ]; then
+        begun=$(stat -c %Y "$new")
+        look_at "$1" 2>/dev/null >"$new" || true
+    fi
+    if search_program "$1" "$(sources_of "$1")" && [ -n "$new" ]; then
+        keep_found "$1" "$new" "$begun"
+    fi
+    [ -z "$new" ] || rm -f "$new" "$new.whole"
+    trap - HUP INT TERM
+    [ -z "$why" ]
+}
+
+# Keeps the program that was found in a folder, with what was looked at before, which stands in a new file that was made
+# at a time: only if all of it is still the same, and each file is a plain one that had rested for two seconds then, by
+# the clock of that file's system, so that a change from then on has another time. Where find can't say all that, nothing
+# is kept.
+keep_found() {
+    if look_at "$1" | cmp -s - "$2" && grep -q ' crates\.txt$' "$2" &&
+        awk -v now="$3" '$1 != "boot" && ($1 != "f" || $2 >= now - 2 || $3 >= now - 2) { exit 1 }' "$2" &&
+        { echo "${program#"$1"/}" && cat "$2"; } 2>/dev/null >"$2.whole" && chmod 644 "$2.whole"; then
+        mv -f "$2.whole" "$1/out/program.txt" || true
+    fi
+}
+
+# Does what find_program does, with everything looked at anew, for sources with this checksum.
+search_program() {
+    built=$1/crates/datacube/out
+    release=$1/release/$(uname -m)-$(uname -s | tr '[:upper:]' '[:lower:]')
+    program=''
+    if [ "$(recorded "$built" sources)" = "$2" ] && is_whole "$built"; then
+        program=$built/datacube
+    elif [ ! -f "$release/datacube" ]; then
+        why="there is no released program for this kind of machine"
+    elif ! is_whole "$release"; then
+        why="the released program isn't whole: its checksum is not the one that was recorded"
+    elif ! why=$("$release/datacube" --version 2>&1 </dev/null); then
+        why="the released program can't run on this processor or with this C library (${why:-it ends at once})"
+    else
+        program=$release/datacube why=''
+        [ "$(recorded "$release" sources)" = "$2" ] || why="the released program was built from other sources than these"
+    fi
+    [ -z "$why" ]
+}
+
 # How many checks may run side by side: one for each processor, where each finds 4 GiB of free memory, more than any
 # check of a crate takes; nothing where there is less, and then the kit plans by the most that a check might take.
 checks_side_by_side() {
