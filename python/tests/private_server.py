@@ -51,7 +51,7 @@ def missing() -> Optional[str]:
     binaries = sql.newest_server()
     if not binaries:
         return "Debian's package postgresql isn't installed"
-    if not os.path.exists(f"{os.path.dirname(binaries)}/lib/wal2json.so"):
+    if not sql.has_plugin(binaries):
         return "Debian's package postgresql-15-wal2json isn't installed"
     if not has_loopback():
         return "127.0.0.1 can't be reached"
@@ -72,7 +72,8 @@ class Private:
 
     def __init__(self) -> None:
         self.room = tempfile.mkdtemp(prefix="datacube-pg-")
-        self.server = sql.Server(sql.newest_server(), self.room, SETTINGS)
+        binaries = sql.newest_server()
+        self.server = sql.Server(binaries, self.room, SETTINGS + sql.settings_for_plugin(binaries))
         self.server.__enter__()
         self.dsn = f"host={self.room} user=datacube dbname=postgres"
 

@@ -37,7 +37,12 @@ def setUpModule():
     if WHY:
         raise unittest.SkipTest(f"following a table: {WHY}")
     PRIVATE = private_server.Private()
-    unittest.addModuleCleanup(PRIVATE.close)
+
+
+def tearDownModule():
+    # (pytest calls no cleanups of a module)
+    if PRIVATE:
+        PRIVATE.close()
 
 
 class Base(unittest.TestCase):
