@@ -2,7 +2,7 @@
 from __future__ import annotations
 
 import re
-from dataclasses import dataclass
+from dataclasses import dataclass, field
 from typing import TYPE_CHECKING, Any, Dict, List, Mapping, Optional, Sequence, Tuple
 
 import psycopg2.errors
@@ -19,7 +19,7 @@ EXACT = (
 )
 TEXTS = ("text", "varchar", "bpchar", "name")
 
-FIND = "SELECT to_regclass(%s)::oid"
+FIND = "SELECT oid::int8, relname FROM pg_class WHERE oid = to_regclass(%s)"
 
 LOOK = """
 SELECT n.nspname, c.relname, c.relkind, c.relpersistence, c.relreplident,
@@ -40,13 +40,27 @@ WHERE a.attrelid = %s AND a.attnum > 0 AND NOT a.attisdropped
 ORDER BY a.attnum
 """
 
+# (a catalog's row has the transaction that wrote it, and that one's command; xmax is 0 where no other transaction began to
+# write it anew, for it would have put its own command there)
+TRACE = """
+SELECT c.xmin::text, n.xmin::text, i.indexrelid, i.xmin::text, (
+    SELECT bool_and(o.xmin = c.xmin AND o.xmax::text = '0' AND o.cmin::text::bigint > c.cmin::text::bigint) AND c.xmax::text = '0'
+    FROM pg_class AS o
+    WHERE o.oid = c.reltoastrelid OR o.oid IN (SELECT other.indexrelid FROM pg_index AS other WHERE other.indrelid = c.oid)
+)
+FROM pg_class AS c
+    JOIN pg_namespace AS n ON n.oid = c.relnamespace
+    LEFT JOIN pg_index AS i ON i.indrelid = c.oid AND i.indisvalid AND i.indimmediate
+        AND CASE c.relreplident WHEN 'i' THEN i.indisreplident ELSE i.indisprimary END
+WHERE c.oid = %s
+"""
+
 KEY = """
 SELECT a.attname
 FROM pg_index AS i
     CROSS JOIN LATERAL unnest(i.indkey) WITH ORDINALITY AS k (attnum, place)
     JOIN pg_attribute AS a ON a.attrelid = i.indrelid AND a.attnum = k.attnum
-WHERE i.indrelid = %s AND i.indisvalid AND i.indimmediate AND k.place <= i.indnkeyatts
-    AND CASE %s WHEN 'i' THEN i.indisreplident ELSE i.indisprimary END
+WHERE i.indexrelid = %s AND k.place <= i.indnkeyatts
 ORDER BY k.place
 """
 
@@ -86,8 +100,23 @@ class Column:
 
 
 @dataclass(frozen=True)
+class Trace:
+    """What the catalog keeps of who changed a table: the transactions that last wrote its row, its schema's, and that of the
+    index which names its rows, and which index that is. So it tells a table that was changed and changed back from one that
+    wasn't. `is_of_truncate` says that the table's row is as a TRUNCATE left it, or a rewriting as by VACUUM FULL: its indexes and
+    its long values were written after it, by the same transaction."""
+
+    table: str
+    schema: str
+    index: Optional[int]
+    of_index: Optional[str]
+    is_of_truncate: bool = field(compare=False)
+
+
+@dataclass(frozen=True)
 class Table:
-    """A table that can be followed: its columns by their names, those of its key, and the file that its rows lie in."""
+    """A table that can be followed: its columns by their names, those of its key, the file that its rows lie in, and who
+    changed it last."""
 
     oid: int
     schema: str
@@ -95,6 +124,7 @@ class Table:
     columns: Mapping[str, Column]
     key: Tuple[str, ...]
     file: Optional[int]
+    trace: Trace
 
     def __str__(self) -> str:
         return f"{self.schema}.{self.name}"
@@ -112,27 +142,41 @@ class Table:
 
 def read_table(cursor: "Cursor", name: str) -> Table:
     """The table of a name, which may have a schema and quotes as in SQL; raises `CantFollow` where it can't be followed."""
-    try:
-        cursor.execute(FIND, [name])
-    except psycopg2.errors.InvalidName as why:
-        raise CantFollow(f"{name} is no name of a table: {why}") from None
-    oid: Optional[int] = one(cursor)[0]
-    found = look(cursor, oid) if oid is not None else None
-    if found is None or oid is None:
+    named = find(cursor, name)
+    found = look(cursor, named[0]) if named else None
+    if found is None:
         raise CantFollow(f"there is no table {name}: write SCHEMA.TABLE, with double quotes where SQL wants them")
     return found
 
 
+def find(cursor: "Cursor", name: str) -> Optional[Tuple[int, str]]:
+    """The number of the table of a name, and its name without a schema, or none where there is no such table."""
+    try:
+        cursor.execute(FIND, [name])
+    except psycopg2.errors.InvalidName as why:
+        raise CantFollow(f"{name} is no name of a table: {why}") from None
+    row = cursor.fetchone()
+    return (row[0], row[1]) if row else None
+
+
 def look(cursor: "Cursor", oid: int) -> Optional[Table]:
     """The table of a number as it is now, or none."""
+    trace = trace_of(cursor, oid)
     cursor.execute(LOOK, [oid])
     row = cursor.fetchone()
-    if row is None:
+    if row is None or trace is None:
         return None
     schema, name, kind, persistence, identity, has_children, file = row
     check_kind(f"{schema}.{name}", kind, persistence, has_children)
     columns = read_columns(cursor, oid)
-    return Table(oid, schema, name, columns, read_key(cursor, oid, f"{schema}.{name}", identity), file)
+    return Table(oid, schema, name, columns, read_key(cursor, trace.index, f"{schema}.{name}", identity), file, trace)
+
+
+def trace_of(cursor: "Cursor", oid: int) -> Optional[Trace]:
+    """Who changed the table of a number last, or none where there is no such table."""
+    cursor.execute(TRACE, [oid])
+    row = cursor.fetchone()
+    return Trace(row[0], row[1], row[2], row[3], bool(row[4])) if row else None
 
 
 def check_kind(name: str, kind: str, persistence: str, has_children: bool) -> None:
@@ -152,12 +196,12 @@ def read_columns(cursor: "Cursor", oid: int) -> Dict[str, Column]:
     return {row[0]: Column(*row) for row in cursor.fetchall()}
 
 
-def read_key(cursor: "Cursor", oid: int, name: str, identity: str) -> Tuple[str, ...]:
+def read_key(cursor: "Cursor", index: Optional[int], name: str, identity: str) -> Tuple[str, ...]:
     """The columns that name a row in the changes: those of the primary key, or of the index that is the replica identity."""
     mend = f"ALTER TABLE {name} REPLICA IDENTITY DEFAULT, and give it a primary key that isn't deferrable"
     if identity == "n":
         raise CantFollow(f"table {name} has REPLICA IDENTITY NOTHING, so its updates and deletes don't tell their keys: {mend}")
-    cursor.execute(KEY, [oid, identity])
+    cursor.execute(KEY, [index])
     key = tuple(row[0] for row in cursor.fetchall())
     if not key:
         raise CantFollow(f"table {name} has no key that names its rows in the changes: {mend}")
