@@ -352,16 +352,22 @@ class Follower(Questions, Running):
         self._set(behind=max(after - self._state.lsn, 0))
 
     def _judge(self) -> None:
-        """Judges the table as it was seen, once all that was committed by then is taken: where it isn't what it was, the
-        transaction that wrote it has to be one that emptied it, for nothing of before matters then."""
+        """Judges the table as it was seen, once all that was committed by then is taken: where somebody wrote its row, that has to
+        be a TRUNCATE which was taken, for nothing of before it matters."""
         if self._seen is None or self._state.lsn < self._seen[2]:
             return
         (now, before, after), self._seen = self._seen, None
-        if now.trace != self._table.trace and now.trace not in (replace(self._table.trace, table=it) for it in self._truncated):
+        if now.trace != self._table.trace and not self._is_truncated(now):
             raise self._altered(now)
         self._table = now
         self._truncated = {number: end for number, end in self._truncated.items() if end > after}
         self._set(looked=before)
+
+    def _is_truncated(self, now: Table) -> bool:
+        """Whether a table that was taken differs from what it was by a TRUNCATE alone."""
+        trace = now.trace
+        emptied = replace(self._table.trace, table=trace.table)
+        return trace.is_of_truncate and trace.table in self._truncated and trace == emptied and now.columns == self._table.columns
 
     def _altered(self, now: Table) -> BeginAnew:
         return BeginAnew(f"table {now} was altered, and what became of its rows meanwhile isn't known")

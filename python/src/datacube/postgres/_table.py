@@ -40,13 +40,16 @@ WHERE a.attrelid = %s AND a.attnum > 0 AND NOT a.attisdropped
 ORDER BY a.attnum
 """
 
-# (a catalog's row has the transaction that wrote it, and that one's command; xmax is 0 where no other transaction began to
-# write it anew, for it would have put its own command there)
+# (a row of the catalog has the number of the transaction that wrote it, and of its step; xmax is 0 where no other one began to
+# write it anew since, for that would have left its own step. TRUNCATE writes the table's row, in the next step that of its
+# long values, and then those of its indexes, one after the other)
 TRACE = """
-SELECT c.xmin::text, n.xmin::text, i.indexrelid, i.xmin::text, (
-    SELECT bool_and(o.xmin = c.xmin AND o.xmax::text = '0' AND o.cmin::text::bigint > c.cmin::text::bigint) AND c.xmax::text = '0'
-    FROM pg_class AS o
-    WHERE o.oid = c.reltoastrelid OR o.oid IN (SELECT other.indexrelid FROM pg_index AS other WHERE other.indrelid = c.oid)
+SELECT c.xmin::text, n.xmin::text, c.reltoastrelid, i.indexrelid, i.xmin::text, c.xmax::text = '0' AND (
+    SELECT t.xmin = c.xmin AND t.xmax::text = '0' AND t.cmin::text::bigint = c.cmin::text::bigint + 1
+    FROM pg_class AS t WHERE t.oid = c.reltoastrelid
+) AND (
+    SELECT bool_and(x.xmin = c.xmin AND x.xmax::text = '0') AND min(x.cmin::text::bigint) = c.cmin::text::bigint + 2
+    FROM pg_index AS o JOIN pg_class AS x ON x.oid = o.indexrelid WHERE o.indrelid = c.oid
 )
 FROM pg_class AS c
     JOIN pg_namespace AS n ON n.oid = c.relnamespace
@@ -102,12 +105,13 @@ class Column:
 @dataclass(frozen=True)
 class Trace:
     """What the catalog keeps of who changed a table: the transactions that last wrote its row, its schema's, and that of the
-    index which names its rows, and which index that is. So it tells a table that was changed and changed back from one that
-    wasn't. `is_of_truncate` says that the table's row is as a TRUNCATE left it, or a rewriting as by VACUUM FULL: its indexes and
-    its long values were written after it, by the same transaction."""
+    index which names its rows, and which index that is, and where its long values lie. So a table that was changed and changed
+    back is told from one that wasn't. `is_of_truncate` says that the last one to write the table's row was a TRUNCATE, where that
+    can be seen: of a table that has a place for long values."""
 
     table: str
     schema: str
+    long_values: int
     index: Optional[int]
     of_index: Optional[str]
     is_of_truncate: bool = field(compare=False)
@@ -176,7 +180,7 @@ def trace_of(cursor: "Cursor", oid: int) -> Optional[Trace]:
     """Who changed the table of a number last, or none where there is no such table."""
     cursor.execute(TRACE, [oid])
     row = cursor.fetchone()
-    return Trace(row[0], row[1], row[2], row[3], bool(row[4])) if row else None
+    return Trace(row[0], row[1], row[2], row[3], row[4], bool(row[5])) if row else None
 
 
 def check_kind(name: str, kind: str, persistence: str, has_children: bool) -> None:
@@ -209,13 +213,10 @@ def read_key(cursor: "Cursor", index: Optional[int], name: str, identity: str) -
 
 
 def check_same(before: Table, now: Optional[Table]) -> None:
-    """Raises `ColumnsChanged` where a table isn't what it was: another name, other columns, another key, or a column that
-    was altered while the rows were written anew (as ALTER COLUMN .. TYPE .. USING does, of which no change tells)."""
+    """Raises `ColumnsChanged` where a table isn't what it was: another name, other columns, or another key."""
     if now is None or str(now) != str(before):
         raise ColumnsChanged(f"table {before} {'is gone' if now is None else f'is {now} now'}: name it anew, and start the follower again")
     faults = differing(before.columns, now.columns)
-    if before.file != now.file:
-        faults += [f"column {name} was altered" for name, it in before.columns.items() if name in now.columns and it.altered != now.columns[name].altered]
     if not faults and before.key != now.key:
         faults = [f"the key is ({', '.join(now.key)}), and was ({', '.join(before.key)})"]
     if faults:
