@@ -923,6 +923,7 @@ class Commands(Base):
         self.assertEqual(command.ask("print"), self.cube_of_sql())
         self.assertEqual(command.ask(r"slice,=York,\A").splitlines()[1], "York,\\N,0,1,1,5")
         self.assertEqual(command.ask(r"drill,product,=York,\A").splitlines()[1], "York,tea,0,0,1,5")
+        self.assertEqual(command.ask(rf"slice,={'x' * 200_000},\A").count("\n"), 1)
         self.assertEqual(command.ask("what"), "Q1")
         self.assertEqual(command.ask("1,D,2"), "Q1")
         self.assertEqual(command.ask("slice,what,what"), "P2")
