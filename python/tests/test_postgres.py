@@ -537,7 +537,7 @@ class ChangedAndBack(Base):
                 command.ask("print")
                 command.process.send_signal(signal.SIGSTOP)
                 self.change_and_back(name)
-                self.run_sql("UPDATE {table} SET cents = cents + 1")
+                self.run_sql("INSERT INTO {table} VALUES (20, 'York', 'coffee', 1)")
                 command.process.send_signal(signal.SIGCONT)
                 until(lambda: command.ask("print") == self.cube_of_sql(), SECONDS)
                 self.run_sql("INSERT INTO {table} VALUES (30, 'York', 'tea', 1)")
@@ -555,7 +555,7 @@ class ChangedAndBack(Base):
                 way.cut()
                 until(lambda: not follower.state.is_connected)
                 self.change_and_back(name)
-                self.run_sql("UPDATE {table} SET cents = cents + 1")
+                self.run_sql("INSERT INTO {table} VALUES (20, 'York', 'coffee', 1)")
                 way.is_shut = False
                 until(lambda: follower.state.is_connected, SECONDS)
                 self.same(follower)
@@ -583,6 +583,25 @@ class ChangedAndBack(Base):
                 self.same(follower)
                 until(lambda: follower.state.looked >= PRIVATE.lsn(), SECONDS)
                 self.assertEqual(follower.state.copies, copies, statement)
+
+
+    def test_a_label_of_an_enumeration_that_is_renamed(self):
+        """All its rows have another text then, and the log tells nothing of it."""
+        self.run_sql(
+            "CREATE TYPE mood AS ENUM ('glad', 'sad')", "CREATE DOMAIN felt AS mood", "CREATE TABLE {table} (id int PRIMARY KEY, city mood, product felt, cents bigint)",
+            "INSERT INTO {table} VALUES (1, 'glad', 'sad', 5), (2, 'sad', 'glad', 7)",
+        )
+        self.addCleanup(PRIVATE.run, "DROP TYPE mood CASCADE")
+        follower = self.follower()
+        cube = lambda: PRIVATE.cube(f"CREATE TEMP VIEW facts AS SELECT city::text, product::text, cents FROM {self.table}", SALES)
+        for statement in ("ALTER TYPE mood RENAME VALUE 'sad' TO 'low'", "ALTER TYPE mood ADD VALUE 'even' BEFORE 'low'"):
+            self.run_sql(statement)
+            follower.catch_up(SECONDS)
+            self.assertEqual(follower.ask("print"), cube())
+        with PRIVATE.connected() as cursor:
+            cursor.execute(f"BEGIN; ALTER TYPE mood RENAME VALUE 'glad' TO 'high'; INSERT INTO {self.table} VALUES (3, 'high', 'low', 9); ALTER TYPE mood RENAME VALUE 'high' TO 'glad'; COMMIT")
+        follower.catch_up(SECONDS)
+        self.assertEqual(follower.ask("print"), cube())
 
 
 class Publications(Base):

@@ -44,7 +44,13 @@ ORDER BY a.attnum
 # write it anew since, for that would have left its own step. TRUNCATE writes the table's row, in the next step that of its
 # long values, and then those of its indexes, one after the other)
 TRACE = """
-SELECT c.xmin::text, n.xmin::text, c.reltoastrelid, i.indexrelid, i.xmin::text, c.xmax::text = '0' AND (
+SELECT c.xmin::text, n.xmin::text, c.reltoastrelid, i.indexrelid, i.xmin::text, (
+    SELECT string_agg(e.oid || ' ' || e.xmin, ',' ORDER BY e.oid)
+    FROM pg_attribute AS a
+        JOIN pg_type AS t ON t.oid = a.atttypid
+        JOIN pg_enum AS e ON e.enumtypid = CASE WHEN t.typtype = 'd' THEN t.typbasetype ELSE t.oid END
+    WHERE a.attrelid = c.oid AND a.attnum > 0 AND NOT a.attisdropped
+), c.xmax::text = '0' AND (
     SELECT t.xmin = c.xmin AND t.xmax::text = '0' AND t.cmin::text::bigint = c.cmin::text::bigint + 1
     FROM pg_class AS t WHERE t.oid = c.reltoastrelid
 ) AND (
@@ -104,9 +110,9 @@ class Column:
 
 @dataclass(frozen=True)
 class Trace:
-    """What the catalog keeps of who changed a table: the transactions that last wrote its row, its schema's, and that of the
-    index which names its rows, and which index that is, and where its long values lie. So a table that was changed and changed
-    back is told from one that wasn't. `is_of_truncate` says that the last one to write the table's row was a TRUNCATE, where that
+    """What the catalog keeps of who changed a table: the transactions that last wrote its row, its schema's, that of the index
+    which names its rows, and those of the labels of enumerations; which index that is, and where its long values lie. So a table
+    that was changed and changed back is told from one that wasn't. `is_of_truncate` says that the last one to write the table's row was a TRUNCATE, where that
     can be seen: of a table that has a place for long values."""
 
     table: str
@@ -114,6 +120,7 @@ class Trace:
     long_values: int
     index: Optional[int]
     of_index: Optional[str]
+    labels: Optional[str]
     is_of_truncate: bool = field(compare=False)
 
 
@@ -180,7 +187,7 @@ def trace_of(cursor: "Cursor", oid: int) -> Optional[Trace]:
     """Who changed the table of a number last, or none where there is no such table."""
     cursor.execute(TRACE, [oid])
     row = cursor.fetchone()
-    return Trace(row[0], row[1], row[2], row[3], row[4], bool(row[5])) if row else None
+    return Trace(row[0], row[1], row[2], row[3], row[4], row[5], bool(row[6])) if row else None
 
 
 def check_kind(name: str, kind: str, persistence: str, has_children: bool) -> None:
