@@ -179,11 +179,11 @@ def main():
         import psycopg2
     except ImportError:
         psycopg2 = None
-    if not binaries or not psycopg2:
-        print("Debian's packages postgresql and python3-psycopg2 aren't there for this Python")
+    if not binaries or not psycopg2 or not sql.has_plugin(binaries):
+        print("Debian's packages postgresql, postgresql-15-wal2json and python3-psycopg2 aren't all there for this Python")
         return 77
     folder = lambda: tempfile.TemporaryDirectory(prefix="datacube-speed-")
-    with folder() as room, folder() as ours, sql.Server(binaries, room, SETTINGS) as server:
+    with folder() as room, folder() as ours, sql.Server(binaries, room, SETTINGS + sql.settings_for_plugin(binaries)) as server:
         bench = Bench(server, ours, given.rows)
         for waits in (True, False):
             cost(bench, given.rounds, given.seconds, waits)

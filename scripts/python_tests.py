@@ -5,7 +5,8 @@
 
 They run under the Python that has most of the packages that they want: Debian's, where it has pytest, else the one that runs
 this, whose unittest does. mypy looks at the package's types where it is installed. `--long` is the long form of the tests over
-PostgreSQL, of some minutes. The last line is `N passed, M failed`.
+PostgreSQL, of some minutes. The tests have a folder of their own for temporary files, and are to leave nothing in it. The
+last line is `N passed, M failed`.
 """
 import argparse
 import os
@@ -13,6 +14,7 @@ import re
 import shutil
 import subprocess
 import sys
+import tempfile
 
 sys.dont_write_bytecode = True
 import programs
@@ -69,6 +71,21 @@ def has_right_types(mypy):
     return mypy.returncode == 0
 
 
+def run(env):
+    """Runs the tests with a folder of their own for temporary files; gives the numbers that passed and failed. That they left
+    nothing in it counts as one of them."""
+    python = next((it for it in (DEBIANS, sys.executable) if has_pytest(it)), None)
+    with tempfile.TemporaryDirectory(prefix="datacube-tests-") as folder:
+        # (a private server may be nobody's, who has to find the way to its own folder)
+        os.chmod(folder, 0o711)
+        env = {**env, "TMPDIR": folder}
+        passed, failed = pytest(python, env) if python else unittests(env)
+        left = sorted(os.listdir(folder))
+    if left:
+        print(f"FAILED: the tests left in the folder for temporary files: {', '.join(left)}")
+    return passed + (not left), failed + bool(left)
+
+
 def main():
     parser = argparse.ArgumentParser(description=__doc__, formatter_class=argparse.RawDescriptionHelpFormatter)
     parser.add_argument("--program")
@@ -77,9 +94,8 @@ def main():
     env = {**os.environ, "DATACUBE": os.path.abspath(given.program or programs.datacube())}
     if given.long:
         env["DATACUBE_LONG"] = "1"
-    python = next((it for it in (DEBIANS, sys.executable) if has_pytest(it)), None)
     mypy = begin_types()
-    passed, failed = pytest(python, env) if python else unittests(env)
+    passed, failed = run(env)
     if mypy:
         is_right = has_right_types(mypy)
         passed, failed = passed + is_right, failed + (not is_right)

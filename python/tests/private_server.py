@@ -51,7 +51,7 @@ def missing() -> Optional[str]:
     binaries = sql.newest_server()
     if not binaries:
         return "Debian's package postgresql isn't installed"
-    if not os.path.exists(f"{os.path.dirname(binaries)}/lib/wal2json.so"):
+    if not sql.has_plugin(binaries):
         return "Debian's package postgresql-15-wal2json isn't installed"
     if not has_loopback():
         return "127.0.0.1 can't be reached"
@@ -72,13 +72,29 @@ class Private:
 
     def __init__(self) -> None:
         self.room = tempfile.mkdtemp(prefix="datacube-pg-")
-        self.server = sql.Server(sql.newest_server(), self.room, SETTINGS)
+        binaries = sql.newest_server()
+        self.settings_for_plugin = sql.settings_for_plugin(binaries)
+        self.server = sql.Server(binaries, self.room, SETTINGS + self.settings_for_plugin)
         self.server.__enter__()
         self.dsn = f"host={self.room} user=datacube dbname=postgres"
 
     def close(self) -> None:
         self.server.end()
         shutil.rmtree(self.room)
+
+    def folder_for_others(self) -> str:
+        """A folder for the temporary files of what may be killed; it goes with the server's own."""
+        folder = f"{self.room}/tmp"
+        os.makedirs(folder, exist_ok=True)
+        return folder
+
+    def oid(self, table: str) -> int:
+        """The number of a table."""
+        return int(self.ask(f"SELECT '{table}'::regclass::oid::int8")[0][0])
+
+    def lsn(self) -> int:
+        """Where the server's log ends now."""
+        return int(self.ask("SELECT pg_current_wal_lsn() - '0/0'")[0][0])
 
     @contextlib.contextmanager
     def connected(self) -> Iterator[Any]:

@@ -1,9 +1,13 @@
 """Cubes over feeds, beside scripts/oracle.py."""
+import csv
+import io
 import os
 import pickle
 import random
+import subprocess
 import sys
 import tempfile
+import threading
 import unittest
 from fractions import Fraction
 from unittest import mock
@@ -100,6 +104,40 @@ class Shop(unittest.TestCase):
             cube.to_csv(f"{folder}/cube.csv")
             with open(f"{folder}/cube.csv", "rb") as file:
                 self.assertEqual(file.read(), cube.text.encode())
+
+
+class LongTexts(unittest.TestCase):
+    """Texts that are longer than the fields that csv takes, whose limit is one for the whole process."""
+
+    def test_importing_leaves_the_limit(self):
+        modules = "datacube, datacube.postgres, datacube.postgres.__main__" if has_psycopg2() else "datacube"
+        code = f"import csv; before = csv.field_size_limit(); import {modules}; print(csv.field_size_limit() == before)"
+        env = {**os.environ, "PYTHONPATH": f"{beside.ROOT}/python/src"}
+        self.assertEqual(subprocess.run([sys.executable, "-B", "-c", code], env=env, stdout=subprocess.PIPE, text=True).stdout, "True\n")
+
+    def test_the_limit_is_the_callers_own_behind_a_call(self):
+        before = csv.field_size_limit(1000)
+        self.addCleanup(csv.field_size_limit, before)
+        city = "a city, " * 100_000
+        text = f'city,grouping(city),count(*)\n"{city}",0,1\n'
+        found = []
+        threads = [threading.Thread(target=lambda: found.extend(it.at({"city": city}).answers for it in map(datacube.Cube, [text] * 20))) for _ in range(8)]
+        for it in threads:
+            it.start()
+        for it in threads:
+            it.join()
+        self.assertEqual((found, csv.field_size_limit()), ([(1,)] * 160, 1000))
+        self.assertRaises(datacube.Unreadable, lambda: list(datacube.Cube(f"{text}what\n")))
+        self.assertEqual(csv.field_size_limit(), 1000)
+        self.assertRaises(csv.Error, lambda: list(csv.reader(io.StringIO(text))))
+
+
+def has_psycopg2():
+    try:
+        import psycopg2  # noqa: F401
+    except ImportError:
+        return False
+    return True
 
 
 class Pandas(unittest.TestCase):

@@ -14,7 +14,8 @@ import private_server
 
 BLOCK = re.compile(r"^```(\w*)\n(.*?)^```$", re.MULTILINE | re.DOTALL)
 NEEDS = ["python", "release", "explorer", "examples"]
-PATH = "/usr/bin:/bin"
+# (a Python that has nothing stands before Debian's, as one of a user's own may)
+OWN, PATH = "own", "/usr/bin:/bin"
 NOBODY = ["setpriv", "--reuid", "65534", "--regid", "65534", "--clear-groups"] if os.geteuid() == 0 else []
 
 
@@ -42,12 +43,17 @@ class Pages(unittest.TestCase):
         self.addCleanup(shutil.rmtree, self.folder)
         for it in NEEDS:
             shutil.copytree(f"{beside.ROOT}/{it}", f"{self.folder}/{it}", ignore=shutil.ignore_patterns("build", "*.egg-info", "__pycache__", ".mypy_cache"))
+        os.mkdir(f"{self.folder}/{OWN}")
+        for it in ("python3", "python", "pip"):
+            with open(f"{self.folder}/{OWN}/{it}", "w", encoding="utf-8") as out:
+                out.write("#!/bin/sh\necho this is another Python >&2\nexit 1\n")
+            os.chmod(f"{self.folder}/{OWN}/{it}", 0o755)
         if NOBODY:
             subprocess.run(["chown", "-R", "65534:65534", self.folder], check=True)
 
     def said(self, script):
         """What a script of bash says, without spaces at the ends of lines."""
-        env = {"HOME": self.folder, "PATH": PATH}
+        env = {"HOME": self.folder, "PATH": f"{self.folder}/{OWN}:{PATH}"}
         ran = subprocess.run([*NOBODY, "bash", "-e"], input=script, cwd=self.folder, env=env, stdout=subprocess.PIPE, stderr=subprocess.STDOUT, text=True)
         return re.sub(r" +$", "", ran.stdout, flags=re.MULTILINE)
 

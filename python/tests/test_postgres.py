@@ -1,7 +1,7 @@
 """Cubes that follow a table of a private PostgreSQL, beside its own GROUP BY CUBE.
 
 With DATACUBE_LONG=1 in the environment the writers make more than 20,000 transactions, and more is killed and cut."""
-import json
+import contextlib
 import os
 import random
 import re
@@ -24,6 +24,7 @@ from private_server import CREATE, FACTS, LONG, SCHEMA, until
 
 WHY = private_server.missing()
 if WHY is None:
+    import psycopg2.errors
     from datacube import postgres
     from datacube.postgres import CantFollow, ColumnsChanged, Follower, NotCaughtUp, RowUnsayable, _metrics, _values
 
@@ -37,7 +38,16 @@ def setUpModule():
     if WHY:
         raise unittest.SkipTest(f"following a table: {WHY}")
     PRIVATE = private_server.Private()
-    unittest.addModuleCleanup(PRIVATE.close)
+
+
+def tearDownModule():
+    # (pytest calls no cleanups of a module)
+    if PRIVATE:
+        PRIVATE.close()
+
+
+def publications():
+    return PRIVATE.ask("SELECT pubname FROM pg_publication")
 
 
 class Base(unittest.TestCase):
@@ -52,6 +62,9 @@ class Base(unittest.TestCase):
     def drop(self):
         self.run_sql("SELECT pg_drop_replication_slot(slot_name) FROM pg_replication_slots WHERE NOT active")
         self.run_sql("DROP TABLE IF EXISTS {table}, other_{table} CASCADE")
+        # (one of a follower that was killed would be there for the next test)
+        for (name,) in publications():
+            PRIVATE.run(f"DROP PUBLICATION {name}")
 
     def run_sql(self, *statements):
         PRIVATE.run(*(it.replace("{table}", self.table) for it in statements))
@@ -71,6 +84,11 @@ class Base(unittest.TestCase):
         follower.wait(SECONDS)
         return follower
 
+    def looking_often(self):
+        often = mock.patch("datacube.postgres._follower.SECONDS_BETWEEN_LOOKS", 0.1)
+        often.start()
+        self.addCleanup(often.stop)
+
     def cube_of_sql(self):
         return PRIVATE.cube(f"CREATE TEMP VIEW facts AS SELECT city, product::text, cents FROM {self.table}", SALES)
 
@@ -79,6 +97,10 @@ class Base(unittest.TestCase):
         follower.catch_up(SECONDS)
         self.assertEqual(follower.ask("print"), self.cube_of_sql())
 
+    def published(self, how):
+        """A publication that is somebody else's."""
+        self.run_sql("DROP PUBLICATION IF EXISTS given", f"CREATE PUBLICATION given {how}")
+
     def stopped(self, follower, kind, *words):
         """Waits until a follower stops, and sees what it says."""
         until(lambda: follower.state.failure, SECONDS)
@@ -86,6 +108,9 @@ class Base(unittest.TestCase):
         for it in words:
             self.assertIn(it, str(follower.state.failure))
         self.assertRaises(kind, follower.cube)
+
+    def slots(self):
+        return PRIVATE.ask("SELECT slot_name FROM pg_replication_slots")
 
     def refused(self, kind, *words, **options):
         """Sees that a table can't be followed, and why."""
@@ -198,18 +223,18 @@ class Restarts(WithWriters):
         self.assertEqual(command.end(), 0)
         self.assertEqual(self.slots(), [])
 
-    def slots(self):
-        return PRIVATE.ask("SELECT slot_name FROM pg_replication_slots")
-
     def test_a_killed_follower_leaves_a_slot_that_can_be_dropped(self):
         command = self.command()
         command.ask("print")
         command.kill()
-        self.assertEqual(self.slots(), [(f"datacube_{self.table}"[:63],)])
+        name = f"jackraisin_{self.table}_{PRIVATE.oid(self.table)}"
+        self.assertEqual((self.slots(), publications()), ([(name,)], [(name,)]))
         words = ["--dsn", PRIVATE.dsn, "--table", self.table, "--drop"]
-        self.assertIn("was dropped", run(*words).stdout)
-        self.assertEqual(self.slots(), [])
+        self.assertIn(f"the slot {name} was dropped", run(*words).stdout)
+        self.assertEqual((self.slots(), publications()), ([], []))
         self.assertIn("there is no slot", run(*words).stdout)
+        ran = run("--dsn", PRIVATE.dsn, "--table", "nothing", "--drop")
+        self.assertEqual((ran.returncode, "name the slot by --slot" in ran.stderr), (1, True))
 
     def test_a_server_that_is_restarted(self):
         self.writers.run(20)
@@ -274,7 +299,8 @@ def run(*words):
 
 
 def environment():
-    return {**os.environ, "PYTHONPATH": f"{beside.ROOT}/python/src"}
+    # (a command that is killed leaves its files where the server's are, and goes with them)
+    return {**os.environ, "PYTHONPATH": f"{beside.ROOT}/python/src", "TMPDIR": PRIVATE.folder_for_others()}
 
 
 class Command:
@@ -371,20 +397,26 @@ class Moments(Base):
         self.assertEqual(answers, [301])
 
     def test_rows_that_are_written_anew_before_they_are_copied(self):
-        """A snapshot of before sees none of them."""
-        self.sales((1, "York", "tea", 5), (2, "Leeds", None, 7))
-        copy, statements = postgres._follower.copy_table, ["UPDATE {table} SET cents = 6", "ALTER TABLE {table} SET UNLOGGED", "ALTER TABLE {table} SET LOGGED"]
+        """A snapshot of before sees none of them, whether they are written before the copy looks at the table or after."""
+        look = postgres._copy.look
+        for is_after, words in ((False, "was altered while its copy began"), (True, "written anew while they were copied")):
+            with self.subTest(words):
+                self.run_sql("DROP TABLE IF EXISTS {table}")
+                self.sales((1, "York", "tea", 5), (2, "Leeds", None, 7))
+                statements = ["UPDATE {table} SET cents = 6", "ALTER TABLE {table} ALTER COLUMN cents TYPE bigint USING cents + 0"]
 
-        def late(*words):
-            self.run_sql(*statements)
-            statements.clear()
-            copy(*words)
+                def late(*words):
+                    found = look(*words) if is_after else None
+                    self.run_sql(*statements)
+                    statements.clear()
+                    return found or look(*words)
 
-        with mock.patch("datacube.postgres._follower.copy_table", late), self.assertLogs("datacube.postgres", "WARNING") as told:
-            follower = self.follower()
-        self.assertIn("written anew while they were copied", told.output[0])
-        self.same(follower)
-        self.assertEqual((follower.slice({})[0]["sum(cents)"], follower.state.copies), (12, 1))
+                with mock.patch("datacube.postgres._copy.look", late), self.assertLogs("datacube.postgres", "WARNING") as told:
+                    follower = self.follower()
+                self.assertIn(words, told.output[0])
+                self.same(follower)
+                self.assertEqual((follower.slice({})[0]["sum(cents)"], follower.state.copies), (12, 1))
+                follower.close()
 
     def test_truncate_in_a_transaction_that_goes_on(self):
         self.sales((1, "York", "tea", 5), (2, "Leeds", None, 7))
@@ -416,6 +448,201 @@ class Moments(Base):
         lsn = follower.state.lsn
         until(lambda: PRIVATE.ask(f"SELECT confirmed_flush_lsn - '0/0' FROM pg_replication_slots WHERE slot_name = '{follower.slot}'")[0][0] >= lsn)
         self.assertEqual((follower.state.transactions, follower.state.version), (0, (1, 0)))
+
+
+    def test_a_message_in_the_log(self):
+        """Messages that anybody may write to the server's log, in a transaction and outside of one, are no changes."""
+        self.sales((1, "York", "tea", 5))
+        follower = self.follower()
+        for is_of_transaction in ("true", "false"):
+            # (it is told once it is on the disk, which isn't at once where no transaction waits for that)
+            end = PRIVATE.ask(f"SELECT pg_logical_emit_message({is_of_transaction}, 'a prefix', 'a text') - '0/0'")[0][0]
+            until(lambda: PRIVATE.ask("SELECT pg_current_wal_flush_lsn() - '0/0'")[0][0] >= end)
+            follower.wait_for(int(end), 10)
+            until(lambda: PRIVATE.ask("SELECT confirmed_flush_lsn - '0/0' FROM pg_replication_slots")[0][0] >= end, 10)
+        self.assertEqual((follower.state.transactions, follower.state.changes), (0, 0))
+        self.same(follower)
+
+
+# what is done to a table and undone, in which the server refuses what it can; each statement is a transaction
+CHANGED_AND_BACK = {
+    "no identity for a while": [
+        "ALTER TABLE {table} REPLICA IDENTITY NOTHING", "UPDATE {table} SET cents = 100 WHERE id = 1", "DELETE FROM {table} WHERE id = 2",
+        "INSERT INTO {table} VALUES (11, 'Hull', 'tea', 1000)", "ALTER TABLE {table} REPLICA IDENTITY DEFAULT",
+    ],
+    "another name for a while": ["BEGIN; ALTER TABLE {table} RENAME TO {table}_2; INSERT INTO {table}_2 VALUES (12, 'Hull', 'tea', 1000); ALTER TABLE {table}_2 RENAME TO {table}; COMMIT"],
+    "another schema for a while": ["BEGIN; ALTER TABLE {table} SET SCHEMA away; INSERT INTO away.{table} VALUES (13, 'Hull', 'tea', 1000); ALTER TABLE away.{table} SET SCHEMA public; COMMIT"],
+    "no key for a while": ["ALTER TABLE {table} DROP CONSTRAINT {table}_pkey", "UPDATE {table} SET cents = 100 WHERE id = 1", "INSERT INTO {table} VALUES (14, 'Hull', 'tea', 1000)", "ALTER TABLE {table} ADD PRIMARY KEY (id)"],
+    "unlogged for a while": ["ALTER TABLE {table} SET UNLOGGED", "INSERT INTO {table} VALUES (15, 'Hull', 'tea', 1000)", "ALTER TABLE {table} SET LOGGED"],
+    "another name after TRUNCATE": [
+        "BEGIN; TRUNCATE {table}; ALTER TABLE {table} RENAME TO {table}_2; INSERT INTO {table}_2 VALUES (16, 'Hull', 'tea', 1000); ALTER TABLE {table}_2 RENAME TO {table}; COMMIT"
+    ],
+    "another table in its place for a while": [
+        "BEGIN; ALTER TABLE {table} RENAME TO {table}_2; CREATE TABLE {table} (LIKE {table}_2 INCLUDING ALL); INSERT INTO {table} VALUES (17, 'Hull', 'tea', 1000); "
+        "DROP TABLE {table}; ALTER TABLE {table}_2 RENAME TO {table}; COMMIT"
+    ],
+    "another name of its schema for a while": [
+        "BEGIN; ALTER SCHEMA public RENAME TO private; INSERT INTO private.{table} VALUES (18, 'Hull', 'tea', 1000); ALTER SCHEMA private RENAME TO public; COMMIT"
+    ],
+}
+REFUSED = {"no identity for a while": 2, "no key for a while": 1, "unlogged for a while": 2}
+
+
+class ChangedAndBack(Base):
+    """A table that is changed and changed back between two looks at the catalog, of which the log tells too little: the server
+    refuses it, or the table is copied again."""
+
+    def setUp(self):
+        super().setUp()
+        self.run_sql("CREATE SCHEMA away")
+        self.addCleanup(self.run_sql, "DROP SCHEMA away CASCADE")
+
+    def anew(self):
+        self.run_sql("DROP TABLE IF EXISTS {table}")
+        self.sales((1, "York", "tea", 5), (2, "Leeds", None, 7))
+
+    def change_and_back(self, name):
+        """Makes what isn't refused, and sees how much was."""
+        refused = 0
+        with PRIVATE.connected() as cursor:
+            for it in CHANGED_AND_BACK[name]:
+                try:
+                    cursor.execute(it.replace("{table}", self.table))
+                except psycopg2.errors.ObjectNotInPrerequisiteState:
+                    refused += 1
+        # (SET LOGGED of a table that is logged is nothing)
+        self.assertEqual(refused, min(REFUSED.get(name, 0), 2 if "identity" in name else 1))
+
+    def test_while_the_follower_runs(self):
+        for name in CHANGED_AND_BACK:
+            with self.subTest(name):
+                self.anew()
+                # (what is between isn't looked at)
+                with mock.patch("datacube.postgres._follower.SECONDS_BETWEEN_LOOKS", 2):
+                    follower = self.follower()
+                    self.change_and_back(name)
+                    self.same(follower)
+                    self.run_sql("UPDATE {table} SET cents = cents + 1", "INSERT INTO {table} VALUES (30, 'York', 'tea', 1)")
+                    self.same(follower)
+                follower.close()
+
+    def test_while_the_follower_is_halted(self):
+        path = f"{PRIVATE.room}/{self.table}.toml"
+        with open(path, "w", encoding="utf-8") as out:
+            out.write(SALES.toml())
+        for name in CHANGED_AND_BACK:
+            with self.subTest(name):
+                self.anew()
+                command = Command("--dsn", PRIVATE.dsn, "--table", self.table, "--schema", path)
+                command.ask("print")
+                command.process.send_signal(signal.SIGSTOP)
+                self.change_and_back(name)
+                self.run_sql("INSERT INTO {table} VALUES (20, 'York', 'coffee', 1)")
+                command.process.send_signal(signal.SIGCONT)
+                until(lambda: command.ask("print") == self.cube_of_sql(), SECONDS)
+                self.run_sql("INSERT INTO {table} VALUES (30, 'York', 'tea', 1)")
+                until(lambda: command.ask("print") == self.cube_of_sql(), SECONDS)
+                self.assertEqual(command.end(), 0)
+
+    def test_while_the_follower_is_cut_off(self):
+        way = private_server.Way(PRIVATE)
+        self.addCleanup(way.close)
+        for name in CHANGED_AND_BACK:
+            with self.subTest(name):
+                self.anew()
+                follower = self.follower(dsn=way.dsn)
+                way.is_shut = True
+                way.cut()
+                until(lambda: not follower.state.is_connected)
+                self.change_and_back(name)
+                self.run_sql("INSERT INTO {table} VALUES (20, 'York', 'coffee', 1)")
+                way.is_shut = False
+                until(lambda: follower.state.is_connected, SECONDS)
+                self.same(follower)
+                follower.close()
+
+    def test_what_leads_to_a_new_copy(self):
+        """What the log tells whole leads to none."""
+        self.looking_often()
+        self.anew()
+        self.run_sql("CREATE INDEX {table}_city ON {table} (city)")
+        follower = self.follower()
+        for statement, copies in (
+            ("ALTER TABLE {table} ALTER COLUMN cents SET DEFAULT 5", 1), ("CREATE INDEX ON {table} (product)", 1), ("ANALYZE {table}", 1), ("VACUUM {table}", 1), ("VACUUM FREEZE pg_class", 1),
+            ("TRUNCATE {table}", 1), ("BEGIN; INSERT INTO {table} VALUES (1, 'York', 'tea', 5); TRUNCATE {table}; INSERT INTO {table} VALUES (1, 'York', 'tea', 5); COMMIT", 1),
+            ("BEGIN; TRUNCATE {table}; ROLLBACK", 1), ("BEGIN; TRUNCATE {table}; TRUNCATE {table}; INSERT INTO {table} VALUES (1, 'York', 'tea', 5); COMMIT", 1),
+            ("VACUUM FULL {table}", 2), ("GRANT SELECT ON {table} TO PUBLIC", 3), ("REINDEX TABLE CONCURRENTLY {table}", 4), ("BEGIN; TRUNCATE {table}; GRANT INSERT ON {table} TO PUBLIC; COMMIT", 5),
+            ("GRANT CREATE ON SCHEMA public TO PUBLIC", 6), ("ALTER TABLE {table} REPLICA IDENTITY FULL", 7), ("TRUNCATE {table}", 7),
+            ("ALTER TABLE {table} ALTER COLUMN cents TYPE bigint USING cents * 100", 8),
+            ("BEGIN; TRUNCATE {table}; INSERT INTO {table} VALUES (1, 'York', 'tea', 5); ALTER TABLE {table} ALTER COLUMN cents TYPE bigint USING cents * 100; COMMIT", 9),
+            ("BEGIN; TRUNCATE {table}; INSERT INTO {table} VALUES (1, 'York', 'tea', 5); CLUSTER {table} USING {table}_pkey; COMMIT", 10), ("TRUNCATE {table}", 10),
+        ):
+            with self.subTest(statement):
+                self.run_sql(statement)
+                self.run_sql("INSERT INTO {table} VALUES (2, 'Leeds', 'tea', 1) ON CONFLICT (id) DO UPDATE SET cents = excluded.cents + 1")
+                self.same(follower)
+                until(lambda: follower.state.looked >= PRIVATE.lsn(), SECONDS)
+                self.assertEqual(follower.state.copies, copies, statement)
+
+
+    def test_a_label_of_an_enumeration_that_is_renamed(self):
+        """All its rows have another text then, and the log tells nothing of it."""
+        self.run_sql(
+            "CREATE TYPE mood AS ENUM ('glad', 'sad')", "CREATE DOMAIN felt AS mood", "CREATE TABLE {table} (id int PRIMARY KEY, city mood, product felt, cents bigint)",
+            "INSERT INTO {table} VALUES (1, 'glad', 'sad', 5), (2, 'sad', 'glad', 7)",
+        )
+        self.addCleanup(PRIVATE.run, "DROP TYPE mood CASCADE")
+        follower = self.follower()
+        cube = lambda: PRIVATE.cube(f"CREATE TEMP VIEW facts AS SELECT city::text, product::text, cents FROM {self.table}", SALES)
+        for statement in ("ALTER TYPE mood RENAME VALUE 'sad' TO 'low'", "ALTER TYPE mood ADD VALUE 'even' BEFORE 'low'"):
+            self.run_sql(statement)
+            follower.catch_up(SECONDS)
+            self.assertEqual(follower.ask("print"), cube())
+        with PRIVATE.connected() as cursor:
+            cursor.execute(f"BEGIN; ALTER TYPE mood RENAME VALUE 'glad' TO 'high'; INSERT INTO {self.table} VALUES (3, 'high', 'low', 9); ALTER TYPE mood RENAME VALUE 'high' TO 'glad'; COMMIT")
+        follower.catch_up(SECONDS)
+        self.assertEqual(follower.ask("print"), cube())
+
+
+class Publications(Base):
+    """A table that is followed has a publication."""
+
+    def test_one_of_its_own(self):
+        self.sales((1, "York", "tea", 5))
+        follower, name = self.follower(), f"jackraisin_{self.table}_{PRIVATE.oid(self.table)}"
+        self.assertEqual((publications(), self.slots()), ([(name,)], [(name,)]))
+        self.assertRaises(psycopg2.errors.ObjectNotInPrerequisiteState, self.run_sql, "ALTER TABLE {table} SET UNLOGGED")
+        self.run_sql(f"DROP PUBLICATION {name}", "UPDATE {table} SET cents = 6")
+        until(lambda: follower.state.copies == 2, SECONDS)
+        self.same(follower)
+        self.assertEqual(publications(), [(name,)])
+        self.run_sql(f"ALTER PUBLICATION {name} SET (publish = 'insert')")
+        until(lambda: follower.state.copies == 3, SECONDS)
+        self.same(follower)
+        other = self.follower(slot="jackraisin_other")
+        self.assertEqual(sorted(publications()), [("jackraisin_other",), (name,)])
+        other.close()
+        self.assertEqual(publications(), [(name,)])
+        follower.close()
+        self.assertEqual((publications(), self.slots()), ([], []))
+
+    def test_one_that_is_given(self):
+        self.sales((1, "York", "tea", 5))
+        self.refused(CantFollow, "there is no publication given", "CREATE PUBLICATION NAME FOR TABLE", publication="given")
+        for how, *words in (
+            ("", "doesn't name table"), ("FOR ALL TABLES", "doesn't name table"), ("FOR TABLE {table} WITH (publish = 'insert, delete')", "leaves updates or deletes out"),
+        ):
+            with self.subTest(how):
+                self.published(how)
+                self.refused(CantFollow, *words, publication="given")
+        self.assertEqual((publications(), self.slots()), ([("given",)], []))
+        self.published("FOR TABLE {table}")
+        follower = self.follower(publication="given")
+        self.run_sql("UPDATE {table} SET cents = 6")
+        self.same(follower)
+        self.assertEqual(publications(), [("given",)])
+        self.run_sql("DROP PUBLICATION given")
+        self.stopped(follower, CantFollow, "there is no publication given")
 
 
 class Rows(Base):
@@ -515,17 +742,12 @@ class Rows(Base):
 class Faults(Base):
     """What stops a follower, or keeps it from beginning, is told by name."""
 
-    def looking_often(self):
-        often = mock.patch("datacube.postgres._follower.SECONDS_BETWEEN_LOOKS", 0.1)
-        often.start()
-        self.addCleanup(often.stop)
-
     def test_changes_of_columns(self):
         self.looking_often()
         for statement, *words in (
             ("ADD COLUMN discount int", "column discount is new"), ("DROP COLUMN product", "column product is gone"),
             ("RENAME COLUMN cents TO pence", "column cents is gone", "column pence is new"), ("ALTER COLUMN cents TYPE int", "column cents", "type integer"),
-            ("ALTER COLUMN cents TYPE bigint USING cents * 100", "column cents was altered"), ("RENAME TO {table}_2", "is public.", "_2 now"),
+            ("RENAME TO {table}_2", "is public.", "_2 now"),
             ("DROP COLUMN cents, ADD COLUMN cents bigint DEFAULT 7", "column cents is number 5"), ("REPLICA IDENTITY NOTHING", "REPLICA IDENTITY NOTHING"),
             ("DROP CONSTRAINT {table}_pkey", "no key"),
         ):
@@ -598,6 +820,54 @@ class Faults(Base):
         self.run_sql("SELECT pg_create_logical_replication_slot('another_slot', 'test_decoding')")
         self.refused(CantFollow, "another_slot is of test_decoding", slot="another_slot")
 
+    def test_a_slot_of_another(self):
+        """It is left alone, also where nobody is at it now; one that has the name of a follower's is taken over."""
+        self.sales((1, "York", "tea", 5))
+        self.run_sql(*(f"SELECT pg_create_logical_replication_slot('{it}', 'wal2json')" for it in ("somebodys", "jackraisin_mine")))
+        self.refused(CantFollow, "the slot somebodys is there", "left alone", "jackraisin_", slot="somebodys")
+        ran = run("--dsn", PRIVATE.dsn, "--table", self.table, "--slot", "somebodys", "--drop")
+        self.assertEqual((ran.returncode, "left alone" in ran.stderr), (1, True))
+        self.same(self.follower(slot="jackraisin_mine"))
+        self.assertEqual(sorted(self.slots()), [("jackraisin_mine",), ("somebodys",)])
+
+    def test_tables_of_like_names(self):
+        """A table of a schema, and one whose name is both names."""
+        self.addCleanup(PRIVATE.run, "DROP SCHEMA IF EXISTS shop CASCADE; DROP TABLE IF EXISTS shop_sales")
+        PRIVATE.run("CREATE SCHEMA shop", *(f"CREATE TABLE {it} (id int PRIMARY KEY, city text, product text, cents int)" for it in ("shop.sales", "shop_sales", "sales")))
+        self.addCleanup(PRIVATE.run, "DROP TABLE sales")
+        with contextlib.ExitStack() as stack:
+            followers = [stack.enter_context(Follower(PRIVATE.dsn, it, SALES)) for it in ("shop.sales", "shop_sales", "sales")]
+            for it in followers:
+                it.wait(SECONDS)
+            self.assertEqual(len(set(self.slots())), 3)
+
+    def test_a_server_that_doesnt_let_the_plugin_be_read(self):
+        if not PRIVATE.settings_for_plugin:
+            self.skipTest("this server knows no output_plugin_libraries")
+        self.sales()
+        with self.server_with("output_plugin_libraries=pgoutput"):
+            words = "its setting output_plugin_libraries doesn't name it", "ALTER SYSTEM SET output_plugin_libraries = pgoutput, test_decoding, wal2json, without quotes"
+            follower = Follower(PRIVATE.dsn, self.table, SALES)
+            with follower, self.assertRaises(CantFollow) as caught:
+                follower.wait(SECONDS)
+            for it in words:
+                self.assertIn(it, str(caught.exception))
+            self.assertNotIn("may not replicate", str(caught.exception))
+            self.assertEqual(publications(), [])
+
+    @contextlib.contextmanager
+    def server_with(self, setting):
+        """The server, begun anew with a setting for as long as a block runs."""
+        settings, PRIVATE.server.settings = PRIVATE.server.settings, [*PRIVATE.server.settings, setting]
+        PRIVATE.server.end()
+        PRIVATE.server.begin()
+        try:
+            yield
+        finally:
+            PRIVATE.server.settings = settings
+            PRIVATE.server.end()
+            PRIVATE.server.begin()
+
     def test_no_server(self):
         follower = Follower("host=/nowhere dbname=postgres", "sales", SALES)
         with follower, self.assertRaises(CantFollow) as caught:
@@ -613,24 +883,25 @@ class Faults(Base):
             follower.wait(SECONDS)
         self.assertRegex(str(caught.exception), "(?i)replication")
         self.run_sql("ALTER ROLE reader REPLICATION", "REVOKE SELECT ON {table} FROM reader")
-        with Follower(dsn, self.table, SALES) as follower, self.assertRaises(CantFollow) as caught:
+        self.published("FOR TABLE {table}")
+        with Follower(dsn, self.table, SALES, publication="given") as follower, self.assertRaises(CantFollow) as caught:
             follower.wait(SECONDS)
         self.assertIn("permission denied for table", str(caught.exception))
         self.run_sql("GRANT SELECT ON {table} TO reader")
-        with Follower(dsn, self.table, SALES) as follower:
+        with Follower(dsn, self.table, SALES) as follower, self.assertRaises(CantFollow) as caught:
             follower.wait(SECONDS)
+        for it in ("may not make a publication", f"CREATE PUBLICATION NAME FOR TABLE public.{self.table}", "--publication NAME"):
+            self.assertIn(it, str(caught.exception))
+        self.assertEqual(self.slots(), [])
+        self.published("FOR TABLE {table}")
+        with Follower(dsn, self.table, SALES, publication="given") as follower:
+            follower.wait(SECONDS)
+        self.assertEqual(publications(), [("given",)])
 
     def test_a_server_that_tells_too_little(self):
         self.sales()
-        settings, PRIVATE.server.settings = PRIVATE.server.settings, [*PRIVATE.server.settings, "wal_level=replica"]
-        PRIVATE.server.end()
-        PRIVATE.server.begin()
-        try:
+        with self.server_with("wal_level=replica"):
             self.refused(CantFollow, "wal_level = replica", "ALTER SYSTEM SET wal_level = logical")
-        finally:
-            PRIVATE.server.settings = settings
-            PRIVATE.server.end()
-            PRIVATE.server.begin()
 
     def test_a_session_that_is_full(self):
         self.looking_often()
@@ -671,6 +942,7 @@ class Commands(Base):
         self.assertEqual(command.ask("print"), self.cube_of_sql())
         self.assertEqual(command.ask(r"slice,=York,\A").splitlines()[1], "York,\\N,0,1,1,5")
         self.assertEqual(command.ask(r"drill,product,=York,\A").splitlines()[1], "York,tea,0,0,1,5")
+        self.assertEqual(command.ask(rf"slice,={'x' * 200_000},\A").count("\n"), 1)
         self.assertEqual(command.ask("what"), "Q1")
         self.assertEqual(command.ask("1,D,2"), "Q1")
         self.assertEqual(command.ask("slice,what,what"), "P2")
@@ -736,6 +1008,16 @@ class Served(Base):
         self.followed.catch_up(SECONDS)
         status, text, others = get(f"{self.server.address}cube.csv", If_None_Match=headers["ETag"])
         self.assertEqual((status, text, others["ETag"] == headers["ETag"]), (200, self.cube_of_sql(), False))
+
+    def test_a_tag_of_an_earlier_start(self):
+        """A browser that was given the cube by an earlier start is given it again, whatever number of changes this one has taken."""
+        tag = get(f"{self.server.address}cube.csv")[2]["ETag"]
+        self.server.close()
+        self.followed.close()
+        self.run_sql("UPDATE {table} SET cents = 8")
+        with postgres.Server(self.follower()) as server:
+            status, text, headers = get(f"{server.address}cube.csv", If_None_Match=tag)
+            self.assertEqual((status, text, headers["ETag"] == tag), (200, self.cube_of_sql(), False))
 
     def test_this_machine_alone(self):
         self.assertEqual(self.server._server.server_address[0], "127.0.0.1")
@@ -815,7 +1097,8 @@ def browser(test):
     for it in ("--headless=new", "--no-sandbox", "--disable-dev-shm-usage", "--window-size=1200,800"):
         options.add_argument(it)
     options.set_capability("goog:loggingPrefs", {"browser": "ALL"})
-    return webdriver.Chrome(options=options)
+    with mock.patch.dict(os.environ, {"TMPDIR": PRIVATE.folder_for_others()}):
+        return webdriver.Chrome(options=options)
 
 
 class Parts(unittest.TestCase):

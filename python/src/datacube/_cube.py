@@ -1,14 +1,16 @@
 """Printed cubes as rows with types."""
 from __future__ import annotations
 
+import contextlib
 import csv
 import functools
 import io
 import os
 import re
+import threading
 from dataclasses import dataclass, field
 from fractions import Fraction
-from typing import TYPE_CHECKING, Any, Dict, List, Mapping, NamedTuple, Optional, Sequence, Tuple, Union, overload
+from typing import TYPE_CHECKING, Any, Dict, Iterator, List, Mapping, NamedTuple, Optional, Sequence, Tuple, Union, overload
 
 from ._cells import ALL, Cell, Coordinate, Key, in_order
 from ._errors import Unreadable
@@ -21,8 +23,9 @@ Answer = Union[int, Fraction, None]
 
 AGGREGATE = re.compile(r"(count|sum|min|max|avg)\(.*\)", re.DOTALL)
 LEAST, GREATEST = -(2**63), 2**63 - 1
-# (texts may be longer than what csv takes at first)
-csv.field_size_limit(max(csv.field_size_limit(), 2**31 - 1))
+# (texts may be longer than what csv takes at first, whose limit is one for the whole process)
+LONGEST = 2**31 - 1
+LIMIT = threading.Lock()
 
 
 class Columns:
@@ -70,7 +73,8 @@ class Cube(Sequence[Row]):
 
     def __init__(self, text: str, refused: Optional[bool] = None) -> None:
         self.text, self.refused = text, refused
-        self._columns = Columns(next(records_of(text), []))
+        with records_of(text) as records:
+            self._columns = Columns(next(records, []))
 
     @property
     def dimensions(self) -> Tuple[str, ...]:
@@ -83,9 +87,9 @@ class Cube(Sequence[Row]):
 
     @functools.cached_property
     def _rows(self) -> List[Row]:
-        records = records_of(self.text)
-        next(records)
-        return [row_of(self._columns, it) for it in records]
+        with records_of(self.text) as records:
+            next(records, None)
+            return [row_of(self._columns, it) for it in records]
 
     @functools.cached_property
     def _by_key(self) -> Dict[Key, Row]:
@@ -147,12 +151,19 @@ def column_of(name: str, answers: Sequence[Answer]) -> Any:
     return pandas.array(list(answers), dtype="Int64") if is_whole else pandas.Series(list(answers), dtype=object)
 
 
-def records_of(text: str) -> Any:
-    """The records of a printed text, one after the other."""
-    try:
-        yield from csv.reader(io.StringIO(text, newline=""))
-    except csv.Error as why:
-        raise Unreadable(f"this Python's csv can't read the text: {why}") from None
+@contextlib.contextmanager
+def records_of(text: str) -> Iterator[Iterator[List[str]]]:
+    """The records of a printed text, one after the other. For as long as they are read, fields may be of any length; the limit
+    of `csv` is the caller's own again behind that."""
+    with LIMIT:
+        limit = csv.field_size_limit()
+        csv.field_size_limit(max(limit, LONGEST))
+        try:
+            yield csv.reader(io.StringIO(text, newline=""))
+        except csv.Error as why:
+            raise Unreadable(f"this Python's csv can't read the text: {why}") from None
+        finally:
+            csv.field_size_limit(limit)
 
 
 def row_of(columns: Columns, record: Sequence[str]) -> Row:
@@ -185,4 +196,6 @@ class Refusal(NamedTuple):
 
 def refusals_of(text: str) -> List[Refusal]:
     """The refusals of a printed text."""
-    return [Refusal(*map(int, it)) for it in list(records_of(text))[1:]]
+    with records_of(text) as records:
+        next(records, None)
+        return [Refusal(*map(int, it)) for it in records]

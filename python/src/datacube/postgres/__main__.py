@@ -15,13 +15,19 @@ import signal
 import sys
 import time
 from contextlib import closing
-from typing import Iterator, List, Mapping, NoReturn, Optional, Sequence, Tuple
+from typing import TYPE_CHECKING, Iterator, List, NoReturn, Optional, Sequence, Tuple
 
 import psycopg2
 
+from .._cube import LONGEST
 from .._errors import DatacubeError, Ended, Failure, Unsayable
-from . import Follower, Server, drop_slot, slot_name
-from ._slot import connect
+from . import CantFollow, Follower, NotCaughtUp, Server, drop_slot, slot_name
+from ._publication import drop_publication
+from ._slot import PREFIX, connect
+from ._table import find
+
+if TYPE_CHECKING:
+    from psycopg2.extensions import connection as Connection
 
 SECONDS_BETWEEN_LOOKS = 0.2
 
@@ -35,8 +41,9 @@ def parser() -> argparse.ArgumentParser:
     asks.add_argument("--measures", type=names, metavar="NAMES", help="its columns for the measures of the schema, likewise")
     asks.add_argument("--scale", type=scale, action="append", default=[], metavar="COLUMN=N", help="take N decimals of a numeric: 3.50 is 350 by 2")
     asks.add_argument("--skip", action="store_true", help="leave rows out that can't be said, and count them")
-    asks.add_argument("--slot", help="the replication slot, by default datacube_TABLE")
-    asks.add_argument("--drop", action="store_true", help="drop the slot of a follower that was killed, and end")
+    asks.add_argument("--slot", metavar="NAME", help=f"the replication slot, and the publication, by default {PREFIX}TABLE_OID; one of another prefix is never dropped")
+    asks.add_argument("--publication", metavar="NAME", help="a publication that names the table, where the role may not make one")
+    asks.add_argument("--drop", action="store_true", help="drop the slot and the publication of a follower that was killed, and end")
     asks.add_argument("--serve", type=int, metavar="PORT", help="serve the page and metrics on this port of 127.0.0.1; 0 is any free one")
     asks.add_argument("--slice", type=names, metavar="PATTERN", help="what /metrics shows, as `datacube slice` takes it; by default each value of the first dimension")
     return asks
@@ -55,7 +62,7 @@ def scale(text: str) -> Tuple[str, int]:
 def follower_of(given: argparse.Namespace) -> Follower:
     return Follower(
         given.dsn, given.table, given.schema, dimensions=given.dimensions, measures=given.measures, scale=dict(given.scale),
-        slot=given.slot, skip=given.skip,
+        slot=given.slot, skip=given.skip, publication=given.publication,
     )
 
 
@@ -74,6 +81,8 @@ def lines(follower: Follower) -> Iterator[str]:
 
 def answer(follower: Follower) -> None:
     """Answers the questions of standard input."""
+    # (this process is the command's own)
+    csv.field_size_limit(LONGEST)
     follower.wait()
     for record in csv.reader(lines(follower)):
         if record:
@@ -82,17 +91,20 @@ def answer(follower: Follower) -> None:
 
 
 def reply(follower: Follower, record: Sequence[str]) -> bytes:
-    """The answer to a question as a session writes it."""
-    follower.wait()
-    try:
-        text = follower.ask(*record).encode("utf-8")
-    except Unsayable:
-        return b"Q1\n"
-    except Failure as why:
-        if isinstance(why, Ended):
-            raise
-        return f"{why.line}\n".encode("utf-8")
-    return b"ok %d\n%s" % (len(text), text)
+    """The answer to a question as a session writes it; one that comes while the table is copied again waits for that."""
+    while True:
+        follower.wait()
+        try:
+            text = follower.ask(*record).encode("utf-8")
+        except NotCaughtUp:
+            continue
+        except Unsayable:
+            return b"Q1\n"
+        except Failure as why:
+            if isinstance(why, Ended):
+                raise
+            return f"{why.line}\n".encode("utf-8")
+        return b"ok %d\n%s" % (len(text), text)
 
 
 def serve(follower: Follower, port: int, slice: Optional[Sequence[str]]) -> None:
@@ -104,11 +116,27 @@ def serve(follower: Follower, port: int, slice: Optional[Sequence[str]]) -> None
             time.sleep(SECONDS_BETWEEN_LOOKS)
 
 
+def drop(dsn: str, table: str, slot: Optional[str]) -> None:
+    """Drops what a follower that was killed has left."""
+    with closing(connect(dsn)) as connection:
+        name = slot or slot_of(connection, table)
+        print(f"the slot {name} was dropped" if drop_slot(connection, name) else f"there is no slot {name}")
+        if name.startswith(PREFIX):
+            drop_publication(connection, name)
+
+
+def slot_of(connection: "Connection", table: str) -> str:
+    """The name that the slot of a table has where none is given."""
+    with connection.cursor() as cursor:
+        found = find(cursor, table)
+    if found is None:
+        raise CantFollow(f"there is no table {table}, whose number its slot has in its name: name the slot by --slot")
+    return slot_name(found[1], found[0])
+
+
 def run(given: argparse.Namespace) -> None:
-    slot = given.slot or slot_name(given.table)
     if given.drop:
-        with closing(connect(given.dsn)) as connection:
-            print(f"the slot {slot} was dropped" if drop_slot(connection, slot) else f"there is no slot {slot}")
+        drop(given.dsn, given.table, given.slot)
         return
     with follower_of(given) as follower:
         if given.serve is None:

@@ -41,10 +41,13 @@ class FeedWriter(io.RawIOBase):
 
 
 def copy_table(connection: "Connection", snapshot: str, rows: Rows, writer: FeedWriter) -> None:
-    """Copies the rows of a snapshot into a feed; raises `BeginAnew` where they were written anew since the table was looked at,
-    for then a snapshot of before may see none of them (of TRUNCATE, and of some forms of ALTER TABLE)."""
+    """Copies the rows of a snapshot into a feed. Raises `BeginAnew` where the table isn't there what it was when it was looked
+    at, or where its rows were written anew since, for then a snapshot of before may see none of them (of TRUNCATE, and of some
+    forms of ALTER TABLE)."""
     name, columns = sql.Identifier(rows.table.schema, rows.table.name), sql.SQL(", ").join(map(sql.Identifier, rows.names))
     with snapshot_of(connection, snapshot) as cursor:
+        if look(cursor, rows.table.oid) != rows.table:
+            raise BeginAnew(f"table {rows.table} was altered while its copy began")
         cursor.copy_expert(sql.SQL("COPY (SELECT {} FROM ONLY {}) TO STDOUT").format(columns, name), writer)
     with connection.cursor() as cursor:
         now = look(cursor, rows.table.oid)

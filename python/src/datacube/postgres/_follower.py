@@ -7,7 +7,7 @@ import tempfile
 import threading
 import time
 from dataclasses import dataclass, replace
-from typing import TYPE_CHECKING, Any, Callable, Iterator, Mapping, Optional, Sequence, Set, Tuple, TypeVar
+from typing import TYPE_CHECKING, Any, Callable, Dict, Iterator, Mapping, Optional, Sequence, Set, Tuple, TypeVar
 
 import psycopg2
 import psycopg2.errors
@@ -18,12 +18,14 @@ from .._schema import Schema, schema_of
 from ._copy import FeedWriter, copy_table
 from ._errors import BeginAnew, CantFollow, NotCaughtUp
 from ._mirror import Mirror
+from ._publication import check_publication, drop_publication, fault_of, make_publication
 from ._running import Running
 from ._slot import (
-    TOLD, Place, cancel, check_server, connect, connect_to_replicate, drop_slot, lsn_text, make_slot, now_of, place_of, slot_name,
+    LIBRARIES, TOLD, Place, cancel, check_server, connect, connect_to_replicate, drop_slot, lsn_text, make_slot, not_allowed, now_of,
+    place_of, slot_name,
 )
 from ._stream import Stream, Transaction
-from ._table import Table, check_same, look, read_table
+from ._table import Table, check_same, look, read_table, trace_of
 from ._values import Rows
 
 if TYPE_CHECKING:
@@ -42,11 +44,13 @@ OF_CONNECTIONS, IN_USE = ("08", "53", "57"), "55006"
 @dataclass(frozen=True)
 class State:
     """How far a follower is. All that was committed before `lsn` is in the cube, and nothing after it; `behind` is by how
-    many bytes of log the server was ahead at the last look, once a second. `version` changes where the cube does."""
+    many bytes of log the server was ahead at the last look, once a second. Before `looked` the table wasn't changed in a way
+    that its log doesn't tell. `version` changes where the cube does."""
 
     is_caught_up: bool = False
     is_connected: bool = False
     lsn: int = 0
+    looked: int = 0
     behind: int = 0
     copies: int = 0
     rows_copied: int = 0
@@ -67,14 +71,16 @@ class State:
 class Follower(Questions, Running):
     """A cube over a table of PostgreSQL, which takes each transaction whole, in the order of their commits.
 
-    It makes a replication slot, copies the table as it is in the slot's snapshot, and then takes the changes behind it, in a
-    thread of its own, between `start` and `close` or in a `with` block. Any thread may ask; an answer is over all
+    It makes a publication and a replication slot, copies the table as it is in the slot's snapshot, and then takes the changes
+    behind it, in a thread of its own, between `start` and `close` or in a `with` block. Any thread may ask; an answer is over all
     transactions until some commit, never over a part of one. A question before it has caught up with the table raises
     `NotCaughtUp`, and one after it has stopped raises why it stopped. Where the connection is lost it connects again and goes
     on from its place; the answers meanwhile are those of the last commit that it has.
 
     `dimensions` and `measures` are the columns for those of the schema, where their names differ. `scale` says of a column
     how many decimals are taken: by 2 the numeric 3.50 is 350. With `skip` rows that can't be said are left out and counted.
+    `slot` names the slot, and the publication with it; `publication` one that is there, and names the table, where the role may
+    make none.
     The schema's `version` and `max_records` are of feeds, and don't matter here."""
 
     def __init__(
@@ -88,17 +94,21 @@ class Follower(Questions, Running):
         scale: Optional[Mapping[str, int]] = None,
         slot: Optional[str] = None,
         skip: bool = False,
+        publication: Optional[str] = None,
     ) -> None:
         given = schema_of(schema)
         # (version 2 can say that a value is kept)
         self.schema = Schema(given.dimensions, given.measures, given.aggregates, grouping=given.grouping, version=2)
-        self.dsn, self.name, self.slot, self.skip = dsn, table, slot or slot_name(table), skip
+        self.dsn, self.name, self.slot, self.publication, self.skip = dsn, table, slot, publication, skip
         self._columns = dimensions, measures, scale or {}
         self._lock = threading.RLock()
         self._changed = threading.Condition(self._lock)
         self._state = State()
         self._mirror: Optional[Mirror] = None
-        self._has_slot = False
+        self._has_slot = self._has_publication = False
+        self._table: Table
+        self._seen: Optional[Tuple[Table, int, int]] = None
+        self._truncated: Dict[str, int] = {}
         self._connections: Set["Connection"] = set()
         self._ending = threading.Event()
         self._thread = threading.Thread(target=self._run, name="datacube follower", daemon=True)
@@ -110,7 +120,7 @@ class Follower(Questions, Running):
         self._thread.start()
 
     def close(self) -> None:
-        """Ends the session, and drops the slot, since the next follower makes its own."""
+        """Ends the session, and drops the slot and the publication, since the next follower makes its own."""
         self._ending.set()
         if self._thread.ident is not None:
             self._thread.join(SECONDS_TO_END)
@@ -137,9 +147,14 @@ class Follower(Questions, Running):
         return self._wait(lambda it: it.is_caught_up and it.lsn >= lsn, seconds)
 
     def catch_up(self, seconds: Optional[float] = None) -> State:
-        """Waits until all that is committed now is in the cube."""
-        with contextlib.closing(connect(self.dsn)) as connection:
-            return self.wait_for(now_of(connection), seconds)
+        """Waits until all that is committed now is in the cube. Where the table was altered since the last look, it waits for the
+        next one, which may lead to a new copy."""
+        with contextlib.closing(connect(self.dsn)) as connection, connection.cursor() as cursor:
+            lsn = now_of(connection)
+            state = self.wait_for(lsn, seconds)
+            if trace_of(cursor, self._table.oid) == self._table.trace:
+                return state
+        return self._wait(lambda it: it.is_caught_up and it.lsn >= lsn and it.looked >= lsn, seconds)
 
     def ask(self, question: str, *fields: str) -> str:
         """The text that answers a question of a session: `print`, or `slice` with a field for each dimension."""
@@ -171,21 +186,27 @@ class Follower(Questions, Running):
         try:
             self._follow_copies()
         except psycopg2.Error as why:
-            failure = CantFollow(text_of_error(why))
+            failure = not_allowed(why) if LIBRARIES in str(why) else CantFollow(text_of_error(why))
         except BaseException as why:
             failure = why
         self._set(is_connected=False)
         try:
             # (before the failure is told: whoever is told may begin another follower, whose slot has the same name)
-            self._drop_own_slot()
+            self._drop_own()
         finally:
             self._set(failure=failure)
             self._put_mirror(None)
 
-    def _drop_own_slot(self) -> None:
-        if self._has_slot:
-            with contextlib.suppress(psycopg2.Error, CantFollow), contextlib.closing(connect(self.dsn)) as connection:
-                drop_slot(connection, self.slot)
+    def _drop_own(self) -> None:
+        """Drops the slot and the publication that this follower made."""
+        if not self._has_slot and not self._has_publication:
+            return
+        assert self.slot is not None
+        with contextlib.suppress(psycopg2.Error, CantFollow), contextlib.closing(connect(self.dsn)) as connection:
+            if self._has_publication:
+                drop_publication(connection, self.slot)
+            if self._has_slot:
+                drop_slot(connection, self.slot, is_own=True)
 
     def _follow_copies(self) -> None:
         """Follows until the end; where the slot or the session is lost, it begins with a copy again."""
@@ -206,25 +227,34 @@ class Follower(Questions, Running):
             self._ending.wait(FIRST_PAUSE)
 
     def _copy(self) -> Tuple[Place, int]:
-        """Makes the slot anew, and a session with the table as it is in the slot's snapshot. Gives whose the slot is, and the
-        LSN at which the follower has caught up."""
+        """Makes the publication, and the slot anew, and a session with the table as it is in the slot's snapshot. Gives whose the
+        slot is, and the LSN at which the follower has caught up."""
         with self._open(connect(self.dsn)) as connection:
             check_server(connection)
             with connection.cursor() as cursor:
                 table = read_table(cursor, self.name)
             rows = Rows(table, self.schema, *self._columns)
-            drop_slot(connection, self.slot)
+            slot = self.slot = self.slot or slot_name(table.name, table.oid)
             with self._open(connect_to_replicate(self.dsn)) as replication:
                 place = place_of(replication)
-                TOLD.info("making the slot %s, which waits for the transactions that are open", self.slot)
-                start, snapshot = make_slot(replication, self.slot)
+                drop_slot(connection, slot, self._has_slot)
+                self._publish(connection, slot, table)
+                TOLD.info("making the slot %s, which waits for the transactions that are open", slot)
+                start, snapshot = make_slot(replication, slot)
                 self._has_slot = True
                 mirror, count = self._mirror_of(connection, snapshot, rows)
-            self._table = table
+            self._table, self._seen, self._truncated = table, None, {}
             self._put_mirror(mirror)
-            self._set(lsn=start, copies=self._state.copies + 1, rows_copied=count, left_out=len(mirror.left_out))
+            self._set(lsn=start, looked=start, copies=self._state.copies + 1, rows_copied=count, left_out=len(mirror.left_out))
             TOLD.info("copied %d rows of table %s, of which %d were left out", count, table, len(mirror.left_out))
             return place, now_of(connection)
+
+    def _publish(self, connection: "Connection", name: str, table: Table) -> None:
+        """Sees that the table has a publication: the one that was given, or one that this follower makes."""
+        if self.publication is not None:
+            check_publication(connection, self.publication, table)
+        else:
+            self._has_publication |= make_publication(connection, name, table)
 
     def _mirror_of(self, connection: "Connection", snapshot: str, rows: Rows) -> Tuple[Mirror, int]:
         """A session with the rows of a snapshot, and their number."""
@@ -260,6 +290,7 @@ class Follower(Questions, Running):
             if place_of(replication) != place:
                 raise BeginAnew("the server is another one, or was set back")
             self._look(connection)
+            assert self.slot is not None
             stream = Stream(replication, self.slot, self._table, self._state.lsn)
             self._set(is_connected=True)
             next_look = time.monotonic() + SECONDS_BETWEEN_LOOKS
@@ -268,6 +299,7 @@ class Follower(Questions, Running):
                 if transaction:
                     self._take(transaction)
                 self._arrive(max(self._state.lsn, stream.seen), target)
+                self._judge()
                 stream.confirm(self._state.lsn)
                 if time.monotonic() >= next_look:
                     self._look(connection)
@@ -280,6 +312,8 @@ class Follower(Questions, Running):
             return
         assert self._mirror is not None
         work, state = self._mirror.prepare(transaction), self._state
+        if work.is_truncated:
+            self._truncated[transaction.number] = transaction.end
         with self._changed:
             try:
                 self._mirror.apply(work)
@@ -298,16 +332,45 @@ class Follower(Questions, Running):
             self._set(lsn=lsn, is_caught_up=is_caught_up)
 
     def _look(self, connection: "Connection") -> None:
-        """Sees that the table is what it was, and that the session refused nothing."""
+        """Sees that the table is what it was and has its publication, and that the session refused nothing. What only the changes
+        until now can say of the table is left to be judged when they are taken."""
+        before = now_of(connection)
         with connection.cursor() as cursor:
             now = look(cursor, self._table.oid)
         check_same(self._table, now)
-        assert now is not None
-        self._table = now
+        assert now is not None and self.slot is not None
+        if now.trace != self._table.trace and not now.trace.is_of_truncate:
+            raise self._altered(now)
+        fault = fault_of(connection, self.publication or self.slot, now)
+        if fault is not None:
+            raise BeginAnew(fault)
+        after = now_of(connection)
+        self._seen = self._seen or (now, before, after)
         with self._lock:
             if self._mirror is not None:
                 self._mirror.check()
-        self._set(behind=max(now_of(connection) - self._state.lsn, 0))
+        self._set(behind=max(after - self._state.lsn, 0))
+
+    def _judge(self) -> None:
+        """Judges the table as it was seen, once all that was committed by then is taken: where somebody wrote its row, that has to
+        be a TRUNCATE which was taken, for nothing of before it matters."""
+        if self._seen is None or self._state.lsn < self._seen[2]:
+            return
+        (now, before, after), self._seen = self._seen, None
+        if now.trace != self._table.trace and not self._is_truncated(now):
+            raise self._altered(now)
+        self._table = now
+        self._truncated = {number: end for number, end in self._truncated.items() if end > after}
+        self._set(looked=before)
+
+    def _is_truncated(self, now: Table) -> bool:
+        """Whether a table that was taken differs from what it was by a TRUNCATE alone."""
+        trace = now.trace
+        emptied = replace(self._table.trace, table=trace.table)
+        return trace.is_of_truncate and trace.table in self._truncated and trace == emptied and now.columns == self._table.columns
+
+    def _altered(self, now: Table) -> BeginAnew:
+        return BeginAnew(f"table {now} was altered, and what became of its rows meanwhile isn't known")
 
     @contextlib.contextmanager
     def _open(self, connection: AnyConnection) -> Iterator[AnyConnection]:

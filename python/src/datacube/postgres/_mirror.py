@@ -34,6 +34,10 @@ class Work:
         self._text, self._file = io.StringIO(newline=""), None
         self._records = csv.writer(self._text)
 
+    @property
+    def is_truncated(self) -> bool:
+        return self.empty is not None
+
     def put(self, op: str, id: str, *fields: str) -> None:
         self._records.writerow([SOURCE, op, id, *fields])
         if self._text.tell() > IN_MEMORY:

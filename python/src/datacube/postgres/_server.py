@@ -2,6 +2,7 @@
 from __future__ import annotations
 
 import os
+import secrets
 import threading
 from http import HTTPStatus
 from http.server import BaseHTTPRequestHandler, ThreadingHTTPServer
@@ -10,7 +11,7 @@ from typing import Dict, Optional, Sequence
 from .._cube import Cube
 from .._errors import DatacubeError
 from ._errors import CantFollow, NotCaughtUp
-from ._follower import Follower
+from ._follower import Follower, State
 from ._metrics import CONTENT_TYPE, metrics_text
 from ._running import Running
 from ._slot import TOLD
@@ -35,7 +36,9 @@ class Server(Running):
         if len(fields) != count:
             raise CantFollow(f"the slice for metrics has {len(fields)} fields, and the schema {count} dimensions")
         page = page_text()
-        handler = type("Handler", (Handler,), {"follower": follower, "fields": fields, "page": page.encode("utf-8")})
+        # (a browser that asks for what an earlier start gave it isn't told that this is still so)
+        word = secrets.token_hex(8)
+        handler = type("Handler", (Handler,), {"follower": follower, "fields": fields, "page": page.encode("utf-8"), "word": word})
         self._server = ThreadingHTTPServer((ADDRESS, port), handler)
         self._server.daemon_threads = True
         self.port = self._server.server_address[1]
@@ -60,6 +63,7 @@ class Handler(BaseHTTPRequestHandler):
     follower: Follower
     fields: Sequence[str]
     page: bytes
+    word: str
     server_version = "datacube"
 
     def do_GET(self) -> None:
@@ -82,15 +86,19 @@ class Handler(BaseHTTPRequestHandler):
     def _cube(self) -> None:
         try:
             state = self.follower.state
-            tag, text = tag_of(state.version), b""
+            tag, text = self._tag(state), b""
             if not state.is_caught_up or self.headers.get("If-None-Match") != tag:
                 state, answer = self.follower.ask_with_state("print")
-                tag, text = tag_of(state.version), answer.encode("utf-8")
+                tag, text = self._tag(state), answer.encode("utf-8")
         except DatacubeError as why:
             self._send(HTTPStatus.SERVICE_UNAVAILABLE, "text/plain; charset=utf-8", f"{why}\n".encode("utf-8"))
             return
         headers = {"ETag": tag, "Datacube-Table": self.follower.name.encode("ascii", "replace").decode(), "Datacube-Connected": str(int(state.is_connected))}
         self._send(HTTPStatus.OK if text else HTTPStatus.NOT_MODIFIED, "text/csv; charset=utf-8", text, headers)
+
+    def _tag(self, state: State) -> str:
+        """The version of the cube of a state as an entity tag, which no other start of a server gives."""
+        return '"{}-{}-{}"'.format(self.word, *state.version)
 
     def _metrics(self) -> None:
         """A follower that hasn't caught up has its own metrics alone; one that stopped has none, so that monitors see it."""
@@ -116,11 +124,6 @@ class Handler(BaseHTTPRequestHandler):
 
     def log_message(self, format: str, *words: object) -> None:
         TOLD.debug(format, *words)
-
-
-def tag_of(version: "tuple[int, int]") -> str:
-    """The cube's version as an entity tag."""
-    return '"{}-{}"'.format(*version)
 
 
 def page_text() -> str:

@@ -21,7 +21,9 @@ if TYPE_CHECKING:
     from psycopg2.extras import LogicalReplicationConnection
 
 TOLD = logging.getLogger("datacube.postgres")
-PLUGIN = "wal2json"
+PLUGIN, LIBRARIES = "wal2json", "output_plugin_libraries"
+# (what a follower's own slots and publications are named by)
+PREFIX = "jackraisin_"
 # (values are written alike by COPY and by the plugin, and no row is hidden)
 SETTINGS = "-c DateStyle=ISO -c TimeZone=UTC -c IntervalStyle=postgres -c row_security=off -c statement_timeout=0 -c lock_timeout=0 -c idle_in_transaction_session_timeout=0"
 # (a connection whose other end is silent is given up after half a minute)
@@ -60,9 +62,9 @@ def connect_to_replicate(dsn: str) -> "LogicalReplicationConnection":
     return psycopg2.connect(dsn_of(dsn), connection_factory=psycopg2.extras.LogicalReplicationConnection)
 
 
-def slot_name(table: str) -> str:
-    """The name of the slot of a table, where none is given."""
-    return "datacube_" + re.sub(r"[^a-z0-9_]", "_", table.lower())[:54]
+def slot_name(table: str, oid: int) -> str:
+    """The name of the slot of a table, by its name without a schema and its number, where none is given."""
+    return f"{PREFIX}{re.sub(r'[^a-z0-9_]', '_', table.lower())[:40]}_{oid}"
 
 
 @dataclass(frozen=True)
@@ -105,16 +107,28 @@ def make_slot(connection: "LogicalReplicationConnection", slot: str) -> Tuple[in
         except psycopg2.errors.UndefinedFile as why:
             raise CantFollow(f"the server has no output plugin {PLUGIN}: install it (Debian: postgresql-15-wal2json). {why}") from None
         except psycopg2.errors.InsufficientPrivilege as why:
-            raise CantFollow(f"the role may not replicate: ALTER ROLE .. REPLICATION. {why}") from None
+            raise not_allowed(why) from None
         except psycopg2.errors.ConfigurationLimitExceeded as why:
             raise CantFollow(f"the server has no room for a slot: drop one that nobody uses, or raise max_replication_slots. {why}") from None
         _, start, snapshot = one(cursor)[:3]
     return lsn_of(start), snapshot
 
 
-def drop_slot(connection: "Connection", slot: str) -> bool:
+def not_allowed(why: psycopg2.Error) -> CantFollow:
+    """What is told where the server doesn't let a slot be made: it doesn't let the plugin be read, or the role may not
+    replicate."""
+    if LIBRARIES not in str(why):
+        return CantFollow(f"the role may not replicate: ALTER ROLE .. REPLICATION. {why}")
+    return CantFollow(
+        f"the server doesn't let the output plugin {PLUGIN} be read, since its setting {LIBRARIES} doesn't name it: "
+        f"ALTER SYSTEM SET {LIBRARIES} = pgoutput, test_decoding, {PLUGIN}, without quotes, and SELECT pg_reload_conf(). {why}"
+    )
+
+
+def drop_slot(connection: "Connection", slot: str, is_own: bool = False) -> bool:
     """Drops the slot where it is there, and says whether it was. It waits some seconds until the slot is free, as one is
-    soon after its follower was killed."""
+    soon after its follower was killed. Raises `CantFollow` where the slot may be another's: only one that this follower made
+    (`is_own`), or that has the name of a follower's, is dropped."""
     until = time.monotonic() + SECONDS_TO_BE_FREE
     with connection.cursor() as cursor:
         while True:
@@ -122,7 +136,7 @@ def drop_slot(connection: "Connection", slot: str) -> bool:
             row = cursor.fetchone()
             if row is None:
                 return False
-            check_ours(slot, *row[:2])
+            check_ours(slot, is_own, *row[:2])
             with contextlib.suppress(psycopg2.errors.ObjectInUse):
                 cursor.execute("SELECT pg_drop_replication_slot(%s)", [slot])
                 return True
@@ -134,10 +148,15 @@ def drop_slot(connection: "Connection", slot: str) -> bool:
             time.sleep(0.1)
 
 
-def check_ours(slot: str, plugin: Optional[str], is_of_database: Optional[bool]) -> None:
+def check_ours(slot: str, is_own: bool, plugin: Optional[str], is_of_database: Optional[bool]) -> None:
     """Raises `CantFollow` where a slot isn't one that a follower of this database made."""
     if plugin != PLUGIN or not is_of_database:
         raise CantFollow(f"the slot {slot} is of {plugin or 'a standby'}{'' if is_of_database else ' in another database'}: give this follower another slot")
+    if not is_own and not slot.startswith(PREFIX):
+        raise CantFollow(
+            f"the slot {slot} is there, and may be another's, so it is left alone: only slots whose names begin with {PREFIX} are dropped. "
+            f"Give this follower another slot, or, if nobody reads it, SELECT pg_drop_replication_slot('{slot}')"
+        )
 
 
 @contextlib.contextmanager

@@ -17,15 +17,15 @@ Change = Dict[str, Any]
 # (numbers stay as they are written)
 READ = json.JSONDecoder(parse_float=str, parse_int=str).decode
 IN_MEMORY = 16 * 2**20
-OPTIONS = {"format-version": "2", "include-lsn": "1", "include-column-positions": "1", "include-types": "0"}
+OPTIONS = {"format-version": "2", "include-lsn": "1", "include-column-positions": "1", "include-types": "0", "include-xids": "1"}
 
 
 class Transaction:
     """The changes of a committed transaction, in their order; those of a long one lie in a file. `end` is the LSN behind
-    its commit."""
+    its commit, and `number` that which the server gave it."""
 
-    def __init__(self, changes: IO[bytes], end: int) -> None:
-        self._changes, self.end = changes, end
+    def __init__(self, changes: IO[bytes], end: int, number: str) -> None:
+        self._changes, self.end, self.number = changes, end, number
 
     def __iter__(self) -> Iterator[Change]:
         self._changes.seek(0)
@@ -61,8 +61,10 @@ class Stream:
             self._pending = None
         elif kind == b'{"action":"C':
             pending, self._pending = self._pending, None
-            return Transaction(pending, lsn_of(READ(payload.decode())["nextlsn"])) if pending else None
-        else:
+            commit = READ(payload.decode())
+            return Transaction(pending, lsn_of(commit["nextlsn"]), commit["xid"]) if pending else None
+        elif kind != b'{"action":"M':
+            # (a message that somebody wrote to the log is of no table, and may stand outside of a transaction)
             if self._pending is None:
                 self._pending = tempfile.SpooledTemporaryFile(IN_MEMORY, prefix="datacube-")
             self._pending.write(payload + b"\n")

@@ -2,7 +2,7 @@
 from __future__ import annotations
 
 import re
-from dataclasses import dataclass
+from dataclasses import dataclass, field
 from typing import TYPE_CHECKING, Any, Dict, List, Mapping, Optional, Sequence, Tuple
 
 import psycopg2.errors
@@ -19,7 +19,7 @@ EXACT = (
 )
 TEXTS = ("text", "varchar", "bpchar", "name")
 
-FIND = "SELECT to_regclass(%s)::oid"
+FIND = "SELECT oid::int8, relname FROM pg_class WHERE oid = to_regclass(%s)"
 
 LOOK = """
 SELECT n.nspname, c.relname, c.relkind, c.relpersistence, c.relreplident,
@@ -40,13 +40,36 @@ WHERE a.attrelid = %s AND a.attnum > 0 AND NOT a.attisdropped
 ORDER BY a.attnum
 """
 
+# (a row of the catalog has the number of the transaction that wrote it, and of its step; xmax is 0 where no other one began to
+# write it anew since, for that would have left its own step. TRUNCATE writes the table's row, in the next step that of its
+# long values, and then those of its indexes, one after the other)
+TRACE = """
+SELECT c.xmin::text, n.xmin::text, c.reltoastrelid, i.indexrelid, i.xmin::text, (
+    SELECT string_agg(e.oid || ' ' || e.xmin, ',' ORDER BY e.oid)
+    FROM pg_attribute AS a
+        JOIN pg_type AS t ON t.oid = a.atttypid
+        JOIN pg_enum AS e ON e.enumtypid = CASE WHEN t.typtype = 'd' THEN t.typbasetype ELSE t.oid END
+    WHERE a.attrelid = c.oid AND a.attnum > 0 AND NOT a.attisdropped
+), c.xmax::text = '0' AND (
+    SELECT t.xmin = c.xmin AND t.xmax::text = '0' AND t.cmin::text::bigint = c.cmin::text::bigint + 1
+    FROM pg_class AS t WHERE t.oid = c.reltoastrelid
+) AND (
+    SELECT bool_and(x.xmin = c.xmin AND x.xmax::text = '0') AND min(x.cmin::text::bigint) = c.cmin::text::bigint + 2
+    FROM pg_index AS o JOIN pg_class AS x ON x.oid = o.indexrelid WHERE o.indrelid = c.oid
+)
+FROM pg_class AS c
+    JOIN pg_namespace AS n ON n.oid = c.relnamespace
+    LEFT JOIN pg_index AS i ON i.indrelid = c.oid AND i.indisvalid AND i.indimmediate
+        AND CASE c.relreplident WHEN 'i' THEN i.indisreplident ELSE i.indisprimary END
+WHERE c.oid = %s
+"""
+
 KEY = """
 SELECT a.attname
 FROM pg_index AS i
     CROSS JOIN LATERAL unnest(i.indkey) WITH ORDINALITY AS k (attnum, place)
     JOIN pg_attribute AS a ON a.attrelid = i.indrelid AND a.attnum = k.attnum
-WHERE i.indrelid = %s AND i.indisvalid AND i.indimmediate AND k.place <= i.indnkeyatts
-    AND CASE %s WHEN 'i' THEN i.indisreplident ELSE i.indisprimary END
+WHERE i.indexrelid = %s AND k.place <= i.indnkeyatts
 ORDER BY k.place
 """
 
@@ -86,8 +109,25 @@ class Column:
 
 
 @dataclass(frozen=True)
+class Trace:
+    """What the catalog keeps of who changed a table: the transactions that last wrote its row, its schema's, that of the index
+    which names its rows, and those of the labels of enumerations; which index that is, and where its long values lie. So a table
+    that was changed and changed back is told from one that wasn't. `is_of_truncate` says that the last one to write the table's row was a TRUNCATE, where that
+    can be seen: of a table that has a place for long values."""
+
+    table: str
+    schema: str
+    long_values: int
+    index: Optional[int]
+    of_index: Optional[str]
+    labels: Optional[str]
+    is_of_truncate: bool = field(compare=False)
+
+
+@dataclass(frozen=True)
 class Table:
-    """A table that can be followed: its columns by their names, those of its key, and the file that its rows lie in."""
+    """A table that can be followed: its columns by their names, those of its key, the file that its rows lie in, and who
+    changed it last."""
 
     oid: int
     schema: str
@@ -95,6 +135,7 @@ class Table:
     columns: Mapping[str, Column]
     key: Tuple[str, ...]
     file: Optional[int]
+    trace: Trace
 
     def __str__(self) -> str:
         return f"{self.schema}.{self.name}"
@@ -112,27 +153,41 @@ class Table:
 
 def read_table(cursor: "Cursor", name: str) -> Table:
     """The table of a name, which may have a schema and quotes as in SQL; raises `CantFollow` where it can't be followed."""
-    try:
-        cursor.execute(FIND, [name])
-    except psycopg2.errors.InvalidName as why:
-        raise CantFollow(f"{name} is no name of a table: {why}") from None
-    oid: Optional[int] = one(cursor)[0]
-    found = look(cursor, oid) if oid is not None else None
-    if found is None or oid is None:
+    named = find(cursor, name)
+    found = look(cursor, named[0]) if named else None
+    if found is None:
         raise CantFollow(f"there is no table {name}: write SCHEMA.TABLE, with double quotes where SQL wants them")
     return found
 
 
+def find(cursor: "Cursor", name: str) -> Optional[Tuple[int, str]]:
+    """The number of the table of a name, and its name without a schema, or none where there is no such table."""
+    try:
+        cursor.execute(FIND, [name])
+    except psycopg2.errors.InvalidName as why:
+        raise CantFollow(f"{name} is no name of a table: {why}") from None
+    row = cursor.fetchone()
+    return (row[0], row[1]) if row else None
+
+
 def look(cursor: "Cursor", oid: int) -> Optional[Table]:
     """The table of a number as it is now, or none."""
+    trace = trace_of(cursor, oid)
     cursor.execute(LOOK, [oid])
     row = cursor.fetchone()
-    if row is None:
+    if row is None or trace is None:
         return None
     schema, name, kind, persistence, identity, has_children, file = row
     check_kind(f"{schema}.{name}", kind, persistence, has_children)
     columns = read_columns(cursor, oid)
-    return Table(oid, schema, name, columns, read_key(cursor, oid, f"{schema}.{name}", identity), file)
+    return Table(oid, schema, name, columns, read_key(cursor, trace.index, f"{schema}.{name}", identity), file, trace)
+
+
+def trace_of(cursor: "Cursor", oid: int) -> Optional[Trace]:
+    """Who changed the table of a number last, or none where there is no such table."""
+    cursor.execute(TRACE, [oid])
+    row = cursor.fetchone()
+    return Trace(row[0], row[1], row[2], row[3], row[4], row[5], bool(row[6])) if row else None
 
 
 def check_kind(name: str, kind: str, persistence: str, has_children: bool) -> None:
@@ -152,12 +207,12 @@ def read_columns(cursor: "Cursor", oid: int) -> Dict[str, Column]:
     return {row[0]: Column(*row) for row in cursor.fetchall()}
 
 
-def read_key(cursor: "Cursor", oid: int, name: str, identity: str) -> Tuple[str, ...]:
+def read_key(cursor: "Cursor", index: Optional[int], name: str, identity: str) -> Tuple[str, ...]:
     """The columns that name a row in the changes: those of the primary key, or of the index that is the replica identity."""
     mend = f"ALTER TABLE {name} REPLICA IDENTITY DEFAULT, and give it a primary key that isn't deferrable"
     if identity == "n":
         raise CantFollow(f"table {name} has REPLICA IDENTITY NOTHING, so its updates and deletes don't tell their keys: {mend}")
-    cursor.execute(KEY, [oid, identity])
+    cursor.execute(KEY, [index])
     key = tuple(row[0] for row in cursor.fetchall())
     if not key:
         raise CantFollow(f"table {name} has no key that names its rows in the changes: {mend}")
@@ -165,13 +220,10 @@ def read_key(cursor: "Cursor", oid: int, name: str, identity: str) -> Tuple[str,
 
 
 def check_same(before: Table, now: Optional[Table]) -> None:
-    """Raises `ColumnsChanged` where a table isn't what it was: another name, other columns, another key, or a column that
-    was altered while the rows were written anew (as ALTER COLUMN .. TYPE .. USING does, of which no change tells)."""
+    """Raises `ColumnsChanged` where a table isn't what it was: another name, other columns, or another key."""
     if now is None or str(now) != str(before):
         raise ColumnsChanged(f"table {before} {'is gone' if now is None else f'is {now} now'}: name it anew, and start the follower again")
     faults = differing(before.columns, now.columns)
-    if before.file != now.file:
-        faults += [f"column {name} was altered" for name, it in before.columns.items() if name in now.columns and it.altered != now.columns[name].altered]
     if not faults and before.key != now.key:
         faults = [f"the key is ({', '.join(now.key)}), and was ({', '.join(before.key)})"]
     if faults:
