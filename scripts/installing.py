@@ -262,8 +262,11 @@ def installs(copy):
 
 def examples():
     """The files of the examples, by what is to be installed of them."""
-    found = subprocess.run(["git", "-C", ROOT, "ls-files", "examples"], stdout=subprocess.PIPE, stderr=subprocess.DEVNULL, text=True)
-    return found.stdout.split() or ["examples/first/feed.csv", *(f"examples/shop/{it}" for it in SHOP)]
+    found = []
+    if shutil.which("git"):
+        words = ["git", "-C", ROOT, "ls-files", "examples"]
+        found = subprocess.run(words, stdout=subprocess.PIPE, stderr=subprocess.DEVNULL, text=True).stdout.split()
+    return found or ["examples/first/feed.csv", *(f"examples/shop/{it}" for it in SHOP)]
 
 
 def installs_nothing_older(copy):
