@@ -43,8 +43,12 @@ ROW = re.compile(r"^(\| `(\w+)` \| [^|]* \| )[^|]* \|$", re.MULTILINE)
 FUNCTION = re.compile(r"`(\w+)::(?:\w+::)*(\w+)`")
 # where the bounds of a schema and of a run stand, and how documents say them
 BOUND = re.compile(r"pub (\w+)_at_most : length \S+ ≤ (\d+)")
+SHARDS = re.compile(r"pub at_most : shard\.count ≤ (\d+)")
 BOUNDED = {
-    DEFINITIONS: ["1 to {dimensions} dimensions, 1 to {measures} measures, 1 to {aggregates} aggregates of these measures"],
+    DEFINITIONS: [
+        "1 to {dimensions} dimensions, 1 to {measures} measures, 1 to {aggregates} aggregates of these measures",
+        "a lawful shard (`IsShard`: its place, counted from 0, is below the number of shards, which is at most {shards})",
+    ],
     README: ["at most {dimensions} dimensions, {measures} measures and {sources} feeds"],
 }
 # what README.md says in its first lines, so many
@@ -123,9 +127,10 @@ def code_of(crate):
 
 
 def bounds():
-    """The most parts that a schema has, and the most sources of a ledger, as their definitions say."""
-    files = [f"{ROOT}/crates/{it}" for it in ("cube_core/specs/Layout.antt", "cube_ledger/specs/Ledger.antt")]
-    return dict(found for it in files for found in BOUND.findall(text_at(it)))
+    """The most parts that a schema has, the most sources of a ledger, and the most shards, as their definitions say."""
+    said = lambda crate, name: text_at(f"{ROOT}/crates/{crate}/specs/{name}.antt")
+    found = dict(BOUND.findall(said("cube_core", "Layout") + said("cube_ledger", "Ledger")))
+    return {**found, "shards": SHARDS.search(said("cube_core", "Shard"))[1]}
 
 
 def bounded(path):
