@@ -759,8 +759,9 @@ def large_pictures(page):
     page.driver.set_window_size(1280, 800)
 
 
-def chromium():
-    """A headless Chromium, or None with a line that says what isn't installed, or why it doesn't start."""
+def chromium(room):
+    """A headless Chromium, whose own files are in a room, or None with a line that says what isn't installed, or why it doesn't
+    start."""
     try:
         from selenium import webdriver
         from selenium.common.exceptions import WebDriverException
@@ -779,7 +780,7 @@ def chromium():
     if os.geteuid() == 0:
         options.add_argument("--no-sandbox")
     try:
-        return webdriver.Chrome(service=Service(driver), options=options)
+        return webdriver.Chrome(service=Service(driver, env={**os.environ, "TMPDIR": room}), options=options)
     except WebDriverException as why:
         print(f"explorer: the browser can't be driven here: {why.msg}")
         return None
@@ -822,16 +823,16 @@ def main():
     parser.add_argument("--rows", type=int, default=1_000_000)
     parser.add_argument("--only", default="")
     given = parser.parse_args()
-    driver = chromium()
-    if not driver:
-        print("0 passed, 0 failed")
-        return 77
-    trials = Trials(given.loud, given.only)
-    try:
-        with tempfile.TemporaryDirectory(prefix="datacube-explorer-") as room:
+    with tempfile.TemporaryDirectory(prefix="datacube-explorer-", ignore_cleanup_errors=True) as room:
+        driver = chromium(room)
+        if not driver:
+            print("0 passed, 0 failed")
+            return 77
+        trials = Trials(given.loud, given.only)
+        try:
             try_all(trials, Page(driver), room, given)
-    finally:
-        driver.quit()
+        finally:
+            driver.quit()
     print(f"{trials.passed} passed, {trials.failed} failed")
     return 1 if trials.failed or not trials.passed else 0
 
