@@ -481,6 +481,11 @@ CHANGED_AND_BACK = {
         "BEGIN; ALTER TABLE {table} RENAME TO {table}_2; CREATE TABLE {table} (LIKE {table}_2 INCLUDING ALL); INSERT INTO {table} VALUES (17, 'Hull', 'tea', 1000); "
         "DROP TABLE {table}; ALTER TABLE {table}_2 RENAME TO {table}; COMMIT"
     ],
+    "another identity for a while": [
+        "BEGIN; ALTER TABLE {table} ALTER COLUMN city SET NOT NULL; CREATE UNIQUE INDEX {table}_city ON {table} (city); ALTER TABLE {table} REPLICA IDENTITY USING INDEX {table}_city; "
+        "DELETE FROM {table} WHERE id = 2; UPDATE {table} SET city = 'Hull', cents = 1000; ALTER TABLE {table} REPLICA IDENTITY DEFAULT; DROP INDEX {table}_city; "
+        "ALTER TABLE {table} ALTER COLUMN city DROP NOT NULL; COMMIT"
+    ],
     "another name of its schema for a while": [
         "BEGIN; ALTER SCHEMA public RENAME TO private; INSERT INTO private.{table} VALUES (18, 'Hull', 'tea', 1000); ALTER SCHEMA private RENAME TO public; COMMIT"
     ],
@@ -584,6 +589,24 @@ class ChangedAndBack(Base):
                 until(lambda: follower.state.looked >= PRIVATE.lsn(), SECONDS)
                 self.assertEqual(follower.state.copies, copies, statement)
 
+
+    def test_truncate_while_the_table_is_looked_at(self):
+        """It comes behind what is seen of the table, and before the log's place is taken down."""
+        self.looking_often()
+        self.anew()
+        follower, look, statements = self.follower(), postgres._follower.look, ["TRUNCATE {table}", "INSERT INTO {table} VALUES (1, 'Hull', 'tea', 9)"]
+
+        def and_more(*words):
+            found = look(*words)
+            self.run_sql(*statements)
+            statements.clear()
+            return found
+
+        with mock.patch("datacube.postgres._follower.look", and_more):
+            until(lambda: not statements, SECONDS)
+            self.same(follower)
+            until(lambda: follower.state.looked >= PRIVATE.lsn(), SECONDS)
+        self.assertEqual(follower.state.copies, 1)
 
     def test_a_label_of_an_enumeration_that_is_renamed(self):
         """All its rows have another text then, and the log tells nothing of it."""
