@@ -8,6 +8,7 @@ import re
 import signal
 import subprocess
 import sys
+import tempfile
 import threading
 import time
 import unittest
@@ -19,6 +20,7 @@ from unittest import mock
 import beside
 import datacube
 import private_server
+import sql
 from datacube import ALL, ANY, KEEP
 from private_server import CREATE, FACTS, LONG, SCHEMA, until
 
@@ -481,6 +483,11 @@ CHANGED_AND_BACK = {
         "BEGIN; ALTER TABLE {table} RENAME TO {table}_2; CREATE TABLE {table} (LIKE {table}_2 INCLUDING ALL); INSERT INTO {table} VALUES (17, 'Hull', 'tea', 1000); "
         "DROP TABLE {table}; ALTER TABLE {table}_2 RENAME TO {table}; COMMIT"
     ],
+    "another identity for a while": [
+        "BEGIN; ALTER TABLE {table} ALTER COLUMN city SET NOT NULL; CREATE UNIQUE INDEX {table}_city ON {table} (city); ALTER TABLE {table} REPLICA IDENTITY USING INDEX {table}_city; "
+        "DELETE FROM {table} WHERE id = 2; UPDATE {table} SET city = 'Hull', cents = 1000; ALTER TABLE {table} REPLICA IDENTITY DEFAULT; DROP INDEX {table}_city; "
+        "ALTER TABLE {table} ALTER COLUMN city DROP NOT NULL; COMMIT"
+    ],
     "another name of its schema for a while": [
         "BEGIN; ALTER SCHEMA public RENAME TO private; INSERT INTO private.{table} VALUES (18, 'Hull', 'tea', 1000); ALTER SCHEMA private RENAME TO public; COMMIT"
     ],
@@ -584,6 +591,33 @@ class ChangedAndBack(Base):
                 until(lambda: follower.state.looked >= PRIVATE.lsn(), SECONDS)
                 self.assertEqual(follower.state.copies, copies, statement)
 
+
+    def test_truncate_while_the_table_is_looked_at(self):
+        """It comes behind what is seen of the table, and before the log's place is taken down."""
+        self.looking_often()
+        self.anew()
+        follower, look, statements = self.follower(), postgres._follower.look, ["TRUNCATE {table}", "INSERT INTO {table} VALUES (1, 'Hull', 'tea', 9)"]
+
+        def and_more(*words):
+            found = look(*words)
+            self.run_sql(*statements)
+            statements.clear()
+            return found
+
+        with mock.patch("datacube.postgres._follower.look", and_more):
+            until(lambda: not statements, SECONDS)
+            self.same(follower)
+            until(lambda: follower.state.looked >= PRIVATE.lsn(), SECONDS)
+        self.assertEqual(follower.state.copies, 1)
+
+    def test_truncate_of_a_table_without_long_values(self):
+        """Whether the table's row was written by TRUNCATE alone can't be seen there."""
+        self.run_sql("CREATE TABLE {table} (id int PRIMARY KEY, city int, product bool, cents bigint)", "INSERT INTO {table} VALUES (1, 2, true, 5)")
+        follower = self.follower()
+        self.run_sql("TRUNCATE {table}", "INSERT INTO {table} VALUES (1, 3, false, 7)")
+        follower.catch_up(SECONDS)
+        self.assertEqual(follower.ask("print"), PRIVATE.cube(f"CREATE TEMP VIEW facts AS SELECT city::text, product::text, cents FROM {self.table}", SALES))
+        self.assertEqual(follower.state.copies, 2)
 
     def test_a_label_of_an_enumeration_that_is_renamed(self):
         """All its rows have another text then, and the log tells nothing of it."""
@@ -1111,6 +1145,15 @@ class Parts(unittest.TestCase):
         self.assertEqual([_values.whole(*it) for it in (("3.50", 100), ("-0.01", 100), ("7", 1), ("5.00", 1), ("9" * 40, 10))], [350, -1, 7, 5, int("9" * 40 + "0")])
         for text, factor in (("3.505", 100), ("0.5", 1), ("NaN", 1), ("-Infinity", 100), ("", 1)):
             self.assertRaises(ValueError, _values.whole, text, factor)
+
+    def test_settings_of_servers(self):
+        """A server is told which plugins may be read where it knows that setting; another one wouldn't start with it."""
+        for known, wanted in (("output_plugin_libraries\tsuperuser", ["output_plugin_libraries=pgoutput,test_decoding,wal2json"]), ("output_plugin\tsuperuser", [])):
+            with self.subTest(known), tempfile.TemporaryDirectory(prefix="datacube-test-") as folder:
+                with open(f"{folder}/postgres", "w", encoding="utf-8") as out:
+                    out.write(f"#!/bin/sh\nprintf 'a_setting\\tuser\\n{known}\\n'\n")
+                os.chmod(f"{folder}/postgres", 0o755)
+                self.assertEqual(sql.settings_for_plugin(folder), wanted)
 
     def test_names_of_metrics(self):
         text = "a b,a_b,1,grouping(a b),grouping(a_b),grouping(1),count(*),avg(x),avg(x),sum(a.b)\n\\\",,é,0,0,0,2,1/3,1/3,\\N\n"

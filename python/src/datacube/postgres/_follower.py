@@ -297,7 +297,7 @@ class Follower(Questions, Running):
             while not self._ending.is_set():
                 transaction = stream.next(SECONDS_TO_WAIT)
                 if transaction:
-                    self._take(transaction)
+                    self._take(transaction, connection)
                 self._arrive(max(self._state.lsn, stream.seen), target)
                 self._judge()
                 stream.confirm(self._state.lsn)
@@ -305,13 +305,18 @@ class Follower(Questions, Running):
                     self._look(connection)
                     next_look = time.monotonic() + SECONDS_BETWEEN_LOOKS
 
-    def _take(self, transaction: Transaction) -> None:
+    def _take(self, transaction: Transaction, connection: "Connection") -> None:
         """Makes the changes of a transaction, all between two questions. One that was there before the connection was lost comes
         twice, and is left."""
         if transaction.end <= self._state.lsn:
             return
         assert self._mirror is not None
-        work, state = self._mirror.prepare(transaction), self._state
+        try:
+            work, state = self._mirror.prepare(transaction), self._state
+        except CantFollow:
+            # (it may be that the table was altered, and then it is copied again)
+            self._look(connection)
+            raise
         if work.is_truncated:
             self._truncated[transaction.number] = transaction.end
         with self._changed:
@@ -347,7 +352,7 @@ class Follower(Questions, Running):
         after = now_of(connection)
         self._seen = self._seen or (now, before, after)
         with self._lock:
-            if self._mirror is not None:
+            if self._mirror is not None and now.trace == self._table.trace:
                 self._mirror.check()
         self._set(behind=max(after - self._state.lsn, 0))
 
@@ -356,11 +361,12 @@ class Follower(Questions, Running):
         be a TRUNCATE which was taken, for nothing of before it matters."""
         if self._seen is None or self._state.lsn < self._seen[2]:
             return
-        (now, before, after), self._seen = self._seen, None
+        (now, before, _), self._seen = self._seen, None
         if now.trace != self._table.trace and not self._is_truncated(now):
             raise self._altered(now)
         self._table = now
-        self._truncated = {number: end for number, end in self._truncated.items() if end > after}
+        # (a commit is in the log a moment before others see it, so those since the look before are kept)
+        self._truncated = {number: end for number, end in self._truncated.items() if end > self._state.looked}
         self._set(looked=before)
 
     def _is_truncated(self, now: Table) -> bool:
