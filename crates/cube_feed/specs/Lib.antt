@@ -1,3 +1,4 @@
 pub mod Reading
 pub mod Feed
 pub mod Faults
+pub mod FeedItems
