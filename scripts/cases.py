@@ -21,6 +21,8 @@ is ../examples. A case is a block of lines:
                          with status 0 or 4
     folder NAME          a folder
     locked NAME          takes all rights from a file
+    link NAME FILE       a symbolic link to a file
+    alias NAME FILE      one more name of a file: a hard link
     bytes NAME N         a file of N bytes: the sample schema and then a comment
     stdin FILE           what stands on standard input, and `stdin` alone the lines below it; it is empty else, and
                          `stdin closed` closes it
@@ -146,6 +148,9 @@ def read_line(case, word, rest, place):
     elif word == "bytes":
         name, _, count = rest.partition(" ")
         case.made.append((word, name, int(count)))
+    elif word in ("link", "alias"):
+        name, _, file = rest.partition(" ")
+        case.made.append((word, name, file))
     elif word == "stdin":
         case.stdin = rest or "stdin"
         if not rest:
@@ -201,6 +206,10 @@ def make(room, kind, name, what):
         os.mkdir(path)
     elif kind == "locked":
         os.chmod(path, 0)
+    elif kind == "link":
+        os.symlink(what, path)
+    elif kind == "alias":
+        os.link(f"{room}/{what}", path)
     elif kind == "bytes":
         start = read_whole(f"{room}/sample.toml")
         with open(path, "wb") as file:

@@ -391,6 +391,32 @@ def cut_cube_in_turn(program, cube):
     return len(cube)
 
 
+def piped_cubes(trials):
+    """Files are told by device and inode where they are regular alone: the same cube through two pipes counts twice."""
+    program = trials.program
+    program.write("schema.toml", SAMPLE.toml())
+    program.write("feed.csv", oracle.encode([SAMPLE.header(), *MIXED]))
+    cube = program.run(["print", "--partial", "schema.toml", "feed.csv"]).out
+    trials.trial("a cube through two pipes", lambda: through_pipes(program, cube))
+
+
+def through_pipes(program, cube):
+    names = ["one.pipe", "two.pipe"]
+    for name in names:
+        os.mkfifo(os.path.join(program.folder, name))
+        threading.Thread(target=fill_pipe, args=(os.path.join(program.folder, name), cube), daemon=True).start()
+    answer = program.run(["merge", "schema.toml", *names])
+    wanted = oracle.merge(SAMPLE, [cube, cube], False)[0]
+    for name in names:
+        os.unlink(os.path.join(program.folder, name))
+    return None if (answer.status, answer.out) == (0, wanted) else f"{answer.status}, {answer.err[:200]!r}"
+
+
+def fill_pipe(path, data):
+    with open(path, "wb") as pipe:
+        pipe.write(data)
+
+
 def endless(program):
     """A feed that never ends, behind a pipe by name."""
     program.write("few.toml", oracle.Schema(SAMPLE.dimensions, SAMPLE.measures, SAMPLE.aggregates, max_records=1000).toml())
@@ -677,6 +703,7 @@ def main():
         cut_feeds(trials)
         cut_cubes(trials)
         trials.trial("links planted where the driver for Dask writes", lambda: planted_links(trials.program))
+        piped_cubes(trials)
         if not given.short:
             growths_in_turn(trials)
             big_inputs(trials)

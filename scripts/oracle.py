@@ -13,6 +13,7 @@ import itertools
 import math
 import os
 import re
+import stat
 import sys
 
 NULL = b"\\N"
@@ -899,8 +900,9 @@ def merge_command(words):
     if len(paths) > MOST_FEEDS:
         raise Failure("too many cubes", 2)
     schema = read_schema(given.rest[0])
-    for at, path in enumerate(paths, 1):
-        if path in paths[: at - 1]:
+    files = [regular_file(it) for it in paths]
+    for at, (path, file) in enumerate(zip(paths, files), 1):
+        if path in paths[: at - 1] or file and file in files[: at - 1]:
             raise Failure(f"M2 {at}", 2)
     text, fault = merge(schema, read_cubes(paths), b"--partial" in given.options)
     if not fault or b"--check" not in given.options:
@@ -908,6 +910,15 @@ def merge_command(words):
     if fault:
         raise Failure(fault.line(), 1)
     return 0
+
+
+def regular_file(path):
+    """The device and the inode of a regular file, None of another or of one that can't be looked at."""
+    try:
+        found = os.stat(b"/dev/stdin" if path == b"-" else path)
+    except OSError:
+        return None
+    return (found.st_dev, found.st_ino) if stat.S_ISREG(found.st_mode) else None
 
 
 def read_cubes(paths):

@@ -1,5 +1,5 @@
 #!/usr/bin/env python3
-"""Looks at the progress line of the program in a terminal of its own, and says `N passed, M failed`.
+"""Looks at what the program says in a terminal of its own, its progress line above all, and says `N passed, M failed`.
 
     scripts/progress.py [-v] [--program PATH] [WORD...]
 
@@ -346,6 +346,23 @@ def quiet_live(trial):
     return first(differs(status, 0), is_silent(terminal)), terminal
 
 
+def keyboard(trial):
+    """Without words, a standard input that is a terminal is told of, and how to get help; one that is none isn't."""
+    typed = feed(3)
+    plain = subprocess.run([trial.program], input=typed, stdout=subprocess.PIPE, stderr=subprocess.PIPE, timeout=SECONDS)
+    ours, theirs = pty.openpty()
+    ran = subprocess.Popen([trial.program], cwd=trial.folder, stdin=theirs, stdout=subprocess.PIPE, stderr=subprocess.PIPE)
+    os.close(theirs)
+    os.write(ours, typed + b"\x04")
+    try:
+        output, said = ran.communicate(timeout=SECONDS)
+    finally:
+        ran.kill()
+        os.close(ours)
+    wanted = b"datacube: reading a feed from the keyboard, which Ctrl-D ends; for help: datacube --help\n"
+    return first(differs((ran.returncode, output), (0, plain.stdout)), differs(said, wanted), differs(plain.stderr, b"")), Terminal([])
+
+
 TRIALS = {
     "print": print_,
     "refusals": refusals,
@@ -368,6 +385,7 @@ TRIALS = {
     "no TERM": no_term,
     "TERM empty": empty_term,
     "no terminal": no_terminal,
+    "a feed from the keyboard": keyboard,
 }
 
 

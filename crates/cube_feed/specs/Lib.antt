@@ -3,3 +3,4 @@ pub mod SoundFields
 pub mod Reading
 pub mod Feed
 pub mod Faults
+pub mod FeedItems

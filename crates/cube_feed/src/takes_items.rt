@@ -2,7 +2,7 @@
 ghost use Rattle.std.specs.Prelude.{◌≡◌, ◌≤◌, ◌++◌, ◌∷◌, [], ℕ, Bool, false, OnOk, OnErr};
 ghost use Rattle.cube_core.specs.Arrival.{Arrivals};
 
-use cube_core::Item;
+use crate::feed_item::FeedItem;
 use std::alloc::AllocError;
 
 /// What takes the items of several sources, one at a time, by what it promises of each arrival list.
@@ -24,8 +24,8 @@ pub trait TakesItems: Drop {
     fn is_full(&self) -> bool
         ensures { result ≡ full self.now };
 
-    /// Takes the next item of a source. The only error is want of memory.
-    fn take_item(&mut self, source: u32, item: Item) -> Result<(), AllocError>
+    /// Takes the next item of a source, which a feed gave. The only error is want of memory.
+    fn take_item(&mut self, source: u32, item: FeedItem) -> Result<(), AllocError>
         requires source { (1 ≤ source) × (source ≤ sources self.old) }
         requires room { full self.old ≡ false }
         ensures sources { sources self.new ≡ sources self.old }

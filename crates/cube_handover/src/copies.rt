@@ -3,17 +3,16 @@ ghost use Rattle.std.specs.Prelude.{◌≡◌, ◌≤◌, ◌+◌, vec_len, OnOk
 ghost use Rattle.std.specs.List.{All};
 ghost use Rattle.cube_feed.specs.Feed.{Gives};
 
-use cube_core::Item;
-use cube_feed::{Feed, FeedFault};
+use cube_feed::{Feed, FeedFault, FeedItem};
 use std::alloc::{AllocError, Global};
 use std::io::Read;
 
 // Puts copies of an item into a list in place of what it has: one less than so many.
 fn fill_copies(
     alloc: Global,
-    item: &Item,
+    item: &FeedItem,
     count: usize,
-    copies: &mut Vec<Item>,
+    copies: &mut Vec<FeedItem>,
 ) -> Result<(), AllocError>
     requires { 1 ≤ count }
     ensures count { OnOk result (vec_len copies.new + 1 ≡ count) }
@@ -34,19 +33,20 @@ pub(crate) fn next_copies<R: Read>(
     alloc: Global,
     feed: &mut Feed<'_, R>,
     count: usize,
-    copies: &mut Vec<Item>,
-) -> Result<Option<Item>, FeedFault>
+    copies: &mut Vec<FeedItem>,
+) -> Result<Option<FeedItem>, FeedFault>
     requires { 1 ≤ count }
     ensures gives { Gives feed.old.to_come result feed.new.to_come }
     ensures copies { IfOk result (λ next. IfSome next (λ item.
         (vec_len copies.new + 1 ≡ count) × All (λ copy. copy ≡ item) copies.new.items)) }
 {
-    let next = feed.next()?;
-    if let Some(item) = &next {
-        let Ok(()) = fill_copies(alloc, item, count, copies) else {
-            drop(next);
-            return Err(FeedFault::Memory);
-        };
-    }
-    Ok(next)
+    let Some(item) = feed.next()? else {
+        return Ok(None);
+    };
+    let item = FeedItem::new(item);
+    let Ok(()) = fill_copies(alloc, &item, count, copies) else {
+        drop(item);
+        return Err(FeedFault::Memory);
+    };
+    Ok(Some(item))
 }

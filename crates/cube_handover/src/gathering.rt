@@ -9,8 +9,7 @@ use crate::gate::{Gate, GatedLink};
 use crate::gatherer::Place;
 use crate::parcel::Parcel;
 use crate::patience::EmptyRounds;
-use cube_core::Item;
-use cube_feed::TakesItems;
+use cube_feed::{FeedItem, TakesItems};
 use cube_link::Inlet;
 use std::alloc::AllocError;
 use std::sync::Wait;
@@ -34,7 +33,7 @@ fn accept<W: Wait, B: TakesItems>(
     rt: &W,
     builder: &mut B,
     source: u32,
-    item: Item,
+    item: FeedItem,
     wanting: &mut bool,
 )
     requires { (1 ≤ source) × (source ≤ B.sources builder.old) }

@@ -9,7 +9,7 @@ ghost use Rattle.cube_handover.specs.declared.parcel.Parcel.TheVariants.{Line, E
 use crate::gate::Gate;
 use crate::parcel::Parcel;
 use crate::patience::Patience;
-use cube_core::Item;
+use cube_feed::FeedItem;
 use cube_link::Outlet;
 use std::sync::Wait;
 
@@ -71,7 +71,7 @@ fn offer_item<W: Wait, G: Gate>(
     offering: &mut Offering<'_, G>,
     builder: usize,
     outlets: &mut [Outlet<Parcel>],
-    item: Item,
+    item: FeedItem,
 )
     requires { (builder < length outlets.old) × (length outlets.old ≤ 8) }
     ensures { (d : Sending TheParcel) → outlets.new ≡
@@ -91,8 +91,8 @@ pub(crate) fn offer_copies<W: Wait, G: Gate>(
     rt: &W,
     offering: &mut Offering<'_, G>,
     outlets: &mut [Outlet<Parcel>],
-    item: Item,
-    copies: &mut Vec<Item>,
+    item: FeedItem,
+    copies: &mut Vec<FeedItem>,
 )
     requires count { vec_len copies.old + 1 ≡ length outlets.old }
     requires few { length outlets.old ≤ 8 }

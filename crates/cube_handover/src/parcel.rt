@@ -1,12 +1,11 @@
 //! What goes over a link, and what a feeder leaves.
-use cube_core::Item;
-use cube_feed::FeedFault;
+use cube_feed::{FeedFault, FeedItem};
 use cube_link::Receipt;
 
 /// What a feeder sends: an item of its feed, or the end, after which nothing comes (this project's choice).
 #[derive(Debug, Drop)]
 pub enum Parcel {
-    Line(Item),
+    Line(FeedItem),
     End,
 }
 

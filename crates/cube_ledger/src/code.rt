@@ -1,8 +1,10 @@
 //! The codes of refusals.
-ghost use Rattle.std.specs.Prelude.{◌≡◌};
-ghost use Rattle.cube_core.specs.Takes.{may_amend};
+ghost use Rattle.std.specs.Prelude.{◌≡◌, ◌==◌, ◌&&◌, true, length};
+ghost use Rattle.cube_core.specs.Layout.{Layout};
+ghost use Rattle.cube_core.specs.Takes.{may_amend, takes};
 ghost use Rattle.cube_core.specs.Life.{id_of};
 ghost use Rattle.cube_core.specs.Refusals.{present_code, absent_code, shape_code, code_of_fault, code_by_presence};
+ghost use Rattle.cube_feed.specs.FeedItems.{SomeSchemaTakes};
 ghost use Rattle.cube_ledger.specs.Ledger.{says_taken};
 
 use cube_core::{Change, LineFault, Schema, Text};
@@ -22,6 +24,40 @@ pub fn says_taken(schema: &Schema, what: &Result<Change, LineFault>) -> bool
         Ok(change) => schema.takes(change),
         Err(_) => true,
     }
+}
+
+/// The same of an item whose texts are lawful, since some schema takes its change: only its numbers of fields are looked
+/// at, and whether it amends.
+pub fn has_shape(schema: &Schema, what: &Result<Change, LineFault>) -> bool
+    requires { SomeSchemaTakes what.now }
+    ensures { result ≡ says_taken schema.now what.now }
+{
+    match what {
+        Ok(change) => is_of_shape(schema, change),
+        Err(_) => true,
+    }
+}
+
+// Whether the schema takes a change that some schema takes.
+fn is_of_shape(schema: &Schema, change: &Change) -> bool
+    requires { (other : Layout) × (takes other change.now ≡ true) }
+    ensures { result ≡ takes schema.now change.now }
+{
+    match change {
+        Change::Insert { id: _, fact } => has_fields(schema, fact.dims.len(), fact.measures.len()),
+        Change::Update { id: _, fact } => has_fields(schema, fact.dims.len(), fact.measures.len()),
+        Change::Amend { id: _, part } => {
+            may_amend(schema) && has_fields(schema, part.dims.len(), part.measures.len())
+        }
+        Change::Delete { id: _ } => true,
+    }
+}
+
+// Whether a schema has so many dimensions, and so many measures.
+fn has_fields(schema: &Schema, dimensions: usize, measures: usize) -> bool
+    ensures { result ≡ (dimensions == length schema.now.dimensions) && (measures == length schema.now.measures) }
+{
+    dimensions == schema.dimensions().len() && measures == schema.measures().len()
 }
 
 /// The code of a line fault.

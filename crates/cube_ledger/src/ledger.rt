@@ -7,9 +7,10 @@ ghost use Rattle.cube_ledger.specs.Ledger.{AllFit, AtSource, Enters, Exchanges, 
 
 use crate::account::Account;
 use crate::book::Book;
-use crate::code::{says_taken, shape_code};
+use crate::code::{has_shape, says_taken, shape_code};
 use crate::ruling::Ruling;
 use cube_core::{Change, Fact, HashKey, Item, LineFault, Refusal, Schema, Text};
+use cube_feed::FeedItem;
 use std::alloc::{AllocError, Global};
 use std::marker::Model;
 
@@ -138,7 +139,23 @@ impl Ledger {
             LedgerStandsAt self.new (arrivals ++ (source, item) ∷ [])) }
         ensures err { OnErr result (self.new ≡ self.old) }
     {
-        self.enter(source, item)
+        let is_taken = says_taken(&self.schema, &item.what);
+        self.enter(source, item, is_taken)
+    }
+
+    /// Takes an item of a feed as [`Ledger::apply`] does, without a look at its texts, which are lawful.
+    pub fn apply_fed(&mut self, source: u32, item: FeedItem) -> Result<(), AllocError>
+        requires first { 1 ≤ source }
+        requires last { source ≤ length self.old.accounts }
+        ensures enters { OnOk result
+            (AtSource (Enters self.old.schema item) source self.old self.new) }
+        ensures stands { OnOk result ((arrivals : Arrivals) → LedgerStandsAt self.old arrivals →
+            LedgerStandsAt self.new (arrivals ++ (source, item) ∷ [])) }
+        ensures err { OnErr result (self.new ≡ self.old) }
+    {
+        let item = item.into_item();
+        let is_taken = has_shape(&self.schema, &item.what);
+        self.enter(source, item, is_taken)
     }
 
     /// The same of an item whose change, where it says one, the schema takes, as a feed's items are.
@@ -173,15 +190,16 @@ impl Ledger {
         self.accounts.append(&mut accounts)
     }
 
-    // What an item does to the account of its source.
-    fn enter(&mut self, source: u32, item: Item) -> Result<(), AllocError>
+    // What an item does to the account of its source, where it was seen whether the schema takes its change.
+    fn enter(&mut self, source: u32, item: Item, is_taken: bool) -> Result<(), AllocError>
         requires first { 1 ≤ source }
         requires last { source ≤ length self.old.accounts }
+        requires taken { is_taken ≡ says_taken self.old.schema item.what }
         ensures enters { OnOk result
             (AtSource (Enters self.old.schema item) source self.old self.new) }
         ensures err { OnErr result (self.new ≡ self.old) }
     {
-        if !says_taken(&self.schema, &item.what) {
+        if !is_taken {
             let code = shape_code(&self.schema);
             let Item { number, what } = item;
             drop(what);

@@ -1,7 +1,6 @@
 //! Ledgers take the items of feeds in.
 use crate::ledger::Ledger;
-use cube_core::Item;
-use cube_feed::TakesItems;
+use cube_feed::{FeedItem, TakesItems};
 use std::alloc::AllocError;
 
 impl TakesItems for Ledger {
@@ -22,7 +21,7 @@ impl TakesItems for Ledger {
         false
     }
 
-    fn take_item(&mut self, source: u32, item: Item) -> Result<(), AllocError> {
-        self.apply(source, item)
+    fn take_item(&mut self, source: u32, item: FeedItem) -> Result<(), AllocError> {
+        self.apply_fed(source, item)
     }
 }

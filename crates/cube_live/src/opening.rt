@@ -6,9 +6,9 @@ ghost use Rattle.cube_live.specs.Live.{LiveStandsAt};
 ghost use Rattle.cube_live.specs.Opening.{OpeningStandsAt, OpeningView, OpensOver};
 
 use crate::live::Live;
-use cube_core::{Item, Schema};
+use cube_core::Schema;
 use cube_engine::Parted;
-use cube_feed::TakesItems;
+use cube_feed::{FeedItem, TakesItems};
 use cube_feeders::{FeedingFault, Gate, Gatherer, Settings, feed_all};
 use cube_ledger::Ledger;
 use std::alloc::{AllocError, Global};
@@ -54,7 +54,7 @@ impl TakesItems for Opening {
         false
     }
 
-    fn take_item(&mut self, source: u32, item: Item) -> Result<(), AllocError> {
+    fn take_item(&mut self, source: u32, item: FeedItem) -> Result<(), AllocError> {
         self.apply(source, item)
     }
 }
@@ -78,7 +78,7 @@ impl Opening {
 
     // Takes the next item of a source with a feed, unless it is numbered past those that the schema takes, which no good
     // feed gives. The only error is want of memory.
-    fn apply(&mut self, source: u32, item: Item) -> Result<(), AllocError>
+    fn apply(&mut self, source: u32, item: FeedItem) -> Result<(), AllocError>
         requires { (1 ≤ source) × (source ≤ self.old.feeds) }
         ensures feeds { self.new.feeds ≡ self.old.feeds }
         ensures stands { OnOk result ((first : OpeningView) (arrivals : Arrivals) →
@@ -87,12 +87,12 @@ impl Opening {
         ensures unchanged { OnErr result ((first : OpeningView) (arrivals : Arrivals) →
             OpeningStandsAt first self.old arrivals → OpeningStandsAt first self.new arrivals) }
     {
-        let number = item.number;
+        let number = item.number();
         if number > self.most {
             drop(item);
             return Err(AllocError);
         }
-        self.ledger.apply(source, item)?;
+        self.ledger.apply_fed(source, item)?;
         self.numbers[source as usize - 1] = number;
         Ok(())
     }

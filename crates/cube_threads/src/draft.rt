@@ -5,9 +5,9 @@ ghost use Rattle.cube_core.specs.Arrival.{Arrivals};
 ghost use Rattle.cube_threads.specs.Drafts.{DraftView, StandsFrom, IsNewDraft, AreNewDrafts, IsDraftOf, IsMadeOf};
 
 use cube_cells::{Cube, Summary};
-use cube_core::{Item, Schema};
+use cube_core::Schema;
 use cube_engine::Builder;
-use cube_feed::TakesItems;
+use cube_feed::{FeedItem, TakesItems};
 use cube_ledger::Ledger;
 use std::alloc::{AllocError, Global};
 use std::marker::Model;
@@ -48,7 +48,7 @@ impl TakesItems for Draft {
         false
     }
 
-    fn take_item(&mut self, source: u32, item: Item) -> Result<(), AllocError> {
+    fn take_item(&mut self, source: u32, item: FeedItem) -> Result<(), AllocError> {
         self.apply(source, item)
     }
 }
@@ -89,7 +89,7 @@ impl Draft {
     }
 
     // Takes the next item of a source. The only error is want of memory.
-    fn apply(&mut self, source: u32, item: Item) -> Result<(), AllocError>
+    fn apply(&mut self, source: u32, item: FeedItem) -> Result<(), AllocError>
         requires { (1 ≤ source) × (source ≤ length self.old.ledger.accounts) }
         ensures sources { length self.new.ledger.accounts ≡ length self.old.ledger.accounts }
         ensures stands { OnOk result ((first : DraftView) (arrivals : Arrivals) →
@@ -98,7 +98,7 @@ impl Draft {
         ensures unchanged { OnErr result ((first : DraftView) (arrivals : Arrivals) →
             StandsFrom first self.old arrivals → StandsFrom first self.new arrivals) }
     {
-        self.ledger.apply(source, item)
+        self.ledger.apply_fed(source, item)
     }
 
     /// The builder of the ledger, with the cube filled by so many threads. The only error is want of memory.

@@ -1,6 +1,5 @@
--- What a check of printed cubes knows by a merge of them, and of paths that stand twice.
-use Rattle.std.proofs.Common.{◌≡◌, ◌<◌, [], ℕ, List, Bor, Option, length, map, get_or, refl}
-use Rattle.std.proofs.lemmas.List.{get_or-map}
+-- What a check of printed cubes knows by a merge of them.
+use Rattle.std.proofs.Common.{ℕ, List, Option, refl}
 use Rattle.cube_core.specs.Layout.{Layout}
 use Rattle.cube_core.specs.Text.{text_of_rows}
 use Rattle.cube_merge.specs.Merging.{IsMergeOf}
@@ -51,8 +50,3 @@ CheckFails-leaves given wanted texts (Run why) old new leaves = absurd leaves
 CheckFails-leaves given wanted texts (Session why) old new leaves = absurd leaves
 CheckFails-leaves given wanted texts TooManyCubes old new leaves = absurd leaves
 CheckFails-leaves given wanted texts (SamePath input) old new leaves = absurd leaves
-
--- the text of the path at a place
-pub text-at : (paths : List (Bor (List ℕ))) (place : ℕ) (d : Bor (List ℕ)) → place < length paths
-    → get_or (map (λ (path : Bor (List ℕ)). path.now) paths) place [] ≡ (get_or paths place d).now
-text-at paths place d inside = get_or-map (λ (path : Bor (List ℕ)). path.now) paths place d [] inside

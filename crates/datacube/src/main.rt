@@ -8,9 +8,11 @@ ghost use Rattle.cube_tool.specs.Answering.{Fits};
 ghost use Rattle.cube_words.specs.CommandLine.{RunHasRoom, IsInBounds, IsUpTo, LiveHasRoom};
 
 mod kept;
+mod named;
 mod watch;
 
 use crate::kept::{ask_kept, serve_kept};
+use crate::named::named_cubes;
 use crate::watch::Watch;
 use cube_core::{HashKey, Schema, Shard};
 use cube_progress::{Counts, CubeReader, FeedReader, Output, Phase, Progress};
@@ -212,8 +214,15 @@ fn obey_words<T: Threads + Wait + Clock + Sync>(
     }
 }
 
-/// Prints the cube of standard input under the sample schema.
+/// What is said where standard input is a terminal, and no words ask for anything.
+const KEYBOARD: &str =
+    "datacube: reading a feed from the keyboard, which Ctrl-D ends; for help: datacube --help";
+
+/// Prints the cube of standard input under the sample schema; where that is a terminal, it is said so first.
 fn print_sample(rt: &HostRuntime) -> Result<Status, Failure> {
+    if rt.stdin().is_terminal() {
+        let _ = rt.eprintln(KEYBOARD);
+    }
     run_sample(rt.alloc(), drawn_key(rt)?, rt.stdin(), &mut rt.stdout())
 }
 
@@ -480,7 +489,7 @@ fn merge_for<T: Wait + Clock>(
 }
 
 /// The schema of cubes to merge, once it is seen that there are at most 64, that standard input is named once at most, and
-/// that no path stands twice.
+/// that no path and no regular file stands twice.
 fn merge_schema(rt: &HostRuntime, words: &MergeWords) -> Result<Schema, Failure>
     ensures { IfOk result (λ _. length words.now.cubes.items ≤ 64) }
 {
@@ -491,7 +500,7 @@ fn merge_schema(rt: &HostRuntime, words: &MergeWords) -> Result<Schema, Failure>
         return Err(Failure::InputTaken);
     }
     let schema = read_schema(rt.alloc(), open_schema(rt, words.schema)?)?;
-    match first_repeated(&words.cubes) {
+    match first_repeated(named_cubes(rt, &words.cubes)?.as_slice()) {
         Some(place) => Err(Failure::SamePath { input: place + 1 }),
         None => Ok(schema),
     }

@@ -36,7 +36,7 @@ pub enum Failure {
     Session(SessionFault),
     /// There are more than 64 cubes to merge.
     TooManyCubes,
-    /// The path of a cube to merge, counted from 1, stands at an earlier place too.
+    /// The path of a cube to merge, counted from 1, stands at an earlier place too, or its regular file does.
     SamePath { input: usize },
     /// Cubes couldn't be merged. A cube that couldn't be opened is at fault at record 0.
     Merge(MergeFault),

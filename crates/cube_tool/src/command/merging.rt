@@ -1,7 +1,7 @@
 //! The merging of printed cubes.
 ghost use Rattle.std.specs.Prelude.{◌≡◌, ◌<◌, true, false, length, map, IfOk, IfErr, OnOk};
 ghost use Rattle.cube_merge.specs.Merging.{IsMergeOf};
-ghost use Rattle.cube_tool.specs.MergingCubes.{CanBeMerged, CheckFails, IsFirstRepeated, MergeLeaves, StandsBefore};
+ghost use Rattle.cube_tool.specs.MergingCubes.{AreOneCube, AreOneFile, CanBeMerged, CheckFails, IsFirstRepeated, MergeLeaves, StandsBefore};
 
 use crate::command::failure::Failure;
 use crate::command::status::Status;
@@ -49,28 +49,62 @@ pub fn check_cubes<R: Read + Drop>(
     merge_cubes(alloc, given, wanted, readers, &mut io::sink())
 }
 
-/// The first place, counted from 0, whose path stands at an earlier place too, letter by letter.
-pub fn first_repeated(paths: &[&str]) -> Option<usize>
-    ensures { IsFirstRepeated (map (λ path. path.now) paths.now) result }
+/// What tells a regular file from every other: the device that it is on, and its inode there.
+#[derive(Clone, Copy, Debug, PartialEq, Eq)]
+pub struct FileIdentity {
+    pub device: u64,
+    pub inode: u64,
+}
+
+/// A cube to merge: its path, and its file, where that is a regular one that could be looked at.
+#[derive(Clone, Copy, Debug)]
+pub struct NamedCube<'p> {
+    pub path: &'p str,
+    pub file: Option<FileIdentity>,
+}
+
+/// The first place, counted from 0, whose cube stands at an earlier place too: the paths are the same letter by letter, or
+/// both name the same regular file.
+pub fn first_repeated(cubes: &[NamedCube<'_>]) -> Option<usize>
+    ensures { IsFirstRepeated cubes.now result }
 {
-    for place in 0..paths.len() {
-        if stands_before(paths, place) {
+    for place in 0..cubes.len() {
+        if stands_before(cubes, place) {
             return Some(place);
         }
     }
     None
 }
 
-// Whether the path at a place stands at an earlier place too.
-fn stands_before(paths: &[&str], place: usize) -> bool
-    requires { place < length paths.now }
-    ensures stands { result ≡ true → StandsBefore (map (λ path. path.now) paths.now) place }
-    ensures differs { result ≡ false → StandsBefore (map (λ path. path.now) paths.now) place → ⊥ }
+// Whether the cube at a place stands at an earlier place too.
+fn stands_before(cubes: &[NamedCube<'_>], place: usize) -> bool
+    requires { place < length cubes.now }
+    ensures stands { result ≡ true → StandsBefore cubes.now place }
+    ensures differs { result ≡ false → StandsBefore cubes.now place → ⊥ }
 {
     for earlier in 0..place {
-        if paths[earlier] == paths[place] {
+        if are_one_cube(&cubes[earlier], &cubes[place]) {
             return true;
         }
     }
     false
+}
+
+// Whether two cubes are one, by their paths or by their files.
+fn are_one_cube(one: &NamedCube<'_>, other: &NamedCube<'_>) -> bool
+    ensures same { result ≡ true → AreOneCube one.now other.now }
+    ensures differ { result ≡ false → AreOneCube one.now other.now → ⊥ }
+{
+    one.path == other.path || are_one_file(one.file, other.file)
+}
+
+// Whether both are the same regular file.
+fn are_one_file(one: Option<FileIdentity>, other: Option<FileIdentity>) -> bool
+    ensures same { result ≡ true → AreOneFile one other }
+    ensures differ { result ≡ false → AreOneFile one other → ⊥ }
+{
+    match (one, other) {
+        (Some(one), Some(other)) => one.device == other.device && one.inode == other.inode,
+        _ => false,
+    }
 }

@@ -411,7 +411,7 @@ pub const LATER_NOTES: [Note; 14] = [
     Note {
         code: "M2",
         about: "cube to merge",
-        means: "The path stands at an earlier place too, so its facts would count twice.",
+        means: "The path stands at an earlier place too, or names the same file as an earlier one, so its facts would count twice.",
         mend: "Name each cube once.",
         example: "",
     },

@@ -10,4 +10,4 @@ returns-clause-stands c =
     let within = rw (← c.self.view_is) at c.requires in
     rw (← c.self.view_is) (λ first arrivals stands. OpeningStandsAt-more first old _ arrivals c.args.source c.args.item
     within.0 within.1 c.self.invariant.feeds_at_most c.self.invariant.numbered
-    c.in_ok-apply.ensures.enters.schema refl (c.in_ok-apply.ensures.stands arrivals) refl stands)
+    c.in_ok-apply_fed.ensures.enters.schema refl (c.in_ok-apply_fed.ensures.stands arrivals) refl stands)

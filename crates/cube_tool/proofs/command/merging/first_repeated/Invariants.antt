@@ -1,6 +1,6 @@
-use Rattle.std.proofs.Common.{◌<◌, ℕ, List, map, Bor}
+use Rattle.std.proofs.Common.{◌<◌, ℕ}
 use Rattle.cube_tool.specs.MergingCubes.{StandsBefore}
 use Rattle.cube_tool.proofs.command.merging.first_repeated.Given as goal
 
 abbrev pub invariant-loop-place : goal.invariant-loop-place
-invariant-loop-place l = (k : ℕ) → k < l.place → StandsBefore (map (λ (path : Bor (List ℕ)). path.now) l.paths) k → ⊥
+invariant-loop-place l = (k : ℕ) → k < l.place → StandsBefore l.cubes k → ⊥
