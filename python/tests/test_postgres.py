@@ -525,12 +525,12 @@ class ChangedAndBack(Base):
             with self.subTest(name):
                 self.anew()
                 # (what is between isn't looked at)
-                with mock.patch("datacube.postgres._follower.SECONDS_BETWEEN_LOOKS", 2):
+                with mock.patch("datacube.postgres._follower.SECONDS_BETWEEN_LOOKS", 1000):
                     follower = self.follower()
                     self.change_and_back(name)
-                    self.same(follower)
-                    self.run_sql("UPDATE {table} SET cents = cents + 1", "INSERT INTO {table} VALUES (30, 'York', 'tea', 1)")
-                    self.same(follower)
+                self.same(follower)
+                self.run_sql("UPDATE {table} SET cents = cents + 1", "INSERT INTO {table} VALUES (30, 'York', 'tea', 1)")
+                self.same(follower)
                 follower.close()
 
     def test_while_the_follower_is_halted(self):

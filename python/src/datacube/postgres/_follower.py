@@ -293,7 +293,7 @@ class Follower(Questions, Running):
             assert self.slot is not None
             stream = Stream(replication, self.slot, self._table, self._state.lsn)
             self._set(is_connected=True)
-            next_look = time.monotonic() + SECONDS_BETWEEN_LOOKS
+            last_look = time.monotonic()
             while not self._ending.is_set():
                 transaction = stream.next(SECONDS_TO_WAIT)
                 if transaction:
@@ -301,9 +301,9 @@ class Follower(Questions, Running):
                 self._arrive(max(self._state.lsn, stream.seen), target)
                 self._judge()
                 stream.confirm(self._state.lsn)
-                if time.monotonic() >= next_look:
+                if time.monotonic() >= last_look + SECONDS_BETWEEN_LOOKS:
                     self._look(connection)
-                    next_look = time.monotonic() + SECONDS_BETWEEN_LOOKS
+                    last_look = time.monotonic()
 
     def _take(self, transaction: Transaction, connection: "Connection") -> None:
         """Makes the changes of a transaction, all between two questions. One that was there before the connection was lost comes
