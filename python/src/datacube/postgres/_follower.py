@@ -344,7 +344,7 @@ class Follower(Questions, Running):
             now = look(cursor, self._table.oid)
         check_same(self._table, now)
         assert now is not None and self.slot is not None
-        if now.trace != self._table.trace and not now.trace.is_of_truncate:
+        if now.trace != self._table.trace and not self._may_be_truncated(now):
             raise self._altered(now)
         fault = fault_of(connection, self.publication or self.slot, now)
         if fault is not None:
@@ -362,18 +362,16 @@ class Follower(Questions, Running):
         if self._seen is None or self._state.lsn < self._seen[2]:
             return
         (now, before, _), self._seen = self._seen, None
-        if now.trace != self._table.trace and not self._is_truncated(now):
+        if now.trace != self._table.trace and not (self._may_be_truncated(now) and now.trace.table in self._truncated):
             raise self._altered(now)
         self._table = now
         # (a commit is in the log a moment before others see it, so those since the look before are kept)
         self._truncated = {number: end for number, end in self._truncated.items() if end > self._state.looked}
         self._set(looked=before)
 
-    def _is_truncated(self, now: Table) -> bool:
-        """Whether a table that was taken differs from what it was by a TRUNCATE alone."""
-        trace = now.trace
-        emptied = replace(self._table.trace, table=trace.table)
-        return trace.is_of_truncate and trace.table in self._truncated and trace == emptied and now.columns == self._table.columns
+    def _may_be_truncated(self, now: Table) -> bool:
+        """Whether TRUNCATE alone may have made the table what it is now."""
+        return now.trace.may_be_truncated_from(self._table.trace) and now.columns == self._table.columns
 
     def _altered(self, now: Table) -> BeginAnew:
         return BeginAnew(f"table {now} was altered, and what became of its rows meanwhile isn't known")
