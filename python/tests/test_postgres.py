@@ -384,10 +384,11 @@ class Moments(Base):
         copy = postgres._follower.copy_table
 
         def slowly(*words):
-            copy(*words)
+            found = copy(*words)
             with PRIVATE.connected() as cursor:
                 for at in range(1, 301):
                     cursor.execute(f"INSERT INTO {self.table} VALUES ({at}, 'York', 'tea', 1)")
+            return found
 
         follower, answers = Follower(PRIVATE.dsn, self.table, SALES), []
         with mock.patch("datacube.postgres._follower.copy_table", slowly), follower:
@@ -593,6 +594,14 @@ class ChangedAndBack(Base):
                 until(lambda: follower.state.looked >= PRIVATE.lsn(), SECONDS)
                 self.assertEqual(follower.state.copies, copies, statement)
 
+
+    def test_truncate_before_the_first_look(self):
+        self.anew()
+        with mock.patch("datacube.postgres._follower.SECONDS_BETWEEN_LOOKS", 1000):
+            follower = self.follower()
+            self.run_sql("TRUNCATE {table}", "INSERT INTO {table} VALUES (1, 'Hull', 'tea', 9)")
+        self.same(follower)
+        self.assertEqual(follower.state.copies, 1)
 
     def test_truncate_while_the_table_is_looked_at(self):
         """It comes behind what is seen of the table, and before the log's place is taken down."""

@@ -242,7 +242,7 @@ class Follower(Questions, Running):
                 TOLD.info("making the slot %s, which waits for the transactions that are open", slot)
                 start, snapshot = make_slot(replication, slot)
                 self._has_slot = True
-                mirror, count = self._mirror_of(connection, snapshot, rows)
+                mirror, count, table = self._mirror_of(connection, snapshot, rows)
             self._table, self._seen, self._truncated = table, None, {}
             self._put_mirror(mirror)
             self._set(lsn=start, looked=start, copies=self._state.copies + 1, rows_copied=count, left_out=len(mirror.left_out))
@@ -256,14 +256,14 @@ class Follower(Questions, Running):
         else:
             self._has_publication |= make_publication(connection, name, table)
 
-    def _mirror_of(self, connection: "Connection", snapshot: str, rows: Rows) -> Tuple[Mirror, int]:
-        """A session with the rows of a snapshot, and their number."""
+    def _mirror_of(self, connection: "Connection", snapshot: str, rows: Rows) -> Tuple[Mirror, int, Table]:
+        """A session with the rows of a snapshot, their number, and the table as it is there."""
         with tempfile.TemporaryDirectory(prefix="datacube-") as folder:
             path = os.path.join(folder, "table.csv")
             with open(path, "w", encoding="utf-8", newline="") as out:
                 writer = FeedWriter(rows, [*self.schema.dimensions, *self.schema.measures], out, self.skip)
-                copy_table(connection, snapshot, rows, writer)
-            return Mirror(rows, self.schema, path, writer.left_out, self.skip), writer.count
+                table = copy_table(connection, snapshot, rows, writer)
+            return Mirror(rows, self.schema, path, writer.left_out, self.skip), writer.count, table
 
     def _follow(self, place: Place, target: int) -> None:
         """Takes the changes behind the slot, over as many connections as it takes."""
