@@ -384,10 +384,11 @@ class Moments(Base):
         copy = postgres._follower.copy_table
 
         def slowly(*words):
-            copy(*words)
+            found = copy(*words)
             with PRIVATE.connected() as cursor:
                 for at in range(1, 301):
                     cursor.execute(f"INSERT INTO {self.table} VALUES ({at}, 'York', 'tea', 1)")
+            return found
 
         follower, answers = Follower(PRIVATE.dsn, self.table, SALES), []
         with mock.patch("datacube.postgres._follower.copy_table", slowly), follower:
@@ -525,12 +526,12 @@ class ChangedAndBack(Base):
             with self.subTest(name):
                 self.anew()
                 # (what is between isn't looked at)
-                with mock.patch("datacube.postgres._follower.SECONDS_BETWEEN_LOOKS", 2):
+                with mock.patch("datacube.postgres._follower.SECONDS_BETWEEN_LOOKS", 1000):
                     follower = self.follower()
                     self.change_and_back(name)
-                    self.same(follower)
-                    self.run_sql("UPDATE {table} SET cents = cents + 1", "INSERT INTO {table} VALUES (30, 'York', 'tea', 1)")
-                    self.same(follower)
+                self.same(follower)
+                self.run_sql("UPDATE {table} SET cents = cents + 1", "INSERT INTO {table} VALUES (30, 'York', 'tea', 1)")
+                self.same(follower)
                 follower.close()
 
     def test_while_the_follower_is_halted(self):
@@ -578,11 +579,13 @@ class ChangedAndBack(Base):
             ("ALTER TABLE {table} ALTER COLUMN cents SET DEFAULT 5", 1), ("CREATE INDEX ON {table} (product)", 1), ("ANALYZE {table}", 1), ("VACUUM {table}", 1), ("VACUUM FREEZE pg_class", 1),
             ("TRUNCATE {table}", 1), ("BEGIN; INSERT INTO {table} VALUES (1, 'York', 'tea', 5); TRUNCATE {table}; INSERT INTO {table} VALUES (1, 'York', 'tea', 5); COMMIT", 1),
             ("BEGIN; TRUNCATE {table}; ROLLBACK", 1), ("BEGIN; TRUNCATE {table}; TRUNCATE {table}; INSERT INTO {table} VALUES (1, 'York', 'tea', 5); COMMIT", 1),
-            ("VACUUM FULL {table}", 2), ("GRANT SELECT ON {table} TO PUBLIC", 3), ("REINDEX TABLE CONCURRENTLY {table}", 4), ("BEGIN; TRUNCATE {table}; GRANT INSERT ON {table} TO PUBLIC; COMMIT", 5),
-            ("GRANT CREATE ON SCHEMA public TO PUBLIC", 6), ("ALTER TABLE {table} REPLICA IDENTITY FULL", 7), ("TRUNCATE {table}", 7),
-            ("ALTER TABLE {table} ALTER COLUMN cents TYPE bigint USING cents * 100", 8),
-            ("BEGIN; TRUNCATE {table}; INSERT INTO {table} VALUES (1, 'York', 'tea', 5); ALTER TABLE {table} ALTER COLUMN cents TYPE bigint USING cents * 100; COMMIT", 9),
-            ("BEGIN; TRUNCATE {table}; INSERT INTO {table} VALUES (1, 'York', 'tea', 5); CLUSTER {table} USING {table}_pkey; COMMIT", 10), ("TRUNCATE {table}", 10),
+            ("VACUUM FULL {table}", 2), ("GRANT SELECT ON {table} TO PUBLIC", 3), ("REINDEX TABLE CONCURRENTLY {table}", 4), ("BEGIN; TRUNCATE {table}; GRANT INSERT ON {table} TO PUBLIC; COMMIT", 4),
+            ("GRANT CREATE ON SCHEMA public TO PUBLIC", 5), ("ALTER TABLE {table} REPLICA IDENTITY FULL", 6), ("TRUNCATE {table}", 6),
+            ("ALTER TABLE {table} ALTER COLUMN cents TYPE bigint USING cents * 100", 7),
+            ("BEGIN; TRUNCATE {table}; INSERT INTO {table} VALUES (1, 'York', 'tea', 5); ALTER TABLE {table} ALTER COLUMN cents TYPE bigint USING cents * 100; COMMIT", 8),
+            ("BEGIN; SAVEPOINT a; TRUNCATE {table}; COMMIT", 9), ("TRUNCATE {table}", 9),
+            ("BEGIN; TRUNCATE {table}; CREATE PUBLICATION given FOR TABLE {table}; COMMIT", 10), ("DROP PUBLICATION given", 10), ("CREATE ACCESS METHOD other TYPE TABLE HANDLER heap_tableam_handler", 10),
+            ("TRUNCATE {table}", 11), ("DROP ACCESS METHOD other", 11), ("TRUNCATE {table}", 11),
         ):
             with self.subTest(statement):
                 self.run_sql(statement)
@@ -591,6 +594,14 @@ class ChangedAndBack(Base):
                 until(lambda: follower.state.looked >= PRIVATE.lsn(), SECONDS)
                 self.assertEqual(follower.state.copies, copies, statement)
 
+
+    def test_truncate_before_the_first_look(self):
+        self.anew()
+        with mock.patch("datacube.postgres._follower.SECONDS_BETWEEN_LOOKS", 1000):
+            follower = self.follower()
+            self.run_sql("TRUNCATE {table}", "INSERT INTO {table} VALUES (1, 'Hull', 'tea', 9)")
+        self.same(follower)
+        self.assertEqual(follower.state.copies, 1)
 
     def test_truncate_while_the_table_is_looked_at(self):
         """It comes behind what is seen of the table, and before the log's place is taken down."""
@@ -609,15 +620,6 @@ class ChangedAndBack(Base):
             self.same(follower)
             until(lambda: follower.state.looked >= PRIVATE.lsn(), SECONDS)
         self.assertEqual(follower.state.copies, 1)
-
-    def test_truncate_of_a_table_without_long_values(self):
-        """Whether the table's row was written by TRUNCATE alone can't be seen there."""
-        self.run_sql("CREATE TABLE {table} (id int PRIMARY KEY, city int, product bool, cents bigint)", "INSERT INTO {table} VALUES (1, 2, true, 5)")
-        follower = self.follower()
-        self.run_sql("TRUNCATE {table}", "INSERT INTO {table} VALUES (1, 3, false, 7)")
-        follower.catch_up(SECONDS)
-        self.assertEqual(follower.ask("print"), PRIVATE.cube(f"CREATE TEMP VIEW facts AS SELECT city::text, product::text, cents FROM {self.table}", SALES))
-        self.assertEqual(follower.state.copies, 2)
 
     def test_a_label_of_an_enumeration_that_is_renamed(self):
         """All its rows have another text then, and the log tells nothing of it."""

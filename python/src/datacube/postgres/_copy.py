@@ -9,7 +9,7 @@ from psycopg2 import sql
 
 from ._errors import BeginAnew, RowUnsayable
 from ._slot import snapshot_of
-from ._table import look
+from ._table import Table, look
 from ._values import Rows, row_of
 
 if TYPE_CHECKING:
@@ -40,16 +40,18 @@ class FeedWriter(io.RawIOBase):
         return len(line)
 
 
-def copy_table(connection: "Connection", snapshot: str, rows: Rows, writer: FeedWriter) -> None:
-    """Copies the rows of a snapshot into a feed. Raises `BeginAnew` where the table isn't there what it was when it was looked
+def copy_table(connection: "Connection", snapshot: str, rows: Rows, writer: FeedWriter) -> Table:
+    """Copies the rows of a snapshot into a feed, and gives the table as it is there. Raises `BeginAnew` where the table isn't there what it was when it was looked
     at, or where its rows were written anew since, for then a snapshot of before may see none of them (of TRUNCATE, and of some
     forms of ALTER TABLE)."""
     name, columns = sql.Identifier(rows.table.schema, rows.table.name), sql.SQL(", ").join(map(sql.Identifier, rows.names))
     with snapshot_of(connection, snapshot) as cursor:
-        if look(cursor, rows.table.oid) != rows.table:
+        then = look(cursor, rows.table.oid)
+        if then is None or then != rows.table:
             raise BeginAnew(f"table {rows.table} was altered while its copy began")
         cursor.copy_expert(sql.SQL("COPY (SELECT {} FROM ONLY {}) TO STDOUT").format(columns, name), writer)
     with connection.cursor() as cursor:
         now = look(cursor, rows.table.oid)
     if now is None or now.file != rows.table.file:
         raise BeginAnew(f"the rows of table {rows.table} were written anew while they were copied")
+    return then

@@ -242,7 +242,7 @@ class Follower(Questions, Running):
                 TOLD.info("making the slot %s, which waits for the transactions that are open", slot)
                 start, snapshot = make_slot(replication, slot)
                 self._has_slot = True
-                mirror, count = self._mirror_of(connection, snapshot, rows)
+                mirror, count, table = self._mirror_of(connection, snapshot, rows)
             self._table, self._seen, self._truncated = table, None, {}
             self._put_mirror(mirror)
             self._set(lsn=start, looked=start, copies=self._state.copies + 1, rows_copied=count, left_out=len(mirror.left_out))
@@ -256,14 +256,14 @@ class Follower(Questions, Running):
         else:
             self._has_publication |= make_publication(connection, name, table)
 
-    def _mirror_of(self, connection: "Connection", snapshot: str, rows: Rows) -> Tuple[Mirror, int]:
-        """A session with the rows of a snapshot, and their number."""
+    def _mirror_of(self, connection: "Connection", snapshot: str, rows: Rows) -> Tuple[Mirror, int, Table]:
+        """A session with the rows of a snapshot, their number, and the table as it is there."""
         with tempfile.TemporaryDirectory(prefix="datacube-") as folder:
             path = os.path.join(folder, "table.csv")
             with open(path, "w", encoding="utf-8", newline="") as out:
                 writer = FeedWriter(rows, [*self.schema.dimensions, *self.schema.measures], out, self.skip)
-                copy_table(connection, snapshot, rows, writer)
-            return Mirror(rows, self.schema, path, writer.left_out, self.skip), writer.count
+                table = copy_table(connection, snapshot, rows, writer)
+            return Mirror(rows, self.schema, path, writer.left_out, self.skip), writer.count, table
 
     def _follow(self, place: Place, target: int) -> None:
         """Takes the changes behind the slot, over as many connections as it takes."""
@@ -293,7 +293,7 @@ class Follower(Questions, Running):
             assert self.slot is not None
             stream = Stream(replication, self.slot, self._table, self._state.lsn)
             self._set(is_connected=True)
-            next_look = time.monotonic() + SECONDS_BETWEEN_LOOKS
+            last_look = time.monotonic()
             while not self._ending.is_set():
                 transaction = stream.next(SECONDS_TO_WAIT)
                 if transaction:
@@ -301,9 +301,9 @@ class Follower(Questions, Running):
                 self._arrive(max(self._state.lsn, stream.seen), target)
                 self._judge()
                 stream.confirm(self._state.lsn)
-                if time.monotonic() >= next_look:
+                if time.monotonic() >= last_look + SECONDS_BETWEEN_LOOKS:
                     self._look(connection)
-                    next_look = time.monotonic() + SECONDS_BETWEEN_LOOKS
+                    last_look = time.monotonic()
 
     def _take(self, transaction: Transaction, connection: "Connection") -> None:
         """Makes the changes of a transaction, all between two questions. One that was there before the connection was lost comes
@@ -344,7 +344,7 @@ class Follower(Questions, Running):
             now = look(cursor, self._table.oid)
         check_same(self._table, now)
         assert now is not None and self.slot is not None
-        if now.trace != self._table.trace and not now.trace.is_of_truncate:
+        if now.trace != self._table.trace and not self._may_be_truncated(now):
             raise self._altered(now)
         fault = fault_of(connection, self.publication or self.slot, now)
         if fault is not None:
@@ -362,18 +362,16 @@ class Follower(Questions, Running):
         if self._seen is None or self._state.lsn < self._seen[2]:
             return
         (now, before, _), self._seen = self._seen, None
-        if now.trace != self._table.trace and not self._is_truncated(now):
+        if now.trace != self._table.trace and not (self._may_be_truncated(now) and now.trace.table in self._truncated):
             raise self._altered(now)
         self._table = now
         # (a commit is in the log a moment before others see it, so those since the look before are kept)
         self._truncated = {number: end for number, end in self._truncated.items() if end > self._state.looked}
         self._set(looked=before)
 
-    def _is_truncated(self, now: Table) -> bool:
-        """Whether a table that was taken differs from what it was by a TRUNCATE alone."""
-        trace = now.trace
-        emptied = replace(self._table.trace, table=trace.table)
-        return trace.is_of_truncate and trace.table in self._truncated and trace == emptied and now.columns == self._table.columns
+    def _may_be_truncated(self, now: Table) -> bool:
+        """Whether TRUNCATE alone may have made the table what it is now."""
+        return now.trace.may_be_truncated_from(self._table.trace) and now.columns == self._table.columns
 
     def _altered(self, now: Table) -> BeginAnew:
         return BeginAnew(f"table {now} was altered, and what became of its rows meanwhile isn't known")

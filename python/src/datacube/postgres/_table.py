@@ -2,7 +2,7 @@
 from __future__ import annotations
 
 import re
-from dataclasses import dataclass, field
+from dataclasses import dataclass, field, replace
 from typing import TYPE_CHECKING, Any, Dict, List, Mapping, Optional, Sequence, Tuple
 
 import psycopg2.errors
@@ -40,24 +40,22 @@ WHERE a.attrelid = %s AND a.attnum > 0 AND NOT a.attisdropped
 ORDER BY a.attnum
 """
 
-# (a row of the catalog has the number of the transaction that wrote it, and of its step; xmax is 0 where no other one began to
-# write it anew since, for that would have left its own step. TRUNCATE writes the table's row, in the next step that of its
-# long values, and then those of its indexes, one after the other)
+# (a row of the catalog has the number of the transaction that wrote it. A table's type has its name and its schema too, and
+# TRUNCATE leaves it alone)
 TRACE = """
-SELECT c.xmin::text, n.xmin::text, c.reltoastrelid, i.indexrelid, i.xmin::text, (
+SELECT c.xmin::text, y.xmin::text, n.xmin::text, i.indexrelid, i.xmin::text, (
     SELECT string_agg(e.oid || ' ' || e.xmin, ',' ORDER BY e.oid)
     FROM pg_attribute AS a
         JOIN pg_type AS t ON t.oid = a.atttypid
         JOIN pg_enum AS e ON e.enumtypid = CASE WHEN t.typtype = 'd' THEN t.typbasetype ELSE t.oid END
     WHERE a.attrelid = c.oid AND a.attnum > 0 AND NOT a.attisdropped
-), c.xmax::text = '0' AND (
-    SELECT t.xmin = c.xmin AND t.xmax::text = '0' AND t.cmin::text::bigint = c.cmin::text::bigint + 1
-    FROM pg_class AS t WHERE t.oid = c.reltoastrelid
-) AND (
-    SELECT bool_and(x.xmin = c.xmin AND x.xmax::text = '0') AND min(x.cmin::text::bigint) = c.cmin::text::bigint + 2
-    FROM pg_index AS o JOIN pg_class AS x ON x.oid = o.indexrelid WHERE o.indrelid = c.oid
-)
+), (
+    SELECT string_agg(r.oid || ' ' || p.xmin, ',' ORDER BY r.oid)
+    FROM pg_publication_rel AS r JOIN pg_publication AS p ON p.oid = r.prpubid
+    WHERE r.prrelid = c.oid
+), (SELECT count(*) FROM pg_am WHERE amtype = 't')
 FROM pg_class AS c
+    JOIN pg_type AS y ON y.oid = c.reltype
     JOIN pg_namespace AS n ON n.oid = c.relnamespace
     LEFT JOIN pg_index AS i ON i.indrelid = c.oid AND i.indisvalid AND i.indimmediate
         AND CASE c.relreplident WHEN 'i' THEN i.indisreplident ELSE i.indisprimary END
@@ -110,18 +108,25 @@ class Column:
 
 @dataclass(frozen=True)
 class Trace:
-    """What the catalog keeps of who changed a table: the transactions that last wrote its row, its schema's, that of the index
-    which names its rows, and those of the labels of enumerations; which index that is, and where its long values lie. So a table
-    that was changed and changed back is told from one that wasn't. `is_of_truncate` says that the last one to write the table's row was a TRUNCATE, where that
-    can be seen: of a table that has a place for long values."""
+    """What the catalog keeps of who changed a table: the transactions that last wrote its row, its type's, its schema's, that of
+    the index which names its rows, and those of the labels of enumerations, and which index that is. So a table that was changed
+    and changed back is told from one that wasn't. Beside that there are the publications that name the table, likewise, and how
+    many kinds of tables the server has."""
 
     table: str
+    type: str
     schema: str
-    long_values: int
     index: Optional[int]
     of_index: Optional[str]
     labels: Optional[str]
-    is_of_truncate: bool = field(compare=False)
+    publications: Optional[str] = field(compare=False)
+    kinds: int = field(compare=False)
+
+    def may_be_truncated_from(self, before: "Trace") -> bool:
+        """Whether nothing but TRUNCATE may have come between. What writes the table's row alone, as TRUNCATE does, and keeps rows
+        from the log is refused by the server for as long as there is a publication, or puts the table among those of another kind
+        than PostgreSQL's own."""
+        return self == replace(before, table=self.table) and self.publications == before.publications and self.kinds == 1
 
 
 @dataclass(frozen=True)
@@ -186,8 +191,8 @@ def look(cursor: "Cursor", oid: int) -> Optional[Table]:
 def trace_of(cursor: "Cursor", oid: int) -> Optional[Trace]:
     """Who changed the table of a number last, or none where there is no such table."""
     cursor.execute(TRACE, [oid])
-    row = cursor.fetchone()
-    return Trace(row[0], row[1], row[2], row[3], row[4], row[5], bool(row[6])) if row else None
+    row: Optional[Sequence[Any]] = cursor.fetchone()
+    return Trace(*row) if row else None
 
 
 def check_kind(name: str, kind: str, persistence: str, has_children: bool) -> None:
