@@ -30,3 +30,4 @@ mod TextLaws
 mod AnswerTextLaws
 mod RowTextLaws
 mod RangeLaws
+mod RefusedLaws

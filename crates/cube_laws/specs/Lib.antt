@@ -7,3 +7,4 @@ pub mod Written
 pub mod Merging
 pub mod Told
 pub mod Shards
+pub mod Refused
