@@ -31,3 +31,4 @@ mod AnswerTextLaws
 mod RowTextLaws
 mod RangeLaws
 mod RefusedLaws
+mod SingleLaws

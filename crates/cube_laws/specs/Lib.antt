@@ -8,3 +8,4 @@ pub mod Merging
 pub mod Told
 pub mod Shards
 pub mod Refused
+pub mod Single

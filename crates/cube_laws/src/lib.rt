@@ -14,5 +14,6 @@ pub mod rows;
 pub mod schema;
 pub mod sets;
 pub mod shards;
+pub mod single;
 pub mod survivors;
 pub mod text_back;
