@@ -31,4 +31,5 @@ mod AnswerTextLaws
 mod RowTextLaws
 mod RangeLaws
 mod RefusedLaws
+mod OrderLaws
 mod SingleLaws

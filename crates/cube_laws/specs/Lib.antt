@@ -8,4 +8,5 @@ pub mod Merging
 pub mod Told
 pub mod Shards
 pub mod Refused
+pub mod KeyOrder
 pub mod Single

@@ -8,6 +8,7 @@ pub mod fraction;
 pub mod keys;
 pub mod life;
 pub mod merging;
+pub mod order;
 pub mod refusals;
 pub mod rollup;
 pub mod rows;
