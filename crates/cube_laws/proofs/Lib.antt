@@ -32,4 +32,6 @@ mod RowTextLaws
 mod RangeLaws
 mod RefusedLaws
 mod OrderLaws
+mod PlainLaws
 mod SingleLaws
+mod RecordLaws

@@ -9,4 +9,5 @@ pub mod Told
 pub mod Shards
 pub mod Refused
 pub mod KeyOrder
+pub mod Lines
 pub mod Single
