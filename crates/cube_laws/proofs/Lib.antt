@@ -35,3 +35,4 @@ mod OrderLaws
 mod PlainLaws
 mod SingleLaws
 mod RecordLaws
+mod AskedLaws

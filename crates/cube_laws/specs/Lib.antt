@@ -11,3 +11,4 @@ pub mod Refused
 pub mod KeyOrder
 pub mod Lines
 pub mod Single
+pub mod Asked

@@ -9,6 +9,7 @@ pub mod keys;
 pub mod life;
 pub mod merging;
 pub mod order;
+pub mod queries;
 pub mod records;
 pub mod refusals;
 pub mod rollup;
