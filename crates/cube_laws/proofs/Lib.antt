@@ -36,3 +36,5 @@ mod PlainLaws
 mod SingleLaws
 mod RecordLaws
 mod AskedLaws
+mod NumberLaws
+mod FeedLaws

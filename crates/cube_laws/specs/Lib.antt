@@ -12,3 +12,4 @@ pub mod KeyOrder
 pub mod Lines
 pub mod Single
 pub mod Asked
+pub mod Feeds
