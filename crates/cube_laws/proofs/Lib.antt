@@ -38,3 +38,4 @@ mod RecordLaws
 mod AskedLaws
 mod NumberLaws
 mod FeedLaws
+mod SameCubeLaws
