@@ -38,4 +38,5 @@ mod RecordLaws
 mod AskedLaws
 mod NumberLaws
 mod FeedLaws
+mod FaultLaws
 mod SameCubeLaws
