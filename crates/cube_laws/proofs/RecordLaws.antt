@@ -1,6 +1,6 @@
 -- The records of lines, however these end.
 use Rattle.std.specs.Prelude.{◌≡◌, ◌≢◌, ◌==◌, ◌+◌, ◌≤◌, ◌⊎◌, ℕ, zero, suc, Bool, true, false, List, [], ◌∷◌, ◌++◌}
-use Rattle.std.specs.Prelude.{length, if◌then◌else◌, Option, Some, None}
+use Rattle.std.specs.Prelude.{codes, length, if◌then◌else◌, Option, Some, None}
 use Rattle.std.specs.List.{AllByRecursion, AllZip, flat_map}
 use Rattle.std.proofs.Common.{refl, sym, ap, ◌∙◌, subst, inl, inr, arith, append_assoc}
 use Rattle.std.proofs.lemmas.Bool.{cases_Bool, eqb-true, ne_eqb}
@@ -315,3 +315,16 @@ records_of-other byte text other = ap (records default_config) (strip_bom-other 
 pub records_of-none : records_of [] ≡ []
 unfolding strip_bom records_from next_record
 records_of-none = refl
+
+-- ---- odd quotes
+pub records-quote_within : records default_config (codes "a\"b,c\n") ≡ (codes "a\"b" ∷ codes "c" ∷ []) ∷ []
+unfolding records_from next_record
+records-quote_within = refl
+
+pub records-quote_behind : records default_config (codes "\"a\"b,c\n") ≡ (codes "ab" ∷ codes "c" ∷ []) ∷ []
+unfolding records_from next_record
+records-quote_behind = refl
+
+pub records-quote_unclosed : records default_config (codes "\"a,b\nc") ≡ (codes "a,b\nc" ∷ []) ∷ []
+unfolding records_from next_record
+records-quote_unclosed = refl

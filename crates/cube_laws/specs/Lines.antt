@@ -1,7 +1,10 @@
 -- The words of the laws on lines of fields and the records that they read as (RFC 4180).
-use Rattle.std.specs.Prelude.{◌≡◌, ◌≢◌, ◌⊎◌, ◌≤◌, ℕ, List, [], ◌∷◌, ◌++◌, length}
+use Rattle.std.specs.Prelude.{◌≡◌, ◌≢◌, ◌⊎◌, ◌≤◌, ℕ, List, [], ◌∷◌, ◌++◌, codes, length, negsuc}
 use Rattle.std.specs.List.{AllByRecursion}
 use Rattle.cube_core.specs.Text.{line}
+use Rattle.cube_core.specs.declared.aggregate.Answer.TheVariants as answer
+use Rattle.cube_core.specs.declared.key.Coord.TheVariants as coord
+use Rattle.cube_core.specs.declared.key.Row.{Row}
 
 -- a byte is none of those that CSV sets apart: a comma, a quote, CR and LF
 abbrev pub IsPlainByte : ℕ → Type 0
@@ -29,3 +32,10 @@ pub record IsEnded (fields : List (List ℕ)) (text : List ℕ) : Type 0 where
   pub ends : EndsLine first
   pub more_end : AllByRecursion EndsLine more
   pub text_is : text ≡ body ++ first ∷ more
+
+-- a row with a text, null and ALL, a count, a number, null and a fraction
+abbrev pub sample_row : Row
+sample_row = record {
+  key = record { coords = coord.Text (codes "north") ∷ coord.Null ∷ coord.All ∷ [] };
+  answers = answer.Count 12 ∷ answer.Whole (negsuc 304) ∷ answer.Null ∷ answer.Ratio (negsuc 60) 4 ∷ [];
+}

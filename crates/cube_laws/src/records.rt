@@ -1,5 +1,5 @@
 //! Lines of fields, and the records that a text has (RFC 4180).
-ghost use Rattle.std.specs.Prelude.{◌≡◌, ◌≢◌, ℕ, ◌+◌, ◌≤◌, List, [], ◌∷◌, ◌++◌, length};
+ghost use Rattle.std.specs.Prelude.{◌≡◌, ◌≢◌, ℕ, ◌+◌, ◌≤◌, List, [], ◌∷◌, ◌++◌, codes, length};
 ghost use Rattle.std.specs.List.{AllByRecursion, AllZip, flat_map};
 ghost use Rattle.csv.specs.Reading.{records, default_config};
 ghost use Rattle.cube_core.specs.Records.{records_of};
@@ -34,4 +34,12 @@ pub fn byte_order_mark_is_left_out()
     ensures other { (byte : ℕ) (text : List ℕ) → byte ≢ 0xEF →
         records_of (byte ∷ text) ≡ records default_config (byte ∷ text) }
     ensures none { records_of [] ≡ [] }
+{}
+
+/// A quote that doesn't begin a field is a byte of it, what follows a closing quote is too, and a quote that isn't closed ends
+/// with the text (this project's choice, as `csv` reads; RFC 4180 has no such texts).
+pub fn odd_quotes_are_read_so()
+    ensures within { records default_config (codes "a\"b,c\n") ≡ (codes "a\"b" ∷ codes "c" ∷ []) ∷ [] }
+    ensures behind { records default_config (codes "\"a\"b,c\n") ≡ (codes "ab" ∷ codes "c" ∷ []) ∷ [] }
+    ensures unclosed { records default_config (codes "\"a,b\nc") ≡ (codes "a,b\nc" ∷ []) ∷ [] }
 {}
