@@ -30,3 +30,13 @@ mod TextLaws
 mod AnswerTextLaws
 mod RowTextLaws
 mod RangeLaws
+mod RefusedLaws
+mod OrderLaws
+mod PlainLaws
+mod SingleLaws
+mod RecordLaws
+mod AskedLaws
+mod NumberLaws
+mod FeedLaws
+mod FaultLaws
+mod SameCubeLaws

@@ -7,3 +7,9 @@ pub mod Written
 pub mod Merging
 pub mod Told
 pub mod Shards
+pub mod Refused
+pub mod KeyOrder
+pub mod Lines
+pub mod Single
+pub mod Asked
+pub mod Feeds

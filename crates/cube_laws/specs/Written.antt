@@ -1,8 +1,10 @@
 -- What the laws of the schema document speak of (this project's choice).
-use Rattle.std.specs.Prelude.{◌≡◌, ℕ, List, true, codes, Some, None}
+use Rattle.std.specs.Prelude.{◌≡◌, ◌<◌, ℕ, List, true, false, codes, Some, None}
 use Rattle.toml.specs.Data.{Members, get_member}
 use Rattle.cube_core.specs.Layout.{Layout}
-use Rattle.cube_core.specs.SchemaDocument.{has_known_keys, texts_at, max_records_in, grouping_sets_in, version_in}
+use Rattle.cube_core.specs.SchemaDocument.{has_fault, has_known_keys, texts_at, max_records_in, grouping_sets_in, version_in}
+use Rattle.cube_core.specs.declared.schema_fault.SchemaFault.{SchemaFault}
+use Rattle.cube_core.specs.declared.schema_fault.SchemaFault.TheVariants as fault
 
 -- the document has no other keys than a schema's, and under each what the schema has there
 pub record WritesSchema (document : Members) (s : Layout) : Type 0 where
@@ -23,3 +25,22 @@ pub record GivesNames (document : Members) (dimensions measures spellings : List
   pub max_records : get_member (codes "max_records") document ≡ None
   pub grouping : get_member (codes "grouping") document ≡ None
   pub version : get_member (codes "version") document ≡ None
+
+-- the numbers of the faults of a schema, as their codes S1 to S10 have them
+abbrev pub number_of_fault : SchemaFault → ℕ
+number_of_fault fault.Memory = 1
+number_of_fault fault.Toml = 2
+number_of_fault fault.UnknownKey = 3
+number_of_fault fault.Dimensions = 4
+number_of_fault fault.Measures = 5
+number_of_fault fault.Name = 6
+number_of_fault fault.Aggregates = 7
+number_of_fault fault.MaxRecords = 8
+number_of_fault fault.Grouping = 9
+number_of_fault fault.Version = 10
+
+-- a document has this fault, and none with a smaller number
+pub record IsFirstFault (document : Members) (fault : SchemaFault) : Type 0 where
+  pub holds : has_fault document fault ≡ true
+  pub none_before : (other : SchemaFault) → number_of_fault other < number_of_fault fault
+      → has_fault document other ≡ false

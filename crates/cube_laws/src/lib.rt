@@ -4,14 +4,20 @@
 #![tactic(auto)]
 
 pub mod counts;
+pub mod feeds;
 pub mod fraction;
 pub mod keys;
 pub mod life;
 pub mod merging;
+pub mod order;
+pub mod queries;
+pub mod records;
+pub mod refusals;
 pub mod rollup;
 pub mod rows;
 pub mod schema;
 pub mod sets;
 pub mod shards;
+pub mod single;
 pub mod survivors;
 pub mod text_back;

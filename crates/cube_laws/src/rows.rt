@@ -1,8 +1,10 @@
 //! What facts determine of the rows of a cube and of the printed cube.
 ghost use Rattle.std.specs.Prelude.{◌≡◌, ℕ, List, IsPermutation};
+ghost use Rattle.cube_core.specs.Arrival.{Arrivals, of_sources};
 ghost use Rattle.cube_core.specs.Layout.{Layout};
 ghost use Rattle.cube_core.specs.Cube.{AreRows};
 ghost use Rattle.cube_core.specs.Printed.{IsPrinted};
+ghost use Rattle.cube_core.specs.Sources.{SurviveTogether};
 ghost use Rattle.cube_core.specs.declared.key.Row.{Row};
 ghost use Rattle.cube_core.specs.declared.fact.Fact.{Fact};
 
@@ -31,4 +33,17 @@ pub fn rows_ignore_order()
 pub fn printed_cube_ignores_order()
     ensures { (s : Layout) (facts facts' : List Fact) (text : List ℕ) →
         IsPermutation facts facts' → IsPrinted s facts text → IsPrinted s facts' text }
+{}
+
+/// Cubes of the same facts, in any order, are the same; and so are those of what survives arrival lists that agree source by
+/// source, whatever the order between the sources (Gray et al. 1997: a cube aggregates a table, whose rows have no order;
+/// that nothing is known of the order between sources is this project's choice).
+pub fn cubes_of_the_same_facts_are_the_same()
+    ensures facts { (s : Layout) (facts others : List Fact) (rows other_rows : List Row) →
+        IsPermutation facts others → AreRows s facts rows → AreRows s others other_rows → rows ≡ other_rows }
+    ensures arrivals { (s : Layout) (sources : ℕ) (arrivals others : Arrivals) (facts other_facts : List Fact)
+        (rows other_rows : List Row) → of_sources sources arrivals ≡ of_sources sources others →
+        SurviveTogether s (of_sources sources arrivals) facts →
+        SurviveTogether s (of_sources sources others) other_facts →
+        AreRows s facts rows → AreRows s other_facts other_rows → rows ≡ other_rows }
 {}

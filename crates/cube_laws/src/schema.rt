@@ -1,5 +1,5 @@
 //! What a schema file writes: each schema can be written, and each spelling is of one aggregate.
-ghost use Rattle.std.specs.Prelude.{◌≡◌, ◌≤◌, ◌+◌, ◌-◌, ◌^◌, Some, None, Ok, ℕ, List, length, map, codes, true};
+ghost use Rattle.std.specs.Prelude.{◌≡◌, ◌≤◌, ◌+◌, ◌-◌, ◌^◌, Some, None, Ok, Err, ℕ, List, length, map, codes, true};
 ghost use Rattle.std.specs.List.{range_with_len};
 ghost use Rattle.toml.specs.Data.{Members, string, get_member};
 ghost use Rattle.cube_core.specs.Cube.{AreRows, AreRowsOver};
@@ -8,16 +8,26 @@ ghost use Rattle.cube_core.specs.Layout.{Layout, IsSchema, spelling_of, is_aggre
 ghost use Rattle.cube_core.specs.PartialForm.{partial_form};
 ghost use Rattle.cube_core.specs.Shard.{whole_feed};
 ghost use Rattle.cube_core.specs.SchemaDocument.{schema_of, schema_of_parts, named_parts, aggregate_spelled};
-ghost use Rattle.cube_laws.specs.Written.{GivesNames, WritesSchema};
+ghost use Rattle.cube_laws.specs.Written.{GivesNames, IsFirstFault, WritesSchema};
 ghost use Rattle.cube_core.specs.declared.aggregate.Agg.{Agg};
 ghost use Rattle.cube_core.specs.declared.fact.Fact.{Fact};
 ghost use Rattle.cube_core.specs.declared.key.Row.{Row};
+ghost use Rattle.cube_core.specs.declared.schema_fault.SchemaFault.{SchemaFault};
 
 /// A document that writes a schema is read as that schema and no other: no schema is refused, and none is taken for
 /// another. A document has at most 16 aggregates, the partial form of a schema may have more; and it is of whole feeds.
 pub fn written_schema_is_read()
     ensures { (document : Members) (s : Layout) →
         IsSchema s → s.shard ≡ whole_feed → length s.aggregates ≤ 16 → WritesSchema document s → schema_of document ≡ Ok s }
+{}
+
+/// What is told of a document that is refused is its first fault: it has the fault, and none whose code has a smaller number;
+/// and a document with a fault is refused by the first (this project's choice).
+pub fn told_fault_is_the_first()
+    ensures told { (document : Members) (fault : SchemaFault) →
+        schema_of document ≡ Err fault → IsFirstFault document fault }
+    ensures first { (document : Members) (fault : SchemaFault) →
+        IsFirstFault document fault → schema_of document ≡ Err fault }
 {}
 
 /// Each schema is written by some document (of TOML's values; the text of a file isn't spoken of).

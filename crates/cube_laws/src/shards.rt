@@ -1,17 +1,25 @@
 //! Shards part a feed, and their printed cubes add up.
-ghost use Rattle.std.specs.Prelude.{◌≡◌, ◌≤◌, ℕ, List, filter};
+ghost use Rattle.std.specs.Prelude.{◌≡◌, ◌≤◌, ℕ, List, Some, codes, filter, map};
 ghost use Rattle.std.specs.List.{AllZip};
 ghost use Rattle.cube_core.specs.Items.{items_of};
 ghost use Rattle.cube_core.specs.Layout.{IsSchema, Layout};
 ghost use Rattle.cube_core.specs.PartialForm.{partial_form};
 ghost use Rattle.cube_core.specs.Refusals.{refusals_of};
-ghost use Rattle.cube_core.specs.Shard.{whole_feed};
+ghost use Rattle.cube_core.specs.Shard.{fnv_hash, whole_feed};
 ghost use Rattle.cube_core.specs.Sources.{IsPrintedOf};
 ghost use Rattle.cube_core.specs.Surviving.{AreSurviving};
-ghost use Rattle.cube_laws.specs.Merging.{IsMergedText, joined};
+ghost use Rattle.cube_merge.specs.Merging.{IsMergeOf};
+ghost use Rattle.cube_laws.specs.Merging.{IsMergedText, PutsPrintedOf, joined};
 ghost use Rattle.cube_laws.specs.Shards.{has_record, of_shard, places};
 ghost use Rattle.cube_laws.specs.Told.{AreFewSources};
 ghost use Rattle.cube_core.specs.declared.fact.Fact.{Fact};
+
+/// The hash that tells a shard has the values that RFC 9923 gives: of no byte, of `a` and of `foobar` (FNV-1a of 64 bits).
+pub fn hash_has_its_published_values()
+    ensures of_none { fnv_hash (codes "") ≡ 0xcbf29ce484222325 }
+    ensures of_a { fnv_hash (codes "a") ≡ 0xaf63dc4c8601ec8c }
+    ensures of_foobar { fnv_hash (codes "foobar") ≡ 0x85944171f73967e8 }
+{}
 
 /// The items of a shard are those items of the feed whose records are in the shard, in their order and with their numbers,
 /// and the feed ends alike (this project's choice).
@@ -53,4 +61,18 @@ pub fn shards_of_sources_add_up()
         IsSchema s → s.shard ≡ whole_feed → 1 ≤ count → count ≤ 65536 → AreFewSources sources →
         AllZip (λ place part. IsPrintedOf (partial_form (of_shard count s place)) sources part) (places count) texts →
         IsMergedText (partial_form s) (partial_form s) texts text → IsPrintedOf (partial_form s) sources text }
+{}
+
+/// What the call `merge` writes, by its promise, of the printed partial cubes of all shards of feeds is the printed cube of the
+/// feeds, and so under the partial form itself (this project's choice).
+pub fn merge_writes_the_cube_of_all_shards()
+    ensures whole { (s : Layout) (count : ℕ) (sources texts : List (List ℕ)) (old new : List ℕ) →
+        IsSchema s → s.shard ≡ whole_feed → 1 ≤ count → count ≤ 65536 → AreFewSources sources →
+        AllZip (λ place part. IsPrintedOf (partial_form (of_shard count s place)) sources part) (places count) texts →
+        IsMergeOf (partial_form s) s (map Some texts) (Some old) (Some new) → PutsPrintedOf s sources old new }
+    ensures partial { (s : Layout) (count : ℕ) (sources texts : List (List ℕ)) (old new : List ℕ) →
+        IsSchema s → s.shard ≡ whole_feed → 1 ≤ count → count ≤ 65536 → AreFewSources sources →
+        AllZip (λ place part. IsPrintedOf (partial_form (of_shard count s place)) sources part) (places count) texts →
+        IsMergeOf (partial_form s) (partial_form s) (map Some texts) (Some old) (Some new) →
+        PutsPrintedOf (partial_form s) sources old new }
 {}

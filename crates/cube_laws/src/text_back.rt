@@ -1,9 +1,10 @@
 //! The printed text, read back (RFC 4180).
-ghost use Rattle.std.specs.Prelude.{◌≡◌, ℕ, ◌≤◌, List, ◌∷◌, length, map};
+ghost use Rattle.std.specs.Prelude.{◌≡◌, ℕ, ◌≤◌, List, [], ◌∷◌, codes, length, map};
 ghost use Rattle.std.specs.List.{AllByRecursion, flat_map};
 ghost use Rattle.csv.specs.Reading.{records, default_config};
-ghost use Rattle.cube_core.specs.Layout.{Layout, IsSchema};
+ghost use Rattle.cube_core.specs.Layout.{Layout, IsSchema, sample_layout};
 ghost use Rattle.cube_core.specs.Cube.{AreRows};
+ghost use Rattle.cube_laws.specs.Lines.{sample_row};
 ghost use Rattle.cube_laws.specs.Told.{CanBePrinted};
 ghost use Rattle.cube_merge.specs.Lawful.{IsLawfulRow};
 ghost use Rattle.cube_core.specs.Text.{line, header_fields, row_fields, text_of_rows};
@@ -43,4 +44,14 @@ pub fn rows_are_told_by_their_text()
         1 ≤ length s.dimensions → AllByRecursion (IsLawfulRow s) rows →
         AllByRecursion (IsLawfulRow s) others → text_of_rows s rows ≡ text_of_rows s others →
         rows ≡ others }
+{}
+
+/// The columns of the sample schema's header, and how null, counts, numbers and fractions are written (SQL:1999: GROUPING
+/// columns; the spellings are this project's choice).
+pub fn columns_and_answers_are_spelled_so()
+    ensures header { text_of_rows sample_layout []
+        ≡ codes "region,kind,grouping(region),grouping(kind),count(*),sum(amount),min(amount),max(amount),avg(amount)\n" }
+    ensures row { row_fields sample_row
+        ≡ codes "north" ∷ codes "\\N" ∷ codes "\\N" ∷ codes "0" ∷ codes "0" ∷ codes "1"
+        ∷ codes "12" ∷ codes "-305" ∷ codes "\\N" ∷ codes "-61/4" ∷ [] }
 {}

@@ -1,0 +1,523 @@
+-- A written feed, read back; and how much a feed gives.
+use Rattle.std.specs.Prelude.{◌≡◌, ◌≢◌, ◌↔◌, ◌==◌, ◌&&◌, ◌||◌, ◌+◌, ◌%◌, ◌≤◌, ◌<◌, nat_lt, ℕ, zero, suc, ℤ, Bool, true, false, not}
+use Rattle.std.specs.Prelude.{List, [], ◌∷◌, ◌++◌, length, map, take, drop, codes, Option, Some, None, is_some}
+use Rattle.std.specs.Prelude.{option_map, Result, Ok, Err, IfOk, if◌then◌else◌}
+use Rattle.std.specs.Fmt.{signed_decimal}
+use Rattle.std.specs.List.{AllByRecursion, flat_map, list_all, list_any, filter_map, cons_option}
+use Rattle.std.specs.Str.{IsAscii, bytes_eq, is_utf8}
+use Rattle.std.proofs.Common.{refl, sym, ap, ap₂, ◌∙◌, subst, inl, inr, arith}
+use Rattle.std.proofs.Math.Seq.{take-append_seam, drop-append_seam}
+use Rattle.std.proofs.lemmas.Bool.{cases_Bool, and_from, and_parts, eq-eqb, eqb-true, lt-ltb, ltb-true, false≢true}
+use Rattle.std.proofs.lemmas.Bool.{not-true, or_cases, or_right}
+use Rattle.std.proofs.lemmas.List.{length-map, length-append, drop-drop}
+use Rattle.std.proofs.lemmas.List.Folds.{list_all-append, list_any-append}
+use Rattle.std.proofs.lemmas.Str.{IsUtf8-from_ascii, is_utf8-from_IsUtf8}
+use Rattle.csv.specs.Reading.{records}
+use Rattle.cube_core.specs.Items.{FeedEnd, Good, WrongHeader, TooManyRecords, IsGoodFeed, RestOfFeed, item_then, width_of}
+use Rattle.cube_core.specs.Items.{field_at, is_keep, is_measure, dimension_of, measure_of, number_of}
+use Rattle.cube_core.specs.Items.{dimension_field_of, measure_field_of, dimension_fields, measure_fields, fact_of}
+use Rattle.cube_core.specs.Items.{amendment_of, unless_at_fault, insert_of, update_of, change_of, is_header, is_read}
+use Rattle.cube_core.specs.Items.{items_after, items_of, same_fields, keep_text, column_names, byte_order_mark}
+use Rattle.cube_core.specs.Layout.{Layout}
+use Rattle.cube_core.specs.Records.{records_of}
+use Rattle.cube_core.specs.Shard.{whole_feed, is_in_shard, fnv_hash}
+use Rattle.cube_core.specs.Takes.{takes, may_amend, null_text, is_id, fits, fits_part, is_dimension_value}
+use Rattle.cube_core.specs.Takes.{puts_dimension_value}
+use Rattle.cube_core.specs.Text.{line}
+use Rattle.cube_core.specs.declared.change.Change.{Change}
+use Rattle.cube_core.specs.declared.change.Change.TheVariants.{Insert, Update, Amend, Delete}
+use Rattle.cube_core.specs.declared.change.Item.{Item}
+use Rattle.cube_core.specs.declared.change.LineFault.{LineFault}
+use Rattle.cube_core.specs.declared.change.LineFault.TheVariants as fault
+use Rattle.cube_core.specs.declared.fact.Fact.{Fact}
+use Rattle.cube_core.specs.declared.partial.Field.{Field}
+use Rattle.cube_core.specs.declared.partial.Field.TheVariants.{Keep, Put}
+use Rattle.cube_core.specs.declared.partial.Partial.{Partial}
+use Rattle.cube_core.proofs.ItemLaws.{takes-change_of}
+use Rattle.cube_core.proofs.LifeLaws.{bytes_eq-itself, bytes_eq-other}
+use Rattle.cube_laws.specs.Feeds.{CanBeSpelled, HasField, HasNumber, Puts, dimension_text, header_for, is_kept}
+use Rattle.cube_laws.specs.Feeds.{measure_text, numbered, put_text, record_for, record_with}
+use Rattle.cube_laws.proofs.NumberLaws.{number_of-signed_decimal, is_utf8-signed_decimal, signed_decimal-no_backslash}
+use Rattle.cube_laws.proofs.RecordLaws.{records_of-other}
+use Rattle.cube_laws.proofs.TextLaws.{records-line}
+
+-- ---- one field
+and-false : (b : Bool) → (b && false) ≡ false
+and-false true = refl
+and-false false = refl
+
+-- a text that isn't the one that keeps puts its value
+is_keep-other : (s : Layout) (text : List ℕ) → (s.version ≡ 2 → text ≢ codes "\\=") → is_keep s text ≡ false
+is_keep-other s text other = by (may_amend s) refl
+  where
+    by : (b : Bool) → may_amend s ≡ b → is_keep s text ≡ false
+    by false never = ap (λ c. c && bytes_eq text keep_text) never
+    by true may =
+        ap (λ c. may_amend s && c)
+        (bytes_eq-other text keep_text (λ same. other (eqb-true s.version 2 may) (sym same)))
+        ∙ and-false (may_amend s)
+
+-- a value that a dimension may have is written as a field that spells it
+dimension_of-text : (value : Option (List ℕ)) → is_dimension_value value ≡ true
+    → dimension_of (dimension_text value) ≡ value
+dimension_of-text None lawful = refl
+dimension_of-text (Some text) lawful =
+    ap (λ (b : Bool). if b then None else Some text) (not-true (bytes_eq text null_text) lawful)
+
+is_keep-dimension : (s : Layout) (value : Option (List ℕ)) → HasField s value → is_keep s (dimension_text value) ≡ false
+is_keep-dimension s None has = and-false (may_amend s)
+is_keep-dimension s (Some text) has = is_keep-other s text has.1
+
+-- what stands for null and what keeps are text
+backslash-IsAscii : (byte : ℕ) → byte < 128 → IsAscii (92 ∷ byte ∷ [])
+backslash-IsAscii byte below zero = omega arith
+backslash-IsAscii byte below (suc zero) = below
+backslash-IsAscii byte below (suc (suc i)) = omega arith
+
+is_utf8-backslash : (byte : ℕ) → byte < 128 → is_utf8 (92 ∷ byte ∷ []) ≡ true
+is_utf8-backslash byte below = is_utf8-from_IsUtf8 _ (IsUtf8-from_ascii _ (backslash-IsAscii byte below))
+
+is_utf8-null : is_utf8 (codes "\\N") ≡ true
+is_utf8-null = is_utf8-backslash 78 (omega arith)
+
+is_utf8-keep : is_utf8 (codes "\\=") ≡ true
+is_utf8-keep = is_utf8-backslash 61 (omega arith)
+
+is_utf8-dimension : (s : Layout) (value : Option (List ℕ)) → HasField s value → is_utf8 (dimension_text value) ≡ true
+is_utf8-dimension s None has = is_utf8-null
+is_utf8-dimension s (Some text) has = has.0
+
+-- and so is one of a measure
+is_keep-measure : (s : Layout) (value : Option ℤ) → HasNumber value → is_keep s (measure_text value) ≡ false
+is_keep-measure s None has = and-false (may_amend s)
+is_keep-measure s (Some value) has =
+    ap (λ c. may_amend s && c) (signed_decimal-no_backslash value (61 ∷ []) has) ∙ and-false (may_amend s)
+
+measure_of-text : (value : Option ℤ) → HasNumber value → measure_of (measure_text value) ≡ Some value
+measure_of-text None has = refl
+measure_of-text (Some value) has =
+    ap (λ (b : Bool). if b then Some None else option_map Some (number_of (signed_decimal value)))
+    (signed_decimal-no_backslash value (78 ∷ []) has)
+    ∙ ap (option_map Some) (number_of-signed_decimal value has)
+
+is_utf8-measure : (value : Option ℤ) → HasNumber value → is_utf8 (measure_text value) ≡ true
+is_utf8-measure None has = is_utf8-null
+is_utf8-measure (Some value) has = is_utf8-signed_decimal value has
+
+-- a field of an amendment too; only feeds of version 2 have a field that keeps
+dimension_field_of-text : (s : Layout) (field : Field (Option (List ℕ))) → may_amend s ≡ true
+    → puts_dimension_value field ≡ true → Puts (HasField s) field
+    → dimension_field_of s (put_text dimension_text field) ≡ field
+dimension_field_of-text s Keep may lawful has =
+    ap (λ (b : Bool). if b && true then Keep else Put (dimension_of (codes "\\="))) may
+dimension_field_of-text s (Put value) may lawful has =
+    ap (λ (b : Bool). if b then Keep else Put (dimension_of (dimension_text value))) (is_keep-dimension s value has)
+    ∙ ap Put (dimension_of-text value lawful)
+
+measure_field_of-text : (s : Layout) (field : Field (Option ℤ)) → may_amend s ≡ true → Puts HasNumber field
+    → measure_field_of s (put_text measure_text field) ≡ Some field
+measure_field_of-text s Keep may has =
+    ap (λ (b : Bool). if b && true then Some Keep else option_map Put (measure_of (codes "\\="))) may
+measure_field_of-text s (Put value) may has =
+    ap (λ (b : Bool). if b then Some Keep else option_map Put (measure_of (measure_text value)))
+    (is_keep-measure s value has)
+    ∙ ap (option_map Put) (measure_of-text value has)
+
+-- a value's field, where none keeps
+measure_field_of-value : (s : Layout) (value : Option ℤ) → HasNumber value
+    → measure_field_of s (measure_text value) ≡ Some (Put value)
+measure_field_of-value s value has =
+    ap (λ (b : Bool). if b then Some Keep else option_map Put (measure_of (measure_text value)))
+    (is_keep-measure s value has)
+    ∙ ap (option_map Put) (measure_of-text value has)
+
+-- ---- lists of fields
+list_all-each : {X Y : Type 0} (f : X → Y) (p : Y → Bool) (P : X → Type 0) → ((x : X) → P x → p (f x) ≡ true)
+    → (xs : List X) → AllByRecursion P xs → list_all p (map f xs) ≡ true
+list_all-each f p P each [] all = refl
+list_all-each f p P each (x ∷ xs) all =
+    and_from (p (f x)) (list_all p (map f xs)) (each x all.0) (list_all-each f p P each xs all.1)
+
+list_any-none : {X Y : Type 0} (f : X → Y) (p : Y → Bool) (P : X → Type 0) → ((x : X) → P x → p (f x) ≡ false)
+    → (xs : List X) → AllByRecursion P xs → list_any p (map f xs) ≡ false
+list_any-none f p P each [] all = refl
+list_any-none f p P each (x ∷ xs) all =
+    ap (λ b. b || list_any p (map f xs)) (each x all.0) ∙ list_any-none f p P each xs all.1
+
+map-back : {X Y : Type 0} (f : X → Y) (g : Y → X) (P : X → Type 0) (p : X → Bool)
+    → ((x : X) → P x → p x ≡ true → g (f x) ≡ x)
+    → (xs : List X) → AllByRecursion P xs → list_all p xs ≡ true → map g (map f xs) ≡ xs
+map-back f g P p each [] all passes = refl
+map-back f g P p each (x ∷ xs) all passes =
+    let parts = and_parts (p x) (list_all p xs) passes in
+    ap₂ (λ y ys. y ∷ ys) (each x all.0 parts.0) (map-back f g P p each xs all.1 parts.1)
+
+filter_map-back : {X Y : Type 0} (f : X → Y) (g : Y → Option X) (P : X → Type 0)
+    → ((x : X) → P x → g (f x) ≡ Some x)
+    → (xs : List X) → AllByRecursion P xs → filter_map g (map f xs) ≡ xs
+filter_map-back f g P each [] all = refl
+filter_map-back f g P each (x ∷ xs) all =
+    λ i. cons_option (each x all.0 i) (filter_map-back f g P each xs all.1 i)
+
+-- ---- one record
+-- the fields of the dimensions and of the measures of a record
+dimension_fields-with : (s : Layout) (operation id : List ℕ) (dimensions measures : List (List ℕ))
+    → length dimensions ≡ length s.dimensions
+    → dimension_fields s (record_with operation id dimensions measures) ≡ dimensions
+dimension_fields-with s operation id dimensions measures wide =
+    ap (λ n. take n (dimensions ++ measures)) (sym wide) ∙ take-append_seam dimensions measures
+
+measure_fields-with : (s : Layout) (operation id : List ℕ) (dimensions measures : List (List ℕ))
+    → length dimensions ≡ length s.dimensions
+    → measure_fields s (record_with operation id dimensions measures) ≡ measures
+measure_fields-with s operation id dimensions measures wide =
+    sym (drop-drop (length s.dimensions) 2 (record_with operation id dimensions measures))
+    ∙ ap (λ n. drop n (dimensions ++ measures)) (sym wide) ∙ drop-append_seam dimensions measures
+
+-- a record whose fields are lawful has no fault
+unless_at_fault-none : (s : Layout) (operation id : List ℕ) (dimensions measures : List (List ℕ))
+    (change : Result Change LineFault)
+    → length dimensions ≡ length s.dimensions → length measures ≡ length s.measures → is_id id ≡ true
+    → is_utf8 id ≡ true → list_all is_utf8 dimensions ≡ true → list_all is_utf8 measures ≡ true
+    → list_all (is_measure s) measures ≡ true
+    → unless_at_fault change s (record_with operation id dimensions measures) ≡ change
+unless_at_fault-none s operation id dimensions measures change wide deep named text texts numbers lawful =
+    let fields : List (List ℕ) = record_with operation id dimensions measures in
+    let last : Result Change LineFault =
+    if not (list_all (is_measure s) (measure_fields s fields)) then Err fault.Measure else change in
+    let third : Result Change LineFault = if length (field_at fields 1) == 0 then Err fault.Id else last in
+    let second : Result Change LineFault =
+    if not (list_all is_utf8 (drop 1 fields)) then Err fault.Text else third in
+    ap (λ (b : Bool). if not b then Err fault.Fields else second)
+    (eq-eqb (length fields) (width_of s) (omega (arith, wide, deep, length-append dimensions measures)))
+    ∙ ap (λ (b : Bool). if not b then Err fault.Text else third)
+    (and_from (is_utf8 id) (list_all is_utf8 (dimensions ++ measures)) text
+    (list_all-append is_utf8 dimensions measures
+    ∙ and_from (list_all is_utf8 dimensions) (list_all is_utf8 measures) texts numbers))
+    ∙ ap (λ (b : Bool). if b then Err fault.Id else last) (not-true (length id == 0) named)
+    ∙ ap (λ (b : Bool). if not b then Err fault.Measure else change)
+    (ap (list_all (is_measure s)) (measure_fields-with s operation id dimensions measures wide) ∙ lawful)
+
+-- a fact's record
+record AreFactFields (s : Layout) (id : List ℕ) (fact : Fact) : Type 0 where
+  wide : length (map dimension_text fact.dims) ≡ length s.dimensions
+  deep : length (map measure_text fact.measures) ≡ length s.measures
+  texts : list_all is_utf8 (map dimension_text fact.dims) ≡ true
+  numbers : list_all is_utf8 (map measure_text fact.measures) ≡ true
+  lawful : list_all (is_measure s) (map measure_text fact.measures) ≡ true
+  keeps_none : list_any (is_keep s) (map dimension_text fact.dims ++ map measure_text fact.measures) ≡ false
+  spelled : (operation : List ℕ)
+      → fact_of s (record_with operation id (map dimension_text fact.dims) (map measure_text fact.measures)) ≡ fact
+
+AreFactFields-fits : (s : Layout) (id : List ℕ) (fact : Fact) → fits s fact ≡ true
+    → AllByRecursion (HasField s) fact.dims → AllByRecursion HasNumber fact.measures → AreFactFields s id fact
+AreFactFields-fits s id fact fit dims measures =
+    let parts = and_parts ((length fact.dims == length s.dimensions) && (length fact.measures == length s.measures))
+    (list_all is_dimension_value fact.dims) fit in
+    let sizes =
+    and_parts (length fact.dims == length s.dimensions) (length fact.measures == length s.measures) parts.0 in
+    let wide : length (map dimension_text fact.dims) ≡ length s.dimensions =
+    length-map fact.dims dimension_text ∙ eqb-true (length fact.dims) (length s.dimensions) sizes.0 in
+    record {
+      wide = wide;
+      deep = length-map fact.measures measure_text ∙ eqb-true (length fact.measures) (length s.measures) sizes.1;
+      texts = list_all-each dimension_text is_utf8 (HasField s) (is_utf8-dimension s) fact.dims dims;
+      numbers = list_all-each measure_text is_utf8 HasNumber is_utf8-measure fact.measures measures;
+      lawful = list_all-each measure_text (is_measure s) HasNumber
+          (λ value has. ap is_some (measure_field_of-value s value has)) fact.measures measures;
+      keeps_none = list_any-append (is_keep s) (map dimension_text fact.dims) (map measure_text fact.measures)
+          ∙ ap₂ (λ a b. a || b)
+          (list_any-none dimension_text (is_keep s) (HasField s) (is_keep-dimension s) fact.dims dims)
+          (list_any-none measure_text (is_keep s) HasNumber (is_keep-measure s) fact.measures measures);
+      spelled = λ operation. ap₂ (λ values numbers.
+          let found : Fact = record { dims = values; measures = numbers } in found)
+          (ap (map dimension_of) (dimension_fields-with s operation id (map dimension_text fact.dims)
+          (map measure_text fact.measures) wide)
+          ∙ map-back dimension_text dimension_of (HasField s) is_dimension_value
+          (λ value has lawful. dimension_of-text value lawful) fact.dims dims parts.1)
+          (ap (filter_map measure_of) (measure_fields-with s operation id (map dimension_text fact.dims)
+          (map measure_text fact.measures) wide)
+          ∙ filter_map-back measure_text measure_of HasNumber measure_of-text fact.measures measures);
+    }
+
+change_of-Insert : (s : Layout) (id : List ℕ) (fact : Fact) → CanBeSpelled s (Insert id fact)
+    → change_of s (record_for (Insert id fact)) ≡ Ok (Insert id fact)
+change_of-Insert s id fact can =
+    let taken = and_parts (is_id id) (fits s fact) can.taken in
+    let has = AreFactFields-fits s id fact taken.1 can.has_record.1 can.has_record.2 in
+    let fields : List (List ℕ) = record_for (Insert id fact) in
+    unless_at_fault-none s (codes "I") id (map dimension_text fact.dims) (map measure_text fact.measures)
+    (insert_of s fields) has.wide has.deep taken.0 can.has_record.0 has.texts has.numbers has.lawful
+    ∙ ap (λ (b : Bool). if b then Err fault.Keep else Ok (Insert id (fact_of s fields))) has.keeps_none
+    ∙ ap (λ (f : Fact). Ok (Insert id f)) (has.spelled (codes "I"))
+
+change_of-Update : (s : Layout) (id : List ℕ) (fact : Fact) → CanBeSpelled s (Update id fact)
+    → change_of s (record_for (Update id fact)) ≡ Ok (Update id fact)
+change_of-Update s id fact can =
+    let taken = and_parts (is_id id) (fits s fact) can.taken in
+    let has = AreFactFields-fits s id fact taken.1 can.has_record.1 can.has_record.2 in
+    let fields : List (List ℕ) = record_for (Update id fact) in
+    unless_at_fault-none s (codes "U") id (map dimension_text fact.dims) (map measure_text fact.measures)
+    (update_of s fields) has.wide has.deep taken.0 can.has_record.0 has.texts has.numbers has.lawful
+    ∙ ap (λ (b : Bool). if b then Ok (Amend id (amendment_of s fields)) else Ok (Update id (fact_of s fields)))
+    has.keeps_none
+    ∙ ap (λ (f : Fact). Ok (Update id f)) (has.spelled (codes "U"))
+
+-- a delete's record
+change_of-Delete : (s : Layout) (id : List ℕ) → CanBeSpelled s (Delete id)
+    → change_of s (record_for (Delete id)) ≡ Ok (Delete id)
+change_of-Delete s id can =
+    let named : Result Change LineFault = if length id == 0 then Err fault.Id else Ok (Delete id) in
+    ap (λ (b : Bool). if not b then Err fault.Text else named) can.has_record
+    ∙ ap (λ (b : Bool). if b then Err fault.Id else Ok (Delete id)) (not-true (length id == 0) can.taken)
+
+-- an amendment's record: a field that is kept is one that keeps
+keeps-kept : {A : Type 0} (s : Layout) (text : A → List ℕ) (fields : List (Field A)) → may_amend s ≡ true
+    → list_any is_kept fields ≡ true → list_any (is_keep s) (map (put_text text) fields) ≡ true
+keeps-kept s text [] may some = some
+keeps-kept s text (Keep ∷ fields) may some =
+    ap (λ (b : Bool). (b && true) || list_any (is_keep s) (map (put_text text) fields)) may
+keeps-kept s text (Put value ∷ fields) may some = or_right _ _ (keeps-kept s text fields may some)
+
+change_of-Amend : (s : Layout) (id : List ℕ) (part : Partial) → CanBeSpelled s (Amend id part)
+    → change_of s (record_for (Amend id part)) ≡ Ok (Amend id part)
+change_of-Amend s id part can =
+    let both = and_parts (may_amend s && is_id id) (fits_part s part) can.taken in
+    let first = and_parts (may_amend s) (is_id id) both.0 in
+    let may = first.0 in
+    let parts = and_parts ((length part.dims == length s.dimensions) && (length part.measures == length s.measures))
+    (list_all puts_dimension_value part.dims) both.1 in
+    let sizes =
+    and_parts (length part.dims == length s.dimensions) (length part.measures == length s.measures) parts.0 in
+    let dimensions : List (List ℕ) = map (put_text dimension_text) part.dims in
+    let measures : List (List ℕ) = map (put_text measure_text) part.measures in
+    let fields : List (List ℕ) = record_with (codes "U") id dimensions measures in
+    let wide : length dimensions ≡ length s.dimensions =
+    length-map part.dims (put_text dimension_text) ∙ eqb-true (length part.dims) (length s.dimensions) sizes.0 in
+    let deep : length measures ≡ length s.measures =
+    length-map part.measures (put_text measure_text)
+    ∙ eqb-true (length part.measures) (length s.measures) sizes.1 in
+    let keeps : list_any (is_keep s) (dimensions ++ measures) ≡ true =
+    list_any-append (is_keep s) dimensions measures
+    ∙ elim (or_cases (list_any is_kept part.dims) (list_any is_kept part.measures) can.has_record.3) [
+      | inl some ↦ ap (λ b. b || list_any (is_keep s) measures) (keeps-kept s dimension_text part.dims may some)
+      | inr some ↦ or_right (list_any (is_keep s) dimensions) (list_any (is_keep s) measures)
+          (keeps-kept s measure_text part.measures may some)
+    ] in
+    unless_at_fault-none s (codes "U") id dimensions measures (update_of s fields) wide deep first.1 can.has_record.0
+    (list_all-each (put_text dimension_text) is_utf8 (Puts (HasField s)) put-dimension part.dims can.has_record.1)
+    (list_all-each (put_text measure_text) is_utf8 (Puts HasNumber) put-measure part.measures can.has_record.2)
+    (list_all-each (put_text measure_text) (is_measure s) (Puts HasNumber)
+    (λ field has. ap is_some (measure_field_of-text s field may has)) part.measures can.has_record.2)
+    ∙ ap (λ (b : Bool). if b then Ok (Amend id (amendment_of s fields)) else Ok (Update id (fact_of s fields))) keeps
+    ∙ ap₂ (λ values numbers. let found : Partial = record { dims = values; measures = numbers } in Ok (Amend id found))
+    (ap (map (dimension_field_of s)) (dimension_fields-with s (codes "U") id dimensions measures wide)
+    ∙ map-back (put_text dimension_text) (dimension_field_of s) (Puts (HasField s)) puts_dimension_value
+    (λ field has lawful. dimension_field_of-text s field may lawful has) part.dims can.has_record.1 parts.1)
+    (ap (filter_map (measure_field_of s)) (measure_fields-with s (codes "U") id dimensions measures wide)
+    ∙ filter_map-back (put_text measure_text) (measure_field_of s) (Puts HasNumber)
+    (λ field has. measure_field_of-text s field may has) part.measures can.has_record.2)
+  where
+    put-dimension : (field : Field (Option (List ℕ))) → Puts (HasField s) field
+        → is_utf8 (put_text dimension_text field) ≡ true
+    put-dimension Keep has = is_utf8-keep
+    put-dimension (Put value) has = is_utf8-dimension s value has
+
+    put-measure : (field : Field (Option ℤ)) → Puts HasNumber field → is_utf8 (put_text measure_text field) ≡ true
+    put-measure Keep has = is_utf8-keep
+    put-measure (Put value) has = is_utf8-measure value has
+
+pub change_of-record_for : (s : Layout) (change : Change) → CanBeSpelled s change
+    → change_of s (record_for change) ≡ Ok change
+change_of-record_for s (Insert id fact) can = change_of-Insert s id fact can
+change_of-record_for s (Update id fact) can = change_of-Update s id fact can
+change_of-record_for s (Amend id part) can = change_of-Amend s id part can
+change_of-record_for s (Delete id) can = change_of-Delete s id can
+
+-- ---- a whole feed
+whole-is_read : (s : Layout) (fields : List (List ℕ)) → s.shard ≡ whole_feed → is_read s fields ≡ true
+whole-is_read s fields whole =
+    ap (λ shard. is_in_shard shard (field_at fields 1)) whole
+    ∙ eq-eqb (fnv_hash (field_at fields 1) % 1) 0 (omega arith)
+
+no_more : RestOfFeed FeedEnd
+no_more = record { items = []; end = TooManyRecords }
+
+items_after-record_for : (s : Layout) (changes : List Change) (number : ℕ) → s.shard ≡ whole_feed
+    → number + length changes ≤ s.max_records → AllByRecursion (CanBeSpelled s) changes
+    → items_after s number (map record_for changes) ≡ record { items = numbered (number + 1) changes; end = Good }
+unfolding no_more
+items_after-record_for s [] number whole few all = refl
+items_after-record_for s (change ∷ changes) number whole few all =
+    let fields : List (List ℕ) = record_for change in
+    let item : Item = record { number = number + 1; what = change_of s fields } in
+    let rest : RestOfFeed FeedEnd = items_after s (number + 1) (map record_for changes) in
+    ap (λ (b : Bool). if b then (if is_read s fields then item_then item rest else rest) else no_more)
+    (lt-ltb number s.max_records (omega (arith, few)))
+    ∙ ap (λ (b : Bool). if b then item_then item rest else rest) (whole-is_read s fields whole)
+    ∙ ap₂ (λ (what : Result Change LineFault) (more : RestOfFeed FeedEnd).
+    item_then (record { number = number + 1; what = what }) more)
+    (change_of-record_for s change all.0)
+    (items_after-record_for s changes (number + 1) whole (omega (arith, few)) all.1)
+
+same_fields-itself : (fields : List (List ℕ)) → same_fields fields fields ≡ true
+same_fields-itself [] = refl
+same_fields-itself (field ∷ fields) =
+    and_from (bytes_eq field field) (same_fields fields fields) (bytes_eq-itself field) (same_fields-itself fields)
+
+is_header-header_for : (s : Layout) → is_header s (header_for s) ≡ true
+is_header-header_for s =
+    ap (λ b. b || same_fields (header_for s) ((byte_order_mark ++ codes "op") ∷ column_names s))
+    (same_fields-itself (header_for s))
+
+-- each line has a field
+some_field : (changes : List Change) → AllByRecursion (λ fields. 1 ≤ length fields) (map record_for changes)
+some_field [] = tt
+some_field (change ∷ changes) = (each change, some_field changes)
+  where
+    each : (c : Change) → 1 ≤ length (record_for c)
+    each (Insert id fact) = omega arith
+    each (Update id fact) = omega arith
+    each (Amend id part) = omega arith
+    each (Delete id) = omega arith
+
+-- the text of the header begins with `o`
+records_of-feed : (s : Layout) (lines : List (List (List ℕ))) → AllByRecursion (λ fields. 1 ≤ length fields) lines
+    → records_of (flat_map line (header_for s ∷ lines)) ≡ header_for s ∷ lines
+records_of-feed s lines all =
+    records_of-other 111 _ (λ is. omega arith) ∙ records-line (header_for s ∷ lines) (omega arith, all)
+
+pub items_of-record_for : (s : Layout) (changes : List Change) → s.shard ≡ whole_feed
+    → length changes ≤ s.max_records → AllByRecursion (CanBeSpelled s) changes
+    → items_of s (records_of (flat_map line (header_for s ∷ map record_for changes)))
+    ≡ record { items = numbered 1 changes; end = Good }
+items_of-record_for s changes whole few all =
+    let wrong : RestOfFeed FeedEnd = record { items = []; end = WrongHeader } in
+    ap (items_of s) (records_of-feed s (map record_for changes) (some_field changes))
+    ∙ ap (λ (b : Bool). if b then items_after s 0 (map record_for changes) else wrong) (is_header-header_for s)
+    ∙ items_after-record_for s changes 0 whole (omega (arith, few)) all
+
+-- ---- how much a feed gives
+items_after-at_most : (s : Layout) (number : ℕ) (records : List (List (List ℕ))) → number ≤ s.max_records
+    → number + length (items_after s number records).items ≤ s.max_records
+items_after-at_most s number [] within = omega (arith, within)
+items_after-at_most s number (fields ∷ records) within =
+    let item : Item = record { number = number + 1; what = change_of s fields } in
+    let rest : RestOfFeed FeedEnd = items_after s (number + 1) records in
+    let past : RestOfFeed FeedEnd = record { items = []; end = TooManyRecords } in
+    elim (cases_Bool (nat_lt number s.max_records)) [
+      | inl room ↦
+          let below : number < s.max_records = ltb-true number s.max_records room in
+          let more = items_after-at_most s (number + 1) records (omega (arith, below)) in
+          subst (λ (b : Bool). number + length (if b then (if is_read s fields then item_then item rest else rest)
+          else past).items ≤ s.max_records) (sym room) (elim (cases_Bool (is_read s fields)) [
+            | inl read ↦ subst (λ (b : Bool). number + length (if b then item_then item rest else rest).items
+                ≤ s.max_records) (sym read) (omega (arith, more))
+            | inr other ↦ subst (λ (b : Bool). number + length (if b then item_then item rest else rest).items
+                ≤ s.max_records) (sym other) (omega (arith, more))
+          ])
+      | inr full ↦
+          subst (λ (b : Bool). number + length (if b then (if is_read s fields then item_then item rest else rest)
+          else past).items ≤ s.max_records) (sym full) (omega (arith, within))
+    ]
+
+pub items_of-at_most : (s : Layout) (records : List (List (List ℕ))) → length (items_of s records).items ≤ s.max_records
+items_of-at_most s [] = omega arith
+items_of-at_most s (header ∷ records) =
+    let wrong : RestOfFeed FeedEnd = record { items = []; end = WrongHeader } in
+    elim (cases_Bool (is_header s header)) [
+      | inl right ↦
+          let more = items_after-at_most s 0 records (omega arith) in
+          subst (λ (b : Bool). length (if b then items_after s 0 records else wrong).items ≤ s.max_records)
+          (sym right) (omega (arith, more))
+      | inr other ↦
+          subst (λ (b : Bool). length (if b then items_after s 0 records else wrong).items ≤ s.max_records)
+          (sym other) (omega arith)
+    ]
+
+-- a feed is good where its records are so few
+items_after-Good : (s : Layout) (number : ℕ) (records : List (List (List ℕ))) → number ≤ s.max_records
+    → ((items_after s number records).end ≡ Good) ↔ (number + length records ≤ s.max_records)
+items_after-Good s number [] within = (λ good. omega (arith, within), λ few. refl)
+items_after-Good s number (fields ∷ records) within =
+    let item : Item = record { number = number + 1; what = change_of s fields } in
+    let rest : RestOfFeed FeedEnd = items_after s (number + 1) records in
+    let past : RestOfFeed FeedEnd = record { items = []; end = TooManyRecords } in
+    let all : Bool → RestOfFeed FeedEnd =
+    λ b. if b then (if is_read s fields then item_then item rest else rest) else past in
+    elim (cases_Bool (nat_lt number s.max_records)) [
+      | inl room ↦
+          let below : number < s.max_records = ltb-true number s.max_records room in
+          let more = items_after-Good s (number + 1) records (omega (arith, below)) in
+          let same : (all (nat_lt number s.max_records)).end ≡ rest.end =
+          ap (λ (b : Bool). (all b).end) room ∙ end-same item rest (is_read s fields) in (
+            λ good. let fewer = more.0 (sym same ∙ good) in omega (arith, fewer),
+            λ few. same ∙ more.1 (omega (arith, few)),
+          )
+      | inr full ↦
+          let same : (all (nat_lt number s.max_records)).end ≡ TooManyRecords = ap (λ (b : Bool). (all b).end) full in (
+            λ good. absurd (apart (sym same ∙ good)),
+            λ few. absurd (false≢true (sym full ∙ lt-ltb number s.max_records (omega (arith, few)))),
+          )
+    ]
+  where
+    end-same : (item : Item) (rest : RestOfFeed FeedEnd) (b : Bool)
+        → (if b then item_then item rest else rest).end ≡ rest.end
+    end-same item rest true = refl
+    end-same item rest false = refl
+
+    apart : TooManyRecords ≡ Good → ⊥
+    apart same = cc
+
+pub IsGoodFeed-some : (s : Layout) (header : List (List ℕ)) (records : List (List (List ℕ)))
+    → IsGoodFeed s (header ∷ records) ↔ ((is_header s header ≡ true) × (length records ≤ s.max_records))
+IsGoodFeed-some s header records =
+    let wrong : RestOfFeed FeedEnd = record { items = []; end = WrongHeader } in
+    let all : Bool → RestOfFeed FeedEnd = λ b. if b then items_after s 0 records else wrong in
+    let told = items_after-Good s 0 records (omega arith) in
+    elim (cases_Bool (is_header s header)) [
+      | inl right ↦
+          let same : (all (is_header s header)).end ≡ (items_after s 0 records).end =
+          ap (λ (b : Bool). (all b).end) right in (
+            λ good. (right, let few = told.0 (sym same ∙ good) in omega (arith, few)),
+            λ both. same ∙ told.1 (omega (arith, both.1)),
+          )
+      | inr other ↦
+          let same : (all (is_header s header)).end ≡ WrongHeader = ap (λ (b : Bool). (all b).end) other in
+          (λ good. absurd (apart (sym same ∙ good)), λ both. absurd (false≢true (sym other ∙ both.0)))
+    ]
+  where
+    apart : WrongHeader ≡ Good → ⊥
+    apart same = cc
+
+-- each change that a feed gives is taken
+abbrev IsTaken : Layout → Item → Type 0
+IsTaken s item = IfOk item.what (λ change. takes s change ≡ true)
+
+items_after-IsTaken : (s : Layout) (number : ℕ) (records : List (List (List ℕ)))
+    → AllByRecursion (IsTaken s) (items_after s number records).items
+items_after-IsTaken s number [] = tt
+items_after-IsTaken s number (fields ∷ records) =
+    let item : Item = record { number = number + 1; what = change_of s fields } in
+    let rest : RestOfFeed FeedEnd = items_after s (number + 1) records in
+    by item rest (takes-change_of s fields) (items_after-IsTaken s (number + 1) records)
+    (nat_lt number s.max_records) (is_read s fields)
+  where
+    by : (item : Item) (rest : RestOfFeed FeedEnd) → IsTaken s item → AllByRecursion (IsTaken s) rest.items
+        → (room read : Bool) → AllByRecursion (IsTaken s)
+        (if room then (if read then item_then item rest else rest)
+        else (let past : RestOfFeed FeedEnd = record { items = []; end = TooManyRecords } in past)).items
+    by item rest one all true true = (one, all)
+    by item rest one all true false = all
+    by item rest one all false read = tt
+
+pub items_of-IsTaken : (s : Layout) (records : List (List (List ℕ)))
+    → AllByRecursion (IsTaken s) (items_of s records).items
+items_of-IsTaken s [] = tt
+items_of-IsTaken s (header ∷ records) = by (is_header s header)
+  where
+    by : (right : Bool) → AllByRecursion (IsTaken s)
+        (if right then items_after s 0 records
+        else (let wrong : RestOfFeed FeedEnd = record { items = []; end = WrongHeader } in wrong)).items
+    by true = items_after-IsTaken s 0 records
+    by false = tt

@@ -1,0 +1,5 @@
+use Rattle.cube_laws.proofs.AskedLaws.{matches-pattern_for, cell_of-pattern_for, slice-row}
+use Rattle.cube_laws.proofs.queries.slice_by_a_cell_is_its_row.Goals as goal
+
+pub returns : goal.returns
+returns c = record { matched = matches-pattern_for; cell = cell_of-pattern_for; row = slice-row }

@@ -1,0 +1,40 @@
+//! What a feed gives: a written one is read back, and none gives more than its schema takes (this project's choice of a change
+//! feed).
+ghost use Rattle.std.specs.Prelude.{◌≡◌, ◌↔◌, ◌≤◌, ℕ, true, List, [], ◌∷◌, length, map, IfOk};
+ghost use Rattle.std.specs.List.{AllByRecursion, flat_map};
+ghost use Rattle.cube_core.specs.Items.{Good, IsGoodFeed, change_of, is_header, items_of};
+ghost use Rattle.cube_core.specs.Layout.{Layout};
+ghost use Rattle.cube_core.specs.Records.{records_of};
+ghost use Rattle.cube_core.specs.Shard.{whole_feed};
+ghost use Rattle.cube_core.specs.Takes.{takes};
+ghost use Rattle.cube_core.specs.Text.{line};
+ghost use Rattle.cube_laws.specs.Feeds.{CanBeSpelled, header_for, numbered, record_for};
+ghost use Rattle.std.specs.Prelude.{Ok};
+ghost use Rattle.cube_core.specs.declared.change.Change.{Change};
+
+/// A feed that writes changes which the schema takes is read as these changes, in their order, numbered from 1, and is good: no
+/// change that can be written is refused or taken for another (this project's choice).
+pub fn written_feed_is_read()
+    ensures change { (s : Layout) (change : Change) → CanBeSpelled s change → change_of s (record_for change) ≡ Ok change }
+    ensures feed { (s : Layout) (changes : List Change) →
+        s.shard ≡ whole_feed → length changes ≤ s.max_records → AllByRecursion (CanBeSpelled s) changes →
+        items_of s (records_of (flat_map line (header_for s ∷ map record_for changes)))
+        ≡ record { items = numbered 1 changes; end = Good } }
+{}
+
+/// A feed is good exactly where it has no record, or the header first and at most `max_records` records after it; and whatever it
+/// has, it gives no more items than that (this project's choice).
+pub fn feed_has_a_header_and_so_many_records()
+    ensures none { (s : Layout) → IsGoodFeed s [] }
+    ensures some { (s : Layout) (header : List (List ℕ)) (records : List (List (List ℕ))) →
+        IsGoodFeed s (header ∷ records) ↔ ((is_header s header ≡ true) × (length records ≤ s.max_records)) }
+    ensures at_most { (s : Layout) (records : List (List (List ℕ))) →
+        length (items_of s records).items ≤ s.max_records }
+{}
+
+/// Each change that a feed gives is one that its schema takes, so that none of a feed is refused because the schema doesn't
+/// take it (this project's choice).
+pub fn feeds_give_what_the_schema_takes()
+    ensures { (s : Layout) (records : List (List (List ℕ))) →
+        AllByRecursion (λ item. IfOk item.what (λ change. takes s change ≡ true)) (items_of s records).items }
+{}
