@@ -66,7 +66,8 @@ D4
 D5
 D6
 D7
-D8'
+D8
+D9'
 
 _datacube() {
     local word=${COMP_WORDS[COMP_CWORD]} command=${COMP_WORDS[1]} words IFS=$' \t\n'
