@@ -9,6 +9,7 @@ a command line are its own, and it meets no want of memory.
 
 A feed is a list of records, each a list of fields (bytes). `encode` writes a feed as CSV, `records_of` reads one.
 """
+import hashlib
 import itertools
 import math
 import os
@@ -34,6 +35,15 @@ class Failure(Exception):
     def __init__(self, line, status):
         super().__init__(line)
         self.line, self.status = line, status
+
+
+def digests_of(rows):
+    """The digests of a store's rows, each a number, a source and a record, in their order."""
+    digests, before = [], bytes(32)
+    for number, source, record in rows:
+        before = hashlib.sha256(before + number.to_bytes(8, "big") + source.to_bytes(8, "big") + record).digest()
+        digests.append(before)
+    return digests
 
 
 class Schema:

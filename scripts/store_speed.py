@@ -6,7 +6,7 @@
 One change and one answer are timed from the first byte to the answer's last, over a store without a row; a sync of the
 disk is timed beside it. Changes in bulk come with one question behind them, with a store and without; what they take
 more with it is what storing them takes. A start over as many stored changes is timed until its first answer, beside one
-that has them in a feed. SQLite has the same rows in the same table, in a log (WAL) that each commit syncs.
+that has them in a feed. SQLite has the same rows in the same table, with digests that were made before, in a log (WAL) that each commit syncs.
 """
 import argparse
 import os
@@ -18,10 +18,11 @@ import time
 
 sys.dont_write_bytecode = True
 from live_speed import Session
+from oracle import digests_of
 
 SCHEMA = 'dimensions = ["place", "kind"]\nmeasures = ["amount"]\naggregates = ["count(*)", "sum(amount)"]\nmax_records = 2000000000\n'
 ASKS = b"rollup,place,\\A,\\A\n"
-TABLE = "CREATE TABLE changes(number INTEGER PRIMARY KEY, source INTEGER NOT NULL, record BLOB NOT NULL)"
+TABLE = "CREATE TABLE changes(number INTEGER PRIMARY KEY, source INTEGER NOT NULL, record BLOB NOT NULL, digest BLOB NOT NULL)"
 
 
 def change(number):
@@ -83,12 +84,18 @@ def opened(path):
     return base
 
 
+def rows_of(count):
+    """So many rows as a store has them, with their digests."""
+    rows = [(number + 1, 1, change(number)[:-1]) for number in range(count)]
+    return [(*row, digest) for row, digest in zip(rows, digests_of(rows))]
+
+
 def sqlite_one_by_one(path, times):
     """What SQLite takes for a row and a commit."""
     base, seconds = opened(path), []
-    for number in range(times):
+    for row in rows_of(times):
         start = time.perf_counter()
-        base.execute("INSERT INTO changes VALUES (?, 1, ?)", (number + 1, change(number)[:-1]))
+        base.execute("INSERT INTO changes VALUES (?, ?, ?, ?)", row)
         seconds.append(time.perf_counter() - start)
     base.close()
     return middle(seconds)
@@ -96,11 +103,11 @@ def sqlite_one_by_one(path, times):
 
 def sqlite_in_bulk(path, count):
     """The seconds that SQLite takes for many rows, with a commit after each 10,000."""
-    base, rows = opened(path), [(number + 1, 1, change(number)[:-1]) for number in range(count)]
+    base, rows = opened(path), rows_of(count)
     start = time.perf_counter()
     for first in range(0, count, 10_000):
         base.execute("BEGIN")
-        base.executemany("INSERT INTO changes VALUES (?, ?, ?)", rows[first : first + 10_000])
+        base.executemany("INSERT INTO changes VALUES (?, ?, ?, ?)", rows[first : first + 10_000])
         base.execute("COMMIT")
     seconds = time.perf_counter() - start
     base.close()

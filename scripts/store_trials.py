@@ -38,11 +38,14 @@ from store_rooms import FEEDS, SCHEMA, SOURCES, Changes, LeftOut, Room, Wrong, e
 PAGE = 4096
 QUESTIONS = [[b"refusals", b"1", b"0"], [b"rollup", b"place", b"\\A", b"\\A"], [b"slice", b"?", b"\\A"], [b"refusals"], [b"sync"]]
 # (what a start may say of a file that was spoiled)
-SPOILED = re.compile(r"D3|D4 \d+|D5 \d+|D6")
+SPOILED = re.compile(r"D3|D4 \d+|D5 \d+|D6|D9 \d+")
 TABLES = [
-    "CREATE TABLE changes(number INTEGER PRIMARY KEY, source INTEGER NOT NULL, record BLOB NOT NULL) STRICT",
+    "CREATE TABLE changes(number INTEGER PRIMARY KEY, source INTEGER NOT NULL, record BLOB NOT NULL, digest BLOB NOT NULL) STRICT",
     "CREATE TABLE feeds(source INTEGER PRIMARY KEY, length INTEGER NOT NULL, digest BLOB NOT NULL) STRICT",
 ]
+# (the table of changes that releases up to 1.11 made)
+OLD_TABLE = "CREATE TABLE changes(number INTEGER PRIMARY KEY, source INTEGER NOT NULL, record BLOB NOT NULL) STRICT"
+OLD_STORE = os.path.join(os.path.dirname(os.path.abspath(__file__)), "store_1_11.db")
 KNOWS_STRICT = sqlite3.sqlite_version_info >= (3, 37)
 
 
@@ -202,6 +205,7 @@ def see_file(room, name, records):
             expect(base.execute("PRAGMA page_size").fetchone(), (PAGE,), "the page size")
             expect(base.execute("SELECT sql FROM sqlite_schema ORDER BY name").fetchall(), [(it,) for it in TABLES], "the tables")
             rows = base.execute("SELECT number, source, record, typeof(record) FROM changes ORDER BY number").fetchall()
+            digests = [it[0] for it in base.execute("SELECT digest FROM changes ORDER BY number")]
             notes = base.execute("SELECT source, length, digest FROM feeds ORDER BY source").fetchall()
         finally:
             base.close()
@@ -209,6 +213,7 @@ def see_file(room, name, records):
     for at, (row, record) in enumerate(zip(rows, records), 1):
         expect(row, (at, int(record[0]), oracle.line_of(record)[:-1], "blob"), f"row {at}")
         expect(oracle.records_of(row[2]), [record], f"the fields of row {at}")
+    expect(digests, oracle.digests_of([row[:3] for row in rows]), "the digests of the rows")
     data = [SCHEMA.toml(), *map(feed_bytes, FEEDS)]
     expect(notes, [(at, len(it), hashlib.sha256(it).digest()) for at, it in enumerate(data)], "the notes on the feeds")
 
@@ -367,7 +372,7 @@ def cut_files(room, rng):
 
 
 def turned_bytes(room, rng):
-    """A store with a byte turned: it is noticed, or changes nothing, or lies in a page that has the content of rows."""
+    """A store with a byte turned: it is noticed, or changes nothing."""
     store, times = Spoiled(room, rng, 1200 if room.is_short else 6000), 1 if room.is_short else 6
     kinds = kinds_of(store.data)
     for page in range(store.pages()):
@@ -375,9 +380,63 @@ def turned_bytes(room, rng):
             place = page * PAGE + rng.randrange(PAGE)
             turned = bytes([store.data[place] ^ rng.randrange(1, 256)])
             said = store.start(store.data[:place] + turned + store.data[place + 1 :])
-            if said == "wrong" and kinds[page] != "changes":
+            if said == "wrong":
                 raise Wrong(f"byte {place}, in a page of {kinds[page]}, gives a wrong answer")
-    return f"{store.pages()} pages, {kinds.count('changes')} of them rows of changes: {store.told()}, each wrong one in such a page"
+    return f"{store.pages()} pages, {kinds.count('changes')} of them rows of changes: {store.told()}"
+
+
+def turned_rows(room, rng):
+    """A byte turned in the record, the digest, the source or the number of a row: the row is told, or the file is refused."""
+    store = Spoiled(room, rng, 400)
+    base = sqlite3.connect(room.path("whole.db"))
+    rows = base.execute("SELECT number, source, record, digest FROM changes ORDER BY number").fetchall()
+    base.close()
+    expect([row[3] for row in rows], oracle.digests_of([row[:3] for row in rows]), "the digests of the rows")
+    told = collections.Counter()
+    for number, source, record, digest in rng.sample(rows, 12 if room.is_short else 60):
+        end = store.data.index(digest)
+        start = end - len(record)
+        expect(store.data[start:end], record, f"the bytes before the digest of row {number}")
+        # The source of a row is the byte before its record, or a bit of the row's header where it is 1. Before that are the
+        # five bytes of the header, or six, and the row's number.
+        for what, place in (("record", rng.randrange(start, end)), ("digest", end + rng.randrange(32)), ("source", start - 1), ("head", start - rng.randrange(1, 10))):
+            data = bytearray(store.data)
+            data[place] ^= rng.randrange(1, 256)
+            room.remove("spoiled.db")
+            room.write("spoiled.db", bytes(data))
+            code, out, _ = refusal_of(room, room.words("spoiled.db"), b"print\nrefusals\n")
+            wanted = {"record": {f"D9 {number}"}, "digest": {f"D9 {number}"}, "source": {f"D9 {number}", f"D4 {number}", "D3", "D6"}}
+            near = re.fullmatch(r"D3|D6|D[49] \d+", code or "")
+            if code not in wanted[what] if what in wanted else not near:
+                raise Wrong(f"byte {place}, of the {what} of row {number}, gives {code}")
+            told[f"{what} {code.split()[0]}"] += 1
+    return ", ".join(f"{count} {name}" for name, count in sorted(told.items()))
+
+
+def old_store(room, rng):
+    """A store that release 1.11.5 made, without digests: it is taken as it is, and goes on so; a new one isn't taken for it."""
+    if not KNOWS_STRICT:
+        raise LeftOut("Python's SQLite doesn't know STRICT tables")
+    name = "old.db"
+    shutil.copyfile(OLD_STORE, room.path(name))
+    base = sqlite3.connect(room.path(name))
+    records = [oracle.records_of(bytes(it[0]))[0] for it in base.execute("SELECT record FROM changes ORDER BY number")]
+    base.close()
+    state = taken(oracle.Session(SCHEMA, FEEDS), records)
+    code, out, _ = refusal_of(room, room.words(name), b"print\nrefusals\n")
+    expect((code, out), (None, everything(state)), "a start over a store of 1.11.5")
+    more = [Changes(rng).next() for _ in range(60)]
+    live = room.open(name)
+    live.send(more)
+    ended_well(live, taken(state, more))
+    code, out, _ = refusal_of(room, room.words(name), b"print\nrefusals\n")
+    expect((code, out), (None, everything(state)), "the next start")
+    base = sqlite3.connect(room.path(name))
+    kept = base.execute("SELECT sql FROM sqlite_schema WHERE name = 'changes'").fetchall()
+    count = base.execute("SELECT count(*), max(number) FROM changes").fetchone()
+    base.close()
+    expect((kept, count), ([(OLD_TABLE,)], (len(records) + 60, len(records) + 60)), "its table of changes")
+    return f"{len(records)} rows, and 60 behind them"
 
 
 def kinds_of(data):
@@ -421,9 +480,17 @@ def changed_tables(room, rng):
         ("D3", "PRAGMA journal_mode=DELETE", "PRAGMA page_size=8192", "VACUUM"),
         ("D4 1", "DELETE FROM changes WHERE number = 1"),
         ("D4 17", "DELETE FROM changes WHERE number = 17"),
-        ("D4 301", "INSERT INTO changes SELECT 302, source, record FROM changes WHERE number = 1"),
-        ("D4 1", "INSERT INTO changes SELECT 0, source, record FROM changes WHERE number = 1"),
-        ("D4 1", "INSERT INTO changes SELECT -5, source, record FROM changes WHERE number = 1"),
+        ("D4 301", "INSERT INTO changes SELECT 302, source, record, digest FROM changes WHERE number = 1"),
+        ("D9 301", "INSERT INTO changes SELECT 301, source, record, digest FROM changes WHERE number = 1"),
+        ("D4 1", "INSERT INTO changes SELECT 0, source, record, digest FROM changes WHERE number = 1"),
+        ("D4 1", "INSERT INTO changes SELECT -5, source, record, digest FROM changes WHERE number = 1"),
+        ("D9 1", "UPDATE changes SET record = record || x'' , digest = zeroblob(32) WHERE number = 1"),
+        ("D9 40", "UPDATE changes SET digest = zeroblob(31) WHERE number = 40"),
+        ("D9 77", "UPDATE changes SET record = CAST('1,D,nobody at all' AS BLOB) WHERE number = 77"),
+        ("D9 78", "UPDATE changes SET source = source % 64 + 1 WHERE number = 78"),
+        ("D9 5", "UPDATE changes SET source = source % 64 + 1 WHERE number = 5", "DELETE FROM changes WHERE number = 9"),
+        ("D4 5", "DELETE FROM changes WHERE number = 5", "UPDATE changes SET digest = zeroblob(32) WHERE number = 9"),
+        ("D3", "ALTER TABLE changes DROP COLUMN digest"),
         ("D4 20", "UPDATE changes SET source = 65 WHERE number = 20"),
         ("D4 300", "UPDATE changes SET source = 0 WHERE number = 300"),
         ("D5 1", "UPDATE feeds SET length = length + 1 WHERE source = 1"),
@@ -552,6 +619,8 @@ def main():
         trials.trial("a full disk", full_disk)
         trials.trial("a file cut at each boundary of pages", cut_files)
         trials.trial("a byte turned in each page", turned_bytes)
+        trials.trial("a byte turned in each part of a row", turned_rows)
+        trials.trial("a store of release 1.11.5", old_store)
         trials.trial("tables and rows that SQLite changed", changed_tables)
         trials.trial("files that are no stores", no_stores)
         trials.trial("other feeds and another schema", other_feeds)

@@ -9,28 +9,36 @@ use Rattle.sqlite_trees.specs.View.{View, IsClean, IsReopened}
 use Rattle.cube_journal.specs.declared.fault.OpenFault.{OpenFault}
 use Rattle.cube_journal.specs.declared.fault.OpenFault.TheVariants as kind
 use Rattle.cube_journal.specs.Rows.{Entry, entries_in}
-use Rattle.cube_journal.specs.State.{Holds, HasTables, IsStore, IsFailedCall}
-use Rattle.cube_journal.proofs.RowLaws.{entries_of_rows}
+use Rattle.cube_journal.specs.State.{form_by, form_in, stored_form, Holds, HasTables, IsStore, IsFailedCall}
+use Rattle.cube_journal.specs.Rows.{no_digest}
+use Rattle.cube_journal.proofs.ChainLaws.{chain_entries}
 use Rattle.cube_journal.proofs.ViewLaws.{open_if_sound}
 
 -- a store that is opened again on what is one of changes and of these notes
 pub reopened_store : (old mid : View) (notes : List Entry) → (IsClean old → HasTables old) → IsClean old → IsClean mid
     → IsReopened old mid → (mid.is_open ≡ false → IsTrue mid.is_broken)
-    → (mid.is_broken ≡ false → mid.trees catalog_tree ≡ mid.committed catalog_tree → mid.shape ≡ mid.committed_shape)
-    → (changes : List Entry) × Holds mid.committed changes notes → IsStore mid notes
+    → (mid.is_broken ≡ false → mid.trees catalog_tree ≡ mid.committed catalog_tree
+    → (mid.shape ≡ mid.committed_shape) × (mid.reals ≡ mid.committed_reals))
+    → (changes : List Entry) × Holds (form_in old) mid.committed changes notes → IsStore mid notes
 reopened_store old mid notes have was_clean clean fresh broken unaltered found =
     let sound : mid.is_broken ≡ false = fresh.sound clean in
     let before : HasTables old = have was_clean in
     let shape : mid.shape ≡ old.shape = fresh.shape (sym before.unaltered) in
-    let same : entries_in (mid.committed 0) ≡ found.0 = ap entries_in found.1.changes_are ∙ entries_of_rows 1 found.0 in
+    let law = unaltered sound (ap (λ (t : Trees). t catalog_tree) fresh.clean) in
+    let form : form_in old ≡ stored_form mid =
+    ap (λ (r : ℕ → ℕ). form_by (r 0)) (sym (fresh.reals (sym before.same_form)) ∙ law.1) in
+    let same : entries_in (mid.committed 0) ≡ found.0 =
+    ap entries_in found.1.changes_are ∙ chain_entries (form_in old) no_digest 1 found.0 in
     record {
       is_open = open_if_sound mid broken sound;
       tables = record {
         changes = ap (λ (s : ℕ → Shape). s 0) shape ∙ before.changes;
         feeds = ap (λ (s : ℕ → Shape). s 1) shape ∙ before.feeds;
-        unaltered = sym (unaltered sound (ap (λ (t : Trees). t catalog_tree) fresh.clean));
+        unaltered = sym law.0;
+        same_form = sym law.1;
       };
-      holds = subst (λ es. Holds mid.committed es notes) (sym same) found.1;
+      holds = subst (λ f. Holds f mid.committed (entries_in (mid.committed 0)) notes) form
+          (subst (λ es. Holds (form_in old) mid.committed es notes) (sym same) found.1);
     }
 
 -- a call failed, as of before another
@@ -47,4 +55,5 @@ failed_since a b c (kind.Store error) up h = widen h
 failed_since a b c kind.NoTables up h = h
 failed_since a b c (kind.Feed source) up h = h
 failed_since a b c (kind.Row number) up h = h
+failed_since a b c (kind.Digest number) up h = h
 failed_since a b c kind.TooMany up h = h

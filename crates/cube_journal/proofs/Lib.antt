@@ -1,3 +1,4 @@
+mod ChainLaws
 mod CompareLaws
 mod CrashLaws
 mod MakeLaws

@@ -12,8 +12,10 @@ use Rattle.sqlite_trees.specs.Tree.{Trees, put_row, with_tree}
 use Rattle.sqlite_trees.specs.View.{View, IsClean, IsRolledBack, SetsTree, IsQuiet, HasCause, IsStorableRow}
 use Rattle.sqlite_trees.specs.View.{Commits as StoreCommits}
 use Rattle.cube_journal.specs.declared.note.FeedNote.{FeedNote}
+use Rattle.cube_journal.specs.declared.form.RowForm.{RowForm}
 use Rattle.cube_journal.specs.Rows.{Entry, row_of, rows_from, entries_in, entry_of, entries_of, AreChanges}
-use Rattle.cube_journal.specs.State.{rows_left, IsStanding, IsJournal, OnlyReads}
+use Rattle.cube_journal.specs.Rows.{no_digest, last_digest}
+use Rattle.cube_journal.specs.State.{rows_left, form_by, form_in, stored_form, IsStanding, IsJournal, OnlyReads}
 use Rattle.cube_journal.specs.State.{MakesJournal, ForgetsNothing, IsCause}
 use Rattle.cube_journal.specs.Making.{WritesNotes, IsMade, CantNote, LeavesNotes, LeavesEither, IsBlank, HasRolledBack}
 use Rattle.cube_journal.specs.Making.{TellsUnmade}
@@ -144,7 +146,7 @@ module _ (old put : View) (notes : List Entry) (blank : IsBlank old) (writes : W
     };
   }
 
-  pub made_is : (now : View) → StoreCommits put now → IsMade now notes
+  pub made_is : (now : View) → StoreCommits put now → IsMade (stored_form old) now notes
   made_is now commits =
       let shape : now.shape ≡ old.shape =
       ap (λ (v : View). v.shape) commits.is ∙ ap (λ (v : View). v.shape) writes.others in
@@ -155,7 +157,11 @@ module _ (old put : View) (notes : List Entry) (blank : IsBlank old) (writes : W
           changes = ap (λ (s : ℕ → Shape). s 0) shape ∙ blank.unmade.tables.changes;
           feeds = ap (λ (s : ℕ → Shape). s 1) shape ∙ blank.unmade.tables.feeds;
           unaltered = ap (λ (v : View). v.committed_shape) commits.is ∙ sym (ap (λ (v : View). v.shape) commits.is);
+          same_form = ap (λ (v : View). v.committed_reals) commits.is ∙ sym (ap (λ (v : View). v.reals) commits.is);
         };
+        form_is =
+            ap (λ (v : View). form_in v) commits.is ∙ ap (λ (v : View). form_in v) writes.others
+            ∙ sym (ap (λ (r : ℕ → ℕ). form_by (r 0)) blank.unmade.tables.same_form);
         same = ap (λ (v : View). v.trees) commits.is ∙ sym last;
         changes = ap (λ (t : Trees). t 0) last ∙ put_changes;
         notes_are = ap (λ (t : Trees). t 1) last ∙ writes.notes_are;
@@ -172,37 +178,42 @@ module _ (old put : View) (notes : List Entry) (blank : IsBlank old) (writes : W
 
 -- ---- a new journal
 
-module _ (now : View) (notes : List Entry) (made : IsMade now notes) where
-  no_changes : (rows : List Row) → rows ≡ [] → AreChanges rows 0
-  no_changes rows none =
-      subst (λ r. AreChanges r 0) (sym none) (record { rows_are = refl; sources = tt; count_is = refl })
+module _ (form : RowForm) (now : View) (notes : List Entry) (made : IsMade form now notes) where
+  no_changes : (f : RowForm) (rows : List Row) → rows ≡ [] → AreChanges f rows 0
+  no_changes f rows none =
+      subst (λ r. AreChanges f r 0) (sym none) (record { rows_are = refl; sources = tt; count_is = refl })
 
-  made_stands : IsStanding now 0 0
+  made_stands : IsStanding now 0 0 no_digest no_digest
   made_stands = record {
     sound = made.sound;
-    held = no_changes (now.trees 0) (ap (λ (t : Trees). t 0) made.same ∙ made.changes);
-    stored = no_changes (now.committed 0) made.changes;
+    held = no_changes (form_in now) (now.trees 0) (ap (λ (t : Trees). t 0) made.same ∙ made.changes);
+    stored = no_changes (form_in now) (now.committed 0) made.changes;
+    digest_is = ap (λ rows. last_digest (form_in now) (entries_in rows))
+        (sym (ap (λ (t : Trees). t 0) made.same ∙ made.changes));
+    last_is = ap (λ rows. last_digest (form_in now) (entries_in rows)) (sym made.changes);
     same_notes = ap (λ (t : Trees). t 1) made.same;
     notes = made.notes_are ∙ ap (rows_from 0) (sym (ap entries_in made.notes_are ∙ entries_of_rows 0 notes));
   }
 
-  pub makes : (was : View) → IsBlank was → (now.is_open ≡ false → IsTrue now.is_broken) → MakesJournal notes was now
-  makes was blank shut = record {
+  pub makes : (was : View) → IsBlank was → form ≡ stored_form was → (now.is_open ≡ false → IsTrue now.is_broken)
+      → MakesJournal notes was now
+  makes was blank of_form shut = record {
     was_open = blank.unmade.is_open;
     none_before = blank.unmade.none;
     is_open = open_if_sound now shut made.sound;
     stored = ap entries_in made.changes;
     held = ap (λ (t : Trees). entries_in (t 0)) made.same ∙ ap entries_in made.changes;
     noted = ap entries_in made.notes_are ∙ entries_of_rows 0 notes;
+    form = made.form_is ∙ of_form;
   }
 
-pub made_journal : (now : View) (notes : List Entry) → (IsClean now → IsMade now notes)
-    → (now.is_clean ≡ false → now.is_open ≡ false) → IsJournal now 0 0
-made_journal now notes made shut = record {
+pub made_journal : (form : RowForm) (now : View) (notes : List Entry) → (IsClean now → IsMade form now notes)
+    → (now.is_clean ≡ false → now.is_open ≡ false) → IsJournal now 0 0 no_digest no_digest
+made_journal form now notes made shut = record {
   tables = λ h. (made h).tables;
   few = omega arith;
   within = omega arith;
-  standing = λ is_open. made_stands now notes (made (clean_if_open now shut is_open));
+  standing = λ is_open. made_stands form now notes (made (clean_if_open now shut is_open));
 }
 
 -- ---- is anything noted?
@@ -222,14 +233,18 @@ module _ (was mid : View) (undone : IsRolledBack was mid) (broken : mid.is_open 
           feeds = ap (λ (s : ℕ → Shape). s 1) shapes ∙ have.feeds;
           unaltered = ap (λ (v : View). v.committed_shape) reads ∙ undone.committed_shape ∙ have.unaltered
               ∙ sym shapes;
+          same_form = ap (λ (v : View). v.committed_reals) reads ∙ undone.committed_reals ∙ have.same_form
+              ∙ sym (ap (λ (v : View). v.reals) reads ∙ undone.reals (sym have.same_form));
         };
+        form = ap (λ (r : ℕ → ℕ). form_by (r 0)) (ap (λ (v : View). v.committed_reals) reads ∙ undone.committed_reals);
       }
 
   pub no_tables_told : ((mid.shape 0 ≡ Table) × (mid.shape 1 ≡ Table) → ⊥) → TellsUnmade was mid false
   no_tables_told none = (settled mid refl, λ unmade. none (same_tables was mid undone broken unmade.tables))
 
   pub unmade_told : (new : View) (b : Bool) → (mid.shape 0 ≡ Table) × (mid.shape 1 ≡ Table)
-      → (mid.is_broken ≡ false → mid.trees ≡ mid.committed → mid.shape ≡ mid.committed_shape)
+      → (mid.is_broken ≡ false → mid.trees ≡ mid.committed
+      → (mid.shape ≡ mid.committed_shape) × (mid.reals ≡ mid.committed_reals))
       → TellsWhether mid new ((mid.trees 0 ≡ []) × (mid.trees 1 ≡ [])) b → TellsUnmade was new b
   unmade_told new true tables law told =
       let trees = same_trees was mid undone broken told.sound in
@@ -244,7 +259,9 @@ module _ (was mid : View) (undone : IsRolledBack was mid) (broken : mid.is_open 
             tables = record {
               changes = ap (λ (s : ℕ → Shape). s 0) shape ∙ tables.0;
               feeds = ap (λ (s : ℕ → Shape). s 1) shape ∙ tables.1;
-              unaltered = ap (λ (v : View). v.committed_shape) told.reads ∙ sym (law told.sound same) ∙ sym shape;
+              unaltered = ap (λ (v : View). v.committed_shape) told.reads ∙ sym (law told.sound same).0 ∙ sym shape;
+              same_form = ap (λ (v : View). v.committed_reals) told.reads ∙ sym (law told.sound same).1
+                  ∙ sym (ap (λ (v : View). v.reals) told.reads);
             };
             none = (ap (λ (t : Trees). t 0) now ∙ told.told.0, ap (λ (t : Trees). t 1) now ∙ told.told.1);
           };

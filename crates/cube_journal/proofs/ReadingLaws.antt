@@ -12,10 +12,14 @@ use Rattle.sqlite_trees.specs.declared.error.StoreError.TheVariants.{OutOfMemory
 use Rattle.sqlite_trees.specs.Tree.{Trees, order_of, from_key, sought}
 use Rattle.sqlite_trees.specs.View.{View, IsClean, with_cursor, Advances, HasCause, IsQuiet}
 use Rattle.sqlite_trees.proofs.ListLemmas.{all-append}
-use Rattle.cube_journal.specs.Rows.{Entry, row_of, rows_from, entries_in, IsOfSource, AreChanges, IsForeignAt}
-use Rattle.cube_journal.specs.State.{OnlyReads, rows_left, LeadsTo, IsCause}
-use Rattle.cube_journal.specs.Reading.{StandsBeforeFirst, Passes, HasPassed, HasReplayed}
-use Rattle.cube_journal.proofs.RowLaws.{rows_more, rows_length, changes_from, entries_of_rows}
+use Rattle.cube_journal.specs.declared.fault.OpenFault.{OpenFault}
+use Rattle.cube_journal.specs.declared.fault.OpenFault.TheVariants as kind
+use Rattle.cube_journal.specs.declared.form.RowForm.{RowForm}
+use Rattle.cube_journal.specs.Rows.{Entry, no_digest, next_digest, change_row, change_rows, last_digest, entries_in}
+use Rattle.cube_journal.specs.Rows.{IsOfSource, AreChanges, IsRowAt, IsForeignAt, IsUnchainedAt}
+use Rattle.cube_journal.specs.State.{OnlyReads, rows_left, LeadsTo, IsCause, ExplainsUnopened, form_in}
+use Rattle.cube_journal.specs.Reading.{StandsBeforeFirst, Passes, HasTaken, IsntTaken, HasPassed, HasReplayed}
+use Rattle.cube_journal.proofs.ChainLaws.{chain_more, chain_length, chain_entries, digest_more, changes_from}
 
 from_no_key : (o : Order) (rows : List Row) → from_key o [] rows ≡ rows
 from_no_key o [] = refl
@@ -107,76 +111,130 @@ takes_more : {K : Type 0} (takes : K → Entry → K → Type 0) (es : List Entr
 takes_more takes [] start mid end e all one = (end, subst (λ k. takes k e end) (sym all) one, refl)
 takes_more takes (d ∷ es) start mid end e all one = (all.0, all.1, takes_more takes es all.0 mid end e all.2 one)
 
-module _ {K : Type 0} (takes : K → Entry → K → Type 0) where
-  pub none_taken : (rows left : List Row) (start : K) → left ≡ rows → HasPassed takes rows left 0 start start
-  none_taken rows left start all =
-      record { passed = []; rows_are = sym all; sources = tt; count_is = refl; taken = refl }
+module _ {K : Type 0} (takes : K → Entry → K → Type 0) (form : RowForm) where
+  pub none_taken : (rows left : List Row) (start : K) → left ≡ rows
+      → HasPassed takes form rows left 0 no_digest start start
+  none_taken rows left start all = record {
+    passed = [];
+    rows_are = sym all;
+    digest_is = refl;
+    sources = tt;
+    count_is = refl;
+    taken = refl;
+  }
 
-  pub one_taken : (rows before left : List Row) (row : Row) (at : ℕ) (start mid end : K) (e : Entry)
-      → HasPassed takes rows before at start mid → before ≡ row ∷ left → row ≡ row_of (at + 1) e → IsOfSource e
-      → takes mid e end
-      → HasPassed takes rows left (at + 1) start end
-  one_taken rows before left row at start mid end e was step is source one =
+  pub one_taken : (rows before left : List Row) (row : Row) (at : ℕ) (digest next : List ℕ) (start mid end : K)
+      → HasPassed takes form rows before at digest start mid → before ≡ row ∷ left
+      → HasTaken takes form digest (at + 1) row mid end next
+      → HasPassed takes form rows left (at + 1) next start end
+  one_taken rows before left row at digest next start mid end was step one =
       let passed = was.passed in
+      let e = one.change in
       let size : length passed ≡ at = was.count_is in
       let place : 1 + length passed ≡ at + 1 = omega arith in
       let longer : length (passed ++ e ∷ []) ≡ at + 1 = omega (arith, length-append passed (e ∷ [])) in
+      let chained : next ≡ next_digest form (last_digest form passed) (at + 1) e =
+      one.digest_is ∙ ap (λ d. next_digest form d (at + 1) e) was.digest_is in
+      let is : row ≡ change_row form (next_digest form (last_digest form passed) (at + 1) e) (at + 1) e =
+      one.row_is ∙ ap (λ d. change_row form d (at + 1) e) chained in
+      let new = change_row form (next_digest form (last_digest form passed) (at + 1) e) (at + 1) e in
       record {
         passed = passed ++ e ∷ [];
-        rows_are = was.rows_are ∙ ap (λ l. rows_from 1 passed ++ l) (step ∙ ap (λ r. r ∷ left) is)
-            ∙ sym (append_assoc (rows_from 1 passed) (row_of (at + 1) e ∷ []) left)
-            ∙ ap (λ r. r ++ left) (sym (rows_more 1 (at + 1) passed e place));
-        sources = all-append IsOfSource passed (e ∷ []) was.sources (source, tt);
+        rows_are = was.rows_are ∙ ap (λ l. change_rows form passed ++ l) (step ∙ ap (λ r. r ∷ left) is)
+            ∙ sym (append_assoc (change_rows form passed) (new ∷ []) left)
+            ∙ ap (λ r. r ++ left) (sym (chain_more form no_digest 1 (at + 1) passed e place));
+        digest_is = chained ∙ sym (digest_more form no_digest 1 (at + 1) passed e place);
+        sources = all-append IsOfSource passed (e ∷ []) was.sources (one.source, tt);
         count_is = longer;
-        taken = takes_more takes passed start mid end e was.taken one;
+        taken = takes_more takes passed start mid end e was.taken one.taken;
       }
 
-  pub all_taken : (old before now : View) (row : Row) (at : ℕ) (start end : K)
-      → HasPassed takes (old.trees 0) (rows_left before 0) at start end → OnlyReads old before
+  -- the next row isn't taken
+  pub row_stands : (rows before left : List Row) (row : Row) (at : ℕ) (digest : List ℕ) (start end : K)
+      → (was : HasPassed takes form rows before at digest start end) → before ≡ row ∷ left
+      → IsRowAt form rows (at + 1) was.passed row
+  row_stands rows before left row at digest start end was step = record {
+    left = left;
+    rows_are = was.rows_are ∙ ap (λ l. change_rows form was.passed ++ l) step;
+    place_is = ap (λ n. n + 1) was.count_is;
+  }
+
+  pub not_taken : (fault shut is_open tables : Type 0) (trees : Trees) (notes : List Entry) (before left : List Row)
+      (row : Row) (at : ℕ) (digest : List ℕ) (start end : K) (e : OpenFault)
+      → HasPassed takes form (trees 0) before at digest start end → before ≡ row ∷ left → is_open
+      → IsntTaken form digest (at + 1) row e → ExplainsUnopened fault shut is_open tables form trees notes e
+  not_taken fault shut is_open tables trees notes before left row at digest start end
+      (kind.Store error) was step sound why = subst (IsCause fault shut ⊥) (sym why) tt
+  not_taken fault shut is_open tables trees notes before left row at digest start end kind.NoTables was step sound why =
+      absurd why
+  not_taken fault shut is_open tables trees notes before left row at digest start end
+      (kind.Feed source) was step sound why = absurd why
+  not_taken fault shut is_open tables trees notes before left row at digest start end
+      (kind.Row number) was step sound why = (
+        sound,
+        subst (IsForeignAt form (trees 0)) (sym why.0) (record {
+          before = was.passed;
+          row = row;
+          stands = row_stands (trees 0) before left row at digest start end was step;
+          foreign = why.1;
+        }),
+      )
+  not_taken fault shut is_open tables trees notes before left row at digest start end
+      (kind.Digest number) was step sound why = (
+        sound,
+        subst (IsUnchainedAt form (trees 0)) (sym why.0) (record {
+          before = was.passed;
+          row = row;
+          change = why.1.0;
+          stands = row_stands (trees 0) before left row at digest start end was step;
+          source = why.1.1;
+          next = why.1.2;
+          unchained = λ is. why.1.3
+              (is ∙ ap (λ d. change_row form (next_digest form d (at + 1) why.1.0) (at + 1) why.1.0) (sym was.digest_is));
+        }),
+      )
+  not_taken fault shut is_open tables trees notes before left row at digest start end kind.TooMany was step sound why =
+      absurd why
+
+  pub taken_length : (rows left : List Row) (at : ℕ) (digest : List ℕ) (start end : K)
+      → HasPassed takes form rows left at digest start end → at ≤ length rows
+  taken_length rows left at digest start end was = omega (
+    arith,
+    ap length was.rows_are,
+    length-append (change_rows form was.passed) left,
+    chain_length form no_digest 1 was.passed,
+    was.count_is,
+  )
+
+module _ {K : Type 0} (takes : K → Entry → K → Type 0) where
+  pub all_taken : (old before now : View) (row : Row) (at : ℕ) (digest : List ℕ) (start end : K)
+      → HasPassed takes (form_in old) (old.trees 0) (rows_left before 0) at digest start end → OnlyReads old before
       → old.is_broken ≡ false → Passes before now row false
-      → HasReplayed takes old now at start end
-  all_taken old before now row at start end was reads sound none =
+      → HasReplayed takes old now at digest start end
+  all_taken old before now row at digest start end was reads sound none =
+      let form = form_in old in
       let rows = old.trees 0 in
-      let left = rows_left before 0 in
-      let is : rows ≡ rows_from 1 was.passed =
-      was.rows_are ∙ ap (λ l. rows_from 1 was.passed ++ l) none.1 ∙ append-nil (rows_from 1 was.passed) in
-      let back : entries_in rows ≡ was.passed = ap entries_in is ∙ entries_of_rows 1 was.passed in
+      let is : rows ≡ change_rows form was.passed =
+      was.rows_are ∙ ap (λ l. change_rows form was.passed ++ l) none.1 ∙ append-nil (change_rows form was.passed) in
+      let back : entries_in rows ≡ was.passed = ap entries_in is ∙ chain_entries form no_digest 1 was.passed in
       record {
-        changes = changes_from rows was.passed at is was.sources was.count_is;
+        changes = changes_from form rows was.passed at is was.sources was.count_is;
+        digest_is = was.digest_is ∙ ap (last_digest form) (sym back);
         taken = subst (λ es. LeadsTo takes start es end) (sym back) was.taken;
         reads = reads_then old before now reads none.0;
         sound = sound;
       }
 
   -- the same, as of before another reading
-  pub replayed_since : (old mid now : View) (count : ℕ) (start end : K) → OnlyReads old mid
-      → HasReplayed takes mid now count start end → HasReplayed takes old now count start end
-  replayed_since old mid now count start end reads was = record {
-    changes = subst (λ (t : Trees). AreChanges (t 0) count) (ap (λ (v : View). v.trees) reads) was.changes;
+  pub replayed_since : (old mid now : View) (count : ℕ) (digest : List ℕ) (start end : K) → OnlyReads old mid
+      → HasReplayed takes mid now count digest start end → HasReplayed takes old now count digest start end
+  replayed_since old mid now count digest start end reads was = record {
+    changes = subst (λ form. AreChanges form (old.trees 0) count) (ap (λ (v : View). form_in v) reads)
+        (subst (λ (t : Trees). AreChanges (form_in mid) (t 0) count) (ap (λ (v : View). v.trees) reads) was.changes);
+    digest_is = was.digest_is
+        ∙ ap (λ (v : View). last_digest (form_in v) (entries_in (v.trees 0))) reads;
     taken = subst (λ (t : Trees). LeadsTo takes start (entries_in (t 0)) end) (ap (λ (v : View). v.trees) reads)
         was.taken;
     reads = reads_then old mid now reads was.reads;
     sound = sym (ap (λ (v : View). v.is_broken) reads) ∙ was.sound;
   }
-
-  pub foreign_next : (rows before left : List Row) (row : Row) (at : ℕ) (start end : K)
-      → HasPassed takes rows before at start end → before ≡ row ∷ left
-      → ((e : Entry) → IsOfSource e → row ≡ row_of (at + 1) e → ⊥) → IsForeignAt rows (at + 1)
-  foreign_next rows before left row at start end was step foreign = record {
-    before = was.passed;
-    row = row;
-    left = left;
-    rows_are = was.rows_are ∙ ap (λ l. rows_from 1 was.passed ++ l) step;
-    place_is = ap (λ n. n + 1) was.count_is;
-    foreign = foreign;
-  }
-
-  pub taken_length : (rows left : List Row) (at : ℕ) (start end : K) → HasPassed takes rows left at start end
-      → at ≤ length rows
-  taken_length rows left at start end was = omega (
-    arith,
-    ap length was.rows_are,
-    length-append (rows_from 1 was.passed) left,
-    rows_length 1 was.passed,
-    was.count_is,
-  )

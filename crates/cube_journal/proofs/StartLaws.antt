@@ -9,7 +9,8 @@ use Rattle.sqlite_trees.specs.View.{View, IsClean, IsQuiet}
 use Rattle.cube_journal.specs.declared.fault.OpenFault.{OpenFault}
 use Rattle.cube_journal.specs.declared.fault.OpenFault.TheVariants as kind
 use Rattle.cube_journal.specs.Rows.{Entry, entries_in}
-use Rattle.cube_journal.specs.State.{stored_in, noted_in, Holds, HasTables, IsStore, IsUnmade, Finds, MakesJournal}
+use Rattle.cube_journal.specs.State.{stored_in, noted_in, stored_form, Holds, HasTables, IsStore, IsUnmade, Finds}
+use Rattle.cube_journal.specs.State.{MakesJournal}
 use Rattle.cube_journal.specs.State.{IsCause, ExplainsUnopened, IsFailedCall, FailsToStart, ForgetsNothing}
 use Rattle.cube_journal.specs.Making.{LeavesNotes, LeavesEither, HasRolledBack, TellsUnmade}
 use Rattle.cube_journal.proofs.MakeLaws.{goes_quiet, goes_then}
@@ -26,6 +27,7 @@ module _ (was mid : View) (settled : HasRolledBack was mid) (notes : List Entry)
         stored = makes.stored;
         held = makes.held;
         noted = makes.noted;
+        form = makes.form ∙ settled.form;
       }
 
   leaves_before : (db : Trees) → (IsClean mid → IsClean was) → LeavesNotes mid notes db → LeavesNotes was notes db
@@ -33,7 +35,7 @@ module _ (was mid : View) (settled : HasRolledBack was mid) (notes : List Entry)
     clean = back left.clean;
     was_open = settled.was_open left.was_open;
     none_before = subst (λ (t : Trees). (t 0 ≡ []) × (t 1 ≡ [])) (settled.committed left.was_open) left.none_before;
-    holds = left.holds;
+    holds = subst (λ form. Holds form db [] notes) settled.form left.holds;
   }
 
   pub finds_before : (now : View) → Finds mid now → Finds was now
@@ -45,6 +47,7 @@ module _ (was mid : View) (settled : HasRolledBack was mid) (notes : List Entry)
         stored = finds.stored ∙ ap (λ (t : Trees). entries_in (t 0)) same;
         held = finds.held ∙ ap (λ (t : Trees). entries_in (t 0)) same;
         noted = finds.noted ∙ ap (λ (t : Trees). entries_in (t 1)) same;
+        form = finds.form ∙ settled.form;
       }
 
   pub noted_before : (now : View) → Finds mid now → noted_in mid ≡ notes → noted_in was ≡ notes
@@ -56,6 +59,7 @@ failed_to_start fault cant (kind.Store error) h = inl h
 failed_to_start fault cant kind.NoTables h = h
 failed_to_start fault cant (kind.Feed source) h = h
 failed_to_start fault cant (kind.Row number) h = h
+failed_to_start fault cant (kind.Digest number) h = h
 failed_to_start fault cant kind.TooMany h = h
 
 pub starts_since : (fault more cant : Type 0) (e : OpenFault) → (fault → more) → FailsToStart fault cant e
@@ -66,6 +70,7 @@ starts_since fault more cant (kind.Store error) up (inr why) = inr why
 starts_since fault more cant kind.NoTables up h = h
 starts_since fault more cant (kind.Feed source) up h = h
 starts_since fault more cant (kind.Row number) up h = h
+starts_since fault more cant (kind.Digest number) up h = h
 starts_since fault more cant kind.TooMany up h = h
 
 pub write_fails : (fault cant : Type 0) (e : StoreError) → IsCause fault ⊥ cant e
@@ -96,7 +101,7 @@ look_fails was notes fault cant e either h = inl (failed fault ((was.is_open ≡
 pub opening_fails : (was mid : View) (a b c : ℕ) (notes : List Entry) (cant : Type 0) (e : OpenFault)
     → TellsUnmade was mid false → a ≤ b → b ≤ c → (IsTrue was.is_open → IsTrue mid.is_open ⊎ MoreFaults a b)
     → ExplainsUnopened (MoreFaults b c) ((mid.is_open ≡ false) ⊎ MoreFaults b c) (IsTrue mid.is_open) (HasTables mid)
-    mid.committed notes e
+    (stored_form mid) mid.committed notes e
     → IsStore was notes ⊎ IsUnmade was
     → FailsToStart (MoreFaults a c) cant e
 opening_fails was mid a b c notes cant e told up later closes h (inr unmade) = absurd (told.1 unmade)
@@ -110,11 +115,12 @@ opening_fails was mid a b c notes cant e told up later closes h (inl store) =
     wider : MoreFaults a b → MoreFaults a c
     wider f = omega arith
 
-    holds : IsTrue mid.is_open → (changes : List Entry) × Holds mid.committed changes notes
+    holds : IsTrue mid.is_open → (changes : List Entry) × Holds (stored_form mid) mid.committed changes notes
     holds is_open = (
       stored_in was,
-      subst (λ (t : Trees). Holds t (stored_in was) notes)
-          (sym (told.0.committed is_open)) store.holds,
+      subst (λ form. Holds form mid.committed (stored_in was) notes) (sym told.0.form)
+          (subst (λ (t : Trees). Holds (stored_form was) t (stored_in was) notes)
+          (sym (told.0.committed is_open)) store.holds),
     )
 
     shut_by : mid.is_open ≡ false → IsTrue mid.is_open ⊎ MoreFaults a b → MoreFaults a c

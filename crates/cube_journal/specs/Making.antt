@@ -4,7 +4,8 @@ use Rattle.std.specs.Prelude.{IsTrue}
 use Rattle.sqlite_trees.specs.Tree.{Trees}
 use Rattle.sqlite_trees.specs.View.{View, IsClean, IsStorableRow}
 use Rattle.cube_journal.specs.Rows.{Entry, row_of, entry_of, AreNotes}
-use Rattle.cube_journal.specs.State.{HasTables, Holds, IsUnmade, ForgetsNothing}
+use Rattle.cube_journal.specs.State.{HasTables, Holds, IsUnmade, ForgetsNothing, form_in, stored_form}
+use Rattle.cube_journal.specs.declared.form.RowForm.{RowForm}
 use Rattle.cube_journal.specs.declared.note.FeedNote.{FeedNote}
 
 -- The table of notes has these, and nothing else is written (this project's choice).
@@ -21,10 +22,11 @@ pub record CantNote (reals : ℕ) (notes : List FeedNote) : Type 0 where
   pub note_is : note ≡ get_or notes place note
   pub why : (IsStorableRow reals (row_of place (entry_of note)) → ⊥) ⊎ (2 ^ 63 ≤ note.length)
 
--- A store has these notes committed, and no change (this project's choice).
-pub record IsMade (now : View) (notes : List Entry) : Type 0 where
+-- A store with a table of changes of this form has these notes committed, and no change (this project's choice).
+pub record IsMade (form : RowForm) (now : View) (notes : List Entry) : Type 0 where
   pub sound : now.is_broken ≡ false
   pub tables : HasTables now
+  pub form_is : form_in now ≡ form
   pub same : now.trees ≡ now.committed
   pub changes : now.committed 0 ≡ []
   pub notes_are : AreNotes (now.committed 1) notes
@@ -34,7 +36,7 @@ pub record LeavesNotes (was : View) (notes : List Entry) (db : Trees) : Type 0 w
   pub clean : IsClean was
   pub was_open : IsTrue was.is_open
   pub none_before : (was.committed 0 ≡ []) × (was.committed 1 ≡ [])
-  pub holds : Holds db [] notes
+  pub holds : Holds (stored_form was) db [] notes
 
 -- A call that makes a store forgets nothing, and a crash leaves the notes alone,
 -- or what it left before (this project's choice).
@@ -54,6 +56,7 @@ pub record HasRolledBack (old new : View) : Type 0 where
   pub was_open : IsTrue new.is_open → IsTrue old.is_open
   pub committed : IsTrue new.is_open → new.committed ≡ old.committed
   pub tables : HasTables old → HasTables new
+  pub form : stored_form new ≡ stored_form old
 
 -- A store that is rolled back is found without a row, or with one (this project's choice).
 abbrev pub TellsUnmade : View → View → Bool → Type 0

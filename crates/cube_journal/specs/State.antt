@@ -1,5 +1,6 @@
 -- What a journal's store shows, and what each call does to it.
-use Rattle.std.specs.Prelude.{◌≡◌, ◌≤◌, ◌<◌, ◌^◌, ℕ, false, List, [], ◌∷◌, ◌++◌, length, IsTrue, unwrap_or, ◌⊎◌, ⊤}
+use Rattle.std.specs.Prelude.{◌≡◌, ◌≤◌, ◌<◌, ◌^◌, ◌==◌, if◌then◌else◌, ℕ, false, List, [], ◌∷◌, ◌++◌, length, IsTrue}
+use Rattle.std.specs.Prelude.{unwrap_or, ◌⊎◌, ⊤}
 use Rattle.std.specs.List.{AllByRecursion}
 use Rattle.sqlite_value.specs.Order.{Row}
 use Rattle.sqlite_disk.specs.Disk.{MoreFaults}
@@ -7,9 +8,11 @@ use Rattle.sqlite_trees.specs.declared.store.Shape.TheVariants.{Table}
 use Rattle.sqlite_trees.specs.declared.error.StoreError.{StoreError}
 use Rattle.sqlite_trees.specs.declared.error.StoreError.TheVariants.{OutOfMemory, Io, Corrupt, Full, Broken, Unstorable}
 use Rattle.sqlite_trees.specs.Tree.{Trees}
-use Rattle.sqlite_trees.specs.View.{View, doubt, IsClean}
-use Rattle.cube_journal.specs.Rows.{Entry, IsOfSource, rows_from, entries_in, AreChanges, AreNotes, DifferAt}
-use Rattle.cube_journal.specs.Rows.{IsForeignAt}
+use Rattle.sqlite_trees.specs.View.{View, doubt, IsClean, IsStorableRow}
+use Rattle.cube_journal.specs.Rows.{Entry, IsOfSource, rows_from, change_rows, change_row, last_digest, entries_in}
+use Rattle.cube_journal.specs.Rows.{AreChanges, AreNotes, DifferAt, IsForeignAt, IsUnchainedAt}
+use Rattle.cube_journal.specs.declared.form.RowForm.{RowForm}
+use Rattle.cube_journal.specs.declared.form.RowForm.TheVariants.{Plain, Chained}
 use Rattle.cube_journal.specs.declared.fault.OpenFault.{OpenFault}
 use Rattle.cube_journal.specs.declared.fault.OpenFault.TheVariants as kind
 
@@ -23,9 +26,22 @@ stored_in v = entries_in (v.committed 0)
 abbrev pub noted_in : View → List Entry
 noted_in v = entries_in (v.committed 1)
 
--- The tables of a database are those of these changes and these notes, byte for byte (this project's choice).
-pub record Holds (db : Trees) (changes notes : List Entry) : Type 0 where
-  pub changes_are : db 0 ≡ rows_from 1 changes
+-- The form of a table of changes that is listed with these columns of the type REAL:
+-- a bit that stands for no column of a row tells that its rows have digests (this project's choice).
+abbrev pub form_by : ℕ → RowForm
+form_by reals = if reals == 2 ^ 63 then Chained else Plain
+
+-- The form of a store's table of changes, in the transaction and in the last commit (this project's choice).
+abbrev pub form_in : View → RowForm
+form_in v = form_by (v.reals 0)
+
+abbrev pub stored_form : View → RowForm
+stored_form v = form_by (v.committed_reals 0)
+
+-- The tables of a database are those of these changes, in this form and with right digests if they have any,
+-- and of these notes, byte for byte (this project's choice).
+pub record Holds (form : RowForm) (db : Trees) (changes notes : List Entry) : Type 0 where
+  pub changes_are : db 0 ≡ change_rows form changes
   pub sources : AllByRecursion IsOfSource changes
   pub few : length changes ≤ 2 ^ 62
   pub notes_are : db 1 ≡ rows_from 0 notes
@@ -35,27 +51,30 @@ pub record HasTables (v : View) : Type 0 where
   pub changes : v.shape 0 ≡ Table
   pub feeds : v.shape 1 ≡ Table
   pub unaltered : v.committed_shape ≡ v.shape
+  pub same_form : v.committed_reals ≡ v.reals
 
 -- What holds of a journal's store while no fault has shut it (this project's choice).
-pub record IsStanding (v : View) (count committed : ℕ) : Type 0 where
+pub record IsStanding (v : View) (count committed : ℕ) (digest last : List ℕ) : Type 0 where
   pub sound : v.is_broken ≡ false
-  pub held : AreChanges (v.trees 0) count
-  pub stored : AreChanges (v.committed 0) committed
+  pub held : AreChanges (form_in v) (v.trees 0) count
+  pub stored : AreChanges (form_in v) (v.committed 0) committed
+  pub digest_is : digest ≡ last_digest (form_in v) (held_in v)
+  pub last_is : last ≡ last_digest (form_in v) (stored_in v)
   pub same_notes : v.trees 1 ≡ v.committed 1
   pub notes : AreNotes (v.committed 1) (noted_in v)
 
 -- What holds of a journal's store between any two calls (this project's choice).
-pub record IsJournal (v : View) (count committed : ℕ) : Type 0 where
+pub record IsJournal (v : View) (count committed : ℕ) (digest last : List ℕ) : Type 0 where
   pub tables : IsClean v → HasTables v
   pub few : count ≤ 2 ^ 62
   pub within : committed ≤ count
-  pub standing : IsTrue v.is_open → IsStanding v count committed
+  pub standing : IsTrue v.is_open → IsStanding v count committed digest last
 
--- A store that is open on the tables of a list of changes and these notes (this project's choice).
+-- A store that is open on the tables of a list of changes, in its form, and these notes (this project's choice).
 pub record IsStore (v : View) (notes : List Entry) : Type 0 where
   pub is_open : IsTrue v.is_open
   pub tables : HasTables v
-  pub holds : Holds v.committed (stored_in v) notes
+  pub holds : Holds (stored_form v) v.committed (stored_in v) notes
 
 -- A store whose two tables have no row: its feeds aren't noted yet (this project's choice).
 pub record IsUnmade (v : View) : Type 0 where
@@ -83,6 +102,7 @@ pub record Finds (was now : View) : Type 0 where
   pub stored : stored_in now ≡ stored_in was
   pub held : held_in now ≡ stored_in was
   pub noted : noted_in now ≡ noted_in was
+  pub form : form_in now ≡ stored_form was
 
 -- A new journal is open, has no change, and has these notes, in tables that had no row (this project's choice).
 pub record MakesJournal (notes : List Entry) (was now : View) : Type 0 where
@@ -92,6 +112,13 @@ pub record MakesJournal (notes : List Entry) (was now : View) : Type 0 where
   pub stored : stored_in now ≡ []
   pub held : held_in now ≡ []
   pub noted : noted_in now ≡ notes
+  pub form : form_in now ≡ stored_form was
+
+-- In a table with these columns of the type REAL, the row of a change with this number can't be stored,
+-- whatever 32 bytes its digest has (this project's choice).
+abbrev pub CantHold : ℕ → ℕ → Entry → Type 0
+CantHold reals number change = (digest : List ℕ) × (length digest ≡ 32)
+    × (¬ IsStorableRow reals (change_row (form_by reals) digest number change))
 
 module _ (old new : View) where
   -- The transaction has one change more, behind the others (this project's choice).
@@ -100,6 +127,7 @@ module _ (old new : View) where
     pub held : held_in new ≡ held_in old ++ change ∷ []
     pub stored : stored_in new ≡ stored_in old
     pub noted : noted_in new ≡ noted_in old
+    pub form : form_in new ≡ form_in old
 
   -- What wasn't committed is gone, unless a fault has shut the store (this project's choice).
   pub record Undoes : Type 0 where
@@ -114,6 +142,7 @@ module _ (old new : View) where
     pub held : held_in new ≡ held_in old
     pub stored : stored_in new ≡ held_in old
     pub noted : noted_in new ≡ noted_in old
+    pub form : form_in new ≡ form_in old
 
 -- No doubt and no fault is forgotten, and only a fault shuts an open store (this project's choice).
 pub record ForgetsNothing {S : Type 0} (view : S → View) (faults : S → ℕ) (old new : S) : Type 0 where
@@ -132,16 +161,19 @@ IsCause fault shut unstorable Full = fault
 IsCause fault shut unstorable Broken = shut
 IsCause fault shut unstorable Unstorable = unstorable
 
--- Why a store of these trees isn't opened with these notes:
--- a call failed, a table is wanting, the notes differ first at this feed,
--- this row is the first that isn't the next change, or there are more than can be counted (this project's choice).
-abbrev pub ExplainsUnopened : Type 0 → Type 0 → Type 0 → Type 0 → Trees → List Entry → OpenFault → Type 0
-ExplainsUnopened fault shut is_open tables trees notes (kind.Store error) = IsCause fault shut ⊥ error
-ExplainsUnopened fault shut is_open tables trees notes kind.NoTables = tables → ⊥
-ExplainsUnopened fault shut is_open tables trees notes (kind.Feed source) =
+-- Why a store of these trees, with changes in this form, isn't opened with these notes:
+-- a call failed, a table is wanting, the notes differ first at this feed, this row is the first that isn't the next change
+-- with the right digest, which tells whether it is no such change or its digest is another,
+-- or there are more than can be counted (this project's choice).
+abbrev pub ExplainsUnopened : Type 0 → Type 0 → Type 0 → Type 0 → RowForm → Trees → List Entry → OpenFault → Type 0
+ExplainsUnopened fault shut is_open tables form trees notes (kind.Store error) = IsCause fault shut ⊥ error
+ExplainsUnopened fault shut is_open tables form trees notes kind.NoTables = tables → ⊥
+ExplainsUnopened fault shut is_open tables form trees notes (kind.Feed source) =
     is_open × DifferAt (trees 1) (rows_from 0 notes) source
-ExplainsUnopened fault shut is_open tables trees notes (kind.Row number) = is_open × IsForeignAt (trees 0) number
-ExplainsUnopened fault shut is_open tables trees notes kind.TooMany = is_open × (2 ^ 62 < length (trees 0))
+ExplainsUnopened fault shut is_open tables form trees notes (kind.Row number) = is_open × IsForeignAt form (trees 0) number
+ExplainsUnopened fault shut is_open tables form trees notes (kind.Digest number) =
+    is_open × IsUnchainedAt form (trees 0) number
+ExplainsUnopened fault shut is_open tables form trees notes kind.TooMany = is_open × (2 ^ 62 < length (trees 0))
 
 -- A call on the store failed, for want of memory or by a fault, and not for what is stored (this project's choice).
 abbrev pub IsFailedCall : Type 0 → OpenFault → Type 0

@@ -4,7 +4,7 @@ ghost use Rattle.sqlite_disk.specs.Disk.{MoreFaults};
 ghost use Rattle.sqlite_trees.specs.Tree.{Trees};
 ghost use Rattle.sqlite_trees.specs.View.{IsClean};
 ghost use Rattle.cube_journal.specs.Rows.{Entry, entries_in, entries_of};
-ghost use Rattle.cube_journal.specs.State.{held_in, stored_in, noted_in, Holds, LeadsTo, IsFailedCall};
+ghost use Rattle.cube_journal.specs.State.{held_in, stored_in, noted_in, form_in, Holds, LeadsTo, IsFailedCall};
 
 use crate::fault::OpenFault;
 use crate::journal::ChangeJournal;
@@ -27,7 +27,7 @@ pub fn crash_and_open<S: Reopen, K: ChangeSink>(
     ensures found { IfOk result (λ j. IsClean (S.Store.view j.store) → (db : Trees) × S.Store.recovers journal.store db × (stored_in (S.Store.view j.store) ≡ entries_in (db 0)) × (held_in (S.Store.view j.store) ≡ entries_in (db 0))) }
     ensures last { IfOk result (λ j. IsClean (S.Store.view j.store) → IsTrue (S.Store.view journal.store).is_open → stored_in (S.Store.view j.store) ≡ stored_in (S.Store.view journal.store)) }
     ensures taken { IfOk result (λ j. IsClean (S.Store.view j.store) → LeadsTo K.ChangeSink.takes sink.old (stored_in (S.Store.view j.store)) sink.new) }
-    ensures accepts { IfErr result (λ e. IsClean (S.Store.view e.1) → ((db : Trees) → S.Store.recovers journal.store db → (changes : List Entry) × Holds db changes (entries_of notes.now))
+    ensures accepts { IfErr result (λ e. IsClean (S.Store.view e.1) → ((db : Trees) → S.Store.recovers journal.store db → (changes : List Entry) × Holds (form_in (S.Store.view journal.store)) db changes (entries_of notes.now))
         → IsFailedCall (MoreFaults (S.Store.faults journal.store) (S.Store.faults e.1)) e.0) }
 {
     let mut store = journal.into_store();

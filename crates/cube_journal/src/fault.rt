@@ -18,6 +18,9 @@ pub enum OpenFault {
     /// The row in this place isn't the next change: its number, its source or its kind is another.
     #[error("row {0} isn't a change")]
     Row(u64),
+    /// The digest of the row in this place isn't the one that chains it to those before it.
+    #[error("row {0} has another digest")]
+    Digest(u64),
     /// There are more changes than can be counted.
     #[error("too many changes")]
     TooMany,

@@ -5,11 +5,12 @@ ghost use Rattle.sqlite_trees.specs.Tree.{put_row};
 ghost use Rattle.sqlite_trees.specs.View.{IsClean, IsQuiet, SetsTree, HasCause, IsStorableRow};
 ghost use Rattle.cube_journal.specs.Rows.{row_of, entry_of, entries_of};
 ghost use Rattle.cube_journal.specs.Reading.{TellsWhether};
-ghost use Rattle.cube_journal.specs.State.{MakesJournal, IsCause, FailsToStart};
+ghost use Rattle.cube_journal.specs.State.{MakesJournal, IsCause, FailsToStart, stored_form};
 ghost use Rattle.cube_journal.specs.Making.{IsBlank, TellsUnmade, WritesNotes, IsMade, CantNote, LeavesEither};
 
 use crate::cursor::{begin, step};
 use crate::fault::OpenFault;
+use crate::form::NO_DIGEST;
 use crate::journal::{CHANGES, ChangeJournal, FEEDS};
 use crate::note::FeedNote;
 use crate::opening::has_tables;
@@ -86,7 +87,7 @@ fn put_notes<S: Store>(store: &mut S, row: &mut Row, notes: &[FeedNote]) -> Resu
 /// Puts the notes into two empty tables, and commits them.
 fn write_notes<S: Store>(store: &mut S, row: &mut Row, notes: &[FeedNote]) -> Result<(), StoreError>
     requires { IsClean (S.Store.view store.old) → IsBlank (S.Store.view store.old) }
-    ensures made { OnOk result (IsClean (S.Store.view store.new) → IsMade (S.Store.view store.new) (entries_of notes.now)) }
+    ensures made { OnOk result (IsClean (S.Store.view store.new) → IsMade (stored_form (S.Store.view store.old)) (S.Store.view store.new) (entries_of notes.now)) }
     ensures left { LeavesEither S.Store.view S.Store.faults S.Store.recovers (entries_of notes.now) store.old store.new }
     ensures cause { IsClean (S.Store.view store.new) → IfErr result (IsCause (MoreFaults (S.Store.faults store.old) (S.Store.faults store.new)) ⊥ ((reals : ℕ) × CantNote reals notes.now)) }
 {
@@ -132,6 +133,8 @@ pub(crate) fn make<S: Store>(
             row,
             count: 0,
             committed: 0,
+            digest: NO_DIGEST,
+            committed_digest: NO_DIGEST,
         }),
         Err(error) => Err((OpenFault::Store(error), store)),
     }

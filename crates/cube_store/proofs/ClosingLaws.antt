@@ -10,7 +10,7 @@ use Rattle.sqlite_trees.specs.View.{View}
 use Rattle.sqlite_store.specs.declared.store.FileStore.{FileStore}
 use Rattle.sqlite_store.specs.FileStore.{state, view, files}
 use Rattle.sqlite_store.specs.Laws.{reads_committed}
-use Rattle.cube_journal.specs.State.{stored_in, noted_in, Holds, IsStore}
+use Rattle.cube_journal.specs.State.{stored_in, noted_in, stored_form, Holds, IsStore}
 use Rattle.cube_store.specs.Closing.{ReadsLast, IsCopied}
 
 module _ {D : Type 0} {g : Ghosts D} (it : FileStore D g) (stays : SeenMayStay g)
@@ -25,7 +25,7 @@ module _ {D : Type 0} {g : Ghosts D} (it : FileStore D g) (stays : SeenMayStay g
       record {
         is_open = is_open;
         same = same;
-        holds = subst (λ (v : View). Holds v.committed (stored_in (view was)) (noted_in (view was))) (sym same)
+        holds = subst (λ (v : View). Holds (stored_form (view was)) v.committed (stored_in (view was)) (noted_in (view was))) (sym same)
             (store was_open).holds;
         now = reads-last (seen_image g (files it).0 (files it).1)
             (seen_may_be_left it.pool stays (clean_of (state it) is_open));

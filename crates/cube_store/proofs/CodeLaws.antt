@@ -64,6 +64,7 @@ start_fails fault cant (kind.Store error) h = stored_fails error
 start_fails fault cant kind.NoTables h = h
 start_fails fault cant (kind.Feed source) h = h
 start_fails fault cant (kind.Row number) h = h
+start_fails fault cant (kind.Digest number) h = h
 start_fails fault cant kind.TooMany h = h
 
 -- a copy of the log fails for want of memory, or at a fault

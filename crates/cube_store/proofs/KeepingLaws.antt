@@ -8,9 +8,10 @@ use Rattle.sqlite_disk.specs.Disk.{MoreFaults}
 use Rattle.sqlite_trees.specs.declared.error.StoreError.{StoreError}
 use Rattle.sqlite_trees.specs.declared.error.StoreError.TheVariants as cause
 use Rattle.sqlite_trees.specs.Tree.{Trees}
-use Rattle.sqlite_trees.specs.View.{View, IsClean, IsStorableRow}
-use Rattle.cube_journal.specs.Rows.{Entry, IsOfSource, row_of}
-use Rattle.cube_journal.specs.State.{held_in, stored_in, noted_in, Holds, Appends, Commits, ForgetsNothing, IsCause}
+use Rattle.sqlite_trees.specs.View.{View, IsClean}
+use Rattle.cube_journal.specs.Rows.{Entry, IsOfSource}
+use Rattle.cube_journal.specs.State.{held_in, stored_in, noted_in, form_in, Holds, CantHold, Appends, Commits}
+use Rattle.cube_journal.specs.State.{ForgetsNothing, IsCause}
 use Rattle.cube_store.specs.Keeping.{Batch, LeavesPart, Stands, HasKept, HasBroken, CantStore, TakesAsBefore}
 
 -- what holds in any case holds where a result is an error
@@ -30,7 +31,7 @@ more_waits waiting none = omega (arith, none)
 -- ---- why a call fails
 abbrev HasNoRoom : Entry → (ℕ → ℕ) → ℕ → Type 0
 HasNoRoom change reals count =
-    (IsStorableRow (reals 0) (row_of (count + 1) change) → ⊥) ⊎ ((2 ^ 62 < count + 1) ⊎ (IsOfSource change → ⊥))
+    CantHold (reals 0) (count + 1) change ⊎ ((2 ^ 62 < count + 1) ⊎ (IsOfSource change → ⊥))
 
 cant_store : (old mid : View) (count : ℕ) (change : Entry) → TakesAsBefore old mid
     → (IsTrue mid.is_open → length (held_in mid) ≡ count) → HasNoRoom change mid.reals count
@@ -56,12 +57,12 @@ append_fails a b c old mid count change cause.Unstorable up same long h =
 
 -- ---- what a crash leaves
 LeavesPart-whole : (first : View) (changes : List Entry) (db : Trees)
-    → Holds db (stored_in first ++ changes) (noted_in first) → LeavesPart first changes (length changes) db
+    → Holds (form_in first) db (stored_in first ++ changes) (noted_in first) → LeavesPart first changes (length changes) db
 LeavesPart-whole first changes db holds = record {
   count = length changes;
   at_least = omega arith;
   at_most = omega arith;
-  holds = subst (λ es. Holds db (stored_in first ++ es) (noted_in first))
+  holds = subst (λ es. Holds (form_in first) db (stored_in first ++ es) (noted_in first))
       (sym (take_all (length changes) changes (omega arith))) holds;
 }
 
@@ -71,7 +72,7 @@ LeavesPart-more first changes more sure db part = record {
   count = part.count;
   at_least = part.at_least;
   at_most = omega (arith, part.at_most, length-append changes more);
-  holds = subst (λ es. Holds db (stored_in first ++ es) (noted_in first))
+  holds = subst (λ es. Holds (form_in first) db (stored_in first ++ es) (noted_in first))
       (sym (take-append-le part.count changes more part.at_most)) part.holds;
 }
 
@@ -89,13 +90,13 @@ module _ {S : Type 0} (view : S → View) (recovers : S → Trees → Type 0) wh
   pub HasKept-none : (now : Batch S) → (IsClean (view now.store)
       → IsTrue (view now.store).is_open × (held_in (view now.store) ≡ stored_in (view now.store)))
       → (IsTrue (view now.store).is_open → (db : Trees) → recovers now.store db
-      → Holds db (stored_in (view now.store)) (noted_in (view now.store))) → HasKept view recovers now now [] 0
+      → Holds (form_in (view now.store)) db (stored_in (view now.store)) (noted_in (view now.store))) → HasKept view recovers now now [] 0
   HasKept-none now opened settled =
       let first = view now.store in
       let whole : IsTrue first.is_open → (db : Trees) → recovers now.store db → LeavesPart first [] 0 db =
       λ opened_now db may.
       LeavesPart-whole first [] db
-      (subst (λ es. Holds db es (noted_in first)) (sym (append-nil (stored_in first))) (settled opened_now db may)) in
+      (subst (λ es. Holds (form_in first) db es (noted_in first)) (sym (append-nil (stored_in first))) (settled opened_now db may)) in
       record {
         was_clean = λ clean. clean;
         within = omega arith;
@@ -103,6 +104,7 @@ module _ {S : Type 0} (view : S → View) (recovers : S → Trees → Type 0) wh
           is_open = (opened clean).0;
           held = (opened clean).1 ∙ sym (append-nil (stored_in first));
           noted = refl;
+          form = refl;
           leaves = whole (opened clean).0;
           settled = λ _. whole (opened clean).0;
         };
@@ -118,6 +120,7 @@ module _ {S : Type 0} (view : S → View) (recovers : S → Trees → Type 0) wh
       is_open = s.is_open;
       held = s.held;
       noted = s.noted;
+      form = s.form;
       leaves = λ db may. LeavesPart-least (view first.store) changes sure less db fewer (s.leaves db may);
       settled = s.settled;
     };
@@ -148,6 +151,7 @@ module _ {S : Type 0} (view : S → View) (recovers : S → Trees → Type 0) wh
         held = a.held ∙ ap (λ es. es ++ change ∷ []) s.held
             ∙ append_assoc (stored_in (view first.store)) changes (change ∷ []);
         noted = a.noted ∙ s.noted;
+        form = a.form ∙ s.form;
         leaves =
             λ db may. LeavesPart-more (view first.store) changes (change ∷ []) sure db (s.leaves db (crash db may));
         settled = λ none. absurd (some none);
@@ -165,7 +169,8 @@ module _ {S : Type 0} (view : S → View) (recovers : S → Trees → Type 0) wh
     pub HasKept-commit : ForgetsNothing view faults old.store new.store
         → (IsClean (view new.store) → Commits (view old.store) (view new.store))
         → (IsClean (view new.store) → (db : Trees)
-        → recovers new.store db → Holds db (held_in (view old.store)) (noted_in (view old.store)))
+        → recovers new.store db
+        → Holds (form_in (view old.store)) db (held_in (view old.store)) (noted_in (view old.store)))
         → HasKept view recovers first new changes (length changes)
     HasKept-commit goes commits durable = record {
       was_clean = λ clean. kept.was_clean (before goes clean);
@@ -175,11 +180,12 @@ module _ {S : Type 0} (view : S → View) (recovers : S → Trees → Type 0) wh
           let c = commits clean in
           let whole : (db : Trees) → recovers new.store db → LeavesPart (view first.store) changes (length changes) db =
           λ db may.
-          LeavesPart-whole (view first.store) changes db (rw (s.held, s.noted) at (durable clean db may)) in
+          LeavesPart-whole (view first.store) changes db (rw (s.held, s.noted, s.form) at (durable clean db may)) in
           record {
             is_open = c.is_open;
             held = c.held ∙ s.held;
             noted = c.noted ∙ s.noted;
+            form = c.form ∙ s.form;
             leaves = whole;
             settled = λ _. whole;
           };
@@ -187,18 +193,20 @@ module _ {S : Type 0} (view : S → View) (recovers : S → Trees → Type 0) wh
 
     pub HasBroken-commit : ForgetsNothing view faults old.store new.store
         → ((db : Trees) → recovers new.store db
-        → (IsClean (view old.store) × Holds db (held_in (view old.store)) (noted_in (view old.store)))
+        → (IsClean (view old.store)
+        × Holds (form_in (view old.store)) db (held_in (view old.store)) (noted_in (view old.store)))
         ⊎ recovers old.store db) → HasBroken view recovers first new changes sure
     HasBroken-commit goes crash = record {
       was_clean = λ clean. kept.was_clean (before goes clean);
       leaves = λ clean db may. left (kept.stands (before goes clean)) db (crash db may);
     } where
       left : Stands view recovers (view first.store) old changes sure → (db : Trees)
-          → (IsClean (view old.store) × Holds db (held_in (view old.store)) (noted_in (view old.store)))
+          → (IsClean (view old.store)
+        × Holds (form_in (view old.store)) db (held_in (view old.store)) (noted_in (view old.store)))
           ⊎ recovers old.store db → LeavesPart (view first.store) changes sure db
       left s db (inl made) =
           LeavesPart-least (view first.store) changes (length changes) sure db kept.within
-          (LeavesPart-whole (view first.store) changes db (rw (s.held, s.noted) at made.1))
+          (LeavesPart-whole (view first.store) changes db (rw (s.held, s.noted, s.form) at made.1))
       left s db (inr was) = s.leaves db was
 
   -- where nothing waits, all is certain
@@ -211,6 +219,7 @@ module _ {S : Type 0} (view : S → View) (recovers : S → Trees → Type 0) wh
       is_open = s.is_open;
       held = s.held;
       noted = s.noted;
+      form = s.form;
       leaves = s.settled none;
       settled = s.settled;
     };

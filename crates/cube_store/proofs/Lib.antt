@@ -2,4 +2,5 @@ mod ClosingLaws
 mod CodeLaws
 mod FileLaws
 mod KeepingLaws
+mod ListedLaws
 mod NotingLaws

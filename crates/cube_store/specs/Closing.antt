@@ -9,7 +9,7 @@ use Rattle.sqlite_trees.specs.Tree.{Trees}
 use Rattle.sqlite_trees.specs.View.{IsClean}
 use Rattle.sqlite_store.specs.declared.store.FileStore.{FileStore}
 use Rattle.sqlite_store.specs.FileStore.{state, view, files, recovers, faults, reading, log_frames, HasSpilled}
-use Rattle.cube_journal.specs.State.{stored_in, noted_in, Holds}
+use Rattle.cube_journal.specs.State.{stored_in, noted_in, stored_form, Holds}
 use Rattle.cube_store.specs.declared.fault.StoreFault.{StoreFault}
 use Rattle.cube_store.specs.Codes.{HasReason}
 
@@ -25,7 +25,7 @@ module _ {D : Type 0} {g : Ghosts D} where
   pub record IsCopied (was it : FileStore D g) : Type 0 where
     pub is_open : IsTrue (view it).is_open
     pub same : view it ≡ view was
-    pub holds : Holds (view it).committed (stored_in (view was)) (noted_in (view was))
+    pub holds : Holds (stored_form (view was)) (view it).committed (stored_in (view was)) (noted_in (view was))
     pub now : ReadsLast it (seen_image g (files it).0 (files it).1)
     pub crash : (left : Image) → (state it).may_leave left → ReadsLast it left
 

@@ -9,8 +9,8 @@ use Rattle.sqlite_wal.specs.declared.error.Error.TheVariants as log
 use Rattle.cube_journal.specs.declared.fault.OpenFault.{OpenFault}
 use Rattle.cube_journal.specs.declared.fault.OpenFault.TheVariants as kind
 use Rattle.cube_store.specs.declared.fault.StoreFault.{StoreFault}
-use Rattle.cube_store.specs.declared.fault.StoreFault.TheVariants.{InUse, CantOpen, NotAStore, Row, Feed, Failed}
-use Rattle.cube_store.specs.declared.fault.StoreFault.TheVariants.{NoRoom, Memory}
+use Rattle.cube_store.specs.declared.fault.StoreFault.TheVariants.{InUse, CantOpen, NotAStore, Row, Digest, Feed}
+use Rattle.cube_store.specs.declared.fault.StoreFault.TheVariants.{Failed, NoRoom, Memory}
 
 -- What a failed call on an open store is told as (this project's choice).
 abbrev pub code_of_failure : StoreError → StoreFault
@@ -27,6 +27,7 @@ open_code_of (kind.Store error) = code_of_failure error
 open_code_of kind.NoTables = NotAStore
 open_code_of (kind.Feed source) = Feed source
 open_code_of (kind.Row number) = Row number
+open_code_of (kind.Digest number) = Digest number
 open_code_of kind.TooMany = NotAStore
 
 -- What refused files are told as (this project's choice).
@@ -53,6 +54,7 @@ TellsFailedCall InUse = ⊥
 TellsFailedCall CantOpen = ⊥
 TellsFailedCall NotAStore = ⊥
 TellsFailedCall (Row number) = ⊥
+TellsFailedCall (Digest number) = ⊥
 TellsFailedCall (Feed source) = ⊥
 TellsFailedCall Failed = ⊤
 TellsFailedCall NoRoom = ⊤
@@ -65,6 +67,7 @@ HasReason fault broken InUse = ⊥
 HasReason fault broken CantOpen = ⊥
 HasReason fault broken NotAStore = ⊥
 HasReason fault broken (Row number) = ⊥
+HasReason fault broken (Digest number) = ⊥
 HasReason fault broken (Feed source) = ⊥
 HasReason fault broken Failed = fault ⊎ broken
 HasReason fault broken NoRoom = fault

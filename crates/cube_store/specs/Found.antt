@@ -1,6 +1,10 @@
 -- What is found in a store's two files.
-use Rattle.std.specs.Prelude.{◌≡◌, ◌⊎◌, List, [], ◌∷◌, codes, IsTrue}
+use Rattle.std.specs.Prelude.{◌≡◌, ◌⊎◌, ◌^◌, ℕ, Bool, if◌then◌else◌, List, [], ◌∷◌, codes, Option, Some, None}
+use Rattle.std.specs.Prelude.{IsTrue}
+use Rattle.std.specs.List.{list_any}
 use Rattle.sqlite_value.specs.declared.value.Value.TheVariants.{Text}
+use Rattle.sqlite_value.specs.Order.{Row}
+use Rattle.sqlite_pool.specs.File.{in_use}
 use Rattle.sqlite_wal.specs.Recovery.{Image}
 use Rattle.sqlite_pages.specs.PageMap.{PageMap}
 use Rattle.sqlite_pool.specs.Stored.{Recovers}
@@ -8,19 +12,32 @@ use Rattle.sqlite_trees.specs.declared.store.Shape.TheVariants.{Table}
 use Rattle.sqlite_trees.specs.Tree.{Trees}
 use Rattle.sqlite_trees.specs.View.{View}
 use Rattle.sqlite_store.specs.declared.catalog.Wanted.{Wanted}
-use Rattle.sqlite_store.specs.Db.{IsFile}
+use Rattle.sqlite_store.specs.Catalog.{describes}
+use Rattle.sqlite_store.specs.Db.{IsFile, rows_at}
 use Rattle.sqlite_store.specs.Listing.{file_trees}
-use Rattle.cube_journal.specs.State.{HasTables, IsUnmade}
+use Rattle.cube_journal.specs.declared.form.RowForm.{RowForm}
+use Rattle.cube_journal.specs.declared.form.RowForm.TheVariants.{Plain, Chained}
+use Rattle.cube_journal.specs.State.{HasTables, IsUnmade, stored_form}
 
--- The table of changes, by its text (this project's choice).
-abbrev pub changes_table : Wanted
-changes_table = record {
+-- The text of the table of changes whose rows have digests (this project's choice).
+abbrev pub digests_text : List ℕ
+digests_text =
+    codes "CREATE TABLE changes(number INTEGER PRIMARY KEY, source INTEGER NOT NULL, record BLOB NOT NULL, digest BLOB NOT NULL) STRICT"
+
+-- The table of changes, by its text. The bit of a column that no row has tells the forms apart (this project's choice).
+abbrev pub changes_table : RowForm → Wanted
+changes_table Plain = record {
   shape = Table;
   reals = 0;
   row = Text (codes "table") ∷ Text (codes "changes") ∷ Text (codes "changes")
       ∷ Text
       (codes "CREATE TABLE changes(number INTEGER PRIMARY KEY, source INTEGER NOT NULL, record BLOB NOT NULL) STRICT")
       ∷ [];
+}
+changes_table Chained = record {
+  shape = Table;
+  reals = 2 ^ 63;
+  row = Text (codes "table") ∷ Text (codes "changes") ∷ Text (codes "changes") ∷ Text digests_text ∷ [];
 }
 
 -- The table of the notes on feeds, by its text (this project's choice).
@@ -35,24 +52,71 @@ feeds_table = record {
 }
 
 -- A store's schema is these two tables, and nothing else (this project's choice).
-abbrev pub store_schema : List Wanted
-store_schema = changes_table ∷ feeds_table ∷ []
+abbrev pub store_schema : RowForm → List Wanted
+store_schema form = changes_table form ∷ feeds_table ∷ []
+
+-- One of the rows of a file's list of tables is that of the table of changes with digests (this project's choice).
+abbrev pub list_digests : List Row → Bool
+list_digests rows = list_any (λ row. describes (changes_table Chained) row) rows
+
+-- Which form the table of changes has in a file with these rows in its list of tables (this project's choice).
+abbrev pub listed_form : List Row → RowForm
+listed_form rows = if list_digests rows then Chained else Plain
+
+-- The list of tables in the pages of a file (SQLite's "Database File Format").
+abbrev pub catalog_in : PageMap → List Row
+catalog_in pages = rows_at 4096 (in_use 4096 pages) Table 1
 
 -- The tables in the pages of a store's file (this project's choice).
-abbrev pub tables_in : PageMap → Trees
-tables_in pages = file_trees 4096 store_schema pages
+abbrev pub tables_in : RowForm → PageMap → Trees
+tables_in form pages = file_trees 4096 (store_schema form) pages
 
--- The files recover to sound pages that list these two tables, and no other table or index (this project's choice).
+-- The files recover to sound pages that list these two tables, that of changes in this form, and no other table or index
+-- (this project's choice).
+abbrev pub StoreOf : RowForm → Image → Type 0
+StoreOf form image = (pages : PageMap) × Recovers 4096 image pages × IsFile 4096 (store_schema form) pages
+    × (listed_form (catalog_in pages) ≡ form)
+
+-- They do in one of the two forms (this project's choice).
 abbrev pub StoreIn : Image → Type 0
-StoreIn image = (pages : PageMap) × Recovers 4096 image pages × IsFile 4096 store_schema pages
+StoreIn image = (form : RowForm) × StoreOf form image
 
--- The files recover to pages whose tables are what the last commit of a store has (this project's choice).
+-- The files recover to pages whose tables, by the schema of this form, are what the last commit of a store has
+-- (this project's choice).
+abbrev pub HasTablesOf : RowForm → Image → View → Type 0
+HasTablesOf form image v = (pages : PageMap) × Recovers 4096 image pages
+    × (v.committed 0 ≡ tables_in form pages 0) × (v.committed 1 ≡ tables_in form pages 1)
+
+-- The files recover to pages with a list of tables in this form, before a look and after it (this project's choice).
+pub record ListsAs (old new : Image) (form : RowForm) : Type 0 where
+  pub pages : PageMap
+  pub found : Recovers 4096 old pages
+  pub again : Recovers 4096 new pages
+  pub listed : listed_form (catalog_in pages) ≡ form
+
+-- A look has found in which form the files list the table of changes; or that they hold no store (this project's choice).
+abbrev pub HasLooked : Image → Image → Option RowForm → Type 0
+HasLooked old new (Some form) = ListsAs old new form
+HasLooked old new None = StoreIn old → ⊥
+
+-- A store is open on what the files hold in this form; or it has no row and is of the form with digests,
+-- and the files held none in this form (this project's choice).
+pub record IsFoundAs (form : RowForm) (image : Image) (v : View) : Type 0 where
+  pub is_open : IsTrue v.is_open
+  pub tables : HasTables v
+  pub found : ((stored_form v ≡ form) × HasTablesOf form image v)
+      ⊎ (IsUnmade v × (stored_form v ≡ Chained) × (StoreOf form image → ⊥))
+
+-- The files recover to pages whose tables are what the last commit of a store has, in the form that they list
+-- (this project's choice).
 abbrev pub ReadsAs : Image → View → Type 0
-ReadsAs image v = (pages : PageMap) × Recovers 4096 image pages × (v.committed 0 ≡ tables_in pages 0)
-    × (v.committed 1 ≡ tables_in pages 1)
+ReadsAs image v = (pages : PageMap) × Recovers 4096 image pages
+    × (v.committed 0 ≡ tables_in (stored_form v) pages 0) × (v.committed 1 ≡ tables_in (stored_form v) pages 1)
+    × (listed_form (catalog_in pages) ≡ stored_form v)
 
--- A store is open on what the files hold; or it has no row, and the files held none (this project's choice).
+-- A store is open on what the files hold; or it has no row and is of the form with digests, and the files held none
+-- (this project's choice).
 pub record IsFound (image : Image) (v : View) : Type 0 where
   pub is_open : IsTrue v.is_open
   pub tables : HasTables v
-  pub found : ReadsAs image v ⊎ (IsUnmade v × (StoreIn image → ⊥))
+  pub found : ReadsAs image v ⊎ (IsUnmade v × (stored_form v ≡ Chained) × (StoreIn image → ⊥))

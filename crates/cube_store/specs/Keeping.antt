@@ -3,9 +3,9 @@ use Rattle.std.specs.Prelude.{◌≡◌, ◌⊎◌, ◌+◌, ◌<◌, ◌≤◌,
 use Rattle.std.specs.Coded.{Coded, code_by, coded×, coded_ℕ}
 use Rattle.std.specs.Prelude.{refl}
 use Rattle.sqlite_trees.specs.Tree.{Trees}
-use Rattle.sqlite_trees.specs.View.{View, IsClean, IsStorableRow}
-use Rattle.cube_journal.specs.Rows.{Entry, IsOfSource, row_of}
-use Rattle.cube_journal.specs.State.{held_in, stored_in, noted_in, Holds}
+use Rattle.sqlite_trees.specs.View.{View, IsClean}
+use Rattle.cube_journal.specs.Rows.{Entry, IsOfSource}
+use Rattle.cube_journal.specs.State.{held_in, stored_in, noted_in, form_in, Holds, CantHold}
 
 -- a store with the number of the changes that wait for a commit
 pub record Batch (S : Type 0) : Type 0 where
@@ -18,17 +18,17 @@ batch_code {S} store = code_by (S × ℕ) (coded× store coded_ℕ) (λ batch. (
     (λ parts. record { store = parts.0; waiting = parts.1 }) (λ _. refl)
 
 -- a crash leaves the changes that were stored first and a first part of these after them, so many at least,
--- byte for byte and in their order
+-- byte for byte, in their order and in the form that the store had first, with right digests if they have any
 pub record LeavesPart (first : View) (changes : List Entry) (sure : ℕ) (db : Trees) : Type 0 where
   pub count : ℕ
   pub at_least : sure ≤ count
   pub at_most : count ≤ length changes
-  pub holds : Holds db (stored_in first ++ take count changes) (noted_in first)
+  pub holds : Holds (form_in first) db (stored_in first ++ take count changes) (noted_in first)
 
 -- why a change can't be stored:
 -- a fault has shut the store, it isn't of a source, or its row has no room behind the changes so far
 abbrev pub CantStore : View → Entry → Type 0
-CantStore v change = (v.is_open ≡ false) ⊎ ((¬ IsStorableRow (v.reals 0) (row_of (length (held_in v) + 1) change))
+CantStore v change = (v.is_open ≡ false) ⊎ (CantHold (v.reals 0) (length (held_in v) + 1) change
     ⊎ ((2 ^ 62 < length (held_in v) + 1) ⊎ (¬ IsOfSource change)))
 
 -- a store takes the changes that it took: it isn't shut, and has the same changes so far
@@ -43,6 +43,7 @@ module _ {S : Type 0} (view : S → View) (recovers : S → Trees → Type 0) wh
     pub is_open : IsTrue (view now.store).is_open
     pub held : held_in (view now.store) ≡ stored_in first ++ changes
     pub noted : noted_in (view now.store) ≡ noted_in first
+    pub form : form_in (view now.store) ≡ form_in first
     pub leaves : (db : Trees) → recovers now.store db → LeavesPart first changes sure db
     pub settled : now.waiting ≡ 0 → (db : Trees) → recovers now.store db → LeavesPart first changes (length changes) db
 

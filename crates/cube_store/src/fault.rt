@@ -20,6 +20,9 @@ pub enum StoreFault {
     /// The row in this place isn't a change.
     #[error("D4 {0}")]
     Row(u64),
+    /// The digest of the row in this place isn't the one that chains it to those before it.
+    #[error("D9 {0}")]
+    Digest(u64),
     /// The feed of this source isn't the one that was noted; 0 is the schema's file.
     #[error("D5 {0}")]
     Feed(u64),
@@ -61,6 +64,7 @@ impl From<OpenFault> for StoreFault {
             OpenFault::NoTables | OpenFault::TooMany => StoreFault::NotAStore,
             OpenFault::Feed(source) => StoreFault::Feed(source),
             OpenFault::Row(number) => StoreFault::Row(number),
+            OpenFault::Digest(number) => StoreFault::Digest(number),
         }
     }
 }

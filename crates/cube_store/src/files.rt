@@ -6,14 +6,15 @@ ghost use Rattle.sqlite_wal.specs.Reads.{AreClean, OnlyReads};
 ghost use Rattle.sqlite_pool.specs.Opening.{IsBlankFile};
 ghost use Rattle.sqlite_trees.specs.View.{IsClean};
 ghost use Rattle.sqlite_store.specs.FileStore.{view};
-ghost use Rattle.sqlite_store.specs.Unopened.{state_of, wanted_by, files_of, image, AreUsable};
+ghost use Rattle.sqlite_store.specs.Unopened.{state_of, wanted_by, files_of, AreUsable};
 ghost use Rattle.sqlite_std_file.specs.File.{file_is_usable, IsFresh};
-ghost use Rattle.cube_journal.specs.State.{HasTables, IsUnmade};
+ghost use Rattle.cube_journal.specs.State.{HasTables, IsUnmade, stored_form};
 ghost use Rattle.cube_store.specs.Codes.{file_code_of, TellsFailedCall};
-ghost use Rattle.cube_store.specs.Found.{store_schema, StoreIn, ReadsAs, IsFound};
+ghost use Rattle.cube_store.specs.Found.{store_schema, StoreOf, StoreIn, HasTablesOf, HasLooked, IsFoundAs, IsFound};
 
 use crate::fault::StoreFault;
-use crate::tables::schema;
+use crate::tables::{listed_form, schema};
+use cube_journal::RowForm;
 use sqlite_disk::{Disk, Files, Start};
 use sqlite_pager::{Options, Pager};
 use sqlite_pool::probe_blank;
@@ -79,15 +80,17 @@ fn begin_well<D: Disk>(alloc: Global, files: &mut Files<D>) -> Result<bool, Stor
     }
 }
 
-/// The files with the schema of a store, of which nothing is known yet. It gives them back where memory is wanting.
+/// The files with the schema of a store in this form, of which nothing is known yet. It gives them back where memory is
+/// wanting.
 fn unopened<D: Disk>(
     alloc: Global,
     files: Files<D>,
     options: Options,
+    form: RowForm,
 ) -> Result<Unopened<D>, Files<D>>
     ensures files { IfOk result (λ it. files_of it ≡ (files.log, files.db)) }
     ensures size { IfOk result (λ it. (state_of it).page_size ≡ 4096) }
-    ensures schema { IfOk result (λ it. wanted_by it ≡ store_schema) }
+    ensures schema { IfOk result (λ it. wanted_by it ≡ store_schema form) }
     ensures back_log { IfErr result (λ left. left.log ≡ files.log) }
     ensures back_db { IfErr result (λ left. left.db ≡ files.db) }
 {
@@ -95,17 +98,48 @@ fn unopened<D: Disk>(
         Ok(pager) => pager,
         Err(failed) => return Err(failed.value),
     };
-    match Unopened::new(alloc, pager, &schema()) {
+    match Unopened::new(alloc, pager, &schema(form)) {
         Ok(it) => Ok(it),
         Err(failed) => Err(failed.value.close()),
     }
 }
 
-/// Makes the two tables in files that hold nothing, or no more than a making that was cut short leaves.
+/// In which form the files list the table of changes, if what they list can be read.
+fn look<D: Disk>(
+    alloc: Global,
+    files: Files<D>,
+    options: Options,
+) -> Result<(Option<RowForm>, Files<D>), (StoreFault, Files<D>)>
+    requires log { IsTrue (D.Disk.is_usable files.log) }
+    requires db { IsTrue (D.Disk.is_usable files.db) }
+    ensures seen { IfOk result (λ r. AreClean D.Disk r.1.log r.1.db → HasLooked (seen_image D.Disk files.log files.db) (seen_image D.Disk r.1.log r.1.db) r.0) }
+    ensures usable { IfOk result (λ r. IsTrue (D.Disk.is_usable r.1.log) × IsTrue (D.Disk.is_usable r.1.db)) }
+    ensures honest { IfOk result (λ r. AreClean D.Disk r.1.log r.1.db → AreClean D.Disk files.log files.db) }
+    ensures cause { IfErr result (λ e. AreClean D.Disk e.1.log e.1.db → StoreIn (seen_image D.Disk files.log files.db) → TellsFailedCall e.0) }
+{
+    let mut fresh = match unopened(alloc, files, options, RowForm::Chained) {
+        Ok(fresh) => fresh,
+        Err(left) => return Err((StoreFault::Memory, left)),
+    };
+    match fresh.read_catalog() {
+        Ok(rows) => Ok((Some(listed_form(&rows)), fresh.close())),
+        Err(error) => {
+            let left = fresh.close();
+            match error {
+                OpenError::Refused if left.may_be_used() => Ok((None, left)),
+                _ => Err((StoreFault::from(error), left)),
+            }
+        }
+    }
+}
+
+/// Makes the two tables in files that hold nothing, or no more than a making that was cut short leaves: that of changes has
+/// digests.
 fn make_tables<D: Disk>(fresh: Unopened<D>) -> Result<FileStore<D>, (StoreFault, Files<D>)>
     requires usable { AreUsable fresh }
-    requires schema { wanted_by fresh ≡ store_schema }
+    requires schema { wanted_by fresh ≡ store_schema RowForm.Chained }
     ensures made { IfOk result (λ it. IsClean (view it) → IsUnmade (view it)) }
+    ensures form { IfOk result (λ it. stored_form (view it) ≡ RowForm.Chained) }
     ensures honest { IfOk result (λ it. IsClean (view it) → IsTrue (state_of fresh).is_clean) }
     ensures falls { IfErr result (λ e. AreClean D.Disk e.1.log e.1.db → IsTrue (state_of fresh).is_clean) }
 {
@@ -116,17 +150,26 @@ fn make_tables<D: Disk>(fresh: Unopened<D>) -> Result<FileStore<D>, (StoreFault,
 }
 
 /// Recovers the files, and checks each page.
-fn attach<D: Disk>(fresh: Unopened<D>) -> Result<FileStore<D>, (OpenError, Files<D>)>
-    requires usable { AreUsable fresh }
-    requires size { (state_of fresh).page_size ≡ 4096 }
-    requires schema { wanted_by fresh ≡ store_schema }
+fn attach<D: Disk>(
+    alloc: Global,
+    files: Files<D>,
+    options: Options,
+    form: RowForm,
+) -> Result<FileStore<D>, (OpenError, Files<D>)>
+    requires log { IsTrue (D.Disk.is_usable files.log) }
+    requires db { IsTrue (D.Disk.is_usable files.db) }
     ensures is_open { IfOk result (λ it. IsClean (view it) → IsTrue (view it).is_open) }
     ensures tables { IfOk result (λ it. HasTables (view it)) }
-    ensures reads { IfOk result (λ it. IsClean (view it) → ReadsAs (image fresh) (view it)) }
-    ensures honest { IfOk result (λ it. IsClean (view it) → IsTrue (state_of fresh).is_clean) }
-    ensures falls { IfErr result (λ e. AreClean D.Disk e.1.log e.1.db → IsTrue (state_of fresh).is_clean) }
-    ensures cause { IfErr result (λ e. AreClean D.Disk e.1.log e.1.db → StoreIn (image fresh) → TellsFailedCall (file_code_of e.0)) }
+    ensures form { IfOk result (λ it. stored_form (view it) ≡ form) }
+    ensures reads { IfOk result (λ it. IsClean (view it) → HasTablesOf form (seen_image D.Disk files.log files.db) (view it)) }
+    ensures honest { IfOk result (λ it. IsClean (view it) → AreClean D.Disk files.log files.db) }
+    ensures falls { IfErr result (λ e. AreClean D.Disk e.1.log e.1.db → AreClean D.Disk files.log files.db) }
+    ensures cause { IfErr result (λ e. AreClean D.Disk e.1.log e.1.db → StoreOf form (seen_image D.Disk files.log files.db) → TellsFailedCall (file_code_of e.0)) }
 {
+    let fresh = match unopened(alloc, files, options, form) {
+        Ok(fresh) => fresh,
+        Err(left) => return Err((OpenError::OutOfMemory, left)),
+    };
     match fresh.open() {
         Ok(store) => Ok(store),
         Err((error, left)) => Err((error, left.close())),
@@ -142,35 +185,55 @@ fn finish<D: Disk>(
     requires log { IsTrue (D.Disk.is_usable files.log) }
     requires db { IsTrue (D.Disk.is_usable files.db) }
     ensures made { IfOk result (λ it. IsClean (view it) → IsUnmade (view it)) }
+    ensures form { IfOk result (λ it. stored_form (view it) ≡ RowForm.Chained) }
     ensures honest { IfOk result (λ it. IsClean (view it) → AreClean D.Disk files.log files.db) }
     ensures falls { IfErr result (λ e. AreClean D.Disk e.1.log e.1.db → AreClean D.Disk files.log files.db) }
 {
-    match unopened(alloc, files, options) {
+    match unopened(alloc, files, options, RowForm::Chained) {
         Ok(fresh) => make_tables(fresh),
         Err(left) => Err((StoreFault::Memory, left)),
     }
 }
 
-/// Opens the store that the files hold, or makes the tables where a making was cut short before them.
+/// Opens the store in this form that the files hold, or makes the tables where a making was cut short before them.
 fn attach_or_finish<D: Disk>(
     alloc: Global,
-    fresh: Unopened<D>,
+    files: Files<D>,
     options: Options,
+    form: RowForm,
 ) -> Result<FileStore<D>, (StoreFault, Files<D>)>
-    requires usable { AreUsable fresh }
-    requires size { (state_of fresh).page_size ≡ 4096 }
-    requires schema { wanted_by fresh ≡ store_schema }
-    ensures found { IfOk result (λ it. IsClean (view it) → IsFound (image fresh) (view it)) }
-    ensures honest { IfOk result (λ it. IsClean (view it) → IsTrue (state_of fresh).is_clean) }
-    ensures falls { IfErr result (λ e. AreClean D.Disk e.1.log e.1.db → IsTrue (state_of fresh).is_clean) }
-    ensures accepts { IfErr result (λ e. AreClean D.Disk e.1.log e.1.db → StoreIn (image fresh) → TellsFailedCall e.0) }
+    requires log { IsTrue (D.Disk.is_usable files.log) }
+    requires db { IsTrue (D.Disk.is_usable files.db) }
+    ensures found { IfOk result (λ it. IsClean (view it) → IsFoundAs form (seen_image D.Disk files.log files.db) (view it)) }
+    ensures honest { IfOk result (λ it. IsClean (view it) → AreClean D.Disk files.log files.db) }
+    ensures falls { IfErr result (λ e. AreClean D.Disk e.1.log e.1.db → AreClean D.Disk files.log files.db) }
+    ensures accepts { IfErr result (λ e. AreClean D.Disk e.1.log e.1.db → StoreOf form (seen_image D.Disk files.log files.db) → TellsFailedCall e.0) }
 {
-    match attach(fresh) {
+    match attach(alloc, files, options, form) {
         Ok(store) => Ok(store),
         Err((error, files)) => match error {
             OpenError::Refused if files.may_be_used() => finish(alloc, files, options),
             _ => Err((StoreFault::from(error), files)),
         },
+    }
+}
+
+/// Opens the store in files whose form was looked at, or makes the tables where a making was cut short before them.
+fn open_looked<D: Disk>(
+    alloc: Global,
+    files: Files<D>,
+    options: Options,
+) -> Result<FileStore<D>, (StoreFault, Files<D>)>
+    requires log { IsTrue (D.Disk.is_usable files.log) }
+    requires db { IsTrue (D.Disk.is_usable files.db) }
+    ensures found { IfOk result (λ it. IsClean (view it) → IsFound (seen_image D.Disk files.log files.db) (view it)) }
+    ensures honest { IfOk result (λ it. IsClean (view it) → AreClean D.Disk files.log files.db) }
+    ensures accepts { IfErr result (λ e. AreClean D.Disk e.1.log e.1.db → StoreIn (seen_image D.Disk files.log files.db) → TellsFailedCall e.0) }
+{
+    match look(alloc, files, options) {
+        Ok((Some(form), files)) => attach_or_finish(alloc, files, options, form),
+        Ok((None, files)) => finish(alloc, files, options),
+        Err(refused) => Err(refused),
     }
 }
 
@@ -187,20 +250,17 @@ fn open_held<D: Disk>(
     ensures accepts { IfErr result (λ e. AreClean D.Disk e.1.log e.1.db → StoreIn (seen_image D.Disk files.log files.db) → TellsFailedCall e.0) }
 {
     match begin_well(alloc, &mut files) {
-        Ok(true) => {}
-        Ok(false) => return Err((StoreFault::NotAStore, files)),
-        Err(fault) => return Err((fault, files)),
-    }
-    match unopened(alloc, files, options) {
-        Ok(fresh) => attach_or_finish(alloc, fresh, options),
-        Err(left) => Err((StoreFault::Memory, left)),
+        Ok(true) => open_looked(alloc, files, options),
+        Ok(false) => Err((StoreFault::NotAStore, files)),
+        Err(fault) => Err((fault, files)),
     }
 }
 
 /// Opens the store that two files hold, or makes its two tables where they hold none. `seed` is a random number.
 ///
-/// Files that recover to sound pages of these two tables, with no other table or index, are refused only where a call fails. An error gives the
-/// files back.
+/// A new table of changes has digests; one without, as stores up to release 1.11 have it, is opened as it is. Files that
+/// recover to sound pages of these two tables, with no other table or index, are refused only where a call fails. An error
+/// gives the files back.
 pub fn open_files<D: Disk>(
     alloc: Global,
     mut files: Files<D>,

@@ -14,7 +14,7 @@ ghost use Rattle.cube_store.specs.Found.{StoreIn, IsFound};
 use crate::fault::StoreFault;
 use crate::files::page_size;
 use crate::tables::schema;
-use cube_journal::{ChangeJournal, ChangeSink, FeedNote, open_or_make};
+use cube_journal::{ChangeJournal, ChangeSink, FeedNote, form_of, open_or_make};
 use sqlite_disk::Disk;
 use sqlite_store::FileStore;
 use sqlite_trees::store::Store;
@@ -51,7 +51,8 @@ pub fn next_open<D: Disk>(journal: &ChangeJournal<FileStore<D>>) -> Result<bool,
     ensures found { IfOk result (λ same. IsTrue same → (left : Image) → (state journal.now.store).may_leave left → (v : View) → IsFound left v
         → ((db : Trees) × recovers journal.now.store db × (v.committed 0 ≡ db 0) × (v.committed 1 ≡ db 1))) }
 {
-    journal.store().is_over(page_size(), &schema())
+    let store = journal.store();
+    store.is_over(page_size(), &schema(form_of(store)))
 }
 
 /// Copies the log into the file, so that one file is left, and gives the store back, whose `close` gives the two files. What

@@ -8,7 +8,7 @@ use Rattle.sqlite_trees.specs.View.{View, IsClean}
 use Rattle.cube_core.specs.Items.{is_read}
 use Rattle.cube_core.specs.Layout.{Layout}
 use Rattle.cube_journal.specs.Rows.{Entry}
-use Rattle.cube_journal.specs.State.{Holds, LeadsTo, stored_in, noted_in}
+use Rattle.cube_journal.specs.State.{Holds, LeadsTo, stored_in, noted_in, form_in, stored_form}
 use Rattle.cube_session.specs.Keeping.{FailsKept, Keeping, KeepsBy, KeepsOn, KeepsPart, LeavesAt, Noted, keeping_after}
 use Rattle.cube_session.specs.Keeping.{keeping_by, keeping_with, made_sure, with_change}
 use Rattle.cube_live.specs.Live.{LiveView}
@@ -104,13 +104,14 @@ module _ {S : Type 0} (view : S → View) (recovers : S → Trees → Type 0) wh
       (fresh : HasKept view recovers begun begun [] 0)
       (taken : IsClean (view begun.store) → LeadsTo TakesStored live (stored_in was) resumed)
       (stored : IsClean (view begun.store) → stored_in (view begun.store) ≡ stored_in was)
-      (noted : IsClean (view begun.store) → noted_in (view begun.store) ≡ notes) where
+      (noted : IsClean (view begun.store) → noted_in (view begun.store) ≡ notes)
+      (formed : IsClean (view begun.store) → form_in (view begun.store) ≡ stored_form was) where
     -- what a crash leaves, said of the store as it was
     part-of : IsClean (view begun.store) → (changes : List Entry) (sure : ℕ) (db : Trees)
         → LeavesPart (view begun.store) changes sure db
-        → (part : ℕ) × (sure ≤ part) × (part ≤ length changes) × Holds db (stored_in was ++ take part changes) notes
+        → (part : ℕ) × (sure ≤ part) × (part ≤ length changes) × Holds (stored_form was) db (stored_in was ++ take part changes) notes
     part-of clean changes sure db part =
-        (part.count, part.at_least, part.at_most, rw (stored clean, noted clean) at part.holds)
+        (part.count, part.at_least, part.at_most, rw (stored clean, noted clean, formed clean) at part.holds)
 
     -- ---- where it ended well
     served : (records : List (List (List ℕ))) (after : LiveView) (old new : Option (List ℕ))
@@ -133,7 +134,7 @@ module _ {S : Type 0} (view : S → View) (recovers : S → Trees → Type 0) wh
               let part = part-of clean_first (stored_all told) (length told) db (stands.leaves db may) in
               let whole : take part.0 (stored_all told) ≡ stored_all told =
               take_all part.0 (stored_all told) (omega (arith, part.1, length-map told stored_as)) in
-              subst (λ es. Holds db (stored_in was ++ es) notes) (whole ∙ same) part.3;
+              subst (λ es. Holds (stored_form was) db (stored_in was ++ es) notes) (whole ∙ same) part.3;
           answered = λ start here. (rw schema at (serves (arrivals_from live.schema start (stored_in was))
               (LeadsTo-stands live resumed (stored_in was) (taken clean_first) start here))).0;
           stands = λ start here. (rw schema at (serves (arrivals_from live.schema start (stored_in was))
@@ -168,14 +169,14 @@ module _ {S : Type 0} (view : S → View) (recovers : S → Trees → Type 0) wh
     left_part : (k next : Keeping) → Grows k next
         → KeepsPart (keeps view recovers) (breaks view recovers) begun now k next → IsClean (view now.store)
         → (db : Trees) → recovers now.store db
-        → (part : ℕ) × (k.sure ≤ part) × Holds db (stored_in was ++ take part (stored_all next.told)) notes
+        → (part : ℕ) × (k.sure ≤ part) × Holds (stored_form was) db (stored_in was ++ take part (stored_all next.told)) notes
     left_part k next grows (inl kept) clean db may =
         let part = part-of (kept.was_clean clean) (stored_all k.told) k.sure db ((kept.stands clean).leaves db may) in
         let longer : take part.0 (stored_all next.told) ≡ take part.0 (stored_all k.told) =
         ap (λ told. take part.0 (stored_all told)) grows.told_is
         ∙ ap (λ es. take part.0 es) (stored_all-append k.told grows.more)
         ∙ take-append-le part.0 (stored_all k.told) (stored_all grows.more) part.2 in
-        (part.0, part.1, subst (λ es. Holds db (stored_in was ++ es) notes) (sym longer) part.3)
+        (part.0, part.1, subst (λ es. Holds (stored_form was) db (stored_in was ++ es) notes) (sym longer) part.3)
     left_part k next grows (inr (inl kept)) clean db may =
         let part =
         part-of (kept.was_clean clean) (stored_all next.told) next.sure db ((kept.stands clean).leaves db may) in
@@ -231,16 +232,17 @@ module _ {S : Type 0} (view : S → View) (recovers : S → Trees → Type 0) wh
       → (IsClean (view begun.store) → LeadsTo TakesStored live (stored_in was) resumed)
       → (IsClean (view begun.store) → stored_in (view begun.store) ≡ stored_in was)
       → (IsClean (view begun.store) → noted_in (view begun.store) ≡ notes)
+      → (IsClean (view begun.store) → form_in (view begun.store) ≡ stored_form was)
       → (left : Option (List (List (List ℕ)))) (fault : SessionFault) (old new : Option (List ℕ))
       → IfSome left (FailsStored view recovers resumed begun store fault old new)
       → IfSome left (λ records. IsClean (view store)
       → BreaksSession live.schema was notes records live (recovers store) old new fault)
-  BreaksSession-failed live resumed was notes begun store fresh taken stored noted None fault old new fails = tt
-  BreaksSession-failed live resumed was notes begun store fresh taken stored noted (Some records) fault old new fails =
+  BreaksSession-failed live resumed was notes begun store fresh taken stored noted formed None fault old new fails = tt
+  BreaksSession-failed live resumed was notes begun store fresh taken stored noted formed (Some records) fault old new fails =
       λ clean.
       subst (λ (it : S). BreaksSession live.schema was notes records live (recovers it) old new fault)
       (sym fails.store_is)
-      (BreaksSession-broken live resumed was notes begun fails.ended fresh taken stored noted
+      (BreaksSession-broken live resumed was notes begun fails.ended fresh taken stored noted formed
       (Some records) fault old new fails.fails
       (subst (λ (it : S). IsClean (view it)) fails.store_is clean))
 

@@ -7,7 +7,7 @@ use Rattle.cube_core.specs.Arrival.{Arrivals}
 use Rattle.cube_core.specs.Layout.{Layout}
 use Rattle.cube_journal.specs.Making.{LeavesNotes}
 use Rattle.cube_journal.specs.Rows.{Entry}
-use Rattle.cube_journal.specs.State.{held_in, stored_in, Holds}
+use Rattle.cube_journal.specs.State.{held_in, stored_in, stored_form, Holds}
 use Rattle.cube_session.specs.Keeping.{Keeping, LeavesAt, keeping_after}
 use Rattle.cube_live.specs.Live.{LiveView, LiveStandsAt}
 use Rattle.cube_session.specs.Serving.{Answered}
@@ -36,7 +36,7 @@ certain_in s records = (keeping_after s nothing records).sure
 pub record ServesStored (s : Layout) (was : View) (notes : List Entry) (records : List (List (List ℕ)))
     (before after : LiveView) (now : View) (Leaves : Trees → Type 0) (old new : Option (List ℕ)) : Type 0 where
   pub held : held_in now ≡ stored_in was ++ changes_in s records
-  pub leaves : (db : Trees) → Leaves db → Holds db (stored_in was ++ changes_in s records) notes
+  pub leaves : (db : Trees) → Leaves db → Holds (stored_form was) db (stored_in was ++ changes_in s records) notes
   pub answered : (start : Arrivals) → LiveStandsAt before start
       → Answered s records (arrivals_from s start (stored_in was)) (length records) old new
   pub stands : (start : Arrivals) → LiveStandsAt before start
@@ -47,7 +47,7 @@ pub record ServesStored (s : Layout) (was : View) (notes : List Entry) (records 
 abbrev pub LeavesFirst : Layout → View → List Entry → List (List (List ℕ)) → ℕ → (Trees → Type 0) → Type 0
 LeavesFirst s was notes records count Leaves = (db : Trees) → Leaves db
     → (part : ℕ) × (certain_in s (take count records) ≤ part)
-    × Holds db (stored_in was ++ take part (changes_in s (take (count + 1) records))) notes
+    × Holds (stored_form was) db (stored_in was ++ take part (changes_in s (take (count + 1) records))) notes
 
 -- a session failed so after some of its records: the replies to these went out,
 -- but for a failed write the first bytes of them, and a crash leaves a first part of its changes

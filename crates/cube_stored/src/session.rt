@@ -4,7 +4,7 @@ ghost use Rattle.sqlite_trees.specs.Tree.{Trees};
 ghost use Rattle.sqlite_trees.specs.View.{IsClean};
 ghost use Rattle.cube_journal.specs.Making.{LeavesNotes};
 ghost use Rattle.cube_journal.specs.Rows.{entries_of};
-ghost use Rattle.cube_journal.specs.State.{stored_in, noted_in, IsStore, IsUnmade, LeadsTo};
+ghost use Rattle.cube_journal.specs.State.{stored_in, noted_in, form_in, stored_form, IsStore, IsUnmade, LeadsTo};
 ghost use Rattle.cube_store.specs.Codes.{TellsFailedCall};
 ghost use Rattle.cube_store.specs.Keeping.{HasKept};
 ghost use Rattle.cube_stored.specs.Replay.{TakesStored};
@@ -48,6 +48,7 @@ pub fn resume<'s, S: Store>(
     ensures taken { IfOk result (λ r. IsClean (S.Store.view r.1.store) → LeadsTo TakesStored live.entry (stored_in (S.Store.view store)) r.0) }
     ensures stored { IfOk result (λ r. IsClean (S.Store.view r.1.store) → stored_in (S.Store.view r.1.store) ≡ stored_in (S.Store.view store)) }
     ensures noted { IfOk result (λ r. IsClean (S.Store.view r.1.store) → noted_in (S.Store.view r.1.store) ≡ entries_of notes.now) }
+    ensures formed { IfOk result (λ r. IsClean (S.Store.view r.1.store) → form_in (S.Store.view r.1.store) ≡ stored_form (S.Store.view store)) }
     ensures kept { IfOk result (λ r. HasKept S.Store.view S.Store.recovers r.1 r.1 [] 0) }
     ensures unharmed { IfErr result (λ e. (db : Trees) → S.Store.recovers e.1 db → LeavesNotes (S.Store.view store) (entries_of notes.now) db ⊎ S.Store.recovers store db) }
     ensures accepts { IfErr result (λ e. IsClean (S.Store.view e.1) → IsStore (S.Store.view store) (entries_of notes.now) ⊎ IsUnmade (S.Store.view store) → TellsFailedCall e.0) }

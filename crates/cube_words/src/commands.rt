@@ -145,7 +145,7 @@ line end and N bytes, the text that the command of that name prints; or by a cod
 With --store each change is kept in FILE, a SQLite database that is made where it isn't there:
 all changes before an answer are certain once a byte of it is out, whatever ends the program.
 The next start with this FILE, this SCHEMA and these feeds takes the kept changes after the
-feeds, and goes on from there. One program at a time has it open; its codes are D1 to D8.
+feeds, and goes on from there. One program at a time has it open; its codes are D1 to D9.
 
 Exit status: 0 done, 1 it failed, 2 wrong words, 3 wrong schema, 4 done, with lines of feeds
 or changes refused. `datacube explain CODE` explains a code.";

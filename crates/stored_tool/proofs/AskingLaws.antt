@@ -12,7 +12,7 @@ use Rattle.cube_handover.specs.declared.fault.FeedingFault.{FeedingFault}
 use Rattle.cube_handover.specs.declared.fault.FeedingFault.TheVariants as feeding_fault
 use Rattle.cube_journal.specs.Making.{LeavesNotes}
 use Rattle.cube_journal.specs.Rows.{Entry, entries_in}
-use Rattle.cube_journal.specs.State.{Holds, LeadsTo, held_in, noted_in, stored_in}
+use Rattle.cube_journal.specs.State.{Holds, LeadsTo, held_in, noted_in, stored_in, form_in, stored_form}
 use Rattle.cube_live.proofs.RefusalLaws.{refusals_of_accounts}
 use Rattle.cube_live.specs.Live.{CanAsk, IsLive, LiveStandsAt, LiveView}
 use Rattle.cube_live.specs.Opening.{OpensOver}
@@ -70,35 +70,38 @@ status-shown cube arrivals status is stands told =
 
 -- notes that were made where the store had no row are those of the changes that it had
 pub Holds-noted : (was : View) (notes : List Entry) (db : Trees) → LeavesNotes was notes db
-    → Holds db (stored_in was) notes
+    → Holds (stored_form was) db (stored_in was) notes
 Holds-noted was notes db leaves =
-    subst (λ (es : List Entry). Holds db es notes) (sym (ap entries_in leaves.none_before.0)) leaves.holds
+    subst (λ (es : List Entry). Holds (stored_form was) db es notes) (sym (ap entries_in leaves.none_before.0)) leaves.holds
 
 -- a store that wasn't taken leaves what it left, or its changes with the notes
 pub LeavesSame-refused : (was : View) (notes : List Entry) (Before : Trees → Type 0) (db : Trees)
-    → LeavesNotes was notes db ⊎ Before db → Holds db (stored_in was) notes ⊎ Before db
+    → LeavesNotes was notes db ⊎ Before db → Holds (stored_form was) db (stored_in was) notes ⊎ Before db
 LeavesSame-refused was notes Before db (inl leaves) = inl (Holds-noted was notes db leaves)
 LeavesSame-refused was notes Before db (inr before) = inr before
 
 module _ {S : Type 0} (view : S → View) (recovers : S → Trees → Type 0) (was : View) (notes : List Entry)
     (begun : Batch S) (fresh : HasKept view recovers begun begun [] 0)
     (stored : IsClean (view begun.store) → stored_in (view begun.store) ≡ stored_in was)
-    (noted : IsClean (view begun.store) → noted_in (view begun.store) ≡ notes) where
+    (noted : IsClean (view begun.store) → noted_in (view begun.store) ≡ notes)
+    (formed : IsClean (view begun.store) → form_in (view begun.store) ≡ stored_form was) where
   -- a journal that was told of nothing has the changes that were stored
   pub held-same : IsClean (view begun.store) → held_in (view begun.store) ≡ stored_in was
   held-same clean = (fresh.stands clean).held ∙ append-nil (stored_in (view begun.store)) ∙ stored clean
 
   -- and its store leaves them
-  pub leaves-same : IsClean (view begun.store) → (db : Trees) → recovers begun.store db → Holds db (stored_in was) notes
+  pub leaves-same : IsClean (view begun.store) → (db : Trees) → recovers begun.store db → Holds (stored_form was) db (stored_in was) notes
   leaves-same clean db may =
       let part = (fresh.stands clean).leaves db may in
       let none : List Entry = [] in
       let same : stored_in (view begun.store) ++ take part.count none ≡ stored_in was =
       ap (λ (es : List Entry). stored_in (view begun.store) ++ es) (take_all part.count none (omega arith))
       ∙ append-nil (stored_in (view begun.store)) ∙ stored clean in
-      subst (λ (es : List Entry). Holds db es notes) same
-      (subst (λ (ns : List Entry). Holds db (stored_in (view begun.store) ++ take part.count none) ns)
-      (noted clean) part.holds)
+      subst (λ (es : List Entry). Holds (stored_form was) db es notes) same
+      (subst (λ (ns : List Entry). Holds (stored_form was) db (stored_in (view begun.store) ++ take part.count none) ns)
+      (noted clean)
+      (subst (λ form. Holds form db (stored_in (view begun.store) ++ take part.count none) (noted_in (view begun.store)))
+      (formed clean) part.holds))
 
 -- ---- what was written
 
@@ -144,7 +147,7 @@ module _ (s : Layout) (sources : SourceBytes) (was : View) (before after : LiveV
   pub OfFeeds-answered : (question : Question) (notes : List Entry) (status : Status) (now : View)
       (Leaves : Trees → Type 0) (old new : Option (List ℕ))
       → ((arrivals : Arrivals) → LiveStandsAt after arrivals → AnsweredAt question after.schema arrivals status old new)
-      → held_in now ≡ stored_in was → ((db : Trees) → Leaves db → Holds db (stored_in was) notes)
+      → held_in now ≡ stored_in was → ((db : Trees) → Leaves db → Holds (stored_form was) db (stored_in was) notes)
       → OfFeeds s sources (λ feeds. AnswersStored question s feeds was notes status now Leaves old new)
   OfFeeds-answered question notes status now Leaves old new answered held leaves =
       let over = after-feeds (λ arrivals. AnsweredAt question s arrivals status old new)

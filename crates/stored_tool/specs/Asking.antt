@@ -7,7 +7,7 @@ use Rattle.cube_core.specs.Layout.{Layout}
 use Rattle.cube_core.specs.Run.{SourceBytes, AreGood}
 use Rattle.cube_core.specs.declared.change.Item.{Item}
 use Rattle.cube_journal.specs.Rows.{Entry}
-use Rattle.cube_journal.specs.State.{held_in, stored_in, Holds}
+use Rattle.cube_journal.specs.State.{held_in, stored_in, stored_form, Holds}
 use Rattle.cube_live.specs.Opening.{StartsOver}
 use Rattle.cube_live.specs.Shows.{Shows}
 use Rattle.cube_live.specs.declared.request.Question.{Question as LiveQuestion}
@@ -63,11 +63,11 @@ pub record AnswersStored (question : Question) (s : Layout) (feeds : List (List 
     (status : Status) (now : View) (Leaves : Trees → Type 0) (old new : Option (List ℕ)) : Type 0 where
   pub answered : AfterStored s feeds was (λ arrivals. AnsweredAt question s arrivals status old new)
   pub held : held_in now ≡ stored_in was
-  pub leaves : (db : Trees) → Leaves db → Holds db (stored_in was) notes
+  pub leaves : (db : Trees) → Leaves db → Holds (stored_form was) db (stored_in was) notes
 
 -- a crash leaves the changes that the store had, with these notes, or what it left before
 abbrev pub LeavesSame : View → List Entry → (Trees → Type 0) → (Trees → Type 0) → Type 0
-LeavesSame was notes Before Leaves = (db : Trees) → Leaves db → Holds db (stored_in was) notes ⊎ Before db
+LeavesSame was notes Before Leaves = (db : Trees) → Leaves db → Holds (stored_form was) db (stored_in was) notes ⊎ Before db
 
 -- what was written where a question over feeds and a store wasn't answered:
 -- nothing where the feeds or the store weren't taken, the question is refused or memory ran out,

@@ -8,7 +8,7 @@ use Rattle.cube_core.specs.Run.{SourceBytes}
 use Rattle.cube_core.specs.declared.change.Item.{Item}
 use Rattle.cube_journal.specs.Making.{LeavesNotes}
 use Rattle.cube_journal.specs.Rows.{Entry}
-use Rattle.cube_journal.specs.State.{held_in, stored_in, Holds}
+use Rattle.cube_journal.specs.State.{held_in, stored_in, stored_form, Holds}
 use Rattle.cube_session.specs.Keeping.{LeavesAt}
 use Rattle.cube_live.specs.Opening.{StartsOver}
 use Rattle.cube_session.specs.Session.{AreReplies, arrivals_after}
@@ -48,7 +48,7 @@ pub record ServesStoredOver (s : Layout) (feeds : List (List Item)) (was : View)
   pub status_is : status
       ≡ status_over s (of_sources 64 (arrivals_after s (arrivals_from s start (stored_in was)) records))
   pub held : held_in now ≡ stored_in was ++ changes_in s records
-  pub leaves : (db : Trees) → Leaves db → Holds db (stored_in was ++ changes_in s records) notes
+  pub leaves : (db : Trees) → Leaves db → Holds (stored_form was) db (stored_in was ++ changes_in s records) notes
 
 -- one that ended before its records did left what its fault says of the replies,
 -- and a first part of its changes in the store

@@ -474,7 +474,7 @@ pub const LATER_NOTES: [Note; 14] = [
 ];
 
 /// The codes of the store of a session.
-pub const STORE_NOTES: [Note; 8] = [
+pub const STORE_NOTES: [Note; 9] = [
     Note {
         code: "D1",
         about: "store",
@@ -529,6 +529,13 @@ pub const STORE_NOTES: [Note; 8] = [
         about: "store",
         means: "There wasn't enough memory for the store.",
         mend: "Give the program more memory, and start again.",
+        example: "",
+    },
+    Note {
+        code: "D9",
+        about: "store",
+        means: "The digest of a row of the store isn't the one that chains it to the rows before it: its bytes were changed. The message has the row, counted from 1.",
+        mend: "Whoever changed the file has to undo it, or take a copy of the store.",
         example: "",
     },
 ];

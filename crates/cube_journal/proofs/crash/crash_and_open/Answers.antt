@@ -52,7 +52,7 @@ returns-clause-accepts g c =
     let tables : IsClean was → HasTables was = c.into_store-store.ensures.tables in
     let store = laws.reopened_store was view (entries_of c.args.notes.now) tables before midway fresh
     (g.met.S.Store.broken_if_shut mid)
-    (λ sound e. (g.met.S.Store.unaltered mid sound e).0) (all view.committed left) in
+    (g.met.S.Store.unaltered mid) (all view.committed left) in
     laws.failed_since (g.S.Store.faults old) (g.S.Store.faults mid) (g.S.Store.faults e.1) e.0 up
     (opening.accepts _ view (entries_of c.args.notes.now) e.0 store (h clean)))
     c.open.ensures.unharmed c.open.ensures.cause

@@ -16,9 +16,10 @@ HasCause-wider v fault P Q Broken wider h = h
 HasCause-wider v fault P Q Unstorable wider h = wider h
 
 pub returns-clause-ok : goal.returns-clause-ok
-returns-clause-ok g c = rw (c.in_ok-fill.ensures, c.from.ensures) at c.put.ensures.ok
+returns-clause-ok g c = rw (c.in_ok-fill_change.ensures, c.form_of.ensures) at c.put.ensures.ok
 
 pub returns-clause-cause : goal.returns-clause-cause
 returns-clause-cause g c = λ clean.
-    IfErr-weaker c.put.result _ _ (λ e h. HasCause-wider (g.S.Store.view c.args.store.now) _ _ _ e (λ not. inl not) h)
-    (rw (c.in_ok-fill.ensures, c.from.ensures) at (c.put.ensures.cause clean))
+    IfErr-weaker c.put.result _ _ (λ e h. HasCause-wider (g.S.Store.view c.args.store.now) _ _ _ e
+    (λ not. inl (c.args.digest.now, c.told-digest, not)) h)
+    (rw (c.in_ok-fill_change.ensures, c.form_of.ensures) at (c.put.ensures.cause clean))

@@ -19,7 +19,7 @@ returns-clause-found g c =
     laws.unmade_told (g.S.Store.view c.args.store.now) (g.S.Store.view mid) c.rollback.ensures.undone
     (g.met.S.Store.broken_if_shut mid) midway (g.S.Store.view c.are_empty.new.store) b
     (c.has_tables.ensures.0 c.if-not-has_tables.false)
-    (λ s e. (g.met.S.Store.unaltered mid s (ap (λ t. t catalog_tree) e)).0) (h clean)) c.are_empty.ensures.found
+    (λ s e. g.met.S.Store.unaltered mid s (ap (λ t. t catalog_tree) e)) (h clean)) c.are_empty.ensures.found
 
 pub returns-clause-cause : goal.returns-clause-cause
 returns-clause-cause g c = λ clean.

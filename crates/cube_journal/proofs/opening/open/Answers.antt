@@ -13,10 +13,10 @@ invariant_of-result g c =
     let mid = g.S.Store.view c.rollback.new.self in
     let now = g.S.Store.view c.read_all.new.store in
     let to_mid : IsClean now → IsClean mid = λ h. omega (arith, c.read_all.ensures.quiet.clean) in
-    opening.open_is was mid now c.in-Ok.count (entries_of c.args.notes.now) g.K.ChangeSink.takes c.args.sink.now
+    opening.open_is was mid now c.in-Ok.read.0 c.in-Ok.read.1 (entries_of c.args.notes.now) g.K.ChangeSink.takes c.args.sink.now
     c.read_all.new.sink c.rollback.ensures.undone to_mid c.in-Ok.ensures.read
     (g.met.S.Store.broken_if_shut c.rollback.new.self) c.in-Ok.ensures.fits.0 c.in-Ok.ensures.fits.1
-    (λ s e. (g.met.S.Store.unaltered c.rollback.new.self s (ap (λ t. t catalog_tree) e)).0)
+    (λ s e. g.met.S.Store.unaltered c.rollback.new.self s (ap (λ t. t catalog_tree) e))
     (g.met.S.Store.shut_if_dirty c.read_all.new.store)
 
 pub returns-in-Ok-clause-found : goal.returns-in-Ok-clause-found

@@ -5,6 +5,7 @@ use Rattle.sqlite_disk.specs.Disk.{MoreFaults}
 use Rattle.sqlite_trees.specs.declared.store.Shape.TheVariants.{Table}
 use Rattle.sqlite_trees.specs.View.{View, IsClean}
 use Rattle.cube_journal.specs.Rows.{entries_of}
+use Rattle.cube_journal.specs.State.{form_in}
 use Rattle.cube_journal.proofs.OpenLaws as opening
 use Rattle.cube_journal.proofs.ReadingLaws as laws
 use Rattle.cube_journal.proofs.opening.read_all.Goals as goal
@@ -16,17 +17,17 @@ replay-requires g c = λ midway.
 
 pub returns-clause-fits : goal.returns-clause-fits
 returns-clause-fits g c =
-    IfOk-weaker c.replay.result _ _ (λ count few. (few, c.has_tables.ensures.0 c.if-not-has_tables.false))
+    IfOk-weaker c.replay.result _ _ (λ r few. (few, c.has_tables.ensures.0 c.if-not-has_tables.false))
     c.replay.ensures.few
 
 pub returns-clause-read : goal.returns-clause-read
 returns-clause-read g c =
     let mid = g.S.Store.view c.compare.new.store in
-    IfOk-weaker c.replay.result _ _ (λ count h clean.
+    IfOk-weaker c.replay.result _ _ (λ r h clean.
     let midway : IsClean mid = omega (arith, c.replay.ensures.quiet.clean) in
     let seen = c.in_ok-compare.ensures.seen midway in (
       laws.replayed_since g.K.ChangeSink.takes (g.S.Store.view c.args.store.now) mid
-          (g.S.Store.view c.replay.new.store) count c.args.sink.now c.replay.new.sink seen.reads (h clean),
+          (g.S.Store.view c.replay.new.store) r.0 r.1 c.args.sink.now c.replay.new.sink seen.reads (h clean),
       seen.same,
     )) c.replay.ensures.read
 
@@ -43,7 +44,8 @@ returns-in_err-compare-clause-cause g c = λ clean.
     let fault = MoreFaults (g.S.Store.faults old) (g.S.Store.faults c.compare.new.store) in
     rw (p.1, p.2) (opening.explains_then fault fault (IsTrue view.is_broken) (IsTrue view.is_broken)
     (view.is_broken ≡ false) (view.is_broken ≡ false) ⊤ ((view.shape 0 ≡ Table) × (view.shape 1 ≡ Table))
-    view.trees view.trees (entries_of c.args.notes.now) _ (λ x. x) (λ x. x) (λ x. x) (λ _. tt) (λ _. refl)
+    (form_in view) (form_in view) view.trees view.trees (entries_of c.args.notes.now) _ (λ x. x) (λ x. x) (λ x. x)
+    (λ _. tt) (λ _. refl) (λ _. refl)
     (c.in_err-compare.ensures.cause clean))
 
 pub returns-clause-cause : goal.returns-clause-cause
@@ -63,5 +65,6 @@ returns-clause-cause g c = λ clean.
     (MoreFaults (g.S.Store.faults mid) (g.S.Store.faults now))
     (MoreFaults (g.S.Store.faults old) (g.S.Store.faults now)) (IsTrue view.is_broken) (IsTrue was.is_broken)
     (view.is_broken ≡ false) (was.is_broken ≡ false) ⊤ ((was.shape 0 ≡ Table) × (was.shape 1 ≡ Table))
-    view.trees was.trees (entries_of c.args.notes.now) e wide (λ b. sym broken ∙ b) (λ b. sym broken ∙ b) (λ _. tt)
-    (λ _. ap (λ (v : View). v.trees) reads) (h (entries_of c.args.notes.now))) (c.replay.ensures.cause clean)
+    (form_in view) (form_in was) view.trees was.trees (entries_of c.args.notes.now) e wide (λ b. sym broken ∙ b)
+    (λ b. sym broken ∙ b) (λ _. tt)
+    (λ _. ap (λ (v : View). v.trees) reads) (λ _. ap (λ (v : View). form_in v) reads) (h (entries_of c.args.notes.now))) (c.replay.ensures.cause clean)

@@ -1,7 +1,7 @@
 use Rattle.std.proofs.Common.{◌≡◌, IsSome, false}
 use Rattle.sqlite_trees.specs.View.{IsClean, IsQuiet}
 use Rattle.cube_journal.specs.Reading.{HasPassed}
-use Rattle.cube_journal.specs.State.{OnlyReads, rows_left}
+use Rattle.cube_journal.specs.State.{OnlyReads, rows_left, form_in}
 use Rattle.cube_journal.proofs.opening.replay.Given as goal
 
 abbrev pub invariant-changes : goal.invariant-changes
@@ -12,6 +12,7 @@ invariant-changes g l =
       live : IsSome (now.cursors 0);
       reads : IsClean now → OnlyReads old now;
       quiet : IsQuiet g.S.Store.view g.S.Store.faults g.S.Store.recovers g.S.Store.is_shielded l.fn.store l.store;
-      taken : IsClean now → HasPassed g.K.ChangeSink.takes (old.trees 0) (rows_left now 0) l.at l.fn.sink l.sink;
+      taken : IsClean now → HasPassed g.K.ChangeSink.takes (form_in old) (old.trees 0) (rows_left now 0) l.at l.digest l.fn.sink
+          l.sink;
       sound : IsClean now → old.is_broken ≡ false;
     }

@@ -1,24 +1,24 @@
 use Rattle.std.proofs.Common.{inl, inr}
 use Rattle.std.proofs.lemmas.Result.{IfOk-weaker, IfErr-weaker}
-use Rattle.cube_store.proofs.FileLaws.{ok_both}
+use Rattle.cube_store.proofs.FileLaws.{ok_three}
 use Rattle.cube_store.proofs.files.attach_or_finish.Goals as goal
 
 pub returns-in-Ok-clause-found : goal.returns-in-Ok-clause-found
 returns-in-Ok-clause-found g c = λ clean. record {
   is_open = c.in-Ok.ensures.is_open clean;
   tables = c.in-Ok.ensures.tables;
-  found = inl (c.in-Ok.ensures.reads clean);
+  found = inl (c.in-Ok.ensures.form, c.in-Ok.ensures.reads clean);
 }
 
 pub returns-in-Refused-clause-found : goal.returns-in-Refused-clause-found
 returns-in-Refused-clause-found g c =
-    ok_both c.finish.result _ _ _ (λ it honest h clean.
+    ok_three c.finish.result _ _ _ _ (λ it honest form h clean.
     let made = h clean in
     record {
       is_open = made.is_open;
       tables = made.tables;
-      found = inr (made, λ held. rw c.in-Refused.is at (c.in-Err.ensures.cause (honest clean) held));
-    }) c.finish.ensures.honest c.finish.ensures.made
+      found = inr (made, form, λ held. rw c.in-Refused.is at (c.in-Err.ensures.cause (honest clean) held));
+    }) c.finish.ensures.honest c.finish.ensures.form c.finish.ensures.made
 
 pub returns-in-Refused-clause-honest : goal.returns-in-Refused-clause-honest
 returns-in-Refused-clause-honest g c =

@@ -1,5 +1,6 @@
 use Rattle.std.proofs.Common.{◌<◌, ◌^◌, ◌∙◌, arith}
 use Rattle.sqlite_trees.proofs.Doubt.{clean_of}
+use Rattle.cube_journal.specs.declared.form.RowForm.TheVariants.{Chained}
 use Rattle.cube_store.proofs.FileLaws as laws
 use Rattle.cube_store.proofs.files.make_tables.Goals as goal
 
@@ -10,7 +11,7 @@ returns-in-Ok-clause-made g c = λ clean.
     let e = c.in-Ok.ensures in
     record {
       is_open = e.ready.is_open clean;
-      tables = laws.store_tables c.in-Ok.store (e.schema ∙ c.requires.schema) e.ready.unaltered;
+      tables = laws.store_tables c.in-Ok.store Chained (e.schema ∙ c.requires.schema) e.ready.unaltered;
       none = (e.empty (clean_of _ clean) 0 first, e.empty (clean_of _ clean) 1 second);
     }
 
@@ -20,3 +21,7 @@ returns-in-Ok-clause-honest g c = λ clean. c.in-Ok.ensures.honest (clean_of _ c
 pub returns-in-Err-clause-falls : goal.returns-in-Err-clause-falls
 returns-in-Err-clause-falls g c = λ clean.
     c.in-Err.ensures.falls (laws.left_is_clean c.in-Err.left c.close.result.log c.close.result.db c.close.ensures clean)
+
+pub returns-in-Ok-clause-form : goal.returns-in-Ok-clause-form
+returns-in-Ok-clause-form g c =
+    laws.store_form c.in-Ok.store Chained (c.in-Ok.ensures.schema ∙ c.requires.schema) c.in-Ok.ensures.ready.unaltered

@@ -9,14 +9,14 @@ use Rattle.cube_store.proofs.files.open_files.Goals as goal
 pub returns-in-Ok-true-clause-found : goal.returns-in-Ok-true-clause-found
 returns-in-Ok-true-clause-found g c =
     let was = c.args.files in
-    laws.ok_both c.finish.result _ _ _ (λ it honest h clean.
+    laws.ok_three c.finish.result _ _ _ _ (λ it honest form h clean.
     let made = h clean in
     let blank = (c.in-Ok-true.ensures.ok (honest clean)).0 c.in-Ok-true.field-0-test in
     record {
       is_open = made.is_open;
       tables = made.tables;
-      found = inr (made, λ held. laws.not_blank_store (seen_image g.D.Disk was.log was.db) held blank);
-    }) c.finish.ensures.honest c.finish.ensures.made
+      found = inr (made, form, λ held. laws.not_blank_store (seen_image g.D.Disk was.log was.db) held blank);
+    }) c.finish.ensures.honest c.finish.ensures.form c.finish.ensures.made
 
 pub returns-in-Ok-true-clause-accepts : goal.returns-in-Ok-true-clause-accepts
 returns-in-Ok-true-clause-accepts g c =

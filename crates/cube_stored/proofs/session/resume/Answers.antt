@@ -1,7 +1,7 @@
 use Rattle.std.proofs.Common.{◌∙◌, sym, subst, ap}
 use Rattle.sqlite_trees.specs.View.{IsClean}
 use Rattle.cube_journal.specs.Rows.{entries_of}
-use Rattle.cube_journal.specs.State.{LeadsTo, stored_in, noted_in}
+use Rattle.cube_journal.specs.State.{LeadsTo, stored_in, noted_in, form_in}
 use Rattle.cube_stored.specs.Replay.{TakesStored}
 use Rattle.cube_stored.proofs.StartLaws as laws
 use Rattle.cube_stored.proofs.session.resume.Goals as goal
@@ -29,6 +29,13 @@ returns-in-Ok-clause-noted g c = λ clean.
     let view = g.S.Store.view in
     let fine : IsClean (view c.in-Ok.journal.store) = subst (λ s. IsClean (view s)) c.new.ensures.store clean in
     ap (λ s. noted_in (view s)) c.new.ensures.store ∙ laws.Starts-noted (entries_of c.args.notes.now)
+    (view c.args.store) (view c.in-Ok.journal.store) (c.in-Ok.ensures.found fine)
+
+pub returns-in-Ok-clause-formed : goal.returns-in-Ok-clause-formed
+returns-in-Ok-clause-formed g c = λ clean.
+    let view = g.S.Store.view in
+    let fine : IsClean (view c.in-Ok.journal.store) = subst (λ s. IsClean (view s)) c.new.ensures.store clean in
+    ap (λ s. form_in (view s)) c.new.ensures.store ∙ laws.Starts-formed (entries_of c.args.notes.now)
     (view c.args.store) (view c.in-Ok.journal.store) (c.in-Ok.ensures.found fine)
 
 pub returns-in-Ok-clause-kept : goal.returns-in-Ok-clause-kept

@@ -25,10 +25,10 @@ returns-in-Ok-ask_resumed-clause-ok g c =
     c.in-Ok-ask_resumed.ensures.ok
     (laws.held-same g.S.Store.view g.S.Store.recovers was
     (entries_of c.args.feeds.notes.items) now c.in-Ok-resume.ensures.kept c.in-Ok-resume.ensures.stored
-    (rw c.deref.ensures.value at c.in-Ok-resume.ensures.noted) clean)
+    (rw c.deref.ensures.value at c.in-Ok-resume.ensures.noted) c.in-Ok-resume.ensures.formed clean)
     (laws.leaves-same g.S.Store.view g.S.Store.recovers was
     (entries_of c.args.feeds.notes.items) now c.in-Ok-resume.ensures.kept c.in-Ok-resume.ensures.stored
-    (rw c.deref.ensures.value at c.in-Ok-resume.ensures.noted) clean))
+    (rw c.deref.ensures.value at c.in-Ok-resume.ensures.noted) c.in-Ok-resume.ensures.formed clean))
 
 pub returns-in-Ok-resume-clause-written : goal.returns-in-Ok-resume-clause-written
 returns-in-Ok-resume-clause-written g c =
@@ -47,7 +47,7 @@ returns-in-Ok-resume-clause-unharmed g c =
     inl (laws.leaves-same g.S.Store.view g.S.Store.recovers
     (g.S.Store.view c.args.feeds.store) (entries_of c.args.feeds.notes.items) now
     c.in-Ok-resume.ensures.kept c.in-Ok-resume.ensures.stored
-    (rw c.deref.ensures.value at c.in-Ok-resume.ensures.noted) clean db may))
+    (rw c.deref.ensures.value at c.in-Ok-resume.ensures.noted) c.in-Ok-resume.ensures.formed clean db may))
 
 pub returns-clause-unharmed : goal.returns-clause-unharmed
 returns-clause-unharmed g c = λ clean db may.
