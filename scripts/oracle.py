@@ -743,7 +743,7 @@ def is_shard(word):
 
 # (whether an option's word is right; None where it has none)
 OPTIONS = {b"--ring": is_up_to(65536), b"--builders": is_up_to(8), b"--threads": is_up_to(16), b"--shard": is_shard,
-           b"--partial": None, b"--check": None}
+           b"--commit-every": is_up_to(1000000), b"--partial": None, b"--check": None}
 OF_FEEDS = [b"--ring", b"--builders", b"--threads", b"--shard"]
 
 
@@ -895,7 +895,7 @@ def rollup_command(words):
 
 
 def live_command(words):
-    given = Words(words, [b"--ring", b"--threads", b"--shard"], 1, sys.maxsize)
+    given = Words(words, [b"--ring", b"--threads", b"--shard", b"--commit-every"], 1, sys.maxsize)
     if len(given.rest) - 1 > MOST_FEEDS:
         raise Failure("too many feeds", 2)
     schema = read_schema(given.rest[0])

@@ -21,6 +21,7 @@ import os
 import random
 import re
 import shutil
+import signal
 import sqlite3
 import subprocess
 import sys
@@ -190,6 +191,72 @@ def killed_store(room, rng, count):
     if KNOWS_STRICT:
         see_file(room, "killed.db", store.rows)
     return store.counts
+
+
+# ---- signals
+
+
+SIGNALS = (signal.SIGTERM, signal.SIGINT, signal.SIGHUP, signal.SIGKILL)
+# (what may have come of a record whose end hasn't)
+BEGUN = (b"", b"1,I,half", b'2,I,"two\nlines\n')
+
+
+def signals(room, rng):
+    """Sessions that get changes and are ended by a signal, though nothing was asked. After a rest of a second and a half the
+    next start has all changes; where one came each half second it has those that came two and a half seconds before."""
+    was, steady, resting = {it: signal.signal(it, signal.SIG_DFL) for it in SIGNALS if it != signal.SIGKILL}, [], []
+    try:
+        steady = [Signalled(room, rng, f"steady{int(it)}.db", it) for it in SIGNALS]
+        for _ in range(9):
+            for it in steady:
+                it.send(1)
+            time.sleep(0.5)
+        for it in steady:
+            it.end(4)
+        resting = [Signalled(room, rng, f"resting{int(it)}-{at}.db", it) for it in SIGNALS for at in range(len(BEGUN))]
+        for at, it in enumerate(resting):
+            it.send(rng.choice([1, 30, 300]), BEGUN[at % len(BEGUN)])
+        time.sleep(1.5)
+        for it in resting:
+            it.end(0)
+    finally:
+        for it, handler in was.items():
+            signal.signal(it, handler)
+        for it in steady + resting:
+            it.live.late.cancel()
+            it.live.process.kill()
+    return f"{len(resting)} sessions that rested, {len(steady)} that didn't"
+
+
+class Signalled:
+    """A session that gets changes, is asked nothing, and is ended by a signal."""
+
+    def __init__(self, room, rng, name, by):
+        self.room, self.name, self.by, self.changes, self.sent = room, name, by, Changes(rng), []
+        room.remove(name)
+        self.live = room.open(name)
+        expect(self.live.ask([b"sync"]), b"ok 0\n", "the answer to sync")
+
+    def send(self, count, begun=b""):
+        """Sends so many changes, and the first bytes of one more."""
+        some = [self.changes.next() for _ in range(count)]
+        self.sent += some
+        self.live.process.stdin.write(oracle.encode(some) + begun)
+        self.live.process.stdin.flush()
+
+    def end(self, last):
+        """Sends the signal, and sees that the next start has the changes, of which so many of the last may be wanting."""
+        self.live.process.send_signal(self.by)
+        expect(self.live.end(), (-self.by, b"", b""), f"the end by {self.by.name}")
+        code, told, _ = refusal_of(self.room, self.room.words(self.name), b"print\nrefusals\n")
+        expect(code, None, "a start after a signal")
+        state, least = oracle.Session(SCHEMA, FEEDS), len(self.sent) - last
+        for at in range(len(self.sent) + 1):
+            if at >= least and everything(state) == told:
+                return
+            if at < len(self.sent):
+                taken(state, self.sent[at : at + 1])
+        raise Wrong(f"after {self.by.name} a start doesn't have the first {least} of {len(self.sent)} changes")
 
 
 # ---- what SQLite reads
@@ -611,6 +678,7 @@ def main():
         trials.trial("records of every kind, kept and taken again", odd_records)
         trials.trial("what SQLite reads after a session", sqlite_reads)
         trials.trial("a session that is killed at random moments", kills, 6 if given.short else 200)
+        trials.trial("a session that rests and is ended by a signal", signals)
         for cause in store_calls.CAUSES:
             trials.trial(f"refused in turn: each {cause}", store_calls.refused_in_turn, cause)
         trials.trial("what a crash of the machine may leave", store_crashes.crash_images)

@@ -1,4 +1,5 @@
--- Where a text of CSV stands in a record, byte by byte, how many records end in it, and that a reader of csv says the same.
+-- Where a text of CSV stands in a record, byte by byte, how many records end in it,
+-- and that a reader of csv says the same.
 use Rattle.std.specs.Prelude.{◌≡◌, ◌==◌, ◌||◌, ◌+◌, ◌∷◌, [], ⊤, Bool, true, false, ℕ, List, if◌then◌else◌}
 use Rattle.csv.specs.Machine.{is_end, step}
 use Rattle.csv.specs.Reading.{default_config}

@@ -25,14 +25,6 @@ pub keeping_after-append : (s : Layout) (k : Keeping) (some more : List (List (L
 keeping_after-append s k [] more = refl
 keeping_after-append s k (fields ∷ some) more = keeping_after-append s (keeping_with s k fields) some more
 
--- the first records are all of them where none is left, also one more
-take-more_left : {A : Type 0} (count : ℕ) (records : List A) → drop count records ≡ []
-    → take (suc count) records ≡ records
-take-more_left zero [] is = refl
-take-more_left zero (r ∷ records) is = cc is
-take-more_left (suc count) [] is = refl
-take-more_left (suc count) (r ∷ records) is = ap (λ l. r ∷ l) (take-more_left count records is)
-
 -- the first records, with the one that was taken next
 take-longer : (records : List (List (List ℕ))) (count : ℕ) (left : Option (List (List (List ℕ)))) (view : RecordsView)
     → left ≡ Some (drop count records) → Advances left true view
@@ -146,9 +138,9 @@ module _ {J : Type 0} (keeps breaks : J → J → Keeping → Type 0) where
         ((first : J) (k : Keeping) → keeps first now k → KeepsPart keeps breaks first next k (keeping_with s k fields))
         → KeepsUpTo keeps breaks begun next s records count
     KeepsUpTo-part records count fields next longer so_far part = λ first k kept.
-        subst (λ (more : Keeping). KeepsPart keeps breaks first next (keeping_after s k (take count records)) more)
+        inl (subst (λ (more : Keeping). KeepsPart keeps breaks first next (keeping_after s k (take count records)) more)
         (sym (ap (keeping_after s k) longer ∙ keeping_after-append s k (take count records) (fields ∷ [])))
-        (part first (keeping_after s k (take count records)) (so_far first k kept))
+        (part first (keeping_after s k (take count records)) (so_far first k kept)))
 
     pub HasKept-more : (first : Option (List (List (List ℕ)))) (before : LiveView)
         (left : Option (List (List (List ℕ)))) (live after : LiveView) (view : RecordsView) (sent total : ℕ)
@@ -169,6 +161,19 @@ module _ {J : Type 0} (keeps breaks : J → J → Keeping → Type 0) where
               Went-more s taken start count left live after view sent total old mid new went advances
               (replied (arrivals_after s start (take count taken)) went.stands)),
         )
+
+    -- where the journal keeps what it kept
+    pub HasKept-still : (first : Option (List (List (List ℕ)))) (before : LiveView)
+        (left : Option (List (List (List ℕ)))) (live : LiveView) (sent : ℕ) (old new : Option (List ℕ)) (next : J)
+        → HasKept begun now s first before left live sent old new → KeepsOn keeps keeps now (λ k. k) next
+        → HasKept begun next s first before left live sent old new
+    HasKept-still None before left live sent old new next kept on = tt
+    HasKept-still (Some taken) before left live sent old new next kept on = (
+      kept.0,
+      kept.1,
+      (λ first k here. on first (keeping_after s k (take kept.0 taken)) (kept.2 first k here)),
+      kept.3,
+    )
 
     -- at the end of the input
     pub HasKept-all : (first : Option (List (List (List ℕ)))) (before : LiveView) (left : Option (List (List (List ℕ))))
@@ -192,42 +197,35 @@ module _ {J : Type 0} (keeps breaks : J → J → Keeping → Type 0) where
     HasKept-input None before left live sent fault old new kept is = tt
     HasKept-input (Some taken) before left live sent Read old new kept is = (
       kept.0,
-      (λ first k here. inl (kept.2 first k here)),
+      (λ first k here. inl (inl (kept.2 first k here))),
       (λ start stands. Went-Answered s taken start kept.0 left live sent old new (kept.3 start stands)),
     )
     HasKept-input (Some taken) before left live sent Full old new kept is = (
       kept.0,
-      (λ first k here. inl (kept.2 first k here)),
+      (λ first k here. inl (inl (kept.2 first k here))),
       (λ start stands. Went-Answered s taken start kept.0 left live sent old new (kept.3 start stands)),
     )
     HasKept-input (Some taken) before left live sent (TooMany source) old new kept is = absurd is
     HasKept-input (Some taken) before left live sent (Write total) old new kept is = absurd is
     HasKept-input (Some taken) before left live sent (Journal fault) old new kept is = absurd is
 
-    -- where the journal failed at the end
+    -- where the journal failed before a record, or at the end
     pub HasKept-journal : (first : Option (List (List (List ℕ)))) (before : LiveView)
-        (left : Option (List (List (List ℕ)))) (live : LiveView) (view : RecordsView) (sent : ℕ) (fault : SessionFault)
+        (left : Option (List (List (List ℕ)))) (live : LiveView) (sent : ℕ) (fault : SessionFault)
         (old new : Option (List ℕ)) (next : J)
-        → HasKept begun now s first before left live sent old new → Advances left false view → IsJournalFault fault
+        → HasKept begun now s first before left live sent old new → IsJournalFault fault
         → KeepsOn keeps breaks now (λ k. k) next
         → IfSome first (λ taken. FailsKept keeps breaks begun next s taken before fault old new)
-    HasKept-journal None before left live view sent fault old new next kept advances is on = tt
-    HasKept-journal (Some taken) before left live view sent (Journal fault) old new next kept advances is on =
-        let none : drop kept.0 taken ≡ [] = none-left (drop kept.0 taken) view (rw kept.1 at advances) in
-        let same : take kept.0 taken ≡ take (kept.0 + 1) taken =
-        take-none_left kept.0 taken none
-        ∙ sym (ap (λ n. take n taken) (add-one kept.0) ∙ take-more_left kept.0 taken none) in (
-          kept.0,
-          (λ first k here. subst (λ (records : List (List (List ℕ))). KeepsPart keeps breaks first next
-              (keeping_after s k (take kept.0 taken)) (keeping_after s k records)) same
-              (inr (inr (on first (keeping_after s k (take kept.0 taken)) (kept.2 first k here))))),
-          (λ start stands. Went-Answered s taken start kept.0 left live sent old new (kept.3 start stands)),
-        )
-    HasKept-journal (Some taken) before left live view sent Read old new next kept advances is on = absurd is
-    HasKept-journal (Some taken) before left live view sent Full old new next kept advances is on = absurd is
-    HasKept-journal (Some taken) before left live view sent (TooMany source) old new next kept advances is on =
-        absurd is
-    HasKept-journal (Some taken) before left live view sent (Write total) old new next kept advances is on = absurd is
+    HasKept-journal None before left live sent fault old new next kept is on = tt
+    HasKept-journal (Some taken) before left live sent (Journal fault) old new next kept is on = (
+      kept.0,
+      (λ first k here. inr (on first (keeping_after s k (take kept.0 taken)) (kept.2 first k here))),
+      (λ start stands. Went-Answered s taken start kept.0 left live sent old new (kept.3 start stands)),
+    )
+    HasKept-journal (Some taken) before left live sent Read old new next kept is on = absurd is
+    HasKept-journal (Some taken) before left live sent Full old new next kept is on = absurd is
+    HasKept-journal (Some taken) before left live sent (TooMany source) old new next kept is on = absurd is
+    HasKept-journal (Some taken) before left live sent (Write total) old new next kept is on = absurd is
 
     -- where a record failed
     -- what went out of a record that failed, but by a write

@@ -82,11 +82,11 @@ module _ {J : Type 0} (keeps breaks : J → J → Keeping → Type 0) (old new :
   abbrev pub KeepsFirst : ℕ → Type 0
   KeepsFirst count = KeepsOn keeps keeps old (λ k. keeping_after s k (take count records)) new
 
-  -- that, and maybe a part of what the record after them has it keep
+  -- that, and maybe a part of what the record after them has it keep, or a call on it failed before that record
   abbrev pub KeepsUpTo : ℕ → Type 0
   KeepsUpTo count = (first : J) → (k : Keeping) → keeps first old k
       → KeepsPart keeps breaks first new (keeping_after s k (take count records))
-      (keeping_after s k (take (count + 1) records))
+      (keeping_after s k (take (count + 1) records)) ⊎ breaks first new (keeping_after s k (take count records))
 
   -- how much it kept where a session failed so after so many records:
   -- before any byte of an answer all that stands before it

@@ -30,9 +30,10 @@ pub trait Journal {
         ensures ok { OnOk result (KeepsOn keeps keeps self.old (λ k. with_change k source (fields_of fields.now)) self.new) }
         ensures err { OnErr result (KeepsOn keeps breaks self.old (λ k. with_change k source (fields_of fields.now)) self.new) };
 
-    /// Makes sure of all changes that it took.
+    /// Makes sure of all changes that it took. What it was sure of before it stays sure of.
     fn settle(&mut self) -> Result<(), JournalFault>
         ensures ok { OnOk result (KeepsOn keeps keeps self.old made_sure self.new) }
+        ensures still { OnOk result (KeepsOn keeps keeps self.old (λ k. k) self.new) }
         ensures err { OnErr result (KeepsOn keeps breaks self.old (λ k. k) self.new) };
 }
 

@@ -13,6 +13,7 @@ ghost use Rattle.cube_live.specs.declared.request.Request.TheVariants as request
 
 use crate::journal::{Journal, JournalFault};
 use crate::reply::{code_line, ok_line};
+use crate::rests::Rests;
 use csv::ByteRecord;
 use cube_core::{Change, LineFault};
 use cube_feed::{FeedFault, RecordReader, change_of_record, is_read, put_rest};
@@ -52,15 +53,16 @@ impl From<AllocError> for SessionFault {
 ///
 /// The writer is given nothing but whole replies, but where it fails. A change has no reply: it is told to the journal, and
 /// then applied. A question is answered after the journal has made sure of all changes before it, and the cubes have
-/// followed them.
+/// followed them. Where the input rests before a record, the journal makes sure of all changes too.
 ///
 /// However it ends, the journal keeps the changes among a first part of the records, and has made sure of all that stood
 /// before any answer of which a byte went out.
-pub fn serve<T: Threads + Sync, R: Read, W: Write, J: Journal>(
+pub fn serve<T: Threads + Sync, R: Read, P: Rests, W: Write, J: Journal>(
     rt: &T,
     alloc: Global,
     live: &mut Live<'_>,
     records: &mut RecordReader<R>,
+    rests: &mut P,
     journal: &mut J,
     out: &mut W,
 ) -> Result<(), SessionFault>
@@ -78,6 +80,7 @@ pub fn serve<T: Threads + Sync, R: Read, W: Write, J: Journal>(
     let mut rest = ByteRecord::new(alloc);
     let mut sent = 0;
     for turn in 0..u64::MAX {
+        settle_at_rest(rests, journal)?;
         if !advance(records)? {
             return settle(journal);
         }
@@ -110,10 +113,23 @@ fn advance<R: Read>(records: &mut RecordReader<R>) -> Result<bool, SessionFault>
     }
 }
 
+// Has the journal make sure of all changes that it took, where the input rests.
+fn settle_at_rest<P: Rests, J: Journal>(rests: &mut P, journal: &mut J) -> Result<(), SessionFault>
+    ensures fault { IfErr result IsJournalFault }
+    ensures kept { OnOk result (KeepsOn J.keeps J.keeps journal.old (λ k. k) journal.new) }
+    ensures err_kept { OnErr result (KeepsOn J.keeps J.breaks journal.old (λ k. k) journal.new) }
+{
+    if rests.rests() {
+        return settle(journal);
+    }
+    Ok(())
+}
+
 // Has the journal make sure of all changes that it took.
 fn settle<J: Journal>(journal: &mut J) -> Result<(), SessionFault>
     ensures fault { IfErr result IsJournalFault }
     ensures kept { OnOk result (KeepsOn J.keeps J.keeps journal.old made_sure journal.new) }
+    ensures still { OnOk result (KeepsOn J.keeps J.keeps journal.old (λ k. k) journal.new) }
     ensures err_kept { OnErr result (KeepsOn J.keeps J.breaks journal.old (λ k. k) journal.new) }
 {
     match journal.settle() {

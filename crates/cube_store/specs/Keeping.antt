@@ -7,15 +7,17 @@ use Rattle.sqlite_trees.specs.View.{View, IsClean}
 use Rattle.cube_journal.specs.Rows.{Entry, IsOfSource}
 use Rattle.cube_journal.specs.State.{held_in, stored_in, noted_in, form_in, Holds, CantHold}
 
--- a store with the number of the changes that wait for a commit
+-- a store with the number of the changes that wait for a commit, and that of those that may
 pub record Batch (S : Type 0) : Type 0 where
   pub store : S
   pub waiting : ℕ
+  pub most : ℕ
 
 -- a journal as a pair
 abbrev pub batch_code : {S : Type 0} → Coded S → Coded (Batch S)
-batch_code {S} store = code_by (S × ℕ) (coded× store coded_ℕ) (λ batch. (batch.store, batch.waiting))
-    (λ parts. record { store = parts.0; waiting = parts.1 }) (λ _. refl)
+batch_code {S} store =
+    code_by (S × (ℕ × ℕ)) (coded× store (coded× coded_ℕ coded_ℕ)) (λ batch. (batch.store, (batch.waiting, batch.most)))
+    (λ parts. record { store = parts.0; waiting = parts.1.0; most = parts.1.1 }) (λ _. refl)
 
 -- a crash leaves the changes that were stored first and a first part of these after them, so many at least,
 -- byte for byte, in their order and in the form that the store had first, with right digests if they have any

@@ -1,5 +1,5 @@
 //! A journal that commits by itself where many changes wait.
-ghost use Rattle.std.specs.Prelude.{◌≡◌, ◌<◌, ◌++◌, ◌∷◌, [], length, false, IsTrue, IfErr, OnOk, OnErr};
+ghost use Rattle.std.specs.Prelude.{◌≡◌, ◌<◌, ◌≤◌, ◌++◌, ◌∷◌, [], length, false, IsTrue, IfErr, OnOk, OnErr};
 ghost use Rattle.sqlite_disk.specs.Disk.{MoreFaults};
 ghost use Rattle.sqlite_trees.specs.View.{IsClean};
 ghost use Rattle.cube_journal.specs.State.{held_in, stored_in, ForgetsNothing, IsCause};
@@ -10,13 +10,12 @@ use sqlite_trees::error::StoreError;
 use sqlite_trees::store::Store;
 use std::marker::Model;
 
-/// So many changes wait for a commit at most.
-const MAX_WAITING: u64 = 10_000;
-
-/// A journal of changes that commits by itself where 10,000 wait, so that memory and a commit's time have a bound.
+/// A journal of changes that commits by itself where as many wait as may, so that memory and a commit's time have a bound.
 pub struct BatchJournal<S: Store> {
     journal: ChangeJournal<S>,
     waiting: u64,
+    // How many changes wait for a commit at most.
+    most: u64,
 }
 
 impl<S: Store> Model for BatchJournal<S> {
@@ -27,9 +26,9 @@ impl<S: Store> Model for BatchJournal<S> {
 
     ghost coded = { batch_code S.code };
 
-    ghost view = { λ j. record { store = j.journal.store; waiting = j.waiting } };
+    ghost view = { λ j. record { store = j.journal.store; waiting = j.waiting; most = j.most } };
 
-    ghost invariant = { λ j. j.waiting ≤ 10000 };
+    ghost invariant = { λ j. j.waiting ≤ j.most };
 }
 
 // By hand, so that no caller proves again how a store's parts are let go.
@@ -38,14 +37,17 @@ impl<S: Store + Drop> Drop for BatchJournal<S> {
         let BatchJournal {
             journal: _journal,
             waiting: _,
+            most: _,
         } = self;
     }
 }
 
 impl<S: Store> BatchJournal<S> {
-    /// Goes on with a journal in which nothing waits for a commit.
-    pub fn new(journal: ChangeJournal<S>) -> BatchJournal<S>
+    /// Goes on with a journal in which nothing waits for a commit, and so many changes, at least one, may.
+    pub fn new(journal: ChangeJournal<S>, most: u64) -> BatchJournal<S>
+        requires { 1 ≤ most }
         ensures store { result.store ≡ journal.store }
+        ensures most { result.most ≡ most }
         ensures kept { (IsClean (S.Store.view journal.store) → IsTrue (S.Store.view journal.store).is_open × (held_in (S.Store.view journal.store) ≡ stored_in (S.Store.view journal.store)))
             → HasKept S.Store.view S.Store.recovers result result [] 0 }
     {
@@ -53,6 +55,7 @@ impl<S: Store> BatchJournal<S> {
         BatchJournal {
             journal,
             waiting: 0,
+            most,
         }
     }
 
@@ -82,13 +85,13 @@ impl<S: Store> BatchJournal<S> {
             (λ changes. changes) (λ _ sure. sure)) }
         ensures broken { OnErr result (BatchKeepsOn S.Store.view S.Store.recovers (HasBroken S.Store.view S.Store.recovers) self.old self.new
             (λ changes. changes) (λ _ sure. sure)) }
-        ensures room { OnOk result (self.new.waiting < 10000) }
+        ensures room { OnOk result (self.new.waiting < self.new.most) }
         ensures same { OnOk result (IsClean (S.Store.view self.new.store) → TakesAsBefore (S.Store.view self.old.store) (S.Store.view self.new.store)) }
         ensures cause { IfErr result (λ e. IsClean (S.Store.view self.new.store) → IsCause (MoreFaults (S.Store.faults self.old.store) (S.Store.faults self.new.store))
             ((S.Store.view self.old.store).is_open ≡ false) ⊥ e) }
         ensures on { ForgetsNothing S.Store.view S.Store.faults self.old.store self.new.store }
     {
-        if self.waiting < MAX_WAITING {
+        if self.waiting < self.most {
             return Ok(());
         }
         self.settle()
@@ -100,6 +103,8 @@ impl<S: Store> BatchJournal<S> {
     pub fn settle(&mut self) -> Result<(), StoreError>
         ensures kept { OnOk result (BatchKeepsOn S.Store.view S.Store.recovers (HasKept S.Store.view S.Store.recovers) self.old self.new
             (λ changes. changes) (λ changes _. length changes)) }
+        ensures still { OnOk result (BatchKeepsOn S.Store.view S.Store.recovers (HasKept S.Store.view S.Store.recovers) self.old self.new
+            (λ changes. changes) (λ _ sure. sure)) }
         ensures broken { OnErr result (BatchKeepsOn S.Store.view S.Store.recovers (HasBroken S.Store.view S.Store.recovers) self.old self.new
             (λ changes. changes) (λ _ sure. sure)) }
         ensures none { OnOk result (self.new.waiting ≡ 0) }
@@ -123,6 +128,7 @@ impl<S: Store> BatchJournal<S> {
         let BatchJournal {
             journal,
             waiting: _,
+            most: _,
         } = self;
         journal
     }

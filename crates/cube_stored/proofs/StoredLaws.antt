@@ -160,11 +160,27 @@ module _ {S : Type 0} (view : S → View) (recovers : S → Trees → Type 0) wh
         λ clean. same ∙ LeadsTo-schema live resumed (stored_in was) (taken ((on begun nothing fresh).was_clean clean))
 
     -- ---- where it failed
-    first_clean : (k next : Keeping) → KeepsPart (keeps view recovers) (breaks view recovers) begun now k next
+    part_clean : (k next : Keeping) → KeepsPart (keeps view recovers) (breaks view recovers) begun now k next
         → IsClean (view now.store) → IsClean (view begun.store)
-    first_clean k next (inl kept) clean = kept.was_clean clean
-    first_clean k next (inr (inl kept)) clean = kept.was_clean clean
-    first_clean k next (inr (inr broken)) clean = broken.was_clean clean
+    part_clean k next (inl kept) clean = kept.was_clean clean
+    part_clean k next (inr (inl kept)) clean = kept.was_clean clean
+    part_clean k next (inr (inr broken)) clean = broken.was_clean clean
+
+    first_clean : (k next : Keeping) → KeepsPart (keeps view recovers) (breaks view recovers) begun now k next
+        ⊎ breaks view recovers begun now k → IsClean (view now.store) → IsClean (view begun.store)
+    first_clean k next (inl part) clean = part_clean k next part clean
+    first_clean k next (inr broken) clean = broken.was_clean clean
+
+    -- what there is of some changes, said of these and more
+    longer_part : (k next : Keeping) → Grows k next → (part : ℕ) → part ≤ length (stored_all k.told) → (db : Trees)
+        → Holds (stored_form was) db (stored_in was ++ take part (stored_all k.told)) notes
+        → Holds (stored_form was) db (stored_in was ++ take part (stored_all next.told)) notes
+    longer_part k next grows part within db holds =
+        let longer : take part (stored_all next.told) ≡ take part (stored_all k.told) =
+        ap (λ told. take part (stored_all told)) grows.told_is
+        ∙ ap (λ es. take part es) (stored_all-append k.told grows.more)
+        ∙ take-append-le part (stored_all k.told) (stored_all grows.more) within in
+        subst (λ es. Holds (stored_form was) db (stored_in was ++ es) notes) (sym longer) holds
 
     left_part : (k next : Keeping) → Grows k next
         → KeepsPart (keeps view recovers) (breaks view recovers) begun now k next → IsClean (view now.store)
@@ -172,11 +188,7 @@ module _ {S : Type 0} (view : S → View) (recovers : S → Trees → Type 0) wh
         → (part : ℕ) × (k.sure ≤ part) × Holds (stored_form was) db (stored_in was ++ take part (stored_all next.told)) notes
     left_part k next grows (inl kept) clean db may =
         let part = part-of (kept.was_clean clean) (stored_all k.told) k.sure db ((kept.stands clean).leaves db may) in
-        let longer : take part.0 (stored_all next.told) ≡ take part.0 (stored_all k.told) =
-        ap (λ told. take part.0 (stored_all told)) grows.told_is
-        ∙ ap (λ es. take part.0 es) (stored_all-append k.told grows.more)
-        ∙ take-append-le part.0 (stored_all k.told) (stored_all grows.more) part.2 in
-        (part.0, part.1, subst (λ es. Holds (stored_form was) db (stored_in was ++ es) notes) (sym longer) part.3)
+        (part.0, part.1, longer_part k next grows part.0 part.2 db part.3)
     left_part k next grows (inr (inl kept)) clean db may =
         let part =
         part-of (kept.was_clean clean) (stored_all next.told) next.sure db ((kept.stands clean).leaves db may) in
@@ -185,15 +197,25 @@ module _ {S : Type 0} (view : S → View) (recovers : S → Trees → Type 0) wh
         let part = part-of (broken.was_clean clean) (stored_all next.told) k.sure db (broken.leaves clean db may) in
         (part.0, part.1, part.3)
 
+    left_first : (k next : Keeping) → Grows k next
+        → KeepsPart (keeps view recovers) (breaks view recovers) begun now k next ⊎ breaks view recovers begun now k
+        → IsClean (view now.store) → (db : Trees) → recovers now.store db
+        → (part : ℕ) × (k.sure ≤ part) × Holds (stored_form was) db (stored_in was ++ take part (stored_all next.told)) notes
+    left_first k next grows (inl part) clean db may = left_part k next grows part clean db may
+    left_first k next grows (inr broken) clean db may =
+        let part = part-of (broken.was_clean clean) (stored_all k.told) k.sure db (broken.leaves clean db may) in
+        (part.0, part.1, longer_part k next grows part.0 part.2 db part.3)
+
     -- what a journal kept up to a record, whatever the fault
     kept_part : (s : Layout) (records : List (List (List ℕ))) (fault : SessionFault) (count : ℕ)
         → KeepsBy (keeps view recovers) (breaks view recovers) begun now s records fault count
         → KeepsPart (keeps view recovers) (breaks view recovers) begun now
         (keeping_after s nothing (take count records)) (keeping_after s nothing (take (count + 1) records))
+        ⊎ breaks view recovers begun now (keeping_after s nothing (take count records))
     kept_part s records Read count by = by begun nothing fresh
     kept_part s records (TooMany source) count by = by begun nothing fresh
     kept_part s records Full count by = by begun nothing fresh
-    kept_part s records (Write sent) count by = inl (by begun nothing fresh)
+    kept_part s records (Write sent) count by = inl (inl (by begun nothing fresh))
     kept_part s records (Journal fault) count by = by begun nothing fresh
 
     broken : (records : List (List (List ℕ))) (fault : SessionFault) (old new : Option (List ℕ))
@@ -208,7 +230,7 @@ module _ {S : Type 0} (view : S → View) (recovers : S → Trees → Type 0) wh
         let schema = LeadsTo-schema live resumed (stored_in was) (taken clean_first) in (
           count,
           subst (λ (s : Layout). LeavesFirst s was notes records count (recovers now.store)) schema
-              (left_part (keeping_after resumed.schema nothing (take count records))
+              (left_first (keeping_after resumed.schema nothing (take count records))
               (keeping_after resumed.schema nothing (take (count + 1) records))
               (Grows-take resumed.schema records count) part clean),
           (λ start here. subst

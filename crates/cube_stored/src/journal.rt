@@ -1,5 +1,5 @@
 //! The journal of a session over a store.
-ghost use Rattle.std.specs.Prelude.{◌≡◌, [], IsTrue};
+ghost use Rattle.std.specs.Prelude.{◌≡◌, ◌≤◌, [], IsTrue};
 ghost use Rattle.sqlite_trees.specs.View.{IsClean};
 ghost use Rattle.cube_journal.specs.State.{held_in, stored_in};
 ghost use Rattle.cube_store.specs.Keeping.{HasKept};
@@ -40,15 +40,16 @@ fn fault_of(error: StoreError) -> JournalFault {
 }
 
 impl<S: Store> StoreJournal<S> {
-    /// Goes on with a journal in which nothing waits for a commit.
-    pub fn new(alloc: Global, journal: ChangeJournal<S>) -> StoreJournal<S>
+    /// Goes on with a journal in which nothing waits for a commit, and so many changes, at least one, may.
+    pub fn new(alloc: Global, journal: ChangeJournal<S>, most_waiting: u64) -> StoreJournal<S>
+        requires { 1 ≤ most_waiting }
         ensures store { result.store ≡ journal.store }
         ensures kept { (IsClean (S.Store.view journal.store) → IsTrue (S.Store.view journal.store).is_open × (held_in (S.Store.view journal.store) ≡ stored_in (S.Store.view journal.store)))
             → HasKept S.Store.view S.Store.recovers result result [] 0 }
     {
         StoreJournal {
             alloc,
-            journal: BatchJournal::new(journal),
+            journal: BatchJournal::new(journal, most_waiting),
         }
     }
 

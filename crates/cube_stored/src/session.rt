@@ -1,5 +1,5 @@
 //! A session over a store: its changes are taken before the first record, and those of the session are kept in it.
-ghost use Rattle.std.specs.Prelude.{◌≡◌, ◌⊎◌, [], IfOk, IfErr, IfSome};
+ghost use Rattle.std.specs.Prelude.{◌≡◌, ◌≤◌, ◌⊎◌, [], IfOk, IfErr, IfSome};
 ghost use Rattle.sqlite_trees.specs.Tree.{Trees};
 ghost use Rattle.sqlite_trees.specs.View.{IsClean};
 ghost use Rattle.cube_journal.specs.Making.{LeavesNotes};
@@ -18,7 +18,7 @@ use crate::replay::Replay;
 use cube_feed::RecordReader;
 use cube_journal::FeedNote;
 use cube_live::Live;
-use cube_session::{SessionFault, serve};
+use cube_session::{Rests, SessionFault, serve};
 use cube_store::{StoreFault, start};
 use sqlite_trees::store::Store;
 use std::alloc::Global;
@@ -34,8 +34,17 @@ pub enum StoredFault {
     Session(SessionFault),
 }
 
+/// When the changes of a session are made certain though nothing asks for it.
+#[derive(Drop)]
+pub struct Commits<P: Rests + Drop> {
+    /// Where the input rests, as this tells.
+    pub rests: P,
+    /// Where so many changes wait, at least one.
+    pub most_waiting: u64,
+}
+
 /// Takes the changes of a store into the cube of a session, which stands where its feeds ended, and gives the journal that
-/// keeps those of the session behind them. A store without a row notes what the feeds are, and must have the same notes else.
+/// keeps those of the session behind them, of which so many, at least one, may wait. A store without a row notes what the feeds are, and must have the same notes else.
 ///
 /// A store of changes and of these notes is refused only where a call fails, for want of memory, or where it has more changes
 /// of a source than the schema takes. An error gives the store back.
@@ -44,7 +53,9 @@ pub fn resume<'s, S: Store>(
     live: Live<'s>,
     store: S,
     notes: &[FeedNote],
+    most_waiting: u64,
 ) -> Result<(Live<'s>, StoreJournal<S>), (StoreFault, S)>
+    requires { 1 ≤ most_waiting }
     ensures taken { IfOk result (λ r. IsClean (S.Store.view r.1.store) → LeadsTo TakesStored live.entry (stored_in (S.Store.view store)) r.0) }
     ensures stored { IfOk result (λ r. IsClean (S.Store.view r.1.store) → stored_in (S.Store.view r.1.store) ≡ stored_in (S.Store.view store)) }
     ensures noted { IfOk result (λ r. IsClean (S.Store.view r.1.store) → noted_in (S.Store.view r.1.store) ≡ entries_of notes.now) }
@@ -55,7 +66,10 @@ pub fn resume<'s, S: Store>(
 {
     let mut replay = Replay::new(alloc, live);
     match start(alloc, store, notes, &mut replay) {
-        Ok(journal) => Ok((replay.into_live(), StoreJournal::new(alloc, journal))),
+        Ok(journal) => Ok((
+            replay.into_live(),
+            StoreJournal::new(alloc, journal, most_waiting),
+        )),
         Err(refused) => Err(refused),
     }
 }
@@ -63,16 +77,19 @@ pub fn resume<'s, S: Store>(
 /// Takes the changes of a store, and then the records of a session to their end, as `serve` does.
 ///
 /// The answers are those of a session in which the stored changes stood before the first record. Each change is in the store
-/// before it is applied, and certain before a byte of a later answer goes out. An error gives the store back.
-pub fn serve_stored<'s, T: Threads + Sync, S: Store, R: Read, W: Write>(
+/// before it is applied, and certain before a byte of a later answer goes out; `commits` says when it is else. An error gives
+/// the store back.
+pub fn serve_stored<'s, T: Threads + Sync, S: Store, R: Read, P: Rests + Drop, W: Write>(
     rt: &T,
     alloc: Global,
     live: Live<'s>,
     store: S,
     notes: &[FeedNote],
     records: &mut RecordReader<R>,
+    commits: Commits<P>,
     out: &mut W,
 ) -> Result<(Live<'s>, StoreJournal<S>), (StoredFault, S)>
+    requires { 1 ≤ commits.most_waiting }
     ensures ok { IfOk result (λ r. IfSome records.old.left (λ taken. IsClean (S.Store.view r.1.store) →
         ServesStored live.entry.schema (S.Store.view store) (entries_of notes.now) taken live.entry r.0 (S.Store.view r.1.store) (S.Store.recovers r.1.store)
         (W.contents out.old) (W.contents out.new))) }
@@ -81,8 +98,14 @@ pub fn serve_stored<'s, T: Threads + Sync, S: Store, R: Read, W: Write>(
         (W.contents out.old) (W.contents out.new) e.0)) }
     ensures schema { IfOk result (λ r. IfSome records.old.left (λ taken. IsClean (S.Store.view r.1.store) → r.0.schema ≡ live.entry.schema)) }
 {
-    match resume(alloc, live, store, notes) {
-        Ok((live, journal)) => match serve_resumed(rt, alloc, live, journal, records, out) {
+    let Commits {
+        mut rests,
+        most_waiting,
+    } = commits;
+    match resume(alloc, live, store, notes, most_waiting) {
+        Ok((live, journal)) => match serve_resumed(
+            rt, alloc, live, journal, records, &mut rests, out,
+        ) {
             Ok(served) => Ok(served),
             Err((fault, store)) => Err((StoredFault::Session(fault), store)),
         },
@@ -91,12 +114,13 @@ pub fn serve_stored<'s, T: Threads + Sync, S: Store, R: Read, W: Write>(
 }
 
 // Takes the records of a session to their end, as `serve` does.
-fn serve_resumed<'s, T: Threads + Sync, S: Store, R: Read, W: Write>(
+fn serve_resumed<'s, T: Threads + Sync, S: Store, R: Read, P: Rests, W: Write>(
     rt: &T,
     alloc: Global,
     mut live: Live<'s>,
     mut journal: StoreJournal<S>,
     records: &mut RecordReader<R>,
+    rests: &mut P,
     out: &mut W,
 ) -> Result<(Live<'s>, StoreJournal<S>), (SessionFault, S)>
     ensures ok { IfOk result (λ r. IfSome records.old.left (λ taken. Serves live.entry.schema taken live.entry r.0 (W.contents out.old) (W.contents out.new))) }
@@ -105,7 +129,7 @@ fn serve_resumed<'s, T: Threads + Sync, S: Store, R: Read, W: Write>(
     ensures err { IfErr result (λ e. IfSome records.old.left (FailsStored S.Store.view S.Store.recovers live.entry journal e.1 e.0 (W.contents out.old) (W.contents out.new))) }
     ensures schema { IfOk result (λ r. r.0.schema ≡ live.entry.schema) }
 {
-    match serve(rt, alloc, &mut live, records, &mut journal, out) {
+    match serve(rt, alloc, &mut live, records, rests, &mut journal, out) {
         Ok(()) => Ok((live, journal)),
         Err(fault) => Err((fault, journal.into_store())),
     }

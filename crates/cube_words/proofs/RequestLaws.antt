@@ -67,6 +67,7 @@ live_of run = record {
   quiet = run.quiet;
   store = run.store;
   wary = run.wary;
+  commit_every = 1;
 }
 
 -- of the words of a run, those that `live` has too are its own
@@ -87,5 +88,10 @@ AreLiveWords-AreRunWords rows run are = record {
 
 -- and their options are in their bounds
 pub LiveHasRoom-RunHasRoom : (run : RunWords) → RunHasRoom run → LiveHasRoom (live_of run)
-LiveHasRoom-RunHasRoom run room =
-    record { least_ring = room.least_ring; most_ring = room.most_ring; threads = room.threads }
+LiveHasRoom-RunHasRoom run room = record {
+  least_ring = room.least_ring;
+  most_ring = room.most_ring;
+  threads = room.threads;
+  least_waiting = omega arith;
+  most_waiting = omega arith;
+}

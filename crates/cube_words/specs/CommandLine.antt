@@ -110,6 +110,10 @@ store_option = text_option (codes "store")
 abbrev pub wary_option : Rule
 wary_option = flag (codes "wary")
 
+-- `--commit-every`, how many changes wait for a commit at most
+abbrev pub commit_every_option : Rule
+commit_every_option = number_option (codes "commit-every") 1000000 (codes "10000" ∷ [])
+
 -- a command with the two options of a store behind its words
 abbrev pub with_store : App → App
 with_store line = with_rule (with_rule line store_option) wary_option
@@ -142,9 +146,10 @@ rollup_line =
     with_feeds (with_rule (with_rule (with_rule (new_app (codes "rollup")) schema_word) cell_word) dimension_word)
 
 abbrev pub live_line : App
-live_line = with_store (with_rule (with_rule
+live_line = with_rule
+    (with_store (with_rule (with_rule
     (with_rule (with_rule (with_rule (with_rule (new_app (codes "live")) schema_word) feed_words) ring_option)
-    shard_option) threads_option) quiet_option)
+    shard_option) threads_option) quiet_option)) commit_every_option
 
 abbrev pub merge_line : App
 merge_line = with_rule
@@ -284,6 +289,8 @@ pub record LiveHasRoom (live : LiveWords) : Type 0 where
   pub least_ring : 1 ≤ live.ring
   pub most_ring : live.ring ≤ 65536
   pub threads : IfSome live.threads (IsUpTo 16)
+  pub least_waiting : 1 ≤ live.commit_every
+  pub most_waiting : live.commit_every ≤ 1000000
 
 -- the files and the options of `merge` are those that clap found, each under its name, and the cubes in their order
 pub record AreMergeWords (rows : List Row) (merge : MergeWords) : Type 0 where
@@ -329,6 +336,7 @@ MakesRequest found (Slice run cell) =
 MakesRequest found (Drill run cell dimension) = IsStep found.0 (codes "drill") found.1 run cell.now dimension.now
 MakesRequest found (RollUp run cell dimension) = IsStep found.0 (codes "rollup") found.1 run cell.now dimension.now
 MakesRequest found (Live live) = (found.0 ≡ codes "live") × AreLiveWords found.1 live × LiveHasRoom live
+    × IsNumberOf (one_of (codes "commit-every") found.1) (Some live.commit_every)
 MakesRequest found (Merge merge) = (found.0 ≡ codes "merge") × AreMergeWords found.1 merge ×
     (1 ≤ length merge.cubes.items)
 

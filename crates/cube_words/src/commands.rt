@@ -414,6 +414,12 @@ pub(crate) const SESSIONS: [Line; 3] = [
                 help: "Keeps each change in this file before an answer shows it, and begins with those it has",
             },
             WARY,
+            Word {
+                name: "commit-every",
+                form: Form::Number(1_000_000, &["10000"]),
+                is_needed: false,
+                help: "How many changes wait for a commit at most, 1 to 1000000; where the input rests, and before an answer, none do; does nothing without --store",
+            },
         ],
         is_run: false,
         options: &[],

@@ -6,6 +6,9 @@ ghost use Rattle.cube_words.specs.CommandLine.{AreLiveWords, AreMergeWords, AreR
 use clap::ArgMatches;
 use std::alloc::{AllocError, Global};
 
+/// How many changes wait for a commit at most, however many the words say.
+const MOST_WAITING: usize = 1_000_000;
+
 /// The files and the options of a command with feeds.
 #[derive(Drop)]
 pub struct RunWords<'a> {
@@ -48,6 +51,8 @@ pub struct LiveWords<'a> {
     pub store: Option<&'a str>,
     /// Whether nothing is supposed of what a torn write leaves of the store; without effect where there is none.
     pub wary: bool,
+    /// How many changes wait for a commit at most, 1 to 1000000; without effect where there is no store.
+    pub commit_every: usize,
 }
 
 /// The files and the options of `merge`.
@@ -173,10 +178,18 @@ fn live_request<'a>(
 ) -> Result<Option<Request<'a>>, AllocError>
     ensures { IfOk result (IsRequest (Some (codes "live", rows_of (found_of words.now)))) }
 {
-    match live_words(alloc, words)? {
-        Some(live) => Ok(Some(Request::Live { live })),
-        None => Ok(None),
-    }
+    let (Some(live), Ok(Some(commit_every))) = (
+        live_words(alloc, words)?,
+        number_of(words, "commit-every", MOST_WAITING),
+    ) else {
+        return Ok(None);
+    };
+    Ok(Some(Request::Live {
+        live: LiveWords {
+            commit_every,
+            ..live
+        },
+    }))
 }
 
 // The request that `merge` makes.
@@ -314,6 +327,7 @@ fn shared_words<'a>(
         quiet: has_flag(words, "quiet"),
         store: None,
         wary: false,
+        commit_every: MOST_WAITING,
     }))
 }
 

@@ -3,12 +3,16 @@ ghost use Rattle.std.specs.Prelude.{◌≡◌, ◌≤◌, length, vec_len, IfOk}
 ghost use Rattle.cube_tool.specs.Answering.{Fits};
 ghost use Rattle.cube_words.specs.CommandLine.{RunHasRoom, LiveHasRoom};
 
+use crate::pauses::SessionPauses;
 use crate::watch::Watch;
 use crate::{Asked, open_feed, open_schema, question_of, session_threads, settings_of};
 use cube_core::Schema;
+use cube_input::read_ahead;
 use cube_journal::{ChangeJournal, FeedNote};
 use cube_progress::{Counts, FeedReader, Output, Phase, Progress};
+use cube_session::{NeverRests, Rests};
 use cube_store::{NoteFault, StoreFault, Unknown, Wary, close, note_of, open_files, open_path};
+use cube_stored::Commits;
 use cube_tool::RunFault;
 use cube_tool::command::{Failure, Question, Status};
 use cube_words::{LiveWords, RunWords};
@@ -18,11 +22,11 @@ use sqlite_store::FileStore;
 use sqlite_trees::store::Store;
 use std::fs::{self, File};
 use std::hash::{BuildHasher, RandomState};
-use std::io::{Seek, Stderr};
+use std::io::{Read, Seek, Stderr};
 use std::sync::Wait;
 use std::thread::Threads;
 use std::time::Clock;
-use stored_tool::{StoredFailure, StoredFeeds, ask_stored, live_stored};
+use stored_tool::{SessionInput, StoredFailure, StoredFeeds, ask_stored, live_stored};
 
 /// Where a store is, and how it starts.
 #[derive(Drop)]
@@ -52,7 +56,7 @@ impl<'c> NotedFeeds<'c> {
 }
 
 /// Serves the records of standard input over a cube that is kept right, and keeps their changes in the store at a path.
-pub(crate) fn serve_kept<T: Threads + Wait + Clock + Sync>(
+pub(crate) fn serve_kept<T: Threads + Wait + Clock + Copy + Send + Sync + 'static>(
     rt: &HostRuntime,
     threads: &T,
     words: &LiveWords,
@@ -73,7 +77,7 @@ pub(crate) fn serve_kept<T: Threads + Wait + Clock + Sync>(
 }
 
 /// The same, with a store that starts so.
-fn serve_from<T: Threads + Wait + Clock + Sync, S: Start>(
+fn serve_from<T: Threads + Wait + Clock + Copy + Send + Sync + 'static, S: Start>(
     rt: &HostRuntime,
     threads: &T,
     words: &LiveWords,
@@ -90,7 +94,7 @@ fn serve_from<T: Threads + Wait + Clock + Sync, S: Start>(
 }
 
 /// The same, over the feeds and the store that were opened. The store is closed.
-fn serve_and_close<T: Threads + Wait + Clock + Sync, D: Disk + Drop>(
+fn serve_and_close<T: Threads + Wait + Clock + Copy + Send + Sync + 'static, D: Disk + Drop>(
     rt: &HostRuntime,
     threads: &T,
     words: &LiveWords,
@@ -113,13 +117,40 @@ fn serve_and_close<T: Threads + Wait + Clock + Sync, D: Disk + Drop>(
     }
 }
 
-/// The same, over a store of any kind, which is given back.
-fn serve_over<T: Threads + Wait + Clock + Sync, S: Store>(
+/// The same, over a store of any kind, which is given back. A thread of its own reads standard input ahead, so that the session
+/// sees where it rests; where none can be had, the session reads it, and sees no rest.
+fn serve_over<T: Threads + Wait + Clock + Copy + Send + Sync + 'static, S: Store>(
     rt: &HostRuntime,
     threads: &T,
     words: &LiveWords,
     schema: &Schema,
     feeds: StoredFeeds<FeedReader<'_, File>, S>,
+    progress: &Progress<'_, T, Stderr>,
+) -> Result<(Status, ChangeJournal<S>), (StoredFailure, S)>
+    requires room { LiveHasRoom words.now }
+    requires feeds { vec_len feeds.readers ≤ 64 }
+{
+    match read_ahead(threads, rt.alloc(), rt.stdin()) {
+        Some((reader, pauses)) => {
+            let rests = SessionPauses { pauses };
+            serve_input(rt, threads, words, schema, feeds, reader, rests, progress)
+        }
+        None => {
+            let (reader, rests) = (rt.stdin(), NeverRests);
+            serve_input(rt, threads, words, schema, feeds, reader, rests, progress)
+        }
+    }
+}
+
+/// The same, over an input, and what tells whether it rests.
+fn serve_input<T: Threads + Wait + Clock + Sync, S: Store, I: Read + Drop, P: Rests + Drop>(
+    rt: &HostRuntime,
+    threads: &T,
+    words: &LiveWords,
+    schema: &Schema,
+    feeds: StoredFeeds<FeedReader<'_, File>, S>,
+    reader: I,
+    rests: P,
     progress: &Progress<'_, T, Stderr>,
 ) -> Result<(Status, ChangeJournal<S>), (StoredFailure, S)>
     requires room { LiveHasRoom words.now }
@@ -131,7 +162,12 @@ fn serve_over<T: Threads + Wait + Clock + Sync, S: Store>(
         feeds: feeds.readers.len(),
     });
     let watch = Watch { progress };
-    let (alloc, input, out) = (rt.alloc(), rt.stdin(), &mut rt.stdout());
+    let commits = Commits {
+        rests,
+        most_waiting: words.commit_every as u64,
+    };
+    let input = SessionInput { reader, commits };
+    let (alloc, out) = (rt.alloc(), &mut rt.stdout());
     live_stored(threads, alloc, schema, feeds, &settings, &watch, input, out)
 }
 

@@ -9,6 +9,7 @@ ghost use Rattle.cube_words.specs.CommandLine.{RunHasRoom, IsInBounds, IsUpTo, L
 
 mod kept;
 mod named;
+mod pauses;
 mod watch;
 
 use crate::kept::{ask_kept, serve_kept};
@@ -64,7 +65,7 @@ fn main(rt: HostRuntime) -> ExitCode {
 }
 
 // `threads` is the runtime too, as what starts threads.
-fn run<T: Threads + Wait + Clock + Sync>(
+fn run<T: Threads + Wait + Clock + Copy + Send + Sync + 'static>(
     rt: &HostRuntime,
     threads: &T,
 ) -> Result<Status, StoredFailure> {
@@ -93,7 +94,7 @@ fn words_of(rt: &HostRuntime) -> io::Result<Vec<String>> {
 }
 
 /// Does what is asked for, and shows how far it is, where that is wanted.
-fn watched<T: Threads + Wait + Clock + Sync>(
+fn watched<T: Threads + Wait + Clock + Copy + Send + Sync + 'static>(
     rt: &HostRuntime,
     threads: &T,
     request: &Request,
@@ -146,7 +147,7 @@ fn can_write_over(rt: &HostRuntime) -> bool {
 }
 
 /// Does what is asked for.
-fn obey<T: Threads + Wait + Clock + Sync>(
+fn obey<T: Threads + Wait + Clock + Copy + Send + Sync + 'static>(
     rt: &HostRuntime,
     threads: &T,
     request: &Request,
@@ -164,7 +165,7 @@ fn obey<T: Threads + Wait + Clock + Sync>(
 }
 
 /// Does what is asked for, over a share of the feeds.
-fn obey_words<T: Threads + Wait + Clock + Sync>(
+fn obey_words<T: Threads + Wait + Clock + Copy + Send + Sync + 'static>(
     rt: &HostRuntime,
     threads: &T,
     request: &Request,
@@ -427,7 +428,7 @@ fn question_of(rt: &HostRuntime, schema: &Schema, asked: Asked) -> Result<Questi
 }
 
 /// Serves the records of standard input over a cube that is kept right, with a store where the words name one.
-fn serve<T: Threads + Wait + Clock + Sync>(
+fn serve<T: Threads + Wait + Clock + Copy + Send + Sync + 'static>(
     rt: &HostRuntime,
     threads: &T,
     words: &LiveWords,

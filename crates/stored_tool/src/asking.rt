@@ -65,7 +65,8 @@ pub fn ask_stored<
         Ok(live) => live,
         Err(fault) => return Err((StoredFailure::Failure(Failure::from(fault)), store)),
     };
-    match resume(alloc, live, store, &notes) {
+    // No change is taken, so none waits.
+    match resume(alloc, live, store, &notes, 1) {
         Ok((live, journal)) => match ask_resumed(rt, live, journal, question, watcher, out) {
             Ok(ended) => Ok(ended),
             Err((failure, store)) => Err((StoredFailure::Failure(failure), store)),

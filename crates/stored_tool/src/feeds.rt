@@ -1,5 +1,7 @@
-//! What a command over a store takes before it begins.
+//! What a command over a store takes.
 use cube_journal::FeedNote;
+use cube_session::Rests;
+use cube_stored::Commits;
 use std::io::Read;
 
 /// The feeds of a command, and an open store whose changes come after them.
@@ -11,4 +13,13 @@ pub struct StoredFeeds<R: Read + Drop, S> {
     pub notes: Vec<FeedNote>,
     /// The store.
     pub store: S,
+}
+
+/// The input of a session over a store.
+#[derive(Drop)]
+pub struct SessionInput<I: Read + Drop, P: Rests + Drop> {
+    /// Reads the records.
+    pub reader: I,
+    /// When its changes are made certain though nothing asks for it.
+    pub commits: Commits<P>,
 }

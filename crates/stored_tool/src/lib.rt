@@ -13,5 +13,5 @@ mod session;
 
 pub use asking::ask_stored;
 pub use failure::StoredFailure;
-pub use feeds::StoredFeeds;
+pub use feeds::{SessionInput, StoredFeeds};
 pub use session::live_stored;

@@ -7,11 +7,12 @@ ghost use Rattle.cube_tool.specs.Run.{OfFeeds};
 ghost use Rattle.stored_tool.specs.Stored.{FailsToServeStored, ServesStoredOver};
 
 use crate::failure::StoredFailure;
-use crate::feeds::StoredFeeds;
+use crate::feeds::{SessionInput, StoredFeeds};
 use cube_core::Schema;
 use cube_feed::RecordReader;
 use cube_journal::ChangeJournal;
 use cube_live::open_unsettled;
+use cube_session::Rests;
 use cube_stored::serve_stored;
 use cube_threads::{Gate, Settings};
 use cube_tool::Reporter;
@@ -25,15 +26,16 @@ use std::thread::Threads;
 /// Takes at most 64 feeds as `live` does, then the changes of an open store in their order, numbered on from the records of
 /// the feeds, and then the records of the input.
 ///
-/// Each change is in the store before it is applied, and certain before a byte of a later answer goes out. The answers are
-/// those of a session over the feeds in which the stored changes stood before the first record. What is left of the store in
-/// any case is given back: to be closed by `close` where the session ended well, which leaves one file.
+/// Each change is in the store before it is applied, and certain before a byte of a later answer goes out; `input.commits` says
+/// when it is else. The answers are those of a session over the feeds in which the stored changes stood before the first record. What is
+/// left of the store in any case is given back: to be closed by `close` where the session ended well, which leaves one file.
 pub fn live_stored<
     T: Threads + Wait + Sync,
     R: Read + Drop + Send,
     G: Gate + Reporter + Sync,
     S: Store,
     I: Read + Drop,
+    P: Rests + Drop,
     W: Write,
 >(
     rt: &T,
@@ -42,15 +44,16 @@ pub fn live_stored<
     feeds: StoredFeeds<R, S>,
     settings: &Settings,
     watcher: &G,
-    input: I,
+    input: SessionInput<I, P>,
     out: &mut W,
 ) -> Result<(Status, ChangeJournal<S>), (StoredFailure, S)>
-    requires { vec_len feeds.readers ≤ 64 }
+    requires readers { vec_len feeds.readers ≤ 64 }
+    requires waiting { 1 ≤ input.commits.most_waiting }
     ensures ok { IfOk result (λ r. IsClean (S.Store.view r.1.store) → OfFeeds schema.now (map R.Read.remaining feeds.readers.items) (λ items.
-        IfSome (option_map records_of (I.remaining input)) (λ records. ServesStoredOver schema.now items (S.Store.view feeds.store) (entries_of feeds.notes.items) records r.0
+        IfSome (option_map records_of (I.remaining input.reader)) (λ records. ServesStoredOver schema.now items (S.Store.view feeds.store) (entries_of feeds.notes.items) records r.0
         (S.Store.view r.1.store) (S.Store.recovers r.1.store) (W.contents out.old) (W.contents out.new)))) }
     ensures err { IfErr result (λ e. IsClean (S.Store.view e.1) → FailsToServeStored schema.now (map R.Read.remaining feeds.readers.items)
-        (option_map records_of (I.remaining input)) (S.Store.view feeds.store) (entries_of feeds.notes.items) (S.Store.recovers feeds.store) (S.Store.recovers e.1) e.0 (W.contents out.old) (W.contents out.new)) }
+        (option_map records_of (I.remaining input.reader)) (S.Store.view feeds.store) (entries_of feeds.notes.items) (S.Store.recovers feeds.store) (S.Store.recovers e.1) e.0 (W.contents out.old) (W.contents out.new)) }
 {
     let StoredFeeds {
         readers,
@@ -62,8 +65,9 @@ pub fn live_stored<
         Err(fault) => return Err((StoredFailure::Failure(Failure::from(fault)), store)),
     };
     watcher.begins_serving();
-    let mut records = RecordReader::new(alloc, input);
-    let served = serve_stored(rt, alloc, live, store, &notes, &mut records, out);
+    let SessionInput { reader, commits } = input;
+    let mut records = RecordReader::new(alloc, reader);
+    let served = serve_stored(rt, alloc, live, store, &notes, &mut records, commits, out);
     drop(records);
     match served {
         Ok((live, journal)) => Ok((status_after(live.ledger()), journal.into_journal())),

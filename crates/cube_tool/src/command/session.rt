@@ -11,7 +11,7 @@ use crate::reporter::Reporter;
 use cube_core::Schema;
 use cube_feed::RecordReader;
 use cube_live::{Live, open};
-use cube_session::{NoJournal, SessionFault, serve};
+use cube_session::{NeverRests, NoJournal, SessionFault, serve};
 use cube_threads::{Gate, Settings};
 use std::alloc::Global;
 use std::io::{Read, Write};
@@ -70,5 +70,13 @@ fn serve_input<T: Threads + Sync, I: Read + Drop, W: Write>(
     ensures schema { live.new.schema ≡ live.old.schema }
 {
     let mut records = RecordReader::new(alloc, input);
-    serve(rt, alloc, live, &mut records, &mut NoJournal, out)
+    serve(
+        rt,
+        alloc,
+        live,
+        &mut records,
+        &mut NeverRests,
+        &mut NoJournal,
+        out,
+    )
 }

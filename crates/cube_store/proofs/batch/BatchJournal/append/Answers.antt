@@ -12,8 +12,10 @@ returns-in_err-make_room-clause-broken g c = laws.OnErr-always c.from_residual.r
 
 pub returns-in_err-append-clause-broken : goal.returns-in_err-append-clause-broken
 returns-in_err-append-clause-broken g c =
-    let mid : Batch g.row.S.Denot = record { store = c.self.inside.journal.store; waiting = c.self.inside.waiting } in
-    let new : Batch g.row.S.Denot = record { store = c.append.new.self.store; waiting = c.self.inside.waiting } in
+    let mid : Batch g.row.S.Denot =
+    record { store = c.self.inside.journal.store; waiting = c.self.inside.waiting; most = c.self.inside.most } in
+    let new : Batch g.row.S.Denot =
+    record { store = c.append.new.self.store; waiting = c.self.inside.waiting; most = c.self.inside.most } in
     laws.OnErr-always c.from_residual-in_err-append.result (λ first changes sure kept.
     laws.HasBroken-more g.S.Store.view g.S.Store.recovers first new changes
     ((c.args.source, c.args.content.now) ∷ []) sure
@@ -23,8 +25,10 @@ returns-in_err-append-clause-broken g c =
 
 pub returns-clause-kept : goal.returns-clause-kept
 returns-clause-kept g c =
-    let mid : Batch g.row.S.Denot = record { store = c.self.inside.journal.store; waiting = c.self.inside.waiting } in
-    let new : Batch g.row.S.Denot = record { store = c.append.new.self.store; waiting = c.self.inside.waiting + 1 } in
+    let mid : Batch g.row.S.Denot =
+    record { store = c.self.inside.journal.store; waiting = c.self.inside.waiting; most = c.self.inside.most } in
+    let new : Batch g.row.S.Denot =
+    record { store = c.append.new.self.store; waiting = c.self.inside.waiting + 1; most = c.self.inside.most } in
     λ first changes sure kept.
     laws.HasKept-append g.S.Store.view g.S.Store.recovers g.S.Store.faults first mid new changes sure
     (rw (← c.self.view_is) at (c.in_ok-make_room.ensures.kept first changes sure kept))

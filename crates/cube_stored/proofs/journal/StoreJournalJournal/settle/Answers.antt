@@ -13,3 +13,11 @@ returns-clause-ok g c = elim c.match-settle.branch [
       (length-map k.told stored_as) (w.in-Ok.ensures.kept first (stored_all k.told) k.sure kept))
   | in-Err w ↦ rw w.result-is tt
 ]
+
+pub returns-clause-still : goal.returns-clause-still
+returns-clause-still g c = elim c.match-settle.branch [
+  | in-Ok w ↦
+      rw (w.result-is, ← c.self.view_is)
+      (λ first k kept. w.in-Ok.ensures.still first (stored_all k.told) k.sure kept)
+  | in-Err w ↦ rw w.result-is tt
+]
