@@ -527,10 +527,19 @@ HURTFUL = {
 }
 
 
-def seconds(program, given):
-    """The processor time of a run without words over a feed, and its answer."""
+# (what scripts/colliding.c makes: by which hash the cells of a feed collide)
+COLLIDING = {
+    "fold": "in a hash that multiplies and folds words",
+    "fx": "in Fx",
+    "fnv": "in FNV-1a",
+    "known": "in the program's own hash under the key that isn't drawn",
+}
+
+
+def seconds(program, given, words=()):
+    """The processor time of a run over what it is given, without words where none are named, and its answer."""
     before = resource.getrusage(resource.RUSAGE_CHILDREN)
-    answer = program.run([], given)
+    answer = program.run(words, given)
     after = resource.getrusage(resource.RUSAGE_CHILDREN)
     return after.ru_utime + after.ru_stime - before.ru_utime - before.ru_stime, answer
 
@@ -556,18 +565,51 @@ def checked(program, checker, words, given):
     return f"status {ran.returncode}, {ran.stderr[:300]!r}"
 
 
-def near_linear(program, feed_of, lines=100000, times=4):
+def fastest(program, given, words=()):
+    """The shorter of two runs."""
+    return min((seconds(program, given, words) for _ in range(2)), key=lambda it: it[0])
+
+
+def near_linear(program, feed_of, lines=100000, times=4, words=()):
     """Why so many times the lines take more than twice so many times the processor time."""
-    few, one = min(((seconds(program, feed_of(lines))) for _ in range(2)), key=lambda it: it[0])
-    many, two = min(((seconds(program, feed_of(lines * times))) for _ in range(2)), key=lambda it: it[0])
+    few, one = fastest(program, feed_of(lines), words)
+    many, two = fastest(program, feed_of(lines * times), words)
     if one.status not in (0, 4) or two.status not in (0, 4):
         return f"status {one.status} and {two.status}, {two.err[:100]!r}"
     return None if many < 2 * times * few + 0.1 else f"{lines} lines in {few:.2f} s, {times} times as many in {many:.2f} s"
 
 
+def as_by_chance(program, feed_of, others_of, lines=202000):
+    """Why a feed takes more than half again as long as another of so many lines."""
+    made, one = fastest(program, feed_of(lines))
+    by_chance, two = fastest(program, others_of(lines))
+    if (one.status, two.status) != (0, 0):
+        return f"status {one.status} and {two.status}, {one.err[:100]!r}"
+    return None if made < 1.5 * by_chance + 0.05 else f"{made:.2f} s, and {by_chance:.2f} s by chance"
+
+
+def in_session(program, feed_of):
+    """What makes a session of a feed: it is written to a file, and what is given is a question."""
+    return lambda lines: (program.write("colliding.csv", feed_of(lines)), b"slice,\\A,\\A\n")[1]
+
+
 def hurtful(trials):
+    program = trials.program
     for name, feed_of in HURTFUL.items():
-        trials.trial(f"near linear: {name}", lambda: near_linear(trials.program, feed_of))
+        trials.trial(f"near linear: {name}", lambda: near_linear(program, feed_of))
+    tool = os.path.join(program.folder, "colliding")
+    subprocess.run(["cc", "-O2", "-o", tool, os.path.join(HERE, "colliding.c")], check=True)
+    made = lambda kind: lambda lines: subprocess.run([tool, kind, str(lines)], stdout=subprocess.PIPE, check=True).stdout
+    program.write("schema.toml", SAMPLE.toml())
+    session = ["live", "schema.toml"]
+    for kind, how in COLLIDING.items():
+        name = f"cells that collide {how}"
+        trials.trial(f"near linear: {name}", lambda: near_linear(program, made(kind)))
+        trials.trial(f"as fast as by chance: {name}", lambda: as_by_chance(program, made(kind), made("none")))
+        trials.trial(f"near linear: {name}, in a session", lambda: near_linear(
+            program, in_session(program, made(kind)), 25000, 4, [*session, "colliding.csv"]))
+    trials.trial("near linear: numbers that collide in a session",
+                 lambda: near_linear(program, made("numbers"), 12500, 4, session))
 
 
 NAMES = ["region", "kind", "a,b", 'say "so"', "two\nlines", "café", "count(*)", "m)", "\\N", "x" * 40, "Op", "?"]

@@ -6,6 +6,8 @@ use Rattle.cube_cells.specs.Codes.{Dictionaries, all_code}
 use Rattle.cube_cells.specs.Coded.{CodedCells, AreNewCells, IsCoded, coded_at}
 use Rattle.cube_cells.specs.Cube.{cell_holds}
 use Rattle.cube_cells.specs.Walk.{key_in, HasRoom, AddsIn, TakesIn, SameCoded, AreApart}
+use Rattle.std.specs.HashMap.{hasher_of}
+use Rattle.cube_cells.specs.declared.cube.cell_key.CellKey.{CellKey}
 use Rattle.cube_cells.specs.declared.cube.codes.Codes.{Codes}
 use Rattle.cube_cells.specs.declared.cube.levels.Level.{Level}
 
@@ -49,6 +51,10 @@ table_at (level ∷ levels) codes =
 pub record IsNewLevel {N : Type 0} (measures set : ℕ) (level : Level N) : Type 0 where
   pub set_is : level.set ≡ set
   pub new : AreNewCells (set == 0) measures level.cells.entries
+
+-- the codes of a level's cells are hashed under this key
+abbrev pub IsUnderKey : {N : Type 0} → CellKey → Level N → Type 0
+IsUnderKey key level = hasher_of level.cells ≡ key
 
 -- the key of codes in the set of a level
 abbrev pub key_of_level : {N : Type 0} → Codes → Level N → Codes

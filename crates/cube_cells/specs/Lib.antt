@@ -7,6 +7,7 @@ pub mod Coded
 pub mod Walk
 pub mod Ranks
 pub mod Rows
+pub mod CellKey
 pub mod Levels
 pub mod Fill
 pub mod Places

@@ -11,6 +11,7 @@ ghost use Rattle.cube_core.specs.declared.key.Key.{Key};
 ghost use Rattle.cube_cells.specs.Codes.{IsDictionary, AreCodesOf, are_codes, coord_of_value};
 ghost use Rattle.cube_cells.specs.Cube.{Lattice, IsLattice, IsCubeOf, HoldsFact, AddsFact, TakesFact, AddsTexts, MayAddTexts, SameCells, cell_at, count_in, IsNewLattice};
 
+mod cell_key;
 mod codes;
 mod dictionary;
 mod fill;
@@ -25,6 +26,7 @@ mod walk;
 mod workers;
 
 use crate::cell::Cell;
+use cell_key::CellKey;
 use codes::{ALL, Codes};
 use cube_core::{Coord, DimensionValues, Fact, HashKey, Key, Schema};
 use cube_counts::{Counted, Numbers};
@@ -167,7 +169,8 @@ impl<N: Numbers> Cube<N> {
         ensures cube { IfOk result (λ cube. IsCubeOf cube []) }
     {
         let dictionaries = new_dictionaries(alloc, schema.hash_key(), schema.dimensions().len())?;
-        let levels = new_levels(alloc, schema.measures().len(), &sets)?;
+        let key = CellKey::under(schema.hash_key());
+        let levels = new_levels(alloc, key, schema.measures().len(), &sets)?;
         Ok(Cube {
             schema,
             sets,

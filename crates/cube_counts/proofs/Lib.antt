@@ -1,3 +1,4 @@
 pub mod GrownLaws
 mod LogLaws
 mod OwedLaws
+mod TableLaws

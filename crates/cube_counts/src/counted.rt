@@ -10,7 +10,7 @@ use crate::short::{FEW, Short};
 use crate::table::Table;
 use cube_numbers::{Narrow, Single};
 use std::alloc::{AllocError, Global};
-use std::collections::HashMap;
+use std::collections::BTreeMap;
 use std::marker::Model;
 use std::mem;
 
@@ -30,9 +30,8 @@ const SEARCHED: usize = 64;
 /// Of these forms, a short list takes few numbers. More are a log of what was added, with a list of what was taken
 /// away since; it answers its least and greatest number at once, and looks at each of its pairs for `holds`. When one
 /// of its ends is taken, or very much is, the log is sorted and what was taken leaves it. If that was little, as with
-/// a client that always takes the least number, the pairs stay sorted, and the next add makes a hash table of them.
-/// Where the numbers of a log repeat, a table takes its place too. `least` and `greatest` of a table look at each of
-/// the different numbers.
+/// a client that always takes the least number, the pairs stay sorted, and the next add makes a table of them, in the
+/// order of the numbers. Where the numbers of a log repeat, a table takes its place too.
 #[derive(Drop)]
 pub struct Counted {
     len: u64,
@@ -149,8 +148,7 @@ impl Counted {
         holds_value(&self.values, value)
     }
 
-    /// The least number held. A table looks at each of the different numbers, a short list at each pair, and the other
-    /// forms answer at once.
+    /// The least number held. A short list looks at each pair, and the other forms answer at once.
     pub fn least(&self) -> Option<i64>
         ensures none { IsNone result ↔ (size_of self.now ≡ 0) }
         ensures least { IfSome result (HasLeast self.now) }
@@ -164,8 +162,7 @@ impl Counted {
         }
     }
 
-    /// The greatest number held. A table looks at each of the different numbers, a short list at each pair, and the
-    /// other forms answer at once.
+    /// The greatest number held. A short list looks at each pair, and the other forms answer at once.
     pub fn greatest(&self) -> Option<i64>
         ensures none { IsNone result ↔ (size_of self.now ≡ 0) }
         ensures greatest { IfSome result (HasGreatest self.now) }
@@ -351,7 +348,7 @@ fn merge_each(alloc: Global, values: &mut Values, more: &Log) -> Result<(), Allo
 fn merge_counts(
     alloc: Global,
     values: &mut Values,
-    counts: &HashMap<i64, u64>,
+    counts: &BTreeMap<i64, u64>,
 ) -> Result<(), AllocError>
     requires some { All (λ e. 0 < e.1) counts.now.entries }
     requires fits { size_of (bag_of values.old) + size_of counts.now.entries < 2 ^ 64 }

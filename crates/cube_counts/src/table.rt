@@ -1,21 +1,21 @@
-//! A bag of many numbers: a hash table.
+//! A bag of many numbers: an ordered table.
 ghost use Rattle.std.specs.Prelude.{true, false, Ok, ◌≡◌, ◌<◌, ◌≤ℤ◌, ◌+◌, ◌^◌, ◌↔◌, [], ◌∷◌, None, Contains, All, IsNone, IsSome, IfSome, IfOk, OnOk, OnErr};
 ghost use Rattle.std.specs.Bool.{OnTrue, OnFalse};
-ghost use Rattle.std.specs.HashMap.{get};
+ghost use Rattle.std.specs.BTreeMap.{get};
 ghost use Rattle.std.specs.Map.{values_of, keys_of, lookup, set_value, remove_entry};
 ghost use Rattle.std.specs.List.Sorted.{IsPermutation};
-ghost use Rattle.std.specs.Ordering.{int_eq};
+ghost use Rattle.std.specs.Ordering.{int_cmp, int_eq};
 ghost use Rattle.cube_numbers.specs.Bag.{Bag, AddsOne, AddsTimes, SameHeld, held_of, size_of, HasLeast, HasGreatest};
 ghost use Rattle.cube_numbers.specs.Narrow.{once_each};
 
 use std::alloc::{AllocError, Global};
-use std::collections::HashMap;
+use std::collections::BTreeMap;
 use std::marker::Model;
 
 /// Many numbers, each with how often it is held.
 #[derive(Drop)]
 pub struct Table {
-    counts: HashMap<i64, u64>,
+    counts: BTreeMap<i64, u64>,
 }
 
 impl Model for Table {
@@ -32,7 +32,7 @@ impl Table {
         ensures { result ≡ [] }
     {
         Table {
-            counts: HashMap::new(alloc),
+            counts: BTreeMap::new(alloc),
         }
     }
 
@@ -73,7 +73,7 @@ impl Table {
 
     /// The numbers, each with how often it is held.
     #[tactic(auto, using(cube_numbers::proofs::BagLaws::some_entries))]
-    pub fn counts(&self) -> &HashMap<i64, u64>
+    pub fn counts(&self) -> &BTreeMap<i64, u64>
         ensures counts { result.now.entries ≡ self.now }
         ensures some { All (λ e. 0 < e.1) self.now }
     {
@@ -122,7 +122,7 @@ impl Table {
         count_of(&self.counts, value).is_some()
     }
 
-    /// The least number held; it looks at each number.
+    /// The least number held.
     #[tactic(auto, using(cube_numbers::proofs::BagLaws::least_of_table, cube_numbers::proofs::BagLaws::no_entries))]
     pub fn least(&self) -> Option<i64>
         ensures none { IsNone result ↔ (size_of self.now ≡ 0) }
@@ -131,7 +131,7 @@ impl Table {
         least_number(&self.counts)
     }
 
-    /// The greatest number held; it looks at each number.
+    /// The greatest number held.
     #[tactic(auto, using(cube_numbers::proofs::BagLaws::greatest_of_table, cube_numbers::proofs::BagLaws::no_entries))]
     pub fn greatest(&self) -> Option<i64>
         ensures none { IsNone result ↔ (size_of self.now ≡ 0) }
@@ -142,8 +142,8 @@ impl Table {
 }
 
 // Sets the count of a number that is there.
-fn set_count(counts: &mut HashMap<i64, u64>, value: i64, count: u64)
-    requires { IsSome (get int_eq counts.old value) }
+fn set_count(counts: &mut BTreeMap<i64, u64>, value: i64, count: u64)
+    requires { IsSome (get int_cmp counts.old value) }
     ensures { counts.new.entries ≡ set_value (int_eq value) counts.old.entries count }
 {
     if let Some(place) = counts.get_mut(&value) {
@@ -151,14 +151,15 @@ fn set_count(counts: &mut HashMap<i64, u64>, value: i64, count: u64)
     }
 }
 
-fn count_of(counts: &HashMap<i64, u64>, value: i64) -> Option<u64>
+fn count_of(counts: &BTreeMap<i64, u64>, value: i64) -> Option<u64>
     ensures { result ≡ lookup (int_eq value) counts.now.entries }
 {
     counts.get(&value).copied()
 }
 
 // Puts the count of a number that is absent.
-fn put_new(counts: &mut HashMap<i64, u64>, value: i64, count: u64) -> Result<(), AllocError>
+#[tactic(auto, using(crate::proofs::TableLaws::one_more_entry))]
+fn put_new(counts: &mut BTreeMap<i64, u64>, value: i64, count: u64) -> Result<(), AllocError>
     requires { lookup (int_eq value) counts.old.entries ≡ None }
     ensures put { OnOk result (IsPermutation ((value, count) ∷ counts.old.entries) counts.new.entries) }
     ensures err { OnErr result (counts.new.entries ≡ counts.old.entries) }
@@ -167,24 +168,30 @@ fn put_new(counts: &mut HashMap<i64, u64>, value: i64, count: u64) -> Result<(),
     Ok(())
 }
 
-fn take_out(counts: &mut HashMap<i64, u64>, value: i64)
+fn take_out(counts: &mut BTreeMap<i64, u64>, value: i64)
     ensures { IsPermutation (remove_entry (int_eq value) counts.old.entries) counts.new.entries }
 {
     let _ = counts.remove(&value);
 }
 
-fn least_number(counts: &HashMap<i64, u64>) -> Option<i64>
+fn least_number(counts: &BTreeMap<i64, u64>) -> Option<i64>
     ensures none { IsNone result ↔ (counts.now.entries ≡ []) }
     ensures held { IfSome result (Contains (keys_of counts.now.entries)) }
     ensures least { IfSome result (λ m. All (λ x. m ≤ℤ x) (keys_of counts.now.entries)) }
 {
-    counts.keys().copied().min()
+    let Some((number, _)) = counts.first_key_value() else {
+        return None;
+    };
+    Some(*number)
 }
 
-fn greatest_number(counts: &HashMap<i64, u64>) -> Option<i64>
+fn greatest_number(counts: &BTreeMap<i64, u64>) -> Option<i64>
     ensures none { IsNone result ↔ (counts.now.entries ≡ []) }
     ensures held { IfSome result (Contains (keys_of counts.now.entries)) }
     ensures greatest { IfSome result (λ m. All (λ x. x ≤ℤ m) (keys_of counts.now.entries)) }
 {
-    counts.keys().copied().max()
+    let Some((number, _)) = counts.last_key_value() else {
+        return None;
+    };
+    Some(*number)
 }

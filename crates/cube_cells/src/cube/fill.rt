@@ -12,12 +12,11 @@ ghost use Rattle.cube_cells.specs.Walk.{AreApart};
 
 use super::Cube;
 use super::codes::Codes;
-use super::levels::{Level, new_cells};
+use super::levels::{Cells, Level, new_cells};
 use super::workers::{Alone, Several, Workers};
 use crate::cell::Cell;
 use cube_counts::{Numbers, Summary};
 use std::alloc::{AllocError, Global};
-use std::collections::HashMap;
 use std::thread::Threads;
 
 impl<N: Numbers> Cube<N> {
@@ -260,24 +259,24 @@ fn is_finer(finer: u8, set: u8) -> bool
 // The cells of a set, made from those of a finer one.
 fn cells_from<N: Numbers>(
     alloc: Global,
-    finer: &HashMap<Codes, Cell<N>>,
+    finer: &Cells<N>,
     set: u8,
     measures: usize,
-) -> Result<HashMap<Codes, Cell<N>>, AllocError>
+) -> Result<Cells<N>, AllocError>
     requires { All (λ cell. length cell.1.bags ≡ measures) finer.now.entries }
     ensures made { IfOk result (λ cells.
         AreMadeFrom finer.now.entries set measures cells.entries) }
     ensures width { IfOk result (λ cells.
         All (λ cell. length cell.1.bags ≡ measures) cells.entries) }
 {
-    let mut cells = new_cells(alloc, measures, set == 0)?;
+    let mut cells = new_cells(alloc, *finer.hasher(), measures, set == 0)?;
     fill_set(alloc, &mut cells, finer, set)?;
     shrink_cells(&mut cells);
     Ok(cells)
 }
 
 // Gives back the room beyond the values of each cell.
-fn shrink_cells<N: Numbers>(cells: &mut HashMap<Codes, Cell<N>>)
+fn shrink_cells<N: Numbers>(cells: &mut Cells<N>)
     ensures { cells.new.entries ≡ cells.old.entries }
 {
     cells.retain(|_, cell| {
@@ -289,8 +288,8 @@ fn shrink_cells<N: Numbers>(cells: &mut HashMap<Codes, Cell<N>>)
 // Merges the cells of a finer set into those of a set.
 fn fill_set<N: Numbers>(
     alloc: Global,
-    cells: &mut HashMap<Codes, Cell<N>>,
-    finer: &HashMap<Codes, Cell<N>>,
+    cells: &mut Cells<N>,
+    finer: &Cells<N>,
     set: u8,
 ) -> Result<(), AllocError>
     requires { HaveOneWidth finer.now.entries cells.old.entries }
@@ -305,7 +304,7 @@ fn fill_set<N: Numbers>(
 // Merges a cell into that of a key, which is made where there is none.
 fn merge_at<N: Numbers>(
     alloc: Global,
-    cells: &mut HashMap<Codes, Cell<N>>,
+    cells: &mut Cells<N>,
     codes: Codes,
     more: &Cell<N>,
 ) -> Result<(), AllocError>
@@ -324,7 +323,7 @@ fn merge_at<N: Numbers>(
 // Puts a copy of a cell in.
 fn put_copy<N: Numbers>(
     alloc: Global,
-    cells: &mut HashMap<Codes, Cell<N>>,
+    cells: &mut Cells<N>,
     codes: Codes,
     more: &Cell<N>,
 ) -> Result<(), AllocError>

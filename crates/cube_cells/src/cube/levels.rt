@@ -1,33 +1,40 @@
 //! The tables of a cube: one for each kept grouping set.
-ghost use Rattle.std.specs.Prelude.{◌≡◌, [], ◌∷◌, true, IfOk};
+ghost use Rattle.std.specs.Prelude.{◌≡◌, [], ◌∷◌, true, All, IfOk};
 ghost use Rattle.std.specs.List.{AllZip};
 ghost use Rattle.cube_cells.specs.Coded.{AreNewCells};
-ghost use Rattle.cube_cells.specs.Levels.{IsNewLevel};
+ghost use Rattle.cube_cells.specs.Levels.{IsNewLevel, IsUnderKey};
+ghost use Rattle.std.specs.HashMap.{hasher_of};
 
+use super::cell_key::CellKey;
 use super::codes::Codes;
 use crate::cell::Cell;
 use cube_counts::{Counted, Numbers};
 use std::alloc::{AllocError, Global};
 use std::collections::HashMap;
 
+/// Cells by their codes, which are hashed under a key that the schema brings: whoever writes a feed chooses them.
+pub type Cells<N = Counted> = HashMap<Codes, Cell<N>, CellKey>;
+
 /// A grouping set with its cells.
 #[derive(Drop)]
 pub struct Level<N: Numbers = Counted> {
     pub set: u8,
-    pub cells: HashMap<Codes, Cell<N>>,
+    pub cells: Cells<N>,
 }
 
 /// The levels of these sets over no fact.
 pub fn new_levels<N: Numbers>(
     alloc: Global,
+    key: CellKey,
     measures: usize,
     sets: &[u8],
 ) -> Result<Vec<Level<N>>, AllocError>
-    ensures { IfOk result (λ levels. AllZip (IsNewLevel measures) sets.now levels.items) }
+    ensures new { IfOk result (λ levels. AllZip (IsNewLevel measures) sets.now levels.items) }
+    ensures key { IfOk result (λ levels. All (IsUnderKey key) levels.items) }
 {
     let mut levels = Vec::with_capacity(alloc, sets.len())?;
     for set in sets {
-        let cells = new_cells(alloc, measures, *set == 0)?;
+        let cells = new_cells(alloc, key, measures, *set == 0)?;
         levels.push(Level { set: *set, cells })?;
     }
     Ok(levels)
@@ -45,26 +52,30 @@ pub fn one_level<N: Numbers>(alloc: Global, level: Level<N>) -> Result<Vec<Level
 /// The cells of no fact: the grand total, where its set is kept.
 pub fn new_cells<N: Numbers>(
     alloc: Global,
+    key: CellKey,
     measures: usize,
     has_total: bool,
-) -> Result<HashMap<Codes, Cell<N>>, AllocError>
-    ensures { IfOk result (λ cells. AreNewCells has_total measures cells.entries) }
+) -> Result<Cells<N>, AllocError>
+    ensures new { IfOk result (λ cells. AreNewCells has_total measures cells.entries) }
+    ensures key { IfOk result (λ cells. hasher_of cells ≡ key) }
 {
     if has_total {
-        total_cells(alloc, measures)
+        total_cells(alloc, key, measures)
     } else {
-        Ok(HashMap::new(alloc))
+        Ok(HashMap::with_hasher(alloc, key))
     }
 }
 
 // The cell of the grand total over no facts.
 fn total_cells<N: Numbers>(
     alloc: Global,
+    key: CellKey,
     measures: usize,
-) -> Result<HashMap<Codes, Cell<N>>, AllocError>
-    ensures { IfOk result (λ cells. AreNewCells true measures cells.entries) }
+) -> Result<Cells<N>, AllocError>
+    ensures new { IfOk result (λ cells. AreNewCells true measures cells.entries) }
+    ensures key { IfOk result (λ cells. hasher_of cells ≡ key) }
 {
-    let mut cells = HashMap::new(alloc);
+    let mut cells = HashMap::with_hasher(alloc, key);
     cells.insert(Codes::total(), Cell::empty(alloc, measures)?)?;
     Ok(cells)
 }

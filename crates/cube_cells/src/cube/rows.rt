@@ -19,7 +19,7 @@ ghost use Rattle.cube_cells.specs.Rows.{AreRowsInOrder, AreRowsOf, AreWantsOf, i
 use super::Cube;
 use super::codes::Codes;
 use super::dictionary::{Dictionary, compare_keys};
-use super::levels::Level;
+use super::levels::{Cells, Level};
 use super::ordered::{OrderedCells, Place};
 use super::ranks::{Ranks, ranks_of, ranks_of_all};
 use super::workers::{Alone, Several, Workers};
@@ -27,7 +27,6 @@ use crate::cell::Cell;
 use cube_core::Row;
 use cube_counts::{Numbers, Summary};
 use std::alloc::{AllocError, Global};
-use std::collections::HashMap;
 use std::thread::Threads;
 
 /// What is wanted of the code of a dimension.
@@ -215,7 +214,7 @@ pub fn places_of<'c, N: Numbers>(
 fn push_places<'c, N: Numbers>(
     places: &mut Vec<Place<'c, N>>,
     ranks: &[Ranks],
-    cells: &'c HashMap<Codes, Cell<N>>,
+    cells: &'c Cells<N>,
     wants: &[Want],
 ) -> Result<(), AllocError>
     requires { length ranks.now ≤ 8 }

@@ -6,10 +6,11 @@ ghost use Rattle.cube_cells.specs.Fill.{AreMade, IsCubeOfAll, finest_set};
 ghost use Rattle.cube_cells.specs.Shares.{AreCoded, AreFinestCells, AreJoined, IsColumnOf, IsShare, Joins, PutsCode, codes_at, dictionaries_of, facts_coded, share_of};
 
 use super::Cube;
+use super::cell_key::CellKey;
 use super::codes::{ALL, Codes};
 use super::dictionary::Dictionary;
 use super::fill::finest_of;
-use super::levels::{Level, one_level};
+use super::levels::{Cells, Level, one_level};
 use super::walk::gather_at;
 use crate::cell::Cell;
 use cube_core::{Fact, Schema};
@@ -73,7 +74,7 @@ impl<N: Numbers + Send + Sync> Cube<N> {
 fn cube_of<N: Numbers>(
     alloc: Global,
     coded: CodedFacts<'_>,
-    cells: HashMap<Codes, Cell<N>>,
+    cells: Cells<N>,
 ) -> Result<Cube<N>, AllocError>
     requires coded { AreCoded coded }
     requires cells { AreFinestCells coded (facts_coded coded) cells.entries }
@@ -218,7 +219,7 @@ fn finest_cells<T: Threads + Sync, N: Numbers + Send + Sync>(
     threads: usize,
     alloc: Global,
     coded: &CodedFacts<'_>,
-) -> Result<HashMap<Codes, Cell<N>>, AllocError>
+) -> Result<Cells<N>, AllocError>
     requires threads { 0 < threads }
     requires coded { AreCoded coded.now }
     ensures { IfOk result (λ cells. AreFinestCells coded.now (facts_coded coded.now) cells.entries) }
@@ -228,17 +229,18 @@ fn finest_cells<T: Threads + Sync, N: Numbers + Send + Sync>(
     }
     let made = made_shares(rt, alloc, coded, threads)?;
     let levels = all_made(alloc, made)?;
-    joined(alloc, levels)
+    joined(alloc, CellKey::under(coded.schema.hash_key()), levels)
 }
 
 // The cells of all shares in one table, which has room for all of them at once.
 fn joined<N: Numbers>(
     alloc: Global,
+    key: CellKey,
     shares: Vec<Level<N>>,
-) -> Result<HashMap<Codes, Cell<N>>, AllocError>
+) -> Result<Cells<N>, AllocError>
     ensures { IfOk result (λ cells. AreJoined shares.items cells.entries) }
 {
-    let mut cells = HashMap::new(alloc);
+    let mut cells = HashMap::with_hasher(alloc, key);
     cells.reserve(number_of_cells(&shares))?;
     for share in shares {
         move_cells(&mut cells, share.cells)?;
@@ -257,8 +259,8 @@ fn number_of_cells<N: Numbers>(levels: &[Level<N>]) -> usize {
 
 // Moves cells to others of other codes.
 fn move_cells<N: Numbers>(
-    cells: &mut HashMap<Codes, Cell<N>>,
-    more: HashMap<Codes, Cell<N>>,
+    cells: &mut Cells<N>,
+    more: Cells<N>,
 ) -> Result<(), AllocError>
     ensures { OnOk result (Joins more.entries cells.old.entries cells.new.entries) }
 {
@@ -300,7 +302,7 @@ fn share_cells<N: Numbers>(
 {
     let columns = coded.columns.as_slice();
     let set = finest_of(columns.len());
-    let mut cells = HashMap::new(alloc);
+    let mut cells = HashMap::with_hasher(alloc, CellKey::under(coded.schema.hash_key()));
     for (place, fact) in coded.facts.iter().enumerate() {
         if is_in_share(columns, place, share, of) {
             let codes = codes_at(columns, place);

@@ -10,11 +10,10 @@ ghost use Rattle.cube_cells.specs.declared.cube.levels.Level.{Level};
 ghost use Rattle.cube_cells.specs.Walk.{LosesFact, HasRoom, AddsIn, TakesIn, SameCoded, AreApart};
 
 use super::codes::Codes;
-use super::levels::Level;
+use super::levels::{Cells, Level};
 use crate::cell::Cell;
 use cube_counts::Numbers;
 use std::alloc::{AllocError, Global};
-use std::collections::HashMap;
 
 /// Adds a fact with these codes and measures to its cell of each level, or to none.
 pub fn add_to_sets(
@@ -92,7 +91,7 @@ fn take_from_level(level: &mut Level, codes: &Codes, values: &[Option<i64>])
     take_from_cell(&mut level.cells, key, values);
 }
 
-fn holds_at(cells: &HashMap<Codes, Cell>, codes: &Codes, values: &[Option<i64>]) -> bool
+fn holds_at(cells: &Cells, codes: &Codes, values: &[Option<i64>]) -> bool
     ensures { result ≡ cell_holds values.now (coded_at cells.now.entries codes.now) }
 {
     match cells.get(codes) {
@@ -104,7 +103,7 @@ fn holds_at(cells: &HashMap<Codes, Cell>, codes: &Codes, values: &[Option<i64>])
 /// Adds to the cell of a key, which is filled before it is put in where it is new.
 pub fn add_to_cell(
     alloc: Global,
-    cells: &mut HashMap<Codes, Cell>,
+    cells: &mut Cells,
     codes: Codes,
     values: &[Option<i64>],
 ) -> Result<(), AllocError>
@@ -122,7 +121,7 @@ pub fn add_to_cell(
 /// Adds to the cell of a key, where the cells are no longer asked if memory is wanting.
 pub fn gather_at<N: Numbers>(
     alloc: Global,
-    cells: &mut HashMap<Codes, Cell<N>>,
+    cells: &mut Cells<N>,
     codes: Codes,
     values: &[Option<i64>],
 ) -> Result<(), AllocError>
@@ -139,7 +138,7 @@ pub fn gather_at<N: Numbers>(
 // Puts a cell of one fact in.
 fn put_cell<N: Numbers>(
     alloc: Global,
-    cells: &mut HashMap<Codes, Cell<N>>,
+    cells: &mut Cells<N>,
     codes: Codes,
     values: &[Option<i64>],
 ) -> Result<(), AllocError>
@@ -155,7 +154,7 @@ fn put_cell<N: Numbers>(
 }
 
 // Takes from the cell of a key, which goes where no fact is left and it isn't the grand total.
-fn take_from_cell(cells: &mut HashMap<Codes, Cell>, codes: Codes, values: &[Option<i64>])
+fn take_from_cell(cells: &mut Cells, codes: Codes, values: &[Option<i64>])
     requires { IsTrue (cell_holds values.now (coded_at cells.old.entries codes)) }
     ensures taken { TakesIn (codes ∷ []) values.now cells.old.entries cells.new.entries }
     ensures apart { AreApart cells.old.entries → AreApart cells.new.entries }
@@ -166,7 +165,7 @@ fn take_from_cell(cells: &mut HashMap<Codes, Cell>, codes: Codes, values: &[Opti
 }
 
 // Takes from the cell of a key, and answers how many facts it has left.
-fn minus_at(cells: &mut HashMap<Codes, Cell>, codes: &Codes, values: &[Option<i64>]) -> u64
+fn minus_at(cells: &mut Cells, codes: &Codes, values: &[Option<i64>]) -> u64
     requires { IsTrue (cell_holds values.now (coded_at cells.old.entries codes.now)) }
     ensures taken { LosesFact codes.now values.now cells.old.entries cells.new.entries result }
     ensures apart { AreApart cells.old.entries → AreApart cells.new.entries }

@@ -11,7 +11,7 @@ made : (g : over.Over) (c : In_ok-levels g)
     (cells_of c.in_ok-levels.levels.items)
 made g c =
     let texts = rw c.dimensions.ensures.value at c.in_ok-dictionaries.ensures in
-    let new = rw (c.measures.ensures.value, c.deref.ensures.value) at c.in_ok-levels.ensures in
+    let new = rw (c.measures.ensures.value, c.deref.ensures.value) at c.in_ok-levels.ensures.new in
     let cells = AreNewCells-IsNewLevel _ c.args.sets.items c.in_ok-levels.levels.items c.requires.ascending new in
     IsNewCube-AreNewCells c.args.schema c.args.sets.items c.in_ok-dictionaries.dictionaries.items _
     (cells_of c.in_ok-levels.levels.items)
@@ -22,7 +22,7 @@ leveled : (g : over.Over) (c : In_ok-levels g)
 leveled g c = record {
   coded = (made g c).coded;
   tables = AreLevelsOf-IsNewLevel _ c.args.sets.items c.in_ok-levels.levels.items
-      (rw c.deref.ensures.value at c.in_ok-levels.ensures);
+      (rw c.deref.ensures.value at c.in_ok-levels.ensures.new);
 }
 
 pub invariant_of-result : goal.invariant_of-result

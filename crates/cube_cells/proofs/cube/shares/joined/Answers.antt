@@ -5,7 +5,7 @@ use Rattle.cube_cells.proofs.cube.shares.joined.Goals as goal
 pub loop-share-init : goal.loop-share-init
 loop-share-init g c =
     let all : c.into_iter-share-iterator.result.rest.items ≡ c.args.shares.items = search rules in
-    let none : c.new-cells.result.entries ≡ [] = search rules in
+    let none : c.with_hasher-cells.result.entries ≡ [] = search rules in
     IsJoining-none c.args.shares.items c.into_iter-share-iterator.result.rest.items c.reserve.new.self.entries all
     (rw none at c.reserve.ensures.entries.0)
 

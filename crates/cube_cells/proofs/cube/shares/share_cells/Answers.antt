@@ -13,7 +13,7 @@ use Rattle.cube_cells.proofs.cube.shares.share_cells.Goals as goal
 
 pub loop-place-init : goal.loop-place-init
 loop-place-init g c =
-    let none : c.new-cells.result.entries ≡ [] = search rules in
+    let none : c.with_hasher-cells.result.entries ≡ [] = search rules in
     rw none (HasShare-none c.args.coded.now c.args.of c.args.share c.requires.coded)
 
 pub gather_at-requires : goal.gather_at-requires
