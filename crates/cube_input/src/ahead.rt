@@ -30,7 +30,7 @@ pub struct Pauses<T: Wait + Clock + Copy> {
 }
 
 /// Starts a thread that reads an input to its end, and gives the bytes that it reads, with what tells whether the input rests.
-/// None where memory or a thread is wanting: then nothing was read.
+/// None where memory or a thread is wanting: then nothing was read, as before the first byte or the first rest is asked for.
 ///
 /// The thread isn't joined, since it may wait for input for good: when the program ends it is cut off.
 pub fn read_ahead<
@@ -62,6 +62,7 @@ pub fn read_ahead<
 
 // Reads an input to its end, and puts what it reads.
 fn read_to_end<T: Wait, R: Read + Drop>(rt: &T, mut input: R, mut chunk: Vec<u8>, post: &Post) {
+    post.wait_till_wanted(rt);
     let mut place = Place::Record;
     for _ in rt.forever() {
         match input.read(&mut chunk) {

@@ -3,7 +3,7 @@ use std::alloc::{AllocError, Global};
 use std::io::{self, ErrorKind};
 use std::mem;
 use std::sync::atomic::{AtomicU64, Ordering};
-use std::sync::{Condvar, Mutex, Wait};
+use std::sync::{Condvar, Mutex, MutexGuard, Wait};
 use std::time::{Clock, Duration};
 
 /// How many bytes are read at once at most, and how many wait to be taken at most.
@@ -26,6 +26,8 @@ struct Waiting {
     records: u64,
     // More was read, for which there is no room.
     is_full: bool,
+    // Whether the bytes are wanted.
+    is_wanted: bool,
     end: Option<End>,
 }
 
@@ -53,6 +55,7 @@ impl Post {
             bytes: Vec::with_capacity(alloc, ROOM)?,
             records: 0,
             is_full: false,
+            is_wanted: false,
             end: None,
         };
         Ok(Post {
@@ -61,6 +64,24 @@ impl Post {
             emptied: Condvar::new(),
             ahead: AtomicU64::new(0),
         })
+    }
+
+    /// Waits until the bytes are wanted.
+    pub fn wait_till_wanted<T: Wait>(&self, rt: &T) {
+        let waiting = self.waiting.lock(rt);
+        let _wanted = self
+            .emptied
+            .wait_while(rt, waiting, |waiting| !waiting.is_wanted);
+    }
+
+    // What waits, which is wanted from now on.
+    fn wanted<T: Wait>(&self, rt: &T) -> MutexGuard<'_, Waiting> {
+        let mut waiting = self.waiting.lock(rt);
+        if !waiting.is_wanted {
+            waiting.is_wanted = true;
+            self.emptied.notify_one();
+        }
+        waiting
     }
 
     /// Puts bytes that were read, at most as many as there is room for, in which so many records end. It waits for room.
@@ -90,7 +111,7 @@ impl Post {
     /// taken. An error is that of the read.
     pub fn take<T: Wait>(&self, rt: &T, block: &mut Vec<u8>) -> io::Result<()> {
         block.clear();
-        let waiting = self.waiting.lock(rt);
+        let waiting = self.wanted(rt);
         let mut waiting = self.filled.wait_while(rt, waiting, |waiting| {
             waiting.bytes.is_empty() && waiting.end.is_none()
         });
@@ -119,7 +140,7 @@ impl Post {
     /// Waits for a record or the end, for so long at most; whether there is one. Where the bytes that wait are as many as may,
     /// and no record ends in them, it says at once that there is none.
     pub fn awaits<T: Wait + Clock>(&self, rt: &T, most: Duration) -> bool {
-        let waiting = self.waiting.lock(rt);
+        let waiting = self.wanted(rt);
         let (waiting, _) = self
             .filled
             .wait_timeout_while(rt, waiting, most, |waiting| !waiting.calls());

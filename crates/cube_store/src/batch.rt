@@ -28,7 +28,7 @@ impl<S: Store> Model for BatchJournal<S> {
 
     ghost view = { λ j. record { store = j.journal.store; waiting = j.waiting; most = j.most } };
 
-    ghost invariant = { λ j. j.waiting ≤ j.most };
+    ghost invariant = { λ j. (1 ≤ j.most) × (j.waiting ≤ j.most) };
 }
 
 // By hand, so that no caller proves again how a store's parts are let go.
@@ -108,6 +108,7 @@ impl<S: Store> BatchJournal<S> {
         ensures broken { OnErr result (BatchKeepsOn S.Store.view S.Store.recovers (HasBroken S.Store.view S.Store.recovers) self.old self.new
             (λ changes. changes) (λ _ sure. sure)) }
         ensures none { OnOk result (self.new.waiting ≡ 0) }
+        ensures room { OnOk result (self.new.waiting < self.new.most) }
         ensures same { OnOk result (IsClean (S.Store.view self.new.store) → TakesAsBefore (S.Store.view self.old.store) (S.Store.view self.new.store)) }
         ensures cause { IfErr result (λ e. IsClean (S.Store.view self.new.store) → IsCause (MoreFaults (S.Store.faults self.old.store) (S.Store.faults self.new.store))
             ((S.Store.view self.old.store).is_open ≡ false) ⊥ e) }
