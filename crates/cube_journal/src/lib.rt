@@ -21,4 +21,4 @@ pub use fault::OpenFault;
 pub use journal::ChangeJournal;
 pub use note::FeedNote;
 pub use sink::ChangeSink;
-pub use start::open_or_make;
+pub use start::{open_made, open_or_make};
