@@ -1,5 +1,5 @@
 //! A store's two files.
-ghost use Rattle.std.specs.Prelude.{◌≡◌, ◌↔◌, true, false, IsTrue, IfOk, IfErr};
+ghost use Rattle.std.specs.Prelude.{◌≡◌, ◌⊎◌, ◌↔◌, true, false, length, IsTrue, IfOk, IfErr};
 ghost use Rattle.sqlite_wal.specs.PageSize.{bytes_of};
 ghost use Rattle.sqlite_wal.specs.Files.{seen_image};
 ghost use Rattle.sqlite_wal.specs.Reads.{AreClean, OnlyReads};
@@ -8,9 +8,9 @@ ghost use Rattle.sqlite_trees.specs.View.{IsClean};
 ghost use Rattle.sqlite_store.specs.FileStore.{view};
 ghost use Rattle.sqlite_store.specs.Unopened.{state_of, wanted_by, files_of, image, AreUsable};
 ghost use Rattle.sqlite_std_file.specs.File.{file_is_usable, IsFresh};
-ghost use Rattle.cube_journal.specs.State.{HasTables, IsUnmade};
-ghost use Rattle.cube_store.specs.Codes.{file_code_of, TellsFailedCall};
-ghost use Rattle.cube_store.specs.Found.{store_schema, StoreIn, ReadsAs, IsFound};
+ghost use Rattle.cube_journal.specs.State.{IsUnmade};
+ghost use Rattle.cube_store.specs.Codes.{TellsFailedCall};
+ghost use Rattle.cube_store.specs.Found.{store_schema, BeginsMaking, StoreIn, RecoverAlike, IsBegun, HasNoTable, IsFound, IsFoundMade};
 
 use crate::fault::StoreFault;
 use crate::tables::schema;
@@ -18,11 +18,15 @@ use sqlite_disk::{Disk, Files, Start};
 use sqlite_pager::{Options, Pager};
 use sqlite_pool::probe_blank;
 use sqlite_std_file::FileFrom;
-use sqlite_store::{FileStore, OpenError, Unopened};
+use sqlite_store::{FileStore, Unopened};
 use sqlite_wal::{PageSize, probe_first_page};
 use std::alloc::Global;
 
 const PAGE_BYTES: usize = 4096;
+
+/// The bytes 5 to 16 of the log that a making begins: the format's version, the page size and a count of checkpoints that no
+/// other log has.
+const MAKING_MARK: [u8; 12] = [0, 45, 226, 24, 0, 0, 16, 0, 255, 255, 255, 255];
 
 /// The page size of a store.
 pub(crate) fn page_size() -> PageSize
@@ -49,7 +53,7 @@ pub fn open_path<S: Start>(
     }
 }
 
-/// Whether the files hold no database.
+/// Whether the files hold no database: none was made, or only the first bytes of one, as any single byte counts.
 fn hold_none<D: Disk>(alloc: Global, files: &mut Files<D>) -> Result<bool, StoreFault>
     requires log { IsTrue (D.Disk.is_usable files.old.log) }
     requires db { IsTrue (D.Disk.is_usable files.old.db) }
@@ -62,6 +66,55 @@ fn hold_none<D: Disk>(alloc: Global, files: &mut Files<D>) -> Result<bool, Store
         Ok(none) => Ok(none),
         Err(error) => Err(StoreFault::from(error)),
     }
+}
+
+/// Whether the file is empty.
+fn is_empty<D: Disk>(db: &mut D) -> Result<bool, StoreFault>
+    requires { IsTrue (D.Disk.is_usable db.old) }
+    ensures ok { IfOk result (λ empty. IsTrue (D.Disk.is_clean db.new) → IsTrue empty → length (D.Disk.seen db.old) ≡ 0) }
+    ensures cause { IfErr result TellsFailedCall }
+    ensures same { OnlyReads D.Disk db.old db.new }
+{
+    match db.len() {
+        Ok(length) => Ok(length == 0),
+        Err(_) => Err(StoreFault::Failed),
+    }
+}
+
+/// Whether the log begins as a making's does.
+fn begins_making<D: Disk>(log: &mut D) -> Result<bool, StoreFault>
+    requires { IsTrue (D.Disk.is_usable log.old) }
+    ensures ok { IfOk result (λ begins. IsTrue (D.Disk.is_clean log.new) → IsTrue begins → BeginsMaking (D.Disk.seen log.old)) }
+    ensures cause { IfErr result TellsFailedCall }
+    ensures same { OnlyReads D.Disk log.old log.new }
+{
+    let Ok(length) = log.len() else {
+        return Err(StoreFault::Failed);
+    };
+    if length < 16 {
+        return Ok(false);
+    }
+    let mut mark = [0; 12];
+    match log.read_at(4, &mut mark) {
+        Ok(()) => Ok(mark == MAKING_MARK),
+        Err(_) => Err(StoreFault::Failed),
+    }
+}
+
+/// Whether the file is empty, or the log beside it begins as a making's does.
+fn were_begun<D: Disk>(files: &mut Files<D>) -> Result<bool, StoreFault>
+    requires log { IsTrue (D.Disk.is_usable files.old.log) }
+    requires db { IsTrue (D.Disk.is_usable files.old.db) }
+    ensures ok { IfOk result (λ begun. AreClean D.Disk files.new.log files.new.db → IsTrue begun → IsBlankFile 4096 (seen_image D.Disk files.old.log files.old.db)
+        → IsBegun (seen_image D.Disk files.old.log files.old.db)) }
+    ensures cause { IfErr result TellsFailedCall }
+    ensures log { OnlyReads D.Disk files.old.log files.new.log }
+    ensures db { OnlyReads D.Disk files.old.db files.new.db }
+{
+    if is_empty(&mut files.db)? {
+        return Ok(true);
+    }
+    begins_making(&mut files.log)
 }
 
 /// Whether the files begin as each database of SQLite does. Recovery would write to others.
@@ -104,8 +157,10 @@ fn unopened<D: Disk>(
 /// Makes the two tables in files that hold nothing, or no more than a making that was cut short leaves.
 fn make_tables<D: Disk>(fresh: Unopened<D>) -> Result<FileStore<D>, (StoreFault, Files<D>)>
     requires usable { AreUsable fresh }
+    requires size { (state_of fresh).page_size ≡ 4096 }
     requires schema { wanted_by fresh ≡ store_schema }
     ensures made { IfOk result (λ it. IsClean (view it) → IsUnmade (view it)) }
+    ensures started { IfOk result (λ it. IsClean (view it) → ∥ IsBlankFile 4096 (image fresh) ⊎ HasNoTable (image fresh) ∥₁) }
     ensures honest { IfOk result (λ it. IsClean (view it) → IsTrue (state_of fresh).is_clean) }
     ensures falls { IfErr result (λ e. AreClean D.Disk e.1.log e.1.db → IsTrue (state_of fresh).is_clean) }
 {
@@ -116,20 +171,18 @@ fn make_tables<D: Disk>(fresh: Unopened<D>) -> Result<FileStore<D>, (StoreFault,
 }
 
 /// Recovers the files, and checks each page.
-fn attach<D: Disk>(fresh: Unopened<D>) -> Result<FileStore<D>, (OpenError, Files<D>)>
+fn attach<D: Disk>(fresh: Unopened<D>) -> Result<FileStore<D>, (StoreFault, Files<D>)>
     requires usable { AreUsable fresh }
     requires size { (state_of fresh).page_size ≡ 4096 }
     requires schema { wanted_by fresh ≡ store_schema }
-    ensures is_open { IfOk result (λ it. IsClean (view it) → IsTrue (view it).is_open) }
-    ensures tables { IfOk result (λ it. HasTables (view it)) }
-    ensures reads { IfOk result (λ it. IsClean (view it) → ReadsAs (image fresh) (view it)) }
+    ensures found { IfOk result (λ it. IsClean (view it) → IsFoundMade (image fresh) (view it)) }
     ensures honest { IfOk result (λ it. IsClean (view it) → IsTrue (state_of fresh).is_clean) }
     ensures falls { IfErr result (λ e. AreClean D.Disk e.1.log e.1.db → IsTrue (state_of fresh).is_clean) }
-    ensures cause { IfErr result (λ e. AreClean D.Disk e.1.log e.1.db → StoreIn (image fresh) → TellsFailedCall (file_code_of e.0)) }
+    ensures accepts { IfErr result (λ e. AreClean D.Disk e.1.log e.1.db → StoreIn (image fresh) → TellsFailedCall e.0) }
 {
     match fresh.open() {
         Ok(store) => Ok(store),
-        Err((error, left)) => Err((error, left.close())),
+        Err((error, left)) => Err((StoreFault::from(error), left.close())),
     }
 }
 
@@ -142,6 +195,7 @@ fn finish<D: Disk>(
     requires log { IsTrue (D.Disk.is_usable files.log) }
     requires db { IsTrue (D.Disk.is_usable files.db) }
     ensures made { IfOk result (λ it. IsClean (view it) → IsUnmade (view it)) }
+    ensures started { IfOk result (λ it. IsClean (view it) → ∥ IsBlankFile 4096 (seen_image D.Disk files.log files.db) ⊎ HasNoTable (seen_image D.Disk files.log files.db) ∥₁) }
     ensures honest { IfOk result (λ it. IsClean (view it) → AreClean D.Disk files.log files.db) }
     ensures falls { IfErr result (λ e. AreClean D.Disk e.1.log e.1.db → AreClean D.Disk files.log files.db) }
 {
@@ -151,39 +205,55 @@ fn finish<D: Disk>(
     }
 }
 
-/// Opens the store that the files hold, or makes the tables where a making was cut short before them.
-fn attach_or_finish<D: Disk>(
+/// Opens the store that the files hold, as `attach` does.
+fn open_store<D: Disk>(
     alloc: Global,
-    fresh: Unopened<D>,
-    options: Options,
-) -> Result<FileStore<D>, (StoreFault, Files<D>)>
-    requires usable { AreUsable fresh }
-    requires size { (state_of fresh).page_size ≡ 4096 }
-    requires schema { wanted_by fresh ≡ store_schema }
-    ensures found { IfOk result (λ it. IsClean (view it) → IsFound (image fresh) (view it)) }
-    ensures honest { IfOk result (λ it. IsClean (view it) → IsTrue (state_of fresh).is_clean) }
-    ensures falls { IfErr result (λ e. AreClean D.Disk e.1.log e.1.db → IsTrue (state_of fresh).is_clean) }
-    ensures accepts { IfErr result (λ e. AreClean D.Disk e.1.log e.1.db → StoreIn (image fresh) → TellsFailedCall e.0) }
-{
-    match attach(fresh) {
-        Ok(store) => Ok(store),
-        Err((error, files)) => match error {
-            OpenError::Refused if files.may_be_used() => finish(alloc, files, options),
-            _ => Err((StoreFault::from(error), files)),
-        },
-    }
-}
-
-/// Opens the store in files that hold something.
-fn open_held<D: Disk>(
-    alloc: Global,
-    mut files: Files<D>,
+    files: Files<D>,
     options: Options,
 ) -> Result<FileStore<D>, (StoreFault, Files<D>)>
     requires log { IsTrue (D.Disk.is_usable files.log) }
     requires db { IsTrue (D.Disk.is_usable files.db) }
-    ensures found { IfOk result (λ it. IsClean (view it) → IsFound (seen_image D.Disk files.log files.db) (view it)) }
+    ensures found { IfOk result (λ it. IsClean (view it) → IsFoundMade (seen_image D.Disk files.log files.db) (view it)) }
     ensures honest { IfOk result (λ it. IsClean (view it) → AreClean D.Disk files.log files.db) }
+    ensures falls { IfErr result (λ e. AreClean D.Disk e.1.log e.1.db → AreClean D.Disk files.log files.db) }
+    ensures accepts { IfErr result (λ e. AreClean D.Disk e.1.log e.1.db → StoreIn (seen_image D.Disk files.log files.db) → TellsFailedCall e.0) }
+{
+    match unopened(alloc, files, options) {
+        Ok(fresh) => attach(fresh),
+        Err(left) => Err((StoreFault::Memory, left)),
+    }
+}
+
+/// Whether the files recover to a database whose schema has no row. Recovery is all that is written.
+fn has_no_row<D: Disk>(
+    mut fresh: Unopened<D>,
+) -> Result<(bool, Files<D>), (StoreFault, Files<D>)>
+    requires usable { AreUsable fresh }
+    requires size { (state_of fresh).page_size ≡ 4096 }
+    ensures same { IfOk result (λ r. AreClean D.Disk r.1.log r.1.db → RecoverAlike (image fresh) (seen_image D.Disk r.1.log r.1.db)) }
+    ensures usable { IfOk result (λ r. IsTrue (D.Disk.is_usable r.1.log) × IsTrue (D.Disk.is_usable r.1.db)) }
+    ensures listed { IfOk result (λ r. AreClean D.Disk r.1.log r.1.db → StoreIn (image fresh) → r.0 ≡ false) }
+    ensures honest { IfOk result (λ r. AreClean D.Disk r.1.log r.1.db → IsTrue (state_of fresh).is_clean) }
+    ensures accepts { IfErr result (λ e. AreClean D.Disk e.1.log e.1.db → StoreIn (image fresh) → TellsFailedCall e.0) }
+{
+    match fresh.read_catalog() {
+        Ok(rows) => Ok((rows.as_slice().is_empty(), fresh.close())),
+        Err(error) => Err((StoreFault::from(error), fresh.close())),
+    }
+}
+
+/// The files, where they recover to a database, and whether that has no table; nothing but its recovery is written.
+fn look<D: Disk>(
+    alloc: Global,
+    mut files: Files<D>,
+    options: Options,
+) -> Result<(bool, Files<D>), (StoreFault, Files<D>)>
+    requires log { IsTrue (D.Disk.is_usable files.log) }
+    requires db { IsTrue (D.Disk.is_usable files.db) }
+    ensures same { IfOk result (λ r. AreClean D.Disk r.1.log r.1.db → RecoverAlike (seen_image D.Disk files.log files.db) (seen_image D.Disk r.1.log r.1.db)) }
+    ensures usable { IfOk result (λ r. IsTrue (D.Disk.is_usable r.1.log) × IsTrue (D.Disk.is_usable r.1.db)) }
+    ensures listed { IfOk result (λ r. AreClean D.Disk r.1.log r.1.db → StoreIn (seen_image D.Disk files.log files.db) → r.0 ≡ false) }
+    ensures honest { IfOk result (λ r. AreClean D.Disk r.1.log r.1.db → AreClean D.Disk files.log files.db) }
     ensures accepts { IfErr result (λ e. AreClean D.Disk e.1.log e.1.db → StoreIn (seen_image D.Disk files.log files.db) → TellsFailedCall e.0) }
 {
     match begin_well(alloc, &mut files) {
@@ -192,12 +262,72 @@ fn open_held<D: Disk>(
         Err(fault) => return Err((fault, files)),
     }
     match unopened(alloc, files, options) {
-        Ok(fresh) => attach_or_finish(alloc, fresh, options),
+        Ok(fresh) => has_no_row(fresh),
         Err(left) => Err((StoreFault::Memory, left)),
     }
 }
 
-/// Opens the store that two files hold, or makes its two tables where they hold none. `seed` is a random number.
+/// Makes the tables in a database that has none.
+fn finish_first_page<D: Disk>(
+    alloc: Global,
+    mut files: Files<D>,
+    options: Options,
+) -> Result<FileStore<D>, (StoreFault, Files<D>)>
+    requires log { IsTrue (D.Disk.is_usable files.log) }
+    requires db { IsTrue (D.Disk.is_usable files.db) }
+    ensures made { IfOk result (λ it. IsClean (view it) → IsUnmade (view it)) }
+    ensures started { IfOk result (λ it. IsClean (view it) → ∥ HasNoTable (seen_image D.Disk files.log files.db) ∥₁) }
+    ensures honest { IfOk result (λ it. IsClean (view it) → AreClean D.Disk files.log files.db) }
+    ensures falls { IfErr result (λ e. AreClean D.Disk e.1.log e.1.db → AreClean D.Disk files.log files.db) }
+{
+    match hold_none(alloc, &mut files) {
+        Ok(true) => Err((StoreFault::NotAStore, files)),
+        Ok(false) => finish(alloc, files, options),
+        Err(fault) => Err((fault, files)),
+    }
+}
+
+/// Makes the tables in files that hold no database, unless they are other bytes than a making's first ones.
+fn finish_begun<D: Disk>(
+    alloc: Global,
+    mut files: Files<D>,
+    options: Options,
+) -> Result<FileStore<D>, (StoreFault, Files<D>)>
+    requires log { IsTrue (D.Disk.is_usable files.log) }
+    requires db { IsTrue (D.Disk.is_usable files.db) }
+    ensures made { IfOk result (λ it. IsClean (view it) → IsUnmade (view it)) }
+    ensures begun { IfOk result (λ it. IsClean (view it) → IsBlankFile 4096 (seen_image D.Disk files.log files.db) → IsBegun (seen_image D.Disk files.log files.db)) }
+    ensures honest { IfOk result (λ it. IsClean (view it) → AreClean D.Disk files.log files.db) }
+    ensures falls { IfErr result (λ e. AreClean D.Disk e.1.log e.1.db → AreClean D.Disk files.log files.db) }
+{
+    match were_begun(&mut files) {
+        Ok(true) => finish(alloc, files, options),
+        Ok(false) => Err((StoreFault::NotAStore, files)),
+        Err(fault) => Err((fault, files)),
+    }
+}
+
+/// Opens the store in files that hold something, or makes the tables in a database that has none.
+fn open_held<D: Disk>(
+    alloc: Global,
+    files: Files<D>,
+    options: Options,
+) -> Result<FileStore<D>, (StoreFault, Files<D>)>
+    requires log { IsTrue (D.Disk.is_usable files.log) }
+    requires db { IsTrue (D.Disk.is_usable files.db) }
+    ensures found { IfOk result (λ it. IsClean (view it) → IsFound (seen_image D.Disk files.log files.db) (view it)) }
+    ensures accepts { IfErr result (λ e. AreClean D.Disk e.1.log e.1.db → StoreIn (seen_image D.Disk files.log files.db) → TellsFailedCall e.0) }
+{
+    match look(alloc, files, options) {
+        Ok((true, files)) => finish_first_page(alloc, files, options),
+        Ok((false, files)) => open_store(alloc, files, options),
+        Err(refused) => Err(refused),
+    }
+}
+
+/// Opens the store that two files hold, or makes its two tables where the file is empty or has what a making that was cut short
+/// leaves: the first bytes of a database's first page, beside a log that begins as a making's does, or that page whole, as a
+/// sound database without a table. `seed` is a random number.
 ///
 /// Files that recover to sound pages of these two tables, with no other table or index, are refused only where a call fails. An error gives the
 /// files back.
@@ -213,8 +343,30 @@ pub fn open_files<D: Disk>(
 {
     let options = Options::new(seed);
     match hold_none(alloc, &mut files) {
-        Ok(true) => finish(alloc, files, options),
+        Ok(true) => finish_begun(alloc, files, options),
         Ok(false) => open_held(alloc, files, options),
+        Err(fault) => Err((fault, files)),
+    }
+}
+
+/// Opens the store that two files hold, and makes none: what a making that was cut short leaves is refused too. `seed` is a
+/// random number.
+///
+/// Files that recover to sound pages of these two tables, with no other table or index, are refused only where a call fails. An error gives the
+/// files back.
+pub fn open_made_files<D: Disk>(
+    alloc: Global,
+    mut files: Files<D>,
+    seed: u64,
+) -> Result<FileStore<D>, (StoreFault, Files<D>)>
+    requires log { IsTrue (D.Disk.is_usable files.log) }
+    requires db { IsTrue (D.Disk.is_usable files.db) }
+    ensures found { IfOk result (λ it. IsClean (view it) → IsFoundMade (seen_image D.Disk files.log files.db) (view it)) }
+    ensures accepts { IfErr result (λ e. AreClean D.Disk e.1.log e.1.db → StoreIn (seen_image D.Disk files.log files.db) → TellsFailedCall e.0) }
+{
+    match begin_well(alloc, &mut files) {
+        Ok(true) => open_store(alloc, files, Options::new(seed)),
+        Ok(false) => Err((StoreFault::NotAStore, files)),
         Err(fault) => Err((fault, files)),
     }
 }

@@ -7,21 +7,18 @@ use Rattle.cube_store.proofs.CodeLaws as codes
 use Rattle.cube_store.proofs.FileLaws as laws
 use Rattle.cube_store.proofs.files.attach.Goals as goal
 
-pub returns-in-Ok-clause-is_open : goal.returns-in-Ok-clause-is_open
-returns-in-Ok-clause-is_open g c = λ clean. c.in-Ok.ensures.ready.is_open clean
-
-pub returns-in-Ok-clause-tables : goal.returns-in-Ok-clause-tables
-returns-in-Ok-clause-tables g c =
-    laws.store_tables c.in-Ok.store (c.in-Ok.ensures.schema ∙ c.requires.schema) c.in-Ok.ensures.ready.unaltered
-
-pub returns-in-Ok-clause-reads : goal.returns-in-Ok-clause-reads
-returns-in-Ok-clause-reads g c = λ clean.
+pub returns-in-Ok-clause-found : goal.returns-in-Ok-clause-found
+returns-in-Ok-clause-found g c = λ clean.
     let store = c.in-Ok.store in
     let e = c.in-Ok.ensures in
     let now = clean_of (state store).is_clean clean in
-    laws.reads_as store (image c.args.fresh) now ((e.kept now).size ∙ c.requires.size)
-    (e.schema ∙ c.requires.schema) e.ready.unaltered
-    (subst (λ n. Recovers n (image c.args.fresh) (state store).committed) c.requires.size (e.found now))
+    record {
+      is_open = e.ready.is_open clean;
+      tables = laws.store_tables store (e.schema ∙ c.requires.schema) e.ready.unaltered;
+      reads = laws.reads_as store (image c.args.fresh) now ((e.kept now).size ∙ c.requires.size)
+          (e.schema ∙ c.requires.schema) e.ready.unaltered
+          (subst (λ n. Recovers n (image c.args.fresh) (state store).committed) c.requires.size (e.found now));
+    }
 
 pub returns-in-Ok-clause-honest : goal.returns-in-Ok-clause-honest
 returns-in-Ok-clause-honest g c = λ clean. c.in-Ok.ensures.honest (clean_of _ clean)
@@ -30,8 +27,8 @@ pub returns-in-Err-clause-falls : goal.returns-in-Err-clause-falls
 returns-in-Err-clause-falls g c = λ clean.
     c.in-Err.ensures.falls (laws.left_is_clean c.in-Err.left c.close.result.log c.close.result.db c.close.ensures clean)
 
-pub returns-in-Err-clause-cause : goal.returns-in-Err-clause-cause
-returns-in-Err-clause-cause g c = λ clean found.
+pub returns-in-Err-clause-accepts : goal.returns-in-Err-clause-accepts
+returns-in-Err-clause-accepts g c = λ clean found.
     let still = laws.left_is_clean c.in-Err.left c.close.result.log c.close.result.db c.close.ensures clean in
-    codes.attach_fails _ _ _ _ c.in-Err.error (c.in-Err.ensures.cause still)
-    (laws.has_file c.args.fresh c.requires.size c.requires.schema found)
+    rw c.from.ensures (codes.attach_fails _ _ _ _ c.in-Err.error (c.in-Err.ensures.cause still)
+    (laws.has_file c.args.fresh c.requires.size c.requires.schema found))
