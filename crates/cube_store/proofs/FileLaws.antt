@@ -163,8 +163,7 @@ has_file it size schema found = (
 
 pub reads_alike : (old new : Image) (v : View) → RecoverAlike old new → ReadsAs new v → ReadsAs old v
 reads_alike old new v same reads =
-    let one = recovers_once 4096 new reads.0 same.0 reads.1 same.2 in
-    (
+    let one = recovers_once 4096 new reads.0 same.0 reads.1 same.2 in (
       same.0,
       same.1,
       reads.2 ∙ ap (λ (p : PageMap). tables_in p 0) one,

@@ -225,9 +225,7 @@ fn open_store<D: Disk>(
 }
 
 /// Whether the files recover to a database whose schema has no row. Recovery is all that is written.
-fn has_no_row<D: Disk>(
-    mut fresh: Unopened<D>,
-) -> Result<(bool, Files<D>), (StoreFault, Files<D>)>
+fn has_no_row<D: Disk>(mut fresh: Unopened<D>) -> Result<(bool, Files<D>), (StoreFault, Files<D>)>
     requires usable { AreUsable fresh }
     requires size { (state_of fresh).page_size ≡ 4096 }
     ensures same { IfOk result (λ r. AreClean D.Disk r.1.log r.1.db → RecoverAlike (image fresh) (seen_image D.Disk r.1.log r.1.db)) }

@@ -27,7 +27,9 @@ impl LogPlace {
         if self.was_there {
             return;
         }
-        if let Ok(found) = fs::metadata(rt, self.path.as_str()) && found.len() <= MAX_EMPTY_LOG {
+        if let Ok(found) = fs::metadata(rt, self.path.as_str())
+            && found.len() <= MAX_EMPTY_LOG
+        {
             let _removed = fs::remove_file(rt, self.path.as_str());
         }
     }

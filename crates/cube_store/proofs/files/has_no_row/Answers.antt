@@ -14,8 +14,7 @@ use Rattle.cube_store.proofs.files.has_no_row.Goals as goal
 pub returns-in-Ok-clause-same : goal.returns-in-Ok-clause-same
 returns-in-Ok-clause-same g c = λ clean.
     let left = c.read_catalog.new.self in
-    let catalog = c.in-Ok.ensures.ok (laws.left_is_clean left c.close.result.log c.close.result.db c.close.ensures clean) in
-    (
+    let catalog = c.in-Ok.ensures.ok (laws.left_is_clean left c.close.result.log c.close.result.db c.close.ensures clean) in (
       catalog.pages,
       subst (λ n. Recovers n (image c.args.fresh) catalog.pages) c.requires.size catalog.found,
       subst (λ i. Recovers 4096 i catalog.pages)
