@@ -3,7 +3,7 @@ ghost use Rattle.std.specs.Prelude.{◌≡◌, map};
 ghost use Rattle.sqlite_value.specs.declared.value.Value.TheVariants.{Text};
 ghost use Rattle.sqlite_value.specs.Value.{owned};
 ghost use Rattle.sqlite_store.specs.Catalog.{wanted_of, describes, same_value};
-ghost use Rattle.cube_store.specs.Found.{changes_table, feeds_table, store_schema, list_digests, listed_form};
+ghost use Rattle.cube_store.specs.Found.{changes_table, feeds_table, store_schema, list_digests, listed_form, form_told};
 
 use cube_journal::{CHAINED, RowForm};
 use sqlite_trees::schema::Object;
@@ -65,8 +65,19 @@ pub fn schema(form: RowForm) -> [Object<'static>; 2]
     [changes(form), feeds()]
 }
 
+/// The form of the table of changes in a file, by the rows of its list of tables; or that these list nothing.
+pub fn form_told(rows: &[Row]) -> Option<RowForm>
+    ensures { result ≡ form_told rows.now }
+{
+    if rows.is_empty() {
+        None
+    } else {
+        Some(listed_form(rows))
+    }
+}
+
 /// The form of the table of changes in a file, by the rows of its list of tables.
-pub fn listed_form(rows: &[Row]) -> RowForm
+fn listed_form(rows: &[Row]) -> RowForm
     ensures { result ≡ listed_form rows.now }
 {
     if list_digests(rows) {
