@@ -230,8 +230,7 @@ module _ (old new : Image) (form : RowForm) (looked : HasLooked old new (Some fo
       let same : looked.pages ≡ pages = recovers_once 4096 old looked.pages pages looked.found was.1.1 in
       let listed : listed_form (catalog_in pages) ≡ form =
       ap (λ p. listed_form (catalog_in p)) (sym same) ∙ lists in
-      let one : form ≡ was.0 = sym listed ∙ was.1.3 in
-      (
+      let one : form ≡ was.0 = sym listed ∙ was.1.3 in (
         pages,
         subst (λ p. Recovers 4096 new p) same looked.again,
         subst (λ f. IsFile 4096 (store_schema f) pages) (sym one) was.1.2,

@@ -220,7 +220,9 @@ fn open_store<D: Disk>(
 }
 
 /// What the files list, as `look` says, and the files. Recovery is all that is written.
-fn read_form<D: Disk>(mut fresh: Unopened<D>) -> Result<(Option<RowForm>, Files<D>), (StoreFault, Files<D>)>
+fn read_form<D: Disk>(
+    mut fresh: Unopened<D>,
+) -> Result<(Option<RowForm>, Files<D>), (StoreFault, Files<D>)>
     requires usable { AreUsable fresh }
     requires size { (state_of fresh).page_size ≡ 4096 }
     ensures seen { IfOk result (λ r. AreClean D.Disk r.1.log r.1.db → HasLooked (image fresh) (seen_image D.Disk r.1.log r.1.db) r.0) }
@@ -361,8 +363,8 @@ pub fn open_made_files<D: Disk>(
 {
     let options = Options::new(seed);
     match look(alloc, files, options) {
-        Ok((Some(form), files)) => open_store(alloc, files, options, form),
-        Ok((None, files)) => Err((StoreFault::NotAStore, files)),
+        Ok((Some(form), left)) => open_store(alloc, left, options, form),
+        Ok((None, left)) => Err((StoreFault::NotAStore, left)),
         Err(refused) => Err(refused),
     }
 }

@@ -62,7 +62,7 @@ pub fn start_made<S: Store, K: ChangeSink>(
 {
     match open_made(alloc, store, notes, sink) {
         Ok(journal) => Ok(journal),
-        Err((fault, store)) => Err((StoreFault::from(fault), store)),
+        Err((fault, left)) => Err((StoreFault::from(fault), left)),
     }
 }
 

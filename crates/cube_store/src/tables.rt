@@ -13,10 +13,12 @@ use sqlite_value::row::Row;
 use sqlite_value::value::ValueRef;
 
 /// The text of the table of changes whose rows have no digests: stores up to release 1.11 have it.
-const PLAIN_TEXT: &str = "CREATE TABLE changes(number INTEGER PRIMARY KEY, source INTEGER NOT NULL, record BLOB NOT NULL) STRICT";
+const PLAIN_TEXT: &str =
+    "CREATE TABLE changes(number INTEGER PRIMARY KEY, source INTEGER NOT NULL, record BLOB NOT NULL) STRICT";
 
 /// The text of the one whose rows have digests.
-const CHAINED_TEXT: &str = "CREATE TABLE changes(number INTEGER PRIMARY KEY, source INTEGER NOT NULL, record BLOB NOT NULL, digest BLOB NOT NULL) STRICT";
+const CHAINED_TEXT: &str =
+    "CREATE TABLE changes(number INTEGER PRIMARY KEY, source INTEGER NOT NULL, record BLOB NOT NULL, digest BLOB NOT NULL) STRICT";
 
 /// The table of changes.
 fn changes(form: RowForm) -> Object<'static>
@@ -98,7 +100,9 @@ fn list_digests(rows: &[Row]) -> bool
 fn lists_digests(row: &Row) -> bool
     ensures { result ≡ describes (changes_table RowForm.Chained) row.now }
 {
-    is_text(row.get(1), "table") & is_text(row.get(2), "changes") & is_text(row.get(3), "changes")
+    is_text(row.get(1), "table")
+        & is_text(row.get(2), "changes")
+        & is_text(row.get(3), "changes")
         & is_text(row.get(5), CHAINED_TEXT)
 }
 

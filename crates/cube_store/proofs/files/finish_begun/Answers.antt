@@ -1,4 +1,3 @@
-use Rattle.std.proofs.Common.{subst, sym}
 use Rattle.std.proofs.lemmas.Result.{IfOk-weaker, IfErr-weaker}
 use Rattle.cube_store.proofs.FileLaws as laws
 use Rattle.cube_store.proofs.files.finish_begun.Goals as goal

@@ -6,7 +6,7 @@ use Rattle.cube_store.proofs.files.open_made_files.Goals as goal
 pub returns-in-Ok-Some-default-clause-found : goal.returns-in-Ok-Some-default-clause-found
 returns-in-Ok-Some-default-clause-found g c =
     let was = seen_image g.D.Disk c.args.files.log c.args.files.db in
-    let left = c.in-Ok-Some-default.files in
+    let left = c.in-Ok-Some-default.left in
     let mid = seen_image g.D.Disk left.log left.db in
     laws.ok_both c.open_store.result _ _ _ (λ it honest h clean.
     let looked = rw c.in-Ok-Some-default.field-0-0-is at (c.in-Ok-Some-default.ensures.seen (honest clean)) in
@@ -16,7 +16,7 @@ returns-in-Ok-Some-default-clause-found g c =
 pub returns-in-Ok-Some-default-clause-accepts : goal.returns-in-Ok-Some-default-clause-accepts
 returns-in-Ok-Some-default-clause-accepts g c =
     let was = seen_image g.D.Disk c.args.files.log c.args.files.db in
-    let left = c.in-Ok-Some-default.files in
+    let left = c.in-Ok-Some-default.left in
     let mid = seen_image g.D.Disk left.log left.db in
     laws.err_both c.open_store.result _ _ _ (λ e falls accepts clean held.
     let looked = rw c.in-Ok-Some-default.field-0-0-is at (c.in-Ok-Some-default.ensures.seen (falls clean)) in
@@ -26,7 +26,7 @@ returns-in-Ok-Some-default-clause-accepts g c =
 pub returns-in-Ok-None-default-clause-accepts : goal.returns-in-Ok-None-default-clause-accepts
 returns-in-Ok-None-default-clause-accepts g c = λ clean held.
     let was = seen_image g.D.Disk c.args.files.log c.args.files.db in
-    let left = c.in-Ok-None-default.files in
+    let left = c.in-Ok-None-default.left in
     let mid = seen_image g.D.Disk left.log left.db in
     let looked = rw c.in-Ok-None-default.field-0-0-is at (c.in-Ok-None-default.ensures.seen clean) in
     absurd (laws.none_is_no_store was mid looked held)

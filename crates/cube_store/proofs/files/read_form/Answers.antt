@@ -1,5 +1,4 @@
 use Rattle.std.proofs.Common.{◌∙◌, sym, ap, subst}
-use Rattle.sqlite_wal.specs.Files.{seen_image}
 use Rattle.sqlite_store.specs.Unopened.{image}
 use Rattle.cube_store.specs.Found.{HasLooked, form_told}
 use Rattle.cube_store.proofs.CodeLaws as codes
