@@ -25,4 +25,4 @@ pub use form::{CHAINED, RowForm, form_of};
 pub use journal::ChangeJournal;
 pub use note::FeedNote;
 pub use sink::ChangeSink;
-pub use start::open_or_make;
+pub use start::{open_made, open_or_make};

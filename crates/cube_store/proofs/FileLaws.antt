@@ -1,6 +1,6 @@
 -- From the files of a pool to what they hold.
-use Rattle.std.proofs.Common.{◌≡◌, ◌⊎◌, inl, inr, ◌<◌, ◌≤◌, ℕ, Bool, true, false, ◌&&◌, IsTrue, Some, None, List}
-use Rattle.std.proofs.Common.{Result, Ok, Err, IfOk, IfErr, length, slice_index, refl, sym, ap, ap₂, subst, ◌∙◌}
+use Rattle.std.proofs.Common.{◌≡◌, ◌⊎◌, inl, inr, ◌<◌, ◌≤◌, ℕ, Bool, true, false, ◌&&◌, IsTrue, Option, Some, None}
+use Rattle.std.proofs.Common.{List, [], ◌∷◌, Result, Ok, Err, IfOk, IfErr, length, slice_index, refl, sym, ap, ap₂, subst, ◌∙◌}
 use Rattle.std.proofs.Common.{arith, true≢false}
 use Rattle.std.proofs.lemmas.Bool.{cond-true}
 use Rattle.std.proofs.Math.Logic.{∥∥₁_elim, ∥∥₁_map}
@@ -21,9 +21,12 @@ use Rattle.sqlite_pool.proofs.ResealLemmas.{adopts_of}
 use Rattle.sqlite_trees.specs.declared.store.Shape.TheVariants.{Table}
 use Rattle.sqlite_trees.specs.Tree.{Trees, no_trees}
 use Rattle.sqlite_trees.specs.View.{View}
+use Rattle.sqlite_btree.proofs.StoredLemmas.{stored_root_live}
 use Rattle.sqlite_store.specs.declared.catalog.Wanted.{Wanted}
 use Rattle.sqlite_store.specs.Saved.{kept_schema, schema_for}
-use Rattle.sqlite_store.specs.Db.{IsFile, rows_at}
+use Rattle.sqlite_store.specs.Db.{IsDb, IsFile, IsKept, roots_of, rows_at, slot_root, slot_shape}
+use Rattle.sqlite_store.specs.Catalog.{roots_in}
+use Rattle.sqlite_store.specs.Opening.{IsEmptyFile}
 use Rattle.sqlite_store.specs.Listing.{file_trees, all_shapes, all_reals}
 use Rattle.sqlite_store.specs.declared.store.FileStore.{FileStore}
 use Rattle.sqlite_store.specs.FileStore.{schema_of, schema_in, reading, recovers, view}
@@ -35,8 +38,8 @@ use Rattle.sqlite_pages.specs.PageMap.{PageMap}
 use Rattle.cube_journal.specs.declared.form.RowForm.{RowForm}
 use Rattle.cube_journal.specs.declared.form.RowForm.TheVariants.{Plain, Chained}
 use Rattle.cube_journal.specs.State.{HasTables, IsUnmade, form_by, stored_form}
-use Rattle.cube_store.specs.Found.{store_schema, catalog_in, tables_in, listed_form, StoreOf, StoreIn, HasTablesOf}
-use Rattle.cube_store.specs.Found.{ListsAs, IsFoundAs, ReadsAs, IsFound}
+use Rattle.cube_store.specs.Found.{store_schema, catalog_in, tables_in, listed_form, form_told, StoreOf, StoreIn}
+use Rattle.cube_store.specs.Found.{HasTablesOf, HasLooked, HasNoTable, IsUnstarted, IsFoundAs, ReadsAs, IsFound, IsFoundMade}
 use Rattle.cube_store.proofs.ListedLaws.{file_lists}
 
 -- ---- what two clauses say of one result
@@ -50,6 +53,11 @@ pub ok_three : {X Y : Type 0} (r : Result X Y) (P Q R S : X → Type 0) → ((x 
     → IfOk r P → IfOk r Q → IfOk r R → IfOk r S
 ok_three (Ok x) P Q R S all p q r = all x p q r
 ok_three (Err e) P Q R S all p q r = tt
+
+pub ok_four : {X Y : Type 0} (r : Result X Y) (P Q R S T : X → Type 0)
+    → ((x : X) → P x → Q x → R x → S x → T x) → IfOk r P → IfOk r Q → IfOk r R → IfOk r S → IfOk r T
+ok_four (Ok x) P Q R S T all p q r s = all x p q r s
+ok_four (Err e) P Q R S T all p q r s = tt
 
 pub err_both : {X Y : Type 0} (r : Result X Y) (P Q R : Y → Type 0) → ((y : Y) → P y → Q y → R y) → IfErr r P
     → IfErr r Q → IfErr r R
@@ -81,6 +89,10 @@ both_before : (a b c d : Bool) → (IsTrue a → IsTrue c) → (IsTrue b → IsT
 both_before true true c d f g h = rw (f refl, g refl) refl
 both_before true false c d f g h = absurd (true≢false (sym h))
 both_before false b c d f g h = absurd (true≢false (sym h))
+
+pub log_is_clean : (a b : Bool) → IsTrue (a && b) → IsTrue a
+log_is_clean true b h = refl
+log_is_clean false b h = absurd (true≢false (sym h))
 
 pub was_clean : {D : Type 0} {g : Ghosts D} (log db before_log before_db : D) → OnlyReads g before_log log
     → OnlyReads g before_db db → AreClean g log db → AreClean g before_log before_db
@@ -187,53 +199,100 @@ pub image_left : {D : Type 0} {g : Ghosts D} (it : Unopened D g) (log db : D) �
     → seen_image g log db ≡ image it
 image_left {g = g} it log db is = ap (λ f. seen_image g f.0 f.1) is
 
--- ---- in which form files list the table of changes
+-- ---- what a look at the list of tables tells
 
-pub lists_as : {D : Type 0} {g : Ghosts D} (old new : Unopened D g) (rows : List Row) (form : RowForm)
-    → (state_of old).page_size ≡ 4096 → IsCatalogOf old new rows → listed_form rows ≡ form
-    → ListsAs (image old) (image new) form
-lists_as old new rows form size catalog listed = record {
+pub has_looked : {D : Type 0} {g : Ghosts D} (old new : Unopened D g) (rows : List Row) (told : Option RowForm)
+    → (state_of old).page_size ≡ 4096 → IsCatalogOf old new rows → form_told rows ≡ told
+    → HasLooked (image old) (image new) told
+has_looked old new rows told size catalog tells = record {
   pages = catalog.pages;
   found = subst (λ n. Recovers n (image old) catalog.pages) size catalog.found;
   again = subst (λ n. Recovers n (image new) catalog.pages) size catalog.again;
-  listed = ap listed_form (sym (catalog.lists ∙ ap (λ n. rows_at n (in_use n catalog.pages) Table 1) size)) ∙ listed;
+  lists = ap form_told (sym (catalog.lists ∙ ap (λ n. rows_at n (in_use n catalog.pages) Table 1) size)) ∙ tells;
 }
 
-module _ (old new : Image) (form : RowForm) (lists : ListsAs old new form) where
+told_some : (rows : List Row) (form : RowForm) → form_told rows ≡ Some form → listed_form rows ≡ form
+told_some [] form told = absurd (cc)
+told_some (row ∷ rows) form told = cc
+
+told_none : (rows : List Row) → form_told rows ≡ None → rows ≡ []
+told_none [] told = refl
+told_none (row ∷ rows) told = absurd (cc)
+
+module _ (old new : Image) (form : RowForm) (looked : HasLooked old new (Some form)) where
+  lists : listed_form (catalog_in looked.pages) ≡ form
+  lists = told_some (catalog_in looked.pages) form looked.lists
+
   -- what was a store before the look is one of this form after it
   pub store_after : StoreIn old → StoreOf form new
   store_after was =
       let pages = was.1.0 in
-      let same : lists.pages ≡ pages = recovers_once 4096 old lists.pages pages lists.found was.1.1 in
+      let same : looked.pages ≡ pages = recovers_once 4096 old looked.pages pages looked.found was.1.1 in
       let listed : listed_form (catalog_in pages) ≡ form =
-      ap (λ p. listed_form (catalog_in p)) (sym same) ∙ lists.listed in
-      let one : form ≡ was.0 = sym listed ∙ was.1.3 in
-      (
+      ap (λ p. listed_form (catalog_in p)) (sym same) ∙ lists in
+      let one : form ≡ was.0 = sym listed ∙ was.1.3 in (
         pages,
-        subst (λ p. Recovers 4096 new p) same lists.again,
+        subst (λ p. Recovers 4096 new p) same looked.again,
         subst (λ f. IsFile 4096 (store_schema f) pages) (sym one) was.1.2,
         listed,
       )
 
   -- what is found after the look was there before it
-  pub found_before : (v : View) → IsFoundAs form new v → IsFound old v
+  pub found_before : (v : View) → IsFoundAs form new v → IsFoundMade old v
   found_before v is =
-      record { is_open = is.is_open; tables = is.tables; found = before is.found }
-    where
-      before : ((stored_form v ≡ form) × HasTablesOf form new v)
-          ⊎ (IsUnmade v × (stored_form v ≡ Chained) × (StoreOf form new → ⊥))
-          → ReadsAs old v ⊎ (IsUnmade v × (stored_form v ≡ Chained) × (StoreIn old → ⊥))
-      before (inl held) =
-          let pages = held.1.0 in
-          let same : lists.pages ≡ pages = recovers_once 4096 new lists.pages pages lists.again held.1.1 in
-          inl (
-            pages,
-            subst (λ p. Recovers 4096 old p) same lists.found,
-            held.1.2 ∙ ap (λ f. tables_in f pages 0) (sym held.0),
-            held.1.3 ∙ ap (λ f. tables_in f pages 1) (sym held.0),
-            ap (λ p. listed_form (catalog_in p)) (sym same) ∙ lists.listed ∙ sym held.0,
-          )
-      before (inr none) = inr (none.0, none.1, λ was. none.2 (store_after was))
+      let held = is.reads in
+      let same : looked.pages ≡ held.0 = recovers_once 4096 new looked.pages held.0 looked.again held.1 in
+      record {
+        is_open = is.is_open;
+        tables = is.tables;
+        reads = (
+          held.0,
+          subst (λ p. Recovers 4096 old p) same looked.found,
+          held.2 ∙ ap (λ f. tables_in f held.0 0) (sym is.of_form),
+          held.3 ∙ ap (λ f. tables_in f held.0 1) (sym is.of_form),
+          ap (λ p. listed_form (catalog_in p)) (sym same) ∙ lists ∙ sym is.of_form,
+        );
+      }
+
+-- ---- files that list nothing
+
+changes_shape_at : (form : RowForm) → slot_shape (store_schema form) 1 ≡ Table
+changes_shape_at Plain = refl
+changes_shape_at Chained = refl
+
+both_roots : (form : RowForm) → roots_in [] (store_schema form) ≡ 0 ∷ 0 ∷ []
+both_roots form = refl
+
+-- the roots of two tables that aren't listed are one page, which two trees would own
+listed_apart : (form : RowForm) (pages : PageMap) → IsDb 4096 (store_schema form) pages → rows_at 4096 pages Table 1 ≡ []
+    → ⊥
+unfolding roots_of
+listed_apart form pages db none =
+    let roots : roots_of 4096 (store_schema form) pages ≡ 0 ∷ 0 ∷ [] =
+    ap (λ rows. roots_in rows (store_schema form)) none ∙ both_roots form in
+    let kept = subst (λ w. IsKept 4096 (db.layouts 1) w (slot_root (roots_of 4096 (store_schema form) pages) 1))
+    (changes_shape_at form) (db.trees.kept 1) in
+    let first = subst (λ (rs : List ℕ). IsKept 4096 (db.layouts 1) Table (slot_root rs 1)) roots kept in
+    let second = subst (λ (rs : List ℕ). IsKept 4096 (db.layouts 2) Table (slot_root rs 2)) roots (db.trees.kept 2) in
+    db.trees.apart 1 2 0 (omega arith) (inl (stored_root_live first.1.stored)) (inl (stored_root_live second.1.stored))
+
+-- a store lists its tables
+lists_tables : (it : Image) (pages : PageMap) → Recovers 4096 it pages → catalog_in pages ≡ [] → StoreIn it → ⊥
+lists_tables it pages found none store =
+    let one = recovers_once 4096 it store.1.0 pages store.1.1 found in
+    listed_apart store.0 (in_use 4096 pages) (subst (λ p. IsFile 4096 (store_schema store.0) p) one store.1.2).db none
+
+pub no_table_no_store : (it : Image) → HasNoTable it → StoreIn it → ⊥
+no_table_no_store it none = lists_tables it none.0 none.1 none.2.1
+
+module _ (old new : Image) (looked : HasLooked old new None) where
+  pub none_is_no_store : StoreIn old → ⊥
+  none_is_no_store = lists_tables old looked.pages looked.found (told_none (catalog_in looked.pages) looked.lists)
+
+  pub no_table_before : HasNoTable new → HasNoTable old
+  no_table_before none =
+      let one = recovers_once 4096 new none.0 looked.pages none.1 looked.again in
+      (looked.pages, looked.found, subst (λ p. IsEmptyFile 4096 p) one none.2)
 
 -- ---- what the next opening finds
 
@@ -276,9 +335,9 @@ module _ {D : Type 0} {g : Ghosts D} (it : FileStore D g) (form : RowForm) (left
       → (db : Trees) × recovers it db × (v.committed 0 ≡ db 0) × (v.committed 1 ≡ db 1)
   found_again v is = again is.found
     where
-      again : ReadsAs left v ⊎ (IsUnmade v × (stored_form v ≡ Chained) × (StoreIn left → ⊥))
+      again : ReadsAs left v ⊎ (IsUnmade v × (stored_form v ≡ Chained) × ∥ IsUnstarted left ∥₁ × (StoreIn left → ⊥))
           → (db : Trees) × recovers it db × (v.committed 0 ≡ db 0) × (v.committed 1 ≡ db 1)
-      again (inr none) = absurd (∥∥₁_elim leaves_store (λ a _. absurd a) none.2)
+      again (inr none) = absurd (∥∥₁_elim leaves_store (λ a _. absurd a) none.3)
       again (inl held) =
           let recovered : Recovers (state_of_store it).page_size left held.0 =
           subst (λ n. Recovers n left held.0) (sym size) held.1 in

@@ -202,7 +202,7 @@ module _ {S : Type 0} (view : S → View) (recovers : S → Trees → Type 0) wh
     } where
       left : Stands view recovers (view first.store) old changes sure → (db : Trees)
           → (IsClean (view old.store)
-        × Holds (form_in (view old.store)) db (held_in (view old.store)) (noted_in (view old.store)))
+          × Holds (form_in (view old.store)) db (held_in (view old.store)) (noted_in (view old.store)))
           ⊎ recovers old.store db → LeavesPart (view first.store) changes sure db
       left s db (inl made) =
           LeavesPart-least (view first.store) changes (length changes) sure db kept.within

@@ -1,7 +1,7 @@
 -- In which form a sound file lists the table of changes.
-use Rattle.std.proofs.Common.{◌≡◌, ◌≤◌, ◌+◌, ℕ, Bool, true, false, not, ◌&&◌, ◌||◌, ◌==◌, if◌then◌else◌, List, [], ◌∷◌, length}
+use Rattle.std.proofs.Common.{◌≡◌, ℕ, Bool, true, false, not, ◌&&◌, ◌||◌, ◌==◌, if◌then◌else◌, List, [], ◌∷◌, length}
 use Rattle.std.proofs.Common.{Option, Some, None, true≢false, refl, sym, ap, ◌∙◌, arith, inl, inr, is_eq, Ordering, Less, Equal, Greater}
-use Rattle.std.specs.Prelude.{IsSome, IsTrue, codes, slice_index, slice_index_or, All}
+use Rattle.std.specs.Prelude.{IsSome, codes, slice_index}
 use Rattle.std.specs.List.{list_any, list_all}
 use Rattle.std.proofs.lemmas.Bool.{cases_Bool, and_parts}
 use Rattle.sqlite_value.specs.declared.value.Value.{Value}

@@ -1,12 +1,14 @@
 -- What is found in a store's two files.
-use Rattle.std.specs.Prelude.{◌≡◌, ◌⊎◌, ◌^◌, ℕ, Bool, if◌then◌else◌, List, [], ◌∷◌, codes, Option, Some, None}
-use Rattle.std.specs.Prelude.{IsTrue}
+use Rattle.std.specs.Prelude.{◌≡◌, ◌⊎◌, ◌^◌, ℕ, Bool, if◌then◌else◌, List, [], ◌∷◌, codes, length}
+use Rattle.std.specs.Prelude.{Option, Some, None, IsTrue}
 use Rattle.std.specs.List.{list_any}
+use Rattle.sqlite_disk.specs.Disk.{Holds}
 use Rattle.sqlite_value.specs.declared.value.Value.TheVariants.{Text}
 use Rattle.sqlite_value.specs.Order.{Row}
 use Rattle.sqlite_pool.specs.File.{in_use}
 use Rattle.sqlite_wal.specs.Recovery.{Image}
 use Rattle.sqlite_pages.specs.PageMap.{PageMap}
+use Rattle.sqlite_pool.specs.Opening.{IsBlankFile}
 use Rattle.sqlite_pool.specs.Stored.{Recovers}
 use Rattle.sqlite_trees.specs.declared.store.Shape.TheVariants.{Table}
 use Rattle.sqlite_trees.specs.Tree.{Trees}
@@ -15,6 +17,7 @@ use Rattle.sqlite_store.specs.declared.catalog.Wanted.{Wanted}
 use Rattle.sqlite_store.specs.Catalog.{describes}
 use Rattle.sqlite_store.specs.Db.{IsFile, rows_at}
 use Rattle.sqlite_store.specs.Listing.{file_trees}
+use Rattle.sqlite_store.specs.Opening.{IsEmptyFile}
 use Rattle.cube_journal.specs.declared.form.RowForm.{RowForm}
 use Rattle.cube_journal.specs.declared.form.RowForm.TheVariants.{Plain, Chained}
 use Rattle.cube_journal.specs.State.{HasTables, IsUnmade, stored_form}
@@ -63,6 +66,11 @@ list_digests rows = list_any (λ row. describes (changes_table Chained) row) row
 abbrev pub listed_form : List Row → RowForm
 listed_form rows = if list_digests rows then Chained else Plain
 
+-- The same of a list that has a row, of which one without a row tells nothing (this project's choice).
+abbrev pub form_told : List Row → Option RowForm
+form_told [] = None
+form_told (row ∷ rows) = Some (listed_form (row ∷ rows))
+
 -- The list of tables in the pages of a file (SQLite's "Database File Format").
 abbrev pub catalog_in : PageMap → List Row
 catalog_in pages = rows_at 4096 (in_use 4096 pages) Table 1
@@ -87,25 +95,20 @@ abbrev pub HasTablesOf : RowForm → Image → View → Type 0
 HasTablesOf form image v = (pages : PageMap) × Recovers 4096 image pages
     × (v.committed 0 ≡ tables_in form pages 0) × (v.committed 1 ≡ tables_in form pages 1)
 
--- The files recover to pages with a list of tables in this form, before a look and after it (this project's choice).
-pub record ListsAs (old new : Image) (form : RowForm) : Type 0 where
+-- The files recover to pages whose list of tables tells this form, or has no row,
+-- before a look and after it (this project's choice).
+pub record HasLooked (old new : Image) (told : Option RowForm) : Type 0 where
   pub pages : PageMap
   pub found : Recovers 4096 old pages
   pub again : Recovers 4096 new pages
-  pub listed : listed_form (catalog_in pages) ≡ form
+  pub lists : form_told (catalog_in pages) ≡ told
 
--- A look has found in which form the files list the table of changes; or that they hold no store (this project's choice).
-abbrev pub HasLooked : Image → Image → Option RowForm → Type 0
-HasLooked old new (Some form) = ListsAs old new form
-HasLooked old new None = StoreIn old → ⊥
-
--- A store is open on what the files hold in this form; or it has no row and is of the form with digests,
--- and the files held none in this form (this project's choice).
+-- A store of this form is open on what the files hold (this project's choice).
 pub record IsFoundAs (form : RowForm) (image : Image) (v : View) : Type 0 where
   pub is_open : IsTrue v.is_open
   pub tables : HasTables v
-  pub found : ((stored_form v ≡ form) × HasTablesOf form image v)
-      ⊎ (IsUnmade v × (stored_form v ≡ Chained) × (StoreOf form image → ⊥))
+  pub of_form : stored_form v ≡ form
+  pub reads : HasTablesOf form image v
 
 -- The files recover to pages whose tables are what the last commit of a store has, in the form that they list
 -- (this project's choice).
@@ -114,9 +117,38 @@ ReadsAs image v = (pages : PageMap) × Recovers 4096 image pages
     × (v.committed 0 ≡ tables_in (stored_form v) pages 0) × (v.committed 1 ≡ tables_in (stored_form v) pages 1)
     × (listed_form (catalog_in pages) ≡ stored_form v)
 
--- A store is open on what the files hold; or it has no row and is of the form with digests, and the files held none
--- (this project's choice).
+-- The bytes 5 to 16 of the log that a making begins, which no other log of SQLite has:
+-- the format's version, pages of 4096 bytes, and 2^32 - 1 checkpoints (SQLite's WAL file format).
+abbrev pub making_mark : List ℕ
+making_mark = 0 ∷ 45 ∷ 226 ∷ 24 ∷ 0 ∷ 0 ∷ 16 ∷ 0 ∷ 255 ∷ 255 ∷ 255 ∷ 255 ∷ []
+
+-- A log begins as a making's does (this project's choice).
+abbrev pub BeginsMaking : List ℕ → Type 0
+BeginsMaking log = Holds log 4 making_mark
+
+-- The file is empty; or a making was cut short before its first page was whole,
+-- of which there are the first bytes beside the log that it began (this project's choice).
+abbrev pub IsBegun : Image → Type 0
+IsBegun image = (length image.db ≡ 0) ⊎ (IsBlankFile 4096 image × BeginsMaking image.log)
+
+-- The files recover to a sound database without a table,
+-- as a making leaves that was cut short behind its first page (this project's choice).
+abbrev pub HasNoTable : Image → Type 0
+HasNoTable image = (pages : PageMap) × Recovers 4096 image pages × IsEmptyFile 4096 pages
+
+-- The files held nothing, or what a making that was cut short leaves (this project's choice).
+abbrev pub IsUnstarted : Image → Type 0
+IsUnstarted image = IsBegun image ⊎ HasNoTable image
+
+-- A store is open on what the files hold; or it has no row and is of the form with digests,
+-- and the files held nothing or what a making that was cut short leaves (this project's choice).
 pub record IsFound (image : Image) (v : View) : Type 0 where
   pub is_open : IsTrue v.is_open
   pub tables : HasTables v
-  pub found : ReadsAs image v ⊎ (IsUnmade v × (stored_form v ≡ Chained) × (StoreIn image → ⊥))
+  pub found : ReadsAs image v ⊎ (IsUnmade v × (stored_form v ≡ Chained) × ∥ IsUnstarted image ∥₁ × (StoreIn image → ⊥))
+
+-- A store is open on what the files hold (this project's choice).
+pub record IsFoundMade (image : Image) (v : View) : Type 0 where
+  pub is_open : IsTrue v.is_open
+  pub tables : HasTables v
+  pub reads : ReadsAs image v

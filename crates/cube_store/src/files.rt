@@ -1,29 +1,33 @@
 //! A store's two files.
-ghost use Rattle.std.specs.Prelude.{◌≡◌, ◌↔◌, true, false, IsTrue, IfOk, IfErr};
+ghost use Rattle.std.specs.Prelude.{◌≡◌, ◌⊎◌, ◌↔◌, true, false, length, IsTrue, IfOk, IfErr};
 ghost use Rattle.sqlite_wal.specs.PageSize.{bytes_of};
 ghost use Rattle.sqlite_wal.specs.Files.{seen_image};
 ghost use Rattle.sqlite_wal.specs.Reads.{AreClean, OnlyReads};
 ghost use Rattle.sqlite_pool.specs.Opening.{IsBlankFile};
 ghost use Rattle.sqlite_trees.specs.View.{IsClean};
 ghost use Rattle.sqlite_store.specs.FileStore.{view};
-ghost use Rattle.sqlite_store.specs.Unopened.{state_of, wanted_by, files_of, AreUsable};
+ghost use Rattle.sqlite_store.specs.Unopened.{state_of, wanted_by, files_of, image, AreUsable};
 ghost use Rattle.sqlite_std_file.specs.File.{file_is_usable, IsFresh};
-ghost use Rattle.cube_journal.specs.State.{HasTables, IsUnmade, stored_form};
-ghost use Rattle.cube_store.specs.Codes.{file_code_of, TellsFailedCall};
-ghost use Rattle.cube_store.specs.Found.{store_schema, StoreOf, StoreIn, HasTablesOf, HasLooked, IsFoundAs, IsFound};
+ghost use Rattle.cube_journal.specs.State.{IsUnmade, stored_form};
+ghost use Rattle.cube_store.specs.Codes.{TellsFailedCall};
+ghost use Rattle.cube_store.specs.Found.{store_schema, BeginsMaking, StoreOf, StoreIn, IsBegun, HasNoTable, HasLooked, IsFoundAs, IsFound, IsFoundMade};
 
 use crate::fault::StoreFault;
-use crate::tables::{listed_form, schema};
+use crate::tables::{form_told, schema};
 use cube_journal::RowForm;
 use sqlite_disk::{Disk, Files, Start};
 use sqlite_pager::{Options, Pager};
 use sqlite_pool::probe_blank;
 use sqlite_std_file::FileFrom;
-use sqlite_store::{FileStore, OpenError, Unopened};
+use sqlite_store::{FileStore, Unopened};
 use sqlite_wal::{PageSize, probe_first_page};
 use std::alloc::Global;
 
 const PAGE_BYTES: usize = 4096;
+
+/// The bytes 5 to 16 of the log that a making begins: the format's version, the page size and a count of checkpoints that no
+/// other log has.
+const MAKING_MARK: [u8; 12] = [0, 45, 226, 24, 0, 0, 16, 0, 255, 255, 255, 255];
 
 /// The page size of a store.
 pub(crate) fn page_size() -> PageSize
@@ -50,7 +54,7 @@ pub fn open_path<S: Start>(
     }
 }
 
-/// Whether the files hold no database.
+/// Whether the files hold no database: none was made, or only the first bytes of one, as any single byte counts.
 fn hold_none<D: Disk>(alloc: Global, files: &mut Files<D>) -> Result<bool, StoreFault>
     requires log { IsTrue (D.Disk.is_usable files.old.log) }
     requires db { IsTrue (D.Disk.is_usable files.old.db) }
@@ -63,6 +67,55 @@ fn hold_none<D: Disk>(alloc: Global, files: &mut Files<D>) -> Result<bool, Store
         Ok(none) => Ok(none),
         Err(error) => Err(StoreFault::from(error)),
     }
+}
+
+/// Whether the file is empty.
+fn is_empty<D: Disk>(db: &mut D) -> Result<bool, StoreFault>
+    requires { IsTrue (D.Disk.is_usable db.old) }
+    ensures ok { IfOk result (λ empty. IsTrue (D.Disk.is_clean db.new) → IsTrue empty → length (D.Disk.seen db.old) ≡ 0) }
+    ensures cause { IfErr result TellsFailedCall }
+    ensures same { OnlyReads D.Disk db.old db.new }
+{
+    match db.len() {
+        Ok(length) => Ok(length == 0),
+        Err(_) => Err(StoreFault::Failed),
+    }
+}
+
+/// Whether the log begins as a making's does.
+fn begins_making<D: Disk>(log: &mut D) -> Result<bool, StoreFault>
+    requires { IsTrue (D.Disk.is_usable log.old) }
+    ensures ok { IfOk result (λ begins. IsTrue (D.Disk.is_clean log.new) → IsTrue begins → BeginsMaking (D.Disk.seen log.old)) }
+    ensures cause { IfErr result TellsFailedCall }
+    ensures same { OnlyReads D.Disk log.old log.new }
+{
+    let Ok(length) = log.len() else {
+        return Err(StoreFault::Failed);
+    };
+    if length < 16 {
+        return Ok(false);
+    }
+    let mut mark = [0; 12];
+    match log.read_at(4, &mut mark) {
+        Ok(()) => Ok(mark == MAKING_MARK),
+        Err(_) => Err(StoreFault::Failed),
+    }
+}
+
+/// Whether the file is empty, or the log beside it begins as a making's does.
+fn were_begun<D: Disk>(files: &mut Files<D>) -> Result<bool, StoreFault>
+    requires log { IsTrue (D.Disk.is_usable files.old.log) }
+    requires db { IsTrue (D.Disk.is_usable files.old.db) }
+    ensures ok { IfOk result (λ begun. AreClean D.Disk files.new.log files.new.db → IsTrue begun → IsBlankFile 4096 (seen_image D.Disk files.old.log files.old.db)
+        → IsBegun (seen_image D.Disk files.old.log files.old.db)) }
+    ensures cause { IfErr result TellsFailedCall }
+    ensures log { OnlyReads D.Disk files.old.log files.new.log }
+    ensures db { OnlyReads D.Disk files.old.db files.new.db }
+{
+    if is_empty(&mut files.db)? {
+        return Ok(true);
+    }
+    begins_making(&mut files.log)
 }
 
 /// Whether the files begin as each database of SQLite does. Recovery would write to others.
@@ -104,75 +157,21 @@ fn unopened<D: Disk>(
     }
 }
 
-/// In which form the files list the table of changes, if what they list can be read.
-fn look<D: Disk>(
-    alloc: Global,
-    files: Files<D>,
-    options: Options,
-) -> Result<(Option<RowForm>, Files<D>), (StoreFault, Files<D>)>
-    requires log { IsTrue (D.Disk.is_usable files.log) }
-    requires db { IsTrue (D.Disk.is_usable files.db) }
-    ensures seen { IfOk result (λ r. AreClean D.Disk r.1.log r.1.db → HasLooked (seen_image D.Disk files.log files.db) (seen_image D.Disk r.1.log r.1.db) r.0) }
-    ensures usable { IfOk result (λ r. IsTrue (D.Disk.is_usable r.1.log) × IsTrue (D.Disk.is_usable r.1.db)) }
-    ensures honest { IfOk result (λ r. AreClean D.Disk r.1.log r.1.db → AreClean D.Disk files.log files.db) }
-    ensures cause { IfErr result (λ e. AreClean D.Disk e.1.log e.1.db → StoreIn (seen_image D.Disk files.log files.db) → TellsFailedCall e.0) }
-{
-    let mut fresh = match unopened(alloc, files, options, RowForm::Chained) {
-        Ok(fresh) => fresh,
-        Err(left) => return Err((StoreFault::Memory, left)),
-    };
-    match fresh.read_catalog() {
-        Ok(rows) => Ok((Some(listed_form(&rows)), fresh.close())),
-        Err(error) => {
-            let left = fresh.close();
-            match error {
-                OpenError::Refused if left.may_be_used() => Ok((None, left)),
-                _ => Err((StoreFault::from(error), left)),
-            }
-        }
-    }
-}
-
 /// Makes the two tables in files that hold nothing, or no more than a making that was cut short leaves: that of changes has
 /// digests.
 fn make_tables<D: Disk>(fresh: Unopened<D>) -> Result<FileStore<D>, (StoreFault, Files<D>)>
     requires usable { AreUsable fresh }
+    requires size { (state_of fresh).page_size ≡ 4096 }
     requires schema { wanted_by fresh ≡ store_schema RowForm.Chained }
     ensures made { IfOk result (λ it. IsClean (view it) → IsUnmade (view it)) }
     ensures form { IfOk result (λ it. stored_form (view it) ≡ RowForm.Chained) }
+    ensures started { IfOk result (λ it. IsClean (view it) → ∥ IsBlankFile 4096 (image fresh) ⊎ HasNoTable (image fresh) ∥₁) }
     ensures honest { IfOk result (λ it. IsClean (view it) → IsTrue (state_of fresh).is_clean) }
     ensures falls { IfErr result (λ e. AreClean D.Disk e.1.log e.1.db → IsTrue (state_of fresh).is_clean) }
 {
     match fresh.create() {
         Ok(store) => Ok(store),
         Err((error, left)) => Err((StoreFault::from(error), left.close())),
-    }
-}
-
-/// Recovers the files, and checks each page.
-fn attach<D: Disk>(
-    alloc: Global,
-    files: Files<D>,
-    options: Options,
-    form: RowForm,
-) -> Result<FileStore<D>, (OpenError, Files<D>)>
-    requires log { IsTrue (D.Disk.is_usable files.log) }
-    requires db { IsTrue (D.Disk.is_usable files.db) }
-    ensures is_open { IfOk result (λ it. IsClean (view it) → IsTrue (view it).is_open) }
-    ensures tables { IfOk result (λ it. HasTables (view it)) }
-    ensures form { IfOk result (λ it. stored_form (view it) ≡ form) }
-    ensures reads { IfOk result (λ it. IsClean (view it) → HasTablesOf form (seen_image D.Disk files.log files.db) (view it)) }
-    ensures honest { IfOk result (λ it. IsClean (view it) → AreClean D.Disk files.log files.db) }
-    ensures falls { IfErr result (λ e. AreClean D.Disk e.1.log e.1.db → AreClean D.Disk files.log files.db) }
-    ensures cause { IfErr result (λ e. AreClean D.Disk e.1.log e.1.db → StoreOf form (seen_image D.Disk files.log files.db) → TellsFailedCall (file_code_of e.0)) }
-{
-    let fresh = match unopened(alloc, files, options, form) {
-        Ok(fresh) => fresh,
-        Err(left) => return Err((OpenError::OutOfMemory, left)),
-    };
-    match fresh.open() {
-        Ok(store) => Ok(store),
-        Err((error, left)) => Err((error, left.close())),
     }
 }
 
@@ -186,6 +185,7 @@ fn finish<D: Disk>(
     requires db { IsTrue (D.Disk.is_usable files.db) }
     ensures made { IfOk result (λ it. IsClean (view it) → IsUnmade (view it)) }
     ensures form { IfOk result (λ it. stored_form (view it) ≡ RowForm.Chained) }
+    ensures started { IfOk result (λ it. IsClean (view it) → ∥ IsBlankFile 4096 (seen_image D.Disk files.log files.db) ⊎ HasNoTable (seen_image D.Disk files.log files.db) ∥₁) }
     ensures honest { IfOk result (λ it. IsClean (view it) → AreClean D.Disk files.log files.db) }
     ensures falls { IfErr result (λ e. AreClean D.Disk e.1.log e.1.db → AreClean D.Disk files.log files.db) }
 {
@@ -195,8 +195,8 @@ fn finish<D: Disk>(
     }
 }
 
-/// Opens the store in this form that the files hold, or makes the tables where a making was cut short before them.
-fn attach_or_finish<D: Disk>(
+/// Opens the store in this form that the files hold: recovers them, and checks each page.
+fn open_store<D: Disk>(
     alloc: Global,
     files: Files<D>,
     options: Options,
@@ -209,17 +209,102 @@ fn attach_or_finish<D: Disk>(
     ensures falls { IfErr result (λ e. AreClean D.Disk e.1.log e.1.db → AreClean D.Disk files.log files.db) }
     ensures accepts { IfErr result (λ e. AreClean D.Disk e.1.log e.1.db → StoreOf form (seen_image D.Disk files.log files.db) → TellsFailedCall e.0) }
 {
-    match attach(alloc, files, options, form) {
+    let fresh = match unopened(alloc, files, options, form) {
+        Ok(fresh) => fresh,
+        Err(left) => return Err((StoreFault::Memory, left)),
+    };
+    match fresh.open() {
         Ok(store) => Ok(store),
-        Err((error, files)) => match error {
-            OpenError::Refused if files.may_be_used() => finish(alloc, files, options),
-            _ => Err((StoreFault::from(error), files)),
-        },
+        Err((error, left)) => Err((StoreFault::from(error), left.close())),
     }
 }
 
-/// Opens the store in files whose form was looked at, or makes the tables where a making was cut short before them.
-fn open_looked<D: Disk>(
+/// What the files list, as `look` says, and the files. Recovery is all that is written.
+fn read_form<D: Disk>(
+    mut fresh: Unopened<D>,
+) -> Result<(Option<RowForm>, Files<D>), (StoreFault, Files<D>)>
+    requires usable { AreUsable fresh }
+    requires size { (state_of fresh).page_size ≡ 4096 }
+    ensures seen { IfOk result (λ r. AreClean D.Disk r.1.log r.1.db → HasLooked (image fresh) (seen_image D.Disk r.1.log r.1.db) r.0) }
+    ensures usable { IfOk result (λ r. IsTrue (D.Disk.is_usable r.1.log) × IsTrue (D.Disk.is_usable r.1.db)) }
+    ensures honest { IfOk result (λ r. AreClean D.Disk r.1.log r.1.db → IsTrue (state_of fresh).is_clean) }
+    ensures accepts { IfErr result (λ e. AreClean D.Disk e.1.log e.1.db → StoreIn (image fresh) → TellsFailedCall e.0) }
+{
+    match fresh.read_catalog() {
+        Ok(rows) => Ok((form_told(&rows), fresh.close())),
+        Err(error) => Err((StoreFault::from(error), fresh.close())),
+    }
+}
+
+/// In which form the files list the table of changes, or that they list nothing, where they recover to a database; nothing
+/// but its recovery is written.
+fn look<D: Disk>(
+    alloc: Global,
+    mut files: Files<D>,
+    options: Options,
+) -> Result<(Option<RowForm>, Files<D>), (StoreFault, Files<D>)>
+    requires log { IsTrue (D.Disk.is_usable files.log) }
+    requires db { IsTrue (D.Disk.is_usable files.db) }
+    ensures seen { IfOk result (λ r. AreClean D.Disk r.1.log r.1.db → HasLooked (seen_image D.Disk files.log files.db) (seen_image D.Disk r.1.log r.1.db) r.0) }
+    ensures usable { IfOk result (λ r. IsTrue (D.Disk.is_usable r.1.log) × IsTrue (D.Disk.is_usable r.1.db)) }
+    ensures honest { IfOk result (λ r. AreClean D.Disk r.1.log r.1.db → AreClean D.Disk files.log files.db) }
+    ensures accepts { IfErr result (λ e. AreClean D.Disk e.1.log e.1.db → StoreIn (seen_image D.Disk files.log files.db) → TellsFailedCall e.0) }
+{
+    match begin_well(alloc, &mut files) {
+        Ok(true) => {}
+        Ok(false) => return Err((StoreFault::NotAStore, files)),
+        Err(fault) => return Err((fault, files)),
+    }
+    match unopened(alloc, files, options, RowForm::Chained) {
+        Ok(fresh) => read_form(fresh),
+        Err(left) => Err((StoreFault::Memory, left)),
+    }
+}
+
+/// Makes the tables in a database that has none.
+fn finish_first_page<D: Disk>(
+    alloc: Global,
+    mut files: Files<D>,
+    options: Options,
+) -> Result<FileStore<D>, (StoreFault, Files<D>)>
+    requires log { IsTrue (D.Disk.is_usable files.log) }
+    requires db { IsTrue (D.Disk.is_usable files.db) }
+    ensures made { IfOk result (λ it. IsClean (view it) → IsUnmade (view it)) }
+    ensures form { IfOk result (λ it. stored_form (view it) ≡ RowForm.Chained) }
+    ensures started { IfOk result (λ it. IsClean (view it) → ∥ HasNoTable (seen_image D.Disk files.log files.db) ∥₁) }
+    ensures honest { IfOk result (λ it. IsClean (view it) → AreClean D.Disk files.log files.db) }
+    ensures falls { IfErr result (λ e. AreClean D.Disk e.1.log e.1.db → AreClean D.Disk files.log files.db) }
+{
+    match hold_none(alloc, &mut files) {
+        Ok(true) => Err((StoreFault::NotAStore, files)),
+        Ok(false) => finish(alloc, files, options),
+        Err(fault) => Err((fault, files)),
+    }
+}
+
+/// Makes the tables in files that hold no database, unless they are other bytes than a making's first ones.
+fn finish_begun<D: Disk>(
+    alloc: Global,
+    mut files: Files<D>,
+    options: Options,
+) -> Result<FileStore<D>, (StoreFault, Files<D>)>
+    requires log { IsTrue (D.Disk.is_usable files.log) }
+    requires db { IsTrue (D.Disk.is_usable files.db) }
+    ensures made { IfOk result (λ it. IsClean (view it) → IsUnmade (view it)) }
+    ensures form { IfOk result (λ it. stored_form (view it) ≡ RowForm.Chained) }
+    ensures begun { IfOk result (λ it. IsClean (view it) → IsBlankFile 4096 (seen_image D.Disk files.log files.db) → IsBegun (seen_image D.Disk files.log files.db)) }
+    ensures honest { IfOk result (λ it. IsClean (view it) → AreClean D.Disk files.log files.db) }
+    ensures falls { IfErr result (λ e. AreClean D.Disk e.1.log e.1.db → AreClean D.Disk files.log files.db) }
+{
+    match were_begun(&mut files) {
+        Ok(true) => finish(alloc, files, options),
+        Ok(false) => Err((StoreFault::NotAStore, files)),
+        Err(fault) => Err((fault, files)),
+    }
+}
+
+/// Opens the store in files that hold something, or makes the tables in a database that has none.
+fn open_held<D: Disk>(
     alloc: Global,
     files: Files<D>,
     options: Options,
@@ -227,36 +312,18 @@ fn open_looked<D: Disk>(
     requires log { IsTrue (D.Disk.is_usable files.log) }
     requires db { IsTrue (D.Disk.is_usable files.db) }
     ensures found { IfOk result (λ it. IsClean (view it) → IsFound (seen_image D.Disk files.log files.db) (view it)) }
-    ensures honest { IfOk result (λ it. IsClean (view it) → AreClean D.Disk files.log files.db) }
     ensures accepts { IfErr result (λ e. AreClean D.Disk e.1.log e.1.db → StoreIn (seen_image D.Disk files.log files.db) → TellsFailedCall e.0) }
 {
     match look(alloc, files, options) {
-        Ok((Some(form), files)) => attach_or_finish(alloc, files, options, form),
-        Ok((None, files)) => finish(alloc, files, options),
+        Ok((None, files)) => finish_first_page(alloc, files, options),
+        Ok((Some(form), files)) => open_store(alloc, files, options, form),
         Err(refused) => Err(refused),
     }
 }
 
-/// Opens the store in files that hold something.
-fn open_held<D: Disk>(
-    alloc: Global,
-    mut files: Files<D>,
-    options: Options,
-) -> Result<FileStore<D>, (StoreFault, Files<D>)>
-    requires log { IsTrue (D.Disk.is_usable files.log) }
-    requires db { IsTrue (D.Disk.is_usable files.db) }
-    ensures found { IfOk result (λ it. IsClean (view it) → IsFound (seen_image D.Disk files.log files.db) (view it)) }
-    ensures honest { IfOk result (λ it. IsClean (view it) → AreClean D.Disk files.log files.db) }
-    ensures accepts { IfErr result (λ e. AreClean D.Disk e.1.log e.1.db → StoreIn (seen_image D.Disk files.log files.db) → TellsFailedCall e.0) }
-{
-    match begin_well(alloc, &mut files) {
-        Ok(true) => open_looked(alloc, files, options),
-        Ok(false) => Err((StoreFault::NotAStore, files)),
-        Err(fault) => Err((fault, files)),
-    }
-}
-
-/// Opens the store that two files hold, or makes its two tables where they hold none. `seed` is a random number.
+/// Opens the store that two files hold, or makes its two tables where the file is empty or has what a making that was cut short
+/// leaves: the first bytes of a database's first page, beside a log that begins as a making's does, or that page whole, as a
+/// sound database without a table. `seed` is a random number.
 ///
 /// A new table of changes has digests; one without, as stores up to release 1.11 have it, is opened as it is. Files that
 /// recover to sound pages of these two tables, with no other table or index, are refused only where a call fails. An error
@@ -273,8 +340,31 @@ pub fn open_files<D: Disk>(
 {
     let options = Options::new(seed);
     match hold_none(alloc, &mut files) {
-        Ok(true) => finish(alloc, files, options),
+        Ok(true) => finish_begun(alloc, files, options),
         Ok(false) => open_held(alloc, files, options),
         Err(fault) => Err((fault, files)),
+    }
+}
+
+/// Opens the store that two files hold, and makes none: what a making that was cut short leaves is refused too. `seed` is a
+/// random number.
+///
+/// A table of changes with digests is opened, and one without. Files that recover to sound pages of these two tables, with no
+/// other table or index, are refused only where a call fails. An error gives the files back.
+pub fn open_made_files<D: Disk>(
+    alloc: Global,
+    files: Files<D>,
+    seed: u64,
+) -> Result<FileStore<D>, (StoreFault, Files<D>)>
+    requires log { IsTrue (D.Disk.is_usable files.log) }
+    requires db { IsTrue (D.Disk.is_usable files.db) }
+    ensures found { IfOk result (λ it. IsClean (view it) → IsFoundMade (seen_image D.Disk files.log files.db) (view it)) }
+    ensures accepts { IfErr result (λ e. AreClean D.Disk e.1.log e.1.db → StoreIn (seen_image D.Disk files.log files.db) → TellsFailedCall e.0) }
+{
+    let options = Options::new(seed);
+    match look(alloc, files, options) {
+        Ok((Some(form), left)) => open_store(alloc, left, options, form),
+        Ok((None, left)) => Err((StoreFault::NotAStore, left)),
+        Err(refused) => Err(refused),
     }
 }

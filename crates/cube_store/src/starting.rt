@@ -5,7 +5,7 @@ ghost use Rattle.sqlite_trees.specs.Tree.{Trees};
 ghost use Rattle.sqlite_trees.specs.View.{View, IsClean};
 ghost use Rattle.sqlite_store.specs.FileStore.{state, view, recovers};
 ghost use Rattle.cube_journal.specs.Rows.{entries_of};
-ghost use Rattle.cube_journal.specs.State.{stored_in, IsStore, IsUnmade, LeadsTo, Starts};
+ghost use Rattle.cube_journal.specs.State.{stored_in, noted_in, Finds, IsStore, IsUnmade, LeadsTo, Starts};
 ghost use Rattle.cube_journal.specs.Making.{LeavesNotes};
 ghost use Rattle.cube_store.specs.Closing.{IsCopied, IsEmptied, IsUnharmed, LeavesOneFile, LeavesUnharmed};
 ghost use Rattle.cube_store.specs.Codes.{TellsFailedCall};
@@ -14,7 +14,7 @@ ghost use Rattle.cube_store.specs.Found.{StoreIn, IsFound};
 use crate::fault::StoreFault;
 use crate::files::page_size;
 use crate::tables::schema;
-use cube_journal::{ChangeJournal, ChangeSink, FeedNote, form_of, open_or_make};
+use cube_journal::{ChangeJournal, ChangeSink, FeedNote, form_of, open_made, open_or_make};
 use sqlite_disk::Disk;
 use sqlite_store::FileStore;
 use sqlite_trees::store::Store;
@@ -40,6 +40,29 @@ pub fn start<S: Store, K: ChangeSink>(
     match open_or_make(alloc, store, notes, sink) {
         Ok(journal) => Ok(journal),
         Err((fault, store)) => Err((StoreFault::from(fault), store)),
+    }
+}
+
+/// Starts on an open store that was made before, as `start` does, and writes nothing: it must have these notes, and one
+/// without a row is refused.
+///
+/// A store of changes and of these notes is refused only where a call fails. An error gives the store back.
+pub fn start_made<S: Store, K: ChangeSink>(
+    alloc: Global,
+    store: S,
+    notes: &[FeedNote],
+    sink: &mut K,
+) -> Result<ChangeJournal<S>, (StoreFault, S)>
+    ensures found { IfOk result (λ j. IsClean (S.Store.view j.store) → Finds (S.Store.view store) (S.Store.view j.store) × (noted_in (S.Store.view store) ≡ entries_of notes.now)) }
+    ensures made { IfOk result (λ j. IsClean (S.Store.view j.store) → ¬ IsUnmade (S.Store.view store)) }
+    ensures taken { IfOk result (λ j. IsClean (S.Store.view j.store) → LeadsTo K.ChangeSink.takes sink.old (stored_in (S.Store.view j.store)) sink.new) }
+    ensures crash { IfOk result (λ j. (db : Trees) → S.Store.recovers j.store db → S.Store.recovers store db) }
+    ensures unharmed { IfErr result (λ e. (db : Trees) → S.Store.recovers e.1 db → S.Store.recovers store db) }
+    ensures accepts { IfErr result (λ e. IsClean (S.Store.view e.1) → IsStore (S.Store.view store) (entries_of notes.now) × (¬ IsUnmade (S.Store.view store)) → TellsFailedCall e.0) }
+{
+    match open_made(alloc, store, notes, sink) {
+        Ok(journal) => Ok(journal),
+        Err((fault, left)) => Err((StoreFault::from(fault), left)),
     }
 }
 

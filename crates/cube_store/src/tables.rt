@@ -3,7 +3,7 @@ ghost use Rattle.std.specs.Prelude.{◌≡◌, map};
 ghost use Rattle.sqlite_value.specs.declared.value.Value.TheVariants.{Text};
 ghost use Rattle.sqlite_value.specs.Value.{owned};
 ghost use Rattle.sqlite_store.specs.Catalog.{wanted_of, describes, same_value};
-ghost use Rattle.cube_store.specs.Found.{changes_table, feeds_table, store_schema, list_digests, listed_form};
+ghost use Rattle.cube_store.specs.Found.{changes_table, feeds_table, store_schema, list_digests, listed_form, form_told};
 
 use cube_journal::{CHAINED, RowForm};
 use sqlite_trees::schema::Object;
@@ -13,10 +13,12 @@ use sqlite_value::row::Row;
 use sqlite_value::value::ValueRef;
 
 /// The text of the table of changes whose rows have no digests: stores up to release 1.11 have it.
-const PLAIN_TEXT: &str = "CREATE TABLE changes(number INTEGER PRIMARY KEY, source INTEGER NOT NULL, record BLOB NOT NULL) STRICT";
+const PLAIN_TEXT: &str =
+    "CREATE TABLE changes(number INTEGER PRIMARY KEY, source INTEGER NOT NULL, record BLOB NOT NULL) STRICT";
 
 /// The text of the one whose rows have digests.
-const CHAINED_TEXT: &str = "CREATE TABLE changes(number INTEGER PRIMARY KEY, source INTEGER NOT NULL, record BLOB NOT NULL, digest BLOB NOT NULL) STRICT";
+const CHAINED_TEXT: &str =
+    "CREATE TABLE changes(number INTEGER PRIMARY KEY, source INTEGER NOT NULL, record BLOB NOT NULL, digest BLOB NOT NULL) STRICT";
 
 /// The table of changes.
 fn changes(form: RowForm) -> Object<'static>
@@ -65,8 +67,19 @@ pub fn schema(form: RowForm) -> [Object<'static>; 2]
     [changes(form), feeds()]
 }
 
+/// The form of the table of changes in a file, by the rows of its list of tables; or that these list nothing.
+pub fn form_told(rows: &[Row]) -> Option<RowForm>
+    ensures { result ≡ form_told rows.now }
+{
+    if rows.is_empty() {
+        None
+    } else {
+        Some(listed_form(rows))
+    }
+}
+
 /// The form of the table of changes in a file, by the rows of its list of tables.
-pub fn listed_form(rows: &[Row]) -> RowForm
+fn listed_form(rows: &[Row]) -> RowForm
     ensures { result ≡ listed_form rows.now }
 {
     if list_digests(rows) {
@@ -87,7 +100,9 @@ fn list_digests(rows: &[Row]) -> bool
 fn lists_digests(row: &Row) -> bool
     ensures { result ≡ describes (changes_table RowForm.Chained) row.now }
 {
-    is_text(row.get(1), "table") & is_text(row.get(2), "changes") & is_text(row.get(3), "changes")
+    is_text(row.get(1), "table")
+        & is_text(row.get(2), "changes")
+        & is_text(row.get(3), "changes")
         & is_text(row.get(5), CHAINED_TEXT)
 }
 

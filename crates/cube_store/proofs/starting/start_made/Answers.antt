@@ -1,0 +1,7 @@
+use Rattle.cube_store.proofs.CodeLaws as codes
+use Rattle.cube_store.proofs.starting.start_made.Goals as goal
+
+pub returns-in-Err-clause-accepts : goal.returns-in-Err-clause-accepts
+returns-in-Err-clause-accepts g c =
+    λ clean store. rw c.from.ensures
+    (codes.start_fails _ _ c.in-Err.fault (c.in-Err.ensures.accepts clean store.0 store.1))
