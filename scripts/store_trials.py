@@ -578,19 +578,106 @@ def changed_tables(room, rng):
 
 
 def no_stores(room, rng):
-    """Files that are no stores, and paths that can't be opened."""
+    """Files that are no stores, and paths that can't be opened: nothing is written to a file, and nothing made beside it."""
     os.makedirs(room.path("folder.db"), exist_ok=True)
-    room.write("text.db", b"op,id\n" * 2000)
-    room.write("short.db", b"not a database\n")
-    room.write("zeros.db", bytes(3 * PAGE))
-    for name, wanted in (("nowhere/new.db", "D2"), ("folder.db", "D2"), ("schema.toml/new.db", "D2"), ("", "D2"), ("text.db", "D3"), ("short.db", "D3")):
-        before = os.path.isfile(room.path(name)) and open(room.path(name), "rb").read()
-        expect(refusal_of(room, room.words(name))[0], wanted, f"a start over {name!r}")
-        after = os.path.isfile(room.path(name)) and open(room.path(name), "rb").read()
-        expect(after, before, f"what {name!r} has after it was refused")
-    code = refusal_of(room, room.words("zeros.db"))[0]
-    if code not in ("D3", None):
-        raise Wrong(f"zeros are refused by {code}")
+    base = sqlite3.connect(room.path("other.db"), isolation_level=None)
+    base.execute("CREATE TABLE other(a)")
+    base.close()
+    with open(room.path("other.db"), "rb") as file:
+        other = file.read()
+    for name, data in (
+        ("text.db", b"op,id\n" * 2000),
+        ("short.db", b"not a database\n"),
+        ("one.db", b"x"),
+        ("zero.db", b"\0"),
+        ("zeros.db", bytes(3 * PAGE)),
+        ("page.db", bytes(PAGE)),
+        ("head.db", b"SQLite format 3\0"),
+        ("cut.db", other[:PAGE]),
+        ("turned.db", b"T" + other[1:]),
+    ):
+        room.write(name, data)
+        refused_untouched(room, name, "D3")
+    refused_untouched(room, "other.db", "D3")
+    for name in ("nowhere/new.db", "folder.db", "schema.toml/new.db", ""):
+        refused_untouched(room, name, "D2")
+    room.write("empty.db", b"")
+    expect(asked_of(room, "empty.db"), "D3", "a question over an empty file")
+    expect(left_at(room, "empty.db"), {"empty.db": b""}, "what a question leaves of an empty file")
+    return None
+
+
+def refused_untouched(room, name, wanted):
+    """Sees that a session and a question refuse what stands at a path, and leave it as it was, with nothing beside it."""
+    before = left_at(room, name)
+    expect(refusal_of(room, room.words(name))[0], wanted, f"a start over {name!r}")
+    expect(left_at(room, name), before, f"what a start leaves of {name!r}")
+    expect(refusal_of(room, room.words(name, "--wary"))[0], wanted, f"a wary start over {name!r}")
+    expect(asked_of(room, name), wanted, f"a question over {name!r}")
+    expect(left_at(room, name), before, f"what a question leaves of {name!r}")
+
+
+def asked_of(room, name):
+    """The code that a question over a store is refused by, or None."""
+    status, out, err = room.run(["print", *room.words(name)], b"")
+    told = re.fullmatch(rb"datacube: (.+)\n", err)
+    return told[1].decode() if status == 1 and told and not out else None
+
+
+def left_at(room, name):
+    """The files whose names begin as a path's does, and what each has."""
+    found = {}
+    for it in os.listdir(room.folder):
+        if name and it.startswith(name) and os.path.isfile(room.path(it)):
+            with open(room.path(it), "rb") as file:
+                found[it] = file.read()
+    return found
+
+
+def cut_short(room, rng):
+    """What a making that was cut short leaves: a question refuses it and leaves it so, and a session goes on with it."""
+    live = room.open("begun.db")
+    live.ask([b"sync"])
+    live.end(is_killed=True)
+    made = left_at(room, "begun.db")
+    first, log = made["begun.db"], made["begun.db-wal"]
+    expect(len(first), PAGE, "how long the file is that a session made which was killed")
+    fresh = everything(oracle.Session(SCHEMA, FEEDS))
+    images = [(b"", None), (b"", log[:41]), (b"", log[:9]), (first, log[:41])]
+    images += [(b"\0" + first[1:long], log[:41]) for long in (1, 2, 100, 101, 512, PAGE - 1, PAGE)]
+    for data, beside in images:
+        room.remove("begun.db")
+        room.write("begun.db", data)
+        if beside is not None:
+            room.write("begun.db-wal", beside)
+        before = left_at(room, "begun.db")
+        what = f"a making cut short after {len(data)} bytes"
+        expect(asked_of(room, "begun.db"), "D3", f"a question over {what}")
+        if data != first:
+            expect(left_at(room, "begun.db"), before, f"what a question leaves of {what}")
+        expect(refusal_of(room, room.words("begun.db"), b"print\nrefusals\n")[:2], (None, fresh), f"a start over {what}")
+        expect(asked_of(room, "begun.db"), None, f"a question over {what} after a start")
+    return f"{len(images)} of them"
+
+
+def rights(room, rng):
+    """Who may read a store and its log: its owner alone where it is made, and then those of the file, at each opening."""
+    def mode(name):
+        return oct(os.stat(room.path(name)).st_mode & 0o777)
+
+    def see(wanted, *options):
+        live = room.open("kept.db", *options)
+        live.ask([b"1", b"D", b"nobody"], [b"sync"])
+        expect((mode("kept.db"), mode("kept.db-wal")), (wanted, wanted), f"the rights of a store and its log, where {wanted} was wanted")
+        live.end(is_killed=True)
+
+    see("0o600")
+    for wanted in (0o640, 0o600):
+        os.chmod(room.path("kept.db"), wanted)
+        see(oct(wanted))
+        os.chmod(room.path("kept.db-wal"), 0o644)
+        expect(asked_of(room, "kept.db"), None, "a question over the store")
+        expect(mode("kept.db-wal"), oct(wanted), "the rights of the log after a question")
     return None
 
 
@@ -691,6 +778,8 @@ def main():
         trials.trial("a store of release 1.11.5", old_store)
         trials.trial("tables and rows that SQLite changed", changed_tables)
         trials.trial("files that are no stores", no_stores)
+        trials.trial("a making that was cut short", cut_short)
+        trials.trial("the rights of a store and its log", rights)
         trials.trial("other feeds and another schema", other_feeds)
         trials.trial("a store without feeds", without_feeds)
     print(f"{trials.passed} passed, {trials.failed} failed")

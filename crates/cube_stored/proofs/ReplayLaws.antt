@@ -1,11 +1,15 @@
 -- Where a cube stands after stored changes.
-use Rattle.std.proofs.Common.{◌≡◌, ◌∙◌, [], ◌∷◌, List, refl, subst}
-use Rattle.cube_core.specs.Arrival.{Arrivals}
+use Rattle.std.proofs.Common.{◌≡◌, ◌∙◌, ◌⊎◌, inl, inr, ℕ, [], ◌∷◌, List, refl, sym, ap, subst}
+use Rattle.std.specs.Prelude.{None, Some, Option, unwrap_or}
+use Rattle.cube_core.specs.Arrival.{Arrivals, of_source}
 use Rattle.cube_core.specs.Layout.{Layout}
 use Rattle.cube_journal.specs.Rows.{Entry}
-use Rattle.cube_journal.specs.State.{LeadsTo}
-use Rattle.cube_live.specs.Live.{LiveView, LiveStandsAt}
-use Rattle.cube_stored.specs.Replay.{TakesStored, arrivals_by_stored, arrivals_from}
+use Rattle.cube_journal.specs.State.{LeadsTo, stored_in}
+use Rattle.sqlite_trees.specs.View.{View}
+use Rattle.cube_live.specs.Live.{LiveView, LiveStandsAt, last_number}
+use Rattle.cube_stored.specs.Replay.{PassesLast, ReplayView, TakesBehind, TakesStored, TakesWithin}
+use Rattle.cube_stored.specs.Replay.{arrivals_by_stored, arrivals_from}
+use Rattle.cube_stored.specs.Serving.{HasTooMany}
 
 -- the schema stays
 pub LeadsTo-schema : (before after : LiveView) (changes : List Entry) → LeadsTo TakesStored before changes after
@@ -24,3 +28,89 @@ LeadsTo-stands before after (change ∷ changes) taken arrivals stands =
     taken.1.schema
     (LeadsTo-stands taken.0 after changes taken.2 (arrivals_by_stored before.schema arrivals change)
     (taken.1.stands arrivals stands))
+
+-- ---- changes past the last that the schema takes
+
+-- what has passed the last takes nothing more
+over-stays : (before after : ReplayView) (changes : List Entry) (source : ℕ) → before.over ≡ Some source
+    → LeadsTo TakesWithin before changes after → after.over ≡ Some source
+over-stays before after [] source over same = subst (λ (r : ReplayView). r.over ≡ Some source) same over
+over-stays before after (change ∷ changes) source over taken =
+    let step = subst (λ (o : Option ℕ). TakesBehind o before.live change taken.0) over taken.1 in
+    over-stays taken.0 after changes source (ap (λ (r : ReplayView). r.over) step) taken.2
+
+-- what hasn't has taken each change
+pub LeadsTo-within : (before after : ReplayView) (changes : List Entry) → before.over ≡ None → after.over ≡ None
+    → LeadsTo TakesWithin before changes after → LeadsTo TakesStored before.live changes after.live
+LeadsTo-within before after [] none ended same = ap (λ (r : ReplayView). r.live) same
+LeadsTo-within before after (change ∷ changes) none ended taken =
+    within (subst (λ (o : Option ℕ). TakesBehind o before.live change taken.0) none taken.1)
+  where
+    within : TakesBehind None before.live change taken.0 → LeadsTo TakesStored before.live (change ∷ changes) after.live
+    within (inl step) = (taken.0.live, step.1, LeadsTo-within taken.0 after changes step.0 ended taken.2)
+    within (inr step) =
+        let no : None ≡ Some change.0 = sym ended ∙ over-stays taken.0 after changes change.0 step.0 taken.2 in
+        absurd (cc)
+
+-- and what has met one too many of its source
+pub LeadsTo-over : (before after : ReplayView) (changes : List Entry) (source : ℕ) → before.over ≡ None
+    → after.over ≡ Some source → LeadsTo TakesWithin before changes after → (start : Arrivals)
+    → LiveStandsAt before.live start → PassesLast before.live.schema start changes source
+LeadsTo-over before after [] source none ended same start stands =
+    let no : None ≡ Some source = sym none ∙ ap (λ (r : ReplayView). r.over) same ∙ ended in
+    absurd (cc)
+LeadsTo-over before after (change ∷ changes) source none ended taken start stands =
+    passes (subst (λ (o : Option ℕ). TakesBehind o before.live change taken.0) none taken.1)
+  where
+    passes : TakesBehind None before.live change taken.0 → PassesLast before.live.schema start (change ∷ changes) source
+    passes (inl step) =
+        let next = arrivals_by_stored before.live.schema start change in
+        let later = subst (λ (s : Layout). PassesLast s next changes source) step.1.schema
+        (LeadsTo-over taken.0 after changes source step.0 ended taken.2 next (step.1.stands start stands)) in
+        record {
+          before = change ∷ later.before;
+          change = later.change;
+          behind = later.behind;
+          parts = ap (λ (l : List Entry). change ∷ l) later.parts;
+          of_it = later.of_it;
+          read = later.read;
+          full = later.full;
+        }
+    passes (inr step) =
+        let same : change.0 ≡ source =
+        ap (λ (o : Option ℕ). unwrap_or o 0)
+        (sym (over-stays taken.0 after changes change.0 step.0 taken.2) ∙ ended) in
+        record {
+          before = [];
+          change = change;
+          behind = changes;
+          parts = refl;
+          of_it = same;
+          read = step.1.read;
+          full = subst (λ (n : ℕ). last_number (of_source start n) ≡ before.live.schema.max_records) same
+              (sym (stands.numbers change.0 step.1.first step.1.last) ∙ step.1.full);
+        }
+
+-- ---- a start over a store
+
+-- what began at a cube has taken the changes that a start handed over, which are those of the store
+module _ (live : LiveView) (was now : View) (begun after : ReplayView)
+    (begins : begun.live ≡ live) (none : begun.over ≡ None) (stored : stored_in now ≡ stored_in was)
+    (taken : LeadsTo TakesWithin begun (stored_in now) after) where
+  all : LeadsTo TakesWithin begun (stored_in was) after
+  all = subst (λ (es : List Entry). LeadsTo TakesWithin begun es after) stored taken
+
+  -- the cube has taken them where none followed the last of its source
+  pub resumed : (ended : LiveView) → after.over ≡ None → ended ≡ after.live
+      → LeadsTo TakesStored live (stored_in was) ended
+  resumed ended within is =
+      subst (λ (l : LiveView). LeadsTo TakesStored l (stored_in was) ended) begins
+      (subst (λ (l : LiveView). LeadsTo TakesStored begun.live (stored_in was) l) (sym is)
+      (LeadsTo-within begun after (stored_in was) none within all))
+
+  -- and else there are too many of that source
+  pub too-many : (source : ℕ) → after.over ≡ Some source → HasTooMany live was source
+  too-many source over = λ start stands.
+      subst (λ (l : LiveView). PassesLast l.schema start (stored_in was) source) begins
+      (LeadsTo-over begun after (stored_in was) source none over all start
+      (subst (λ (l : LiveView). LiveStandsAt l start) (sym begins) stands))

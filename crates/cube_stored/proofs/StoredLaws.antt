@@ -7,6 +7,7 @@ use Rattle.sqlite_trees.specs.Tree.{Trees}
 use Rattle.sqlite_trees.specs.View.{View, IsClean}
 use Rattle.cube_core.specs.Items.{is_read}
 use Rattle.cube_core.specs.Layout.{Layout}
+use Rattle.cube_journal.specs.Making.{LeavesNotes}
 use Rattle.cube_journal.specs.Rows.{Entry}
 use Rattle.cube_journal.specs.State.{Holds, LeadsTo, stored_in, noted_in, form_in, stored_form}
 use Rattle.cube_session.specs.Keeping.{FailsKept, Keeping, KeepsBy, KeepsOn, KeepsPart, LeavesAt, Noted, keeping_after}
@@ -23,7 +24,10 @@ use Rattle.cube_store.specs.Keeping.{Batch, HasKept, LeavesPart}
 use Rattle.cube_stored.specs.Kept.{FailsStored, keeps, breaks}
 use Rattle.cube_stored.specs.Records.{stored_all, stored_as}
 use Rattle.cube_stored.specs.Replay.{TakesStored, arrivals_from}
-use Rattle.cube_stored.specs.Serving.{BreaksSession, LeavesFirst, ServesStored, changes_in, nothing}
+use Rattle.cube_stored.specs.Serving.{BreaksSession, BreaksStored, ExplainsResume, LeavesFirst, ServesStored}
+use Rattle.cube_stored.specs.Serving.{changes_in, nothing, stored_fault_of}
+use Rattle.cube_stored.specs.declared.session.ResumeFault.{ResumeFault}
+use Rattle.cube_stored.specs.declared.session.ResumeFault.TheVariants as resume
 use Rattle.cube_stored.proofs.KeepingLaws.{stored_all-append}
 use Rattle.cube_stored.proofs.ReplayLaws.{LeadsTo-schema, LeadsTo-stands}
 
@@ -277,3 +281,15 @@ module _ {S : Type 0} (view : S → View) (recovers : S → Trees → Type 0) wh
   FailsStored-made live begun ended store fault old new None is fails = tt
   FailsStored-made live begun ended store fault old new (Some records) is fails =
       record { ended = ended; store_is = is; fails = fails }
+
+-- a session whose store wasn't taken
+pub BreaksStored-refused : (live : LiveView) (was : View) (notes : List Entry) (Before Leaves : Trees → Type 0)
+    (Clean taken : Type 0) (fault : ResumeFault) (old : Option (List ℕ)) (left : Option (List (List (List ℕ))))
+    → ((db : Trees) → Leaves db → LeavesNotes was notes db ⊎ Before db) → (Clean → ExplainsResume live was taken fault)
+    → IfSome left (λ records. Clean
+    → BreaksStored live.schema was notes records live Before Leaves old old (stored_fault_of fault))
+BreaksStored-refused live was notes Before Leaves Clean taken fault old None unharmed explains = tt
+BreaksStored-refused live was notes Before Leaves Clean taken (resume.Store fault) old (Some records) unharmed explains =
+    λ clean. (refl, unharmed)
+BreaksStored-refused live was notes Before Leaves Clean taken (resume.TooMany source) old (Some records) unharmed explains =
+    λ clean. (refl, unharmed, explains clean)

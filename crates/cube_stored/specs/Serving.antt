@@ -14,9 +14,12 @@ use Rattle.cube_session.specs.Serving.{Answered}
 use Rattle.cube_session.specs.Session.{arrivals_after}
 use Rattle.cube_session.specs.declared.session.SessionFault.{SessionFault}
 use Rattle.cube_stored.specs.Records.{stored_all}
-use Rattle.cube_stored.specs.Replay.{arrivals_from}
+use Rattle.cube_stored.specs.Replay.{PassesLast, arrivals_from}
 use Rattle.cube_stored.specs.declared.session.StoredFault.{StoredFault}
-use Rattle.cube_stored.specs.declared.session.StoredFault.TheVariants.{Store, Session}
+use Rattle.cube_stored.specs.declared.session.StoredFault.TheVariants.{Store, TooMany, Session}
+use Rattle.cube_stored.specs.declared.session.ResumeFault.{ResumeFault}
+use Rattle.cube_stored.specs.declared.session.ResumeFault.TheVariants as resume
+use Rattle.cube_store.specs.Codes.{TellsFailedCall}
 
 -- what a journal has of a session before its first record
 abbrev pub nothing : Keeping
@@ -29,6 +32,22 @@ changes_in s records = stored_all (keeping_after s nothing records).told
 -- how many of them stand before the last of these records that is answered
 abbrev pub certain_in : Layout → List (List (List ℕ)) → ℕ
 certain_in s records = (keeping_after s nothing records).sure
+
+-- the changes of a store have more of a source than the schema takes, behind what a cube stands at
+abbrev pub HasTooMany : LiveView → View → ℕ → Type 0
+HasTooMany live was source =
+    (start : Arrivals) → LiveStandsAt live start → PassesLast live.schema start (stored_in was) source
+
+-- why the changes of a store aren't taken:
+-- one that is to be taken has more of a source than the schema takes, or a call on it failed (this project's choice)
+abbrev pub ExplainsResume : LiveView → View → Type 0 → ResumeFault → Type 0
+ExplainsResume live was taken (resume.Store fault) = taken → TellsFailedCall fault
+ExplainsResume live was taken (resume.TooMany source) = HasTooMany live was source
+
+-- what a session is told whose store wasn't taken
+abbrev pub stored_fault_of : ResumeFault → StoredFault
+stored_fault_of (resume.Store fault) = Store fault
+stored_fault_of (resume.TooMany source) = TooMany source
 
 -- a session over a store was served to its end: the store has the changes that it had and those of the session,
 -- byte for byte and in their order, and so leaves each crash; the replies to all records went out,
@@ -63,5 +82,7 @@ abbrev pub BreaksStored : Layout → View → List Entry → List (List (List �
     → (Trees → Type 0) → Option (List ℕ) → Option (List ℕ) → StoredFault → Type 0
 BreaksStored s was notes records live Before Leaves old new (Store fault) =
     (new ≡ old) × ((db : Trees) → Leaves db → LeavesNotes was notes db ⊎ Before db)
+BreaksStored s was notes records live Before Leaves old new (TooMany source) =
+    (new ≡ old) × ((db : Trees) → Leaves db → LeavesNotes was notes db ⊎ Before db) × HasTooMany live was source
 BreaksStored s was notes records live Before Leaves old new (Session fault) =
     BreaksSession s was notes records live Leaves old new fault

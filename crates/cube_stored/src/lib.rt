@@ -12,4 +12,4 @@ mod session;
 
 pub use journal::StoreJournal;
 pub use replay::Replay;
-pub use session::{Commits, StoredFault, resume, serve_stored};
+pub use session::{Commits, ResumeFault, StoredFault, resume, resume_made, serve_stored};

@@ -1,22 +1,22 @@
 //! The changes of a store, taken before a session's first record.
-ghost use Rattle.std.specs.Prelude.{◌≡◌, ◌++◌, ◌∷◌, [], ℕ, List, IfOk, OnOk};
+ghost use Rattle.std.specs.Prelude.{◌≡◌, ◌++◌, ◌∷◌, [], ℕ, List, None, IfOk, OnOk};
 ghost use Rattle.std.specs.Bool.{OnTrue};
 ghost use Rattle.csv.specs.Records.{fields_of};
 ghost use Rattle.cube_stored.specs.Pieces.{MayBegin};
 ghost use Rattle.cube_stored.specs.Records.{fields_in};
-ghost use Rattle.cube_stored.specs.Replay.{TakesStored};
 
 use crate::plain::{is_plain, read_pieces};
 use csv::ByteRecord;
 use cube_feed::{RecordReader, change_of_record, is_read, put_rest};
 use cube_journal::ChangeSink;
-use cube_live::Live;
+use cube_live::{Live, LiveFault};
 use std::alloc::{AllocError, Global};
 use std::marker::Model;
 
 /// A cube that takes the changes of a store, each as the session took it that stored it, without a journal.
 ///
-/// A change past the last record that the schema takes of a source, which no session stores, is told as want of memory.
+/// Where one follows the last record that the schema takes of its source, as after a session of another shard, neither it
+/// nor one behind it is taken.
 #[derive(Drop)]
 pub struct Replay<'s> {
     alloc: Global,
@@ -24,32 +24,43 @@ pub struct Replay<'s> {
     // The fields of the change that is taken, and those behind its source.
     fields: ByteRecord,
     rest: ByteRecord,
+    // The source of the first change that followed the last one.
+    over: Option<u32>,
 }
 
 impl<'s> Model for Replay<'s> {
-    ghost use Rattle.cube_live.specs.Live.{LiveView};
+    ghost use Rattle.cube_stored.specs.Replay.{ReplayView};
 
-    ghost Value = { LiveView };
+    ghost Value = { ReplayView };
 
-    ghost view = { λ r. r.live };
+    ghost view = { λ r. record { live = r.live; over = r.over } };
 }
 
 impl<'s> Replay<'s> {
     /// What is to take changes into this cube.
     pub fn new(alloc: Global, live: Live<'s>) -> Replay<'s>
-        ensures { result ≡ live.entry }
+        ensures live { result.live ≡ live.entry }
+        ensures over { result.over ≡ None }
     {
         Replay {
             alloc,
             live,
             fields: ByteRecord::new(alloc),
             rest: ByteRecord::new(alloc),
+            over: None,
         }
+    }
+
+    /// The source of the first change that followed the last record that the schema takes of it, if there was one.
+    pub fn over(&self) -> Option<u32>
+        ensures { result ≡ self.now.over }
+    {
+        self.over
     }
 
     /// The cube.
     pub fn into_live(self) -> Live<'s>
-        ensures { result ≡ self.entry }
+        ensures { result ≡ self.entry.live }
     {
         let Replay { live, .. } = self;
         live
@@ -94,11 +105,14 @@ fn read_quoted(alloc: Global, text: &[u8], fields: &mut ByteRecord) -> Result<()
 }
 
 impl<'s> ChangeSink for Replay<'s> {
-    ghost use Rattle.cube_stored.specs.Replay.{TakesStored};
+    ghost use Rattle.cube_stored.specs.Replay.{TakesWithin};
 
-    ghost takes = { TakesStored };
+    ghost takes = { TakesWithin };
 
     fn take(&mut self, source: u32, content: &[u8]) -> Result<(), AllocError> {
+        if self.over.is_some() {
+            return Ok(());
+        }
         if source < 1 || source > 64 {
             return Err(AllocError);
         }
@@ -110,7 +124,11 @@ impl<'s> ChangeSink for Replay<'s> {
         let what = change_of_record(self.alloc, self.live.schema(), &self.rest)?;
         match self.live.apply(source, what) {
             Ok(()) => Ok(()),
-            Err(_) => Err(AllocError),
+            Err(LiveFault::TooMany) => {
+                self.over = Some(source);
+                Ok(())
+            }
+            Err(LiveFault::Memory) => Err(AllocError),
         }
     }
 }

@@ -5,13 +5,12 @@ ghost use Rattle.sqlite_trees.specs.View.{IsClean};
 ghost use Rattle.cube_journal.specs.Making.{LeavesNotes};
 ghost use Rattle.cube_journal.specs.Rows.{entries_of};
 ghost use Rattle.cube_journal.specs.State.{stored_in, noted_in, form_in, stored_form, IsStore, IsUnmade, LeadsTo};
-ghost use Rattle.cube_store.specs.Codes.{TellsFailedCall};
 ghost use Rattle.cube_store.specs.Keeping.{HasKept};
 ghost use Rattle.cube_stored.specs.Replay.{TakesStored};
 ghost use Rattle.cube_session.specs.Keeping.{KeepsOn, keeping_after, made_sure};
 ghost use Rattle.cube_session.specs.Serving.{Serves};
 ghost use Rattle.cube_stored.specs.Kept.{FailsStored, keeps};
-ghost use Rattle.cube_stored.specs.Serving.{BreaksStored, ServesStored};
+ghost use Rattle.cube_stored.specs.Serving.{BreaksStored, ExplainsResume, ServesStored};
 
 use crate::journal::StoreJournal;
 use crate::replay::Replay;
@@ -19,7 +18,7 @@ use cube_feed::RecordReader;
 use cube_journal::FeedNote;
 use cube_live::Live;
 use cube_session::{Rests, SessionFault, serve};
-use cube_store::{StoreFault, start};
+use cube_store::{StoreFault, start, start_made};
 use sqlite_trees::store::Store;
 use std::alloc::Global;
 use std::io::{Read, Write};
@@ -30,6 +29,8 @@ use std::thread::Threads;
 pub enum StoredFault {
     /// The store wasn't taken, and nothing was answered.
     Store(StoreFault),
+    /// The store has more changes of this source than the schema takes, and nothing was answered.
+    TooMany(u32),
     /// The session failed.
     Session(SessionFault),
 }
@@ -43,6 +44,29 @@ pub struct Commits<P: Rests + Drop> {
     pub most_waiting: u64,
 }
 
+/// Why the changes of a store aren't taken.
+#[derive(Clone, Copy, Debug, PartialEq, Eq)]
+pub enum ResumeFault {
+    /// The store isn't taken.
+    Store(StoreFault),
+    /// The store has more changes of this source than the schema takes.
+    TooMany(u32),
+}
+
+impl From<ResumeFault> for StoredFault {
+    ghost use Rattle.std.specs.Prelude.{◌≡◌};
+    ghost use Rattle.cube_stored.specs.Serving.{stored_fault_of};
+
+    ghost from_gives = { λ fault stored. stored ≡ stored_fault_of fault };
+
+    fn from(fault: ResumeFault) -> StoredFault {
+        match fault {
+            ResumeFault::Store(fault) => StoredFault::Store(fault),
+            ResumeFault::TooMany(source) => StoredFault::TooMany(source),
+        }
+    }
+}
+
 /// Takes the changes of a store into the cube of a session, which stands where its feeds ended, and gives the journal that
 /// keeps those of the session behind them, of which so many, at least one, may wait. A store without a row notes what the feeds are, and must have the same notes else.
 ///
@@ -54,7 +78,7 @@ pub fn resume<'s, S: Store>(
     store: S,
     notes: &[FeedNote],
     most_waiting: u64,
-) -> Result<(Live<'s>, StoreJournal<S>), (StoreFault, S)>
+) -> Result<(Live<'s>, StoreJournal<S>), (ResumeFault, S)>
     requires { 1 ≤ most_waiting }
     ensures taken { IfOk result (λ r. IsClean (S.Store.view r.1.store) → LeadsTo TakesStored live.entry (stored_in (S.Store.view store)) r.0) }
     ensures stored { IfOk result (λ r. IsClean (S.Store.view r.1.store) → stored_in (S.Store.view r.1.store) ≡ stored_in (S.Store.view store)) }
@@ -62,15 +86,50 @@ pub fn resume<'s, S: Store>(
     ensures formed { IfOk result (λ r. IsClean (S.Store.view r.1.store) → form_in (S.Store.view r.1.store) ≡ stored_form (S.Store.view store)) }
     ensures kept { IfOk result (λ r. HasKept S.Store.view S.Store.recovers r.1 r.1 [] 0) }
     ensures unharmed { IfErr result (λ e. (db : Trees) → S.Store.recovers e.1 db → LeavesNotes (S.Store.view store) (entries_of notes.now) db ⊎ S.Store.recovers store db) }
-    ensures accepts { IfErr result (λ e. IsClean (S.Store.view e.1) → IsStore (S.Store.view store) (entries_of notes.now) ⊎ IsUnmade (S.Store.view store) → TellsFailedCall e.0) }
+    ensures accepts { IfErr result (λ e. IsClean (S.Store.view e.1) → ExplainsResume live.entry (S.Store.view store)
+        (IsStore (S.Store.view store) (entries_of notes.now) ⊎ IsUnmade (S.Store.view store)) e.0) }
 {
     let mut replay = Replay::new(alloc, live);
     match start(alloc, store, notes, &mut replay) {
-        Ok(journal) => Ok((
-            replay.into_live(),
-            StoreJournal::new(alloc, journal, most_waiting),
-        )),
-        Err(refused) => Err(refused),
+        Ok(journal) => match replay.over() {
+            None => Ok((
+                replay.into_live(),
+                StoreJournal::new(alloc, journal, most_waiting),
+            )),
+            Some(source) => Err((ResumeFault::TooMany(source), journal.into_store())),
+        },
+        Err((fault, store)) => Err((ResumeFault::Store(fault), store)),
+    }
+}
+
+/// Takes the changes of a store into the cube of a question, which stands where its feeds ended, and gives the journal of the
+/// store. Nothing is written: a store must have these notes, and one without a row is refused.
+///
+/// A store of changes and of these notes is refused only where a call fails, for want of memory, or where it has more changes
+/// of a source than the schema takes. An error gives the store back.
+pub fn resume_made<'s, S: Store>(
+    alloc: Global,
+    live: Live<'s>,
+    store: S,
+    notes: &[FeedNote],
+) -> Result<(Live<'s>, StoreJournal<S>), (ResumeFault, S)>
+    ensures taken { IfOk result (λ r. IsClean (S.Store.view r.1.store) → LeadsTo TakesStored live.entry (stored_in (S.Store.view store)) r.0) }
+    ensures stored { IfOk result (λ r. IsClean (S.Store.view r.1.store) → stored_in (S.Store.view r.1.store) ≡ stored_in (S.Store.view store)) }
+    ensures noted { IfOk result (λ r. IsClean (S.Store.view r.1.store) → noted_in (S.Store.view r.1.store) ≡ entries_of notes.now) }
+    ensures formed { IfOk result (λ r. IsClean (S.Store.view r.1.store) → form_in (S.Store.view r.1.store) ≡ stored_form (S.Store.view store)) }
+    ensures kept { IfOk result (λ r. HasKept S.Store.view S.Store.recovers r.1 r.1 [] 0) }
+    ensures same { IfOk result (λ r. (db : Trees) → S.Store.recovers r.1.store db → S.Store.recovers store db) }
+    ensures unharmed { IfErr result (λ e. (db : Trees) → S.Store.recovers e.1 db → S.Store.recovers store db) }
+    ensures accepts { IfErr result (λ e. IsClean (S.Store.view e.1) → ExplainsResume live.entry (S.Store.view store)
+        (IsStore (S.Store.view store) (entries_of notes.now) × (¬ IsUnmade (S.Store.view store))) e.0) }
+{
+    let mut replay = Replay::new(alloc, live);
+    match start_made(alloc, store, notes, &mut replay) {
+        Ok(journal) => match replay.over() {
+            None => Ok((replay.into_live(), StoreJournal::new(alloc, journal, 1))),
+            Some(source) => Err((ResumeFault::TooMany(source), journal.into_store())),
+        },
+        Err((fault, store)) => Err((ResumeFault::Store(fault), store)),
     }
 }
 
@@ -109,7 +168,7 @@ pub fn serve_stored<'s, T: Threads + Sync, S: Store, R: Read, P: Rests + Drop, W
             Ok(served) => Ok(served),
             Err((fault, store)) => Err((StoredFault::Session(fault), store)),
         },
-        Err((fault, store)) => Err((StoredFault::Store(fault), store)),
+        Err((fault, store)) => Err((StoredFault::from(fault), store)),
     }
 }
 

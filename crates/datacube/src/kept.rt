@@ -11,7 +11,10 @@ use cube_input::read_ahead;
 use cube_journal::{ChangeJournal, FeedNote};
 use cube_progress::{Counts, FeedReader, Output, Phase, Progress};
 use cube_session::{NeverRests, Rests};
-use cube_store::{NoteFault, StoreFault, Unknown, Wary, close, note_of, open_files, open_path};
+use cube_store::{
+    NoteFault, StoreFault, Unknown, Wary, close, note_of, open_files, open_made_files, open_path,
+    prepare_path,
+};
 use cube_stored::Commits;
 use cube_tool::RunFault;
 use cube_tool::command::{Failure, Question, Status};
@@ -20,7 +23,7 @@ use sqlite_disk::{Disk, Start};
 use sqlite_std_file::FileFrom;
 use sqlite_store::FileStore;
 use sqlite_trees::store::Store;
-use std::fs::{self, File};
+use std::fs::File;
 use std::hash::{BuildHasher, RandomState};
 use std::io::{Read, Seek, Stderr};
 use std::sync::Wait;
@@ -89,7 +92,7 @@ fn serve_from<T: Threads + Wait + Clock + Copy + Send + Sync + 'static, S: Start
     requires feeds { length words.now.feeds.items ≤ 64 }
 {
     let noted = noted_feeds(rt, words.schema, &words.feeds, progress.counts())?;
-    let feeds = noted.before(open_store(rt, place.path, place.start)?);
+    let feeds = noted.before(open_store(rt, place.path, place.start, true)?);
     serve_and_close(rt, threads, words, schema, feeds, progress)
 }
 
@@ -226,7 +229,7 @@ fn ask_from<T: Threads + Wait + Clock + Sync, S: Start>(
     requires question { Fits schema.now question }
 {
     let noted = noted_feeds(rt, words.schema, &words.feeds, progress.counts())?;
-    let feeds = noted.before(open_made_store(rt, place.path, place.start)?);
+    let feeds = noted.before(open_store(rt, place.path, place.start, false)?);
     ask_and_close(rt, threads, words, schema, feeds, question, progress)
 }
 
@@ -284,50 +287,34 @@ fn ask_over<T: Threads + Wait + Clock + Sync, S: Store>(
     )
 }
 
-/// The store at a path, where a session has made one: no file is made, and an empty one isn't filled.
-fn open_made_store<S: Start>(
-    rt: &HostRuntime,
-    path: &str,
-    start: S,
-) -> Result<FileStore<FileFrom<S>>, StoreFault> {
-    if !has_bytes(rt, path)? {
-        return Err(StoreFault::NotAStore);
-    }
-    open_store(rt, path, start)
-}
-
-/// Whether the file of a store, or the log beside it, has a byte. The error is that there is no such file, or want of memory.
-fn has_bytes(rt: &HostRuntime, path: &str) -> Result<bool, StoreFault> {
-    let Ok(real) = fs::canonicalize(rt, path) else {
-        return Err(StoreFault::CantOpen);
-    };
-    let Ok(log) = format!(in rt.alloc(); "{}-wal", real.as_str()) else {
-        return Err(StoreFault::Memory);
-    };
-    Ok(length_of(rt, real.as_str()) > 0 || length_of(rt, log.as_str()) > 0)
-}
-
-/// How many bytes the file at a path has; none where there is no such file.
-fn length_of(rt: &HostRuntime, path: &str) -> u64 {
-    match fs::metadata(rt, path) {
-        Ok(found) => found.len(),
-        Err(_) => 0,
-    }
-}
-
-/// The store at a path, which is made where there is none.
+/// The store at a path, which is made where there is none if `makes` holds. A file that is no store is left as it was, with
+/// nothing beside it that wasn't there.
 fn open_store<S: Start>(
     rt: &HostRuntime,
     path: &str,
     start: S,
+    makes: bool,
 ) -> Result<FileStore<FileFrom<S>>, StoreFault> {
+    let beside = prepare_path(rt, path, makes)?;
     let files = open_path(rt, path, start)?;
     let Ok(seeds) = RandomState::new(rt) else {
         return Err(StoreFault::CantOpen);
     };
-    match open_files(rt.alloc(), files, seeds.hash_one(&0u8)) {
+    let seed = seeds.hash_one(&0u8);
+    let opened = if makes {
+        open_files(rt.alloc(), files, seed)
+    } else {
+        open_made_files(rt.alloc(), files, seed)
+    };
+    match opened {
         Ok(store) => Ok(store),
-        Err((fault, _)) => Err(fault),
+        Err((fault, files)) => {
+            if fault == StoreFault::NotAStore {
+                beside.forget(rt);
+            }
+            drop(files);
+            Err(fault)
+        }
     }
 }
 

@@ -10,14 +10,17 @@ use Rattle.cube_core.specs.Run.{SourceBytes}
 use Rattle.cube_feeders.specs.FeedingAll.{ExplainsFeeding}
 use Rattle.cube_handover.specs.declared.fault.FeedingFault.{FeedingFault}
 use Rattle.cube_handover.specs.declared.fault.FeedingFault.TheVariants as feeding_fault
-use Rattle.cube_journal.specs.Making.{LeavesNotes}
-use Rattle.cube_journal.specs.Rows.{Entry, entries_in}
+use Rattle.cube_journal.specs.Rows.{Entry}
 use Rattle.cube_journal.specs.State.{Holds, LeadsTo, held_in, noted_in, stored_in, form_in, stored_form}
 use Rattle.cube_live.proofs.RefusalLaws.{refusals_of_accounts}
 use Rattle.cube_live.specs.Live.{CanAsk, IsLive, LiveStandsAt, LiveView}
 use Rattle.cube_live.specs.Opening.{OpensOver}
 use Rattle.cube_store.specs.Keeping.{Batch, HasKept}
-use Rattle.cube_stored.specs.Replay.{TakesStored, arrivals_from}
+use Rattle.cube_stored.specs.Replay.{PassesLast, TakesStored, arrivals_from}
+use Rattle.cube_stored.specs.Serving.{ExplainsResume, stored_fault_of}
+use Rattle.cube_stored.specs.declared.session.ResumeFault.{ResumeFault}
+use Rattle.cube_stored.specs.declared.session.ResumeFault.TheVariants as resume
+use Rattle.stored_tool.specs.Stored.{failure_of}
 use Rattle.cube_stored.proofs.ReplayLaws.{LeadsTo-schema, LeadsTo-stands}
 use Rattle.cube_tool.proofs.RunLaws.{StandsUnder, refused-under}
 use Rattle.cube_tool.specs.Answering.{Fits, Writes, status_over}
@@ -68,18 +71,6 @@ status-shown cube arrivals status is stands told =
 
 -- ---- what the store has
 
--- notes that were made where the store had no row are those of the changes that it had
-pub Holds-noted : (was : View) (notes : List Entry) (db : Trees) → LeavesNotes was notes db
-    → Holds (stored_form was) db (stored_in was) notes
-Holds-noted was notes db leaves =
-    subst (λ (es : List Entry). Holds (stored_form was) db es notes) (sym (ap entries_in leaves.none_before.0)) leaves.holds
-
--- a store that wasn't taken leaves what it left, or its changes with the notes
-pub LeavesSame-refused : (was : View) (notes : List Entry) (Before : Trees → Type 0) (db : Trees)
-    → LeavesNotes was notes db ⊎ Before db → Holds (stored_form was) db (stored_in was) notes ⊎ Before db
-LeavesSame-refused was notes Before db (inl leaves) = inl (Holds-noted was notes db leaves)
-LeavesSame-refused was notes Before db (inr before) = inr before
-
 module _ {S : Type 0} (view : S → View) (recovers : S → Trees → Type 0) (was : View) (notes : List Entry)
     (begun : Batch S) (fresh : HasKept view recovers begun begun [] 0)
     (stored : IsClean (view begun.store) → stored_in (view begun.store) ≡ stored_in was)
@@ -104,6 +95,24 @@ module _ {S : Type 0} (view : S → View) (recovers : S → Trees → Type 0) (w
       (formed clean) part.holds))
 
 -- ---- what was written
+
+-- a store that wasn't taken leaves nothing written
+pub LeavesOfText-refused : (question : Question) (s : Layout) (sources : SourceBytes) (was : View) (live : LiveView)
+    (opens : OpensOver s sources (LiveStandsAt live)) → live.schema ≡ s → (taken : Type 0) (fault : ResumeFault)
+    (old : Option (List ℕ)) → ExplainsResume live was taken fault
+    → LeavesOfText question s sources was (failure_of (stored_fault_of fault)) old old
+LeavesOfText-refused question s sources was live opens schema taken (resume.Store fault) old explains = refl
+LeavesOfText-refused question s sources was live opens schema taken (resume.TooMany source) old explains = record {
+  feeds = opens.feeds;
+  good = opens.good;
+  items = opens.items;
+  holds = (refl, record {
+    start = opens.start;
+    starts = opens.starts;
+    passes = subst (λ (l : Layout). PassesLast l opens.start (stored_in was) source) schema
+        (explains opens.start opens.stands);
+  });
+}
 
 -- feeds that weren't taken leave nothing written
 pub LeavesOfText-unopened : (question : Question) (s : Layout) (sources : SourceBytes) (was : View) (why : FeedingFault)

@@ -14,15 +14,16 @@ use Rattle.cube_live.specs.Live.{IsLive, LiveStandsAt, LiveView}
 use Rattle.cube_live.specs.Opening.{OpensOver}
 use Rattle.cube_session.specs.Session.{AreReplies, arrivals_after}
 use Rattle.cube_session.specs.declared.session.SessionFault.{SessionFault}
-use Rattle.cube_stored.specs.Replay.{arrivals_from}
-use Rattle.cube_stored.specs.Serving.{BreaksSession, BreaksStored, ServesStored}
+use Rattle.cube_stored.specs.Replay.{PassesLast, arrivals_from}
+use Rattle.cube_stored.specs.Serving.{BreaksSession, BreaksStored, HasTooMany, ServesStored}
 use Rattle.cube_stored.specs.declared.session.StoredFault.{StoredFault}
-use Rattle.cube_stored.specs.declared.session.StoredFault.TheVariants.{Store, Session}
+use Rattle.cube_stored.specs.declared.session.StoredFault.TheVariants.{Store, TooMany, Session}
 use Rattle.cube_tool.specs.Command.{status_after}
 use Rattle.cube_tool.specs.Run.{OfFeeds}
 use Rattle.cube_tool.specs.declared.command.status.Status.{Status}
 use Rattle.cube_tool.proofs.RunLaws.{StandsUnder, refused-under}
-use Rattle.stored_tool.specs.Stored.{BreaksStoredOver, FailsToServeStored, ServesStoredOver, failure_of}
+use Rattle.stored_tool.specs.Stored.{BreaksStoredOver, FailsToServeStored, HasTooManyOver, ServesStoredOver}
+use Rattle.stored_tool.specs.Stored.{failure_of}
 
 -- what holds of the records where something else does holds of them where that does
 given : {A : Type 0} {Clean : Type 0} (P : A → Type 0) (records : Option A) → IfSome records (λ taken. Clean → P taken)
@@ -87,6 +88,29 @@ module _ {s : Layout} {sources : SourceBytes} (was : View) (notes : List Entry) 
     };
   }
 
+  -- one whose store has more changes of a source than the schema takes
+  too-many-over : (source : ℕ) (Crash : Type 0) (records : Option (List (List (List ℕ)))) → before.schema ≡ s
+      → IfSome records (λ taken. (new ≡ old) × Crash × HasTooMany before was source)
+      → OfFeeds s sources
+      (λ feeds. IfSome records (λ taken. (new ≡ old) × HasTooManyOver s feeds was source × Crash))
+  too-many-over source Crash None schema breaks =
+      record { feeds = opens.feeds; good = opens.good; items = opens.items; holds = tt }
+  too-many-over source Crash (Some taken) schema breaks = record {
+    feeds = opens.feeds;
+    good = opens.good;
+    items = opens.items;
+    holds = (
+      breaks.0,
+      record {
+        start = opens.start;
+        starts = opens.starts;
+        passes = subst (λ (l : Layout). PassesLast l opens.start (stored_in was) source) schema
+            (breaks.2 opens.start opens.stands);
+      },
+      breaks.1,
+    );
+  }
+
   pub OfFeeds-served : (after : LiveView) (now : View) (status : Status) (records : Option (List (List (List ℕ))))
       (Clean : Type 0) → before.schema ≡ s → IsLive after.schema after.ledger after.numbers
       → status ≡ status_after (refusals_of_accounts after.ledger.accounts)
@@ -105,6 +129,8 @@ module _ {s : Layout} {sources : SourceBytes} (was : View) (notes : List Entry) 
       → IfSome records (λ taken. Clean → BreaksStored before.schema was notes taken before Before Leaves old new fault)
       → Clean → FailsToServeStored s sources records was notes Before Leaves (failure_of fault) old new
   FailsToServeStored-failed Before (Store fault) records Clean schema breaks clean = given _ records breaks clean
+  FailsToServeStored-failed Before (TooMany source) records Clean schema breaks clean =
+      too-many-over source _ records schema (given _ records breaks clean)
   FailsToServeStored-failed Before (Session fault) records Clean schema breaks clean =
       broken-over fault records
       (subst (λ (l : Layout). IfSome records (λ taken. BreaksSession l was notes taken before Leaves old new fault))

@@ -21,6 +21,7 @@ use Rattle.cube_tool.specs.declared.command.status.Status.{Status}
 use Rattle.cube_tool.specs.declared.fault.RunFault.TheVariants as run_fault
 use Rattle.cube_tool.specs.declared.question.Question.{Question}
 use Rattle.cube_tool.specs.declared.question.Question.TheVariants.{Cube, Slice, Drill, RollUp, Refusals}
+use Rattle.stored_tool.specs.Stored.{HasTooManyOver}
 use Rattle.stored_tool.specs.declared.failure.StoredFailure.{StoredFailure}
 use Rattle.stored_tool.specs.declared.failure.StoredFailure.TheVariants as stored
 
@@ -65,9 +66,9 @@ pub record AnswersStored (question : Question) (s : Layout) (feeds : List (List 
   pub held : held_in now ≡ stored_in was
   pub leaves : (db : Trees) → Leaves db → Holds (stored_form was) db (stored_in was) notes
 
--- a crash leaves the changes that the store had, with these notes, or what it left before
-abbrev pub LeavesSame : View → List Entry → (Trees → Type 0) → (Trees → Type 0) → Type 0
-LeavesSame was notes Before Leaves = (db : Trees) → Leaves db → Holds (stored_form was) db (stored_in was) notes ⊎ Before db
+-- a crash leaves what it left before
+abbrev pub LeavesSame : (Trees → Type 0) → (Trees → Type 0) → Type 0
+LeavesSame Before Leaves = (db : Trees) → Leaves db → Before db
 
 -- what was written where a question over feeds and a store wasn't answered:
 -- nothing where the feeds or the store weren't taken, the question is refused or memory ran out,
@@ -82,3 +83,5 @@ LeavesOfText question s sources was (stored.Failure (Run (run_fault.Write sent))
 LeavesOfText question s sources was (stored.Failure (Run fault)) old new = (new ≡ old) × ExplainsRun s sources fault
 LeavesOfText question s sources was (stored.Failure _) old new = ⊥
 LeavesOfText question s sources was (stored.Store fault) old new = new ≡ old
+LeavesOfText question s sources was (stored.TooMany source) old new =
+    OfFeeds s sources (λ feeds. (new ≡ old) × HasTooManyOver s feeds was source)

@@ -13,7 +13,7 @@ use Rattle.cube_session.specs.Keeping.{LeavesAt}
 use Rattle.cube_live.specs.Opening.{StartsOver}
 use Rattle.cube_session.specs.Session.{AreReplies, arrivals_after}
 use Rattle.cube_session.specs.declared.session.SessionFault.{SessionFault}
-use Rattle.cube_stored.specs.Replay.{arrivals_from}
+use Rattle.cube_stored.specs.Replay.{PassesLast, arrivals_from}
 use Rattle.cube_stored.specs.Serving.{LeavesFirst, changes_in}
 use Rattle.cube_stored.specs.declared.session.StoredFault.{StoredFault}
 use Rattle.cube_stored.specs.declared.session.StoredFault.TheVariants as stored
@@ -24,17 +24,19 @@ use Rattle.cube_tool.specs.declared.command.failure.Failure.TheVariants.{Run, Se
 use Rattle.cube_tool.specs.declared.command.status.Status.{Status}
 use Rattle.cube_tool.specs.declared.command.status.Status.TheVariants.{Failed}
 use Rattle.stored_tool.specs.declared.failure.StoredFailure.{StoredFailure}
-use Rattle.stored_tool.specs.declared.failure.StoredFailure.TheVariants.{Failure, Store}
+use Rattle.stored_tool.specs.declared.failure.StoredFailure.TheVariants.{Failure, Store, TooMany}
 
 -- what a command is told that failed so
 abbrev pub failure_of : StoredFault → StoredFailure
 failure_of (stored.Store fault) = Store fault
+failure_of (stored.TooMany source) = TooMany source
 failure_of (stored.Session fault) = Failure (Session fault)
 
 -- the status that a failure ends with
 abbrev pub status_of_stored : StoredFailure → Status
 status_of_stored (Failure failure) = status_of failure
 status_of_stored (Store fault) = Failed
+status_of_stored (TooMany source) = Failed
 
 -- a session over feeds and a store was served to its end: the replies to its records were written,
 -- from an arrival list that has the items of the feeds and then the stored changes;
@@ -61,6 +63,12 @@ pub record BreaksStoredOver (s : Layout) (feeds : List (List Item)) (was : View)
   pub starts : StartsOver feeds start
   pub leaves : LeavesAt s records (arrivals_from s start (stored_in was)) fault count old new
 
+-- the stored changes have more of a source than the schema takes, behind an arrival list that has the items of the feeds
+pub record HasTooManyOver (s : Layout) (feeds : List (List Item)) (was : View) (source : ℕ) : Type 0 where
+  pub start : Arrivals
+  pub starts : StartsOver feeds start
+  pub passes : PassesLast s start (stored_in was) source
+
 -- what a failure of a session over feeds and a store leaves: where the feeds or the store weren't taken nothing was
 -- written, and the store leaves what it left or, where it had no row, the notes alone
 abbrev pub FailsToServeStored : Layout → SourceBytes → Option (List (List (List ℕ))) → View → List Entry
@@ -73,3 +81,6 @@ FailsToServeStored s sources records was notes Before Leaves (Failure (Session f
 FailsToServeStored s sources records was notes Before Leaves (Failure _) old new = ⊥
 FailsToServeStored s sources records was notes Before Leaves (Store fault) old new =
     IfSome records (λ taken. (new ≡ old) × ((db : Trees) → Leaves db → LeavesNotes was notes db ⊎ Before db))
+FailsToServeStored s sources records was notes Before Leaves (TooMany source) old new =
+    OfFeeds s sources (λ feeds. IfSome records (λ taken. (new ≡ old) × HasTooManyOver s feeds was source
+    × ((db : Trees) → Leaves db → LeavesNotes was notes db ⊎ Before db)))

@@ -13,7 +13,7 @@ use crate::feeds::StoredFeeds;
 use crate::question::answer_over;
 use cube_core::Schema;
 use cube_live::{Live, open_unsettled};
-use cube_stored::{StoreJournal, resume};
+use cube_stored::{StoreJournal, resume_made};
 use cube_threads::{Gate, Settings};
 use cube_tool::Reporter;
 use cube_tool::command::{Failure, Question, Status};
@@ -28,8 +28,8 @@ use std::thread::Threads;
 ///
 /// The text is that which a session over the feeds and the store answers before it takes a change, and the status tells
 /// whether a line of a feed or a stored change was refused. The store, which is given back in any case, has the changes
-/// that it had; a store without a row gets the notes. Nothing was written on a failure, but where the writing failed: then
-/// the first bytes went out, as many as the failure says.
+/// that it had, and nothing is written to it: one without a row is refused. Nothing was written out on a failure, but where
+/// the writing failed: then the first bytes went out, as many as the failure says.
 pub fn ask_stored<
     T: Threads + Wait + Sync,
     R: Read + Drop + Send,
@@ -53,8 +53,8 @@ pub fn ask_stored<
         (W.contents out.old) (W.contents out.new))) }
     ensures written { IfErr result (λ e. IsClean (S.Store.view e.1) → LeavesOfText question schema.now (map R.Read.remaining feeds.readers.items)
         (S.Store.view feeds.store) e.0 (W.contents out.old) (W.contents out.new)) }
-    ensures unharmed { IfErr result (λ e. IsClean (S.Store.view e.1) → LeavesSame (S.Store.view feeds.store) (entries_of feeds.notes.items)
-        (S.Store.recovers feeds.store) (S.Store.recovers e.1)) }
+    ensures same { IfOk result (λ r. LeavesSame (S.Store.recovers feeds.store) (S.Store.recovers r.1)) }
+    ensures unharmed { IfErr result (λ e. LeavesSame (S.Store.recovers feeds.store) (S.Store.recovers e.1)) }
 {
     let StoredFeeds {
         readers,
@@ -65,13 +65,12 @@ pub fn ask_stored<
         Ok(live) => live,
         Err(fault) => return Err((StoredFailure::Failure(Failure::from(fault)), store)),
     };
-    // No change is taken, so none waits.
-    match resume(alloc, live, store, &notes, 1) {
+    match resume_made(alloc, live, store, &notes) {
         Ok((live, journal)) => match ask_resumed(rt, live, journal, question, watcher, out) {
             Ok(ended) => Ok(ended),
             Err((failure, store)) => Err((StoredFailure::Failure(failure), store)),
         },
-        Err((fault, store)) => Err((StoredFailure::Store(fault), store)),
+        Err((fault, store)) => Err((StoredFailure::from(fault), store)),
     }
 }
 

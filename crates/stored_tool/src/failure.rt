@@ -3,7 +3,7 @@ ghost use Rattle.std.specs.Prelude.{◌≡◌};
 ghost use Rattle.stored_tool.specs.Stored.{status_of_stored};
 
 use cube_store::StoreFault;
-use cube_stored::StoredFault;
+use cube_stored::{ResumeFault, StoredFault};
 use cube_tool::command::{Failure, Status};
 use std::fmt;
 
@@ -14,6 +14,8 @@ pub enum StoredFailure {
     Failure(Failure),
     /// The store isn't opened, or can't go on.
     Store(StoreFault),
+    /// The store has more changes of this source than the schema takes.
+    TooMany(u32),
 }
 
 impl StoredFailure {
@@ -23,7 +25,7 @@ impl StoredFailure {
     {
         match self {
             StoredFailure::Failure(failure) => failure.status(),
-            StoredFailure::Store(_) => Status::Failed,
+            StoredFailure::Store(_) | StoredFailure::TooMany(_) => Status::Failed,
         }
     }
 }
@@ -59,8 +61,21 @@ impl From<StoredFault> for StoredFailure {
     fn from(fault: StoredFault) -> StoredFailure {
         match fault {
             StoredFault::Store(fault) => StoredFailure::Store(fault),
+            StoredFault::TooMany(source) => StoredFailure::TooMany(source),
             StoredFault::Session(fault) => StoredFailure::Failure(Failure::Session(fault)),
         }
+    }
+}
+
+impl From<ResumeFault> for StoredFailure {
+    ghost use Rattle.std.specs.Prelude.{◌≡◌};
+    ghost use Rattle.cube_stored.specs.Serving.{stored_fault_of};
+    ghost use Rattle.stored_tool.specs.Stored.{failure_of};
+
+    ghost from_gives = { λ fault failure. failure ≡ failure_of (stored_fault_of fault) };
+
+    fn from(fault: ResumeFault) -> StoredFailure {
+        StoredFailure::from(StoredFault::from(fault))
     }
 }
 
@@ -69,6 +84,7 @@ impl fmt::Display for StoredFailure {
         match self {
             StoredFailure::Failure(failure) => write!(f, "{failure}"),
             StoredFailure::Store(fault) => write!(f, "datacube: {fault}"),
+            StoredFailure::TooMany(source) => write!(f, "datacube: G3 {source} F4"),
         }
     }
 }

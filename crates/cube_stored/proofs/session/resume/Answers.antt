@@ -1,47 +1,55 @@
 use Rattle.std.proofs.Common.{◌∙◌, sym, subst, ap}
 use Rattle.sqlite_trees.specs.View.{IsClean}
 use Rattle.cube_journal.specs.Rows.{entries_of}
-use Rattle.cube_journal.specs.State.{LeadsTo, stored_in, noted_in, form_in}
-use Rattle.cube_stored.specs.Replay.{TakesStored}
+use Rattle.cube_journal.specs.State.{stored_in, noted_in, form_in}
+use Rattle.cube_stored.proofs.ReplayLaws as replays
 use Rattle.cube_stored.proofs.StartLaws as laws
 use Rattle.cube_stored.proofs.session.resume.Goals as goal
 
-pub returns-in-Ok-clause-taken : goal.returns-in-Ok-clause-taken
-returns-in-Ok-clause-taken g c = λ clean.
+pub returns-in-None-clause-taken : goal.returns-in-None-clause-taken
+returns-in-None-clause-taken g c = λ clean.
     let view = g.S.Store.view in
     let fine : IsClean (view c.in-Ok.journal.store) = subst (λ s. IsClean (view s)) c.new.ensures.store clean in
-    subst (λ l. LeadsTo TakesStored l (stored_in (view c.args.store)) c.into_live.result) c.new-replay.ensures
-    (subst (λ l. LeadsTo TakesStored c.new-replay.result (stored_in (view c.args.store)) l) (sym c.into_live.ensures)
-    (subst (λ es. LeadsTo TakesStored c.new-replay.result es c.start.new.sink)
-    (laws.Starts-stored (entries_of c.args.notes.now) (view c.args.store) (view c.in-Ok.journal.store)
-    (c.in-Ok.ensures.found fine))
-    (c.in-Ok.ensures.taken fine)))
+    let found = c.in-Ok.ensures.found fine in
+    replays.resumed c.args.live (view c.args.store) (view c.in-Ok.journal.store) c.new-replay.result c.start.new.sink
+    c.new-replay.ensures.live c.new-replay.ensures.over (laws.Starts-stored (entries_of c.args.notes.now) (view c.args.store) (view c.in-Ok.journal.store) found) (c.in-Ok.ensures.taken fine)
+    c.into_live.result (sym c.over.ensures ∙ c.in-None.is) c.into_live.ensures
 
-pub returns-in-Ok-clause-stored : goal.returns-in-Ok-clause-stored
-returns-in-Ok-clause-stored g c = λ clean.
+pub returns-in-None-clause-stored : goal.returns-in-None-clause-stored
+returns-in-None-clause-stored g c = λ clean.
     let view = g.S.Store.view in
     let fine : IsClean (view c.in-Ok.journal.store) = subst (λ s. IsClean (view s)) c.new.ensures.store clean in
-    ap (λ s. stored_in (view s)) c.new.ensures.store ∙ laws.Starts-stored (entries_of c.args.notes.now)
-    (view c.args.store) (view c.in-Ok.journal.store) (c.in-Ok.ensures.found fine)
+    let found = c.in-Ok.ensures.found fine in
+    ap (λ s. stored_in (view s)) c.new.ensures.store ∙ (laws.Starts-stored (entries_of c.args.notes.now) (view c.args.store) (view c.in-Ok.journal.store) found)
 
-pub returns-in-Ok-clause-noted : goal.returns-in-Ok-clause-noted
-returns-in-Ok-clause-noted g c = λ clean.
+pub returns-in-None-clause-noted : goal.returns-in-None-clause-noted
+returns-in-None-clause-noted g c = λ clean.
     let view = g.S.Store.view in
     let fine : IsClean (view c.in-Ok.journal.store) = subst (λ s. IsClean (view s)) c.new.ensures.store clean in
-    ap (λ s. noted_in (view s)) c.new.ensures.store ∙ laws.Starts-noted (entries_of c.args.notes.now)
-    (view c.args.store) (view c.in-Ok.journal.store) (c.in-Ok.ensures.found fine)
+    let found = c.in-Ok.ensures.found fine in
+    ap (λ s. noted_in (view s)) c.new.ensures.store ∙ laws.Starts-noted (entries_of c.args.notes.now) (view c.args.store) (view c.in-Ok.journal.store) found
 
-pub returns-in-Ok-clause-formed : goal.returns-in-Ok-clause-formed
-returns-in-Ok-clause-formed g c = λ clean.
+pub returns-in-None-clause-formed : goal.returns-in-None-clause-formed
+returns-in-None-clause-formed g c = λ clean.
     let view = g.S.Store.view in
     let fine : IsClean (view c.in-Ok.journal.store) = subst (λ s. IsClean (view s)) c.new.ensures.store clean in
-    ap (λ s. form_in (view s)) c.new.ensures.store ∙ laws.Starts-formed (entries_of c.args.notes.now)
-    (view c.args.store) (view c.in-Ok.journal.store) (c.in-Ok.ensures.found fine)
+    let found = c.in-Ok.ensures.found fine in
+    ap (λ s. form_in (view s)) c.new.ensures.store ∙ laws.Starts-formed (entries_of c.args.notes.now) (view c.args.store) (view c.in-Ok.journal.store) found
 
-pub returns-in-Ok-clause-kept : goal.returns-in-Ok-clause-kept
-returns-in-Ok-clause-kept g c = c.new.ensures.kept (λ clean.
+pub returns-in-None-clause-kept : goal.returns-in-None-clause-kept
+returns-in-None-clause-kept g c = c.new.ensures.kept (λ clean.
     let view = g.S.Store.view in
-    let found = c.in-Ok.ensures.found clean in (
-      laws.Starts-open (entries_of c.args.notes.now) (view c.args.store) (view c.in-Ok.journal.store) found,
-      laws.Starts-held (entries_of c.args.notes.now) (view c.args.store) (view c.in-Ok.journal.store) found,
-    ))
+    let found = c.in-Ok.ensures.found clean in
+    (laws.Starts-open (entries_of c.args.notes.now) (view c.args.store) (view c.in-Ok.journal.store) found, laws.Starts-held (entries_of c.args.notes.now) (view c.args.store) (view c.in-Ok.journal.store) found))
+
+pub returns-in-Some-clause-unharmed : goal.returns-in-Some-clause-unharmed
+returns-in-Some-clause-unharmed g c = rw c.into_store.ensures.value c.in-Ok.ensures.crash
+
+pub returns-in-Some-clause-accepts : goal.returns-in-Some-clause-accepts
+returns-in-Some-clause-accepts g c = λ clean.
+    let view = g.S.Store.view in
+    let fine : IsClean (view c.in-Ok.journal.store) = subst (λ s. IsClean (view s)) c.into_store.ensures.value clean in
+    let found = c.in-Ok.ensures.found fine in
+    replays.too-many c.args.live (view c.args.store) (view c.in-Ok.journal.store) c.new-replay.result c.start.new.sink
+    c.new-replay.ensures.live c.new-replay.ensures.over (laws.Starts-stored (entries_of c.args.notes.now) (view c.args.store) (view c.in-Ok.journal.store) found) (c.in-Ok.ensures.taken fine)
+    c.in-Some.source (sym c.over.ensures ∙ c.in-Some.is)

@@ -26,3 +26,9 @@ returns-in-Err-serve_resumed-clause-err g c =
     _ c.in-Ok.ensures.kept c.in-Ok.ensures.taken c.in-Ok.ensures.stored c.in-Ok.ensures.noted c.in-Ok.ensures.formed c.args.records.now.left _
     (g.W.Write.contents c.args.out.now) (g.W.Write.contents c.serve_resumed.new.out)
     c.in-Err-serve_resumed.ensures.err
+
+pub returns-clause-err : goal.returns-clause-err
+returns-clause-err g c = rw c.from.ensures
+    (laws.BreaksStored-refused c.args.live (g.S.Store.view c.args.store) (entries_of c.args.notes.now)
+    (g.S.Store.recovers c.args.store) (g.S.Store.recovers c.in-Err.store) _ _ c.in-Err.fault
+    (g.W.Write.contents c.args.out.now) c.args.records.now.left c.in-Err.ensures.unharmed c.in-Err.ensures.accepts)
