@@ -282,9 +282,6 @@ lists_tables it pages found none store =
     let one = recovers_once 4096 it store.1.0 pages store.1.1 found in
     listed_apart store.0 (in_use 4096 pages) (subst (λ p. IsFile 4096 (store_schema store.0) p) one store.1.2).db none
 
-pub no_table_no_store : (it : Image) → HasNoTable it → StoreIn it → ⊥
-no_table_no_store it none = lists_tables it none.0 none.1 none.2.1
-
 module _ (old new : Image) (looked : HasLooked old new None) where
   pub none_is_no_store : StoreIn old → ⊥
   none_is_no_store = lists_tables old looked.pages looked.found (told_none (catalog_in looked.pages) looked.lists)
