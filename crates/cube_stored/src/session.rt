@@ -68,7 +68,8 @@ impl From<ResumeFault> for StoredFault {
 }
 
 /// Takes the changes of a store into the cube of a session, which stands where its feeds ended, and gives the journal that
-/// keeps those of the session behind them, of which so many, at least one, may wait. A store without a row notes what the feeds are, and must have the same notes else.
+/// keeps those of the session behind them, of which so many, at least one, may wait. A store without a row notes what the
+/// feeds are, and must have the same notes else.
 ///
 /// A store of changes and of these notes is refused only where a call fails, for want of memory, or where it has more changes
 /// of a source than the schema takes. An error gives the store back.

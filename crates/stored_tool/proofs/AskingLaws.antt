@@ -106,12 +106,15 @@ LeavesOfText-refused question s sources was live opens schema taken (resume.TooM
   feeds = opens.feeds;
   good = opens.good;
   items = opens.items;
-  holds = (refl, record {
-    start = opens.start;
-    starts = opens.starts;
-    passes = subst (λ (l : Layout). PassesLast l opens.start (stored_in was) source) schema
-        (explains opens.start opens.stands);
-  });
+  holds = (
+    refl,
+    record {
+      start = opens.start;
+      starts = opens.starts;
+      passes = subst (λ (l : Layout). PassesLast l opens.start (stored_in was) source) schema
+          (explains opens.start opens.stands);
+    },
+  );
 }
 
 -- feeds that weren't taken leave nothing written

@@ -27,8 +27,9 @@ use std::thread::Threads;
 /// the feeds, and then the records of the input.
 ///
 /// Each change is in the store before it is applied, and certain before a byte of a later answer goes out; `input.commits` says
-/// when it is else. The answers are those of a session over the feeds in which the stored changes stood before the first record. What is
-/// left of the store in any case is given back: to be closed by `close` where the session ended well, which leaves one file.
+/// when it is else. The answers are those of a session over the feeds in which the stored changes stood before the first
+/// record. What is left of the store in any case is given back: to be closed by `close` where the session ended well, which
+/// leaves one file.
 pub fn live_stored<
     T: Threads + Wait + Sync,
     R: Read + Drop + Send,
