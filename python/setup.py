@@ -23,12 +23,12 @@ class BuildWithProgram(build_py):
         if not HAS_PROGRAM:
             self.warn(f"no program at {PROGRAM}: the package will look for datacube on the PATH")
         elif not getattr(self, "editable_mode", False):
-            folder = os.path.join(self.build_lib, "datacube", "bin")
+            folder = os.path.join(self.build_lib, "jackraisin", "bin")
             os.makedirs(folder, exist_ok=True)
             shutil.copy(os.path.join(RELEASE, "NOTICES"), folder)
             os.chmod(shutil.copy(PROGRAM, folder), 0o755)
         if os.path.isfile(PAGE) and not getattr(self, "editable_mode", False):
-            shutil.copy(PAGE, os.path.join(self.build_lib, "datacube", "postgres", "explorer.html"))
+            shutil.copy(PAGE, os.path.join(self.build_lib, "jackraisin", "postgres", "explorer.html"))
 
 
 class WheelOfPlatform(bdist_wheel):

@@ -1,9 +1,9 @@
 """A data cube from Python: over feeds, or as a session that is kept right change by change.
 
-    import datacube
-    from datacube import ALL, ANY
+    import jackraisin
+    from jackraisin import ALL, ANY
 
-    cube = datacube.cube("schema.toml", ["market.csv", "street.csv"])
+    cube = jackraisin.cube("schema.toml", ["market.csv", "street.csv"])
     cube.at({"city": "York"})["sum(cents)"]
 
 The program `datacube` does the work: it is in this package's wheel, and `DATACUBE` in the environment names another.
