@@ -15,6 +15,8 @@ RELEASE = os.path.join(os.path.dirname(os.path.abspath(__file__)), "..", "releas
 PROGRAM = os.path.join(RELEASE, f"{platform.machine()}-{platform.system().lower()}", "datacube")
 PAGE = os.path.join(RELEASE, "..", "explorer", "index.html")
 HAS_PROGRAM = os.path.isfile(PROGRAM)
+# (the newest symbols of the C library that the released program asks for, which is all that it needs beside the kernel)
+LIBC = (2, 34)
 
 
 class BuildWithProgram(build_py):
@@ -32,10 +34,11 @@ class BuildWithProgram(build_py):
 
 
 class WheelOfPlatform(bdist_wheel):
-    """Any Python 3, and where it has the program, this platform alone."""
+    """Any Python 3, and where it has the program, this kind of machine with its C library or a later one."""
 
     def get_tag(self):
-        return ("py3", "none", super().get_tag()[2])
+        of_program = f"manylinux_{LIBC[0]}_{LIBC[1]}_{platform.machine()}"
+        return ("py3", "none", of_program if HAS_PROGRAM else super().get_tag()[2])
 
 
 class WithProgram(Distribution):

@@ -16,6 +16,9 @@ from ._live import Live
 from ._program import explain, program
 from ._schema import Schema
 
+# (the version of the distribution and of the program too)
+__version__ = "1.11.5"
+
 __all__ = [
     "ALL", "ANY", "KEEP", "Answer", "Cell", "Coordinate", "Cube", "DatacubeError", "Ended", "Failure", "Live", "Pattern",
     "ProgramNotFound", "Refusal", "Row", "Schema", "Unreadable", "Unsayable", "cube", "drill", "explain", "merge", "program",

@@ -5,7 +5,8 @@ import os
 import re
 import shutil
 import subprocess
-from typing import Iterable, List, Sequence, Tuple, Union
+import sys
+from typing import Iterable, List, NoReturn, Optional, Sequence, Tuple, Union
 
 from ._errors import DatacubeError, Failure, ProgramNotFound, Unsayable
 
@@ -20,13 +21,42 @@ DONE = (0, 4)
 
 
 def program() -> str:
-    """The program that is run: `DATACUBE` of the environment, else the one in this package, else `datacube` on the PATH."""
+    """The program that is run: `DATACUBE` of the environment, else the one in this package, else `datacube` on the PATH. The
+    command of this package is none: it runs what this finds."""
     wanted = os.environ.get("DATACUBE")
-    found = shutil.which(wanted) if wanted else shutil.which(BESIDE) or shutil.which("datacube")
-    if found:
-        return found
-    why = f"DATACUBE names {wanted}, which can't be run" if wanted else f"there is none at {BESIDE}, nor datacube on the PATH"
-    raise ProgramNotFound(f"no program: {why}")
+    named = shutil.which(wanted) if wanted else None
+    if wanted and not named:
+        raise ProgramNotFound(f"no program: DATACUBE names {wanted}, which can't be run")
+    found = named if named and not is_own_command(named) else shutil.which(BESIDE) or on_path()
+    if not found:
+        raise ProgramNotFound(f"no program: there is none at {BESIDE}, nor datacube on the PATH")
+    return found
+
+
+def on_path() -> Optional[str]:
+    """The first `datacube` on the PATH that isn't this package's own command, of whichever environment."""
+    found = (shutil.which("datacube", path=it) for it in os.get_exec_path() if it)
+    return next((it for it in found if it and not is_own_command(it)), None)
+
+
+def is_own_command(path: str) -> bool:
+    """Whether a file is the script that an installation of this package makes for `command`."""
+    try:
+        with open(path, "rb") as file:
+            head = file.read(8192)
+    except OSError:
+        return False
+    return head.startswith(b"#!") and b"from jackraisin." in head
+
+
+def command() -> NoReturn:
+    """The command `datacube` of this package: the program in this process's place, with the same words."""
+    try:
+        found = program()
+        sys.stdout.flush()
+        os.execv(found, ["datacube", *sys.argv[1:]])
+    except (ProgramNotFound, OSError) as why:
+        sys.exit(f"datacube: {why}")
 
 
 def words_of(command: str, options: Sequence[Word], others: Sequence[Word]) -> List[Word]:
