@@ -22,6 +22,7 @@ SCHEMA = jackraisin.Schema(
     ["city", "product", "payment"], ["pieces", "cents"],
     ["count(*)", "sum(pieces)", "sum(cents)", "min(cents)", "max(cents)", "avg(cents)"], version=2,
 )
+NULL = "\\N"
 FEEDS = [f"{SHOP}/{it}.csv" for it in ("market", "street", "online")]
 COUNTED = jackraisin.Schema(["region", "kind"], ["amount"], ["count(*)", "sum(amount)"])
 
@@ -178,6 +179,76 @@ class Pandas(unittest.TestCase):
         text = "a,grouping(a),sum(m)\nx,0,170141183460469231731687303715884105727\n"
         self.assertEqual(jackraisin.Cube(text).to_pandas()["sum(m)"].iloc[0], 2**127 - 1)
         self.assertEqual(jackraisin.Cube("a,grouping(a),sum(m)\n").to_pandas().shape, (0, 1))
+
+
+    def test_no_row_is_made_on_the_way(self):
+        cube = jackraisin.cube(SCHEMA, FEEDS)
+        frame = cube.to_pandas()
+        self.assertEqual((len(frame), len(cube)), (35, 35))
+        self.assertNotIn("_rows", vars(cube))
+
+    def test_odd_texts(self):
+        """Each is a city, with a count and a mean; the numbers tell which one came out where."""
+        odd = ["", "\ufeffmark", "a\0b", "a\rb", "a\nb", "a\r\nb", 'say "tea"', "a,b", " a ", "1", "nan", "NA", "None", "\\A", "1/2", "True", "é", "\U0001f375", "'"]
+        for cities in [odd, *([it] for it in odd)]:
+            cities = sorted(cities)
+            out = io.StringIO(newline="")
+            lines = [[it, "0", str(at), f"{2 * at + 1}/2"] for at, it in enumerate(cities)]
+            csv.writer(out, quoting=csv.QUOTE_ALL).writerows([["city", "grouping(city)", "count(*)", "avg(x)"], *lines, ["\\N", "0", "\\N", "\\N"], ["\\N", "1", "7", "7/1"]])
+            cube = jackraisin.Cube(out.getvalue())
+            if "\0" in out.getvalue() and sys.version_info < (3, 11):
+                self.assertRaises(jackraisin.Unreadable, cube.to_pandas)
+                continue
+            frame = cube.to_pandas()
+            index, counts, means = (list(it) for it in (frame.index.get_level_values(0), frame["count(*)"], frame["avg(x)"]))
+            self.assertEqual([*index[:-2], index[-1]], [*cities, ALL])
+            self.assertTrue(self.pandas.isna(index[-2]) and self.pandas.isna(counts[-2]) and means[-2] is None)
+            self.assertEqual([*counts[:-2], counts[-1]], [*range(len(cities)), 7])
+            self.assertEqual([*means[:-2], means[-1]], [*(Fraction(2 * it + 1, 2) for it in range(len(cities))), 7])
+
+    def test_whole_numbers_are_exact(self):
+        for numbers in ([2**53 + 1, None], [2**63 - 1, -(2**63)], [2**63, 1], [2**64, None, -5], [None, None], [0, None, -(2**53)]):
+            lines = "".join(f"t{at},0,{NULL if it is None else it}\n" for at, it in enumerate(numbers))
+            frame = jackraisin.Cube(f"a,grouping(a),sum(m)\n{lines}").to_pandas()
+            got = [None if self.pandas.isna(it) else int(it) for it in frame["sum(m)"]]
+            self.assertEqual(got, numbers)
+            fits = all(it is None or -(2**63) <= it < 2**63 for it in numbers)
+            self.assertEqual(str(frame["sum(m)"].dtype), "Int64" if fits else "object")
+
+    def test_means_are_in_lowest_terms(self):
+        cube = jackraisin.Cube("a,grouping(a),avg(m)\nx,0,2/4\ny,0,-3/1\n")
+        means = list(cube.to_pandas()["avg(m)"])
+        self.assertEqual((means, [it.denominator for it in means], [hash(it) for it in means]), ([Fraction(1, 2), -3], [2, 1], [hash(0.5), hash(-3)]))
+
+    def test_texts_that_are_no_cube(self):
+        head = "a,grouping(a),sum(m),avg(m)\n"
+        for line in ("x,0,1\n", "x,0,1,1/1,1\n", "x,0,1,1/1\n\nx,0,1,1/1\n", "x,0,one,1/1\n", "x,0,1.5,1/1\n", "x,0,1,1/0\n", "x,0,1,a/b\n", "x,0,1,1/2/3\n", "x,0,\\N,1/1\ny,0,1.5,1/1\n"):
+            with self.subTest(line):
+                self.assertRaises(jackraisin.Unreadable, jackraisin.Cube(head + line).to_pandas)
+                self.assertRaises(jackraisin.Unreadable, lambda: list(jackraisin.Cube(head + line)))
+
+
+class Notebooks(unittest.TestCase):
+    def test_the_first_rows_and_how_many_there_are(self):
+        page = jackraisin.cube(SCHEMA, FEEDS)._repr_html_()
+        self.assertEqual(page.count("<tr>"), 1 + 10)
+        self.assertIn("<p>35 rows, of which 25 more are not shown</p>", page)
+        self.assertIn("<th>product</th>", page)
+        cube = jackraisin.Cube("a,grouping(a),count(*),avg(m)\nALL,0,1,1/3\n\\N,0,2,\\N\n\\N,1,3,2/1\n")
+        row = lambda *cells: f"<tr>{''.join(cells)}</tr>"
+        number = lambda it: f'<td style="text-align: right">{it}</td>'
+        null = "<td><i>null</i></td>"
+        lines = row("<td>ALL</td>", number(1), number("1/3")) + row(null, number(2), null) + row("<td><i>ALL</i></td>", number(3), number(2))
+        self.assertTrue(cube._repr_html_().endswith(f"<tbody>{lines}</tbody></table><p>3 rows</p>"), cube._repr_html_())
+
+    def test_nothing_of_a_text_is_markup(self):
+        evil = '<script>alert("1")</script>&amp;'
+        head, cell = f"<b>{evil}", evil.replace('"', '""')
+        quoted = head.replace('"', '""')
+        page = jackraisin.Cube(f'"{quoted}","grouping({quoted})","sum({quoted})"\n"{cell}",0,1\n')._repr_html_()
+        self.assertNotIn("<script", page)
+        self.assertNotIn("<b>", page)
+        self.assertEqual(page.count("&lt;script&gt;alert(&quot;1&quot;)&lt;/script&gt;&amp;amp;"), 3)
 
 
 class Generated(unittest.TestCase):

@@ -1,52 +1,25 @@
 """Printed cubes as rows with types."""
 from __future__ import annotations
 
-import contextlib
-import csv
 import functools
-import io
+import html
+import itertools
 import os
-import re
-import threading
 from dataclasses import dataclass, field
 from fractions import Fraction
-from typing import TYPE_CHECKING, Any, Dict, Iterator, List, Mapping, NamedTuple, Optional, Sequence, Tuple, Union, overload
+from typing import TYPE_CHECKING, Any, Dict, List, NamedTuple, Optional, Sequence, Tuple, Union, overload
 
+from . import _columns
 from ._cells import ALL, Cell, Coordinate, Key, in_order
-from ._errors import Unreadable
 from ._program import Path
+from ._records import NULL, Columns, head_of, records_of, unreadable
 
 if TYPE_CHECKING:
     import pandas
 
 Answer = Union[int, Fraction, None]
 
-AGGREGATE = re.compile(r"(count|sum|min|max|avg)\(.*\)", re.DOTALL)
-LEAST, GREATEST = -(2**63), 2**63 - 1
-# (texts may be longer than what csv takes at first, whose limit is one for the whole process)
-LONGEST = 2**31 - 1
-LIMIT = threading.Lock()
-
-
-class Columns:
-    """The names of a printed cube's columns."""
-
-    def __init__(self, head: Sequence[str]) -> None:
-        count = dimensions_in(head)
-        self.dimensions: Tuple[str, ...] = tuple(head[:count])
-        self.aggregates: Tuple[str, ...] = tuple(head[2 * count :])
-        self.places: Dict[str, int] = {}
-        for place, name in enumerate([*self.dimensions, *self.aggregates]):
-            self.places.setdefault(name, place)
-
-
-def dimensions_in(head: Sequence[str]) -> int:
-    """How many dimensions a header has: so many names, as many GROUPING columns for them, and then aggregates alone."""
-    for count in range(1, len(head) // 2 + 1):
-        marks = [f"grouping({it})" for it in head[:count]]
-        if list(head[count : 2 * count]) == marks and all(map(AGGREGATE.fullmatch, head[2 * count :])):
-            return count
-    raise Unreadable("the text is no printed cube: its first line isn't a header")
+SHOWN = 10
 
 
 @dataclass(frozen=True)
@@ -73,8 +46,7 @@ class Cube(Sequence[Row]):
 
     def __init__(self, text: str, refused: Optional[bool] = None) -> None:
         self.text, self.refused = text, refused
-        with records_of(text) as records:
-            self._columns = Columns(next(records, []))
+        self._columns = Columns(head_of(text)[0])
 
     @property
     def dimensions(self) -> Tuple[str, ...]:
@@ -95,8 +67,14 @@ class Cube(Sequence[Row]):
     def _by_key(self) -> Dict[Key, Row]:
         return {row.key: row for row in self._rows}
 
+    @functools.cached_property
+    def _length(self) -> int:
+        with records_of(self.text) as records:
+            next(records, None)
+            return sum(1 for it in records if self._columns.checked(it))
+
     def __len__(self) -> int:
-        return len(self._rows)
+        return self._length
 
     @overload
     def __getitem__(self, at: int) -> Row: ...
@@ -109,6 +87,17 @@ class Cube(Sequence[Row]):
 
     def __repr__(self) -> str:
         return f"<Cube of {len(self)} rows by {', '.join(self.dimensions)}>"
+
+    def _repr_html_(self) -> str:
+        """The first rows as a table of a notebook, and how many there are: ALL and null are told from texts by how they look."""
+        with records_of(self.text) as records:
+            next(records, None)
+            first = [row_of(self._columns, it) for it in itertools.islice(records, SHOWN)]
+        head = "".join(f"<th>{html.escape(it)}</th>" for it in [*self.dimensions, *self.aggregates])
+        lines = "".join(f"<tr>{''.join(map(cell_html, [*it.key, *it.answers]))}</tr>" for it in first)
+        left = len(self) - len(first)
+        end = f"<p>{len(self)} rows{f', of which {left} more are not shown' if left else ''}</p>"
+        return f"<table><thead><tr>{head}</tr></thead><tbody>{lines}</tbody></table>{end}"
 
     def at(self, cell: Cell) -> Row:
         """The row of a cell, in which a dimension that isn't named is ALL; `KeyError` where there is none."""
@@ -126,64 +115,36 @@ class Cube(Sequence[Row]):
     def to_pandas(self) -> "pandas.DataFrame":
         """A frame with the answers, over the cells as its index: each level is ordered, ALL is its last category, and null
         is missing. Whole numbers are `Int64` where they fit, else objects; a mean is a `Fraction`."""
-        import pandas
-
-        keys = list(zip(*(row.key for row in self._rows))) or [()] * len(self.dimensions)
-        index = pandas.MultiIndex.from_arrays([level_of(it) for it in keys], names=self.dimensions)
-        answers = list(zip(*(row.answers for row in self._rows))) or [()] * len(self.aggregates)
-        frame = pandas.DataFrame({at: column_of(name, it) for at, (name, it) in enumerate(zip(self.aggregates, answers))})
-        frame.index, frame.columns = index, pandas.Index(self.aggregates)
-        return frame
+        return _columns.frame_of(self.text, self._columns)
 
 
-def level_of(coordinates: Sequence[Coordinate]) -> Any:
-    import pandas
-
-    texts = sorted({it for it in coordinates if isinstance(it, str)}, key=lambda it: it.encode("utf-8"))
-    return pandas.Categorical(list(coordinates), categories=[*texts, ALL], ordered=True)
-
-
-def column_of(name: str, answers: Sequence[Answer]) -> Any:
-    import pandas
-
-    fits = all(it is None or isinstance(it, int) and LEAST <= it <= GREATEST for it in answers)
-    is_whole = fits and not name.startswith("avg(")
-    return pandas.array(list(answers), dtype="Int64") if is_whole else pandas.Series(list(answers), dtype=object)
+def cell_html(value: Union[Coordinate, Answer]) -> str:
+    """A cell of a table: numbers to the right, texts as they are, ALL and null in italics."""
+    if value is None or value is ALL:
+        return f"<td><i>{'null' if value is None else value}</i></td>"
+    return f"<td>{html.escape(value)}</td>" if isinstance(value, str) else f'<td style="text-align: right">{value}</td>'
 
 
-@contextlib.contextmanager
-def records_of(text: str) -> Iterator[Iterator[List[str]]]:
-    """The records of a printed text, one after the other. For as long as they are read, fields may be of any length; the limit
-    of `csv` is the caller's own again behind that."""
-    with LIMIT:
-        limit = csv.field_size_limit()
-        csv.field_size_limit(max(limit, LONGEST))
-        try:
-            yield csv.reader(io.StringIO(text, newline=""))
-        except csv.Error as why:
-            raise Unreadable(f"this Python's csv can't read the text: {why}") from None
-        finally:
-            csv.field_size_limit(limit)
-
-
-def row_of(columns: Columns, record: Sequence[str]) -> Row:
+def row_of(columns: Columns, record: List[str]) -> Row:
     """The row that a record says."""
     count = len(columns.dimensions)
-    if len(record) != 2 * count + len(columns.aggregates):
-        raise Unreadable(f"the text is no printed cube: a line has {len(record)} fields")
+    columns.checked(record)
     key = tuple(map(coordinate_of, record[:count], record[count : 2 * count]))
     return Row(key, tuple(map(answer_of, columns.aggregates, record[2 * count :])), columns)
 
 
 def coordinate_of(text: str, mark: str) -> Coordinate:
     """The coordinate that a text says with its GROUPING column."""
-    return ALL if mark == "1" else None if text == "\\N" else text
+    return ALL if mark == "1" else None if text == NULL else text
 
 
 def answer_of(aggregate: str, text: str) -> Answer:
-    if text == "\\N":
+    if text == NULL:
         return None
-    return Fraction(text) if aggregate.startswith("avg(") else int(text)
+    try:
+        return Fraction(text) if _columns.is_mean(aggregate) else int(text)
+    except (ValueError, ZeroDivisionError) as why:
+        raise unreadable(why) from None
 
 
 class Refusal(NamedTuple):

@@ -15,17 +15,17 @@ from typing import IO, Callable, List, Literal, Optional, Sequence, Type, Union
 
 from ._ask import Given, Shard, options_of
 from ._cells import KEEP, Mark, Named, in_order, text_of
-from ._cube import GREATEST, LEAST, Refusal, refusals_of
+from ._cube import Refusal, refusals_of
 from ._errors import Ended, Failure, ProgramNotFound, Unsayable
 from ._program import DONE, Path, Paths, line_of, meaning_of, paths_of, words_of
 from ._questions import Questions
+from ._records import GREATEST, LEAST, NULL
 from ._schema import schema_of
 
 Keep = Literal[Mark.KEEP]
 Texts = Named[Union[str, None, Keep]]
 Numbers = Named[Union[int, None, Keep]]
 SOURCES = 64
-NULL = "\\N"
 
 
 class Live(Questions):

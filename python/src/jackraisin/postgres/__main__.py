@@ -19,8 +19,8 @@ from typing import TYPE_CHECKING, Iterator, List, NoReturn, Optional, Sequence, 
 
 import psycopg2
 
-from .._cube import LONGEST
 from .._errors import DatacubeError, Ended, Failure, Unsayable
+from .._records import LONGEST
 from . import CantFollow, Follower, NotCaughtUp, Server, drop_slot, slot_name
 from ._publication import drop_publication
 from ._slot import PREFIX, connect
