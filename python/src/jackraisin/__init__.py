@@ -15,12 +15,13 @@ from ._errors import DatacubeError, Ended, Failure, ProgramNotFound, Unreadable,
 from ._live import Live
 from ._program import explain, program
 from ._schema import Schema
+from ._views import Difference
 
 # (the version of the distribution and of the program too)
 __version__ = "1.11.5"
 
 __all__ = [
-    "ALL", "ANY", "KEEP", "Answer", "Cell", "Coordinate", "Cube", "DatacubeError", "Ended", "Failure", "Live", "Pattern",
+    "ALL", "ANY", "KEEP", "Answer", "Cell", "Coordinate", "Cube", "DatacubeError", "Difference", "Ended", "Failure", "Live", "Pattern",
     "ProgramNotFound", "Refusal", "Row", "Schema", "Unreadable", "Unsayable", "cube", "drill", "explain", "merge", "program",
     "refusals", "rollup", "slice",
 ]

@@ -7,12 +7,12 @@ import itertools
 import os
 from dataclasses import dataclass, field
 from fractions import Fraction
-from typing import TYPE_CHECKING, Any, Dict, List, NamedTuple, Optional, Sequence, Tuple, Union, overload
+from typing import TYPE_CHECKING, Any, Dict, Iterable, List, NamedTuple, Optional, Sequence, Tuple, Union, overload
 
-from . import _columns
-from ._cells import ALL, Cell, Coordinate, Key, in_order
+from . import _columns, _views
+from ._cells import ALL, Cell, Coordinate, Key, Pattern, in_order
 from ._program import Path
-from ._records import NULL, Columns, head_of, records_of, unreadable
+from ._records import NULL, Columns, head_of, lines_of, records_of, unreadable
 
 if TYPE_CHECKING:
     import pandas
@@ -47,6 +47,15 @@ class Cube(Sequence[Row]):
     def __init__(self, text: str, refused: Optional[bool] = None) -> None:
         self.text, self.refused = text, refused
         self._columns = Columns(head_of(text)[0])
+
+    @classmethod
+    def read(cls, path: Path) -> "Cube":
+        """The cube of a file that has a printed one."""
+        with open(os.fspath(path), encoding="utf-8", newline="") as file:
+            try:
+                return cls(file.read())
+            except UnicodeDecodeError:
+                raise unreadable("it isn't UTF-8") from None
 
     @property
     def dimensions(self) -> Tuple[str, ...]:
@@ -103,6 +112,35 @@ class Cube(Sequence[Row]):
         """The row of a cell, in which a dimension that isn't named is ALL; `KeyError` where there is none."""
         others: List[Coordinate] = [ALL]
         return self._by_key[tuple(in_order(self.dimensions, cell, others, "dimension"))]
+
+    def where(self, pattern: Pattern) -> "Cube":
+        """The rows that a pattern matches, as `slice` gives them; a dimension that a mapping doesn't name is ALL."""
+        return self._part(_views.matching(self, self.dimensions, pattern))
+
+    def top(self, count: int, by: str, *, totals: bool = False) -> "Cube":
+        """The rows with the greatest answers of an aggregate, the greatest first, null behind all numbers, and equal ones in
+        their order. Rows with ALL in a dimension in which another row has a value are left out, as totals of others; with
+        `totals` they take part."""
+        return self._part(_views.greatest(self, count, by, totals))
+
+    def percent(self, aggregate: str, of: Optional[Cell] = None) -> Dict[Key, Optional[Fraction]]:
+        """The share of each row, by its key, as a fraction of 1: of a count or a sum, of the row of a cell, which is by default
+        the one with ALL wherever rows differ. None where an answer is null, or that row's is null or 0, or there is none."""
+        return _views.shares(self, aggregate, of)
+
+    def pivot(self, rows: str, columns: str, aggregate: str, cell: Cell = {}) -> Dict[Coordinate, Dict[Coordinate, Answer]]:
+        """The answers of an aggregate by the coordinates of two dimensions, both in key order, at those that a cell has of the
+        others, by default ALL. Where there is no row, there is None."""
+        return _views.crossed(self, rows, columns, aggregate, cell)
+
+    def diff(self, other: "Cube") -> List[_views.Difference]:
+        """The cells in which another cube, a later one of the same schema, differs from this one, in key order."""
+        return _views.differences(self, other)
+
+    def _part(self, places: Iterable[int]) -> "Cube":
+        """The rows at some places, in their order, with the text that they have."""
+        head, *lines = lines_of(self.text)
+        return Cube("".join([head, *(lines[it] for it in places)]), self.refused)
 
     def to_csv(self, path: Optional[Path] = None) -> Optional[str]:
         """The text as the program prints it: it is written to a file, or given where no path is."""

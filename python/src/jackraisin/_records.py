@@ -72,6 +72,15 @@ def records_of(text: str) -> Iterator[Iterator[List[str]]]:
         yield csv.reader(io.StringIO(text, newline=""))
 
 
+def lines_of(text: str) -> List[str]:
+    """The records of a printed text as they stand in it, the first one too, each with the end of its line."""
+    stream, ends = io.StringIO(text, newline=""), [0]
+    with long_fields():
+        ends += [stream.tell() for _ in csv.reader(stream)]
+    lines = [text[start:end] for start, end in zip(ends, ends[1:])]
+    return [it if it.endswith("\n") else it + "\n" for it in lines]
+
+
 def head_of(text: str) -> Tuple[List[str], int]:
     """The first record of a text, and where it ends; no more of the text is read."""
     ends = [0]
