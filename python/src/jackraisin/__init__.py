@@ -11,7 +11,7 @@ The program `datacube` does the work: it is in this package's wheel, and `DATACU
 from ._ask import cube, drill, merge, refusals, rollup, slice
 from ._cells import ALL, ANY, KEEP, Cell, Coordinate, Pattern
 from ._cube import Answer, Cube, Refusal, Row
-from ._errors import DatacubeError, Ended, Failure, ProgramNotFound, Unreadable, Unsayable
+from ._errors import DatacubeError, Ended, Failure, ProgramNotFound, TimedOut, Unreadable, Unsayable
 from ._live import Live
 from ._program import explain, program
 from ._schema import Schema
@@ -21,7 +21,7 @@ from ._views import Difference
 __version__ = "1.11.5"
 
 __all__ = [
-    "ALL", "ANY", "KEEP", "Answer", "Cell", "Coordinate", "Cube", "DatacubeError", "Difference", "Ended", "Failure", "Live", "Pattern",
-    "ProgramNotFound", "Refusal", "Row", "Schema", "Unreadable", "Unsayable", "cube", "drill", "explain", "merge", "program",
-    "refusals", "rollup", "slice",
+    "ALL", "ANY", "KEEP", "Answer", "Cell", "Coordinate", "Cube", "DatacubeError", "Difference", "Ended", "Failure", "Live",
+    "Pattern", "ProgramNotFound", "Refusal", "Row", "Schema", "TimedOut", "Unreadable", "Unsayable", "cube", "drill", "explain",
+    "merge", "program", "refusals", "rollup", "slice",
 ]

@@ -4,11 +4,13 @@ from __future__ import annotations
 import os
 import re
 import shutil
+import signal
 import subprocess
 import sys
+from dataclasses import dataclass
 from typing import Iterable, List, NoReturn, Optional, Sequence, Tuple, Union
 
-from ._errors import DatacubeError, Failure, ProgramNotFound, Unsayable
+from ._errors import DatacubeError, Failure, ProgramNotFound, TimedOut, Unsayable
 
 Path = Union[str, "os.PathLike[str]"]
 Paths = Union[Path, Iterable[Path]]
@@ -16,8 +18,35 @@ Word = Union[str, bytes]
 
 BESIDE = os.path.join(os.path.dirname(os.path.abspath(__file__)), "bin", "datacube")
 CODE = re.compile(r"[A-Z][0-9]{1,2}|[0-9]")
+# (it puts the program in its own place, under the limit that it took: nothing runs between fork and exec in this process)
+UNDER_A_LIMIT = ["/bin/sh", "-c", 'ulimit -v "$0" && exec "$@"']
 # (0 is done, and 4 is done, with lines refused)
 DONE = (0, 4)
+
+
+@dataclass(frozen=True)
+class Limits:
+    """The seconds that a run or an answer may take, and the bytes of memory that the program may map (RLIMIT_AS)."""
+
+    timeout: Optional[float] = None
+    max_memory: Optional[int] = None
+
+    def __post_init__(self) -> None:
+        for name in ("timeout", "max_memory"):
+            value = getattr(self, name)
+            if value is not None and not value > 0:
+                raise Unsayable(f"{name} is a number above 0, and {value!r} isn't")
+
+    def words(self, words: Sequence[Word]) -> List[Word]:
+        """The words of a program that runs under the limit of memory."""
+        return [*words] if self.max_memory is None else [*UNDER_A_LIMIT, str(-(-self.max_memory // 1024)), *words]
+
+    def passed(self) -> TimedOut:
+        """What tells that the time is over."""
+        return TimedOut(f"no end within {self.timeout} seconds", "", -signal.SIGKILL)
+
+
+UNLIMITED = Limits()
 
 
 def program() -> str:
@@ -69,10 +98,13 @@ def paths_of(feeds: Paths) -> List[Word]:
     return [os.fspath(it) for it in ([feeds] if isinstance(feeds, (str, os.PathLike)) else feeds)]
 
 
-def run(words: Sequence[Word]) -> Tuple[int, str]:
+def run(words: Sequence[Word], limits: Limits = UNLIMITED) -> Tuple[int, str]:
     """The status and the output of a command that is done; any other end raises `Failure`."""
+    pipe = subprocess.PIPE
     try:
-        ran = subprocess.run(words, stdin=subprocess.DEVNULL, stdout=subprocess.PIPE, stderr=subprocess.PIPE)
+        ran = subprocess.run(limits.words(words), stdin=subprocess.DEVNULL, stdout=pipe, stderr=pipe, timeout=limits.timeout)
+    except subprocess.TimeoutExpired:
+        raise limits.passed() from None
     except ValueError as why:
         raise Unsayable(f"a word of a command line can't be said: {why}") from None
     except OSError as why:
