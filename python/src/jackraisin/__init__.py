@@ -13,6 +13,7 @@ from ._cells import ALL, ANY, KEEP, Cell, Coordinate, Pattern
 from ._cube import Answer, Cube, Refusal, Row
 from ._errors import DatacubeError, Ended, Failure, ProgramNotFound, TimedOut, Unreadable, Unsayable
 from ._live import Live
+from ._made import cube_of
 from ._program import explain, program
 from ._schema import Schema
 from ._views import Difference
@@ -22,6 +23,6 @@ __version__ = "1.11.5"
 
 __all__ = [
     "ALL", "ANY", "KEEP", "Answer", "Cell", "Coordinate", "Cube", "DatacubeError", "Difference", "Ended", "Failure", "Live",
-    "Pattern", "ProgramNotFound", "Refusal", "Row", "Schema", "TimedOut", "Unreadable", "Unsayable", "cube", "drill", "explain",
-    "merge", "program", "refusals", "rollup", "slice",
+    "Pattern", "ProgramNotFound", "Refusal", "Row", "Schema", "TimedOut", "Unreadable", "Unsayable", "cube", "cube_of", "drill",
+    "explain", "merge", "program", "refusals", "rollup", "slice",
 ]
