@@ -10,6 +10,7 @@ import tempfile
 import unittest
 from fractions import Fraction
 from typing import Any, Iterator, List, Sequence, Tuple
+from unittest import mock
 
 ROOT = os.path.dirname(os.path.dirname(os.path.dirname(os.path.realpath(__file__))))
 sys.path[:0] = [os.path.join(ROOT, "python", "src"), os.path.join(ROOT, "scripts")]
@@ -32,6 +33,28 @@ def has(command: str) -> bool:
 
 def needs(command: str) -> Any:
     return unittest.skipUnless(has(command), f"the program has no {command}")
+
+
+# (the cells of the explorer's rows)
+ROWS = """
+return [...document.querySelectorAll("#table tbody tr[data-row]")].map((row) => [...row.children].map((it) => it.textContent));
+"""
+
+
+def browser(test: unittest.TestCase, folder: str) -> Any:
+    """A headless Chromium, with a folder for its files, or the test is skipped."""
+    try:
+        from selenium import webdriver
+    except ImportError:
+        test.skipTest("python3-selenium isn't installed for this Python")
+    if not os.path.exists("/usr/bin/chromedriver"):
+        test.skipTest("chromium-driver isn't installed")
+    options = webdriver.ChromeOptions()
+    for it in ("--headless=new", "--no-sandbox", "--disable-dev-shm-usage", "--window-size=1200,800"):
+        options.add_argument(it)
+    options.set_capability("goog:loggingPrefs", {"browser": "ALL"})
+    with mock.patch.dict(os.environ, {"TMPDIR": folder}):
+        return webdriver.Chrome(options=options)
 
 
 def schema_like(schema: oracle.Schema) -> jackraisin.Schema:

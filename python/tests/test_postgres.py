@@ -21,6 +21,7 @@ import beside
 import jackraisin
 import private_server
 import sql
+from beside import ROWS, browser
 from jackraisin import ALL, ANY, KEEP
 from private_server import CREATE, FACTS, LONG, SCHEMA, until
 
@@ -1089,7 +1090,7 @@ class Served(Base):
             self.assertEqual((status, "column product is gone" in text), (503, True))
 
     def test_the_page_shows_a_sale_that_is_committed(self):
-        with browser(self) as driver:
+        with browser(self, PRIVATE.folder_for_others()) as driver:
             driver.get(self.server.address)
             rows = lambda: driver.execute_script(ROWS)
             until(lambda: ["York", "1", "5"] in rows(), SECONDS)
@@ -1114,27 +1115,6 @@ class Served(Base):
         self.server.close()
         until(lambda: "doesn't answer" in driver.find_element("id", "problem").text, SECONDS)
         self.assertEqual([it for it in driver.get_log("browser") if it["level"] == "SEVERE" and "cube.csv" not in it["message"]], [])
-
-
-ROWS = """
-return [...document.querySelectorAll("#table tbody tr[data-row]")].map((row) => [...row.children].map((it) => it.textContent));
-"""
-
-
-def browser(test):
-    """A headless Chromium, or the test is skipped."""
-    try:
-        from selenium import webdriver
-    except ImportError:
-        test.skipTest("python3-selenium isn't installed for this Python")
-    if not os.path.exists("/usr/bin/chromedriver"):
-        test.skipTest("chromium-driver isn't installed")
-    options = webdriver.ChromeOptions()
-    for it in ("--headless=new", "--no-sandbox", "--disable-dev-shm-usage", "--window-size=1200,800"):
-        options.add_argument(it)
-    options.set_capability("goog:loggingPrefs", {"browser": "ALL"})
-    with mock.patch.dict(os.environ, {"TMPDIR": PRIVATE.folder_for_others()}):
-        return webdriver.Chrome(options=options)
 
 
 class Parts(unittest.TestCase):

@@ -5,11 +5,13 @@ import functools
 import html
 import itertools
 import os
+import pathlib
+import webbrowser
 from dataclasses import dataclass, field
 from fractions import Fraction
 from typing import TYPE_CHECKING, Any, Dict, Iterable, List, NamedTuple, Optional, Sequence, Tuple, Union, overload
 
-from . import _columns, _views
+from . import _columns, _show, _views
 from ._cells import ALL, Cell, Coordinate, Key, Pattern, in_order
 from ._program import Path
 from ._records import NULL, Columns, head_of, lines_of, records_of, unreadable
@@ -149,6 +151,17 @@ class Cube(Sequence[Row]):
         with open(os.fspath(path), "w", encoding="utf-8", newline="") as out:
             out.write(self.text)
         return None
+
+    def show(self, path: Optional[Path] = None, *, browser: bool = True) -> str:
+        """Opens the cube in the explorer, a page in the browser, and gives the path of the page: a new file in the folder for
+        temporary files, or the one that is named. It has the whole cube, asks nobody for anything, and is yours to delete."""
+        page = _show.page_with(self.text, "cube.csv")
+        path = _show.new_file() if path is None else os.path.abspath(os.fspath(path))
+        with open(path, "w", encoding="utf-8") as out:
+            out.write(page)
+        if browser:
+            webbrowser.open(pathlib.Path(path).as_uri())
+        return path
 
     def to_pandas(self) -> "pandas.DataFrame":
         """A frame with the answers, over the cells as its index: each level is ordered, ALL is its last category, and null
