@@ -1,6 +1,7 @@
 """Limits of time and of memory, and many facts at once."""
 import os
 import shutil
+import sys
 import tempfile
 import threading
 import time
@@ -101,6 +102,7 @@ class Limits(unittest.TestCase):
 
 
 class Many(unittest.TestCase):
+    @unittest.skipIf(sys.version_info < (3, 11), "this Python reads no TOML")
     def test_they_are_as_inserts_one_by_one(self):
         facts = [(f"id {at}", ["west" if at % 3 else None, f"k{at % 5}"], [at * at - 50]) for at in range(300)]
         schema = oracle.schema_of(PLAIN.toml().encode())

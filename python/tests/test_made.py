@@ -1,6 +1,7 @@
 """Cubes of facts that are at hand, by hand and beside scripts/oracle.py."""
 import datetime
 import random
+import sys
 import unittest
 from fractions import Fraction
 
@@ -66,6 +67,7 @@ class ByHand(unittest.TestCase):
 
 
 class Generated(unittest.TestCase):
+    @unittest.skipIf(sys.version_info < (3, 11), "this Python reads no TOML")
     def test_beside_the_oracle(self):
         texts = ["", "a", "a,b", 'say "b"', "c\r", "\r\n", "é", "?", "\\=", "\\A", None]
         for seed in range(20):
