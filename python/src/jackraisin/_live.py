@@ -35,9 +35,13 @@ class Live(Questions):
     answered over all changes before it, and those that come meanwhile wait in the pipe. With a shard, the J-th of N as (J, N),
     changes of the others are left alone. With a store, the path of a SQLite file, each change is kept there and certain
     before an answer shows it, and a session over the same schema, feeds and store goes on where the last one ended; a wary
-    one supposes nothing of what a torn write leaves. What no feed can say raises `Unsayable`, and nothing is sent; a change that the facts refuse, as the insert of an id that is present, is noted in
-    `refusals`. An answer, the first one of the opening too, or the taking of changes, that takes more seconds than `timeout` ends
-    the session, which raises `TimedOut`; one that wants more bytes of memory than `max_memory` ends by a code. Where the process ends by itself, every call from then on raises `Ended` with its status and last line."""
+    one supposes nothing of what a torn write leaves.
+
+    What no feed can say raises `Unsayable`, and nothing is sent; a change that the facts refuse, as the insert of an id that
+    is present, is noted in `refusals`. An answer, the first one of the opening too, the handing over of changes, or the end,
+    that takes more seconds than `timeout` ends the session, which raises `TimedOut`; one that wants more bytes of memory than
+    `max_memory` ends by a code. Where the process ends by itself, every call from then on raises `Ended` with its status and
+    last line."""
 
     def __init__(
         self,
