@@ -15,6 +15,8 @@ RELEASE = os.path.join(os.path.dirname(os.path.abspath(__file__)), "..", "releas
 PROGRAM = os.path.join(RELEASE, f"{platform.machine()}-{platform.system().lower()}", "datacube")
 PAGE = os.path.join(RELEASE, "..", "explorer", "index.html")
 HAS_PROGRAM = os.path.isfile(PROGRAM)
+# (the newest symbols of the C library that the released program asks for, which is all that it needs beside the kernel)
+LIBC = (2, 34)
 
 
 class BuildWithProgram(build_py):
@@ -23,19 +25,20 @@ class BuildWithProgram(build_py):
         if not HAS_PROGRAM:
             self.warn(f"no program at {PROGRAM}: the package will look for datacube on the PATH")
         elif not getattr(self, "editable_mode", False):
-            folder = os.path.join(self.build_lib, "datacube", "bin")
+            folder = os.path.join(self.build_lib, "jackraisin", "bin")
             os.makedirs(folder, exist_ok=True)
             shutil.copy(os.path.join(RELEASE, "NOTICES"), folder)
             os.chmod(shutil.copy(PROGRAM, folder), 0o755)
         if os.path.isfile(PAGE) and not getattr(self, "editable_mode", False):
-            shutil.copy(PAGE, os.path.join(self.build_lib, "datacube", "postgres", "explorer.html"))
+            shutil.copy(PAGE, os.path.join(self.build_lib, "jackraisin", "postgres", "explorer.html"))
 
 
 class WheelOfPlatform(bdist_wheel):
-    """Any Python 3, and where it has the program, this platform alone."""
+    """Any Python 3, and where it has the program, this kind of machine with its C library or a later one."""
 
     def get_tag(self):
-        return ("py3", "none", super().get_tag()[2])
+        of_program = f"manylinux_{LIBC[0]}_{LIBC[1]}_{platform.machine()}"
+        return ("py3", "none", of_program if HAS_PROGRAM else super().get_tag()[2])
 
 
 class WithProgram(Distribution):

@@ -24,10 +24,10 @@ mv "$files/share/zsh/site-functions/_datacube" "$files/share/zsh/vendor-completi
 rmdir "$files/share/zsh/site-functions"
 
 # The Python package, with the page that it serves; its compiled files are Python's to make and to take away.
-python=$files/lib/python3/dist-packages/datacube
+python=$files/lib/python3/dist-packages/jackraisin
 mkdir -p "$python/postgres"
-(cd "$root/python/src/datacube" && find . -type f ! -path '*/__pycache__/*') | while read -r file; do
-    install -m 644 "$root/python/src/datacube/$file" "$python/$file"
+(cd "$root/python/src/jackraisin" && find . -type f ! -path '*/__pycache__/*') | while read -r file; do
+    install -m 644 "$root/python/src/jackraisin/$file" "$python/$file"
 done
 install -m 644 "$root/explorer/index.html" "$python/postgres/explorer.html"
 cat >"$room/files/DEBIAN/postinst" <<END
@@ -62,7 +62,7 @@ Description: data cube of feeds of facts, with proved totals
  are present in the end: COUNT, SUM, MIN, MAX and AVG of every cell of every
  subset of the dimensions, as sorted CSV.
  .
- The Python package datacube asks cubes and sessions with types, and follows a
+ The Python package jackraisin asks cubes and sessions with types, and follows a
  table of PostgreSQL. A page for the browser shows printed cubes.
 END
 (cd "$room/files" && find usr -type f -print0 | LC_ALL=C sort -z | xargs -0 md5sum >DEBIAN/md5sums)

@@ -77,7 +77,7 @@ class Bench:
     @contextlib.contextmanager
     def followed(self):
         """A follower that is a process of its own, while a block runs."""
-        words = ["-m", "datacube.postgres", "--dsn", self.dsn, "--table", "sales", "--schema", self.schema]
+        words = ["-m", "jackraisin.postgres", "--dsn", self.dsn, "--table", "sales", "--schema", self.schema]
         env = {**os.environ, "PYTHONPATH": f"{ROOT}/python/src"}
         pipes = {"stdin": subprocess.PIPE, "stdout": subprocess.PIPE, "stderr": subprocess.DEVNULL}
         process = subprocess.Popen([sys.executable, *words], env=env, **pipes)
@@ -107,7 +107,7 @@ def cost(bench, rounds, seconds, waits):
 
 def freshness(bench, rate, probes, questions):
     """The time from commit to answer, and that of a question, while others write."""
-    from datacube.postgres import Follower
+    from jackraisin.postgres import Follower
 
     start = time.perf_counter()
     with Follower(bench.dsn, "sales", bench.schema) as follower:

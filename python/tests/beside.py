@@ -10,12 +10,13 @@ import tempfile
 import unittest
 from fractions import Fraction
 from typing import Any, Iterator, List, Sequence, Tuple
+from unittest import mock
 
 ROOT = os.path.dirname(os.path.dirname(os.path.dirname(os.path.realpath(__file__))))
 sys.path[:0] = [os.path.join(ROOT, "python", "src"), os.path.join(ROOT, "scripts")]
 sys.dont_write_bytecode = True
-import datacube  # noqa: E402
 import hostile  # noqa: E402
+import jackraisin  # noqa: E402
 import oracle  # noqa: E402
 import programs  # noqa: E402
 
@@ -26,7 +27,7 @@ if not os.environ.get("DATACUBE"):
 
 def has(command: str) -> bool:
     """Whether the program has a command."""
-    ran = subprocess.run([datacube.program(), command, "--help"], stdout=subprocess.DEVNULL, stderr=subprocess.DEVNULL)
+    ran = subprocess.run([jackraisin.program(), command, "--help"], stdout=subprocess.DEVNULL, stderr=subprocess.DEVNULL)
     return ran.returncode == 0
 
 
@@ -34,17 +35,39 @@ def needs(command: str) -> Any:
     return unittest.skipUnless(has(command), f"the program has no {command}")
 
 
-def schema_like(schema: oracle.Schema) -> datacube.Schema:
+# (the cells of the explorer's rows)
+ROWS = """
+return [...document.querySelectorAll("#table tbody tr[data-row]")].map((row) => [...row.children].map((it) => it.textContent));
+"""
+
+
+def browser(test: unittest.TestCase, folder: str) -> Any:
+    """A headless Chromium, with a folder for its files, or the test is skipped."""
+    try:
+        from selenium import webdriver
+    except ImportError:
+        test.skipTest("python3-selenium isn't installed for this Python")
+    if not os.path.exists("/usr/bin/chromedriver"):
+        test.skipTest("chromium-driver isn't installed")
+    options = webdriver.ChromeOptions()
+    for it in ("--headless=new", "--no-sandbox", "--disable-dev-shm-usage", "--window-size=1200,800"):
+        options.add_argument(it)
+    options.set_capability("goog:loggingPrefs", {"browser": "ALL"})
+    with mock.patch.dict(os.environ, {"TMPDIR": folder}):
+        return webdriver.Chrome(options=options)
+
+
+def schema_like(schema: oracle.Schema) -> jackraisin.Schema:
     """The oracle's schema as one of the package."""
     grouping, most = schema.grouping, schema.max_records
-    return datacube.Schema(
+    return jackraisin.Schema(
         schema.dimensions, schema.measures, schema.aggregate_texts(), grouping=grouping, version=schema.version,
         max_records=None if most == 2**32 - 1 else most,
     )
 
 
 def coordinate(it: Any) -> Any:
-    return datacube.ALL if it is oracle.ALL else None if it is None else it.decode()
+    return jackraisin.ALL if it is oracle.ALL else None if it is None else it.decode()
 
 
 def row_like(schema: oracle.Schema, row: Tuple[Any, List[str]]) -> Tuple[Any, ...]:
@@ -57,7 +80,7 @@ def rows_like(schema: oracle.Schema, rows: Sequence[Any]) -> List[Tuple[Any, ...
     return [row_like(schema, it) for it in rows]
 
 
-def rows_of(cube: datacube.Cube) -> List[Tuple[Any, ...]]:
+def rows_of(cube: jackraisin.Cube) -> List[Tuple[Any, ...]]:
     return [(it.key, it.answers) for it in cube]
 
 
@@ -88,7 +111,7 @@ def pattern(rng: random.Random, schema: oracle.Schema, keys: Sequence[Any], some
 
 def as_given(rng: random.Random, schema: oracle.Schema, wanted: Sequence[Any]) -> Any:
     """The oracle's pattern as a caller gives it: in order, or by names without those that are ALL."""
-    given = [datacube.ANY if it == "any" else coordinate(it) for it in wanted]
+    given = [jackraisin.ANY if it == "any" else coordinate(it) for it in wanted]
     if rng.random() < 0.5:
         return given
-    return {name: it for name, it in zip(schema.dimensions, given) if it is not datacube.ALL or rng.random() < 0.3}
+    return {name: it for name, it in zip(schema.dimensions, given) if it is not jackraisin.ALL or rng.random() < 0.3}

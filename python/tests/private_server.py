@@ -17,7 +17,7 @@ import unittest
 from typing import Any, Iterator, List, Optional, Sequence
 
 import beside
-import datacube
+import jackraisin
 import oracle
 import sql
 
@@ -27,7 +27,7 @@ LONG = bool(os.environ.get("DATACUBE_LONG"))
 SETTINGS = ["listen_addresses=", "fsync=off", "wal_level=logical", "max_wal_senders=20", "max_replication_slots=20", "jit=off", "deadlock_timeout=50ms"]
 DIMENSIONS, MEASURES = ["city", "product", "is_paid"], ["price", "cents"]
 AGGREGATES = ["count(*)", "count(price)", "sum(price)", "min(price)", "max(price)", "avg(price)", "sum(cents)", "min(cents)", "max(cents)", "avg(cents)"]
-SCHEMA = datacube.Schema(DIMENSIONS, MEASURES, AGGREGATES)
+SCHEMA = jackraisin.Schema(DIMENSIONS, MEASURES, AGGREGATES)
 # the writers' table, and its facts as the schema has them
 CREATE = """
 CREATE TABLE {table} (
@@ -117,7 +117,7 @@ class Private:
             rows: List[Any] = cursor.fetchall()
         return rows
 
-    def cube(self, facts: str, schema: datacube.Schema = SCHEMA) -> str:
+    def cube(self, facts: str, schema: jackraisin.Schema = SCHEMA) -> str:
         """The printed cube as GROUP BY CUBE gives it, over what a statement makes a view named facts of."""
         like = oracle.Schema(list(schema.dimensions), list(schema.measures), [aggregate(schema, it) for it in schema.aggregates])
         header = oracle.text_of(like, []).decode()
@@ -131,7 +131,7 @@ class Private:
         return header + out.read().decode()
 
 
-def aggregate(schema: datacube.Schema, text: str) -> Any:
+def aggregate(schema: jackraisin.Schema, text: str) -> Any:
     """An aggregate as the oracle has it."""
     kind, _, rest = text.partition("(")
     return kind, None if rest == "*)" else schema.measures.index(rest[:-1])

@@ -13,17 +13,18 @@ from fractions import Fraction
 from unittest import mock
 
 import beside
-import datacube
+import jackraisin
 import oracle
 from beside import SHOP, needs, rows_like, rows_of
-from datacube import ALL, ANY
+from jackraisin import ALL, ANY
 
-SCHEMA = datacube.Schema(
+SCHEMA = jackraisin.Schema(
     ["city", "product", "payment"], ["pieces", "cents"],
     ["count(*)", "sum(pieces)", "sum(cents)", "min(cents)", "max(cents)", "avg(cents)"], version=2,
 )
+NULL = "\\N"
 FEEDS = [f"{SHOP}/{it}.csv" for it in ("market", "street", "online")]
-COUNTED = datacube.Schema(["region", "kind"], ["amount"], ["count(*)", "sum(amount)"])
+COUNTED = jackraisin.Schema(["region", "kind"], ["amount"], ["count(*)", "sum(amount)"])
 
 
 def read(name):
@@ -35,7 +36,7 @@ class Shop(unittest.TestCase):
     """The shop's sales, as README tells of them."""
 
     def test_cube(self):
-        cube = datacube.cube(SCHEMA, FEEDS)
+        cube = jackraisin.cube(SCHEMA, FEEDS)
         self.assertEqual((cube.to_csv(), len(cube), cube.refused), (read("cube"), 35, True))
         self.assertEqual(cube.dimensions, ("city", "product", "payment"))
         self.assertEqual(cube[-1].key, (ALL, ALL, ALL))
@@ -43,63 +44,63 @@ class Shop(unittest.TestCase):
 
     @unittest.skipIf(sys.version_info < (3, 11), "this Python reads no TOML")
     def test_the_schema_file(self):
-        self.assertEqual(datacube.Schema.read(f"{SHOP}/schema.toml"), SCHEMA)
-        self.assertEqual(datacube.cube(f"{SHOP}/schema.toml", FEEDS).text, read("cube"))
+        self.assertEqual(jackraisin.Schema.read(f"{SHOP}/schema.toml"), SCHEMA)
+        self.assertEqual(jackraisin.cube(f"{SHOP}/schema.toml", FEEDS).text, read("cube"))
 
     def test_null_and_all_are_told_apart(self):
-        cube = datacube.cube(SCHEMA, FEEDS)
+        cube = jackraisin.cube(SCHEMA, FEEDS)
         self.assertEqual(cube.at({"city": None})["sum(cents)"], 1200)
         self.assertEqual(cube.at({})["sum(cents)"], 4450)
         self.assertIsNone(cube.at([None, "coffee", None])["avg(cents)"])
         self.assertRaises(KeyError, cube.at, {"city": "Hull"})
 
     def test_a_row_by_names(self):
-        row = datacube.cube(SCHEMA, FEEDS).at({"city": "York"})
+        row = jackraisin.cube(SCHEMA, FEEDS).at({"city": "York"})
         self.assertEqual((row["city"], row["payment"], row["count(*)"]), ("York", ALL, 2))
         self.assertEqual(row.as_dict()["sum(pieces)"], 2)
         self.assertEqual(pickle.loads(pickle.dumps(row)), row)
 
     def test_slice_drill_refusals(self):
-        self.assertEqual(datacube.slice(SCHEMA, FEEDS, {"city": ANY}).to_csv(), read("slice"))
-        self.assertEqual(datacube.drill(SCHEMA, FEEDS, {"city": "Leeds"}, "product").to_csv(), read("drill"))
-        refused = datacube.refusals(SCHEMA, FEEDS)
+        self.assertEqual(jackraisin.slice(SCHEMA, FEEDS, {"city": ANY}).to_csv(), read("slice"))
+        self.assertEqual(jackraisin.drill(SCHEMA, FEEDS, {"city": "Leeds"}, "product").to_csv(), read("drill"))
+        refused = jackraisin.refusals(SCHEMA, FEEDS)
         self.assertEqual(refused, [(2, 5, 7), (3, 3, 8), (3, 4, 5)])
-        self.assertIn("id that is present", datacube.explain(str(refused[0].code)))
+        self.assertIn("id that is present", jackraisin.explain(str(refused[0].code)))
 
     @needs("rollup")
     def test_rollup(self):
-        self.assertEqual(rows_of(datacube.rollup(SCHEMA, FEEDS, {"city": "York"}, "city"))[0][0], (ALL, ALL, ALL))
+        self.assertEqual(rows_of(jackraisin.rollup(SCHEMA, FEEDS, {"city": "York"}, "city"))[0][0], (ALL, ALL, ALL))
 
     def test_shards_add_up(self):
-        shards = [datacube.cube(SCHEMA, FEEDS, shard=(at, 3), partial=True) for at in (1, 2, 3)]
-        self.assertEqual(datacube.merge(SCHEMA, shards).text, read("cube"))
-        refused = [it for at in (1, 2, 3) for it in datacube.refusals(SCHEMA, FEEDS, shard=(at, 3))]
-        self.assertEqual(sorted(refused), datacube.refusals(SCHEMA, FEEDS))
-        nested = datacube.merge(SCHEMA, shards[:2], partial=True)
-        self.assertEqual(datacube.merge(SCHEMA, [nested, shards[2]]).text, read("cube"))
+        shards = [jackraisin.cube(SCHEMA, FEEDS, shard=(at, 3), partial=True) for at in (1, 2, 3)]
+        self.assertEqual(jackraisin.merge(SCHEMA, shards).text, read("cube"))
+        refused = [it for at in (1, 2, 3) for it in jackraisin.refusals(SCHEMA, FEEDS, shard=(at, 3))]
+        self.assertEqual(sorted(refused), jackraisin.refusals(SCHEMA, FEEDS))
+        nested = jackraisin.merge(SCHEMA, shards[:2], partial=True)
+        self.assertEqual(jackraisin.merge(SCHEMA, [nested, shards[2]]).text, read("cube"))
         total = lambda shard: [
-            datacube.slice(SCHEMA, FEEDS, {}, shard=shard)[0]["count(*)"],
-            sum(row["count(*)"] for row in datacube.drill(SCHEMA, FEEDS, {}, "city", shard=shard)),
-            datacube.rollup(SCHEMA, FEEDS, {}, "city", shard=shard)[0]["count(*)"],
+            jackraisin.slice(SCHEMA, FEEDS, {}, shard=shard)[0]["count(*)"],
+            sum(row["count(*)"] for row in jackraisin.drill(SCHEMA, FEEDS, {}, "city", shard=shard)),
+            jackraisin.rollup(SCHEMA, FEEDS, {}, "city", shard=shard)[0]["count(*)"],
         ]
         self.assertEqual([one + two for one, two in zip(total((1, 2)), total((2, 2)))], [7] * 3)
-        with self.assertRaises(datacube.Failure) as caught:
-            datacube.cube(SCHEMA, FEEDS, shard=(4, 3))
+        with self.assertRaises(jackraisin.Failure) as caught:
+            jackraisin.cube(SCHEMA, FEEDS, shard=(4, 3))
         self.assertEqual(caught.exception.status, 2)
 
     def test_merging_files(self):
         with tempfile.TemporaryDirectory() as room:
             parts = [f"{room}/{at}.csv" for at in range(len(FEEDS))]
             for feed, part in zip(FEEDS, parts):
-                datacube.cube(SCHEMA, feed, partial=True).to_csv(part)
-            merged = datacube.merge(SCHEMA, parts)
+                jackraisin.cube(SCHEMA, feed, partial=True).to_csv(part)
+            merged = jackraisin.merge(SCHEMA, parts)
             self.assertEqual((merged.text, merged.refused), (read("cube"), None))
-            with self.assertRaises(datacube.Failure) as caught:
-                datacube.merge(SCHEMA, [parts[0], parts[0]])
+            with self.assertRaises(jackraisin.Failure) as caught:
+                jackraisin.merge(SCHEMA, [parts[0], parts[0]])
             self.assertEqual((caught.exception.code, caught.exception.status), ("M2", 2))
 
     def test_to_csv_writes_the_bytes(self):
-        cube = datacube.cube(SCHEMA, FEEDS[0])
+        cube = jackraisin.cube(SCHEMA, FEEDS[0])
         with tempfile.TemporaryDirectory() as folder:
             cube.to_csv(f"{folder}/cube.csv")
             with open(f"{folder}/cube.csv", "rb") as file:
@@ -110,7 +111,7 @@ class LongTexts(unittest.TestCase):
     """Texts that are longer than the fields that csv takes, whose limit is one for the whole process."""
 
     def test_importing_leaves_the_limit(self):
-        modules = "datacube, datacube.postgres, datacube.postgres.__main__" if has_psycopg2() else "datacube"
+        modules = "jackraisin, jackraisin.postgres, jackraisin.postgres.__main__" if has_psycopg2() else "jackraisin"
         code = f"import csv; before = csv.field_size_limit(); import {modules}; print(csv.field_size_limit() == before)"
         env = {**os.environ, "PYTHONPATH": f"{beside.ROOT}/python/src"}
         self.assertEqual(subprocess.run([sys.executable, "-B", "-c", code], env=env, stdout=subprocess.PIPE, text=True).stdout, "True\n")
@@ -121,13 +122,13 @@ class LongTexts(unittest.TestCase):
         city = "a city, " * 100_000
         text = f'city,grouping(city),count(*)\n"{city}",0,1\n'
         found = []
-        threads = [threading.Thread(target=lambda: found.extend(it.at({"city": city}).answers for it in map(datacube.Cube, [text] * 20))) for _ in range(8)]
+        threads = [threading.Thread(target=lambda: found.extend(it.at({"city": city}).answers for it in map(jackraisin.Cube, [text] * 20))) for _ in range(8)]
         for it in threads:
             it.start()
         for it in threads:
             it.join()
         self.assertEqual((found, csv.field_size_limit()), ([(1,)] * 160, 1000))
-        self.assertRaises(datacube.Unreadable, lambda: list(datacube.Cube(f"{text}what\n")))
+        self.assertRaises(jackraisin.Unreadable, lambda: list(jackraisin.Cube(f"{text}what\n")))
         self.assertEqual(csv.field_size_limit(), 1000)
         self.assertRaises(csv.Error, lambda: list(csv.reader(io.StringIO(text))))
 
@@ -149,7 +150,7 @@ class Pandas(unittest.TestCase):
         self.pandas = pandas
 
     def test_frame(self):
-        cube = datacube.cube(SCHEMA, FEEDS)
+        cube = jackraisin.cube(SCHEMA, FEEDS)
         frame = cube.to_pandas()
         self.assertEqual(list(frame.columns), list(cube.aggregates))
         self.assertEqual(frame.index.names, list(cube.dimensions))
@@ -167,7 +168,7 @@ class Pandas(unittest.TestCase):
             rng = random.Random(f"pandas {seed}")
             schema, feeds = beside.small_case(rng)
             with beside.written(schema, feeds, rng) as paths:
-                cube = datacube.cube(beside.schema_like(schema), paths)
+                cube = jackraisin.cube(beside.schema_like(schema), paths)
             frame = cube.to_pandas()
             null = lambda it: None if self.pandas.isna(it) else it
             got = [tuple(map(null, it)) for it in frame.itertuples(index=False, name=None)]
@@ -176,8 +177,78 @@ class Pandas(unittest.TestCase):
 
     def test_large_numbers_and_no_rows(self):
         text = "a,grouping(a),sum(m)\nx,0,170141183460469231731687303715884105727\n"
-        self.assertEqual(datacube.Cube(text).to_pandas()["sum(m)"].iloc[0], 2**127 - 1)
-        self.assertEqual(datacube.Cube("a,grouping(a),sum(m)\n").to_pandas().shape, (0, 1))
+        self.assertEqual(jackraisin.Cube(text).to_pandas()["sum(m)"].iloc[0], 2**127 - 1)
+        self.assertEqual(jackraisin.Cube("a,grouping(a),sum(m)\n").to_pandas().shape, (0, 1))
+
+
+    def test_no_row_is_made_on_the_way(self):
+        cube = jackraisin.cube(SCHEMA, FEEDS)
+        frame = cube.to_pandas()
+        self.assertEqual((len(frame), len(cube)), (35, 35))
+        self.assertNotIn("_rows", vars(cube))
+
+    def test_odd_texts(self):
+        """Each is a city, with a count and a mean; the numbers tell which one came out where."""
+        odd = ["", "\ufeffmark", "a\0b", "a\rb", "a\nb", "a\r\nb", 'say "tea"', "a,b", " a ", "1", "nan", "NA", "None", "\\A", "1/2", "True", "é", "\U0001f375", "'"]
+        for cities in [odd, *([it] for it in odd)]:
+            cities = sorted(cities)
+            out = io.StringIO(newline="")
+            lines = [[it, "0", str(at), f"{2 * at + 1}/2"] for at, it in enumerate(cities)]
+            csv.writer(out, quoting=csv.QUOTE_ALL).writerows([["city", "grouping(city)", "count(*)", "avg(x)"], *lines, ["\\N", "0", "\\N", "\\N"], ["\\N", "1", "7", "7/1"]])
+            cube = jackraisin.Cube(out.getvalue())
+            if "\0" in out.getvalue() and sys.version_info < (3, 11):
+                self.assertRaises(jackraisin.Unreadable, cube.to_pandas)
+                continue
+            frame = cube.to_pandas()
+            index, counts, means = (list(it) for it in (frame.index.get_level_values(0), frame["count(*)"], frame["avg(x)"]))
+            self.assertEqual([*index[:-2], index[-1]], [*cities, ALL])
+            self.assertTrue(self.pandas.isna(index[-2]) and self.pandas.isna(counts[-2]) and means[-2] is None)
+            self.assertEqual([*counts[:-2], counts[-1]], [*range(len(cities)), 7])
+            self.assertEqual([*means[:-2], means[-1]], [*(Fraction(2 * it + 1, 2) for it in range(len(cities))), 7])
+
+    def test_whole_numbers_are_exact(self):
+        for numbers in ([2**53 + 1, None], [2**63 - 1, -(2**63)], [2**63, 1], [2**64, None, -5], [None, None], [0, None, -(2**53)]):
+            lines = "".join(f"t{at},0,{NULL if it is None else it}\n" for at, it in enumerate(numbers))
+            frame = jackraisin.Cube(f"a,grouping(a),sum(m)\n{lines}").to_pandas()
+            got = [None if self.pandas.isna(it) else int(it) for it in frame["sum(m)"]]
+            self.assertEqual(got, numbers)
+            fits = all(it is None or -(2**63) <= it < 2**63 for it in numbers)
+            self.assertEqual(str(frame["sum(m)"].dtype), "Int64" if fits else "object")
+
+    def test_means_are_in_lowest_terms(self):
+        cube = jackraisin.Cube("a,grouping(a),avg(m)\nx,0,2/4\ny,0,-3/1\n")
+        means = list(cube.to_pandas()["avg(m)"])
+        self.assertEqual((means, [it.denominator for it in means], [hash(it) for it in means]), ([Fraction(1, 2), -3], [2, 1], [hash(0.5), hash(-3)]))
+
+    def test_texts_that_are_no_cube(self):
+        head = "a,grouping(a),sum(m),avg(m)\n"
+        for line in ("x,0,1\n", "x,0,1,1/1,1\n", "x,0,1,1/1\n\nx,0,1,1/1\n", "x,0,one,1/1\n", "x,0,1.5,1/1\n", "x,0,1,1/0\n", "x,0,1,a/b\n", "x,0,1,1/2/3\n", "x,0,\\N,1/1\ny,0,1.5,1/1\n"):
+            with self.subTest(line):
+                self.assertRaises(jackraisin.Unreadable, jackraisin.Cube(head + line).to_pandas)
+                self.assertRaises(jackraisin.Unreadable, lambda: list(jackraisin.Cube(head + line)))
+
+
+class Notebooks(unittest.TestCase):
+    def test_the_first_rows_and_how_many_there_are(self):
+        page = jackraisin.cube(SCHEMA, FEEDS)._repr_html_()
+        self.assertEqual(page.count("<tr>"), 1 + 10)
+        self.assertIn("<p>35 rows, of which 25 more are not shown</p>", page)
+        self.assertIn("<th>product</th>", page)
+        cube = jackraisin.Cube("a,grouping(a),count(*),avg(m)\nALL,0,1,1/3\n\\N,0,2,\\N\n\\N,1,3,2/1\n")
+        row = lambda *cells: f"<tr>{''.join(cells)}</tr>"
+        number = lambda it: f'<td style="text-align: right">{it}</td>'
+        null = "<td><i>null</i></td>"
+        lines = row("<td>ALL</td>", number(1), number("1/3")) + row(null, number(2), null) + row("<td><i>ALL</i></td>", number(3), number(2))
+        self.assertTrue(cube._repr_html_().endswith(f"<tbody>{lines}</tbody></table><p>3 rows</p>"), cube._repr_html_())
+
+    def test_nothing_of_a_text_is_markup(self):
+        evil = '<script>alert("1")</script>&amp;'
+        head, cell = f"<b>{evil}", evil.replace('"', '""')
+        quoted = head.replace('"', '""')
+        page = jackraisin.Cube(f'"{quoted}","grouping({quoted})","sum({quoted})"\n"{cell}",0,1\n')._repr_html_()
+        self.assertNotIn("<script", page)
+        self.assertNotIn("<b>", page)
+        self.assertEqual(page.count("&lt;script&gt;alert(&quot;1&quot;)&lt;/script&gt;&amp;amp;"), 3)
 
 
 class Generated(unittest.TestCase):
@@ -192,7 +263,7 @@ class Generated(unittest.TestCase):
 
     def test_cubes(self):
         for _, schema, paths, run in self.each(60):
-            cube = datacube.cube(beside.schema_like(schema), paths, threads=2)
+            cube = jackraisin.cube(beside.schema_like(schema), paths, threads=2)
             self.assertEqual(rows_of(cube), rows_like(schema, run.rows))
             self.assertEqual((cube.text.encode(), cube.refused), (run.print(), bool(run.refused)))
             self.assertEqual(list(cube.dimensions), schema.dimensions)
@@ -203,14 +274,14 @@ class Generated(unittest.TestCase):
     def test_shards(self):
         for rng, schema, paths, run in self.each(30):
             like, count = beside.schema_like(schema), rng.choice([1, 2, 5])
-            parts = [datacube.cube(like, paths, shard=(at, count), partial=True) for at in range(1, count + 1)]
-            self.assertEqual(datacube.merge(like, parts).text.encode(), run.print())
+            parts = [jackraisin.cube(like, paths, shard=(at, count), partial=True) for at in range(1, count + 1)]
+            self.assertEqual(jackraisin.merge(like, parts).text.encode(), run.print())
             self.assertEqual(any(it.refused for it in parts), bool(run.refused))
 
     def test_slices(self):
         for rng, schema, paths, run in self.each(60):
             wanted = beside.pattern(rng, schema, [it for it, _ in run.rows], ["any", oracle.ALL, None, b"a", b'"'])
-            cube = datacube.slice(beside.schema_like(schema), paths, beside.as_given(rng, schema, wanted))
+            cube = jackraisin.slice(beside.schema_like(schema), paths, beside.as_given(rng, schema, wanted))
             self.assertEqual(rows_of(cube), rows_like(schema, oracle.matching(run.rows, wanted)))
 
     def test_drills(self):
@@ -220,23 +291,23 @@ class Generated(unittest.TestCase):
             given = beside.schema_like(schema), paths, beside.as_given(rng, schema, cell), schema.dimensions[at]
             wanted = run.drill(cell, at)
             if isinstance(wanted, str):
-                with self.assertRaises(datacube.Failure) as caught:
-                    datacube.drill(*given)
+                with self.assertRaises(jackraisin.Failure) as caught:
+                    jackraisin.drill(*given)
                 self.assertEqual((caught.exception.code, caught.exception.status), (wanted, 2))
             else:
-                self.assertEqual(datacube.drill(*given).text.encode(), wanted)
+                self.assertEqual(jackraisin.drill(*given).text.encode(), wanted)
 
     @needs("rollup")
     def test_rollups(self):
         for rng, schema, paths, run in self.each(30):
             cell = beside.pattern(rng, schema, [it for it, _ in run.rows], [oracle.ALL, None])
             at = rng.randrange(len(cell))
-            got = datacube.rollup(beside.schema_like(schema), paths, beside.as_given(rng, schema, cell), schema.dimensions[at])
+            got = jackraisin.rollup(beside.schema_like(schema), paths, beside.as_given(rng, schema, cell), schema.dimensions[at])
             self.assertEqual(got.text.encode(), run.rollup(cell, at))
 
     def test_refusals(self):
         for _, schema, paths, run in self.each(30):
-            self.assertEqual(datacube.refusals(beside.schema_like(schema), paths), run.refused)
+            self.assertEqual(jackraisin.refusals(beside.schema_like(schema), paths), run.refused)
 
     @unittest.skipIf(sys.version_info < (3, 11), "this Python reads no TOML")
     def test_schemas_come_back(self):
@@ -244,7 +315,7 @@ class Generated(unittest.TestCase):
             given = beside.schema_like(schema)
             given.check()
             with given.file() as path:
-                self.assertEqual(datacube.Schema.read(path), given)
+                self.assertEqual(jackraisin.Schema.read(path), given)
                 with open(path, "rb") as file:
                     self.assertEqual(vars(oracle.schema_of(file.read())), vars(schema))
 
@@ -253,7 +324,7 @@ class Faults(unittest.TestCase):
     """What goes wrong is told by its code, and by what `explain` says of it."""
 
     def refused(self, line, status, call, *words):
-        with self.assertRaises(datacube.Failure) as caught:
+        with self.assertRaises(jackraisin.Failure) as caught:
             call(*words)
         self.assertEqual((caught.exception.line, caught.exception.status), (line, status))
         self.assertIn("mend:", str(caught.exception))
@@ -261,34 +332,34 @@ class Faults(unittest.TestCase):
         return caught.exception
 
     def test_schemas(self):
-        self.refused("schema unreadable", 3, datacube.cube, "none.toml", FEEDS)
-        twice = datacube.Schema(["a", "a"], ["m"], ["count(*)"])
+        self.refused("schema unreadable", 3, jackraisin.cube, "none.toml", FEEDS)
+        twice = jackraisin.Schema(["a", "a"], ["m"], ["count(*)"])
         self.assertEqual(self.refused("S6", 3, twice.check).code, "S6")
-        self.refused("S6", 3, datacube.cube, twice, FEEDS)
+        self.refused("S6", 3, jackraisin.cube, twice, FEEDS)
 
     def test_feeds(self):
-        self.refused("feed 2 unreadable", 1, datacube.cube, COUNTED, [os.devnull, "none.csv"])
-        failure = self.refused("G3 1 F3", 1, datacube.cube, COUNTED, FEEDS)
+        self.refused("feed 2 unreadable", 1, jackraisin.cube, COUNTED, [os.devnull, "none.csv"])
+        failure = self.refused("G3 1 F3", 1, jackraisin.cube, COUNTED, FEEDS)
         self.assertIn("G3: run", failure.meaning)
         self.assertIn("F3: feed", failure.meaning)
-        self.refused("too many feeds", 2, datacube.cube, COUNTED, [os.devnull] * 65)
+        self.refused("too many feeds", 2, jackraisin.cube, COUNTED, [os.devnull] * 65)
 
     def test_cells(self):
-        self.refused("P5", 2, datacube.drill, COUNTED, os.devnull, {}, "colour")
-        self.refused("P3", 2, datacube.drill, COUNTED, os.devnull, [ANY, ALL], "kind")
-        self.refused("P4", 2, datacube.drill, COUNTED, os.devnull, ["west", ALL], "region")
+        self.refused("P5", 2, jackraisin.drill, COUNTED, os.devnull, {}, "colour")
+        self.refused("P3", 2, jackraisin.drill, COUNTED, os.devnull, [ANY, ALL], "kind")
+        self.refused("P4", 2, jackraisin.drill, COUNTED, os.devnull, ["west", ALL], "region")
 
     def test_what_cant_be_said(self):
         for cell in ({"colour": "red"}, [ALL], [ALL] * 3, {"kind": "\ud800"}, {"kind": "a\0"}):
-            self.assertRaises(datacube.Unsayable, datacube.slice, COUNTED, os.devnull, cell)
-        for cell in ("?,?", {"kind": 5}, {"kind": datacube.KEEP}):
-            self.assertRaises(TypeError, datacube.slice, COUNTED, os.devnull, cell)
+            self.assertRaises(jackraisin.Unsayable, jackraisin.slice, COUNTED, os.devnull, cell)
+        for cell in ("?,?", {"kind": 5}, {"kind": jackraisin.KEEP}):
+            self.assertRaises(TypeError, jackraisin.slice, COUNTED, os.devnull, cell)
 
     def test_no_program(self):
         with mock.patch.dict(os.environ, DATACUBE="/nowhere/datacube"):
-            self.assertRaises(datacube.ProgramNotFound, datacube.cube, COUNTED, os.devnull)
-        with mock.patch.dict(os.environ, DATACUBE="", PATH=""), mock.patch.object(datacube._program, "BESIDE", "/nowhere"):
-            self.assertRaises(datacube.ProgramNotFound, datacube.explain, "P2")
+            self.assertRaises(jackraisin.ProgramNotFound, jackraisin.cube, COUNTED, os.devnull)
+        with mock.patch.dict(os.environ, DATACUBE="", PATH=""), mock.patch.object(jackraisin._program, "BESIDE", "/nowhere"):
+            self.assertRaises(jackraisin.ProgramNotFound, jackraisin.explain, "P2")
 
     def test_paths_that_look_like_options(self):
         with tempfile.TemporaryDirectory() as folder:
@@ -297,15 +368,15 @@ class Faults(unittest.TestCase):
             before = os.getcwd()
             os.chdir(folder)
             self.addCleanup(os.chdir, before)
-            self.assertEqual(datacube.cube(COUNTED, "--help").at({})["sum(amount)"], 5)
+            self.assertEqual(jackraisin.cube(COUNTED, "--help").at({})["sum(amount)"], 5)
 
     def test_texts_that_are_no_cube(self):
         for text in ("", "a,b\n", "a,grouping(b),count(*)\n", "source,record,code\n"):
-            self.assertRaises(datacube.Unreadable, datacube.Cube, text)
-        self.assertRaises(datacube.Unreadable, len, datacube.Cube("a,grouping(a),count(*)\nx,0\n"))
+            self.assertRaises(jackraisin.Unreadable, jackraisin.Cube, text)
+        self.assertRaises(jackraisin.Unreadable, len, jackraisin.Cube("a,grouping(a),count(*)\nx,0\n"))
 
     def test_names_that_look_like_others(self):
-        cube = datacube.Cube("a,grouping(a),grouping(a),grouping(grouping(a)),count(*)\nx,\\N,0,1,3\n")
+        cube = jackraisin.Cube("a,grouping(a),grouping(a),grouping(grouping(a)),count(*)\nx,\\N,0,1,3\n")
         self.assertEqual((cube.dimensions, rows_of(cube)), (("a", "grouping(a)"), [(("x", ALL), (3,))]))
 
 

@@ -8,15 +8,15 @@ import threading
 import unittest
 
 import beside
-import datacube
+import jackraisin
 import hostile
 import oracle
 from beside import needs, rows_like, rows_of
-from datacube import ALL, ANY, KEEP, Live
+from jackraisin import ALL, ANY, KEEP, Live
 
-PLAIN = datacube.Schema(["region", "kind"], ["amount"], ["count(*)", "sum(amount)", "avg(amount)"])
-KEEPING = datacube.Schema(["region", "kind"], ["amount"], ["count(*)", "sum(amount)"], version=2)
-SHORT = datacube.Schema(["region"], ["amount"], ["count(*)"], max_records=2)
+PLAIN = jackraisin.Schema(["region", "kind"], ["amount"], ["count(*)", "sum(amount)", "avg(amount)"])
+KEEPING = jackraisin.Schema(["region", "kind"], ["amount"], ["count(*)", "sum(amount)"], version=2)
+SHORT = jackraisin.Schema(["region"], ["amount"], ["count(*)"], max_records=2)
 TEXTS = [it.decode() for it in hostile.TEXTS]
 
 
@@ -57,7 +57,7 @@ class Player:
         elif kind == 1:
             answer = run.drill(wanted, at)
             if isinstance(answer, str):
-                with test.assertRaises(datacube.Failure) as caught:
+                with test.assertRaises(jackraisin.Failure) as caught:
                     self.live.drill(given, schema.dimensions[at])
                 test.assertEqual((caught.exception.line, caught.exception.status), (answer, None))
             else:
@@ -147,7 +147,7 @@ class Says(unittest.TestCase):
                 lambda: keeping.insert(1, "a", [KEEP, "x"], [1]),
                 lambda: live.ask("1", "I", "a"),
             ):
-                self.assertRaises(datacube.Unsayable, call)
+                self.assertRaises(jackraisin.Unsayable, call)
             for call in (
                 lambda: live.insert(1, "a", ["w", 5], [1]),
                 lambda: live.insert(1, "a", ["w", "x"], [1.5]),
@@ -181,7 +181,7 @@ class Says(unittest.TestCase):
                 ("Q1", lambda: live.ask("stop")),
                 ("Q2", lambda: live.ask("slice", "?")),
             ):
-                with self.assertRaises(datacube.Failure) as caught:
+                with self.assertRaises(jackraisin.Failure) as caught:
                     call()
                 self.assertEqual((caught.exception.line, caught.exception.status), (line, None))
             self.assertIn("mend:", str(caught.exception) if line[0] == "P" else "mend:")
@@ -196,7 +196,7 @@ class Ends(unittest.TestCase):
         with Live(PLAIN) as live:
             live.delete(3, "nobody")
         self.assertEqual((live.status, live.close()), (4, 4))
-        with self.assertRaises(datacube.Ended):
+        with self.assertRaises(jackraisin.Ended):
             live.cube()
 
     def test_shards(self):
@@ -223,13 +223,13 @@ class Ends(unittest.TestCase):
             live._process.wait()
             with Live(PLAIN, store=store) as live:
                 self.assertEqual(live.slice({})[0]["count(*)"], 2)
-                with self.assertRaises(datacube.Failure) as failed:
-                    datacube.cube(PLAIN, [], store=store)
+                with self.assertRaises(jackraisin.Failure) as failed:
+                    jackraisin.cube(PLAIN, [], store=store)
                 self.assertEqual((failed.exception.line, failed.exception.status), ("D1", 1))
-                with self.assertRaises(datacube.Ended) as caught:
+                with self.assertRaises(jackraisin.Ended) as caught:
                     Live(PLAIN, store=store)
                 self.assertEqual((caught.exception.line, caught.exception.status), ("D1", 1))
-            with self.assertRaises(datacube.Ended) as caught:
+            with self.assertRaises(jackraisin.Ended) as caught:
                 Live(SHORT, store=store)
             self.assertEqual((caught.exception.line, caught.exception.status), ("D5 0", 1))
 
@@ -237,21 +237,21 @@ class Ends(unittest.TestCase):
         """What is asked of a store is what its session answered last; a store that isn't there isn't made."""
         with tempfile.TemporaryDirectory() as folder:
             store = os.path.join(folder, "sales.db")
-            with self.assertRaises(datacube.Failure) as caught:
-                datacube.cube(PLAIN, [], store=store)
+            with self.assertRaises(jackraisin.Failure) as caught:
+                jackraisin.cube(PLAIN, [], store=store)
             self.assertEqual((caught.exception.line, caught.exception.status, os.listdir(folder)), ("D2", 1, []))
             with Live(PLAIN, store=store) as live:
                 live.insert(1, "a", ["west", "tea"], [2])
                 live.insert(1, "a", ["west", "tea"], [2])
                 answers = (live.cube().text, live.slice({}).text, live.refusals())
             for wary in (False, True):
-                cube, total = datacube.cube(PLAIN, [], store=store, wary=wary), datacube.slice(PLAIN, [], {}, store=store, wary=wary)
-                self.assertEqual((cube.text, total.text, datacube.refusals(PLAIN, [], store=store, wary=wary)), answers)
+                cube, total = jackraisin.cube(PLAIN, [], store=store, wary=wary), jackraisin.slice(PLAIN, [], {}, store=store, wary=wary)
+                self.assertEqual((cube.text, total.text, jackraisin.refusals(PLAIN, [], store=store, wary=wary)), answers)
                 self.assertEqual((cube.refused, total.refused), (True, True))
 
     def test_faults_of_feeds_are_told_at_once(self):
         for feeds, line, status in ((["none.csv"], "feed 1 unreadable", 1), ([__file__], "G3 1 F3", 1), ([os.devnull] * 65, "too many feeds", 2)):
-            with self.assertRaises(datacube.Ended) as caught:
+            with self.assertRaises(jackraisin.Ended) as caught:
                 Live(PLAIN, feeds)
             self.assertEqual((caught.exception.line, caught.exception.status), (line, status))
 
@@ -260,14 +260,14 @@ class Ends(unittest.TestCase):
         for at in range(3):
             live.insert(2, str(at), ["a"], [at])
         for call in (live.cube, live.cube, live.close, lambda: live.insert(2, "x", ["a"], [1])):
-            with self.assertRaises(datacube.Ended) as caught:
+            with self.assertRaises(jackraisin.Ended) as caught:
                 call()
             self.assertEqual((caught.exception.line, caught.exception.status), ("G3 2 F4", 1))
 
     def test_a_killed_program(self):
         live = Live(PLAIN)
         os.kill(live._process.pid, signal.SIGKILL)
-        with self.assertRaises(datacube.Ended) as caught:
+        with self.assertRaises(jackraisin.Ended) as caught:
             for at in range(100000):
                 live.insert(1, str(at), ["west", "x"], [at])
         self.assertEqual(caught.exception.status, -signal.SIGKILL)
@@ -295,7 +295,7 @@ class Ends(unittest.TestCase):
             self.assertRaises(Late, live.cube)
         finally:
             signal.signal(signal.SIGALRM, before)
-        self.assertRaises(datacube.Ended, live.cube)
+        self.assertRaises(jackraisin.Ended, live.cube)
         self.assertEqual(live.status, -signal.SIGKILL)
 
 

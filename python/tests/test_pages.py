@@ -1,11 +1,14 @@
-"""The first minutes of docs/PYTHON.md and docs/POSTGRES.md, word for word, as a new user of this machine would have them.
+"""The examples of docs/PYTHON.md, and the first minutes of docs/PYTHON.md and docs/POSTGRES.md, word for word, as a new user of
+this machine would have them.
 
-They run where DATACUBE_LONG=1 is in the environment: an installation takes its time."""
+The first minutes run where DATACUBE_LONG=1 is in the environment: an installation takes its time."""
+import importlib.util
 import os
 import re
 import shutil
 import socket
 import subprocess
+import sys
 import tempfile
 import unittest
 
@@ -33,6 +36,24 @@ def why_not():
         return "Debian's python3 or curl isn't installed"
     lacks = subprocess.run(["/usr/bin/python3", "-c", "import venv, ensurepip, setuptools, wheel, psycopg2"], stderr=subprocess.DEVNULL).returncode
     return "Debian's python3-venv, python3-setuptools, python3-wheel or python3-psycopg2 isn't installed" if lacks else private_server.missing()
+
+
+class Examples(unittest.TestCase):
+    """Each example of docs/PYTHON.md, one after the other in one Python, and what it says below."""
+
+    @unittest.skipIf(sys.version_info < (3, 11) or not importlib.util.find_spec("pandas"), "the examples want Python 3.11 and pandas")
+    def test_python(self):
+        with open(f"{beside.ROOT}/docs/PYTHON.md", encoding="utf-8") as file:
+            found = [(it[1], it[2]) for it in BLOCK.finditer(file.read())]
+        pairs = list(zip(found, [*found[1:], ("end", "")]))
+        code = "".join(text + "print('-- end')\n" * (following == "") for (kind, text), (following, _) in pairs if kind == "python")
+        env = {**os.environ, "PYTHONPATH": f"{beside.ROOT}/python/src"}
+        how = {"cwd": beside.ROOT, "env": env, "stdout": subprocess.PIPE, "stderr": subprocess.STDOUT, "text": True}
+        ran = subprocess.run([sys.executable, "-B", "-"], input=code, **how)
+        said = re.sub(r" +$", "", ran.stdout, flags=re.MULTILINE).split("-- end\n")
+        wanted = [text for (kind, _), (following, text) in pairs if kind == "python" and following == ""]
+        self.assertGreater(len(wanted), 5)
+        self.assertEqual(said, [*wanted, ""])
 
 
 @unittest.skipIf(why_not(), f"the first minutes of the pages: {why_not()}")

@@ -18,19 +18,20 @@ from fractions import Fraction
 from unittest import mock
 
 import beside
-import datacube
+import jackraisin
 import private_server
 import sql
-from datacube import ALL, ANY, KEEP
+from beside import ROWS, browser
+from jackraisin import ALL, ANY, KEEP
 from private_server import CREATE, FACTS, LONG, SCHEMA, until
 
 WHY = private_server.missing()
 if WHY is None:
     import psycopg2.errors
-    from datacube import postgres
-    from datacube.postgres import CantFollow, ColumnsChanged, Follower, NotCaughtUp, RowUnsayable, _metrics, _values
+    from jackraisin import postgres
+    from jackraisin.postgres import CantFollow, ColumnsChanged, Follower, NotCaughtUp, RowUnsayable, _metrics, _values
 
-SALES = datacube.Schema(["city", "product"], ["cents"], ["count(*)", "sum(cents)"])
+SALES = jackraisin.Schema(["city", "product"], ["cents"], ["count(*)", "sum(cents)"])
 SECONDS = 60
 PRIVATE = None
 
@@ -87,7 +88,7 @@ class Base(unittest.TestCase):
         return follower
 
     def looking_often(self):
-        often = mock.patch("datacube.postgres._follower.SECONDS_BETWEEN_LOOKS", 0.1)
+        often = mock.patch("jackraisin.postgres._follower.SECONDS_BETWEEN_LOOKS", 0.1)
         often.start()
         self.addCleanup(often.stop)
 
@@ -264,7 +265,7 @@ class Restarts(WithWriters):
         until(lambda: not follower.state.is_connected)
         until(lambda: self.drop_slots())
         self.writers.run(20)
-        with self.assertLogs("datacube.postgres", "WARNING") as told:
+        with self.assertLogs("jackraisin.postgres", "WARNING") as told:
             way.is_shut = False
             until(lambda: follower.state.copies == 2)
         self.assertIn("copied again", "".join(told.output))
@@ -297,7 +298,7 @@ class Restarts(WithWriters):
 def run(*words):
     """A run of the command to its end."""
     how = {"stdin": subprocess.DEVNULL, "stdout": subprocess.PIPE, "stderr": subprocess.PIPE, "text": True, "env": environment()}
-    return subprocess.run([sys.executable, "-m", "datacube.postgres", *words], **how)
+    return subprocess.run([sys.executable, "-m", "jackraisin.postgres", *words], **how)
 
 
 def environment():
@@ -310,7 +311,7 @@ class Command:
 
     def __init__(self, *words):
         pipes = {"stdin": subprocess.PIPE, "stdout": subprocess.PIPE, "stderr": subprocess.DEVNULL}
-        self.process = subprocess.Popen([sys.executable, "-m", "datacube.postgres", *words], env=environment(), **pipes)
+        self.process = subprocess.Popen([sys.executable, "-m", "jackraisin.postgres", *words], env=environment(), **pipes)
 
     def ask(self, question):
         self.process.stdin.write(f"{question}\n".encode())
@@ -391,7 +392,7 @@ class Moments(Base):
             return found
 
         follower, answers = Follower(PRIVATE.dsn, self.table, SALES), []
-        with mock.patch("datacube.postgres._follower.copy_table", slowly), follower:
+        with mock.patch("jackraisin.postgres._follower.copy_table", slowly), follower:
             while not answers:
                 try:
                     answers.append(follower.slice({})[0]["count(*)"])
@@ -414,7 +415,7 @@ class Moments(Base):
                     statements.clear()
                     return found or look(*words)
 
-                with mock.patch("datacube.postgres._copy.look", late), self.assertLogs("datacube.postgres", "WARNING") as told:
+                with mock.patch("jackraisin.postgres._copy.look", late), self.assertLogs("jackraisin.postgres", "WARNING") as told:
                     follower = self.follower()
                 self.assertIn(words, told.output[0])
                 self.same(follower)
@@ -436,7 +437,7 @@ class Moments(Base):
         """It doesn't stay in memory, and comes whole."""
         self.sales()
         follower = self.follower()
-        with mock.patch("datacube.postgres._stream.IN_MEMORY", 1000), mock.patch("datacube.postgres._mirror.IN_MEMORY", 1000):
+        with mock.patch("jackraisin.postgres._stream.IN_MEMORY", 1000), mock.patch("jackraisin.postgres._mirror.IN_MEMORY", 1000):
             self.run_sql("INSERT INTO {table} SELECT n, 'city ' || n % 10, NULL, n FROM generate_series(1, 20000) AS n")
             follower.catch_up(SECONDS)
         self.assertEqual(follower.slice({})[0]["count(*)"], 20000)
@@ -526,7 +527,7 @@ class ChangedAndBack(Base):
             with self.subTest(name):
                 self.anew()
                 # (what is between isn't looked at)
-                with mock.patch("datacube.postgres._follower.SECONDS_BETWEEN_LOOKS", 1000):
+                with mock.patch("jackraisin.postgres._follower.SECONDS_BETWEEN_LOOKS", 1000):
                     follower = self.follower()
                     self.change_and_back(name)
                 self.same(follower)
@@ -597,7 +598,7 @@ class ChangedAndBack(Base):
 
     def test_truncate_before_the_first_look(self):
         self.anew()
-        with mock.patch("datacube.postgres._follower.SECONDS_BETWEEN_LOOKS", 1000):
+        with mock.patch("jackraisin.postgres._follower.SECONDS_BETWEEN_LOOKS", 1000):
             follower = self.follower()
             self.run_sql("TRUNCATE {table}", "INSERT INTO {table} VALUES (1, 'Hull', 'tea', 9)")
         self.same(follower)
@@ -615,7 +616,7 @@ class ChangedAndBack(Base):
             statements.clear()
             return found
 
-        with mock.patch("datacube.postgres._follower.look", and_more):
+        with mock.patch("jackraisin.postgres._follower.look", and_more):
             until(lambda: not statements, SECONDS)
             self.same(follower)
             until(lambda: follower.state.looked >= PRIVATE.lsn(), SECONDS)
@@ -692,7 +693,7 @@ class Rows(Base):
             "INSERT INTO {table} VALUES (gen_random_uuid(), '2026-11-26', 'York', '2026-11-26 10:00+02', 'sad', -3, 1.5)",
         )
         self.addCleanup(PRIVATE.run, "DROP TYPE mood CASCADE; DROP DOMAIN amount CASCADE")
-        schema = datacube.Schema(["city", "day", "mood", "code"], ["small", "share"], ["count(*)", "sum(small)", "sum(share)"])
+        schema = jackraisin.Schema(["city", "day", "mood", "code"], ["small", "share"], ["count(*)", "sum(small)", "sum(share)"])
         follower = self.follower(schema, dimensions=["City, all", "day", "mood", "code"], scale={"share": 1})
         self.run_sql(
             "INSERT INTO {table} VALUES (gen_random_uuid(), '2026-11-26', 'York', '2026-11-26 08:00+00', 'sad', 7, 2)", "SET TimeZone = 'Asia/Tokyo'",
@@ -797,7 +798,7 @@ class Faults(Base):
 
     def test_a_changed_column_is_seen_with_its_first_row(self):
         self.sales()
-        with mock.patch("datacube.postgres._follower.SECONDS_BETWEEN_LOOKS", 1000):
+        with mock.patch("jackraisin.postgres._follower.SECONDS_BETWEEN_LOOKS", 1000):
             follower = self.follower()
             self.run_sql("ALTER TABLE {table} ADD COLUMN discount int", "INSERT INTO {table} VALUES (1, 'York', 'tea', 5, 6)")
             self.stopped(follower, ColumnsChanged, "column discount")
@@ -846,7 +847,7 @@ class Faults(Base):
     def test_two_followers_with_one_slot(self):
         self.sales((1, "York", "tea", 5))
         follower = self.follower()
-        with mock.patch("datacube.postgres._slot.SECONDS_TO_BE_FREE", 0.3):
+        with mock.patch("jackraisin.postgres._slot.SECONDS_TO_BE_FREE", 0.3):
             self.refused(CantFollow, "in use", "another slot")
         other = self.follower(slot="another_slot")
         self.run_sql("UPDATE {table} SET cents = 6")
@@ -943,7 +944,7 @@ class Faults(Base):
         self.looking_often()
         self.sales((1, "York", "tea", 0), (2, "Leeds", "tea", 0))
         follower = Follower(PRIVATE.dsn, self.table, SALES)
-        follower.schema = datacube.Schema(SALES.dimensions, SALES.measures, SALES.aggregates, version=2, max_records=8)
+        follower.schema = jackraisin.Schema(SALES.dimensions, SALES.measures, SALES.aggregates, version=2, max_records=8)
         with follower:
             follower.wait(SECONDS)
             for at in range(30):
@@ -962,7 +963,7 @@ class Faults(Base):
         follower = self.follower()
         follower._mirror._live._process.kill()
         self.run_sql("UPDATE {table} SET cents = 6")
-        self.stopped(follower, datacube.Ended, "SIGKILL")
+        self.stopped(follower, jackraisin.Ended, "SIGKILL")
 
 
 class Commands(Base):
@@ -999,7 +1000,7 @@ class Commands(Base):
         self.sales((1, "\\N", "tea", 5))
         ran = run(*self.words())
         self.assertEqual((ran.returncode, ran.stdout), (1, ""))
-        self.assertIn(f"datacube.postgres: table public.{self.table}, key (id)=(1), column city: the text \\N", ran.stderr)
+        self.assertIn(f"jackraisin.postgres: table public.{self.table}, key (id)=(1), column city: the text \\N", ran.stderr)
         self.assertEqual(run("--table", "sales").returncode, 2)
         ran = run("--table", "sales", "--schema", "/nowhere.toml")
         self.assertEqual((ran.returncode, "schema unreadable" in ran.stderr), (1, True))
@@ -1089,7 +1090,7 @@ class Served(Base):
             self.assertEqual((status, "column product is gone" in text), (503, True))
 
     def test_the_page_shows_a_sale_that_is_committed(self):
-        with browser(self) as driver:
+        with browser(self, PRIVATE.folder_for_others()) as driver:
             driver.get(self.server.address)
             rows = lambda: driver.execute_script(ROWS)
             until(lambda: ["York", "1", "5"] in rows(), SECONDS)
@@ -1116,27 +1117,6 @@ class Served(Base):
         self.assertEqual([it for it in driver.get_log("browser") if it["level"] == "SEVERE" and "cube.csv" not in it["message"]], [])
 
 
-ROWS = """
-return [...document.querySelectorAll("#table tbody tr[data-row]")].map((row) => [...row.children].map((it) => it.textContent));
-"""
-
-
-def browser(test):
-    """A headless Chromium, or the test is skipped."""
-    try:
-        from selenium import webdriver
-    except ImportError:
-        test.skipTest("python3-selenium isn't installed for this Python")
-    if not os.path.exists("/usr/bin/chromedriver"):
-        test.skipTest("chromium-driver isn't installed")
-    options = webdriver.ChromeOptions()
-    for it in ("--headless=new", "--no-sandbox", "--disable-dev-shm-usage", "--window-size=1200,800"):
-        options.add_argument(it)
-    options.set_capability("goog:loggingPrefs", {"browser": "ALL"})
-    with mock.patch.dict(os.environ, {"TMPDIR": PRIVATE.folder_for_others()}):
-        return webdriver.Chrome(options=options)
-
-
 class Parts(unittest.TestCase):
     """What needs no server."""
 
@@ -1159,7 +1139,7 @@ class Parts(unittest.TestCase):
 
     def test_names_of_metrics(self):
         text = "a b,a_b,1,grouping(a b),grouping(a_b),grouping(1),count(*),avg(x),avg(x),sum(a.b)\n\\\",,é,0,0,0,2,1/3,1/3,\\N\n"
-        metrics = "".join(_metrics.of_cube("t", datacube.Cube(text)))
+        metrics = "".join(_metrics.of_cube("t", jackraisin.Cube(text)))
         self.assertIn('datacube_avg_x_2{a_b="\\\\\\"",a_b_2="",d_1="é",grouping_a_b="0",grouping_a_b_2="0",grouping_1="0"} 0.3333333333333333\n', metrics)
         self.assertNotIn("datacube_sum_a_b{", metrics)
 

@@ -19,8 +19,8 @@ from typing import TYPE_CHECKING, Iterator, List, NoReturn, Optional, Sequence, 
 
 import psycopg2
 
-from .._cube import LONGEST
 from .._errors import DatacubeError, Ended, Failure, Unsayable
+from .._records import LONGEST
 from . import CantFollow, Follower, NotCaughtUp, Server, drop_slot, slot_name
 from ._publication import drop_publication
 from ._slot import PREFIX, connect
@@ -33,7 +33,7 @@ SECONDS_BETWEEN_LOOKS = 0.2
 
 
 def parser() -> argparse.ArgumentParser:
-    asks = argparse.ArgumentParser(prog="python -m datacube.postgres", description=__doc__, formatter_class=argparse.RawDescriptionHelpFormatter)
+    asks = argparse.ArgumentParser(prog="python -m jackraisin.postgres", description=__doc__, formatter_class=argparse.RawDescriptionHelpFormatter)
     asks.add_argument("--dsn", default="", help="the database, as libpq takes it; what is left out comes from PGHOST and the like")
     asks.add_argument("--table", required=True, help="the table, as in SQL")
     asks.add_argument("--schema", metavar="FILE", help="the schema of the cube, a TOML file")
@@ -154,14 +154,14 @@ def main(words: Optional[Sequence[str]] = None) -> int:
     given = asks.parse_args(words)
     if not given.drop and given.schema is None:
         asks.error("the following arguments are required: --schema")
-    logging.basicConfig(format="datacube.postgres: %(message)s", level=logging.INFO)
+    logging.basicConfig(format="jackraisin.postgres: %(message)s", level=logging.INFO)
     signal.signal(signal.SIGTERM, interrupted)
     try:
         run(given)
     except KeyboardInterrupt:
         return 0
     except (DatacubeError, OSError, OverflowError, psycopg2.Error) as why:
-        print(f"datacube.postgres: {why}", file=sys.stderr)
+        print(f"jackraisin.postgres: {why}", file=sys.stderr)
         return 1
     return 0
 

@@ -20,7 +20,7 @@ if TYPE_CHECKING:
     from psycopg2.extensions import connection as Connection
     from psycopg2.extras import LogicalReplicationConnection
 
-TOLD = logging.getLogger("datacube.postgres")
+TOLD = logging.getLogger("jackraisin.postgres")
 PLUGIN, LIBRARIES = "wal2json", "output_plugin_libraries"
 # (what a follower's own slots and publications are named by)
 PREFIX = "jackraisin_"

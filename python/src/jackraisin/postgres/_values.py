@@ -6,8 +6,7 @@ import re
 from fractions import Fraction
 from typing import Dict, Final, List, Mapping, Optional, Sequence, Union
 
-from .._cube import GREATEST, LEAST
-from .._live import NULL
+from .._records import GREATEST, LEAST, NULL
 from .._schema import Schema
 from ._errors import CantFollow, RowUnsayable
 from ._table import TEXTS, Column, Table

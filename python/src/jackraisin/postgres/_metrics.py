@@ -7,7 +7,7 @@ from typing import Dict, Iterable, Iterator, List, Mapping, Optional, Sequence, 
 
 from .._cells import ALL
 from .._cube import Answer, Cube, Row
-from .._live import NULL
+from .._records import NULL
 from ._follower import State
 
 CONTENT_TYPE = "text/plain; version=0.0.4; charset=utf-8"

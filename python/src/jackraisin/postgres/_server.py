@@ -10,6 +10,7 @@ from typing import Dict, Optional, Sequence
 
 from .._cube import Cube
 from .._errors import DatacubeError
+from .._show import PAGES
 from ._errors import CantFollow, NotCaughtUp
 from ._follower import Follower, State
 from ._metrics import CONTENT_TYPE, metrics_text
@@ -17,8 +18,6 @@ from ._running import Running
 from ._slot import TOLD
 
 HERE = os.path.dirname(os.path.abspath(__file__))
-# (in a wheel, and in the repository)
-PAGES = [os.path.join(HERE, "explorer.html"), os.path.join(HERE, *[".."] * 4, "explorer", "index.html")]
 ADDRESS = "127.0.0.1"
 SECONDS_BETWEEN_LOOKS = 0.1
 # (the explorer asks nobody for anything; this one asks where it comes from)

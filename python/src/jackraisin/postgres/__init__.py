@@ -1,17 +1,17 @@
 """A cube that follows a table of PostgreSQL.
 
-    from datacube.postgres import Follower
+    from jackraisin.postgres import Follower
 
     with Follower("dbname=shop", "sales", "schema.toml") as follower:
         follower.wait()
         follower.slice({"city": "York"})[0]["sum(cents)"]
 
-`python -m datacube.postgres` is the same as a command. It needs psycopg2, and in the server the output plugin wal2json.
+`python -m jackraisin.postgres` is the same as a command. It needs psycopg2, and in the server the output plugin wal2json.
 """
 try:
     import psycopg2
 except ImportError:
-    raise ImportError("datacube.postgres needs psycopg2 (Debian: python3-psycopg2)") from None
+    raise ImportError("jackraisin.postgres needs psycopg2 (Debian: python3-psycopg2)") from None
 
 from ._errors import CantFollow, ColumnsChanged, NotCaughtUp, RowUnsayable
 from ._follower import Follower, State

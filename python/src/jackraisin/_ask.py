@@ -7,7 +7,7 @@ from typing import Iterable, List, Optional, Sequence, Tuple, Union
 
 from ._cells import Cell, Pattern, fields_of, word_of
 from ._cube import Cube, Refusal, refusals_of
-from ._program import Path, Paths, Word, paths_of, run, words_of
+from ._program import Limits, Path, Paths, Word, paths_of, run, words_of
 from ._schema import Schema, schema_of
 
 Given = Union[Schema, Path]
@@ -23,12 +23,16 @@ def cube(
     partial: bool = False,
     store: Optional[Path] = None,
     wary: bool = False,
+    timeout: Optional[float] = None,
+    max_memory: Optional[int] = None,
 ) -> Cube:
     """The whole cube of 1 to 64 feeds, or of one shard of them: the J-th of N, as (J, N). With `partial` each mean has its
     sum and count beside it, so that `merge` makes one cube of several. With a store, the path of the SQLite file of sessions,
-    the changes that it keeps come after the feeds, of which there may be none then; `partial` doesn't go with it."""
+    the changes that it keeps come after the feeds, of which there may be none then; `partial` doesn't go with it. A program
+    that takes more seconds than `timeout` is killed (`TimedOut`); one that wants more bytes of memory than `max_memory` ends
+    by a code (`Failure`)."""
     options = options_of(threads, shard, store, wary)
-    return asked("print", schema, feeds, [], options + ["--partial"] * partial)
+    return asked("print", schema, feeds, [], options + ["--partial"] * partial, Limits(timeout, max_memory))
 
 
 def slice(
@@ -40,12 +44,14 @@ def slice(
     shard: Optional[Shard] = None,
     store: Optional[Path] = None,
     wary: bool = False,
+    timeout: Optional[float] = None,
+    max_memory: Optional[int] = None,
 ) -> Cube:
     """The rows that a pattern matches. A dimension that a mapping doesn't name is ALL: `{"city": ANY}` are the totals of
-    each city, and of all. Feeds, shard and store are those of `cube`, here and below."""
+    each city, and of all. Feeds, shard, store and limits are those of `cube`, here and below."""
     schema = schema_of(schema)
     options = options_of(threads, shard, store, wary)
-    return asked("slice", schema, feeds, [word_of(fields_of(schema.dimensions, pattern))], options)
+    return asked("slice", schema, feeds, [word_of(fields_of(schema.dimensions, pattern))], options, Limits(timeout, max_memory))
 
 
 def drill(
@@ -58,11 +64,14 @@ def drill(
     shard: Optional[Shard] = None,
     store: Optional[Path] = None,
     wary: bool = False,
+    timeout: Optional[float] = None,
+    max_memory: Optional[int] = None,
 ) -> Cube:
     """The rows one step below a cell: those with each value of a dimension that is ALL in it."""
     schema = schema_of(schema)
     words = [word_of(fields_of(schema.dimensions, cell)), dimension.encode("utf-8")]
-    return asked("drill", schema, feeds, words, options_of(threads, shard, store, wary))
+    options = options_of(threads, shard, store, wary)
+    return asked("drill", schema, feeds, words, options, Limits(timeout, max_memory))
 
 
 def rollup(
@@ -75,26 +84,44 @@ def rollup(
     shard: Optional[Shard] = None,
     store: Optional[Path] = None,
     wary: bool = False,
+    timeout: Optional[float] = None,
+    max_memory: Optional[int] = None,
 ) -> Cube:
     """The row one step above a cell: the one with ALL at a dimension, or none where that is no cell of the cube."""
     schema = schema_of(schema)
     words = [word_of(fields_of(schema.dimensions, cell)), dimension.encode("utf-8")]
-    return asked("rollup", schema, feeds, words, options_of(threads, shard, store, wary))
+    options = options_of(threads, shard, store, wary)
+    return asked("rollup", schema, feeds, words, options, Limits(timeout, max_memory))
 
 
 def refusals(
-    schema: Given, feeds: Paths, *, shard: Optional[Shard] = None, store: Optional[Path] = None, wary: bool = False
+    schema: Given,
+    feeds: Paths,
+    *,
+    shard: Optional[Shard] = None,
+    store: Optional[Path] = None,
+    wary: bool = False,
+    timeout: Optional[float] = None,
+    max_memory: Optional[int] = None,
 ) -> List[Refusal]:
     """The refused lines of feeds, or of one shard of them, and the refused changes of a store."""
-    return refusals_of(answer("refusals", schema, feeds, [], options_of(None, shard, store, wary))[1])
+    options = options_of(None, shard, store, wary)
+    return refusals_of(answer("refusals", schema, feeds, [], options, Limits(timeout, max_memory))[1])
 
 
-def merge(schema: Given, cubes: Iterable[Union[Cube, Path]], *, partial: bool = False) -> Cube:
+def merge(
+    schema: Given,
+    cubes: Iterable[Union[Cube, Path]],
+    *,
+    partial: bool = False,
+    timeout: Optional[float] = None,
+    max_memory: Optional[int] = None,
+) -> Cube:
     """The cube of all the facts of 1 to 64 cubes, each of other facts: partial ones that `cube` or `merge` gave, or the paths
     of files with such. With `partial` it is partial again, so that merges nest."""
     with schema_of(schema).file() as path, tempfile.TemporaryDirectory(prefix="datacube-") as folder:
         paths = [written(it, os.path.join(folder, f"{at}.csv")) for at, it in enumerate(cubes)]
-        return Cube(run(words_of("merge", ["--partial"] * partial, [path, *paths]))[1])
+        return Cube(run(words_of("merge", ["--partial"] * partial, [path, *paths]), Limits(timeout, max_memory))[1])
 
 
 def written(cube: Union[Cube, Path], path: str) -> str:
@@ -112,12 +139,14 @@ def options_of(threads: Optional[int], shard: Optional[Shard], store: Optional[P
     return options if store is None else [*options, f"--store={os.fspath(store)}"] + ["--wary"] * wary
 
 
-def asked(command: str, schema: Given, feeds: Paths, words: Sequence[Word], options: Sequence[str]) -> Cube:
-    status, text = answer(command, schema, feeds, words, options)
+def asked(command: str, schema: Given, feeds: Paths, words: Sequence[Word], options: Sequence[str], limits: Limits) -> Cube:
+    status, text = answer(command, schema, feeds, words, options, limits)
     return Cube(text, status == 4)
 
 
-def answer(command: str, schema: Given, feeds: Paths, words: Sequence[Word], options: Sequence[str]) -> Tuple[int, str]:
+def answer(
+    command: str, schema: Given, feeds: Paths, words: Sequence[Word], options: Sequence[str], limits: Limits
+) -> Tuple[int, str]:
     """The status and the text of a command over feeds."""
     with schema_of(schema).file() as path:
-        return run(words_of(command, options, [path, *words, *paths_of(feeds)]))
+        return run(words_of(command, options, [path, *words, *paths_of(feeds)]), limits)

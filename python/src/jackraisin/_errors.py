@@ -42,6 +42,10 @@ class Ended(Failure):
     """A session that is over: its last line, what that means, and its status."""
 
 
+class TimedOut(Ended):
+    """A command or a session that took longer than its timeout, and was killed for it."""
+
+
 def status_text(status: int) -> str:
     """A status of a process in words: a negative one is the signal that ended it."""
     if status >= 0:

@@ -11,21 +11,21 @@ import subprocess
 import tempfile
 import threading
 from types import TracebackType
-from typing import IO, Callable, List, Literal, Optional, Sequence, Type, Union
+from typing import IO, Callable, Iterable, Iterator, List, Literal, Optional, Sequence, Tuple, Type, Union
 
 from ._ask import Given, Shard, options_of
 from ._cells import KEEP, Mark, Named, in_order, text_of
-from ._cube import GREATEST, LEAST, Refusal, refusals_of
+from ._cube import Refusal, refusals_of
 from ._errors import Ended, Failure, ProgramNotFound, Unsayable
-from ._program import DONE, Path, Paths, line_of, meaning_of, paths_of, words_of
+from ._program import DONE, Limits, Path, Paths, line_of, meaning_of, paths_of, words_of
 from ._questions import Questions
+from ._records import GREATEST, LEAST, NULL
 from ._schema import schema_of
 
 Keep = Literal[Mark.KEEP]
 Texts = Named[Union[str, None, Keep]]
 Numbers = Named[Union[int, None, Keep]]
 SOURCES = 64
-NULL = "\\N"
 
 
 class Live(Questions):
@@ -35,8 +35,13 @@ class Live(Questions):
     answered over all changes before it, and those that come meanwhile wait in the pipe. With a shard, the J-th of N as (J, N),
     changes of the others are left alone. With a store, the path of a SQLite file, each change is kept there and certain
     before an answer shows it, and a session over the same schema, feeds and store goes on where the last one ended; a wary
-    one supposes nothing of what a torn write leaves. What no feed can say raises `Unsayable`, and nothing is sent; a change that the facts refuse, as the insert of an id that is present, is noted in
-    `refusals`. Where the process ends by itself, every call from then on raises `Ended` with its status and last line."""
+    one supposes nothing of what a torn write leaves.
+
+    What no feed can say raises `Unsayable`, and nothing is sent; a change that the facts refuse, as the insert of an id that
+    is present, is noted in `refusals`. An answer, the first one of the opening too, the handing over of changes, or the end,
+    that takes more seconds than `timeout` ends the session, which raises `TimedOut`; one that wants more bytes of memory than
+    `max_memory` ends by a code. Where the process ends by itself, every call from then on raises `Ended` with its status and
+    last line."""
 
     def __init__(
         self,
@@ -47,8 +52,11 @@ class Live(Questions):
         shard: Optional[Shard] = None,
         store: Optional[Path] = None,
         wary: bool = False,
+        timeout: Optional[float] = None,
+        max_memory: Optional[int] = None,
     ) -> None:
         self.schema = schema_of(schema)
+        self._limits, self._is_late = Limits(timeout, max_memory), False
         self.status: Optional[int] = None
         self._line = ""
         # (where a thread holds both, it took them in this order)
@@ -64,7 +72,7 @@ class Live(Questions):
         pipe = subprocess.PIPE
         try:
             # (in a session of its own, so that Ctrl-C in a terminal is for Python alone)
-            process = subprocess.Popen(words, stdin=pipe, stdout=pipe, stderr=self._told, start_new_session=True)
+            process = subprocess.Popen(self._limits.words(words), stdin=pipe, stdout=pipe, stderr=self._told, start_new_session=True)
         except OSError as why:
             raise ProgramNotFound(f"the program can't be run: {why}") from None
         assert process.stdin is not None and process.stdout is not None
@@ -95,6 +103,16 @@ class Live(Questions):
         dimensions, numbers = self.schema.dimensions, self.schema.measures
         self._change(source, "I", id, in_order(dimensions, dims, (), "dimension"), in_order(numbers, measures, (), "measure"))
 
+    def insert_many(self, source: int, facts: Iterable[Tuple[str, Named[Optional[str]], Named[Optional[int]]]]) -> int:
+        """Puts many facts, each with its id, dimensions and measures, one behind the other. Where one can't be said, none is
+        sent. Gives how many they are."""
+        records = []
+        for id, dims, measures in facts:
+            texts, numbers = in_order(self.schema.dimensions, dims, (), "dimension"), in_order(self.schema.measures, measures, (), "measure")
+            records.append(self._record(source, "I", id, texts, numbers))
+        self._send(records, False)
+        return len(records)
+
     def update(self, source: int, id: str, dims: Texts, measures: Numbers) -> None:
         """Puts a fact in place of the one under an id that is present. KEEP, and what a mapping doesn't name, keeps the
         value that it has, where the schema has version 2."""
@@ -110,6 +128,11 @@ class Live(Questions):
     def _change(
         self, source: int, op: str, id: str, dims: Sequence[Union[str, None, Keep]], measures: Sequence[Union[int, None, Keep]]
     ) -> None:
+        self._send([self._record(source, op, id, dims, measures)], False)
+
+    def _record(
+        self, source: int, op: str, id: str, dims: Sequence[Union[str, None, Keep]], measures: Sequence[Union[int, None, Keep]]
+    ) -> List[str]:
         if not 1 <= operator.index(source) <= SOURCES:
             raise Unsayable(f"a source is a number from 1 to {SOURCES}, and {source} isn't")
         if not text_of(id, "the id"):
@@ -117,7 +140,7 @@ class Live(Questions):
         can_keep = op == "U" and self.schema.version == 2
         texts = [self._text(name, it, can_keep) for name, it in zip(self.schema.dimensions, dims)]
         numbers = [number(name, it, can_keep) for name, it in zip(self.schema.measures, measures)]
-        self._send([[str(operator.index(source)), op, id, *texts, *numbers]], False)
+        return [str(operator.index(source)), op, id, *texts, *numbers]
 
     def _text(self, name: str, value: Union[str, None, Keep], can_keep: bool) -> str:
         if value is None or isinstance(value, Mark):
@@ -142,10 +165,11 @@ class Live(Questions):
             raise Unsayable(f"{question!r} begins a change, not a question")
         with self._asking:
             try:
-                self._send([record], True)
-                first = self._output.readline()
-                size = int(first[3:]) if first.startswith(b"ok ") else 0
-                text = self._output.read(size)
+                with self._watched():
+                    self._send([record], True)
+                    first = self._output.readline()
+                    size = int(first[3:]) if first.startswith(b"ok ") else 0
+                    text = self._output.read(size)
             except BaseException:
                 # (the answer was begun and not read to its end)
                 self._kill()
@@ -174,9 +198,10 @@ class Live(Questions):
             if self.status is not None:
                 raise self._end()
             try:
-                write()
-                if at_once:
-                    self._input.flush()
+                with self._watched():
+                    write()
+                    if at_once:
+                        self._input.flush()
             except BrokenPipeError:
                 raise self._end() from None
             except BaseException:
@@ -192,6 +217,24 @@ class Live(Questions):
             raise end
         return self.status or 0
 
+    @contextlib.contextmanager
+    def _watched(self) -> Iterator[None]:
+        """Kills the process where what is done takes longer than the timeout."""
+        if self._limits.timeout is None:
+            yield
+            return
+        watch = threading.Timer(self._limits.timeout, self._too_late)
+        watch.daemon = True
+        watch.start()
+        try:
+            yield
+        finally:
+            watch.cancel()
+
+    def _too_late(self) -> None:
+        self._is_late = True
+        self._process.kill()
+
     def _kill(self) -> None:
         self._process.kill()
         self._end()
@@ -200,13 +243,17 @@ class Live(Questions):
         """Ends the session, where it isn't over, and says how it ended."""
         with self._writing:
             if self.status is None:
-                with contextlib.suppress(BrokenPipeError):
-                    self._input.close()
-                self.status = self._process.wait()
+                with self._watched():
+                    with contextlib.suppress(BrokenPipeError):
+                        self._input.close()
+                    status = self._process.wait()
+                self.status = status
                 self._output.close()
                 self._told.seek(0)
                 self._line = line_of(self._told.read())
                 self._told.close()
+        if self._is_late and self.status not in DONE:
+            return self._limits.passed()
         return Ended(self._line, meaning_of(self._line), self.status)
 
 

@@ -1,0 +1,170 @@
+"""Printed cubes as columns, made straight from their text: frames of pandas and polars, and tables of Arrow."""
+from __future__ import annotations
+
+import io
+from collections import deque
+from fractions import Fraction
+from itertools import repeat
+from math import gcd
+from typing import TYPE_CHECKING, Any, Dict, List, Optional, Sequence
+
+from ._cells import ALL
+from ._records import GREATEST, LEAST, NULL, Columns, head_of, records_of, unreadable
+
+if TYPE_CHECKING:
+    import pandas
+
+HAS_SLOTS = getattr(Fraction, "__slots__", None) == ("_numerator", "_denominator")
+# (what pandas reads in another way than csv, which reads such texts then: it ends a field at a NUL, and a line at a CR)
+NOT_FOR_PANDAS = "\0\r\ufeff"
+
+
+def texts_of(text: str, columns: Columns) -> List[Sequence[str]]:
+    """The fields of a printed cube below its header, column by column."""
+    with records_of(text) as records:
+        next(records, None)
+        lines = [columns.checked(it) for it in records]
+    return list(zip(*lines)) if lines else [()] * columns.width
+
+
+def wholes_of(texts: Sequence[str]) -> List[Optional[int]]:
+    """The whole numbers that fields say."""
+    try:
+        return [None if it == NULL else int(it) for it in texts]
+    except ValueError as why:
+        raise unreadable(why) from None
+
+
+def means_of(texts: Sequence[str]) -> List[Optional[Fraction]]:
+    """The means that fields say."""
+    try:
+        means = iter(fractions_of([it for it in texts if it != NULL]))
+        return [None if it == NULL else next(means) for it in texts]
+    except (ValueError, TypeError, ZeroDivisionError) as why:
+        raise unreadable(why) from None
+
+
+def mean_of(text: str) -> Fraction:
+    return Fraction(*map(int, text.split("/")))
+
+
+def fractions_of(texts: Sequence[str]) -> List[Fraction]:
+    """The same of means that are all there, at once where each is in lowest terms, as the program writes it: then nothing is
+    left to be found out of numerators and denominators, and the fractions are made as `fractions` itself makes such."""
+    if not HAS_SLOTS or not set(map(str.count, texts, repeat("/"))) <= {1}:
+        return list(map(mean_of, texts))
+    numbers = list(map(int, "/".join(texts).split("/"))) if texts else []
+    above, below = numbers[::2], numbers[1::2]
+    if not set(map(gcd, above, below)) <= {1} or min(below, default=1) < 1:
+        return list(map(Fraction, above, below))
+    kind: Any = Fraction
+    made = [object.__new__(kind) for _ in texts]
+    deque(map(kind._numerator.__set__, made, above), 0)
+    deque(map(kind._denominator.__set__, made, below), 0)
+    return made
+
+
+def is_mean(aggregate: str) -> bool:
+    return aggregate.startswith("avg(")
+
+
+def fit(answers: Sequence[Optional[int]]) -> bool:
+    """Whether whole numbers fit 64 bits."""
+    return all(it is None or LEAST <= it <= GREATEST for it in answers)
+
+
+def frame_of(text: str, columns: Columns) -> "pandas.DataFrame":
+    """A frame with the answers, over the cells as its index."""
+    import pandas
+
+    fields, count = fields_of(text, columns), len(columns.dimensions)
+    levels = [level_of(fields[at], fields[count + at]) for at in range(count)]
+    answers = {at: answers_of(name, fields[2 * count + at]) for at, name in enumerate(columns.aggregates)}
+    frame = pandas.DataFrame(answers)
+    frame.index, frame.columns = pandas.MultiIndex.from_arrays(levels, names=columns.dimensions), pandas.Index(columns.aggregates)
+    return frame
+
+
+def fields_of(text: str, columns: Columns) -> List[Any]:
+    """The columns of a printed cube: categories for dimensions and marks, whole numbers or texts for answers. pandas reads it
+    twice as fast as csv does, whose answer it is that counts where they differ: for texts that pandas reads in another way,
+    and for those that it refuses."""
+    import pandas
+
+    count = 2 * len(columns.dimensions)
+    kinds: List[Any] = ["category"] * count + [str if is_mean(it) else None for it in columns.aggregates]
+    if not any(it in text for it in NOT_FOR_PANDAS):
+        for at_once in (kinds, [it or str for it in kinds]):
+            try:
+                return read_by_pandas(text, at_once)
+            except (ValueError, OverflowError):
+                pass
+    texts = texts_of(text, columns)
+    return [pandas.Categorical(it) for it in texts[:count]] + [pandas.Series(it, dtype=object) for it in texts[count:]]
+
+
+def read_by_pandas(text: str, kinds: Sequence[Any]) -> List[Any]:
+    """The columns below the header, of some kinds; where none is given it is one of whole numbers. Where a text says anything
+    else it is a `ValueError`."""
+    import pandas
+
+    body = io.BytesIO(text[head_of(text)[1] :].encode("utf-8"))
+    how: Dict[str, Any] = {"header": None, "index_col": False, "skip_blank_lines": False, "low_memory": False, "engine": "c"}
+    how["dtype"] = {at: it for at, it in enumerate(kinds) if it}
+    nulls = {at: [NULL] for at, it in enumerate(kinds) if not it}
+    frame = pandas.read_csv(body, keep_default_na=False, na_values=nulls, na_filter=bool(nulls), **how)
+    if frame.shape[1] != len(kinds):
+        raise ValueError(f"lines of {frame.shape[1]} fields")
+    return [frame[at].array if it == "category" else frame[at] if it else wholes_in(frame[at]) for at, it in enumerate(kinds)]
+
+
+def wholes_in(column: Any) -> Any:
+    """A column of whole numbers as `Int64`. With null it comes as floats, which say whole numbers below 2^53 alone."""
+    import numpy
+    import pandas
+
+    if column.dtype == "int64":
+        return pandas.arrays.IntegerArray(column.to_numpy(), numpy.zeros(len(column), dtype=bool))
+    is_null = column.isna().to_numpy()
+    if column.dtype != "float64":
+        raise ValueError("not whole numbers of 64 bits alone")
+    floats = numpy.where(is_null, 0, column.to_numpy())
+    if not (numpy.abs(floats) < 2**53).all() or (floats % 1).any():
+        raise ValueError("not whole numbers below 2^53 alone")
+    return pandas.arrays.IntegerArray(floats.astype("int64"), is_null)
+
+
+def level_of(texts: Any, marks: Any) -> Any:
+    """The coordinates of a dimension, of its texts and its marks: texts in their order, ALL behind them, and null missing."""
+    import numpy
+    import pandas
+
+    known = list(texts.categories)
+    is_all = numpy.append(marks.categories == "1", False)[marks.codes]
+    present = [known[it] for it in numpy.unique(texts.codes[~is_all])]
+    ordered = sorted(it for it in present if it != NULL)
+    places = {it: at for at, it in enumerate(ordered)}
+    codes = numpy.array([places.get(it, -1) for it in known] or [-1])[texts.codes]
+    return pandas.Categorical.from_codes(numpy.where(is_all, len(ordered), codes), [*ordered, ALL], ordered=True)
+
+
+def answers_of(aggregate: str, column: Any) -> Any:
+    """The answers of an aggregate: whole numbers of 64 bits where they fit, else objects, as means are."""
+    import pandas
+
+    if column.dtype == "Int64":
+        return column
+    if is_mean(aggregate):
+        return objects(means_of(column.tolist()))
+    answers = wholes_of(column.tolist())
+    return pandas.array(answers, dtype="Int64") if fit(answers) else objects(answers)
+
+
+def objects(answers: Sequence[object]) -> Any:
+    """A column of objects as they are, which numpy doesn't look into one by one."""
+    import numpy
+
+    column = numpy.empty(len(answers), dtype=object)
+    for at, it in enumerate(answers):
+        column[at] = it
+    return column

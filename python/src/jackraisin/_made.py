@@ -1,0 +1,98 @@
+"""Cubes of facts that are at hand."""
+from __future__ import annotations
+
+import csv
+import datetime
+import operator
+import os
+import tempfile
+from typing import TYPE_CHECKING, Any, Iterable, Iterator, List, Mapping, Optional, Sequence, Tuple, Union
+
+from ._ask import cube
+from ._cells import text_of
+from ._cube import Cube
+from ._errors import Unsayable
+from ._live import number
+from ._records import NULL
+from ._schema import Schema
+
+if TYPE_CHECKING:
+    import pandas
+
+Facts = Union["pandas.DataFrame", Iterable[Mapping[str, object]]]
+# (each whole number up to it is a float, and no float below it stands for two)
+EXACT = 2**53
+
+
+def cube_of(
+    facts: Facts,
+    *,
+    by: Sequence[str],
+    of: Mapping[str, Union[str, Sequence[str]]] = {},
+    timeout: Optional[float] = None,
+    max_memory: Optional[int] = None,
+) -> Cube:
+    """The whole cube of a frame, or of rows that are mappings: by its dimensions, `count(*)`, and of each measure the aggregates
+    that are named, as in `of={"cents": ["sum", "avg"]}`. A dimension is a text, a whole number or a date, which become texts; a
+    measure is a whole number of 64 bits, also as a float below 2^53. What is missing (None, NaN, NA) is null."""
+    if isinstance(by, str):
+        raise TypeError(f"the dimensions are a sequence of names, and {by!r} is a text")
+    for name in [*by, *of]:
+        text_of(name, "a name")
+    measures = list(of) or [next(it for it in ("measure", *(f"measure {at}" for at in range(9))) if it not in by)]
+    kinds = {name: [it] if isinstance(it, str) else it for name, it in of.items()}
+    aggregates = [f"{kind}({name})" for name, each in kinds.items() for kind in each]
+    schema = Schema(by, measures, ["count(*)", *aggregates])
+    with tempfile.TemporaryDirectory(prefix="datacube-") as folder:
+        path = os.path.join(folder, "facts.csv")
+        with open(path, "w", encoding="utf-8", newline="") as file:
+            out = csv.writer(file)
+            out.writerow(["op", "id", *by, *measures])
+            out.writerows(inserts_of(facts, by, list(of), len(measures) - len(of)))
+        return cube(schema, path, timeout=timeout, max_memory=max_memory)
+
+
+def inserts_of(facts: Facts, by: Sequence[str], measures: Sequence[str], unused: int) -> Iterator[List[str]]:
+    """A record for each fact, with null for a measure that nobody asks for."""
+    for at, values in enumerate(values_of(facts, [*by, *measures])):
+        texts = [coordinate_text(name, it) for name, it in zip(by, values)]
+        numbers = [measure_text(name, it) for name, it in zip(measures, values[len(by) :])]
+        yield ["I", str(at), *texts, *numbers, *[NULL] * unused]
+
+
+def values_of(facts: Facts, names: Sequence[str]) -> Iterator[Tuple[object, ...]]:
+    """The values of each fact in the order of names."""
+    try:
+        if hasattr(facts, "columns"):
+            frame: Any = facts
+            yield from zip(*(frame[name] for name in names))
+        else:
+            yield from (tuple(row[name] for name in names) for row in facts)
+    except KeyError as why:
+        raise Unsayable(f"no column is named {why.args[0]!r}") from None
+
+
+def is_missing(value: object) -> bool:
+    return value is None or isinstance(value, float) and value != value or type(value).__name__ in ("NAType", "NaTType")
+
+
+def coordinate_text(name: str, value: object) -> str:
+    """The field of a dimension."""
+    if is_missing(value):
+        return NULL
+    if isinstance(value, datetime.date) and not isinstance(value, datetime.datetime):
+        return value.isoformat()
+    if hasattr(value, "__index__") and not isinstance(value, bool):
+        return str(int(operator.index(value)))
+    text = text_of(value, f"dimension {name}")
+    if text == NULL:
+        raise Unsayable(f"dimension {name}: a feed can't say the text {NULL}, which means null")
+    return text
+
+
+def measure_text(name: str, value: object) -> str:
+    """The field of a measure."""
+    if is_missing(value):
+        return NULL
+    is_whole = isinstance(value, float) and value.is_integer() and abs(value) < EXACT
+    return number(name, int(value) if is_whole else value, False)  # type: ignore[call-overload, arg-type]

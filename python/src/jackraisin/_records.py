@@ -1,0 +1,94 @@
+"""The records of printed texts, and the names of a printed cube's columns."""
+from __future__ import annotations
+
+import contextlib
+import csv
+import io
+import re
+import threading
+from typing import Dict, Iterator, List, Sequence, Tuple
+
+from ._errors import Unreadable
+
+NULL = "\\N"
+# (what a measure holds, and a column of a frame)
+LEAST, GREATEST = -(2**63), 2**63 - 1
+AGGREGATE = re.compile(r"(count|sum|min|max|avg)\(.*\)", re.DOTALL)
+# (texts may be longer than what csv takes at first, whose limit is one for the whole process)
+LONGEST = 2**31 - 1
+LIMIT = threading.RLock()
+
+
+class Columns:
+    """The names of a printed cube's columns."""
+
+    def __init__(self, head: Sequence[str]) -> None:
+        count = dimensions_in(head)
+        self.width = len(head)
+        self.dimensions: Tuple[str, ...] = tuple(head[:count])
+        self.aggregates: Tuple[str, ...] = tuple(head[2 * count :])
+        self.places: Dict[str, int] = {}
+        for place, name in enumerate([*self.dimensions, *self.aggregates]):
+            self.places.setdefault(name, place)
+
+    def checked(self, record: List[str]) -> List[str]:
+        """A record, whose fields are as many as there are columns."""
+        if len(record) != self.width:
+            raise unreadable(f"a line has {len(record)} fields")
+        return record
+
+
+def dimensions_in(head: Sequence[str]) -> int:
+    """How many dimensions a header has: so many names, as many GROUPING columns for them, and then aggregates alone."""
+    for count in range(1, len(head) // 2 + 1):
+        marks = [f"grouping({it})" for it in head[:count]]
+        if list(head[count : 2 * count]) == marks and all(map(AGGREGATE.fullmatch, head[2 * count :])):
+            return count
+    raise unreadable("its first line isn't a header")
+
+
+def unreadable(why: object) -> Unreadable:
+    return Unreadable(f"the text is no printed cube: {why}")
+
+
+@contextlib.contextmanager
+def long_fields() -> Iterator[None]:
+    """For as long as it is entered, `csv` reads fields of any length; the limit is the caller's own again behind that."""
+    with LIMIT:
+        limit = csv.field_size_limit()
+        csv.field_size_limit(max(limit, LONGEST))
+        try:
+            yield
+        except csv.Error as why:
+            raise Unreadable(f"this Python's csv can't read the text: {why}") from None
+        finally:
+            csv.field_size_limit(limit)
+
+
+@contextlib.contextmanager
+def records_of(text: str) -> Iterator[Iterator[List[str]]]:
+    """The records of a printed text, one after the other, with fields of any length."""
+    with long_fields():
+        yield csv.reader(io.StringIO(text, newline=""))
+
+
+def lines_of(text: str) -> List[str]:
+    """The records of a printed text as they stand in it, the first one too, each with the end of its line."""
+    stream, ends = io.StringIO(text, newline=""), [0]
+    with long_fields():
+        ends += [stream.tell() for _ in csv.reader(stream)]
+    lines = [text[start:end] for start, end in zip(ends, ends[1:])]
+    return [it if it.endswith("\n") else it + "\n" for it in lines]
+
+
+def head_of(text: str) -> Tuple[List[str], int]:
+    """The first record of a text, and where it ends; no more of the text is read."""
+    ends = [0]
+
+    def lines() -> Iterator[str]:
+        while ends[-1] < len(text):
+            ends.append(text.find("\n", ends[-1]) + 1 or len(text))
+            yield text[ends[-2] : ends[-1]]
+
+    with long_fields():
+        return next(csv.reader(lines()), []), ends[-1]

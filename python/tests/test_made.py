@@ -1,0 +1,86 @@
+"""Cubes of facts that are at hand, by hand and beside scripts/oracle.py."""
+import datetime
+import random
+import sys
+import unittest
+from fractions import Fraction
+
+import beside
+import jackraisin
+import oracle
+from beside import rows_like
+from jackraisin import ALL, cube_of
+
+SALES = [
+    {"city": "York", "year": 2025, "cents": 350, "note": "x"},
+    {"city": "York", "year": 2026, "cents": 450, "note": "y"},
+    {"city": None, "year": 2026, "cents": None, "note": "z"},
+]
+
+
+class ByHand(unittest.TestCase):
+    def test_rows(self):
+        cube = cube_of(SALES, by=["city", "year"], of={"cents": ["sum", "avg"]})
+        self.assertEqual((cube.dimensions, cube.aggregates, cube.refused), (("city", "year"), ("count(*)", "sum(cents)", "avg(cents)"), False))
+        self.assertEqual(beside.rows_of(cube), [
+            (("York", "2025"), (1, 350, 350)), (("York", "2026"), (1, 450, 450)), (("York", ALL), (2, 800, 400)),
+            ((None, "2026"), (1, None, None)), ((None, ALL), (1, None, None)),
+            ((ALL, "2025"), (1, 350, 350)), ((ALL, "2026"), (2, 450, 450)), ((ALL, ALL), (3, 800, 400))])
+        self.assertEqual(cube_of(iter(SALES), by=["city"], of={"cents": "max"})[-1].answers, (3, 450))
+        self.assertEqual(cube_of([{"measure": "a"}], by=["measure"])[0].key, ("a",))
+        self.assertEqual(beside.rows_of(cube_of(SALES, by=["city"]).where({})), [((ALL,), (3,))])
+
+    def test_dates(self):
+        day = datetime.date(2026, 2, 1)
+        self.assertEqual(cube_of([{"day": day}], by=["day"])[0].key, ("2026-02-01",))
+
+    def test_a_frame(self):
+        try:
+            import pandas
+        except ImportError:
+            self.skipTest("there is no pandas")
+        frame = pandas.DataFrame(SALES)
+        self.assertEqual(str(frame["cents"].dtype), "float64", "null has made floats of it")
+        wanted = cube_of(SALES, by=["city", "year"], of={"cents": ["sum", "avg"]}).text
+        self.assertEqual(cube_of(frame, by=["city", "year"], of={"cents": ["sum", "avg"]}).text, wanted)
+        frame["cents"] = frame["cents"].astype("Int64")
+        self.assertEqual(cube_of(frame, by=["city", "year"], of={"cents": ["sum", "avg"]}).text, wanted)
+        self.assertRaises(jackraisin.Unsayable, cube_of, frame, by=["colour"])
+
+    def test_what_isnt_exact_is_refused(self):
+        exact = lambda value: cube_of([{"a": "x", "m": value}], by=["a"], of={"m": "sum"})[-1]["sum(m)"]
+        self.assertEqual([exact(it) for it in (-3.0, 2.0**53 - 1, 2**63 - 1, -(2**63))], [-3, 2**53 - 1, 2**63 - 1, -(2**63)])
+        for value in (0.5, 2.0**53, float("inf"), "5", Fraction(1, 2)):
+            self.assertRaises(TypeError, exact, value)
+        self.assertRaises(jackraisin.Unsayable, exact, 2**63)
+
+    def test_what_no_feed_says(self):
+        for value in (1.5, True, b"x", datetime.datetime(2026, 2, 1), ALL):
+            self.assertRaises(TypeError, cube_of, [{"a": value}], by=["a"])
+        for row in ({"a": "\\N"}, {"a": "\ud800"}, {"b": "x"}):
+            self.assertRaises(jackraisin.Unsayable, cube_of, [row], by=["a"])
+        self.assertRaises(TypeError, cube_of, SALES, by="city")
+        self.assertRaises(jackraisin.Unsayable, cube_of, [{"\ud800": "x"}], by=["\ud800"])
+        with self.assertRaises(jackraisin.Failure) as caught:
+            cube_of(SALES, by=["city", "city"])
+        self.assertEqual(caught.exception.code, "S6")
+
+
+class Generated(unittest.TestCase):
+    @unittest.skipIf(sys.version_info < (3, 11), "this Python reads no TOML")
+    def test_beside_the_oracle(self):
+        texts = ["", "a", "a,b", 'say "b"', "c\r", "\r\n", "é", "?", "\\=", "\\A", None]
+        for seed in range(20):
+            rng = random.Random(f"made {seed}")
+            by, measures = ["a", "b, c", '"'][: rng.randint(1, 3)], ["m", "n"][: rng.randint(1, 2)]
+            of = {it: rng.sample(["sum", "min", "max", "avg"], rng.randint(1, 4)) for it in measures}
+            rows = [{**{it: rng.choice(texts) for it in by}, **{it: rng.choice([None, 0, -7, 2**62, rng.randrange(99)]) for it in measures}} for _ in range(rng.randrange(30))]
+            schema = oracle.schema_of(jackraisin.Schema(by, measures, ["count(*)", *(f"{kind}({it})" for it in measures for kind in of[it])]).toml().encode())
+            field = lambda it: b"\\N" if it is None else str(it).encode()
+            records = [[b"I", b"%d" % at, *(field(row[it]) for it in [*by, *measures])] for at, row in enumerate(rows)]
+            with self.subTest(seed=seed):
+                self.assertEqual(beside.rows_of(cube_of(rows, by=by, of=of)), rows_like(schema, oracle.Run(schema, [records]).rows))
+
+
+if __name__ == "__main__":
+    unittest.main()

@@ -1,0 +1,138 @@
+"""What is made of the rows of a cube, by hand over the shop's sales, and beside scripts/oracle.py."""
+import os
+import random
+import tempfile
+import unittest
+from fractions import Fraction
+
+import beside
+import jackraisin
+import oracle
+from beside import SHOP, rows_like, rows_of
+from jackraisin import ALL, ANY
+
+
+def shop():
+    return jackraisin.Cube.read(f"{SHOP}/cube.csv")
+
+
+class Shop(unittest.TestCase):
+    """By hand: what stands in examples/shop/cube.csv."""
+
+    def test_read(self):
+        with open(f"{SHOP}/cube.csv", encoding="utf-8", newline="") as file:
+            self.assertEqual((shop().text, shop().refused), (file.read(), None))
+        self.assertRaises(FileNotFoundError, jackraisin.Cube.read, f"{SHOP}/none.csv")
+        self.assertRaises(jackraisin.Unreadable, jackraisin.Cube.read, f"{SHOP}/market.csv")
+        with tempfile.TemporaryDirectory() as folder:
+            with open(f"{folder}/cube.csv", "wb") as out:
+                out.write(b"a,grouping(a),count(*)\n\xff,0,1\n")
+            self.assertRaises(jackraisin.Unreadable, jackraisin.Cube.read, f"{folder}/cube.csv")
+
+    def test_where(self):
+        with open(f"{SHOP}/slice.csv", encoding="utf-8", newline="") as file:
+            self.assertEqual(shop().where({"city": ANY}).text, file.read())
+        self.assertEqual([it.key for it in shop().where({"city": None, "product": ANY})], [(None, "coffee", ALL), (None, "tea", ALL), (None, ALL, ALL)])
+        self.assertEqual(len(shop().where({"city": "Hull"})), 0)
+        self.assertRaises(jackraisin.Unsayable, shop().where, {"colour": ANY})
+        self.assertRaises(TypeError, shop().where, {"city": 5})
+
+    def test_top(self):
+        cities = shop().where({"city": ANY})
+        found = lambda cube: [(it["city"], it["sum(cents)"]) for it in cube]
+        self.assertEqual(found(cities.top(2, "sum(cents)")), [("Leeds", 2450), (None, 1200)])
+        self.assertEqual(found(cities.top(9, "count(*)")), [("Leeds", 2450), ("York", 800), (None, 1200)])
+        self.assertEqual(found(cities.top(1, "sum(cents)", totals=True)), [(ALL, 4450)])
+        self.assertEqual(found(cities.top(0, "sum(cents)")), [])
+        for words in ((1, "sum(pence)"), (-1, "count(*)")):
+            self.assertRaises(jackraisin.Unsayable, cities.top, *words)
+
+    def test_null_is_behind_all_numbers(self):
+        cube = jackraisin.Cube("a,grouping(a),min(m)\nw,0,\\N\nx,0,-5\ny,0,\\N\nz,0,0\n\\N,1,-5\n")
+        self.assertEqual([it["a"] for it in cube.top(9, "min(m)")], ["z", "x", "w", "y"])
+
+    def test_percent(self):
+        share = Fraction(1, 4450)
+        self.assertEqual(shop().where({"city": ANY}).percent("sum(cents)"), {
+            ("Leeds", ALL, ALL): 2450 * share, ("York", ALL, ALL): 800 * share, (None, ALL, ALL): 1200 * share, (ALL, ALL, ALL): 1})
+        leeds = shop().where({"city": "Leeds", "product": ANY})
+        self.assertEqual(leeds.percent("sum(cents)")[("Leeds", "tea", ALL)], Fraction(700, 2450))
+        self.assertEqual(set(leeds.percent("sum(cents)", {}).values()), {None}, "the row of all isn't in it")
+        self.assertEqual(shop().percent("sum(cents)", {"city": "York"})[("Leeds", ALL, ALL)], Fraction(2450, 800))
+        cube = jackraisin.Cube("a,grouping(a),sum(m)\nx,0,-5\ny,0,5\nz,0,\\N\n\\N,1,0\n")
+        self.assertEqual(cube.percent("sum(m)"), {("x",): None, ("y",): None, ("z",): None, (ALL,): None})
+        self.assertRaises(jackraisin.Unsayable, shop().percent, "avg(cents)")
+        self.assertEqual(jackraisin.Cube("a,grouping(a),sum(m)\n").percent("sum(m)"), {})
+
+    def test_pivot(self):
+        self.assertEqual(shop().pivot("city", "product", "sum(cents)"), {
+            "Leeds": {"coffee": 1350, "tea": 700, "tea, green": 400, ALL: 2450},
+            "York": {"coffee": 450, "tea": 350, "tea, green": None, ALL: 800},
+            None: {"coffee": None, "tea": 1200, "tea, green": None, ALL: 1200},
+            ALL: {"coffee": 1800, "tea": 2250, "tea, green": 400, ALL: 4450}})
+        self.assertEqual(list(shop().pivot("city", "product", "count(*)")), ["Leeds", "York", None, ALL])
+        paid = shop().pivot("payment", "city", "count(*)", {"product": "tea"})
+        self.assertEqual(sum(row[ALL] for coordinate, row in paid.items() if coordinate is not ALL), paid[ALL][ALL])
+        self.assertRaises(jackraisin.Unsayable, shop().pivot, "city", "city", "count(*)")
+
+    def test_diff(self):
+        head = "a,b,grouping(a),grouping(b),count(*),min(m)\n"
+        before = jackraisin.Cube(f"{head}x,p,0,0,2,5\ny,p,0,0,1,7\nz,p,0,0,1,\\N\n\\N,\\N,0,0,1,4\n\\N,\\N,1,1,5,4\n")
+        after = jackraisin.Cube(f"{head}w,p,0,0,1,9\nx,p,0,0,3,5\nz,p,0,0,1,\\N\n\\N,\\N,0,0,1,4\n\\N,\\N,1,1,5,4\n")
+        found = before.diff(after)
+        self.assertEqual([it.key for it in found], [("w", "p"), ("x", "p"), ("y", "p")])
+        self.assertEqual([(it.before and it.before.answers, it.after and it.after.answers) for it in found], [(None, (1, 9)), ((2, 5), (3, 5)), ((1, 7), None)])
+        self.assertEqual([it.change("count(*)") for it in found], [1, 1, -1])
+        self.assertEqual([it.change("min(m)") for it in found], [None, 0, None])
+        self.assertEqual(before.diff(before), [])
+        self.assertRaises(jackraisin.Unsayable, before.diff, shop())
+
+
+class Generated(unittest.TestCase):
+    """Beside the oracle's rows of generated feeds."""
+
+    def each(self, count):
+        for seed in range(count):
+            rng = random.Random(f"views {seed}")
+            schema, feeds = beside.small_case(rng)
+            with self.subTest(seed=seed), beside.written(schema, feeds, rng) as paths:
+                yield rng, schema, paths, feeds, oracle.Run(schema, feeds)
+
+    def test_where_is_a_slice(self):
+        for rng, schema, paths, _, run in self.each(40):
+            cube = jackraisin.cube(beside.schema_like(schema), paths)
+            wanted = beside.pattern(rng, schema, [it for it, _ in run.rows], ["any", "any", oracle.ALL, None, b"a", b'"'])
+            given = beside.as_given(rng, schema, wanted)
+            self.assertEqual(rows_of(cube.where(given)), rows_like(schema, oracle.matching(run.rows, wanted)))
+            self.assertEqual(cube.where(given).text, jackraisin.slice(beside.schema_like(schema), paths, given).text)
+
+    def test_top(self):
+        for rng, schema, paths, _, run in self.each(30):
+            cube, rows = jackraisin.cube(beside.schema_like(schema), paths), rows_like(schema, run.rows)
+            at, count = rng.randrange(len(cube.aggregates)), rng.randrange(8)
+            # (by taking the best one away again and again)
+            wanted = []
+            while rows and len(wanted) < count:
+                known = [it for it in rows if it[1][at] is not None]
+                best = next(it for it in known if it[1][at] == max(it[1][at] for it in known)) if known else rows[0]
+                rows.remove(best)
+                wanted.append(best)
+            self.assertEqual(rows_of(cube.top(count, cube.aggregates[at], totals=True)), wanted)
+
+    def test_diff(self):
+        for rng, schema, paths, feeds, run in self.each(30):
+            like = beside.schema_like(schema)
+            fewer = [it[: len(it) // 2] for it in feeds]
+            with beside.written(schema, fewer, rng) as before:
+                found = jackraisin.cube(like, before).diff(jackraisin.cube(like, paths))
+            was, now = (dict(rows_like(schema, it.rows)) for it in (oracle.Run(schema, fewer), run))
+            answers = lambda row: None if row is None else row.answers
+            self.assertEqual({it.key: (answers(it.before), answers(it.after)) for it in found},
+                             {key: (was.get(key), now.get(key)) for key in {*was, *now} if was.get(key) != now.get(key)})
+            keys = [key for key, _ in [*rows_like(schema, run.rows)]]
+            there = [it.key for it in found if it.after]
+            self.assertEqual(there, [it for it in keys if it in set(there)], "key order")
+
+
+if __name__ == "__main__":
+    unittest.main()
