@@ -11,7 +11,8 @@ returns-clause-stands c =
     let sets : OnOk c.apply.result (TakesOne old new) = OnOk-both c.apply.result
     (λ all same. record { all = all; same = same }) c.apply.ensures.sources c.apply.ensures.same in
     OnOk-both c.apply.result
-    (λ one stands. builder-further old new c.args.source c.args.item one stands) sets c.apply.ensures.stands
+    (λ one stands. builder-further old new c.args.source c.args.item one stands) sets
+    (rw c.into_item.ensures.item at c.apply.ensures.stands)
 
 pub returns-clause-unchanged : goal.returns-clause-unchanged
 returns-clause-unchanged c =
