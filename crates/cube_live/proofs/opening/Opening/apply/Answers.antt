@@ -1,4 +1,5 @@
-use Rattle.std.proofs.Common.{refl}
+use Rattle.std.proofs.Common.{◌-◌, ℕ, ap, refl}
+use Rattle.std.specs.Prelude.{slice_set}
 use Rattle.cube_live.specs.Opening.{OpeningView}
 use Rattle.cube_live.proofs.OpeningLaws.{OpeningStandsAt-more}
 use Rattle.cube_live.proofs.opening.Opening.apply.Goals as goal
@@ -10,4 +11,5 @@ returns-clause-stands c =
     let within = rw (← c.self.view_is) at c.requires in
     rw (← c.self.view_is) (λ first arrivals stands. OpeningStandsAt-more first old _ arrivals c.args.source c.args.item
     within.0 within.1 c.self.invariant.feeds_at_most c.self.invariant.numbered
-    c.in_ok-apply_fed.ensures.enters.schema refl (c.in_ok-apply_fed.ensures.stands arrivals) refl stands)
+    c.in_ok-apply_fed.ensures.enters.schema refl (c.in_ok-apply_fed.ensures.stands arrivals)
+    (ap (λ (n : ℕ). slice_set c.self.inside.numbers.items (c.args.source - 1) n) c.number-number.ensures) stands)
