@@ -1,6 +1,7 @@
 -- Where a cube stands after stored changes.
-use Rattle.std.proofs.Common.{◌≡◌, ◌∙◌, ◌⊎◌, inl, inr, ℕ, [], ◌∷◌, List, refl, sym, ap, subst}
+use Rattle.std.proofs.Common.{◌≡◌, ◌∙◌, ◌⊎◌, inl, inr, ℕ, [], ◌∷◌, List, false, refl, sym, ap, subst}
 use Rattle.std.specs.Prelude.{None, Some, Option, unwrap_or}
+use Rattle.std.specs.Option.{is_some}
 use Rattle.cube_core.specs.Arrival.{Arrivals, of_source}
 use Rattle.cube_core.specs.Layout.{Layout}
 use Rattle.cube_journal.specs.Rows.{Entry}
@@ -39,57 +40,76 @@ over-stays before after (change ∷ changes) source over taken =
     let step = subst (λ (o : Option ℕ). TakesBehind o before.live change taken.0) over taken.1 in
     over-stays taken.0 after changes source (ap (λ (r : ReplayView). r.over) step) taken.2
 
+-- one step where nothing has passed the last: the change was taken, and so are those behind it
+within-step : (old : LiveView) (after next : ReplayView) (change : Entry) (changes : List Entry) → after.over ≡ None
+    → LeadsTo TakesWithin next changes after → (next.over ≡ None → LeadsTo TakesStored next.live changes after.live)
+    → TakesBehind None old change next → LeadsTo TakesStored old (change ∷ changes) after.live
+within-step old after next change changes ended rest later (inl step) = (next.live, step.1, later step.0)
+within-step old after next change changes ended rest later (inr step) =
+    let no : None {A = ℕ} ≡ Some change.0 = sym ended ∙ over-stays next after changes change.0 step.0 rest in
+    absurd (cc)
+
 -- what hasn't has taken each change
 pub LeadsTo-within : (before after : ReplayView) (changes : List Entry) → before.over ≡ None → after.over ≡ None
     → LeadsTo TakesWithin before changes after → LeadsTo TakesStored before.live changes after.live
 LeadsTo-within before after [] none ended same = ap (λ (r : ReplayView). r.live) same
 LeadsTo-within before after (change ∷ changes) none ended taken =
-    within (subst (λ (o : Option ℕ). TakesBehind o before.live change taken.0) none taken.1)
-  where
-    within : TakesBehind None before.live change taken.0 → LeadsTo TakesStored before.live (change ∷ changes) after.live
-    within (inl step) = (taken.0.live, step.1, LeadsTo-within taken.0 after changes step.0 ended taken.2)
-    within (inr step) =
-        let no : None ≡ Some change.0 = sym ended ∙ over-stays taken.0 after changes change.0 step.0 taken.2 in
-        absurd (cc)
+    within-step before.live after taken.0 change changes ended taken.2
+    (λ (open : taken.0.over ≡ None). LeadsTo-within taken.0 after changes open ended taken.2)
+    (subst (λ (o : Option ℕ). TakesBehind o before.live change taken.0) none taken.1)
+
+-- one step before what was one too many of its source
+passes-step : (old : LiveView) (after next : ReplayView) (change : Entry) (changes : List Entry) (source : ℕ)
+    → after.over ≡ Some source → LeadsTo TakesWithin next changes after → (start : Arrivals) → LiveStandsAt old start
+    → (next.over ≡ None → (arrivals : Arrivals) → LiveStandsAt next.live arrivals
+    → PassesLast next.live.schema arrivals changes source)
+    → TakesBehind None old change next → PassesLast old.schema start (change ∷ changes) source
+passes-step old after next change changes source ended rest start stands later (inl step) =
+    let arrivals = arrivals_by_stored old.schema start change in
+    let passes : PassesLast old.schema arrivals changes source =
+    subst (λ (s : Layout). PassesLast s arrivals changes source) step.1.schema
+    (later step.0 arrivals (step.1.stands start stands)) in
+    record {
+      before = change ∷ passes.before;
+      change = passes.change;
+      behind = passes.behind;
+      parts = ap (λ (l : List Entry). change ∷ l) passes.parts;
+      of_it = passes.of_it;
+      read = passes.read;
+      full = passes.full;
+    }
+passes-step old after next change changes source ended rest start stands later (inr step) =
+    let same : change.0 ≡ source =
+    ap (λ (o : Option ℕ). unwrap_or o 0) (sym (over-stays next after changes change.0 step.0 rest) ∙ ended) in
+    record {
+      before = [];
+      change = change;
+      behind = changes;
+      parts = refl;
+      of_it = same;
+      read = step.1.read;
+      full = subst (λ (n : ℕ). last_number (of_source start n) ≡ old.schema.max_records) same
+          (sym (stands.numbers change.0 step.1.first step.1.last) ∙ step.1.full);
+    }
 
 -- and what has met one too many of its source
 pub LeadsTo-over : (before after : ReplayView) (changes : List Entry) (source : ℕ) → before.over ≡ None
     → after.over ≡ Some source → LeadsTo TakesWithin before changes after → (start : Arrivals)
     → LiveStandsAt before.live start → PassesLast before.live.schema start changes source
 LeadsTo-over before after [] source none ended same start stands =
-    let no : None ≡ Some source = sym none ∙ ap (λ (r : ReplayView). r.over) same ∙ ended in
+    let no : None {A = ℕ} ≡ Some source = sym none ∙ ap (λ (r : ReplayView). r.over) same ∙ ended in
     absurd (cc)
 LeadsTo-over before after (change ∷ changes) source none ended taken start stands =
-    passes (subst (λ (o : Option ℕ). TakesBehind o before.live change taken.0) none taken.1)
-  where
-    passes : TakesBehind None before.live change taken.0 → PassesLast before.live.schema start (change ∷ changes) source
-    passes (inl step) =
-        let next = arrivals_by_stored before.live.schema start change in
-        let later = subst (λ (s : Layout). PassesLast s next changes source) step.1.schema
-        (LeadsTo-over taken.0 after changes source step.0 ended taken.2 next (step.1.stands start stands)) in
-        record {
-          before = change ∷ later.before;
-          change = later.change;
-          behind = later.behind;
-          parts = ap (λ (l : List Entry). change ∷ l) later.parts;
-          of_it = later.of_it;
-          read = later.read;
-          full = later.full;
-        }
-    passes (inr step) =
-        let same : change.0 ≡ source =
-        ap (λ (o : Option ℕ). unwrap_or o 0)
-        (sym (over-stays taken.0 after changes change.0 step.0 taken.2) ∙ ended) in
-        record {
-          before = [];
-          change = change;
-          behind = changes;
-          parts = refl;
-          of_it = same;
-          read = step.1.read;
-          full = subst (λ (n : ℕ). last_number (of_source start n) ≡ before.live.schema.max_records) same
-              (sym (stands.numbers change.0 step.1.first step.1.last) ∙ step.1.full);
-        }
+    passes-step before.live after taken.0 change changes source ended taken.2 start stands
+    (λ (open : taken.0.over ≡ None) (arrivals : Arrivals) (at : LiveStandsAt taken.0.live arrivals).
+    LeadsTo-over taken.0 after changes source open ended taken.2 arrivals at)
+    (subst (λ (o : Option ℕ). TakesBehind o before.live change taken.0) none taken.1)
+
+-- what hasn't passed the last takes a change so
+pub behind-none : (over : Option ℕ) → is_some over ≡ false → (old new : LiveView) (change : Entry)
+    → TakesStored old change new → TakesBehind over old change (record { live = new; over = over })
+behind-none None off old new change taken = inl (refl, taken)
+behind-none (Some source) off old new change taken = absurd (cc)
 
 -- ---- a start over a store
 

@@ -44,11 +44,8 @@ returns-in-None-clause-kept g c = c.new.ensures.kept (λ clean.
 pub returns-in-None-clause-same : goal.returns-in-None-clause-same
 returns-in-None-clause-same g c = rw c.new.ensures.store c.in-Ok.ensures.crash
 
-pub returns-in-Some-clause-unharmed : goal.returns-in-Some-clause-unharmed
-returns-in-Some-clause-unharmed g c = rw c.into_store.ensures.value c.in-Ok.ensures.crash
-
-pub returns-in-Some-clause-accepts : goal.returns-in-Some-clause-accepts
-returns-in-Some-clause-accepts g c = λ clean.
+pub returns-in-Ok-clause-accepts : goal.returns-in-Ok-clause-accepts
+returns-in-Ok-clause-accepts g c = λ clean.
     let view = g.S.Store.view in
     let fine : IsClean (view c.in-Ok.journal.store) = subst (λ s. IsClean (view s)) c.into_store.ensures.value clean in
     let found = c.in-Ok.ensures.found fine in
