@@ -80,7 +80,7 @@ class Tally:
 @contextlib.contextmanager
 def temporary_files(place=None):
     """A fresh folder for temporary files, as open as /tmp: a part that root runs may run others as somebody else."""
-    with tempfile.TemporaryDirectory(prefix="datacube-gate-", dir=place, ignore_cleanup_errors=True) as room:
+    with tempfile.TemporaryDirectory(prefix="gate-", dir=place, ignore_cleanup_errors=True) as room:
         os.chmod(room, 0o1777)
         yield room
 

@@ -75,7 +75,7 @@ def run(env):
     """Runs the tests with a folder of their own for temporary files; gives the numbers that passed and failed. That they left
     nothing in it counts as one of them."""
     python = next((it for it in (DEBIANS, sys.executable) if has_pytest(it)), None)
-    with tempfile.TemporaryDirectory(prefix="datacube-tests-") as folder:
+    with tempfile.TemporaryDirectory(prefix="py-") as folder:
         # (a private server may be nobody's, who has to find the way to its own folder)
         os.chmod(folder, 0o711)
         env = {**env, "TMPDIR": folder}

@@ -71,7 +71,7 @@ class Private:
     """A private server in a folder of its own, which may be ended and begun again."""
 
     def __init__(self) -> None:
-        self.room = tempfile.mkdtemp(prefix="datacube-pg-")
+        self.room = tempfile.mkdtemp(prefix="pg-")
         binaries = sql.newest_server()
         self.settings_for_plugin = sql.settings_for_plugin(binaries)
         self.server = sql.Server(binaries, self.room, SETTINGS + self.settings_for_plugin)

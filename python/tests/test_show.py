@@ -20,7 +20,7 @@ SECONDS = 60
 
 class Show(unittest.TestCase):
     def setUp(self):
-        self.folder = tempfile.mkdtemp(prefix="datacube-test-")
+        self.folder = tempfile.mkdtemp(prefix="t-")
         self.addCleanup(shutil.rmtree, self.folder)
         self.cube = jackraisin.Cube(f'city,grouping(city),count(*)\n"{EVIL}",0,3\nYork,0,4\n\\N,1,7\n')
 
