@@ -40,14 +40,17 @@ over-stays before after (change ∷ changes) source over taken =
     let step = subst (λ (o : Option ℕ). TakesBehind o before.live change taken.0) over taken.1 in
     over-stays taken.0 after changes source (ap (λ (r : ReplayView). r.over) step) taken.2
 
+-- nothing is none and some
+none-some : (over : Option ℕ) (source : ℕ) → over ≡ None → over ≡ Some source → ⊥
+none-some over source none some = cc
+
 -- one step where nothing has passed the last: the change was taken, and so are those behind it
 within-step : (old : LiveView) (after next : ReplayView) (change : Entry) (changes : List Entry) → after.over ≡ None
     → LeadsTo TakesWithin next changes after → (next.over ≡ None → LeadsTo TakesStored next.live changes after.live)
     → TakesBehind None old change next → LeadsTo TakesStored old (change ∷ changes) after.live
 within-step old after next change changes ended rest later (inl step) = (next.live, step.1, later step.0)
 within-step old after next change changes ended rest later (inr step) =
-    let no : None {A = ℕ} ≡ Some change.0 = sym ended ∙ over-stays next after changes change.0 step.0 rest in
-    absurd (cc)
+    absurd (none-some after.over change.0 ended (over-stays next after changes change.0 step.0 rest))
 
 -- what hasn't has taken each change
 pub LeadsTo-within : (before after : ReplayView) (changes : List Entry) → before.over ≡ None → after.over ≡ None
@@ -55,7 +58,7 @@ pub LeadsTo-within : (before after : ReplayView) (changes : List Entry) → befo
 LeadsTo-within before after [] none ended same = ap (λ (r : ReplayView). r.live) same
 LeadsTo-within before after (change ∷ changes) none ended taken =
     within-step before.live after taken.0 change changes ended taken.2
-    (λ (open : taken.0.over ≡ None). LeadsTo-within taken.0 after changes open ended taken.2)
+    (λ (unpassed : taken.0.over ≡ None). LeadsTo-within taken.0 after changes unpassed ended taken.2)
     (subst (λ (o : Option ℕ). TakesBehind o before.live change taken.0) none taken.1)
 
 -- one step before what was one too many of its source
@@ -97,12 +100,11 @@ pub LeadsTo-over : (before after : ReplayView) (changes : List Entry) (source : 
     → after.over ≡ Some source → LeadsTo TakesWithin before changes after → (start : Arrivals)
     → LiveStandsAt before.live start → PassesLast before.live.schema start changes source
 LeadsTo-over before after [] source none ended same start stands =
-    let no : None {A = ℕ} ≡ Some source = sym none ∙ ap (λ (r : ReplayView). r.over) same ∙ ended in
-    absurd (cc)
+    absurd (none-some before.over source none (ap (λ (r : ReplayView). r.over) same ∙ ended))
 LeadsTo-over before after (change ∷ changes) source none ended taken start stands =
     passes-step before.live after taken.0 change changes source ended taken.2 start stands
-    (λ (open : taken.0.over ≡ None) (arrivals : Arrivals) (at : LiveStandsAt taken.0.live arrivals).
-    LeadsTo-over taken.0 after changes source open ended taken.2 arrivals at)
+    (λ (unpassed : taken.0.over ≡ None) (arrivals : Arrivals) (at : LiveStandsAt taken.0.live arrivals).
+    LeadsTo-over taken.0 after changes source unpassed ended taken.2 arrivals at)
     (subst (λ (o : Option ℕ). TakesBehind o before.live change taken.0) none taken.1)
 
 -- what hasn't passed the last takes a change so
