@@ -4,3 +4,6 @@ pub mod RowLaws
 pub mod RefusalLaws
 pub mod ShowsLaws
 mod OpeningLaws
+mod ReplyLaws
+mod ServingLaws
+pub mod KeepingLaws

@@ -1,6 +1,6 @@
 -- The changes that a journal was told of, as they are stored.
 use Rattle.std.proofs.Common.{◌≡◌, ◌++◌, ◌∷◌, [], ℕ, List, refl, ap}
-use Rattle.cube_session.specs.Keeping.{Noted}
+use Rattle.cube_live.specs.Keeping.{Noted}
 use Rattle.cube_stored.specs.Records.{record_text, stored_all, stored_as}
 
 pub stored_all-more : (told : List Noted) (source : ℕ) (fields : List (List ℕ))

@@ -10,16 +10,16 @@ use Rattle.cube_core.specs.Layout.{Layout}
 use Rattle.cube_journal.specs.Making.{LeavesNotes}
 use Rattle.cube_journal.specs.Rows.{Entry}
 use Rattle.cube_journal.specs.State.{Holds, LeadsTo, stored_in, noted_in, form_in, stored_form}
-use Rattle.cube_session.specs.Keeping.{FailsKept, Keeping, KeepsBy, KeepsOn, KeepsPart, LeavesAt, Noted, keeping_after}
-use Rattle.cube_session.specs.Keeping.{keeping_by, keeping_with, made_sure, with_change}
+use Rattle.cube_live.specs.Keeping.{FailsKept, Keeping, KeepsBy, KeepsOn, KeepsPart, LeavesAt, Noted, keeping_after}
+use Rattle.cube_live.specs.Keeping.{keeping_by, keeping_with, made_sure, with_change}
 use Rattle.cube_live.specs.Live.{LiveView}
 use Rattle.cube_live.specs.Request.{request_of}
-use Rattle.cube_session.specs.Serving.{Serves}
+use Rattle.cube_live.specs.Serving.{Serves}
 use Rattle.cube_live.specs.declared.request.Request.{Request}
 use Rattle.cube_live.specs.declared.request.Request.TheVariants.{Change, Ask, Wrong}
-use Rattle.cube_session.specs.declared.session.SessionFault.{SessionFault}
-use Rattle.cube_session.specs.declared.session.SessionFault.TheVariants.{Read, TooMany, Full, Write, Journal}
-use Rattle.cube_session.proofs.KeepingLaws.{keeping_after-append}
+use Rattle.cube_live.specs.declared.session.SessionFault.{SessionFault}
+use Rattle.cube_live.specs.declared.session.SessionFault.TheVariants.{Read, TooMany, Full, Write, Journal}
+use Rattle.cube_live.proofs.KeepingLaws.{keeping_after-append}
 use Rattle.cube_store.specs.Keeping.{Batch, HasKept, LeavesPart}
 use Rattle.cube_stored.specs.Kept.{FailsStored, keeps, breaks}
 use Rattle.cube_stored.specs.Records.{stored_all, stored_as}

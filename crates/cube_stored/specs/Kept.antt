@@ -2,9 +2,9 @@
 use Rattle.std.specs.Prelude.{◌≡◌, ℕ, List, Option}
 use Rattle.sqlite_trees.specs.Tree.{Trees}
 use Rattle.sqlite_trees.specs.View.{View}
-use Rattle.cube_session.specs.Keeping.{FailsKept, Keeping}
+use Rattle.cube_live.specs.Keeping.{FailsKept, Keeping}
 use Rattle.cube_live.specs.Live.{LiveView}
-use Rattle.cube_session.specs.declared.session.SessionFault.{SessionFault}
+use Rattle.cube_live.specs.declared.session.SessionFault.{SessionFault}
 use Rattle.cube_store.specs.Keeping.{Batch, HasBroken, HasKept}
 use Rattle.cube_stored.specs.Records.{stored_all}
 

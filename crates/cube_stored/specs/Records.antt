@@ -3,7 +3,7 @@ use Rattle.std.specs.Prelude.{◌≡◌, ◌==◌, false, ℕ, List, [], ◌∷�
 use Rattle.csv.specs.Writing.{default_writer, is_blank, row_body}
 use Rattle.cube_core.specs.Records.{records_of}
 use Rattle.cube_journal.specs.Rows.{Entry}
-use Rattle.cube_session.specs.Keeping.{Noted}
+use Rattle.cube_live.specs.Keeping.{Noted}
 
 -- the text of a record as csv's writer writes it, without its line end (RFC 4180)
 abbrev pub record_text : List (List ℕ) → List ℕ

@@ -5,7 +5,7 @@ use Rattle.cube_core.specs.Items.{is_read}
 use Rattle.cube_core.specs.Layout.{Layout}
 use Rattle.cube_journal.specs.Rows.{Entry}
 use Rattle.cube_live.specs.Live.{LiveView, LiveStandsAt, last_number}
-use Rattle.cube_session.specs.Session.{arrivals_changed}
+use Rattle.cube_live.specs.Session.{arrivals_changed}
 use Rattle.cube_stored.specs.Records.{fields_in}
 
 -- an arrival list after a stored change:

@@ -8,11 +8,11 @@ use Rattle.cube_core.specs.Layout.{Layout}
 use Rattle.cube_journal.specs.Making.{LeavesNotes}
 use Rattle.cube_journal.specs.Rows.{Entry}
 use Rattle.cube_journal.specs.State.{held_in, stored_in, stored_form, Holds}
-use Rattle.cube_session.specs.Keeping.{Keeping, LeavesAt, keeping_after}
+use Rattle.cube_live.specs.Keeping.{Keeping, LeavesAt, keeping_after}
 use Rattle.cube_live.specs.Live.{LiveView, LiveStandsAt}
-use Rattle.cube_session.specs.Serving.{Answered}
-use Rattle.cube_session.specs.Session.{arrivals_after}
-use Rattle.cube_session.specs.declared.session.SessionFault.{SessionFault}
+use Rattle.cube_live.specs.Serving.{Answered}
+use Rattle.cube_live.specs.Session.{arrivals_after}
+use Rattle.cube_live.specs.declared.session.SessionFault.{SessionFault}
 use Rattle.cube_stored.specs.Records.{stored_all}
 use Rattle.cube_stored.specs.Replay.{PassesLast, arrivals_from}
 use Rattle.cube_stored.specs.declared.session.StoredFault.{StoredFault}

@@ -7,7 +7,7 @@ ghost use Rattle.cube_store.specs.Keeping.{HasKept};
 use crate::record::text_of;
 use csv::ByteRecord;
 use cube_journal::ChangeJournal;
-use cube_session::{Journal, JournalFault};
+use cube_live::{Journal, JournalFault};
 use cube_store::BatchJournal;
 use sqlite_trees::error::StoreError;
 use sqlite_trees::store::Store;

@@ -7,9 +7,9 @@ use Rattle.cube_core.specs.Run.{SourceBytes}
 use Rattle.cube_live.proofs.RefusalLaws.{refusals_of_accounts}
 use Rattle.cube_live.specs.Live.{IsLive, LiveStandsAt, LiveView}
 use Rattle.cube_live.specs.Opening.{OpensOver}
-use Rattle.cube_session.specs.Serving.{Serves, ServingFails}
-use Rattle.cube_session.specs.Session.{AreReplies, arrivals_after}
-use Rattle.cube_session.specs.declared.session.SessionFault.{SessionFault}
+use Rattle.cube_live.specs.Serving.{Serves, ServingFails}
+use Rattle.cube_live.specs.Session.{AreReplies, arrivals_after}
+use Rattle.cube_live.specs.declared.session.SessionFault.{SessionFault}
 use Rattle.cube_tool.specs.Command.{status_after}
 use Rattle.cube_tool.specs.Run.{OfFeeds}
 use Rattle.cube_tool.specs.Session.{BreaksOver, ServesOver}

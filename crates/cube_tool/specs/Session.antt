@@ -6,9 +6,9 @@ use Rattle.cube_core.specs.Layout.{Layout}
 use Rattle.cube_core.specs.Run.{SourceBytes}
 use Rattle.cube_core.specs.declared.change.Item.{Item}
 use Rattle.cube_live.specs.Opening.{StartsOver}
-use Rattle.cube_session.specs.Serving.{LeavesReplies}
-use Rattle.cube_session.specs.Session.{AreReplies, arrivals_after}
-use Rattle.cube_session.specs.declared.session.SessionFault.{SessionFault}
+use Rattle.cube_live.specs.Serving.{LeavesReplies}
+use Rattle.cube_live.specs.Session.{AreReplies, arrivals_after}
+use Rattle.cube_live.specs.declared.session.SessionFault.{SessionFault}
 use Rattle.cube_tool.specs.Answering.{status_over}
 use Rattle.cube_tool.specs.Run.{ExplainsRun, OfFeeds, Wrote}
 use Rattle.cube_tool.specs.declared.command.failure.Failure.{Failure}

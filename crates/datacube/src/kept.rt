@@ -10,7 +10,7 @@ use cube_core::Schema;
 use cube_input::read_ahead;
 use cube_journal::{ChangeJournal, FeedNote};
 use cube_progress::{Counts, FeedReader, Output, Phase, Progress};
-use cube_session::{NeverRests, Rests};
+use cube_live::{NeverRests, Rests};
 use cube_store::{
     NoteFault, StoreFault, Unknown, Wary, close, note_of, open_files, open_made_files, open_path,
     prepare_path,

@@ -12,8 +12,8 @@ use Rattle.cube_journal.specs.State.{stored_in}
 use Rattle.cube_live.proofs.RefusalLaws.{refusals_of_accounts}
 use Rattle.cube_live.specs.Live.{IsLive, LiveStandsAt, LiveView}
 use Rattle.cube_live.specs.Opening.{OpensOver}
-use Rattle.cube_session.specs.Session.{AreReplies, arrivals_after}
-use Rattle.cube_session.specs.declared.session.SessionFault.{SessionFault}
+use Rattle.cube_live.specs.Session.{AreReplies, arrivals_after}
+use Rattle.cube_live.specs.declared.session.SessionFault.{SessionFault}
 use Rattle.cube_stored.specs.Replay.{PassesLast, arrivals_from}
 use Rattle.cube_stored.specs.Serving.{BreaksSession, BreaksStored, HasTooMany, ServesStored}
 use Rattle.cube_stored.specs.declared.session.StoredFault.{StoredFault}

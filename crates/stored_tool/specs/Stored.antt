@@ -9,10 +9,10 @@ use Rattle.cube_core.specs.declared.change.Item.{Item}
 use Rattle.cube_journal.specs.Making.{LeavesNotes}
 use Rattle.cube_journal.specs.Rows.{Entry}
 use Rattle.cube_journal.specs.State.{held_in, stored_in, stored_form, Holds}
-use Rattle.cube_session.specs.Keeping.{LeavesAt}
+use Rattle.cube_live.specs.Keeping.{LeavesAt}
 use Rattle.cube_live.specs.Opening.{StartsOver}
-use Rattle.cube_session.specs.Session.{AreReplies, arrivals_after}
-use Rattle.cube_session.specs.declared.session.SessionFault.{SessionFault}
+use Rattle.cube_live.specs.Session.{AreReplies, arrivals_after}
+use Rattle.cube_live.specs.declared.session.SessionFault.{SessionFault}
 use Rattle.cube_stored.specs.Replay.{PassesLast, arrivals_from}
 use Rattle.cube_stored.specs.Serving.{LeavesFirst, changes_in}
 use Rattle.cube_stored.specs.declared.session.StoredFault.{StoredFault}

@@ -1,6 +1,6 @@
 //! What a command over a store takes.
 use cube_journal::FeedNote;
-use cube_session::Rests;
+use cube_live::Rests;
 use cube_stored::Commits;
 use std::io::Read;
 

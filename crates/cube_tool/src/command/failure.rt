@@ -6,7 +6,7 @@ use crate::command::status::Status;
 use crate::fault::{RunFault, TextFault};
 use cube_core::{QueryFault, SchemaFault};
 use cube_merge::MergeFault;
-use cube_session::{JournalFault, SessionFault};
+use cube_live::{JournalFault, SessionFault};
 use cube_threads::FeedingFault;
 use cube_writing::WriteFault;
 use std::fmt;

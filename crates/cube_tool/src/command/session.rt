@@ -1,7 +1,7 @@
 //! The command that keeps a cube right: changes and questions in, replies out.
 ghost use Rattle.std.specs.Prelude.{◌≡◌, ◌≤◌, map, option_map, vec_len, IfOk, IfErr, IfSome, OnOk};
 ghost use Rattle.cube_core.specs.Records.{records_of};
-ghost use Rattle.cube_session.specs.Serving.{Serves, ServingFails};
+ghost use Rattle.cube_live.specs.Serving.{Serves, ServingFails};
 ghost use Rattle.cube_tool.specs.Run.{OfFeeds};
 ghost use Rattle.cube_tool.specs.Session.{FailsToServe, ServesOver};
 
@@ -10,8 +10,7 @@ use crate::command::status::{Status, status_after};
 use crate::reporter::Reporter;
 use cube_core::Schema;
 use cube_feed::RecordReader;
-use cube_live::{Live, open};
-use cube_session::{NeverRests, NoJournal, SessionFault, serve};
+use cube_live::{Live, NeverRests, NoJournal, SessionFault, open, serve};
 use cube_threads::{Gate, Settings};
 use std::alloc::Global;
 use std::io::{Read, Write};

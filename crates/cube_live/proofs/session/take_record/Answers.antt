@@ -5,10 +5,10 @@ use Rattle.cube_live.specs.Request.{request_of}
 use Rattle.cube_live.specs.declared.request.Request.{Request}
 use Rattle.cube_live.specs.declared.request.Request.TheVariants as request
 use Rattle.cube_live.proofs.RequestLaws.{IsSound, IsSound-request_of}
-use Rattle.cube_session.proofs.KeepingLaws as keeping
-use Rattle.cube_session.proofs.ServingLaws.{Replied-ask, Replied-change, Replied-wrong}
-use Rattle.cube_session.proofs.ServingLaws.{ReplyFails-breaks, ReplyFails-change}
-use Rattle.cube_session.proofs.session.take_record.Goals as goal
+use Rattle.cube_live.proofs.KeepingLaws as keeping
+use Rattle.cube_live.proofs.ServingLaws.{Replied-ask, Replied-change, Replied-wrong}
+use Rattle.cube_live.proofs.ServingLaws.{ReplyFails-breaks, ReplyFails-change}
+use Rattle.cube_live.proofs.session.take_record.Goals as goal
 
 pub change-requires-clause-first : goal.change-requires-clause-first
 change-requires-clause-first g c =

@@ -7,11 +7,11 @@ use Rattle.cube_core.specs.Items.{is_read}
 use Rattle.cube_core.specs.Layout.{Layout}
 use Rattle.cube_live.specs.Live.{LiveView, LiveStandsAt, last_number}
 use Rattle.cube_live.specs.Request.{request_of}
-use Rattle.cube_session.specs.Session.{AreReplies, IsReply, arrivals_after, arrivals_changed, arrivals_with}
+use Rattle.cube_live.specs.Session.{AreReplies, IsReply, arrivals_after, arrivals_changed, arrivals_with}
 use Rattle.cube_live.specs.declared.request.Request.{Request}
 use Rattle.cube_live.specs.declared.request.Request.TheVariants.{Change}
-use Rattle.cube_session.specs.declared.session.SessionFault.{SessionFault}
-use Rattle.cube_session.specs.declared.session.SessionFault.TheVariants.{Read, TooMany, Full, Write, Journal}
+use Rattle.cube_live.specs.declared.session.SessionFault.{SessionFault}
+use Rattle.cube_live.specs.declared.session.SessionFault.TheVariants.{Read, TooMany, Full, Write, Journal}
 
 -- the replies to the first records of a session, so many, went out
 pub record Answered (s : Layout) (records : List (List (List ℕ))) (start : Arrivals) (count : ℕ)

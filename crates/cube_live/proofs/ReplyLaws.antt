@@ -4,7 +4,7 @@ use Rattle.std.proofs.lemmas.List.{append-nil}
 use Rattle.cube_core.specs.Arrival.{Arrivals}
 use Rattle.cube_core.specs.Layout.{Layout}
 use Rattle.cube_live.specs.Request.{request_of}
-use Rattle.cube_session.specs.Session.{AreReplies, IsReply, arrivals_after, arrivals_with}
+use Rattle.cube_live.specs.Session.{AreReplies, IsReply, arrivals_after, arrivals_with}
 
 -- the arrival list after records, and after more
 pub arrivals_after-append : (s : Layout) (start : Arrivals) (some more : List (List (List ℕ)))

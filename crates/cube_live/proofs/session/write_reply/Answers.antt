@@ -1,6 +1,6 @@
 use Rattle.std.proofs.Common.{◌≡◌, ◌+◌, length, rules}
-use Rattle.cube_session.proofs.ServingLaws.{WritesNone-second}
-use Rattle.cube_session.proofs.session.write_reply.Goals as goal
+use Rattle.cube_live.proofs.ServingLaws.{WritesNone-second}
+use Rattle.cube_live.proofs.session.write_reply.Goals as goal
 
 pub returns-in-Err-clause-err : goal.returns-in-Err-clause-err
 returns-in-Err-clause-err g c =

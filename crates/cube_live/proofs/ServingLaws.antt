@@ -13,18 +13,18 @@ use Rattle.cube_core.specs.declared.change.LineFault.{LineFault}
 use Rattle.cube_feed.specs.Reading.{Advances, RecordsView}
 use Rattle.cube_live.specs.Live.{LiveView, LiveStandsAt, TakesNext, last_number}
 use Rattle.cube_live.specs.Request.{request_of}
-use Rattle.cube_session.specs.Serving.{Answered, LeavesReplies, Serves, ServingFails, Replied, ReplyFails}
-use Rattle.cube_session.specs.Serving.{IsJournalFault, IsInputFault, WritesNone, WritesPart, WritesReply}
-use Rattle.cube_session.specs.Serving.{BreaksReply, ExplainsChange}
-use Rattle.cube_session.specs.Serving.{TakesChange}
-use Rattle.cube_session.specs.Session.{AreReplies, IsReply, arrivals_after, arrivals_changed}
+use Rattle.cube_live.specs.Serving.{Answered, LeavesReplies, Serves, ServingFails, Replied, ReplyFails}
+use Rattle.cube_live.specs.Serving.{IsJournalFault, IsInputFault, WritesNone, WritesPart, WritesReply}
+use Rattle.cube_live.specs.Serving.{BreaksReply, ExplainsChange}
+use Rattle.cube_live.specs.Serving.{TakesChange}
+use Rattle.cube_live.specs.Session.{AreReplies, IsReply, arrivals_after, arrivals_changed}
 use Rattle.cube_live.specs.declared.request.Question.{Question}
 use Rattle.cube_live.specs.declared.request.Request.{Request}
 use Rattle.cube_live.specs.declared.request.Request.TheVariants as request
 use Rattle.cube_live.specs.declared.request.RequestFault.{RequestFault}
-use Rattle.cube_session.specs.declared.session.SessionFault.{SessionFault}
-use Rattle.cube_session.specs.declared.session.SessionFault.TheVariants.{Read, TooMany, Full, Write, Journal}
-use Rattle.cube_session.proofs.ReplyLaws.{AreReplies-more, arrivals_after-append, take-next}
+use Rattle.cube_live.specs.declared.session.SessionFault.{SessionFault}
+use Rattle.cube_live.specs.declared.session.SessionFault.TheVariants.{Read, TooMany, Full, Write, Journal}
+use Rattle.cube_live.proofs.ReplyLaws.{AreReplies-more, arrivals_after-append, take-next}
 
 -- so many records were replied to, by so many bytes, and the others are left
 pub record Went (s : Layout) (records : List (List (List ℕ))) (start : Arrivals) (count : ℕ)

@@ -3,11 +3,11 @@ use Rattle.std.proofs.lemmas.Result.{err_from_is_err_and, on_ok_weaker}
 use Rattle.csv.specs.Records.{fields_of}
 use Rattle.cube_core.specs.Items.{is_read}
 use Rattle.cube_core.specs.Layout.{Layout}
-use Rattle.cube_session.specs.Keeping.{EndsIn, Keeping, KeepsOn, keeping_changed, with_change}
-use Rattle.cube_session.specs.declared.session.SessionFault.{SessionFault}
-use Rattle.cube_session.proofs.KeepingLaws as keeping
-use Rattle.cube_session.proofs.ServingLaws.{TakesChange-read}
-use Rattle.cube_session.proofs.session.change.Goals as goal
+use Rattle.cube_live.specs.Keeping.{EndsIn, Keeping, KeepsOn, keeping_changed, with_change}
+use Rattle.cube_live.specs.declared.session.SessionFault.{SessionFault}
+use Rattle.cube_live.proofs.KeepingLaws as keeping
+use Rattle.cube_live.proofs.ServingLaws.{TakesChange-read}
+use Rattle.cube_live.proofs.session.change.Goals as goal
 
 -- a change that was told is kept, however the call failed then
 IfErr-told : {J T : Type 0} (keeps breaks : J → J → Keeping → Type 0) (r : Result T SessionFault) (s : Layout) (old : J)

@@ -1,9 +1,9 @@
 //! The lines that replies begin with or are.
 ghost use Rattle.std.specs.Prelude.{◌≡◌, IfOk};
-ghost use Rattle.cube_session.specs.Session.{code_line, code_text, ok_line, query_code};
+ghost use Rattle.cube_live.specs.Session.{code_line, code_text, ok_line, query_code};
 
 use cube_core::QueryFault;
-use cube_live::RequestFault;
+use crate::request::RequestFault;
 use itoa::Buffer;
 use std::alloc::{AllocError, Global};
 

@@ -1,7 +1,7 @@
 use Rattle.std.proofs.Common.{◌≡◌}
-use Rattle.cube_session.proofs.KeepingLaws.{HasKept}
-use Rattle.cube_session.proofs.ServingLaws.{HasGone}
-use Rattle.cube_session.proofs.session.serve.Given as goal
+use Rattle.cube_live.proofs.KeepingLaws.{HasKept}
+use Rattle.cube_live.proofs.ServingLaws.{HasGone}
+use Rattle.cube_live.proofs.session.serve.Given as goal
 
 abbrev pub invariant-loop-turn : goal.invariant-loop-turn
 invariant-loop-turn g l = record {

@@ -6,9 +6,9 @@ ghost use Rattle.cube_core.specs.Arrival.{Arrivals};
 ghost use Rattle.cube_feed.specs.Reading.{Advances};
 ghost use Rattle.cube_core.specs.Items.{is_read};
 ghost use Rattle.cube_core.specs.Layout.{Layout};
-ghost use Rattle.cube_session.specs.Keeping.{EndsIn, FailsKept, KeepsOn, keeping_after, keeping_changed, keeping_with, made_sure, with_change};
+ghost use Rattle.cube_live.specs.Keeping.{EndsIn, FailsKept, KeepsOn, keeping_after, keeping_changed, keeping_with, made_sure, with_change};
 ghost use Rattle.cube_live.specs.Live.{CanAsk, LiveStandsAt, TakesNext};
-ghost use Rattle.cube_session.specs.Serving.{ExplainsChange, IsInputFault, IsJournalFault, Replied, ReplyFails, Serves, ServingFails, TakesChange, WritesNone, WritesPart, WritesReply, BreaksReply};
+ghost use Rattle.cube_live.specs.Serving.{ExplainsChange, IsInputFault, IsJournalFault, Replied, ReplyFails, Serves, ServingFails, TakesChange, WritesNone, WritesPart, WritesReply, BreaksReply};
 ghost use Rattle.cube_live.specs.declared.request.Request.TheVariants as request;
 
 use crate::journal::{Journal, JournalFault};
@@ -17,7 +17,9 @@ use crate::rests::Rests;
 use csv::ByteRecord;
 use cube_core::{Change, LineFault};
 use cube_feed::{FeedFault, RecordReader, change_of_record, is_read, put_rest};
-use cube_live::{Live, Question, Request, RequestFault, request_of};
+use crate::live::Live;
+use crate::parse::request_of;
+use crate::request::{Question, Request, RequestFault};
 use cube_writing::write_whole;
 use std::alloc::{AllocError, Global};
 use std::io::{Read, Write};
@@ -39,7 +41,7 @@ pub enum SessionFault {
 }
 
 impl From<AllocError> for SessionFault {
-    ghost use Rattle.cube_session.specs.declared.session.SessionFault.TheVariants.{Full};
+    ghost use Rattle.cube_live.specs.declared.session.SessionFault.TheVariants.{Full};
     ghost use Rattle.std.specs.Prelude.{◌≡◌};
 
     ghost from_gives = { λ _ fault. fault ≡ Full };

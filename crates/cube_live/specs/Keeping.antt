@@ -6,11 +6,11 @@ use Rattle.cube_core.specs.Items.{is_read}
 use Rattle.cube_core.specs.Layout.{Layout}
 use Rattle.cube_live.specs.Live.{LiveView, LiveStandsAt}
 use Rattle.cube_live.specs.Request.{request_of}
-use Rattle.cube_session.specs.Serving.{Answered, AnsweredInPart, IsPastLast}
+use Rattle.cube_live.specs.Serving.{Answered, AnsweredInPart, IsPastLast}
 use Rattle.cube_live.specs.declared.request.Request.{Request}
 use Rattle.cube_live.specs.declared.request.Request.TheVariants.{Change, Ask, Wrong}
-use Rattle.cube_session.specs.declared.session.SessionFault.{SessionFault}
-use Rattle.cube_session.specs.declared.session.SessionFault.TheVariants.{Read, TooMany, Full, Write, Journal}
+use Rattle.cube_live.specs.declared.session.SessionFault.{SessionFault}
+use Rattle.cube_live.specs.declared.session.SessionFault.TheVariants.{Read, TooMany, Full, Write, Journal}
 
 -- a change as a journal is told of it: its source, and the fields of its record
 abbrev pub Noted : Type 0

@@ -1,7 +1,7 @@
 use Rattle.std.proofs.lemmas.Result.{err_from_is_err_and}
-use Rattle.cube_session.specs.Keeping.{EndsIn, made_sure}
-use Rattle.cube_session.proofs.KeepingLaws as laws
-use Rattle.cube_session.proofs.session.refuse.Goals as goal
+use Rattle.cube_live.specs.Keeping.{EndsIn, made_sure}
+use Rattle.cube_live.proofs.KeepingLaws as laws
+use Rattle.cube_live.proofs.session.refuse.Goals as goal
 
 pub returns-in_err-settle-clause-err_kept : goal.returns-in_err-settle-clause-err_kept
 returns-in_err-settle-clause-err_kept g c =

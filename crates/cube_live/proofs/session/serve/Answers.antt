@@ -1,9 +1,9 @@
 use Rattle.std.proofs.Common.{◌∙◌, refl}
 use Rattle.std.proofs.lemmas.Result.{err_from_is_err_and, on_ok_weaker}
-use Rattle.cube_session.proofs.ServingLaws.{HasGone-none, HasGone-more, HasGone-all, HasGone-fails}
-use Rattle.cube_session.specs.declared.session.SessionFault.TheVariants.{Full}
-use Rattle.cube_session.proofs.KeepingLaws as laws
-use Rattle.cube_session.proofs.session.serve.Goals as goal
+use Rattle.cube_live.proofs.ServingLaws.{HasGone-none, HasGone-more, HasGone-all, HasGone-fails}
+use Rattle.cube_live.specs.declared.session.SessionFault.TheVariants.{Full}
+use Rattle.cube_live.proofs.KeepingLaws as laws
+use Rattle.cube_live.proofs.session.serve.Goals as goal
 
 pub loop-turn-init : goal.loop-turn-init
 loop-turn-init g c = record {

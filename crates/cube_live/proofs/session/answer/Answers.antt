@@ -5,11 +5,11 @@ use Rattle.cube_core.specs.Layout.{Layout}
 use Rattle.cube_live.specs.Shows.{Shows}
 use Rattle.cube_live.specs.declared.request.Question.{Question}
 use Rattle.cube_live.specs.declared.request.Request.TheVariants as request
-use Rattle.cube_session.specs.Keeping.{EndsIn, made_sure}
-use Rattle.cube_session.specs.Session.{IsReply, ok_line}
-use Rattle.cube_session.proofs.KeepingLaws as laws
-use Rattle.cube_session.proofs.ServingLaws.{BreaksReply-writes}
-use Rattle.cube_session.proofs.session.answer.Goals as goal
+use Rattle.cube_live.specs.Keeping.{EndsIn, made_sure}
+use Rattle.cube_live.specs.Session.{IsReply, ok_line}
+use Rattle.cube_live.proofs.KeepingLaws as laws
+use Rattle.cube_live.proofs.ServingLaws.{BreaksReply-writes}
+use Rattle.cube_live.proofs.session.answer.Goals as goal
 
 -- a line that counts a text, and the text, reply to the question that it shows
 IsReply-shown : (s : Layout) (arrivals : Arrivals) (question : Question) (line text shown : List ℕ) (count : ℕ)

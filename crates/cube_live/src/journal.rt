@@ -1,7 +1,7 @@
 //! Where a session's changes are kept, should it be ended by what isn't foreseen.
 ghost use Rattle.std.specs.Prelude.{OnOk, OnErr};
 ghost use Rattle.csv.specs.Records.{fields_of};
-ghost use Rattle.cube_session.specs.Keeping.{Keeping, KeepsOn, made_sure, with_change};
+ghost use Rattle.cube_live.specs.Keeping.{Keeping, KeepsOn, made_sure, with_change};
 
 use csv::ByteRecord;
 

@@ -7,17 +7,17 @@ use Rattle.cube_core.specs.Arrival.{Arrivals}
 use Rattle.cube_core.specs.Items.{is_read}
 use Rattle.cube_core.specs.Layout.{Layout}
 use Rattle.cube_feed.specs.Reading.{Advances, RecordsView}
-use Rattle.cube_session.specs.Keeping.{EndsIn, FailsKept, Keeping, KeepsFirst, KeepsOn, KeepsPart, KeepsUpTo}
-use Rattle.cube_session.specs.Keeping.{keeping_after, keeping_by, keeping_changed, keeping_with, made_sure, with_change}
+use Rattle.cube_live.specs.Keeping.{EndsIn, FailsKept, Keeping, KeepsFirst, KeepsOn, KeepsPart, KeepsUpTo}
+use Rattle.cube_live.specs.Keeping.{keeping_after, keeping_by, keeping_changed, keeping_with, made_sure, with_change}
 use Rattle.cube_live.specs.Live.{LiveView, LiveStandsAt}
-use Rattle.cube_session.specs.Serving.{Answered, AnsweredInPart, IsInputFault, IsJournalFault, Replied, ReplyFails}
-use Rattle.cube_session.specs.Session.{arrivals_after}
+use Rattle.cube_live.specs.Serving.{Answered, AnsweredInPart, IsInputFault, IsJournalFault, Replied, ReplyFails}
+use Rattle.cube_live.specs.Session.{arrivals_after}
 use Rattle.cube_live.specs.declared.request.Request.{Request}
-use Rattle.cube_session.specs.declared.session.SessionFault.{SessionFault}
-use Rattle.cube_session.specs.declared.session.SessionFault.TheVariants.{Read, TooMany, Full, Write, Journal}
-use Rattle.cube_session.proofs.ReplyLaws.{AreReplies-more, take-next}
-use Rattle.cube_session.proofs.ServingLaws.{Went, Went-Answered, Went-more, Went-none, none-left, take-none_left}
-use Rattle.cube_session.proofs.ServingLaws.{take-past, taken-next}
+use Rattle.cube_live.specs.declared.session.SessionFault.{SessionFault}
+use Rattle.cube_live.specs.declared.session.SessionFault.TheVariants.{Read, TooMany, Full, Write, Journal}
+use Rattle.cube_live.proofs.ReplyLaws.{AreReplies-more, take-next}
+use Rattle.cube_live.proofs.ServingLaws.{Went, Went-Answered, Went-more, Went-none, none-left, take-none_left}
+use Rattle.cube_live.proofs.ServingLaws.{take-past, taken-next}
 
 -- what is kept after records, and after more
 pub keeping_after-append : (s : Layout) (k : Keeping) (some more : List (List (List ℕ)))

@@ -1,3 +1,0 @@
-mod ReplyLaws
-mod ServingLaws
-pub mod KeepingLaws

@@ -1,3 +1,0 @@
-pub mod Session
-pub mod Serving
-pub mod Keeping
