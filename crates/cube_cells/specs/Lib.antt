@@ -1,4 +1,4 @@
-pub use Rattle.cube_numbers.specs.Bag
+pub use Rattle.cube_values.specs.Bag
 pub mod Sum
 pub mod Tally
 pub mod Codes

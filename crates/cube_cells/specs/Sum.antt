@@ -1,7 +1,7 @@
 -- The sum of the numbers of a bag (SQL:1999, SUM), and what a kept sum is.
 use Rattle.std.specs.Prelude.{◌≡◌, ◌<◌, ◌+ℤ◌, ◌*ℤ◌, ℤ, pos, [], ◌∷◌, FitsSigned}
 use Rattle.std.specs.Int.{w64}
-use Rattle.cube_numbers.specs.Bag.{Bag, held_of}
+use Rattle.cube_values.specs.Bag.{Bag, held_of}
 
 -- the sum of the numbers, each as often as it is held: over the pairs, the number times its count
 abbrev pub sum_of : Bag → ℤ

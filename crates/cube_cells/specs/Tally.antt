@@ -5,7 +5,7 @@ use Rattle.std.specs.Prelude.{count_by, Option, Some, None}
 use Rattle.std.specs.Ordering.{int_eq}
 use Rattle.cube_core.specs.Group.{values_of}
 use Rattle.cube_core.specs.declared.fact.Fact.{Fact}
-use Rattle.cube_numbers.specs.Bag.{Bag, AddsBag, held_of, size_of, one_at, SameHeld}
+use Rattle.cube_values.specs.Bag.{Bag, AddsBag, held_of, size_of, one_at, SameHeld}
 
 -- how many facts a group has, and the bag of its values of each measure
 pub record Tally : Type 0 where

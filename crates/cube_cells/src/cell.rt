@@ -4,12 +4,12 @@ ghost use Rattle.std.specs.Option.{ForSome};
 ghost use Rattle.cube_core.specs.Answer.{IsAnswer};
 ghost use Rattle.cube_core.specs.Layout.{is_aggregate_of};
 ghost use Rattle.cube_core.specs.declared.fact.Fact.{Fact};
-ghost use Rattle.cube_numbers.specs.Bag.{size_of, held_of};
+ghost use Rattle.cube_values.specs.Bag.{size_of, held_of};
 ghost use Rattle.cube_cells.specs.Tally.{IsTallyOf, AddsBags, AddsValues, PlusFact, PlusTally, SameBags, SameTally, bag_at, value_at, hold_values, holds_fact};
 
 use crate::measure::Measure;
 use cube_core::{Agg, Answer};
-use cube_counts::{Counted, Numbers};
+use cube_values::{Counted, Numbers};
 use std::alloc::{AllocError, Global};
 use std::marker::Model;
 
@@ -25,7 +25,7 @@ pub struct Cell<N: Numbers = Counted> {
 
 impl<N: Numbers> Model for Cell<N> {
     ghost use Rattle.std.specs.Prelude.{◌≤◌, All};
-    ghost use Rattle.cube_numbers.specs.Bag.{size_of};
+    ghost use Rattle.cube_values.specs.Bag.{size_of};
     ghost use Rattle.cube_cells.specs.Tally.{Tally};
 
     ghost Value = { Tally };

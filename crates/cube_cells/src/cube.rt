@@ -29,7 +29,7 @@ use crate::cell::Cell;
 use cell_key::CellKey;
 use codes::{ALL, Codes};
 use cube_core::{Coord, DimensionValues, Fact, HashKey, Key, Schema};
-use cube_counts::{Counted, Numbers};
+use cube_values::{Counted, Numbers};
 use dictionary::Dictionary;
 pub use keyed::KeyedCell;
 use levels::{Level, new_levels};

@@ -15,4 +15,4 @@ mod measure;
 pub use cell::Cell;
 pub use cube::{Cube, KeyedCell, OrderedCells, row_of};
 pub use cube_core::{CoordRef, reduced};
-pub use cube_counts::{Counted, Numbers, Summary};
+pub use cube_values::{Counted, Numbers, Summary};

@@ -4,11 +4,11 @@ ghost use Rattle.std.specs.Int.{w128};
 ghost use Rattle.std.specs.Option.{ForSome};
 ghost use Rattle.cube_core.specs.Answer.{IsSum, IsLeast, IsGreatest, IsMean};
 ghost use Rattle.cube_core.specs.declared.aggregate.Answer.TheVariants.{Null, Whole};
-ghost use Rattle.cube_numbers.specs.Bag.{AddsBag, size_of, held_of};
+ghost use Rattle.cube_values.specs.Bag.{AddsBag, size_of, held_of};
 ghost use Rattle.cube_cells.specs.Tally.{AddsValue, IsBagOf, holds_value};
 
 use cube_core::{Answer, reduced};
-use cube_counts::{Counted, Numbers};
+use cube_values::{Counted, Numbers};
 use std::alloc::{AllocError, Global};
 use std::marker::Model;
 
@@ -20,7 +20,7 @@ pub struct Measure<N: Numbers = Counted> {
 }
 
 impl<N: Numbers> Model for Measure<N> {
-    ghost use Rattle.cube_numbers.specs.Bag.{Bag};
+    ghost use Rattle.cube_values.specs.Bag.{Bag};
     ghost use Rattle.cube_cells.specs.Sum.{IsSumOf};
 
     ghost Value = { Bag };

@@ -17,7 +17,7 @@ use Rattle.cube_core.specs.Layout.{Layout}
 use Rattle.cube_core.specs.declared.fact.Fact.{Fact}
 use Rattle.cube_core.specs.declared.key.Key.{Key}
 use Rattle.cube_core.proofs.ListLaws.{filter-passed, filter-failed}
-use Rattle.cube_numbers.specs.Bag.{Bag, SameHeld}
+use Rattle.cube_values.specs.Bag.{Bag, SameHeld}
 use Rattle.cube_cells.specs.Cube.{Lattice, IsCubeOf, HoldsFact, AddsFact, TakesFact, SameCell, SameCells, SameSets}
 use Rattle.cube_cells.specs.Cube.{cell_at, cell_holds, is_kept_for, empty_tally, tally_or_empty}
 use Rattle.cube_cells.specs.Tally.{Tally, IsTallyOf, PlusFact, bag_at}

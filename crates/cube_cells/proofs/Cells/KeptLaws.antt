@@ -14,7 +14,7 @@ use Rattle.std.proofs.Math.Nat.{pow-succ'}
 use Rattle.cube_core.specs.GroupingSet.{is_among}
 use Rattle.cube_core.specs.Layout.{Layout}
 use Rattle.cube_core.specs.declared.fact.Fact.{Fact}
-use Rattle.cube_numbers.specs.Bag.{Bag}
+use Rattle.cube_values.specs.Bag.{Bag}
 use Rattle.cube_cells.specs.Codes.{Dictionaries, IsDictionary, kept_codes, all_code}
 use Rattle.cube_cells.specs.Coded.{CodedCells, IsCodedCell, IsCoded, coded_at, decoded, lattice_of, is_total_code}
 use Rattle.cube_cells.specs.Coded.{total_codes}

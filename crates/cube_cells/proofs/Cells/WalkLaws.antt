@@ -14,7 +14,7 @@ use Rattle.std.proofs.lemmas.List.Sums.{sum_by-cons}
 use Rattle.std.proofs.lemmas.Map.{lookup-set_value}
 use Rattle.std.proofs.lemmas.Slice.Eq.{bytes_eq-Decides}
 use Rattle.std.proofs.lemmas.List.{get_or-replicate, get_or_past, length-replicate}
-use Rattle.cube_numbers.specs.Bag.{Bag, held_of}
+use Rattle.cube_values.specs.Bag.{Bag, held_of}
 use Rattle.cube_cells.specs.Coded.{CodedCells, same_codes, coded_at, is_total_code}
 use Rattle.cube_cells.specs.Cube.{AddsAt, TakesAt, SameCell, cell_holds, tally_or_empty, empty_tally}
 use Rattle.cube_cells.specs.Tally.{Tally, IsTallyOf, PlusFact, SameTally, bag_at, holds_fact}

@@ -12,7 +12,7 @@ use Rattle.std.proofs.lemmas.List.{length-replicate, length-append, append-nil, 
 use Rattle.std.proofs.lemmas.List.{take_more}
 use Rattle.std.proofs.Math.Seq.{get_or-append_seam}
 use Rattle.std.proofs.lemmas.List.Elements.{All-head, All-tail, All-push, Contains-append_left}
-use Rattle.cube_numbers.specs.Bag.{Bag, held_of}
+use Rattle.cube_values.specs.Bag.{Bag, held_of}
 use Rattle.cube_cells.specs.Coded.{CodedCells, AreNewCells, same_codes, coded_at, total_codes}
 use Rattle.cube_cells.specs.Cube.{empty_tally, tally_or_empty}
 use Rattle.cube_cells.specs.Fill.{AreMadeFrom, AreMadeLevels, ArePushed, FillsSet, IsFiner, IsMadeLevel, MakesLevels}

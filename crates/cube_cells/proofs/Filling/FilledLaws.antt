@@ -26,7 +26,7 @@ use Rattle.cube_core.specs.declared.key.Key.{Key}
 use Rattle.cube_core.proofs.ListLaws.{filter-passed, filter-failed}
 use Rattle.cube_core.proofs.CellKeyLaws.{fits-length}
 use Rattle.cube_core.proofs.AncestorLaws.{ancestor_of, all_stand_for-ancestor_of, mask_of_coords-ancestor_of}
-use Rattle.cube_numbers.specs.Bag.{Bag}
+use Rattle.cube_values.specs.Bag.{Bag}
 use Rattle.cube_cells.specs.Codes.{Dictionaries, IsDictionary, are_codes, coord_of_value, key_at, kept_codes}
 use Rattle.cube_cells.specs.Coded.{CodedCells, IsCoded, IsCodedCell, AreNewCells, same_codes, coded_at, decoded}
 use Rattle.cube_cells.specs.Coded.{is_total_code, lattice_of, total_codes}

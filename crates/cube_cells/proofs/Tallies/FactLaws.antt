@@ -11,10 +11,10 @@ use Rattle.std.proofs.lemmas.List.Sums.{sum_by-cons}
 use Rattle.cube_core.specs.Group.{value_of, values_of}
 use Rattle.cube_core.specs.declared.fact.Fact.{Fact}
 use Rattle.cube_core.proofs.ListLaws.{filter-passed, filter-failed}
-use Rattle.cube_numbers.specs.Bag.{Bag, held_of, size_of, one_at}
+use Rattle.cube_values.specs.Bag.{Bag, held_of, size_of, one_at}
 use Rattle.cube_cells.specs.Tally.{Tally, bag_at, value_at, one_of, IsTallyOf, AddsValues, PlusFact, SameTally}
 use Rattle.cube_cells.specs.Tally.{holds_value, hold_values, holds_fact}
-use Rattle.cube_numbers.proofs.BagLaws.{one_at-refl, size_of_same}
+use Rattle.cube_values.proofs.BagLaws.{one_at-refl, size_of_same}
 use Rattle.cube_cells.proofs.Tallies.TallyLaws.{size_of-IsBagOf}
 use Rattle.cube_cells.proofs.Tallies.ValueLaws.{AreWithin}
 

@@ -5,9 +5,9 @@ use Rattle.std.proofs.lemmas.Bool.{cases_lt, cases_eq}
 use Rattle.std.proofs.Math.Logic.{⊎_elim}
 use Rattle.std.proofs.lemmas.List.{get_or-set_same, get_or-set_other, get_or-take, get_or_default, get_or_past}
 use Rattle.std.proofs.lemmas.List.{length-set}
-use Rattle.cube_numbers.specs.Bag.{Bag, AddsBag, held_of, size_of}
+use Rattle.cube_values.specs.Bag.{Bag, AddsBag, held_of, size_of}
 use Rattle.cube_cells.specs.Tally.{bag_at, AddsBags, SameBags}
-use Rattle.cube_numbers.proofs.BagLaws.{held_le_size, size_of-bag}
+use Rattle.cube_values.proofs.BagLaws.{held_le_size, size_of-bag}
 use Rattle.cube_cells.proofs.Tallies.ValueLaws.{AreWithin, each-set, get_or-take_past}
 
 -- a bag is as it was where nothing was added yet

@@ -8,10 +8,10 @@ use Rattle.std.specs.Ordering.{int_eq}
 use Rattle.std.specs.Prelude.{ℤ, pos, ◌+ℤ◌, ◌-ℤ◌}
 use Rattle.std.proofs.lemmas.Int.{ints}
 use borrow.Author.Differences.{up, down}
-use Rattle.cube_numbers.specs.Bag.{Bag, weight_of, held_of, size_of, one_at, AddsBag, AddsOne}
+use Rattle.cube_values.specs.Bag.{Bag, weight_of, held_of, size_of, one_at, AddsBag, AddsOne}
 use Rattle.cube_cells.specs.Sum.{IsSumOf, sum_of}
-use Rattle.cube_numbers.proofs.BagLaws.{weight_of-bag, weight_of-cons, weight_of-one, weight_of-nothing, one_at-refl}
-use Rattle.cube_numbers.proofs.BagLaws.{one_at-distinct, int_eq-same}
+use Rattle.cube_values.proofs.BagLaws.{weight_of-bag, weight_of-cons, weight_of-one, weight_of-nothing, one_at-refl}
+use Rattle.cube_values.proofs.BagLaws.{one_at-distinct, int_eq-same}
 
 -- the sum: what the numbers above 0 come to, less what those below do
 pub sum_of-weight_of : (bag : Bag) → sum_of bag ≡ pos (weight_of up bag) -ℤ pos (weight_of down bag)

@@ -12,10 +12,10 @@ use Rattle.cube_core.specs.Fraction.{IsInLowestTerms}
 use Rattle.cube_core.specs.Group.{total_of}
 use Rattle.cube_core.specs.declared.aggregate.Answer.{Answer}
 use Rattle.cube_core.specs.declared.aggregate.Answer.TheVariants as answer
-use Rattle.cube_numbers.specs.Bag.{Bag, weight_of, size_of, one_at, HasLeast, HasGreatest}
+use Rattle.cube_values.specs.Bag.{Bag, weight_of, size_of, one_at, HasLeast, HasGreatest}
 use Rattle.cube_cells.specs.Sum.{IsSumOf}
 use Rattle.cube_cells.specs.Tally.{IsBagOf}
-use Rattle.cube_numbers.proofs.BagLaws.{weight_of-nothing, OneLess-held_of, one_at-refl, one_at-distinct, int_eq-same}
+use Rattle.cube_values.proofs.BagLaws.{weight_of-nothing, OneLess-held_of, one_at-refl, one_at-distinct, int_eq-same}
 use Rattle.cube_cells.proofs.Tallies.SumLaws.{sum_of-weight_of}
 use borrow.Author.Differences.{up, down}
 

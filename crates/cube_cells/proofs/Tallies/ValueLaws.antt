@@ -7,10 +7,10 @@ use Rattle.std.proofs.lemmas.Bool.{cases_lt, cases_eq, and_parts, ltb-true}
 use Rattle.std.proofs.Math.Logic.{⊎_elim}
 use Rattle.std.proofs.lemmas.List.{get_or-set_same, get_or-set_other, get_or-take, get_or_default, get_or_past}
 use Rattle.std.proofs.lemmas.List.{length-set, length-take, take-append-le, take_all}
-use Rattle.cube_numbers.specs.Bag.{Bag, held_of, size_of}
+use Rattle.cube_values.specs.Bag.{Bag, held_of, size_of}
 use Rattle.cube_cells.specs.Tally.{Tally, bag_at, value_at, IsTallyOf, one_of, AddsValue, AddsValues, SameBags}
 use Rattle.cube_cells.specs.Tally.{holds_value, hold_values, holds_fact}
-use Rattle.cube_numbers.proofs.BagLaws.{size_of_one, size_of_same, one_at-refl, held_le_size}
+use Rattle.cube_values.proofs.BagLaws.{size_of_one, size_of_same, one_at-refl, held_le_size}
 
 -- the size of a bag after a value
 pub size_of-value : (old new : Bag) (value : Option ℤ) → AddsValue old new value

@@ -15,7 +15,7 @@ use super::codes::Codes;
 use super::levels::{Cells, Level, new_cells};
 use super::workers::{Alone, Several, Workers};
 use crate::cell::Cell;
-use cube_counts::{Numbers, Summary};
+use cube_values::{Numbers, Summary};
 use std::alloc::{AllocError, Global};
 use std::thread::Threads;
 

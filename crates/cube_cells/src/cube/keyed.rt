@@ -12,7 +12,7 @@ use super::codes::Codes;
 use super::dictionary::Dictionary;
 use crate::cell::Cell;
 use cube_core::{Agg, Answer, CoordRef};
-use cube_counts::{Counted, Numbers};
+use cube_values::{Counted, Numbers};
 use std::marker::Model;
 
 /// A cell and its key. No text is copied, and no answer is kept.

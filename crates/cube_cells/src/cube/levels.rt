@@ -8,7 +8,7 @@ ghost use Rattle.std.specs.HashMap.{hasher_of};
 use super::cell_key::CellKey;
 use super::codes::Codes;
 use crate::cell::Cell;
-use cube_counts::{Counted, Numbers};
+use cube_values::{Counted, Numbers};
 use std::alloc::{AllocError, Global};
 use std::collections::HashMap;
 

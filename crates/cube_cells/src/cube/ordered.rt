@@ -16,7 +16,7 @@ use super::dictionary::{Dictionary, compare_keys};
 use super::keyed::KeyedCell;
 use crate::cell::Cell;
 use cube_core::{Agg, Key, Row, Sequence};
-use cube_counts::{Counted, Numbers};
+use cube_values::{Counted, Numbers};
 use std::alloc::{AllocError, Global};
 use std::marker::Model;
 

@@ -12,7 +12,7 @@ use super::dictionary::Dictionary;
 use super::ordered::row_of;
 use super::rows::Want;
 use cube_core::{Coord, Key, Pattern, QueryFault, Row, Sequence};
-use cube_counts::Numbers;
+use cube_values::Numbers;
 use std::alloc::{AllocError, Global};
 
 impl<N: Numbers> Cube<N> {

@@ -25,7 +25,7 @@ use super::ranks::{Ranks, ranks_of, ranks_of_all};
 use super::workers::{Alone, Several, Workers};
 use crate::cell::Cell;
 use cube_core::Row;
-use cube_counts::{Numbers, Summary};
+use cube_values::{Numbers, Summary};
 use std::alloc::{AllocError, Global};
 use std::thread::Threads;
 

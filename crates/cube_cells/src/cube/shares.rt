@@ -14,7 +14,7 @@ use super::levels::{Cells, Level, one_level};
 use super::walk::gather_at;
 use crate::cell::Cell;
 use cube_core::{Fact, Schema};
-use cube_counts::Numbers;
+use cube_values::Numbers;
 use std::alloc::{AllocError, Global};
 use std::collections::HashMap;
 use std::thread::{Threads, map_indices};

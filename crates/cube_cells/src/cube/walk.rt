@@ -2,7 +2,7 @@
 ghost use Rattle.std.specs.Prelude.{◌≡◌, ◌≤◌, ◌<◌, [], ◌∷◌, ℕ, All, IsTrue, OnOk, OnErr, None, length, get_or};
 ghost use Rattle.std.specs.List.{list_all, AllZip};
 ghost use Rattle.std.specs.Option.{option_map};
-ghost use Rattle.cube_numbers.specs.Bag.{Bag};
+ghost use Rattle.cube_values.specs.Bag.{Bag};
 ghost use Rattle.cube_cells.specs.Coded.{coded_at};
 ghost use Rattle.cube_cells.specs.Cube.{cell_holds};
 ghost use Rattle.cube_cells.specs.Levels.{HasRoomInLevel, level_holds, table_at, AddsInLevel, TakesInLevel, SameInLevel, ChangesFirst};
@@ -12,7 +12,7 @@ ghost use Rattle.cube_cells.specs.Walk.{LosesFact, HasRoom, AddsIn, TakesIn, Sam
 use super::codes::Codes;
 use super::levels::{Cells, Level};
 use crate::cell::Cell;
-use cube_counts::Numbers;
+use cube_values::Numbers;
 use std::alloc::{AllocError, Global};
 
 /// Adds a fact with these codes and measures to its cell of each level, or to none.

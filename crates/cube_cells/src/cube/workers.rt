@@ -13,7 +13,7 @@ use super::levels::Level;
 use super::ordered::Place;
 use super::ranks::Ranks;
 use super::rows::{Want, places_of};
-use cube_counts::{Numbers, Summary};
+use cube_values::{Numbers, Summary};
 use rayon::prelude::*;
 use std::alloc::{AllocError, Global};
 use std::slice::from_ref;

@@ -1,7 +1,7 @@
 use Rattle.std.proofs.Common.{◌≡◌, ◌∷◌, [], length, refl, arith}
 use Rattle.std.proofs.lemmas.List.{length-append}
 use Rattle.std.proofs.lemmas.List.Elements.{All-push}
-use Rattle.cube_numbers.specs.Bag.{Bag, size_of}
+use Rattle.cube_values.specs.Bag.{Bag, size_of}
 use Rattle.cube_cells.proofs.cell.empty_measures.Goals as goal
 
 pub loop-init : goal.loop-init

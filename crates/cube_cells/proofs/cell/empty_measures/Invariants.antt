@@ -1,6 +1,6 @@
 use Rattle.std.proofs.Common.{◌≡◌, length}
 use Rattle.std.specs.Prelude.{All}
-use Rattle.cube_numbers.specs.Bag.{size_of}
+use Rattle.cube_values.specs.Bag.{size_of}
 use Rattle.cube_cells.proofs.cell.empty_measures.Given as goal
 
 abbrev pub invariant-loop : goal.invariant-loop

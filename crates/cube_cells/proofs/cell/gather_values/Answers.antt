@@ -1,6 +1,6 @@
 use Rattle.std.proofs.Common.{arith, ap, length, refl, take, ◌≡◌, ◌<◌, []}
 use Rattle.std.proofs.lemmas.List.{get_or_default, take_all}
-use Rattle.cube_numbers.specs.Bag.{size_of}
+use Rattle.cube_values.specs.Bag.{size_of}
 use Rattle.cube_cells.specs.Tally.{AddsValue, bag_at, value_at}
 use Rattle.cube_cells.proofs.Tallies.ValueLaws.{AddsValues-more, size_of-AddsValues}
 use Rattle.cube_cells.proofs.cell.gather_values.Goals as goal

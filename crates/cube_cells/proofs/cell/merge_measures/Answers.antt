@@ -1,7 +1,7 @@
 use Rattle.std.proofs.Common.{arith, ap, length, take, ◌≡◌, ◌<◌, []}
 use Rattle.std.proofs.Math.ListN.{length-set}
 use Rattle.std.proofs.lemmas.List.{get_or_default, take_all}
-use Rattle.cube_numbers.specs.Bag.{AddsBag, size_of}
+use Rattle.cube_values.specs.Bag.{AddsBag, size_of}
 use Rattle.cube_cells.specs.Tally.{bag_at}
 use Rattle.cube_cells.proofs.Tallies.MergeLaws.{AddsBags-more, size_of-AddsBags, AddsBags-bound, AddsBags-bound_set}
 use Rattle.cube_cells.proofs.cell.merge_measures.Goals as goal

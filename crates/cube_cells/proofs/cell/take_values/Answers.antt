@@ -1,6 +1,6 @@
 use Rattle.std.proofs.Common.{arith, ap, length, ◌<◌, []}
 use Rattle.std.proofs.lemmas.List.{get_or_default}
-use Rattle.cube_numbers.specs.Bag.{held_of}
+use Rattle.cube_values.specs.Bag.{held_of}
 use Rattle.cube_cells.specs.Tally.{AddsValue, bag_at, value_at}
 use Rattle.cube_cells.proofs.Tallies.ValueLaws.{AddsValues-less, held_of-AddsValues}
 use Rattle.cube_cells.proofs.cell.take_values.Goals as goal

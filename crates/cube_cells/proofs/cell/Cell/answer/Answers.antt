@@ -1,7 +1,7 @@
 use Rattle.std.proofs.Common.{rules, ap, refl, ◌∙◌, ◌<◌, ◌≡◌, length, []}
 use Rattle.std.proofs.lemmas.List.{get_or_default}
 use Rattle.cube_core.specs.Group.{values_of}
-use Rattle.cube_numbers.specs.Bag.{size_of}
+use Rattle.cube_values.specs.Bag.{size_of}
 use Rattle.cube_cells.specs.Tally.{bag_at}
 use Rattle.cube_cells.proofs.Tallies.TallyLaws.{size_of-IsBagOf}
 use Rattle.cube_cells.proofs.cell.Cell.answer.Goals as goal

@@ -2,7 +2,7 @@ use Rattle.std.proofs.Common.{rules, arith, ◌≡◌, ◌<◌, FitsSigned}
 use Rattle.std.specs.Int.{w128}
 use Rattle.std.proofs.lemmas.Bool.Decides.{nat_tests}
 use Rattle.std.proofs.lemmas.Int.{to_z-of_z}
-use Rattle.cube_numbers.specs.Bag.{size_of}
+use Rattle.cube_values.specs.Bag.{size_of}
 use Rattle.cube_cells.proofs.Tallies.TallyLaws.{IsMean-Null, IsMean-Ratio}
 use Rattle.cube_cells.proofs.measure.Measure.mean.Goals as goal
 

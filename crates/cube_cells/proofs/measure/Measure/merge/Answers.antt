@@ -2,8 +2,8 @@ use Rattle.std.proofs.Common.{rules, arith, ap, FitsSigned, ◌<◌, ◌^◌, �
 use Rattle.std.specs.Prelude.{◌+ℤ◌}
 use Rattle.std.specs.Int.{w128}
 use Rattle.std.proofs.lemmas.Int.{to_z-of_z}
-use Rattle.cube_numbers.specs.Bag.{AddsBag, size_of}
-use Rattle.cube_numbers.proofs.BagLaws.{held_le_size, size_of-bag}
+use Rattle.cube_values.specs.Bag.{AddsBag, size_of}
+use Rattle.cube_values.proofs.BagLaws.{held_le_size, size_of-bag}
 use Rattle.cube_cells.proofs.Tallies.SumLaws.{IsSumOf-FitsSigned, IsSumOf-join, IsSumOf-nothing}
 use Rattle.cube_cells.proofs.measure.Measure.merge.Goals as goal
 

@@ -2,8 +2,8 @@ use Rattle.std.proofs.Common.{rules, arith, ap, FitsSigned, ◌<◌, ◌^◌}
 use Rattle.std.specs.Prelude.{◌+ℤ◌}
 use Rattle.std.specs.Int.{w64, w128}
 use Rattle.std.proofs.lemmas.Int.{to_z-of_z}
-use Rattle.cube_numbers.specs.Bag.{AddsOne, size_of}
-use Rattle.cube_numbers.proofs.BagLaws.{size_of_one}
+use Rattle.cube_values.specs.Bag.{AddsOne, size_of}
+use Rattle.cube_values.proofs.BagLaws.{size_of_one}
 use Rattle.cube_cells.proofs.Tallies.SumLaws.{IsSumOf-FitsSigned, IsSumOf-add}
 use Rattle.cube_cells.proofs.measure.Measure.plus.Goals as goal
 

@@ -2,7 +2,7 @@ use Rattle.std.proofs.Common.{rules, arith, ◌≡◌, ◌<◌, FitsSigned}
 use Rattle.std.specs.Int.{w128}
 use Rattle.std.proofs.lemmas.Bool.Decides.{nat_tests}
 use Rattle.std.proofs.lemmas.Int.{to_z-of_z}
-use Rattle.cube_numbers.specs.Bag.{size_of}
+use Rattle.cube_values.specs.Bag.{size_of}
 use Rattle.cube_cells.proofs.Tallies.TallyLaws.{IsSum-Null, IsSum-Whole}
 use Rattle.cube_cells.proofs.measure.Measure.sum.Goals as goal
 

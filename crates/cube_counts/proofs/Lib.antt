@@ -1,4 +1,0 @@
-pub mod GrownLaws
-mod LogLaws
-mod OwedLaws
-mod TableLaws

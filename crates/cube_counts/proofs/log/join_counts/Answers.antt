@@ -1,7 +1,0 @@
-use Rattle.std.proofs.Common.{arith}
-use Rattle.cube_numbers.proofs.BagLaws.{size_of_same}
-use Rattle.cube_counts.proofs.log.join_counts.Goals as goal
-
-pub join_at-requires-clause-fits : goal.join_at-requires-clause-fits
-join_at-requires-clause-fits c =
-    omega (arith, c.requires.fits, size_of_same c.args.pairs.now c.loop-place.pairs c.loop-place.invariant.1)

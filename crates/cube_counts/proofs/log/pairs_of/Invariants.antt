@@ -1,6 +1,0 @@
-use Rattle.std.proofs.Common.{◌≡◌, take}
-use Rattle.cube_numbers.specs.Narrow.{once_each}
-use Rattle.cube_counts.proofs.log.pairs_of.Given as goal
-
-abbrev pub invariant-loop-number : goal.invariant-loop-number
-invariant-loop-number l = l.pairs.items ≡ once_each (take l.number-index l.numbers)

@@ -1,5 +1,0 @@
-use Rattle.cube_numbers.proofs.BagLaws.{IsSplit}
-use Rattle.cube_counts.proofs.table.Table.of_pairs.Given as goal
-
-abbrev pub invariant-loop-pair : goal.invariant-loop-pair
-invariant-loop-pair l = IsSplit l.pairs l.pair-index l.table

@@ -1,5 +1,0 @@
-pub mod BagLaws
-pub mod EndLaws
-pub mod NarrowLaws
-pub mod PlaceLaws
-mod SummaryLaws

@@ -1,3 +1,0 @@
-pub mod Bag
-pub mod Narrow
-pub mod Summary

@@ -1,0 +1,9 @@
+pub mod BagLaws
+pub mod EndLaws
+pub mod NarrowLaws
+pub mod PlaceLaws
+mod SummaryLaws
+pub mod GrownLaws
+mod LogLaws
+mod OwedLaws
+mod TableLaws

@@ -1,0 +1,5 @@
+pub mod Bag
+pub mod Narrow
+pub mod Summary
+pub mod Log
+pub mod Values

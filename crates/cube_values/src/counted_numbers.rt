@@ -1,0 +1,42 @@
+//! What cells ask of counted values.
+ghost use Rattle.std.specs.Prelude.{◌≡◌};
+
+use crate::counted::Counted;
+use crate::numbers::Numbers;
+use std::alloc::{AllocError, Global};
+
+impl Numbers for Counted {
+    ghost bag = { λ c. c };
+
+    fn new(alloc: Global) -> Counted {
+        Counted::new(alloc)
+    }
+
+    fn add(&mut self, value: i64) -> Result<(), AllocError> {
+        self.add(value)
+    }
+
+    fn merge(&mut self, more: &Counted) -> Result<(), AllocError> {
+        self.merge(more)
+    }
+
+    fn shrink_to_fit(&mut self) {
+        self.shrink_to_fit();
+    }
+
+    fn least(&self) -> Option<i64> {
+        self.least()
+    }
+
+    fn greatest(&self) -> Option<i64> {
+        self.greatest()
+    }
+
+    fn len(&self) -> u64 {
+        self.len()
+    }
+
+    fn is_empty(&self) -> bool {
+        self.is_empty()
+    }
+}
