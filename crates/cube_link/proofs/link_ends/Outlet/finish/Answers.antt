@@ -1,5 +1,5 @@
 use Rattle.std.proofs.Common.{rules}
-use Rattle.cube_link.proofs.Outlet.finish.Goals as goal
+use Rattle.cube_link.proofs.link_ends.Outlet.finish.Goals as goal
 
 pub returns-clause-link : goal.returns-clause-link
 returns-clause-link g c = search rules

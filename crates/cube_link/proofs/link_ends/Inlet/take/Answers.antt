@@ -1,5 +1,5 @@
 use Rattle.std.proofs.Common.{rules}
-use Rattle.cube_link.proofs.Inlet.take.Goals as goal
+use Rattle.cube_link.proofs.link_ends.Inlet.take.Goals as goal
 
 pub returns-clause-received : goal.returns-clause-received
 returns-clause-received g c = search rules
