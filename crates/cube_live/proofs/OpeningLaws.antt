@@ -8,8 +8,8 @@ use Rattle.cube_core.specs.Run.{SourceBytes, AreGood, AreItemsOf}
 use Rattle.cube_core.specs.declared.change.Item.{Item}
 use Rattle.cube_core.proofs.ListLaws.{AllZip-length}
 use Rattle.cube_ledger.specs.Ledger.{LedgerStandsAt, LedgerView, new_account}
-use Rattle.cube_feeders.specs.FeedingAll.{TakeAll}
-use Rattle.cube_handover.specs.declared.gatherer.Gatherer.{Gatherer}
+use Rattle.cube_rings.specs.FeedingAll.{TakeAll}
+use Rattle.cube_rings.specs.declared.gatherer.Gatherer.{Gatherer}
 use Rattle.cube_live.specs.Live.{AreLast, LiveStandsAt, LiveView}
 use Rattle.cube_live.specs.Opening.{IsOpening, OpeningStandsAt, OpeningView, OpensOver}
 use Rattle.cube_ledger.proofs.StandLaws.{of_source-other}

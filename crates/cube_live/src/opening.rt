@@ -1,7 +1,7 @@
 //! The opening of a session: all feeds are taken to their ends before its first record.
 ghost use Rattle.std.specs.Prelude.{◌≡◌, ◌≤◌, ◌++◌, ◌∷◌, [], map, replicate, vec_len, IfOk, IfErr, OnOk, OnErr};
 ghost use Rattle.cube_core.specs.Arrival.{Arrivals};
-ghost use Rattle.cube_feeders.specs.FeedingAll.{ExplainsFeeding};
+ghost use Rattle.cube_rings.specs.FeedingAll.{ExplainsFeeding};
 ghost use Rattle.cube_live.specs.Live.{LiveStandsAt};
 ghost use Rattle.cube_live.specs.Opening.{OpeningStandsAt, OpeningView, OpensOver};
 
@@ -9,7 +9,7 @@ use crate::live::Live;
 use cube_core::Schema;
 use cube_engine::Parted;
 use cube_feed::{FeedItem, TakesItems};
-use cube_feeders::{FeedingFault, Gate, Gatherer, Settings, feed_all};
+use cube_rings::{FeedingFault, Gate, Gatherer, Settings, feed_all};
 use cube_ledger::Ledger;
 use std::alloc::{AllocError, Global};
 use std::io::Read;

@@ -11,11 +11,11 @@ use Rattle.cube_core.specs.Run.{SourceBytes, AreItemsOf, AreGood}
 use Rattle.cube_core.specs.declared.change.Item.{Item}
 use Rattle.cube_engine.specs.Builder.{BuilderView}
 use Rattle.cube_ledger.specs.Ledger.{LedgerView, AccountStandsAt, LedgerStandsAt}
-use Rattle.cube_feeders.specs.FeedingAll.{IsNew, TakesFeeds, TakeAll}
-use Rattle.cube_handover.specs.Parcels.{parcels_of}
-use Rattle.cube_handover.specs.declared.gatherer.Gatherer.{Gatherer}
-use Rattle.cube_feeders.proofs.TakeLaws.{all_zip-at}
-use Rattle.cube_handover.proofs.PlaceLaws.{lt-cases, get_or-last, length-one_more, some_of}
+use Rattle.cube_rings.specs.FeedingAll.{IsNew, TakesFeeds, TakeAll}
+use Rattle.cube_rings.specs.Parcels.{parcels_of}
+use Rattle.cube_rings.specs.declared.gatherer.Gatherer.{Gatherer}
+use Rattle.cube_rings.proofs.TakeLaws.{all_zip-at}
+use Rattle.cube_rings.proofs.PlaceLaws.{lt-cases, get_or-last, length-one_more, some_of}
 use Rattle.cube_threads.specs.Drafts.{DraftView, StandsFrom, IsNewDraft, AreNewDrafts, IsMadeOf, IsMadePart}
 use Rattle.cube_threads.specs.Parts.{AreAllMade, BuiltView, PartStandsAt, StandsInParts, BuildsParts}
 use Rattle.cube_threads.specs.declared.making.MadePart.{MadePart}

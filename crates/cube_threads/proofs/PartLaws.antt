@@ -25,7 +25,7 @@ use Rattle.cube_engine.specs.Joined.{ArePartsOfOne, EachSchema}
 use Rattle.cube_ledger.specs.Ledger.{AccountView, LedgerView, AccountStandsAt, LedgerStandsAt, all_facts}
 use Rattle.cube_threads.specs.Parts.{BuiltView, first_ledger, schema_of_run, AreParts, StandsInParts, BuildsParts}
 use Rattle.cube_engine.proofs.BuilderLaws.{HasFacts-permutation}
-use Rattle.cube_handover.proofs.PlaceLaws.{some_of}
+use Rattle.cube_rings.proofs.PlaceLaws.{some_of}
 
 -- an entry of a book isn't among those after it
 entry-once : (e : List ℕ × Fact) (es : Entries) → IsBook (e ∷ es) → Contains es e → ⊥

@@ -15,9 +15,9 @@ use Rattle.cube_core.proofs.ListLaws.{AllZip-append}
 use Rattle.cube_ledger.specs.Ledger.{LedgerView, AccountStandsAt, new_account}
 use Rattle.cube_ledger.specs.Taking.{LedgerStandsFrom}
 use Rattle.cube_ledger.proofs.StandLaws.{LedgerStandsAt-new}
-use Rattle.cube_feeders.specs.FeedingAll.{TakesFeeds, TakeAll}
-use Rattle.cube_feeders.specs.Shares.{StandAtShares, StandInShares}
-use Rattle.cube_handover.specs.declared.gatherer.Gatherer.{Gatherer}
+use Rattle.cube_rings.specs.FeedingAll.{TakesFeeds, TakeAll}
+use Rattle.cube_rings.specs.Shares.{StandAtShares, StandInShares}
+use Rattle.cube_rings.specs.declared.gatherer.Gatherer.{Gatherer}
 use Rattle.cube_threads.specs.Drafts.{DraftView, StandsFrom, IsDrafted}
 use Rattle.cube_threads.specs.Shares.{AreNewLedgers, TakenInParts}
 

@@ -7,7 +7,7 @@ use Rattle.cube_cells.specs.Cube.{Lattice, SameSets}
 use Rattle.cube_engine.specs.Builder.{BuilderView, HasFacts}
 use Rattle.cube_ledger.specs.Ledger.{LedgerView, LedgerStandsAt, all_facts}
 use Rattle.cube_engine.specs.Parted.{IsPartOver}
-use Rattle.cube_handover.specs.declared.gatherer.Gatherer.{Gatherer}
+use Rattle.cube_rings.specs.declared.gatherer.Gatherer.{Gatherer}
 use Rattle.cube_threads.specs.declared.making.MadePart.{MadePart}
 
 -- what a contract sees of a draft: its ledger, and the cube that waits

@@ -12,10 +12,10 @@ use Rattle.cube_cells.specs.Rows.{IsRowOver}
 use Rattle.cube_engine.specs.Builder.{BuilderView, StandsAt}
 use Rattle.cube_ledger.specs.Ledger.{LedgerView, all_facts}
 use Rattle.cube_engine.specs.Parted.{ArePartsOf, IsPartOver}
-use Rattle.cube_link.specs.Link.{Receiving}
-use Rattle.cube_feeders.specs.FeedingAll.{HasReceived}
-use Rattle.cube_handover.specs.declared.parcel.Parcel.{Parcel}
-use Rattle.cube_handover.specs.declared.gatherer.Gatherer.{Gatherer}
+use Rattle.cube_rings.specs.Link.{Receiving}
+use Rattle.cube_rings.specs.FeedingAll.{HasReceived}
+use Rattle.cube_rings.specs.declared.parcel.Parcel.{Parcel}
+use Rattle.cube_rings.specs.declared.gatherer.Gatherer.{Gatherer}
 use Rattle.cube_threads.specs.Drafts.{DraftView, IsMadeOf}
 
 -- what a caller sees of the builders of a run: the builders by their parts, and the inlets of each

@@ -5,8 +5,8 @@ use Rattle.std.specs.List.{All, sum_by}
 use Rattle.cube_core.specs.Layout.{Layout}
 use Rattle.cube_core.specs.Run.{SourceBytes, AreGood}
 use Rattle.cube_ledger.specs.Ledger.{LedgerView, LedgerStandsAt}
-use Rattle.cube_feeders.specs.FeedingAll.{TakeAll}
-use Rattle.cube_handover.specs.declared.gatherer.Gatherer.{Gatherer}
+use Rattle.cube_rings.specs.FeedingAll.{TakeAll}
+use Rattle.cube_rings.specs.declared.gatherer.Gatherer.{Gatherer}
 use Rattle.cube_threads.specs.Drafts.{DraftView, StandsFrom, AreNewDrafts}
 
 -- so many ledgers that have taken nothing, with so many sources together

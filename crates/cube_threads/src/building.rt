@@ -1,6 +1,6 @@
 //! The build: builders of the feeds of all sources, in threads.
 ghost use Rattle.std.specs.Prelude.{◌≡◌, ◌≤◌, [], map, vec_len, IfOk, IfErr, OnOk};
-ghost use Rattle.cube_feeders.specs.FeedingAll.{ExplainsFeeding};
+ghost use Rattle.cube_rings.specs.FeedingAll.{ExplainsFeeding};
 ghost use Rattle.cube_threads.specs.Parts.{AreAllMade, BuildsParts, schema_of_run};
 ghost use Rattle.cube_threads.specs.Shares.{TakenInParts};
 
@@ -9,7 +9,7 @@ use crate::draft::{Draft, new_drafts};
 use crate::making::{Making, make_all};
 use crate::shares::feed_in_shares;
 use cube_core::Schema;
-use cube_feeders::{FeedingFault, Gate, Gatherer, Settings, feed_all};
+use cube_rings::{FeedingFault, Gate, Gatherer, Settings, feed_all};
 use std::alloc::{AllocError, Global};
 use std::io::Read;
 use std::sync::Wait;

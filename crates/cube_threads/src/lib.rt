@@ -11,4 +11,4 @@ mod shares;
 
 pub use building::build;
 pub use built::Built;
-pub use cube_feeders::{FeedingFault, Gate, OpenGate, Parcel, Settings};
+pub use cube_rings::{FeedingFault, Gate, OpenGate, Parcel, Settings};

@@ -1,13 +1,13 @@
 //! The feeds of all sources taken in shares: consecutive sources, each share into a ledger of its own.
 ghost use Rattle.std.specs.Prelude.{◌≡◌, ◌≤◌, length, map, sum_by, vec_len, IfOk, IfErr};
 ghost use Rattle.std.specs.List.{All};
-ghost use Rattle.cube_feeders.specs.FeedingAll.{ExplainsFeeding};
+ghost use Rattle.cube_rings.specs.FeedingAll.{ExplainsFeeding};
 ghost use Rattle.cube_threads.specs.Drafts.{IsDrafted};
 ghost use Rattle.cube_threads.specs.Shares.{AreNewLedgers, TakenInParts};
 
 use crate::draft::Draft;
 use cube_core::Schema;
-use cube_feeders::{FeedingFault, Gate, Gatherer, Settings, feed_shares};
+use cube_rings::{FeedingFault, Gate, Gatherer, Settings, feed_shares};
 use cube_ledger::Ledger;
 use std::alloc::{AllocError, Global};
 use std::io::Read;

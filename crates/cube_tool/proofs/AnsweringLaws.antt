@@ -20,9 +20,9 @@ use Rattle.cube_engine.specs.Builder.{BuilderView}
 use Rattle.cube_ledger.specs.Ledger.{AllFit, all_facts}
 use Rattle.cube_ledger.specs.declared.fault.BuildFault.{BuildFault}
 use Rattle.cube_ledger.specs.declared.fault.BuildFault.TheVariants as build_fault
-use Rattle.cube_feeders.specs.FeedingAll.{ExplainsFeeding}
-use Rattle.cube_handover.specs.declared.fault.FeedingFault.{FeedingFault}
-use Rattle.cube_handover.specs.declared.fault.FeedingFault.TheVariants as feeding_fault
+use Rattle.cube_rings.specs.FeedingAll.{ExplainsFeeding}
+use Rattle.cube_rings.specs.declared.fault.FeedingFault.{FeedingFault}
+use Rattle.cube_rings.specs.declared.fault.FeedingFault.TheVariants as feeding_fault
 use Rattle.cube_tool.specs.declared.fault.RunFault.TheVariants as run_fault
 use Rattle.cube_threads.specs.Parts.{AreRowsOfRun, IsRowOfRun, BuiltView, BuildsParts, facts_of_run, schema_of_run}
 use Rattle.cube_live.specs.Shows.{IsTextWhere, is_key}

@@ -15,11 +15,11 @@ use Rattle.cube_engine.specs.Build.{BuildsWhole}
 use Rattle.cube_engine.specs.Builder.{BuilderView, StandsAt}
 use Rattle.cube_ledger.specs.Ledger.{AccountStandsAt, LedgerView, LedgerStandsAt, all_facts}
 use Rattle.cube_ledger.proofs.SurvivorLaws.{SurviveTogether-stands}
-use Rattle.cube_link.specs.Link.{Receiving}
+use Rattle.cube_rings.specs.Link.{Receiving}
 use Rattle.cube_live.proofs.RefusalLaws.{refusals_of_accounts}
 use Rattle.cube_live.proofs.ShowsLaws.{refusals-each}
 use Rattle.cube_threads.specs.Parts.{BuiltView, BuildsParts, PartStandsAt, StandsInParts, first_ledger, facts_of_run}
-use Rattle.cube_handover.specs.declared.parcel.Parcel.{Parcel}
+use Rattle.cube_rings.specs.declared.parcel.Parcel.{Parcel}
 use Rattle.cube_tool.specs.Answering.{HasTaken, refusals_of_run, status_over}
 use Rattle.cube_tool.specs.Command.{status_after}
 use Rattle.cube_tool.specs.Run.{IsTextOf, OfFeeds, StandsOver, Tells, Wrote, WroteFirst}

@@ -1,8 +1,8 @@
 -- Which fault a run tells of what went wrong in its parts (this project's choice).
 use Rattle.cube_ledger.specs.declared.fault.BuildFault.{BuildFault}
 use Rattle.cube_ledger.specs.declared.fault.BuildFault.TheVariants as build_fault
-use Rattle.cube_handover.specs.declared.fault.FeedingFault.{FeedingFault}
-use Rattle.cube_handover.specs.declared.fault.FeedingFault.TheVariants as feeding_fault
+use Rattle.cube_rings.specs.declared.fault.FeedingFault.{FeedingFault}
+use Rattle.cube_rings.specs.declared.fault.FeedingFault.TheVariants as feeding_fault
 use Rattle.cube_tool.specs.declared.fault.RunFault.{RunFault}
 use Rattle.cube_tool.specs.declared.fault.RunFault.TheVariants as run_fault
 use Rattle.cube_tool.specs.declared.fault.TextFault.{TextFault}

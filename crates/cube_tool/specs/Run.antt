@@ -17,8 +17,8 @@ use Rattle.cube_core.specs.declared.fact.Fact.{Fact}
 use Rattle.cube_ledger.specs.Build.{ExplainsBuild}
 use Rattle.cube_ledger.specs.declared.fault.BuildFault.{BuildFault}
 use Rattle.cube_live.specs.Shows.{IsTextWhere, is_key}
-use Rattle.cube_feeders.specs.FeedingAll.{ExplainsFeeding}
-use Rattle.cube_handover.specs.declared.fault.FeedingFault.{FeedingFault}
+use Rattle.cube_rings.specs.FeedingAll.{ExplainsFeeding}
+use Rattle.cube_rings.specs.declared.fault.FeedingFault.{FeedingFault}
 use Rattle.cube_tool.specs.Faults.{fault_of_build, fault_of_feeding}
 use Rattle.cube_tool.specs.declared.fault.RunFault.{RunFault}
 use Rattle.cube_tool.specs.declared.fault.RunFault.TheVariants as run_fault

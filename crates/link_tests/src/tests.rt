@@ -1,7 +1,7 @@
 //! A link that is full, ends that are dropped early, and what may move to another thread.
 ghost use Rattle.std.specs.Prelude.{◌≡◌};
 
-use cube_link::{Inlet, Outlet, Receipt, link};
+use cube_rings::{Inlet, Outlet, Receipt, link};
 use std::alloc::Global;
 use std::process::Abort;
 use std::sync::Arc;

@@ -7,9 +7,9 @@ use Rattle.sqlite_trees.specs.View.{View, IsClean}
 use Rattle.cube_core.specs.Arrival.{Arrivals, of_sources}
 use Rattle.cube_core.specs.Layout.{Layout}
 use Rattle.cube_core.specs.Run.{SourceBytes}
-use Rattle.cube_feeders.specs.FeedingAll.{ExplainsFeeding}
-use Rattle.cube_handover.specs.declared.fault.FeedingFault.{FeedingFault}
-use Rattle.cube_handover.specs.declared.fault.FeedingFault.TheVariants as feeding_fault
+use Rattle.cube_rings.specs.FeedingAll.{ExplainsFeeding}
+use Rattle.cube_rings.specs.declared.fault.FeedingFault.{FeedingFault}
+use Rattle.cube_rings.specs.declared.fault.FeedingFault.TheVariants as feeding_fault
 use Rattle.cube_journal.specs.Rows.{Entry}
 use Rattle.cube_journal.specs.State.{Holds, LeadsTo, held_in, noted_in, stored_in, form_in, stored_form}
 use Rattle.cube_live.proofs.RefusalLaws.{refusals_of_accounts}

@@ -1,6 +1,6 @@
 use Rattle.std.proofs.Common.{◌≡◌, ◌∙◌, List, length, map, rules, subst, sym, vec_len}
 use Rattle.std.proofs.lemmas.List.{length-map}
-use Rattle.cube_feeders.specs.FeedingAll.{TakeAll}
+use Rattle.cube_rings.specs.FeedingAll.{TakeAll}
 use Rattle.cube_live.specs.Opening.{OpeningStandsAt, OpeningView}
 use Rattle.cube_live.proofs.OpeningLaws.{OpensOver-fed, OpensOver-none}
 use Rattle.cube_live.proofs.opening.fed.Goals as goal

@@ -3,7 +3,7 @@ use Rattle.std.specs.Global.{Vec}
 use Rattle.std.proofs.lemmas.List.{length-map}
 use Rattle.cube_ledger.specs.Ledger.{LedgerView}
 use Rattle.cube_threads.specs.Shares.{AreNewLedgers}
-use Rattle.cube_handover.specs.declared.gatherer.Gatherer.{Gatherer}
+use Rattle.cube_rings.specs.declared.gatherer.Gatherer.{Gatherer}
 use Rattle.cube_threads.proofs.ShareLaws.{HasTakenShares, AreOfSchema, sources_of, taken-shares, drafted-taken}
 use Rattle.cube_threads.proofs.shares.feed_in_shares.Given.{Over}
 use Rattle.cube_threads.proofs.shares.feed_in_shares.Goals.{In-Ok, In_ok-wholes, After-swap_remove}

@@ -4,7 +4,7 @@ use Rattle.std.proofs.lemmas.List.{length-replicate}
 use Rattle.std.proofs.lemmas.List.Elements.{All-push}
 use Rattle.std.proofs.lemmas.List.Sums.{sum_by_push}
 use Rattle.cube_ledger.specs.Ledger.{LedgerStandsAt, new_account}
-use Rattle.cube_handover.proofs.PlaceLaws.{length-one_more}
+use Rattle.cube_rings.proofs.PlaceLaws.{length-one_more}
 use Rattle.cube_threads.proofs.ShareLaws.{sources_of}
 use Rattle.cube_threads.proofs.shares.new_ledgers.Goals as goal
 

@@ -1,5 +1,5 @@
 use Rattle.std.proofs.Common.{inl, inr, arith}
-use Rattle.cube_handover.proofs.PlaceLaws.{lt-cases}
+use Rattle.cube_rings.proofs.PlaceLaws.{lt-cases}
 use Rattle.cube_tool.proofs.command.merging.first_repeated.Goals as goal
 
 pub loop-place-preserved : goal.loop-place-preserved

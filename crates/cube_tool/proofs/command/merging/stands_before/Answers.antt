@@ -1,5 +1,5 @@
 use Rattle.std.proofs.Common.{inl, inr}
-use Rattle.cube_handover.proofs.PlaceLaws.{lt-cases}
+use Rattle.cube_rings.proofs.PlaceLaws.{lt-cases}
 use Rattle.cube_tool.proofs.command.merging.stands_before.Goals as goal
 
 pub loop-earlier-preserved : goal.loop-earlier-preserved

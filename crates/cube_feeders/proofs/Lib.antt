@@ -1,5 +1,0 @@
-pub mod WireLaws
-pub mod TakeLaws
-mod JoinedLaws
-mod ShareLaws
-mod KeepLaws

@@ -1,5 +1,0 @@
-pub mod Starting
-pub mod Wiring
-pub mod FeedingAll
-pub mod Shares
-pub mod Settings

@@ -1,5 +1,0 @@
-pub mod PlaceLaws
-mod SendLaws
-mod GatherLaws
-mod SettleLaws
-mod WholeLaws

@@ -1,6 +1,0 @@
-use Rattle.std.proofs.Common.{◌≡◌, ◌<◌, ℕ, get_or, true, false}
-use Rattle.cube_handover.specs.Gathering.{links_ended}
-use Rattle.cube_handover.proofs.gathering.have_ended.Given as goal
-
-abbrev pub invariant-loop-i : goal.invariant-loop-i
-invariant-loop-i l = (k : ℕ) → k < l.i → get_or (links_ended l.taken) k false ≡ true

@@ -1,9 +1,0 @@
-use Rattle.std.proofs.Common.{◌≡◌, ◌∷◌, []}
-use Rattle.cube_handover.specs.Parcels.{sends}
-use Rattle.cube_handover.specs.declared.parcel.Parcel.TheVariants.{End}
-use Rattle.cube_handover.proofs.PlaceLaws.{first_mapped}
-use Rattle.cube_handover.proofs.offering.offer_end.Given as goal
-
-abbrev pub invariant-loop-outlet : goal.invariant-loop-outlet
-invariant-loop-outlet g l =
-    (l.builder ≡ l.outlet-index) × (l.outlets ≡ first_mapped (sends (End ∷ [])) l.outlet-index l.initial.outlets)

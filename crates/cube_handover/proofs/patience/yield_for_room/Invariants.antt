@@ -1,5 +1,0 @@
-use Rattle.std.proofs.Common.{◌≡◌}
-use Rattle.cube_handover.proofs.patience.yield_for_room.Given as goal
-
-abbrev pub invariant-loop : goal.invariant-loop
-invariant-loop l = l.outlet ≡ l.initial.outlet

@@ -1,0 +1,10 @@
+pub mod PlaceLaws
+mod SendLaws
+mod GatherLaws
+mod SettleLaws
+mod WholeLaws
+pub mod WireLaws
+pub mod TakeLaws
+mod JoinedLaws
+mod ShareLaws
+mod KeepLaws

@@ -1,0 +1,12 @@
+pub mod Link
+pub mod Ends
+pub mod Feeding
+pub mod Gathering
+pub mod Parcels
+pub mod Settling
+pub mod Wholes
+pub mod Starting
+pub mod Wiring
+pub mod FeedingAll
+pub mod Shares
+pub mod Settings
