@@ -6,7 +6,7 @@ use crate::questions::answer_rows;
 use crate::script::{Printout, words_of};
 use anyhow::{Result, bail, ensure};
 use cube_core::{Refusal, Schema};
-use cube_engine::Builder;
+use cube_build::Builder;
 use std::alloc::{AllocError, Global};
 
 /// Does the calls on a builder of so many sources.

@@ -8,5 +8,5 @@ pub use Rattle.cube_core.specs.Refusals
 pub use Rattle.cube_core.specs.Takes
 pub use Rattle.cube_core.specs.declared.change.Change
 pub use Rattle.cube_core.specs.declared.fact.Fact
-pub use Rattle.cube_engine.specs.Builder
+pub use Rattle.cube_build.specs.Builder
 pub use Rattle.cube_ledger.specs.Ledger

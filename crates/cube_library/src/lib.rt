@@ -16,11 +16,10 @@ pub use cube_core::{
     Agg, Answer, Change, Coord, CoordRef, Fact, Field, HashKey, Item, Key, LineFault, Partial,
     Pattern, QueryFault, Refusal, Row, Schema, SchemaFault, Shard, Text,
 };
-pub use cube_engine::{Builder, build_plain};
+pub use cube_build::{Builder, Built, FeedingFault, Gate, OpenGate, Settings, build, build_plain};
 pub use cube_feed::{Feed, FeedFault};
 pub use cube_ledger::{BuildFault, Ledger};
 pub use cube_merge::{InputFault, MergeFault, merge};
 pub use cube_text::{print_cells, print_rows};
-pub use cube_threads::{Built, FeedingFault, Gate, OpenGate, Settings, build};
 pub use cube_tool::{Question, Reporter, RunFault, TextFault, answer, run, run_plain};
 pub use cube_writing::{WriteFault, write_whole};

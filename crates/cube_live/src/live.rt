@@ -8,7 +8,7 @@ use crate::refusals::{print_refusals, refusals_after_text};
 use crate::request::Question;
 use crate::rows::{cube_text, rows_text};
 use cube_core::{Change, Item, LineFault, Schema};
-use cube_engine::Parted;
+use cube_build::Parted;
 use cube_ledger::Ledger;
 use std::alloc::{AllocError, Global};
 use std::marker::Model;

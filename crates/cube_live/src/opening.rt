@@ -7,7 +7,7 @@ ghost use Rattle.cube_live.specs.Opening.{OpeningStandsAt, OpeningView, OpensOve
 
 use crate::live::Live;
 use cube_core::Schema;
-use cube_engine::Parted;
+use cube_build::Parted;
 use cube_feed::{FeedItem, TakesItems};
 use cube_rings::{FeedingFault, Gate, Gatherer, Settings, feed_all};
 use cube_ledger::Ledger;

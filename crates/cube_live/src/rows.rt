@@ -11,7 +11,7 @@ ghost use Rattle.cube_live.specs.Shows.{AsksRows, IsTextWhere, asks_for, is_key}
 use crate::request::Question;
 use cube_cells::{Counted, Cube, row_of};
 use cube_core::{Key, Pattern, QueryFault, Row, Schema};
-use cube_engine::{AsksCube, DrillDown, Parted, ordered_parts, rows_of_parts};
+use cube_build::{AsksCube, DrillDown, Parted, ordered_parts, rows_of_parts};
 use cube_text::{print_cells, print_rows};
 use std::alloc::{AllocError, Global};
 

@@ -14,9 +14,9 @@ use Rattle.cube_core.specs.declared.key.Key.{Key}
 use Rattle.cube_core.specs.declared.key.Row.{Row}
 use Rattle.cube_core.specs.declared.query.QueryFault.{QueryFault}
 use Rattle.cube_cells.specs.Rows.{GivesUnless}
-use Rattle.cube_engine.specs.Build.{BuildsWhole}
+use Rattle.cube_build.specs.Build.{BuildsWhole}
 use Rattle.cube_ledger.specs.Build.{ExplainsBuild}
-use Rattle.cube_engine.specs.Builder.{BuilderView}
+use Rattle.cube_build.specs.Builder.{BuilderView}
 use Rattle.cube_ledger.specs.Ledger.{AllFit, all_facts}
 use Rattle.cube_ledger.specs.declared.fault.BuildFault.{BuildFault}
 use Rattle.cube_ledger.specs.declared.fault.BuildFault.TheVariants as build_fault
@@ -24,7 +24,7 @@ use Rattle.cube_rings.specs.FeedingAll.{ExplainsFeeding}
 use Rattle.cube_rings.specs.declared.fault.FeedingFault.{FeedingFault}
 use Rattle.cube_rings.specs.declared.fault.FeedingFault.TheVariants as feeding_fault
 use Rattle.cube_tool.specs.declared.fault.RunFault.TheVariants as run_fault
-use Rattle.cube_threads.specs.Parts.{AreRowsOfRun, IsRowOfRun, BuiltView, BuildsParts, facts_of_run, schema_of_run}
+use Rattle.cube_build.specs.Parts.{AreRowsOfRun, IsRowOfRun, BuiltView, BuildsParts, facts_of_run, schema_of_run}
 use Rattle.cube_live.specs.Shows.{IsTextWhere, is_key}
 use Rattle.cube_live.proofs.RefusalLaws.{refusals_of_accounts}
 use Rattle.cube_live.proofs.RowLaws.{AreRowsWhere-IsRowOver, AreRowsWhere-none}

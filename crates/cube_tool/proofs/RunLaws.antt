@@ -11,14 +11,14 @@ use Rattle.cube_core.specs.Run.{SourceBytes, AreItemsOf}
 use Rattle.cube_core.specs.Sources.{SurviveTogether}
 use Rattle.cube_core.specs.declared.change.Item.{Item}
 use Rattle.cube_core.specs.declared.change.Refusal.{Refusal}
-use Rattle.cube_engine.specs.Build.{BuildsWhole}
-use Rattle.cube_engine.specs.Builder.{BuilderView, StandsAt}
+use Rattle.cube_build.specs.Build.{BuildsWhole}
+use Rattle.cube_build.specs.Builder.{BuilderView, StandsAt}
 use Rattle.cube_ledger.specs.Ledger.{AccountStandsAt, LedgerView, LedgerStandsAt, all_facts}
 use Rattle.cube_ledger.proofs.SurvivorLaws.{SurviveTogether-stands}
 use Rattle.cube_rings.specs.Link.{Receiving}
 use Rattle.cube_live.proofs.RefusalLaws.{refusals_of_accounts}
 use Rattle.cube_live.proofs.ShowsLaws.{refusals-each}
-use Rattle.cube_threads.specs.Parts.{BuiltView, BuildsParts, PartStandsAt, StandsInParts, first_ledger, facts_of_run}
+use Rattle.cube_build.specs.Parts.{BuiltView, BuildsParts, PartStandsAt, StandsInParts, first_ledger, facts_of_run}
 use Rattle.cube_rings.specs.declared.parcel.Parcel.{Parcel}
 use Rattle.cube_tool.specs.Answering.{HasTaken, refusals_of_run, status_over}
 use Rattle.cube_tool.specs.Command.{status_after}

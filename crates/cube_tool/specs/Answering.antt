@@ -11,7 +11,7 @@ use Rattle.cube_core.specs.declared.query.QueryFault.{QueryFault}
 use Rattle.cube_core.specs.declared.query.QueryFault.TheVariants as query_fault
 use Rattle.cube_core.specs.declared.schema_fault.SchemaFault.TheVariants as schema_fault
 use Rattle.cube_tool.specs.declared.fault.RunFault.TheVariants as run_fault
-use Rattle.cube_threads.specs.Parts.{BuiltView, StandsInParts, first_ledger}
+use Rattle.cube_build.specs.Parts.{BuiltView, StandsInParts, first_ledger}
 use Rattle.cube_tool.specs.Command.{status_after}
 use Rattle.cube_tool.specs.Run.{ExplainsPlainRun, ExplainsRun, Leaves, StandsOver, Tells, Wrote, WroteFirst}
 use Rattle.cube_tool.specs.declared.question.Question.{Question}

@@ -14,7 +14,7 @@ pub use answers::{
 pub use cube_live::print_refusals;
 pub use cube_merge::{InputFault, MergeFault};
 pub use cube_text::{print_cells, print_rows};
-pub use cube_threads::{Gate, OpenGate, Settings};
+pub use cube_build::{Gate, OpenGate, Settings};
 pub use fault::{RunFault, TextFault};
 pub use question::Question;
 pub use reporter::Reporter;

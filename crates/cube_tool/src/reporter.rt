@@ -1,5 +1,5 @@
 //! Who is told at what a command is.
-use cube_threads::OpenGate;
+use cube_build::OpenGate;
 
 /// Who is told what a command over feeds begins, once the feeds have ended (this project's choice). Until then the run's
 /// gate tells how far it is.

@@ -1,6 +1,6 @@
 //! Runs: from the bytes of feeds to the printed cube.
 ghost use Rattle.std.specs.Prelude.{◌≡◌, ◌≤◌, length, map, vec_len, IfOk, IfErr};
-ghost use Rattle.cube_engine.specs.Builder.{StandsAt};
+ghost use Rattle.cube_build.specs.Builder.{StandsAt};
 ghost use Rattle.cube_tool.specs.Answering.{HasTaken};
 ghost use Rattle.cube_tool.specs.Run.{ExplainsPlainRun, ExplainsRun, IsTextOf, Leaves, OfFeeds, StandsOver, Wrote};
 
@@ -8,8 +8,7 @@ use crate::answers::{has_builder, write_cube, write_plain_cube};
 use crate::fault::RunFault;
 use crate::question::Question;
 use cube_core::Schema;
-use cube_engine::{Builder, build_plain};
-use cube_threads::{Built, Gate, OpenGate, Settings, build};
+use cube_build::{Builder, Built, Gate, OpenGate, Settings, build, build_plain};
 use std::alloc::Global;
 use std::io::{Read, Write};
 use std::sync::Wait;

@@ -17,7 +17,7 @@ use crate::named::named_cubes;
 use crate::watch::Watch;
 use cube_core::{HashKey, Schema, Shard};
 use cube_progress::{Counts, CubeReader, FeedReader, Output, Phase, Progress};
-use cube_threads::Settings;
+use cube_build::Settings;
 use cube_tool::command::{
     FEED_NOTES, Failure, LATER_NOTES, Question, RUN_NOTES, SCHEMA_NOTES, STORE_NOTES, Status,
     answer_words, ask, check, check_cubes, explain, first_repeated, live, merge_cubes, read_cell,

@@ -6,7 +6,7 @@ use crate::gates::Held;
 use crate::texts::settings_of;
 use cube_core::Schema;
 use cube_feed::FeedFault;
-use cube_threads::{Gate, OpenGate};
+use cube_build::{Gate, OpenGate};
 use cube_tool::{RunFault, run};
 use std::alloc::{AllocError, Global};
 use std::sync::Wait;

@@ -1,6 +1,6 @@
 //! Gates that show that threads run beside one another.
 use crate::turn::Turn;
-use cube_threads::Gate;
+use cube_build::Gate;
 use std::sync::atomic::{AtomicU64, Ordering};
 
 /// Holds the first offer of each of two sources until that of the other has begun.

@@ -5,7 +5,7 @@ use crate::feeds::{ones_to, thousands_of_three};
 use crate::gates::Held;
 use crate::texts::{plain_text, run_texts};
 use cube_core::Schema;
-use cube_threads::Gate;
+use cube_build::Gate;
 use std::alloc::{AllocError, Global};
 use std::sync::Wait;
 use std::test::Fail;

@@ -2,7 +2,7 @@
 ghost use Rattle.std.specs.Prelude.{◌≡◌, ◌≤◌, length, vec_len, IfOk};
 
 use cube_core::Schema;
-use cube_threads::{Gate, Settings, build};
+use cube_build::{Gate, Settings, build};
 use cube_tool::{RunFault, run, run_plain};
 use std::alloc::{AllocError, Global};
 use std::io::Write;

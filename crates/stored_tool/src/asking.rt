@@ -14,7 +14,7 @@ use crate::question::answer_over;
 use cube_core::Schema;
 use cube_live::{Live, open_unsettled};
 use cube_stored::{StoreJournal, resume_made};
-use cube_threads::{Gate, Settings};
+use cube_build::{Gate, Settings};
 use cube_tool::Reporter;
 use cube_tool::command::{Failure, Question, Status};
 use sqlite_trees::store::Store;

@@ -13,7 +13,7 @@ use cube_feed::RecordReader;
 use cube_journal::ChangeJournal;
 use cube_live::{Rests, open_unsettled};
 use cube_stored::serve_stored;
-use cube_threads::{Gate, Settings};
+use cube_build::{Gate, Settings};
 use cube_tool::Reporter;
 use cube_tool::command::{Failure, Status, status_after};
 use sqlite_trees::store::Store;

@@ -7,7 +7,7 @@ use crate::fault::{RunFault, TextFault};
 use cube_core::{QueryFault, SchemaFault};
 use cube_merge::MergeFault;
 use cube_live::{JournalFault, SessionFault};
-use cube_threads::FeedingFault;
+use cube_build::FeedingFault;
 use cube_writing::WriteFault;
 use std::fmt;
 

@@ -9,7 +9,7 @@ use crate::command::status::{Status, status_of_run};
 use crate::question::Question;
 use crate::reporter::Reporter;
 use cube_core::Schema;
-use cube_threads::{Built, Gate, Settings, build};
+use cube_build::{Built, Gate, Settings, build};
 use std::alloc::Global;
 use std::io::{Read, Write};
 use std::sync::Wait;

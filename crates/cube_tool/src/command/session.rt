@@ -11,7 +11,7 @@ use crate::reporter::Reporter;
 use cube_core::Schema;
 use cube_feed::RecordReader;
 use cube_live::{Live, NeverRests, NoJournal, SessionFault, open, serve};
-use cube_threads::{Gate, Settings};
+use cube_build::{Gate, Settings};
 use std::alloc::Global;
 use std::io::{Read, Write};
 use std::sync::Wait;

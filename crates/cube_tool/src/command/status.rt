@@ -5,7 +5,7 @@ ghost use Rattle.cube_tool.specs.Command.{status_after, status_code};
 
 use crate::answers::first_builder;
 use cube_ledger::Ledger;
-use cube_threads::Built;
+use cube_build::Built;
 
 /// What the program ends with.
 #[derive(Clone, Copy, Debug, PartialEq, Eq)]

@@ -3,7 +3,7 @@ use Rattle.std.proofs.lemmas.Result.{err_from_is_err_and}
 use Rattle.cube_core.specs.Cube.{AreRows}
 use Rattle.cube_core.specs.Layout.{Layout}
 use Rattle.cube_core.specs.Printed.{IsPrinted}
-use Rattle.cube_threads.specs.Parts.{facts_of_run}
+use Rattle.cube_build.specs.Parts.{facts_of_run}
 use Rattle.cube_tool.proofs.answers.write_cube.Given.{Over}
 use Rattle.cube_tool.proofs.answers.write_cube.Goals.{In_ok-text}
 use Rattle.cube_tool.proofs.answers.write_cube.Goals as goal

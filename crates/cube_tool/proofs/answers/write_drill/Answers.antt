@@ -5,7 +5,7 @@ use Rattle.std.proofs.lemmas.Result.{err_from_is_err_and}
 use Rattle.cube_core.specs.Layout.{Layout}
 use Rattle.cube_core.specs.Query.{drill_fault, drills_down}
 use Rattle.cube_core.specs.declared.key.Row.{Row}
-use Rattle.cube_threads.specs.Parts.{AreRowsOfRun, facts_of_run, schema_of_run}
+use Rattle.cube_build.specs.Parts.{AreRowsOfRun, facts_of_run, schema_of_run}
 use Rattle.cube_tool.specs.Answering.{IsToldOf, refusals_of_run}
 use Rattle.cube_tool.specs.declared.question.Question.TheVariants.{Drill}
 use Rattle.cube_tool.proofs.AnsweringLaws.{Answers-text, DrillsDown-given, GivesUnless-Err, IsTextWhere-rows}

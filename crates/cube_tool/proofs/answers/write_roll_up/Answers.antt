@@ -2,7 +2,7 @@ use Rattle.std.proofs.Common.{refl}
 use Rattle.std.proofs.lemmas.Result.{err_from_is_err_and}
 use Rattle.cube_core.specs.Query.{rolled_up}
 use Rattle.cube_live.specs.Shows.{is_key}
-use Rattle.cube_threads.specs.Parts.{AreRowsOfRun}
+use Rattle.cube_build.specs.Parts.{AreRowsOfRun}
 use Rattle.cube_tool.proofs.AnsweringLaws.{AreRowsOfRun-key, IsTextWhere-rows, Writes-weaker, shapes}
 use Rattle.cube_tool.proofs.answers.write_roll_up.Goals as goal
 

@@ -1,0 +1,10 @@
+pub mod BuilderLaws
+mod FillLaws
+mod TakingLaws
+mod PartedLaws
+mod JoinLaws
+mod OrderLaws
+mod WholeLaws
+mod DraftLaws
+mod PartLaws
+mod ShareLaws

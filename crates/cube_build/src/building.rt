@@ -1,0 +1,100 @@
+//! The build: builders of the feeds of all sources, in threads.
+ghost use Rattle.std.specs.Prelude.{◌≡◌, ◌≤◌, [], map, vec_len, IfOk, IfErr, OnOk};
+ghost use Rattle.cube_rings.specs.FeedingAll.{ExplainsFeeding};
+ghost use Rattle.cube_build.specs.Parts.{AreAllMade, BuildsParts, schema_of_run};
+ghost use Rattle.cube_build.specs.Shares.{TakenInParts};
+
+use crate::built::Built;
+use crate::draft::{Draft, new_drafts};
+use crate::making::{Making, make_all};
+use crate::shares::feed_in_shares;
+use cube_core::Schema;
+use cube_rings::{FeedingFault, Gate, Gatherer, Settings, feed_all};
+use std::alloc::{AllocError, Global};
+use std::io::Read;
+use std::sync::Wait;
+use std::thread::Threads;
+
+// Feeds all sources to the drafts of as many parts as the settings have builders, or in shares where they have one, and
+// more threads.
+fn feed_parts<T: Threads + Wait + Sync, R: Read + Drop + Send, G: Gate + Sync>(
+    rt: &T,
+    alloc: Global,
+    schema: &Schema,
+    readers: Vec<R>,
+    settings: &Settings,
+    gate: &G,
+) -> Result<Vec<Gatherer<Draft>>, FeedingFault>
+    requires readers { (1 ≤ vec_len readers) × (vec_len readers ≤ 64) }
+    ensures taken { IfOk result (λ gatherers. TakenInParts schema.now
+        (map R.Read.remaining readers.items) settings.now.builders gatherers.items) }
+    ensures err { IfErr result (ExplainsFeeding schema.now (map R.Read.remaining readers.items)) }
+{
+    let parts = settings.builders();
+    if parts == 1 && settings.threads() > 1 {
+        return feed_in_shares(rt, alloc, schema, readers, settings, gate);
+    }
+    let Ok(drafts) = new_drafts(alloc, schema, readers.len() as u32, parts) else {
+        return Err(FeedingFault::Memory);
+    };
+    feed_all(
+        rt,
+        alloc,
+        schema,
+        readers,
+        settings.capacity(),
+        drafts,
+        gate,
+    )
+}
+
+// Makes the builder of each part, by so many threads, and keeps them all. The only error is want of memory.
+fn complete<T: Threads + Sync>(
+    rt: &T,
+    threads: usize,
+    gatherers: Vec<Gatherer<Draft>>,
+    making: &mut Making,
+) -> Result<(), AllocError>
+    requires builders { making.old.builders.items ≡ [] }
+    requires links { making.old.links.items ≡ [] }
+    ensures { OnOk result (AreAllMade gatherers.items (record {
+      builders = making.new.builders.items;
+      inlets = map (λ links. links.inlets.items) making.new.links.items;
+    })) }
+{
+    let made = make_all(rt, threads, gatherers)?;
+    making.keep_all(made)
+}
+
+/// Builds the feeds of 1 to 64 sources, one reader each, in as many builders as the settings have, each over its part
+/// of the schema's grouping sets.
+///
+/// A feeder on a thread of its own reads each source, builder 0 gathers on the caller's thread, each other on its own,
+/// and the cubes are filled side by side once the feeds have ended. One builder gathers in as many shares of consecutive
+/// sources as there are threads, 8 at most, the first on the caller's thread, each other on its own; their ledgers are
+/// put together once the feeds have ended. The first of these faults that holds is the answer:
+/// `Memory` or `NoThread`, where no record was read; `Feed` of the lowest source whose feed is at fault; `Full` where a
+/// growth was refused in building; `Unsealed` of the lowest source of which a link gave no receipt.
+pub fn build<T: Threads + Wait + Sync, R: Read + Drop + Send, G: Gate + Sync>(
+    rt: &T,
+    alloc: Global,
+    schema: &Schema,
+    readers: Vec<R>,
+    settings: &Settings,
+    gate: &G,
+) -> Result<Built, FeedingFault>
+    requires readers { (1 ≤ vec_len readers) × (vec_len readers ≤ 64) }
+    ensures ok { IfOk result
+        (BuildsParts schema.now (map R.Read.remaining readers.items) settings.now.builders) }
+    ensures schema { IfOk result (λ built. schema_of_run built ≡ schema.now) }
+    ensures err { IfErr result (ExplainsFeeding schema.now (map R.Read.remaining readers.items)) }
+{
+    let Ok(mut making) = Making::with_room(alloc, settings.builders() as usize) else {
+        return Err(FeedingFault::Memory);
+    };
+    let gatherers = feed_parts(rt, alloc, schema, readers, settings, gate)?;
+    match complete(rt, settings.threads(), gatherers, &mut making) {
+        Ok(()) => Ok(Built::of(making)),
+        Err(_) => Err(FeedingFault::Full),
+    }
+}

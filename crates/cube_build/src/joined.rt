@@ -1,0 +1,233 @@
+//! The cells and the rows of all parts of a cube, in key order: what each part has, one part's after the other's, sorted.
+ghost use Rattle.std.specs.Prelude.{◌≡◌, ◌<◌, Bool, List, IfOk, OnOk, length};
+ghost use Rattle.std.specs.List.Sorted.{IsPermutation, IsSortedBy};
+ghost use Rattle.std.specs.Ordering.{is_lt};
+ghost use Rattle.std.specs.Thread.{IsSync};
+ghost use Rattle.cube_core.specs.Layout.{Layout};
+ghost use Rattle.cube_core.specs.Order.{key_cmp};
+ghost use Rattle.cube_core.specs.Query.{drills_down, matches, rolled_up};
+ghost use Rattle.cube_core.specs.declared.key.Key.{Key as TheKey};
+ghost use Rattle.cube_core.specs.declared.key.Row.{Row as TheRow};
+ghost use Rattle.cube_cells.specs.Cube.{Lattice};
+ghost use Rattle.cube_cells.specs.Rows.{AreRowsInOrder};
+ghost use Rattle.cube_build.specs.Joined.{AnswersIn, AnswersInWhole, ArePartsOfOne, AreRowsOfWhole, EachSchema, IsRowOfWhole, OrdersCells, OrdersFirst};
+
+use cube_cells::{Cube, Numbers, OrderedCells, Summary};
+use cube_core::{Key, Pattern, Row};
+use std::alloc::AllocError;
+use std::thread::Threads;
+
+/// What has a cube.
+pub trait HoldsCube<N: Numbers> {
+    ghost lattice: { Self → Lattice };
+
+    /// Its cube.
+    fn held(&self) -> &Cube<N>
+        ensures { result.now ≡ lattice self.now };
+}
+
+/// A question to a cube: that for its rows whose keys pass a test.
+pub trait AsksCube<N: Numbers> {
+    // Which keys pass.
+    ghost test: { Self → TheKey → Bool };
+
+    // A cube of this schema can be asked.
+    ghost can_ask: { Self → Layout → Type 0 };
+
+    /// The rows of a cube whose keys pass. The only error is want of memory.
+    fn rows_of(&self, cube: &Cube<N>) -> Result<Vec<Row>, AllocError>
+        requires { can_ask self.now cube.now.schema }
+        ensures { IfOk result (λ rows. AnswersIn (test self.now) cube.now rows.items) };
+}
+
+/// The question for the rows whose keys a pattern matches.
+#[derive(Drop)]
+pub struct Slice<'q> {
+    pub pattern: &'q Pattern,
+}
+
+impl<'q, N: Numbers> AsksCube<N> for Slice<'q> {
+    ghost test = { λ slice. matches slice.pattern.now };
+
+    ghost can_ask = { λ _ _. Unit {0} };
+
+    fn rows_of(&self, cube: &Cube<N>) -> Result<Vec<Row>, AllocError> {
+        cube.slice(self.pattern)
+    }
+}
+
+/// The question for the rows that drill down from a key along a dimension, counted from 0.
+#[derive(Drop)]
+pub struct DrillDown<'q> {
+    pub key: &'q Key,
+    pub dim: usize,
+}
+
+impl<'q, N: Numbers> AsksCube<N> for DrillDown<'q> {
+    ghost test = { λ drill. drills_down drill.dim drill.key.now };
+
+    ghost can_ask = { λ drill s. (drill.dim < length s.dimensions)
+        × (length drill.key.now.coords ≡ length s.dimensions) };
+
+    fn rows_of(&self, cube: &Cube<N>) -> Result<Vec<Row>, AllocError> {
+        match cube.drill_down(self.key, self.dim) {
+            Ok(rows) => Ok(rows),
+            Err(_) => Err(AllocError),
+        }
+    }
+}
+
+/// The rows of all parts that a question is for, in key order. The only error is want of memory.
+pub fn rows_of_parts<N: Numbers, P: HoldsCube<N>, Q: AsksCube<N>>(
+    parts: &[P],
+    question: &Q,
+) -> Result<Vec<Row>, AllocError>
+    requires parts { ArePartsOfOne P.lattice parts.now }
+    requires can_ask { EachSchema P.lattice (Q.can_ask question.now) parts.now }
+    ensures { IfOk result (λ rows.
+        AnswersInWhole P.lattice (Q.test question.now) parts.now rows.items) }
+{
+    let mut rows = question.rows_of(parts[0].held())?;
+    if parts.len() == 1 {
+        return Ok(rows);
+    }
+    for part in 1..parts.len() {
+        rows.append(&mut question.rows_of(parts[part].held())?)?;
+    }
+    in_key_order(rows)
+}
+
+// The rows of several parts, each part's in key order and one after the other, in the key order of all. The only
+// error is want of memory.
+fn in_key_order(rows: Vec<Row>) -> Result<Vec<Row>, AllocError>
+    ensures same { IfOk result (λ sorted. IsPermutation rows.items sorted.items) }
+    ensures order { IfOk result (λ sorted.
+        IsSortedBy (λ a b. is_lt (key_cmp a.key b.key)) sorted.items) }
+{
+    let mut rows = rows;
+    rows.sort_by(|a, b| a.key.compare(&b.key))?;
+    Ok(rows)
+}
+
+/// The row of a key with ALL in a dimension, counted from 0, by a look-up in each part; `None` exactly where that is no
+/// cell of the whole cube. The only error is want of memory.
+pub fn row_above<N: Numbers, P: HoldsCube<N>>(
+    parts: &[P],
+    key: &Key,
+    dim: usize,
+) -> Result<Option<Row>, AllocError>
+    requires parts { ArePartsOfOne P.lattice parts.now }
+    requires dim { EachSchema P.lattice (λ s. dim < length s.dimensions) parts.now }
+    requires width { EachSchema P.lattice (λ s. length key.now.coords ≡ length s.dimensions) parts.now }
+    ensures { IfOk result (IsRowOfWhole P.lattice (rolled_up dim key.now) parts.now) }
+{
+    for part in 0..parts.len() {
+        if let Some(row) = parts[part].held().roll_up(key, dim)? {
+            return Ok(Some(row));
+        }
+    }
+    Ok(None)
+}
+
+/// The cells of all parts in key order, for rows that are made one at a time. The only error is want of memory.
+pub fn ordered_parts<N: Numbers, P: HoldsCube<N>>(
+    parts: &[P],
+) -> Result<OrderedCells<'_, N>, AllocError>
+    requires { ArePartsOfOne P.lattice parts.now }
+    ensures { IfOk result (λ cells. (rows : List TheRow) → AreRowsInOrder cells rows →
+        AreRowsOfWhole P.lattice parts.now rows) }
+{
+    ordered_by(&Alone, parts)
+}
+
+/// The same, with the cells of each part sorted by so many threads.
+pub fn ordered_parts_with<'c, T: Threads + Sync, P: HoldsCube<Summary>>(
+    rt: &T,
+    threads: usize,
+    parts: &'c [P],
+) -> Result<OrderedCells<'c, Summary>, AllocError>
+    requires { ArePartsOfOne P.lattice parts.now }
+    ensures { IfOk result (λ cells. (rows : List TheRow) → AreRowsInOrder cells rows →
+        AreRowsOfWhole P.lattice parts.now rows) }
+{
+    ordered_by(&Several { rt, threads }, parts)
+}
+
+// Who puts the cells of a cube in key order.
+trait Orders<N: Numbers> {
+    // Threads may share what it needs.
+    ghost is_shared: { Self → Type 0 };
+
+    // The cells of a cube in key order.
+    fn ordered<'c>(&self, cube: &'c Cube<N>) -> Result<OrderedCells<'c, N>, AllocError>
+        requires { is_shared self.now }
+        ensures cube { IfOk result (OrdersCells cube.now) }
+        ensures aggregates { IfOk result (λ ordered.
+            ordered.aggregates ≡ cube.now.schema.aggregates) };
+}
+
+// This thread alone.
+#[derive(Drop)]
+struct Alone;
+
+impl<N: Numbers> Orders<N> for Alone {
+    ghost is_shared = { λ _. Unit {0} };
+
+    fn ordered<'c>(&self, cube: &'c Cube<N>) -> Result<OrderedCells<'c, N>, AllocError> {
+        cube.ordered()
+    }
+}
+
+// As many threads as this says, or fewer.
+#[derive(Drop)]
+struct Several<'r, T> {
+    rt: &'r T,
+    threads: usize,
+}
+
+impl<'r, T: Threads + Sync> Orders<Summary> for Several<'r, T> {
+    ghost is_shared = { λ _. IsSync T.row };
+
+    fn ordered<'c>(
+        &self,
+        cube: &'c Cube<Summary>,
+    ) -> Result<OrderedCells<'c, Summary>, AllocError> {
+        cube.ordered_with(self.rt, self.threads)
+    }
+}
+
+// The cells of all parts in key order, those of each part put in order by this one.
+fn ordered_by<'c, N: Numbers, O: Orders<N>, P: HoldsCube<N>>(
+    order: &O,
+    parts: &'c [P],
+) -> Result<OrderedCells<'c, N>, AllocError>
+    requires shared { O.is_shared order.now }
+    requires parts { ArePartsOfOne P.lattice parts.now }
+    ensures { IfOk result (λ cells. (rows : List TheRow) → AreRowsInOrder cells rows →
+        AreRowsOfWhole P.lattice parts.now rows) }
+{
+    let mut cells = order.ordered(parts[0].held())?;
+    join_others(order, parts, &mut cells)?;
+    Ok(cells)
+}
+
+// Puts the cells of the other parts behind those of the first, and all in key order.
+fn join_others<'c, N: Numbers, O: Orders<N>, P: HoldsCube<N>>(
+    order: &O,
+    parts: &'c [P],
+    cells: &mut OrderedCells<'c, N>,
+) -> Result<(), AllocError>
+    requires shared { O.is_shared order.now }
+    requires parts { ArePartsOfOne P.lattice parts.now }
+    requires first { OrdersFirst P.lattice parts.now cells.old }
+    ensures { OnOk result ((rows : List TheRow) → AreRowsInOrder cells.new rows →
+        AreRowsOfWhole P.lattice parts.now rows) }
+{
+    if parts.len() == 1 {
+        return Ok(());
+    }
+    for part in 1..parts.len() {
+        cells.append(order.ordered(parts[part].held())?)?;
+    }
+    cells.sort()
+}

@@ -1,0 +1,106 @@
+//! Making the builders of all parts, side by side.
+ghost use Rattle.std.specs.Prelude.{◌≡◌, ◌<◌, ◌++◌, ◌∷◌, [], ℕ, map, option_map, slice_index_or, vec_len, IfOk, IfSome, OnOk, Option, Some};
+ghost use Rattle.cube_build.specs.Drafts.{IsMadePart};
+
+use crate::draft::Draft;
+use cube_cells::Summary;
+use crate::builder::Builder;
+use cube_rings::{Gatherer, Inlet, Parcel};
+use std::alloc::{AllocError, Global};
+use std::thread;
+use std::thread::Threads;
+
+/// The builder of a part, with the inlets by which the feeds came.
+#[derive(Drop)]
+pub(crate) struct MadePart {
+    pub builder: Builder<Summary>,
+    pub inlets: Vec<Inlet<Parcel>>,
+}
+
+// The builder of a part, filled by so many threads, unless memory is wanting.
+fn make<T: Threads + Sync>(rt: &T, threads: usize, gatherer: Gatherer<Draft>) -> Option<MadePart>
+    ensures { IfSome result (IsMadePart gatherer) }
+{
+    let Gatherer {
+        builder: draft,
+        place: _,
+        inlets,
+        wanting: _,
+    } = gatherer;
+    let builder = draft.finish(rt, threads).ok()?;
+    Some(MadePart { builder, inlets })
+}
+
+/// The builder of each part, where memory wasn't wanting for it. Each is made on a thread of its own, where one can be
+/// started, and fills its cube by its share of so many threads. The only error is want of memory.
+pub(crate) fn make_all<T: Threads + Sync>(
+    rt: &T,
+    threads: usize,
+    gatherers: Vec<Gatherer<Draft>>,
+) -> Result<Vec<Option<MadePart>>, AllocError>
+    ensures count { IfOk result (λ made. vec_len made ≡ vec_len gatherers) }
+    ensures each { IfOk result (λ made. (part : ℕ) (gatherer : _) (d : _) →
+        part < vec_len gatherers → IfSome (slice_index_or made.items part d)
+        (IsMadePart (slice_index_or gatherers.items part gatherer))) }
+{
+    let share = threads / gatherers.len().max(1);
+    thread::map_vec(rt, gatherers, &|gatherer| make(rt, share, gatherer))
+}
+
+// The inlets of a builder, from the first source's.
+#[derive(Drop)]
+pub(crate) struct Links {
+    pub inlets: Vec<Inlet<Parcel>>,
+}
+
+/// The builders of the first parts, in their order, with their inlets.
+#[derive(Drop)]
+pub(crate) struct Making {
+    pub builders: Vec<Builder<Summary>>,
+    pub links: Vec<Links>,
+}
+
+impl Making {
+    /// No builder, and room for so many. The only error is want of memory.
+    pub fn with_room(alloc: Global, builders: usize) -> Result<Making, AllocError>
+        ensures builders { IfOk result (λ making. making.builders.items ≡ []) }
+        ensures links { IfOk result (λ making. making.links.items ≡ []) }
+    {
+        Ok(Making {
+            builders: Vec::with_capacity(alloc, builders)?,
+            links: Vec::with_capacity(alloc, builders)?,
+        })
+    }
+
+    /// Keeps the builder of each part, in their order, with its inlets. The only error is want of memory, where one
+    /// wasn't made too.
+    pub fn keep_all(&mut self, made: Vec<Option<MadePart>>) -> Result<(), AllocError>
+        requires none { self.old.builders.items ≡ [] }
+        requires no_links { self.old.links.items ≡ [] }
+        ensures builders { OnOk result (map (option_map (λ part. part.builder)) made.items
+            ≡ map Some self.new.builders.items) }
+        ensures links { OnOk result (map (option_map (λ part. part.inlets.items)) made.items
+            ≡ map Some (map (λ links. links.inlets.items) self.new.links.items)) }
+    {
+        for one in made {
+            let Some(part) = one else {
+                return Err(AllocError);
+            };
+            self.keep(part)?;
+        }
+        Ok(())
+    }
+
+    fn keep(&mut self, part: MadePart) -> Result<(), AllocError>
+        ensures builders { OnOk result
+            (self.new.builders.items ≡ self.old.builders.items ++ part.builder ∷ []) }
+        ensures links { OnOk result (map (λ links. links.inlets.items) self.new.links.items
+            ≡ map (λ links. links.inlets.items) self.old.links.items
+            ++ part.inlets.items ∷ []) }
+    {
+        let MadePart { builder, inlets } = part;
+        self.builders.push(builder)?;
+        self.links.push(Links { inlets })?;
+        Ok(())
+    }
+}

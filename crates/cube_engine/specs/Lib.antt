@@ -1,5 +1,0 @@
-pub mod Builder
-pub mod Build
-pub mod Taking
-pub mod Parted
-pub mod Joined

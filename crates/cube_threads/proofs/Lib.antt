@@ -1,3 +1,0 @@
-mod DraftLaws
-mod PartLaws
-mod ShareLaws

@@ -1,5 +1,0 @@
-use Rattle.cube_threads.specs.Drafts.{AreNewDrafts}
-use Rattle.cube_threads.proofs.draft.new_drafts.Given as goal
-
-abbrev pub invariant-loop-part : goal.invariant-loop-part
-invariant-loop-part l = AreNewDrafts l.schema l.sources l.parts l.part l.drafts.items

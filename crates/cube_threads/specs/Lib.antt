@@ -1,3 +1,0 @@
-pub mod Drafts
-pub mod Parts
-pub mod Shares
