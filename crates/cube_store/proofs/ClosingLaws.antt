@@ -10,7 +10,7 @@ use Rattle.sqlite_trees.specs.View.{View}
 use Rattle.sqlite_store.specs.declared.store.FileStore.{FileStore}
 use Rattle.sqlite_store.specs.FileStore.{state, view, files}
 use Rattle.sqlite_store.specs.Laws.{reads_committed}
-use Rattle.cube_journal.specs.State.{stored_in, noted_in, stored_form, Holds, IsStore}
+use Rattle.cube_store.specs.State.{stored_in, noted_in, stored_form, Holds, IsStore}
 use Rattle.cube_store.specs.Closing.{ReadsLast, IsCopied}
 
 module _ {D : Type 0} {g : Ghosts D} (it : FileStore D g) (stays : SeenMayStay g)

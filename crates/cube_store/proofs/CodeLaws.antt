@@ -9,9 +9,9 @@ use Rattle.sqlite_store.specs.Opening.{FailsToOpen}
 use Rattle.sqlite_trees.specs.declared.error.StoreError.{StoreError}
 use Rattle.sqlite_trees.specs.declared.error.StoreError.TheVariants as cause
 use Rattle.sqlite_trees.specs.View as trees
-use Rattle.cube_journal.specs.declared.fault.OpenFault.{OpenFault}
-use Rattle.cube_journal.specs.declared.fault.OpenFault.TheVariants as kind
-use Rattle.cube_journal.specs.State as journal
+use Rattle.cube_store.specs.declared.fault.OpenFault.{OpenFault}
+use Rattle.cube_store.specs.declared.fault.OpenFault.TheVariants as kind
+use Rattle.cube_store.specs.State as journal
 use Rattle.cube_store.specs.Codes.{code_of_failure, open_code_of, file_code_of, look_code_of, TellsFailedCall}
 use Rattle.cube_store.specs.Codes.{HasReason}
 

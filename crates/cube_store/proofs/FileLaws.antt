@@ -35,9 +35,9 @@ use Rattle.sqlite_store.specs.declared.store.open.Unopened.{Unopened}
 use Rattle.sqlite_store.specs.Unopened.{state_of, wanted_by, files_of, image, HasFile, HasSomeFile}
 use Rattle.sqlite_store.specs.Unopened.{IsCatalogOf}
 use Rattle.sqlite_pages.specs.PageMap.{PageMap}
-use Rattle.cube_journal.specs.declared.form.RowForm.{RowForm}
-use Rattle.cube_journal.specs.declared.form.RowForm.TheVariants.{Plain, Chained}
-use Rattle.cube_journal.specs.State.{HasTables, IsUnmade, form_by, stored_form}
+use Rattle.cube_store.specs.declared.form.RowForm.{RowForm}
+use Rattle.cube_store.specs.declared.form.RowForm.TheVariants.{Plain, Chained}
+use Rattle.cube_store.specs.State.{HasTables, IsUnmade, form_by, stored_form}
 use Rattle.cube_store.specs.Found.{store_schema, catalog_in, tables_in, listed_form, form_told, StoreOf, StoreIn}
 use Rattle.cube_store.specs.Found.{HasTablesOf, HasLooked, HasNoTable, IsUnstarted, IsFoundAs, ReadsAs, IsFound, IsFoundMade}
 use Rattle.cube_store.proofs.ListedLaws.{file_lists}

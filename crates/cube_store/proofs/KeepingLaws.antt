@@ -9,9 +9,9 @@ use Rattle.sqlite_trees.specs.declared.error.StoreError.{StoreError}
 use Rattle.sqlite_trees.specs.declared.error.StoreError.TheVariants as cause
 use Rattle.sqlite_trees.specs.Tree.{Trees}
 use Rattle.sqlite_trees.specs.View.{View, IsClean}
-use Rattle.cube_journal.specs.Rows.{Entry, IsOfSource}
-use Rattle.cube_journal.specs.State.{held_in, stored_in, noted_in, form_in, Holds, CantHold, Appends, Commits}
-use Rattle.cube_journal.specs.State.{ForgetsNothing, IsCause}
+use Rattle.cube_store.specs.Rows.{Entry, IsOfSource}
+use Rattle.cube_store.specs.State.{held_in, stored_in, noted_in, form_in, Holds, CantHold, Appends, Commits}
+use Rattle.cube_store.specs.State.{ForgetsNothing, IsCause}
 use Rattle.cube_store.specs.Keeping.{Batch, LeavesPart, Stands, HasKept, HasBroken, CantStore, TakesAsBefore}
 
 -- what holds in any case holds where a result is an error

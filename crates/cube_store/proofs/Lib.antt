@@ -1,3 +1,12 @@
+mod ChainLaws
+mod CompareLaws
+mod CrashLaws
+mod MakeLaws
+mod OpenLaws
+mod ReadingLaws
+mod RowLaws
+mod StartLaws
+mod ViewLaws
 mod ClosingLaws
 mod CodeLaws
 mod FileLaws

@@ -20,8 +20,8 @@ use Rattle.sqlite_store.specs.Catalog.{same_value, describes, is_about, root_in,
 use Rattle.sqlite_store.specs.Catalog.{is_well_formed}
 use Rattle.sqlite_store.specs.Db.{rows_at, roots_of, IsFile}
 use Rattle.sqlite_store.proofs.ObjectLemmas.{other_text}
-use Rattle.cube_journal.specs.declared.form.RowForm.{RowForm}
-use Rattle.cube_journal.specs.declared.form.RowForm.TheVariants.{Plain, Chained}
+use Rattle.cube_store.specs.declared.form.RowForm.{RowForm}
+use Rattle.cube_store.specs.declared.form.RowForm.TheVariants.{Plain, Chained}
 use Rattle.cube_store.specs.Found.{changes_table, feeds_table, store_schema, catalog_in, list_digests, listed_form, digests_text}
 
 -- ---- no tree begins at page 0

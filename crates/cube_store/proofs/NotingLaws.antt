@@ -8,7 +8,7 @@ use Rattle.std.specs.Io.KnownBytes.{Consumes, IsAtEnd}
 use Rattle.sha2.specs.declared.Sha256.{Sha256}
 use Rattle.sha2.specs.Hashers.{Holds256}
 use Rattle.sha2.specs.Sha256.{sha256}
-use Rattle.cube_journal.specs.declared.note.FeedNote.{FeedNote}
+use Rattle.cube_store.specs.declared.note.FeedNote.{FeedNote}
 use Rattle.cube_store.specs.Noting.{HasNoted, IsNoteOf}
 
 Consumes-more : (first mid now : Option (List ℕ)) (bytes piece : List ℕ) → Consumes first mid bytes

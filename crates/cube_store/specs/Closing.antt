@@ -9,8 +9,8 @@ use Rattle.sqlite_trees.specs.Tree.{Trees}
 use Rattle.sqlite_trees.specs.View.{IsClean}
 use Rattle.sqlite_store.specs.declared.store.FileStore.{FileStore}
 use Rattle.sqlite_store.specs.FileStore.{state, view, files, recovers, faults, reading, log_frames, HasSpilled}
-use Rattle.cube_journal.specs.State.{stored_in, noted_in, stored_form, Holds}
-use Rattle.cube_store.specs.declared.fault.StoreFault.{StoreFault}
+use Rattle.cube_store.specs.State.{stored_in, noted_in, stored_form, Holds}
+use Rattle.cube_store.specs.declared.store_fault.StoreFault.{StoreFault}
 use Rattle.cube_store.specs.Codes.{HasReason}
 
 module _ {D : Type 0} {g : Ghosts D} where

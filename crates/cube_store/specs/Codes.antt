@@ -6,11 +6,11 @@ use Rattle.sqlite_store.specs.declared.error.OpenError.{OpenError}
 use Rattle.sqlite_store.specs.declared.error.OpenError.TheVariants as refusal
 use Rattle.sqlite_wal.specs.declared.error.Error.{Error}
 use Rattle.sqlite_wal.specs.declared.error.Error.TheVariants as log
-use Rattle.cube_journal.specs.declared.fault.OpenFault.{OpenFault}
-use Rattle.cube_journal.specs.declared.fault.OpenFault.TheVariants as kind
-use Rattle.cube_store.specs.declared.fault.StoreFault.{StoreFault}
-use Rattle.cube_store.specs.declared.fault.StoreFault.TheVariants.{InUse, CantOpen, NotAStore, Row, Digest, Feed}
-use Rattle.cube_store.specs.declared.fault.StoreFault.TheVariants.{Failed, NoRoom, Memory}
+use Rattle.cube_store.specs.declared.fault.OpenFault.{OpenFault}
+use Rattle.cube_store.specs.declared.fault.OpenFault.TheVariants as kind
+use Rattle.cube_store.specs.declared.store_fault.StoreFault.{StoreFault}
+use Rattle.cube_store.specs.declared.store_fault.StoreFault.TheVariants.{InUse, CantOpen, NotAStore, Row, Digest, Feed}
+use Rattle.cube_store.specs.declared.store_fault.StoreFault.TheVariants.{Failed, NoRoom, Memory}
 
 -- What a failed call on an open store is told as (this project's choice).
 abbrev pub code_of_failure : StoreError → StoreFault

@@ -18,9 +18,9 @@ use Rattle.sqlite_store.specs.Catalog.{describes}
 use Rattle.sqlite_store.specs.Db.{IsFile, rows_at}
 use Rattle.sqlite_store.specs.Listing.{file_trees}
 use Rattle.sqlite_store.specs.Opening.{IsEmptyFile}
-use Rattle.cube_journal.specs.declared.form.RowForm.{RowForm}
-use Rattle.cube_journal.specs.declared.form.RowForm.TheVariants.{Plain, Chained}
-use Rattle.cube_journal.specs.State.{HasTables, IsUnmade, stored_form}
+use Rattle.cube_store.specs.declared.form.RowForm.{RowForm}
+use Rattle.cube_store.specs.declared.form.RowForm.TheVariants.{Plain, Chained}
+use Rattle.cube_store.specs.State.{HasTables, IsUnmade, stored_form}
 
 -- The text of the table of changes whose rows have digests (this project's choice).
 abbrev pub digests_text : List ℕ

@@ -4,8 +4,8 @@ use Rattle.std.specs.Coded.{Coded, code_by, coded×, coded_ℕ}
 use Rattle.std.specs.Prelude.{refl}
 use Rattle.sqlite_trees.specs.Tree.{Trees}
 use Rattle.sqlite_trees.specs.View.{View, IsClean}
-use Rattle.cube_journal.specs.Rows.{Entry, IsOfSource}
-use Rattle.cube_journal.specs.State.{held_in, stored_in, noted_in, form_in, Holds, CantHold}
+use Rattle.cube_store.specs.Rows.{Entry, IsOfSource}
+use Rattle.cube_store.specs.State.{held_in, stored_in, noted_in, form_in, Holds, CantHold}
 
 -- a store with the number of the changes that wait for a commit, and that of those that may
 pub record Batch (S : Type 0) : Type 0 where

@@ -1,3 +1,8 @@
+pub mod Kept
+pub mod Making
+pub mod Reading
+pub mod Rows
+pub mod State
 pub mod Closing
 pub mod Codes
 pub mod Found

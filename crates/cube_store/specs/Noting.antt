@@ -4,7 +4,7 @@ use Rattle.std.specs.Io.KnownBytes.{Consumes}
 use Rattle.sha2.specs.declared.Sha256.{Sha256}
 use Rattle.sha2.specs.Hashers.{Holds256}
 use Rattle.sha2.specs.Sha256.{sha256}
-use Rattle.cube_journal.specs.declared.note.FeedNote.{FeedNote}
+use Rattle.cube_store.specs.declared.note.FeedNote.{FeedNote}
 
 -- a note says of bytes how many there are, and their SHA-256 (FIPS 180-4)
 pub record IsNoteOf (note : FeedNote) (bytes : List ℕ) : Type 0 where

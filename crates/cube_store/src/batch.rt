@@ -2,10 +2,10 @@
 ghost use Rattle.std.specs.Prelude.{◌≡◌, ◌<◌, ◌≤◌, ◌++◌, ◌∷◌, [], length, false, IsTrue, IfErr, OnOk, OnErr};
 ghost use Rattle.sqlite_disk.specs.Disk.{MoreFaults};
 ghost use Rattle.sqlite_trees.specs.View.{IsClean};
-ghost use Rattle.cube_journal.specs.State.{held_in, stored_in, ForgetsNothing, IsCause};
+ghost use Rattle.cube_store.specs.State.{held_in, stored_in, ForgetsNothing, IsCause};
 ghost use Rattle.cube_store.specs.Keeping.{HasBroken, HasKept, BatchKeepsOn, CantStore, TakesAsBefore};
 
-use cube_journal::ChangeJournal;
+use crate::journal::ChangeJournal;
 use sqlite_trees::error::StoreError;
 use sqlite_trees::store::Store;
 use std::marker::Model;

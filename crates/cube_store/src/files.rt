@@ -8,13 +8,13 @@ ghost use Rattle.sqlite_trees.specs.View.{IsClean};
 ghost use Rattle.sqlite_store.specs.FileStore.{view};
 ghost use Rattle.sqlite_store.specs.Unopened.{state_of, wanted_by, files_of, image, AreUsable};
 ghost use Rattle.sqlite_std_file.specs.File.{file_is_usable, IsFresh};
-ghost use Rattle.cube_journal.specs.State.{IsUnmade, stored_form};
+ghost use Rattle.cube_store.specs.State.{IsUnmade, stored_form};
 ghost use Rattle.cube_store.specs.Codes.{TellsFailedCall};
 ghost use Rattle.cube_store.specs.Found.{store_schema, BeginsMaking, StoreOf, StoreIn, IsBegun, HasNoTable, HasLooked, IsFoundAs, IsFound, IsFoundMade};
 
-use crate::fault::StoreFault;
+use crate::store_fault::StoreFault;
 use crate::tables::{form_told, schema};
-use cube_journal::RowForm;
+use crate::form::RowForm;
 use sqlite_disk::{Disk, Files, Start};
 use sqlite_pager::{Options, Pager};
 use sqlite_pool::probe_blank;

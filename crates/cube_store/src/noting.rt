@@ -3,7 +3,7 @@ ghost use Rattle.std.specs.Prelude.{◌≡◌, ◌<◌, ◌≤◌, length, take,
 ghost use Rattle.std.specs.Io.KnownBytes.{Consumes, IsAtEnd};
 ghost use Rattle.cube_store.specs.Noting.{IsNoteOf};
 
-use cube_journal::FeedNote;
+use crate::note::FeedNote;
 use sha2::{Digest, Sha256};
 use std::alloc::Global;
 use std::io::Read;

@@ -1,5 +1,5 @@
 //! What stands at a store's path, and beside it, before its files are opened.
-use crate::fault::StoreFault;
+use crate::store_fault::StoreFault;
 use std::fs::{self, File, Metadata, OpenOptions, Permissions};
 use std::io::{ErrorKind, Read};
 use std::os::unix::fs::{MetadataExt, OpenOptionsExt, PermissionsExt};

@@ -5,7 +5,7 @@ ghost use Rattle.sqlite_value.specs.Value.{owned};
 ghost use Rattle.sqlite_store.specs.Catalog.{wanted_of, describes, same_value};
 ghost use Rattle.cube_store.specs.Found.{changes_table, feeds_table, store_schema, list_digests, listed_form, form_told};
 
-use cube_journal::{CHAINED, RowForm};
+use crate::form::{CHAINED, RowForm};
 use sqlite_trees::schema::Object;
 use sqlite_trees::store::Shape;
 use sqlite_value::order::compare;

@@ -4,8 +4,8 @@ use Rattle.std.specs.Prelude.{None, Some, Option, unwrap_or}
 use Rattle.std.specs.Option.{is_some}
 use Rattle.cube_core.specs.Arrival.{Arrivals, of_source}
 use Rattle.cube_core.specs.Layout.{Layout}
-use Rattle.cube_journal.specs.Rows.{Entry}
-use Rattle.cube_journal.specs.State.{LeadsTo, stored_in}
+use Rattle.cube_store.specs.Rows.{Entry}
+use Rattle.cube_store.specs.State.{LeadsTo, stored_in}
 use Rattle.sqlite_trees.specs.View.{View}
 use Rattle.cube_live.specs.Live.{LiveView, LiveStandsAt, last_number}
 use Rattle.cube_stored.specs.Replay.{PassesLast, ReplayView, TakesBehind, TakesStored, TakesWithin}

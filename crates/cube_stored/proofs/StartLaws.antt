@@ -1,8 +1,8 @@
 -- What a start finds in a store.
 use Rattle.std.proofs.Common.{◌≡◌, inl, inr, ◌∙◌, List, IsTrue, sym, ap}
 use Rattle.sqlite_trees.specs.View.{View}
-use Rattle.cube_journal.specs.Rows.{Entry, entries_in}
-use Rattle.cube_journal.specs.State.{Starts, held_in, stored_in, noted_in, form_in, stored_form}
+use Rattle.cube_store.specs.Rows.{Entry, entries_in}
+use Rattle.cube_store.specs.State.{Starts, held_in, stored_in, noted_in, form_in, stored_form}
 
 pub Starts-stored : (notes : List Entry) (was now : View) → Starts notes was now → stored_in now ≡ stored_in was
 Starts-stored notes was now (inl makes) = makes.stored ∙ sym (ap entries_in makes.none_before.0)

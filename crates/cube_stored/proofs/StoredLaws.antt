@@ -7,9 +7,9 @@ use Rattle.sqlite_trees.specs.Tree.{Trees}
 use Rattle.sqlite_trees.specs.View.{View, IsClean}
 use Rattle.cube_core.specs.Items.{is_read}
 use Rattle.cube_core.specs.Layout.{Layout}
-use Rattle.cube_journal.specs.Making.{LeavesNotes}
-use Rattle.cube_journal.specs.Rows.{Entry}
-use Rattle.cube_journal.specs.State.{Holds, LeadsTo, stored_in, noted_in, form_in, stored_form}
+use Rattle.cube_store.specs.Making.{LeavesNotes}
+use Rattle.cube_store.specs.Rows.{Entry}
+use Rattle.cube_store.specs.State.{Holds, LeadsTo, stored_in, noted_in, form_in, stored_form}
 use Rattle.cube_live.specs.Keeping.{FailsKept, Keeping, KeepsBy, KeepsOn, KeepsPart, LeavesAt, Noted, keeping_after}
 use Rattle.cube_live.specs.Keeping.{keeping_by, keeping_with, made_sure, with_change}
 use Rattle.cube_live.specs.Live.{LiveView}

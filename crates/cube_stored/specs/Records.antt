@@ -2,7 +2,7 @@
 use Rattle.std.specs.Prelude.{◌≡◌, ◌==◌, false, ℕ, List, [], ◌∷◌, ◌++◌, map, if◌then◌else◌}
 use Rattle.csv.specs.Writing.{default_writer, is_blank, row_body}
 use Rattle.cube_core.specs.Records.{records_of}
-use Rattle.cube_journal.specs.Rows.{Entry}
+use Rattle.cube_store.specs.Rows.{Entry}
 use Rattle.cube_live.specs.Keeping.{Noted}
 
 -- the text of a record as csv's writer writes it, without its line end (RFC 4180)

@@ -3,7 +3,7 @@ use Rattle.std.specs.Prelude.{◌≡◌, ◌≤◌, ◌-◌, ◌⊎◌, ℕ, Lis
 use Rattle.cube_core.specs.Arrival.{Arrivals, of_source}
 use Rattle.cube_core.specs.Items.{is_read}
 use Rattle.cube_core.specs.Layout.{Layout}
-use Rattle.cube_journal.specs.Rows.{Entry}
+use Rattle.cube_store.specs.Rows.{Entry}
 use Rattle.cube_live.specs.Live.{LiveView, LiveStandsAt, last_number}
 use Rattle.cube_live.specs.Session.{arrivals_changed}
 use Rattle.cube_stored.specs.Records.{fields_in}

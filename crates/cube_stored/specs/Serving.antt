@@ -5,9 +5,9 @@ use Rattle.sqlite_trees.specs.Tree.{Trees}
 use Rattle.sqlite_trees.specs.View.{View}
 use Rattle.cube_core.specs.Arrival.{Arrivals}
 use Rattle.cube_core.specs.Layout.{Layout}
-use Rattle.cube_journal.specs.Making.{LeavesNotes}
-use Rattle.cube_journal.specs.Rows.{Entry}
-use Rattle.cube_journal.specs.State.{held_in, stored_in, stored_form, Holds}
+use Rattle.cube_store.specs.Making.{LeavesNotes}
+use Rattle.cube_store.specs.Rows.{Entry}
+use Rattle.cube_store.specs.State.{held_in, stored_in, stored_form, Holds}
 use Rattle.cube_live.specs.Keeping.{Keeping, LeavesAt, keeping_after}
 use Rattle.cube_live.specs.Live.{LiveView, LiveStandsAt}
 use Rattle.cube_live.specs.Serving.{Answered}

@@ -1,14 +1,13 @@
 //! The journal of a session over a store.
 ghost use Rattle.std.specs.Prelude.{◌≡◌, ◌≤◌, [], IsTrue};
 ghost use Rattle.sqlite_trees.specs.View.{IsClean};
-ghost use Rattle.cube_journal.specs.State.{held_in, stored_in};
+ghost use Rattle.cube_store.specs.State.{held_in, stored_in};
 ghost use Rattle.cube_store.specs.Keeping.{HasKept};
 
 use crate::record::text_of;
 use csv::ByteRecord;
-use cube_journal::ChangeJournal;
+use cube_store::{BatchJournal, ChangeJournal};
 use cube_live::{Journal, JournalFault};
-use cube_store::BatchJournal;
 use sqlite_trees::error::StoreError;
 use sqlite_trees::store::Store;
 use std::alloc::Global;

@@ -8,7 +8,7 @@ ghost use Rattle.cube_stored.specs.Records.{fields_in};
 use crate::plain::{is_plain, read_pieces};
 use csv::ByteRecord;
 use cube_feed::{RecordReader, change_of_record, is_read, put_rest};
-use cube_journal::ChangeSink;
+use cube_store::ChangeSink;
 use cube_live::{Live, LiveFault};
 use std::alloc::{AllocError, Global};
 use std::marker::Model;

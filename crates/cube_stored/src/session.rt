@@ -2,9 +2,9 @@
 ghost use Rattle.std.specs.Prelude.{◌≡◌, ◌≤◌, ◌⊎◌, [], IfOk, IfErr, IfSome};
 ghost use Rattle.sqlite_trees.specs.Tree.{Trees};
 ghost use Rattle.sqlite_trees.specs.View.{IsClean};
-ghost use Rattle.cube_journal.specs.Making.{LeavesNotes};
-ghost use Rattle.cube_journal.specs.Rows.{entries_of};
-ghost use Rattle.cube_journal.specs.State.{stored_in, noted_in, form_in, stored_form, IsStore, IsUnmade, LeadsTo};
+ghost use Rattle.cube_store.specs.Making.{LeavesNotes};
+ghost use Rattle.cube_store.specs.Rows.{entries_of};
+ghost use Rattle.cube_store.specs.State.{stored_in, noted_in, form_in, stored_form, IsStore, IsUnmade, LeadsTo};
 ghost use Rattle.cube_store.specs.Keeping.{HasKept};
 ghost use Rattle.cube_stored.specs.Replay.{TakesStored};
 ghost use Rattle.cube_live.specs.Keeping.{KeepsOn, keeping_after, made_sure};
@@ -15,9 +15,8 @@ ghost use Rattle.cube_stored.specs.Serving.{BreaksStored, ExplainsResume, Serves
 use crate::journal::StoreJournal;
 use crate::replay::Replay;
 use cube_feed::RecordReader;
-use cube_journal::FeedNote;
+use cube_store::{FeedNote, StoreFault, start, start_made};
 use cube_live::{Live, Rests, SessionFault, serve};
-use cube_store::{StoreFault, start, start_made};
 use sqlite_trees::store::Store;
 use std::alloc::Global;
 use std::io::{Read, Write};

@@ -8,13 +8,9 @@ use crate::watch::Watch;
 use crate::{Asked, open_feed, open_schema, question_of, session_threads, settings_of};
 use cube_core::Schema;
 use cube_input::read_ahead;
-use cube_journal::{ChangeJournal, FeedNote};
+use cube_store::{ChangeJournal, FeedNote, NoteFault, StoreFault, Unknown, Wary, close, note_of, open_files, open_made_files, open_path, prepare_path};
 use cube_progress::{Counts, FeedReader, Output, Phase, Progress};
 use cube_live::{NeverRests, Rests};
-use cube_store::{
-    NoteFault, StoreFault, Unknown, Wary, close, note_of, open_files, open_made_files, open_path,
-    prepare_path,
-};
 use cube_stored::Commits;
 use cube_tool::RunFault;
 use cube_tool::command::{Failure, Question, Status};

@@ -10,8 +10,8 @@ use Rattle.cube_core.specs.Run.{SourceBytes}
 use Rattle.cube_rings.specs.FeedingAll.{ExplainsFeeding}
 use Rattle.cube_rings.specs.declared.fault.FeedingFault.{FeedingFault}
 use Rattle.cube_rings.specs.declared.fault.FeedingFault.TheVariants as feeding_fault
-use Rattle.cube_journal.specs.Rows.{Entry}
-use Rattle.cube_journal.specs.State.{Holds, LeadsTo, held_in, noted_in, stored_in, form_in, stored_form}
+use Rattle.cube_store.specs.Rows.{Entry}
+use Rattle.cube_store.specs.State.{Holds, LeadsTo, held_in, noted_in, stored_in, form_in, stored_form}
 use Rattle.cube_live.proofs.RefusalLaws.{refusals_of_accounts}
 use Rattle.cube_live.specs.Live.{CanAsk, IsLive, LiveStandsAt, LiveView}
 use Rattle.cube_live.specs.Opening.{OpensOver}

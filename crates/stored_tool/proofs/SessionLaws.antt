@@ -7,8 +7,8 @@ use Rattle.sqlite_trees.specs.View.{View}
 use Rattle.cube_core.specs.Arrival.{Arrivals}
 use Rattle.cube_core.specs.Layout.{Layout}
 use Rattle.cube_core.specs.Run.{SourceBytes}
-use Rattle.cube_journal.specs.Rows.{Entry}
-use Rattle.cube_journal.specs.State.{stored_in}
+use Rattle.cube_store.specs.Rows.{Entry}
+use Rattle.cube_store.specs.State.{stored_in}
 use Rattle.cube_live.proofs.RefusalLaws.{refusals_of_accounts}
 use Rattle.cube_live.specs.Live.{IsLive, LiveStandsAt, LiveView}
 use Rattle.cube_live.specs.Opening.{OpensOver}

@@ -6,8 +6,8 @@ use Rattle.cube_core.specs.Arrival.{Arrivals, of_sources}
 use Rattle.cube_core.specs.Layout.{Layout}
 use Rattle.cube_core.specs.Run.{SourceBytes, AreGood}
 use Rattle.cube_core.specs.declared.change.Item.{Item}
-use Rattle.cube_journal.specs.Rows.{Entry}
-use Rattle.cube_journal.specs.State.{held_in, stored_in, stored_form, Holds}
+use Rattle.cube_store.specs.Rows.{Entry}
+use Rattle.cube_store.specs.State.{held_in, stored_in, stored_form, Holds}
 use Rattle.cube_live.specs.Opening.{StartsOver}
 use Rattle.cube_live.specs.Shows.{Shows}
 use Rattle.cube_live.specs.declared.request.Question.{Question as LiveQuestion}

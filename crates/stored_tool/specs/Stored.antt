@@ -6,9 +6,9 @@ use Rattle.cube_core.specs.Arrival.{Arrivals, of_sources}
 use Rattle.cube_core.specs.Layout.{Layout}
 use Rattle.cube_core.specs.Run.{SourceBytes}
 use Rattle.cube_core.specs.declared.change.Item.{Item}
-use Rattle.cube_journal.specs.Making.{LeavesNotes}
-use Rattle.cube_journal.specs.Rows.{Entry}
-use Rattle.cube_journal.specs.State.{held_in, stored_in, stored_form, Holds}
+use Rattle.cube_store.specs.Making.{LeavesNotes}
+use Rattle.cube_store.specs.Rows.{Entry}
+use Rattle.cube_store.specs.State.{held_in, stored_in, stored_form, Holds}
 use Rattle.cube_live.specs.Keeping.{LeavesAt}
 use Rattle.cube_live.specs.Opening.{StartsOver}
 use Rattle.cube_live.specs.Session.{AreReplies, arrivals_after}

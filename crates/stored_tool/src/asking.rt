@@ -2,7 +2,7 @@
 ghost use Rattle.std.specs.Prelude.{◌≡◌, ◌≤◌, map, vec_len, IfOk, IfErr};
 ghost use Rattle.sqlite_trees.specs.View.{IsClean};
 ghost use Rattle.cube_core.specs.Arrival.{Arrivals};
-ghost use Rattle.cube_journal.specs.Rows.{entries_of};
+ghost use Rattle.cube_store.specs.Rows.{entries_of};
 ghost use Rattle.cube_live.specs.Live.{LiveStandsAt};
 ghost use Rattle.cube_tool.specs.Answering.{Fits};
 ghost use Rattle.cube_tool.specs.Run.{OfFeeds};

@@ -1,5 +1,5 @@
 //! What a command over a store takes.
-use cube_journal::FeedNote;
+use cube_store::FeedNote;
 use cube_live::Rests;
 use cube_stored::Commits;
 use std::io::Read;

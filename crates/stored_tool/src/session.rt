@@ -2,7 +2,7 @@
 ghost use Rattle.std.specs.Prelude.{◌≤◌, map, option_map, vec_len, IfOk, IfErr, IfSome};
 ghost use Rattle.sqlite_trees.specs.View.{IsClean};
 ghost use Rattle.cube_core.specs.Records.{records_of};
-ghost use Rattle.cube_journal.specs.Rows.{entries_of};
+ghost use Rattle.cube_store.specs.Rows.{entries_of};
 ghost use Rattle.cube_tool.specs.Run.{OfFeeds};
 ghost use Rattle.stored_tool.specs.Stored.{FailsToServeStored, ServesStoredOver};
 
@@ -10,7 +10,7 @@ use crate::failure::StoredFailure;
 use crate::feeds::{SessionInput, StoredFeeds};
 use cube_core::Schema;
 use cube_feed::RecordReader;
-use cube_journal::ChangeJournal;
+use cube_store::ChangeJournal;
 use cube_live::{Rests, open_unsettled};
 use cube_stored::serve_stored;
 use cube_build::{Gate, Settings};

@@ -5,7 +5,7 @@ use Rattle.sqlite_pool.specs.Stored.{Recovers}
 use Rattle.sqlite_store.specs.Opening.{IsEmptyFile}
 use Rattle.sqlite_store.specs.Unopened.{image}
 use Rattle.sqlite_trees.proofs.Doubt.{clean_of}
-use Rattle.cube_journal.specs.declared.form.RowForm.TheVariants.{Chained}
+use Rattle.cube_store.specs.declared.form.RowForm.TheVariants.{Chained}
 use Rattle.cube_store.proofs.FileLaws as laws
 use Rattle.cube_store.proofs.files.make_tables.Goals as goal
 

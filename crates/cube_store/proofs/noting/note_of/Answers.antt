@@ -1,7 +1,7 @@
 use Rattle.std.proofs.Common.{◌≡◌, ◌++◌, ◌∙◌, ℕ, List, length, take, drop, sym, ap, subst}
 use Rattle.std.proofs.lemmas.List.{length-take-le}
 use Rattle.sha2.specs.Hashers.{Holds256}
-use Rattle.cube_journal.specs.declared.note.FeedNote.{FeedNote}
+use Rattle.cube_store.specs.declared.note.FeedNote.{FeedNote}
 use Rattle.cube_store.proofs.NotingLaws as laws
 use Rattle.cube_store.proofs.noting.note_of.Goals as goal
 

@@ -1,4 +1,4 @@
-use Rattle.cube_journal.specs.Rows.{entries_of}
+use Rattle.cube_store.specs.Rows.{entries_of}
 use Rattle.cube_stored.proofs.StoredLaws as laws
 use Rattle.cube_stored.proofs.session.serve_stored.Goals as goal
 

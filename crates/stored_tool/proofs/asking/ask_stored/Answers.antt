@@ -1,5 +1,5 @@
 use Rattle.std.proofs.Common.{map}
-use Rattle.cube_journal.specs.Rows.{entries_of}
+use Rattle.cube_store.specs.Rows.{entries_of}
 use Rattle.stored_tool.proofs.AskingLaws as laws
 use Rattle.stored_tool.proofs.asking.ask_stored.Goals as goal
 

@@ -1,5 +1,5 @@
 use Rattle.std.proofs.Common.{refl}
-use Rattle.cube_journal.specs.Rows.{entries_of}
+use Rattle.cube_store.specs.Rows.{entries_of}
 use Rattle.stored_tool.proofs.SessionLaws as laws
 use Rattle.stored_tool.proofs.session.live_stored.Goals as goal
 

@@ -1,6 +1,6 @@
 use Rattle.std.proofs.Common.{[], ◌∷◌, ◌+◌, ◌∙◌, arith}
 use Rattle.sqlite_trees.specs.View.{IsClean}
-use Rattle.cube_journal.specs.Rows.{Entry}
+use Rattle.cube_store.specs.Rows.{Entry}
 use Rattle.cube_store.specs.Keeping.{Batch}
 use Rattle.cube_store.proofs.KeepingLaws as laws
 use Rattle.cube_store.proofs.batch.BatchJournal.append.Goals as goal

@@ -1,0 +1,114 @@
+//! Why a store isn't opened, or can't go on.
+use crate::fault::OpenFault;
+use sqlite_store::OpenError;
+use sqlite_trees::error::StoreError;
+use std::io::ErrorKind;
+use thiserror::Error;
+
+/// Why a store isn't opened, or can't go on. The text of each is its code.
+#[derive(Clone, Copy, Debug, PartialEq, Eq, Error)]
+pub enum StoreFault {
+    /// Another process has the store open.
+    #[error("D1")]
+    InUse,
+    /// The file can't be opened or made.
+    #[error("D2")]
+    CantOpen,
+    /// The file isn't a store, or it is damaged.
+    #[error("D3")]
+    NotAStore,
+    /// The row in this place isn't a change.
+    #[error("D4 {0}")]
+    Row(u64),
+    /// The digest of the row in this place isn't the one that chains it to those before it.
+    #[error("D9 {0}")]
+    Digest(u64),
+    /// The feed of this source isn't the one that was noted; 0 is the schema's file.
+    #[error("D5 {0}")]
+    Feed(u64),
+    /// A read or a write of the file failed.
+    #[error("D6")]
+    Failed,
+    /// The disk is full, or the file has no room for a row.
+    #[error("D7")]
+    NoRoom,
+    /// A growth was refused.
+    #[error("D8")]
+    Memory,
+}
+
+impl From<StoreError> for StoreFault {
+    ghost use Rattle.std.specs.Prelude.{◌≡◌};
+    ghost use Rattle.cube_store.specs.Codes.{code_of_failure};
+
+    ghost from_gives = { λ error fault. fault ≡ code_of_failure error };
+
+    fn from(error: StoreError) -> StoreFault {
+        match error {
+            StoreError::OutOfMemory => StoreFault::Memory,
+            StoreError::Io | StoreError::Corrupt | StoreError::Broken => StoreFault::Failed,
+            StoreError::Full | StoreError::Unstorable => StoreFault::NoRoom,
+        }
+    }
+}
+
+impl From<OpenFault> for StoreFault {
+    ghost use Rattle.std.specs.Prelude.{◌≡◌};
+    ghost use Rattle.cube_store.specs.Codes.{open_code_of};
+
+    ghost from_gives = { λ error fault. fault ≡ open_code_of error };
+
+    fn from(fault: OpenFault) -> StoreFault {
+        match fault {
+            OpenFault::Store(error) => StoreFault::from(error),
+            OpenFault::NoTables | OpenFault::TooMany => StoreFault::NotAStore,
+            OpenFault::Feed(source) => StoreFault::Feed(source),
+            OpenFault::Row(number) => StoreFault::Row(number),
+            OpenFault::Digest(number) => StoreFault::Digest(number),
+        }
+    }
+}
+
+impl From<OpenError> for StoreFault {
+    ghost use Rattle.std.specs.Prelude.{◌≡◌};
+    ghost use Rattle.cube_store.specs.Codes.{file_code_of};
+
+    ghost from_gives = { λ error fault. fault ≡ file_code_of error };
+
+    fn from(error: OpenError) -> StoreFault {
+        match error {
+            OpenError::OutOfMemory => StoreFault::Memory,
+            OpenError::Io => StoreFault::Failed,
+            OpenError::Full => StoreFault::NoRoom,
+            OpenError::Refused => StoreFault::NotAStore,
+        }
+    }
+}
+
+impl From<sqlite_wal::Error> for StoreFault {
+    ghost use Rattle.std.specs.Prelude.{◌≡◌};
+    ghost use Rattle.cube_store.specs.Codes.{look_code_of};
+
+    ghost from_gives = { λ error fault. fault ≡ look_code_of error };
+
+    fn from(error: sqlite_wal::Error) -> StoreFault {
+        match error {
+            sqlite_wal::Error::OutOfMemory => StoreFault::Memory,
+            sqlite_wal::Error::Io(_) => StoreFault::Failed,
+            sqlite_wal::Error::Full => StoreFault::NoRoom,
+            _ => StoreFault::NotAStore,
+        }
+    }
+}
+
+impl From<sqlite_std_file::OpenError> for StoreFault {
+    fn from(error: sqlite_std_file::OpenError) -> StoreFault {
+        match error {
+            sqlite_std_file::OpenError::OutOfMemory => StoreFault::Memory,
+            sqlite_std_file::OpenError::Busy => StoreFault::InUse,
+            sqlite_std_file::OpenError::Io(error) if error.kind() == ErrorKind::OutOfMemory =>
+                StoreFault::Memory,
+            _ => StoreFault::CantOpen,
+        }
+    }
+}
