@@ -11,7 +11,7 @@ use cube_input::read_ahead;
 use cube_store::{ChangeJournal, FeedNote, NoteFault, StoreFault, Unknown, Wary, close, note_of, open_files, open_made_files, open_path, prepare_path};
 use cube_progress::{Counts, FeedReader, Output, Phase, Progress};
 use cube_live::{NeverRests, Rests};
-use cube_stored::Commits;
+use cube_store_commands::{Commits, SessionInput, StoredFailure, StoredFeeds, ask_stored, live_stored};
 use cube_tool::RunFault;
 use cube_tool::command::{Failure, Question, Status};
 use cube_words::{LiveWords, RunWords};
@@ -25,7 +25,6 @@ use std::io::{Read, Seek, Stderr};
 use std::sync::Wait;
 use std::thread::Threads;
 use std::time::Clock;
-use stored_tool::{SessionInput, StoredFailure, StoredFeeds, ask_stored, live_stored};
 
 /// Where a store is, and how it starts.
 #[derive(Drop)]

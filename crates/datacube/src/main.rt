@@ -35,7 +35,7 @@ use std::sync::Wait;
 use std::thread::Threads;
 use std::time::Clock;
 use std::{env, io, mem, thread};
-use stored_tool::StoredFailure;
+use cube_store_commands::StoredFailure;
 
 /// The most threads that a run works with once its feeds have ended.
 const MOST_THREADS: usize = 16;

@@ -1,0 +1,8 @@
+mod PieceLaws
+mod RecordLaws
+mod KeepingLaws
+pub mod ReplayLaws
+mod StartLaws
+mod StoredLaws
+mod AskingLaws
+mod SessionLaws

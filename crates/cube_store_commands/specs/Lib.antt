@@ -1,0 +1,7 @@
+pub mod Pieces
+pub mod Records
+pub mod Replay
+pub mod Kept
+pub mod Serving
+pub mod Asking
+pub mod Stored

@@ -1,6 +1,0 @@
-mod PieceLaws
-mod RecordLaws
-mod KeepingLaws
-pub mod ReplayLaws
-mod StartLaws
-mod StoredLaws

@@ -1,5 +1,0 @@
-pub mod Pieces
-pub mod Records
-pub mod Replay
-pub mod Kept
-pub mod Serving

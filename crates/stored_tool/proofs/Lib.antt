@@ -1,2 +1,0 @@
-mod AskingLaws
-mod SessionLaws
