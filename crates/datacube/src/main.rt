@@ -5,7 +5,7 @@
 ghost use Rattle.std.specs.Prelude.{◌≡◌, ◌≤◌, length, vec_len, IfOk, IfSome};
 ghost use Rattle.cube_core.specs.Shard.{IsShard};
 ghost use Rattle.cube_tool.specs.Answering.{Fits};
-ghost use Rattle.cube_words.specs.CommandLine.{RunHasRoom, IsInBounds, IsUpTo, LiveHasRoom};
+ghost use Rattle.cube_console.specs.CommandLine.{RunHasRoom, IsInBounds, IsUpTo, LiveHasRoom};
 
 mod kept;
 mod named;
@@ -16,7 +16,7 @@ use crate::kept::{ask_kept, serve_kept};
 use crate::named::named_cubes;
 use crate::watch::Watch;
 use cube_core::{HashKey, Schema, Shard};
-use cube_progress::{Counts, CubeReader, FeedReader, Output, Phase, Progress};
+use cube_console::{Counts, CubeReader, FeedReader, LiveWords, MergeWords, Output, Phase, Progress, Request, RunWords, clashing_words, read_words, unlawful_shard, unreadable_words};
 use cube_build::Settings;
 use cube_tool::command::{
     FEED_NOTES, Failure, LATER_NOTES, Question, RUN_NOTES, SCHEMA_NOTES, STORE_NOTES, Status,
@@ -24,10 +24,6 @@ use cube_tool::command::{
     read_dimension, read_pattern, read_schema, read_shard, run_sample,
 };
 use cube_tool::{InputFault, MergeFault, RunFault};
-use cube_words::{
-    LiveWords, MergeWords, Request, RunWords, clashing_words, read_words, unlawful_shard,
-    unreadable_words,
-};
 use std::fs::File;
 use std::io::{IsTerminal, Stderr};
 use std::process::ExitCode;

@@ -1,5 +1,5 @@
 //! The pauses of standard input, as what a session asks whether its input rests.
-use cube_input::Pauses;
+use cube_console::Pauses;
 use cube_live::Rests;
 use std::sync::Wait;
 use std::time::Clock;

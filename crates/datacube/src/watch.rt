@@ -1,5 +1,5 @@
 //! The progress of a command as the watcher of its run.
-use cube_progress::{Phase, Progress};
+use cube_console::{Phase, Progress};
 use cube_tool::{Gate, Reporter};
 use std::io::Stderr;
 use std::sync::Wait;

@@ -1,0 +1,3 @@
+mod CommandLineLaws
+mod RequestLaws
+mod EndsLaws

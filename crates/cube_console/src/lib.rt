@@ -1,0 +1,37 @@
+//! The words of the program's command line: what they ask for, as `clap` reads them, and what the help says.
+//!
+//! The progress line: how far a command is, on one line of a terminal, which is rewritten while the command runs and
+//! gone at its end.
+//!
+//! The work only counts and says at what it is. A thread of its own shows the line ([`Progress::show_until_over`]).
+//!
+//! An input that a thread of its own reads ahead, so that whoever takes its records sees where it rests.
+//!
+//! [`read_ahead`] starts the thread. An [`Ahead`] gives the bytes as they came, and a [`Pauses`] tells whether no record came
+//! for a second. The thread isn't joined: it may wait for input for good.
+#![tactic(auto)]
+
+mod ahead;
+mod command_line;
+mod commands;
+mod counts;
+mod figures;
+mod input;
+mod output;
+mod pace;
+mod phase;
+mod place;
+mod post;
+mod progress;
+mod request;
+mod screen;
+mod words;
+
+pub use ahead::{Ahead, Pauses, read_ahead};
+pub use counts::Counts;
+pub use input::{CubeReader, FeedReader};
+pub use output::Output;
+pub use phase::Phase;
+pub use progress::Progress;
+pub use request::{LiveWords, MergeWords, Request, RunWords};
+pub use words::{clashing_words, read_words, unlawful_shard, unreadable_words};

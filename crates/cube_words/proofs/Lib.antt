@@ -1,2 +1,0 @@
-mod CommandLineLaws
-mod RequestLaws
