@@ -1,5 +1,5 @@
 use Rattle.std.proofs.Common.{◌≡◌, vec_len}
-use Rattle.run_tests.proofs.texts.readers_of.Given as goal
+use Rattle.cube_tests.proofs.texts.readers_of.Given as goal
 
 abbrev pub invariant-loop-feed : goal.invariant-loop-feed
 invariant-loop-feed l = vec_len l.readers ≡ l.feed-index

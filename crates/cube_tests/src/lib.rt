@@ -1,4 +1,6 @@
 //! Tests of runs in threads with gates that hold them, and of readers and writers that fail.
+//!
+//! Tests of links.
 #![tactic(auto)]
 
 #[cfg(test)]
@@ -14,8 +16,12 @@ mod held;
 #[cfg(test)]
 mod meetings;
 #[cfg(test)]
+mod tests;
+#[cfg(test)]
 mod texts;
 #[cfg(test)]
 mod turn;
 #[cfg(test)]
 mod writers;
+
+

@@ -1,5 +1,0 @@
-//! Tests of links.
-#![tactic(auto)]
-
-#[cfg(test)]
-mod tests;
