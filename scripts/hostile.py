@@ -27,7 +27,7 @@ import programs
 HERE = os.path.dirname(os.path.abspath(__file__))
 # (its sub-command `run` is run_plain over a schema and feeds, where rt ci or rt run built it)
 BENCH = os.path.join(HERE, "..", "crates", "bench", "out", "bench")
-# (it makes a call that adds something once more where memory was wanting)
+# (it makes a call that adds something once more where memory ran out)
 DRIVER = os.path.join(HERE, "..", "crates", "cube_calls", "out", "cube_calls")
 # (the folder of the driver for Dask)
 DASK = os.path.join(HERE, "..", "cluster")

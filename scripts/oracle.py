@@ -5,7 +5,7 @@
 
 It takes the words of `datacube` and answers as that does, so that a case says of both what is wanted of them:
 `scripts/cases.py --program scripts/oracle.py`. Only the texts of help and of codes, and of what is wrong with
-a command line are its own, and it meets no want of memory.
+a command line are its own, and it never runs out of memory.
 
 A feed is a list of records, each a list of fields (bytes). `encode` writes a feed as CSV, `records_of` reads one.
 """

@@ -13,9 +13,8 @@ import sys
 
 ROOT = os.path.dirname(os.path.dirname(os.path.realpath(__file__)))
 # the crates of the library, from the values up
-CRATES = ["cube_core", "cube_feed", "cube_numbers", "cube_counts", "cube_cells", "cube_ledger", "cube_engine", "cube_link", "cube_handover",
-          "cube_feeders", "cube_threads", "cube_words", "cube_writing", "cube_text", "cube_tool", "cube_live", "cube_session",
-          "merge_lines", "cube_merge", "cube_library", "cube_journal", "cube_store", "cube_stored", "stored_tool"]
+CRATES = ["cube_core", "cube_feed", "cube_values", "cube_cells", "cube_ledger", "cube_rings", "cube_build", "cube_console", "cube_writing",
+          "cube_text", "cube_tool", "cube_live", "merge_lines", "cube_merge", "cube_library", "cube_store", "cube_store_commands"]
 PLACE = re.compile(r"(<!-- promises -->\n).*?(<!-- end of promises -->)", re.DOTALL)
 
 OWNER = re.compile(r"(impl|pub trait|trait)(?:<.*?>)? (\w+)")
@@ -41,7 +40,7 @@ class Call:
 
 
 class Module:
-    """What a file has: its calls, its types with their variants, what it gives on, and its public modules."""
+    """What a file has: its calls, its types with their variants, what it re-exports, and its public modules."""
 
     def __init__(self, path):
         with open(path, encoding="utf-8") as file:
@@ -92,7 +91,7 @@ class Module:
 
 
 def one_of(path):
-    """What `pub use a::b` gives on, as a path and a name."""
+    """What `pub use a::b` re-exports, as a path and a name."""
     front, _, name = path.rpartition("::")
     return front, [name]
 
@@ -134,7 +133,7 @@ class Crate:
         self.show("", "")
 
     def show(self, path, shown):
-        """Takes in what a public module has and gives on; `shown` is its path as callers say it."""
+        """Takes in what a public module has and re-exports; `shown` is its path as callers say it."""
         module = self.modules[path]
         self.take(module, shown, [it.name for it in module.calls if not it.owner], list(module.types))
         for front, names in module.uses:
@@ -202,7 +201,7 @@ def tables_of(crate):
     if crate.calls:
         made.append("")
     for other, names in crate.given_on.items():
-        made += [f"It gives on from `{other}`: " + ", ".join(f"`{it}`" for it in names) + ".", ""]
+        made += [f"It re-exports from `{other}`: " + ", ".join(f"`{it}`" for it in names) + ".", ""]
     errors = {it for _, call in crate.calls for it in [call.error]}
     faults = {name: it for name, it in crate.types.items() if name in errors or name.endswith("Fault")}
     if faults:

@@ -7,8 +7,8 @@ ghost use Rattle.std.specs.Prelude.{◌≤◌, ◌<◌, ◌+◌, ◌^◌, length
 
 use crate::measure::{cpu_nanos, nanos_since};
 use anyhow::{Result, anyhow, ensure};
-use cube_core::Schema;
 use cube_build::{Builder, build_plain};
+use cube_core::Schema;
 use cube_feed::Feed;
 use cube_ledger::build_ledger;
 use std::alloc::{AllocError, Global};

@@ -47,7 +47,7 @@ impl<N: Numbers> HoldsCube<N> for Builder<N> {
 
 impl Builder {
     /// A builder of 1 to 64 sources of which no item came, over all grouping sets of the schema. The only error is
-    /// want of memory.
+    /// that memory ran out.
     pub fn new(alloc: Global, schema: &Schema, sources: u32) -> Result<Builder, AllocError>
         requires { sources ≤ 64 }
         ensures schema { IfOk result (λ builder. builder.ledger.schema ≡ schema.now) }
@@ -81,7 +81,7 @@ impl Builder {
     }
 
     /// The builder of a ledger, whose cube is filled with the facts of all its books; `cube` has no fact yet. The
-    /// only error is want of memory, or of numbers to count the facts with.
+    /// only error is that memory ran out, or of numbers to count the facts with.
     pub fn of(ledger: Ledger, cube: Cube) -> Result<Builder, AllocError>
         requires schema { cube.schema ≡ ledger.schema }
         requires empty { HasFacts [] cube }
@@ -97,7 +97,7 @@ impl Builder {
     /// Takes an item of a source: a refused one is noted with its code, and any other changes the book of the source
     /// and the cells.
     ///
-    /// The only error is want of memory; then books and refusals are as they were, the cells count what they counted,
+    /// The only error is that memory ran out; then books and refusals are as they were, the cells count what they counted,
     /// and the item is given up. A delete that isn't refused never answers it.
     pub fn apply(&mut self, source: u32, item: Item) -> Result<(), AllocError>
         requires first { 1 ≤ source }

@@ -48,7 +48,7 @@ fn feed_parts<T: Threads + Wait + Sync, R: Read + Drop + Send, G: Gate + Sync>(
     )
 }
 
-// Makes the builder of each part, by so many threads, and keeps them all. The only error is want of memory.
+// Makes the builder of each part, by so many threads, and keeps them all. The only error is that memory ran out.
 fn complete<T: Threads + Sync>(
     rt: &T,
     threads: usize,

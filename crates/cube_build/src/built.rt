@@ -6,11 +6,11 @@ ghost use Rattle.cube_core.specs.declared.key.Row.{Row};
 ghost use Rattle.cube_cells.specs.Rows.{AreRowsInOrder, GivesUnless};
 ghost use Rattle.cube_build.specs.Parts.{AreParts, AreRowsOfRun, IsRowOfRun, schema_of_run, facts_of_run};
 
+use crate::builder::Builder;
+use crate::joined::{DrillDown, Slice, ordered_parts_with, row_above, rows_of_parts};
 use crate::making::{Links, Making};
 use cube_cells::{OrderedCells, Summary};
 use cube_core::{Key, Pattern, QueryFault, Row, Schema};
-use crate::builder::Builder;
-use crate::joined::{DrillDown, Slice, ordered_parts_with, row_above, rows_of_parts};
 use cube_rings::{Inlet, Parcel};
 use std::alloc::AllocError;
 use std::marker::Model;
@@ -84,7 +84,7 @@ impl Built {
     }
 
     /// The cells of all parts in key order, sorted by so many threads, for rows that are made one at a time. The only
-    /// error is want of memory.
+    /// error is that memory ran out.
     pub fn ordered_with<T: Threads + Sync>(
         &self,
         rt: &T,
@@ -96,7 +96,7 @@ impl Built {
         ordered_parts_with(rt, threads, self.builders())
     }
 
-    /// The rows of all parts whose keys a pattern matches, in key order. The only error is want of memory.
+    /// The rows of all parts whose keys a pattern matches, in key order. The only error is that memory ran out.
     pub fn slice(&self, pattern: &Pattern) -> Result<Vec<Row>, AllocError>
         ensures { IfOk result (λ rows.
             AreRowsOfRun (matches pattern.now) self.now rows.items) }
@@ -105,7 +105,7 @@ impl Built {
     }
 
     /// The row of a key with ALL in a dimension, counted from 0, by a look-up in each part; `None` exactly where that is
-    /// no cell, as where its grouping set isn't one of the schema's. The only error is want of memory.
+    /// no cell, as where its grouping set isn't one of the schema's. The only error is that memory ran out.
     pub fn roll_up(&self, key: &Key, dim: usize) -> Result<Option<Row>, AllocError>
         requires dim { dim < length (schema_of_run self.now).dimensions }
         requires width { length key.now.coords ≡ length (schema_of_run self.now).dimensions }

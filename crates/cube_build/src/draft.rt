@@ -4,9 +4,9 @@ ghost use Rattle.std.specs.List.{All};
 ghost use Rattle.cube_core.specs.Arrival.{Arrivals};
 ghost use Rattle.cube_build.specs.Drafts.{DraftView, StandsFrom, IsNewDraft, AreNewDrafts, IsDraftOf, IsMadeOf};
 
+use crate::builder::Builder;
 use cube_cells::{Cube, Summary};
 use cube_core::Schema;
-use crate::builder::Builder;
 use cube_feed::{FeedItem, TakesItems};
 use cube_ledger::Ledger;
 use std::alloc::{AllocError, Global};
@@ -73,7 +73,7 @@ impl Draft {
     }
 
     /// The draft over all grouping sets of the ledgers of shares, with their accounts in their order. The only error is
-    /// want of memory.
+    /// that memory ran out.
     pub fn of_shares(
         alloc: Global,
         schema: &Schema,
@@ -88,7 +88,7 @@ impl Draft {
         Ok(Draft { ledger, cube })
     }
 
-    // Takes the next item of a source. The only error is want of memory.
+    // Takes the next item of a source. The only error is that memory ran out.
     fn apply(&mut self, source: u32, item: FeedItem) -> Result<(), AllocError>
         requires { (1 ≤ source) × (source ≤ length self.old.ledger.accounts) }
         ensures sources { length self.new.ledger.accounts ≡ length self.old.ledger.accounts }
@@ -101,7 +101,7 @@ impl Draft {
         self.ledger.apply_fed(source, item)
     }
 
-    /// The builder of the ledger, with the cube filled by so many threads. The only error is want of memory.
+    /// The builder of the ledger, with the cube filled by so many threads. The only error is that memory ran out.
     pub fn finish<T: Threads + Sync>(
         self,
         rt: &T,
@@ -113,7 +113,7 @@ impl Draft {
     }
 }
 
-/// The drafts of so many parts, in their order. The only error is want of memory.
+/// The drafts of so many parts, in their order. The only error is that memory ran out.
 pub(crate) fn new_drafts(
     alloc: Global,
     schema: &Schema,
@@ -131,7 +131,7 @@ pub(crate) fn new_drafts(
     Ok(drafts)
 }
 
-// A ledger with the accounts of these, which have its schema, in their order. The only error is want of memory.
+// A ledger with the accounts of these, which have its schema, in their order. The only error is that memory ran out.
 fn put_together(alloc: Global, schema: &Schema, ledgers: Vec<Ledger>) -> Result<Ledger, AllocError>
     requires schema { All (λ ledger. ledger.schema ≡ schema.now) ledgers.items }
     requires most { sum_by (λ ledger. length ledger.accounts) ledgers.items ≤ 64 }

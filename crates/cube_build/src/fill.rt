@@ -13,7 +13,7 @@ use cube_ledger::{Book, Ledger};
 use std::alloc::AllocError;
 use std::thread::Threads;
 
-/// Fills a cube with the facts of all books of a ledger. The only error is want of memory, or of numbers to count the facts
+/// Fills a cube with the facts of all books of a ledger. The only error is that memory ran out, or of numbers to count the facts
 /// with.
 pub fn fill_cube(cube: &mut Cube, ledger: &Ledger) -> Result<(), AllocError>
     requires fit { AllFit ledger.now.schema (all_facts ledger.now.accounts) }
@@ -26,7 +26,7 @@ pub fn fill_cube(cube: &mut Cube, ledger: &Ledger) -> Result<(), AllocError>
     Ok(())
 }
 
-// Adds the facts of all books of a ledger to a cube of the same schema. The only error is want of memory, or of
+// Adds the facts of all books of a ledger to a cube of the same schema. The only error is that memory ran out, or of
 // numbers to count the facts with.
 fn fill(cube: &mut Cube, ledger: &Ledger) -> Result<(), AllocError>
     requires { cube.old.schema ≡ ledger.now.schema }
@@ -61,7 +61,7 @@ pub fn add_counted(cube: &mut Cube, fact: &Fact) -> Result<(), AllocError>
 }
 
 /// Fills a cube as [`fill_cube`] does, with its cells made by as many threads as this says. With one thread, or none, no
-/// thread is started. The only error is want of memory.
+/// thread is started. The only error is that memory ran out.
 pub fn fill_cube_with<T: Threads + Sync>(
     rt: &T,
     threads: usize,
@@ -77,7 +77,7 @@ pub fn fill_cube_with<T: Threads + Sync>(
 }
 
 // The cube of the facts of all books of a ledger over the finest grouping set, with the schema of a cube, made by as
-// many threads as this says. With one thread no thread is started. The only error is want of memory.
+// many threads as this says. With one thread no thread is started. The only error is that memory ran out.
 fn finest_with<T: Threads + Sync>(
     rt: &T,
     threads: usize,

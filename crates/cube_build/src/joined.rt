@@ -34,7 +34,7 @@ pub trait AsksCube<N: Numbers> {
     // A cube of this schema can be asked.
     ghost can_ask: { Self → Layout → Type 0 };
 
-    /// The rows of a cube whose keys pass. The only error is want of memory.
+    /// The rows of a cube whose keys pass. The only error is that memory ran out.
     fn rows_of(&self, cube: &Cube<N>) -> Result<Vec<Row>, AllocError>
         requires { can_ask self.now cube.now.schema }
         ensures { IfOk result (λ rows. AnswersIn (test self.now) cube.now rows.items) };
@@ -77,7 +77,7 @@ impl<'q, N: Numbers> AsksCube<N> for DrillDown<'q> {
     }
 }
 
-/// The rows of all parts that a question is for, in key order. The only error is want of memory.
+/// The rows of all parts that a question is for, in key order. The only error is that memory ran out.
 pub fn rows_of_parts<N: Numbers, P: HoldsCube<N>, Q: AsksCube<N>>(
     parts: &[P],
     question: &Q,
@@ -98,7 +98,7 @@ pub fn rows_of_parts<N: Numbers, P: HoldsCube<N>, Q: AsksCube<N>>(
 }
 
 // The rows of several parts, each part's in key order and one after the other, in the key order of all. The only
-// error is want of memory.
+// error is that memory ran out.
 fn in_key_order(rows: Vec<Row>) -> Result<Vec<Row>, AllocError>
     ensures same { IfOk result (λ sorted. IsPermutation rows.items sorted.items) }
     ensures order { IfOk result (λ sorted.
@@ -110,7 +110,7 @@ fn in_key_order(rows: Vec<Row>) -> Result<Vec<Row>, AllocError>
 }
 
 /// The row of a key with ALL in a dimension, counted from 0, by a look-up in each part; `None` exactly where that is no
-/// cell of the whole cube. The only error is want of memory.
+/// cell of the whole cube. The only error is that memory ran out.
 pub fn row_above<N: Numbers, P: HoldsCube<N>>(
     parts: &[P],
     key: &Key,
@@ -129,7 +129,7 @@ pub fn row_above<N: Numbers, P: HoldsCube<N>>(
     Ok(None)
 }
 
-/// The cells of all parts in key order, for rows that are made one at a time. The only error is want of memory.
+/// The cells of all parts in key order, for rows that are made one at a time. The only error is that memory ran out.
 pub fn ordered_parts<N: Numbers, P: HoldsCube<N>>(
     parts: &[P],
 ) -> Result<OrderedCells<'_, N>, AllocError>

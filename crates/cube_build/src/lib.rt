@@ -1,11 +1,8 @@
 //! Builders: the ledger of many sources, and the cube of its facts.
 //!
 //! A [`Builder`] keeps a ledger and the cube of its facts, [`Parted`] a ledger and the cubes of parts. Cubes of parts
-//! ([`HoldsCube`]) are asked together, and answer as their whole cube.
-//!
-//! The build in threads: builders of the feeds of all sources, and what they built.
-//!
-//! [`build`] runs a feeder for each source and gives back what the builders made of the feeds.
+//! ([`HoldsCube`]) are asked together, and answer as their whole cube. [`build`] runs a feeder for each source and gives back
+//! what the builders made of the feeds, on threads; [`build_plain`] does so on the caller's thread.
 #![tactic(auto)]
 
 mod builder;
@@ -24,6 +21,9 @@ pub use builder::Builder;
 pub use building::build;
 pub use built::Built;
 pub use cube_rings::{FeedingFault, Gate, OpenGate, Parcel, Settings};
-pub use joined::{AsksCube, DrillDown, HoldsCube, Slice, ordered_parts, ordered_parts_with, row_above, rows_of_parts};
+pub use joined::{
+    AsksCube, DrillDown, HoldsCube, Slice, ordered_parts, ordered_parts_with, row_above,
+    rows_of_parts,
+};
 pub use parted::{Part, Parted};
 pub use plain::build_plain;

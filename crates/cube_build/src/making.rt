@@ -2,9 +2,9 @@
 ghost use Rattle.std.specs.Prelude.{◌≡◌, ◌<◌, ◌++◌, ◌∷◌, [], ℕ, map, option_map, slice_index_or, vec_len, IfOk, IfSome, OnOk, Option, Some};
 ghost use Rattle.cube_build.specs.Drafts.{IsMadePart};
 
+use crate::builder::Builder;
 use crate::draft::Draft;
 use cube_cells::Summary;
-use crate::builder::Builder;
 use cube_rings::{Gatherer, Inlet, Parcel};
 use std::alloc::{AllocError, Global};
 use std::thread;
@@ -17,7 +17,7 @@ pub(crate) struct MadePart {
     pub inlets: Vec<Inlet<Parcel>>,
 }
 
-// The builder of a part, filled by so many threads, unless memory is wanting.
+// The builder of a part, filled by so many threads, unless memory runs out.
 fn make<T: Threads + Sync>(rt: &T, threads: usize, gatherer: Gatherer<Draft>) -> Option<MadePart>
     ensures { IfSome result (IsMadePart gatherer) }
 {
@@ -31,8 +31,8 @@ fn make<T: Threads + Sync>(rt: &T, threads: usize, gatherer: Gatherer<Draft>) ->
     Some(MadePart { builder, inlets })
 }
 
-/// The builder of each part, where memory wasn't wanting for it. Each is made on a thread of its own, where one can be
-/// started, and fills its cube by its share of so many threads. The only error is want of memory.
+/// The builder of each part, where memory didn't run out for it. Each is made on a thread of its own, where one can be
+/// started, and fills its cube by its share of so many threads. The only error is that memory ran out.
 pub(crate) fn make_all<T: Threads + Sync>(
     rt: &T,
     threads: usize,
@@ -61,7 +61,7 @@ pub(crate) struct Making {
 }
 
 impl Making {
-    /// No builder, and room for so many. The only error is want of memory.
+    /// No builder, and room for so many. The only error is that memory ran out.
     pub fn with_room(alloc: Global, builders: usize) -> Result<Making, AllocError>
         ensures builders { IfOk result (λ making. making.builders.items ≡ []) }
         ensures links { IfOk result (λ making. making.links.items ≡ []) }
@@ -72,7 +72,7 @@ impl Making {
         })
     }
 
-    /// Keeps the builder of each part, in their order, with its inlets. The only error is want of memory, where one
+    /// Keeps the builder of each part, in their order, with its inlets. The only error is that memory ran out, where one
     /// wasn't made too.
     pub fn keep_all(&mut self, made: Vec<Option<MadePart>>) -> Result<(), AllocError>
         requires none { self.old.builders.items ≡ [] }

@@ -85,7 +85,7 @@ impl Parted {
 
     /// Takes an item of a source: a refused one is noted with its code, and any other changes the book of the source.
     ///
-    /// The only error is want of memory; then nothing changed, and the item is given up.
+    /// The only error is that memory ran out; then nothing changed, and the item is given up.
     pub fn apply(&mut self, source: u32, item: Item) -> Result<(), AllocError>
         requires first { 1 ≤ source }
         requires last { source ≤ length self.old.accounts }
@@ -180,7 +180,7 @@ impl Parted {
     /// Has the cubes follow the books, by at most so many threads; no thread is started where few facts wait. Cubes that
     /// are out of date are made anew: as many parts as threads, but at most 8.
     ///
-    /// The only error is want of memory, or of numbers to count the facts with. The cubes are out of date then.
+    /// The only error is that memory ran out, or of numbers to count the facts with. The cubes are out of date then.
     pub fn settle<T: Threads + Sync>(&mut self, rt: &T, threads: usize) -> Result<(), AllocError>
         ensures { self.new ≡ self.old }
     {
@@ -307,7 +307,7 @@ fn settle_part(part: &mut Part, come: &[Fact], gone: &[Fact])
     part.is_spent = settle_cube(&mut part.cube, come, gone).is_err();
 }
 
-// Has a cube gain the facts that came and lose those that are gone. The only error is want of memory, or of numbers to
+// Has a cube gain the facts that came and lose those that are gone. The only error is that memory ran out, or of numbers to
 // count the facts with.
 fn settle_cube(cube: &mut Cube, come: &[Fact], gone: &[Fact]) -> Result<(), AllocError>
     requires { MaySettle come.now gone.now cube.old }

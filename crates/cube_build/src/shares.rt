@@ -7,8 +7,8 @@ ghost use Rattle.cube_build.specs.Shares.{AreNewLedgers, TakenInParts};
 
 use crate::draft::Draft;
 use cube_core::Schema;
-use cube_rings::{FeedingFault, Gate, Gatherer, Settings, feed_shares};
 use cube_ledger::Ledger;
+use cube_rings::{FeedingFault, Gate, Gatherer, Settings, feed_shares};
 use std::alloc::{AllocError, Global};
 use std::io::Read;
 use std::sync::Wait;
@@ -27,7 +27,7 @@ fn shares_of(threads: usize, sources: u32) -> u32
 }
 
 // New ledgers of so many shares, with so many sources together, each with as many as any other or one more. The only
-// error is want of memory.
+// error is that memory ran out.
 fn new_ledgers(
     alloc: Global,
     schema: &Schema,
@@ -48,8 +48,8 @@ fn new_ledgers(
     Ok(ledgers)
 }
 
-// The builder of all shares, with a draft of their ledgers in the place of these, in a list. The only error is want of
-// memory.
+// The builder of all shares, with a draft of their ledgers in the place of these, in a list. The only error is that memory ran
+// out.
 fn drafted(
     alloc: Global,
     schema: &Schema,

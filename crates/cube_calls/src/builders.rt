@@ -5,8 +5,8 @@ use crate::facts::item_of;
 use crate::questions::answer_rows;
 use crate::script::{Printout, words_of};
 use anyhow::{Result, bail, ensure};
-use cube_core::{Refusal, Schema};
 use cube_build::Builder;
+use cube_core::{Refusal, Schema};
 use std::alloc::{AllocError, Global};
 
 /// Does the calls on a builder of so many sources.
@@ -66,7 +66,7 @@ fn ask(alloc: Global, builder: &Builder, verb: &str, out: &mut Printout) -> Resu
     Ok(answered?)
 }
 
-// Hands a builder the item of a record under a schema, and once more where memory was wanting.
+// Hands a builder the item of a record under a schema, and once more where memory ran out.
 fn apply(alloc: Global, schema: &Schema, builder: &mut Builder, words: &str) -> Result<()> {
     let (source, words) = words_of(words);
     let (number, record) = words_of(words);

@@ -89,7 +89,7 @@ fn measured(alloc: Global, schema: &Schema, fields: &str) -> Result<Fact>
     Ok(fact)
 }
 
-// Adds a fact, and once more where memory was wanting.
+// Adds a fact, and once more where memory ran out.
 fn add_or_again(cell: &mut Cell, fact: &Fact) -> Result<()>
     requires { length fact.now.measures ≡ length cell.old.bags }
     ensures { length cell.new.bags ≡ length cell.old.bags }

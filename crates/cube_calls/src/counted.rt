@@ -61,7 +61,7 @@ fn obey_verb(
     Ok(())
 }
 
-// Adds a number, and once more where memory was wanting.
+// Adds a number, and once more where memory ran out.
 fn add_or_again(values: &mut Counted, value: i64) -> Result<()> {
     match add(values, value) {
         Ok(()) => Ok(()),
@@ -75,7 +75,7 @@ fn add(values: &mut Counted, value: i64) -> Result<()> {
     Ok(())
 }
 
-// Adds the other's numbers; where memory is wanting, none may be left.
+// Adds the other's numbers; where memory runs out, none may be left.
 fn merge(values: &mut Counted, other: &Counted) -> Result<()> {
     ensure!(values.len() < 1 << 32, "too many numbers");
     ensure!(other.len() < 1 << 32, "too many numbers");

@@ -63,7 +63,7 @@ fn obey(
     }
 }
 
-// Adds a fact, and once more where memory was wanting.
+// Adds a fact, and once more where memory ran out.
 fn add_or_again(alloc: Global, schema: &Schema, cube: &mut Cube, fields: &str) -> Result<()>
     requires { cube.old.schema ≡ schema.now }
     ensures { cube.new.schema ≡ cube.old.schema }
@@ -81,7 +81,7 @@ fn gather(alloc: Global, schema: &Schema, gathered: &mut Vec<Fact>, fields: &str
     Ok(())
 }
 
-// Fills a cube, and once more where memory was wanting.
+// Fills a cube, and once more where memory ran out.
 fn fill_or_again(schema: &Schema, cube: &mut Cube, facts: &[Fact]) -> Result<()>
     requires { cube.old.schema ≡ schema.now }
     ensures { cube.new.schema ≡ cube.old.schema }

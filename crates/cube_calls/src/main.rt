@@ -8,7 +8,7 @@
 //!
 //! A call that adds something and finds no memory is made once more, so where one growth is refused in all, the answers
 //! are those of a run with memory, if the call left everything as it was. A line that is no call ends the program with
-//! status 1, and its number goes to standard error; so does any other want of memory.
+//! status 1, and its number goes to standard error; so does running out of memory elsewhere.
 #![tactic(auto)]
 
 mod books;

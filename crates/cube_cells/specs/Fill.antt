@@ -84,7 +84,7 @@ pub record IsMadeLevel {N : Type 0} (measures : ℕ) (finest : Level N) (levels 
   pub made : AreMadeFrom finer.cells.entries set measures level.cells.entries
   pub width : All (λ cell. length cell.1.bags ≡ measures) level.cells.entries
 
--- for each of so many things a result: what is to be made of it, unless memory was wanting
+-- for each of so many things a result: what is to be made of it, unless memory ran out
 pub record AreMade {X : Type 0} (is : ℕ → X → Type 0) (number : ℕ) (made : List (Result X AllocError)) : Type 0 where
   pub long : length made ≡ number
   pub each : (i : ℕ) (unused : Result X AllocError) → i < number → IfOk (get_or made i unused) (is i)

@@ -44,7 +44,7 @@ impl Cell {
         Cell::empty(alloc, measures)
     }
 
-    /// Adds a fact by its values, a value or null for each measure. Where memory is wanting, the cell counts what
+    /// Adds a fact by its values, a value or null for each measure. Where memory runs out, the cell counts what
     /// it counted.
     pub fn plus(&mut self, values: &[Option<i64>]) -> Result<(), AllocError>
         requires width { length values.now ≡ length self.old.bags }
@@ -95,7 +95,7 @@ impl<N: Numbers> Cell<N> {
         self.facts
     }
 
-    /// Adds a fact by its values, a value or null for each measure. Where memory is wanting, the cell has some of the
+    /// Adds a fact by its values, a value or null for each measure. Where memory runs out, the cell has some of the
     /// values too.
     pub fn gather(&mut self, values: &[Option<i64>]) -> Result<(), AllocError>
         requires width { length values.now ≡ length self.old.bags }
@@ -110,7 +110,7 @@ impl<N: Numbers> Cell<N> {
         Err(AllocError)
     }
 
-    /// A cell of the same facts. The only error is want of memory.
+    /// A cell of the same facts. The only error is that memory ran out.
     pub fn copy(&self, alloc: Global) -> Result<Cell<N>, AllocError>
         ensures { IfOk result (SameTally self.now) }
     {
@@ -120,7 +120,7 @@ impl<N: Numbers> Cell<N> {
         Ok(Cell { facts, measures })
     }
 
-    /// Adds the facts of another cell. Where memory is wanting, the cell has lost some of its values.
+    /// Adds the facts of another cell. Where memory runs out, the cell has lost some of its values.
     pub fn merge(&mut self, more: &Cell<N>) -> Result<(), AllocError>
         requires width { length more.now.bags ≡ length self.old.bags }
         requires fits { self.old.facts + more.now.facts < 2 ^ 64 }
@@ -182,7 +182,7 @@ fn add_values(measures: &mut [Measure<Counted>], values: &[Option<i64>]) -> Resu
     Err(AllocError)
 }
 
-// Adds the values of a fact. Where memory is wanting, the error is how many of them were added, from the first.
+// Adds the values of a fact. Where memory runs out, the error is how many of them were added, from the first.
 fn gather_values<N: Numbers>(
     measures: &mut [Measure<N>],
     values: &[Option<i64>],

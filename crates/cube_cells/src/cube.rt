@@ -68,8 +68,8 @@ impl<N: Numbers> Model for Cube<N> {
 }
 
 impl Cube {
-    /// The cube of no fact over all grouping sets of the schema: the grand total alone. The only error is want of
-    /// memory.
+    /// The cube of no fact over all grouping sets of the schema: the grand total alone. The only error is that memory ran
+    /// out.
     pub fn new(alloc: Global, schema: &Schema) -> Result<Cube, AllocError>
         ensures new { IfOk result (IsNewLattice schema.now schema.now.grouping_sets) }
         ensures cube { IfOk result (λ cube. IsCubeOf cube []) }
@@ -91,7 +91,7 @@ impl Cube {
 
     /// Adds a fact that fits, to each cell of a kept set that covers it.
     ///
-    /// Where memory is wanting, the cells count what they counted, and `facts` is the same; only texts of the fact
+    /// Where memory runs out, the cells count what they counted, and `facts` is the same; only texts of the fact
     /// may have got codes.
     pub fn add(&mut self, fact: &Fact) -> Result<(), AllocError>
         requires fits { fits self.old.schema fact.now ≡ true }

@@ -55,7 +55,7 @@ impl<N: Numbers> Measure<N> {
         Ok(())
     }
 
-    /// Adds the values of another measure. Where memory is wanting, no value is left.
+    /// Adds the values of another measure. Where memory runs out, no value is left.
     pub fn merge(&mut self, more: &Measure<N>) -> Result<(), AllocError>
         requires { size_of self.old + size_of more.now < 2 ^ 64 }
         ensures merged { OnOk result (AddsBag self.old self.new more.now) }
@@ -121,7 +121,7 @@ impl<N: Numbers> Measure<N> {
 }
 
 impl Measure {
-    /// Takes a value away; a null changes nothing. Where memory is wanting, it does without.
+    /// Takes a value away; a null changes nothing. Where memory runs out, it does without.
     pub fn minus(&mut self, value: Option<i64>)
         requires { ForSome value (λ v. 0 < held_of self.old v) }
         ensures { AddsValue self.new self.old value }

@@ -57,7 +57,7 @@ impl Figures {
 }
 
 /// The bytes that write the line over what stands there: the cursor goes to the first column, the line isn't wrapped
-/// where the terminal is narrow, and what stood behind its end is erased. The only error is want of memory.
+/// where the terminal is narrow, and what stood behind its end is erased. The only error is that memory ran out.
 pub(crate) fn line_of(alloc: Global, figures: &Figures) -> Result<String, AllocError> {
     format!(in alloc; "\r\x1b[?7ldatacube: {figures}\x1b[K\x1b[?7h")
 }

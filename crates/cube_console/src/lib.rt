@@ -1,14 +1,12 @@
-//! The words of the program's command line: what they ask for, as `clap` reads them, and what the help says.
+//! The console: the words of the command line, the progress line, and an input that is read ahead.
 //!
-//! The progress line: how far a command is, on one line of a terminal, which is rewritten while the command runs and
-//! gone at its end.
+//! [`read_words`] tells what the words ask for, as `clap` reads them, and what the help says. The progress line says how far a
+//! command is, on one line of a terminal, which is rewritten while the command runs and gone at its end: the work only counts
+//! and says at what it is, and a thread of its own shows the line ([`Progress::show_until_over`]).
 //!
-//! The work only counts and says at what it is. A thread of its own shows the line ([`Progress::show_until_over`]).
-//!
-//! An input that a thread of its own reads ahead, so that whoever takes its records sees where it rests.
-//!
-//! [`read_ahead`] starts the thread. An [`Ahead`] gives the bytes as they came, and a [`Pauses`] tells whether no record came
-//! for a second. The thread isn't joined: it may wait for input for good.
+//! [`read_ahead`] starts a thread that reads an input ahead, so that whoever takes its records sees where it rests. An
+//! [`Ahead`] gives the bytes as they came, and a [`Pauses`] tells whether no record came for a second. The thread isn't joined:
+//! it may wait for input for good.
 #![tactic(auto)]
 
 mod ahead;

@@ -49,7 +49,7 @@ pub(crate) struct Post {
 }
 
 impl Post {
-    /// Nothing was read yet. The only error is want of memory.
+    /// Nothing was read yet. The only error is that memory ran out.
     pub fn new(alloc: Global) -> Result<Post, AllocError> {
         let waiting = Waiting {
             bytes: Vec::with_capacity(alloc, ROOM)?,
@@ -85,7 +85,7 @@ impl Post {
     }
 
     /// Puts bytes that were read, at most as many as there is room for, in which so many records end. It waits for room.
-    /// The only error is want of memory.
+    /// The only error is that memory ran out.
     pub fn put<T: Wait>(&self, rt: &T, bytes: &[u8], records: usize) -> Result<(), AllocError> {
         let mut waiting = self.waiting.lock(rt);
         if waiting.bytes.len() + bytes.len() > ROOM {

@@ -119,7 +119,7 @@ pub enum Request<'a> {
     },
 }
 
-/// The request that parsed words make; none where a command lacks a word. The only error is want of memory.
+/// The request that parsed words make; none where a command lacks a word. The only error is that memory ran out.
 pub(crate) fn request_of<'a>(
     alloc: Global,
     matches: &ArgMatches<'a>,

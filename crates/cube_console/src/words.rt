@@ -15,7 +15,7 @@ use std::io;
 /// What the words ask for; the first of them is the program's name.
 ///
 /// The error is what `clap` has to say of them: a refusal, or the help that they ask for. Words that `clap`'s definition
-/// of the command line takes, and of which it makes a request, are refused only for want of memory.
+/// of the command line takes, and of which it makes a request, are refused only because memory ran out.
 pub fn read_words<'a, S: AsStr>(alloc: Global, words: &'a [S]) -> Result<Request<'a>, Error>
     ensures asked { IfOk result (λ request.
         IsRequest (subcommand_of command_line (map S.text words.entry.now)) (Some request)) }

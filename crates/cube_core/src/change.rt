@@ -58,7 +58,7 @@ pub struct Refusal {
 }
 
 impl Change {
-    /// A copy; the only error is want of memory.
+    /// A copy; the only error is that memory ran out.
     pub(crate) fn copy(&self, alloc: Global) -> Result<Change, AllocError>
         ensures { IfOk result (λ copy. copy ≡ self.now) }
     {
@@ -92,7 +92,7 @@ fn copy_under(alloc: Global, id: &Text, fact: &Fact) -> Result<(Text, Fact), All
 }
 
 impl Item {
-    /// A copy; the only error is want of memory.
+    /// A copy; the only error is that memory ran out.
     pub fn copy(&self, alloc: Global) -> Result<Item, AllocError>
         ensures { IfOk result (λ copy. copy ≡ self.now) }
     {

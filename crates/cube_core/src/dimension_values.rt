@@ -73,7 +73,7 @@ impl DimensionValues {
         }
     }
 
-    /// The values of a slice, which are copied; the only error is want of memory.
+    /// The values of a slice, which are copied; the only error is that memory ran out.
     pub fn from_slice(alloc: Global, values: &[Option<Text>]) -> Result<DimensionValues, AllocError>
         ensures { IfOk result (λ copies. copies ≡ values.now) }
     {
@@ -81,7 +81,7 @@ impl DimensionValues {
         DimensionValues::of_texts(alloc, &texts)
     }
 
-    /// The values of a slice of texts, which are copied; the only error is want of memory.
+    /// The values of a slice of texts, which are copied; the only error is that memory ran out.
     pub fn of_texts(alloc: Global, values: &[Option<&str>]) -> Result<DimensionValues, AllocError>
         ensures { IfOk result (λ copies. copies ≡ map (option_map (λ text. text.now)) values.entry.now) }
     {
@@ -92,7 +92,7 @@ impl DimensionValues {
         Ok(copies)
     }
 
-    /// Adds a text or null at the end. The only error is want of memory, to which more than 2^32 - 1 bytes of texts count.
+    /// Adds a text or null at the end. The only error is that memory ran out, to which more than 2^32 - 1 bytes of texts count.
     #[inline]
     pub fn push(&mut self, value: Option<&str>) -> Result<(), AllocError>
         ensures { OnOk result (self.new ≡
@@ -151,7 +151,7 @@ impl DimensionValues {
         }
     }
 
-    /// A copy; the only error is want of memory.
+    /// A copy; the only error is that memory ran out.
     pub fn copy(&self, alloc: Global) -> Result<DimensionValues, AllocError>
         ensures { IfOk result (λ copy. copy ≡ self.now) }
     {
@@ -258,7 +258,7 @@ fn places_after(block: &[u8], text: &str) -> Option<(usize, usize)>
     Some((block.len(), end))
 }
 
-// Adds a value on the heap; the only error is want of memory.
+// Adds a value on the heap; the only error is that memory ran out.
 fn add_on_heap(
     block: &mut Vec<u8>,
     spans: &mut Vec<Span<u32>>,

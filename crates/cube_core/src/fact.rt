@@ -15,7 +15,7 @@ pub struct Fact {
 
 impl Fact {
     /// The fact of these values, a text or null for each dimension and a number or null for each measure, which are
-    /// copied. The only error is want of memory, to which more than 2^32 - 1 bytes of texts count.
+    /// copied. The only error is that memory ran out, to which more than 2^32 - 1 bytes of texts count.
     pub fn new(
         alloc: Global,
         dims: &[Option<&str>],
@@ -30,7 +30,7 @@ impl Fact {
         })
     }
 
-    /// A copy; the only error is want of memory.
+    /// A copy; the only error is that memory ran out.
     pub fn copy(&self, alloc: Global) -> Result<Fact, AllocError>
         ensures { IfOk result (λ copy. copy ≡ self.now) }
     {

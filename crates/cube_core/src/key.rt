@@ -64,7 +64,7 @@ pub struct Row {
 
 impl Key {
     /// The key of these coordinates, one for each dimension in their order, whose texts are copied. The only error is
-    /// want of memory.
+    /// that memory ran out.
     pub fn new(alloc: Global, coords: &[CoordRef<'_>]) -> Result<Key, AllocError>
         ensures { IfOk result (λ key. key.coords ≡ map referred_coord coords.entry.now) }
     {
@@ -77,7 +77,7 @@ impl Key {
         })
     }
 
-    /// A copy; the only error is want of memory.
+    /// A copy; the only error is that memory ran out.
     pub fn copy(&self, alloc: Global) -> Result<Key, AllocError>
         ensures { IfOk result (λ copy. copy ≡ self.now) }
     {
@@ -159,7 +159,7 @@ fn copy_coords(alloc: Global, coords: &[Coord]) -> Result<Vec<Coord>, AllocError
     Ok(copies)
 }
 
-/// A copy; the only error is want of memory.
+/// A copy; the only error is that memory ran out.
 pub(crate) fn copy_coord(alloc: Global, coord: &Coord) -> Result<Coord, AllocError>
     ensures { IfOk result (λ copy. copy ≡ coord.now) }
 {

@@ -38,7 +38,7 @@ impl<T> Field<T> {
 }
 
 impl Partial {
-    /// The old fact with each value that is put in its place; the only error is want of memory.
+    /// The old fact with each value that is put in its place; the only error is that memory ran out.
     ///
     /// The amendment and the fact have equal numbers of dimensions and of measures.
     pub fn over(&self, alloc: Global, old: &Fact) -> Result<Fact, AllocError>
@@ -51,7 +51,7 @@ impl Partial {
         Ok(Fact { dims, measures })
     }
 
-    /// A copy; the only error is want of memory.
+    /// A copy; the only error is that memory ran out.
     pub(crate) fn copy(&self, alloc: Global) -> Result<Partial, AllocError>
         ensures { IfOk result (λ copy. copy ≡ self.now) }
     {

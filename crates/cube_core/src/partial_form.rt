@@ -17,7 +17,7 @@ impl Schema {
     /// and `count(m)`, where they aren't there yet. A mean can be made again from the sums and counts of several
     /// cubes. The partial form of a partial form is itself.
     ///
-    /// The error is want of memory, or `Aggregates` where there would be more than 24, which never happens to the
+    /// The error is that memory ran out, or `Aggregates` where there would be more than 24, which never happens to the
     /// schema of a document nor to its partial form.
     pub fn partial(&self, alloc: Global) -> Result<Schema, SchemaFault>
         ensures { AnswersPartial self.now result }

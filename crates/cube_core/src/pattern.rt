@@ -85,7 +85,7 @@ impl Pattern {
     }
 }
 
-/// The record of a text that has exactly one; the only error is want of memory.
+/// The record of a text that has exactly one; the only error is that memory ran out.
 fn only_record(alloc: Global, text: &[u8]) -> Result<Option<ByteRecord>, AllocError>
     ensures { IfOk result (λ found. option_map fields_of found ≡ only_one (records_of text.now)) }
 {
@@ -94,7 +94,7 @@ fn only_record(alloc: Global, text: &[u8]) -> Result<Option<ByteRecord>, AllocEr
         .flexible(true)
         .from_reader(alloc, text);
     let mut record = ByteRecord::new(alloc);
-    // A reader of bytes in memory fails for want of memory alone.
+    // A reader of bytes in memory fails because memory ran out alone.
     let Ok(found) = reader.read_byte_record(&mut record) else {
         return Err(AllocError);
     };

@@ -104,7 +104,7 @@ impl Schema {
     }
 
     /// The sample schema: the dimensions `region` and `kind`, the measure `amount`, and `count(*)` with the sum,
-    /// the least, the greatest and the mean amount. The only error is want of memory.
+    /// the least, the greatest and the mean amount. The only error is that memory ran out.
     pub fn sample(alloc: Global) -> Result<Schema, AllocError>
         ensures { IfOk result (λ schema. schema ≡ sample_layout) }
     {
@@ -121,7 +121,7 @@ impl Schema {
         })
     }
 
-    /// A copy; the only error is want of memory.
+    /// A copy; the only error is that memory ran out.
     pub fn copy(&self, alloc: Global) -> Result<Schema, AllocError>
         ensures { IfOk result (λ copy. copy ≡ self.now) }
     {

@@ -28,7 +28,7 @@ impl Schema {
     /// the first dimensions, from none to all, or an array of sets, each an array of names of dimensions in any
     /// order, the empty one for the grand total (SQL:1999).
     ///
-    /// The error is the first fault of the document, or want of memory, which says nothing of the document.
+    /// The error is the first fault of the document, or out of memory, which says nothing of the document.
     pub fn from_toml(alloc: Global, bytes: &[u8]) -> Result<Schema, SchemaFault>
         ensures { AnswersBytes bytes.now result }
     {

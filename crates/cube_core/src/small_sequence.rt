@@ -55,14 +55,14 @@ impl<T: Default + Drop> SmallSequence<T> {
         }
     }
 
-    /// Makes room for exactly so many more items; the only error is want of memory.
+    /// Makes room for exactly so many more items; the only error is that memory ran out.
     pub fn reserve_exact(&mut self, additional: usize) -> Result<(), AllocError>
         ensures { self.new ≡ self.old }
     {
         self.items.reserve_exact(additional)
     }
 
-    /// Adds an item at the end; the only error is want of memory.
+    /// Adds an item at the end; the only error is that memory ran out.
     pub fn push(&mut self, item: T) -> Result<(), AllocError>
         ensures { OnOk result (self.new ≡ self.old ++ item ∷ []) }
     {
@@ -81,7 +81,7 @@ impl<T: Default + Drop> SmallSequence<T> {
 }
 
 impl<T: Default + Copy> SmallSequence<T> {
-    /// The sequence of the items of a slice, which are copied; the only error is want of memory.
+    /// The sequence of the items of a slice, which are copied; the only error is that memory ran out.
     pub fn from_slice(alloc: Global, items: &[T]) -> Result<SmallSequence<T>, AllocError>
         ensures { IfOk result (λ copy. copy ≡ items.now) }
     {

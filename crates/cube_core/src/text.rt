@@ -51,7 +51,7 @@ impl Text {
         }
     }
 
-    /// A copy of `text`; the only error is want of memory.
+    /// A copy of `text`; the only error is that memory ran out.
     pub fn from_str(alloc: Global, text: &str) -> Result<Text, AllocError>
         ensures { IfOk result (λ copy. copy ≡ text.now) }
     {
@@ -74,7 +74,7 @@ impl Text {
         }
     }
 
-    /// A copy; the only error is want of memory.
+    /// A copy; the only error is that memory ran out.
     pub fn copy(&self, alloc: Global) -> Result<Text, AllocError>
         ensures { IfOk result (λ copy. copy ≡ self.now) }
     {

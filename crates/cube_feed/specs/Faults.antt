@@ -8,7 +8,7 @@ use Rattle.cube_core.specs.Run.{SourceBytes, AreGood}
 use Rattle.cube_feed.specs.declared.fault.FeedFault.{FeedFault}
 use Rattle.cube_feed.specs.declared.fault.FeedFault.TheVariants.{Memory, Read, Header, TooMany}
 
--- how the feed of a fault ends; want of memory and the reader's own fault may come at any time
+-- how the feed of a fault ends; out of memory and the reader's own fault may come at any time
 abbrev pub IsEndOf : FeedEnd → FeedFault → Type 0
 IsEndOf end Memory = ⊤
 IsEndOf end Read = ⊤

@@ -49,7 +49,7 @@ impl FeedItem {
         item
     }
 
-    /// A copy; the only error is want of memory.
+    /// A copy; the only error is that memory ran out.
     pub fn copy(&self, alloc: Global) -> Result<FeedItem, AllocError>
         ensures { IfOk result (λ copy. copy ≡ self.now) }
     {

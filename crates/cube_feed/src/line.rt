@@ -262,7 +262,7 @@ fn is_operation(field: &[u8], letter: u8) -> bool
     field == [letter].as_slice()
 }
 
-/// The change that a data record spells, or its first fault; the only error is want of memory.
+/// The change that a data record spells, or its first fault; the only error is that memory ran out.
 pub(crate) fn change(
     alloc: Global,
     schema: &Schema,

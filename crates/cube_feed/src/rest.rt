@@ -9,7 +9,7 @@ use csv::ByteRecord;
 use cube_core::{Change, LineFault, Schema};
 use std::alloc::{AllocError, Global};
 
-/// Puts the fields of a record from a place on in place of those of another. The only error is want of memory.
+/// Puts the fields of a record from a place on in place of those of another. The only error is that memory ran out.
 pub fn put_rest(fields: &ByteRecord, from: usize, rest: &mut ByteRecord) -> Result<(), AllocError>
     ensures { OnOk result (fields_of rest.new ≡ drop from (fields_of fields.now)) }
 {
@@ -23,7 +23,7 @@ pub fn put_rest(fields: &ByteRecord, from: usize, rest: &mut ByteRecord) -> Resu
     Ok(())
 }
 
-/// The change that a data record of a feed spells, or its first fault. The only error is want of memory.
+/// The change that a data record of a feed spells, or its first fault. The only error is that memory ran out.
 pub fn change_of_record(
     alloc: Global,
     schema: &Schema,

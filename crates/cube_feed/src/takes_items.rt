@@ -24,7 +24,7 @@ pub trait TakesItems: Drop {
     fn is_full(&self) -> bool
         ensures { result ≡ full self.now };
 
-    /// Takes the next item of a source, which a feed gave. The only error is want of memory.
+    /// Takes the next item of a source, which a feed gave. The only error is that memory ran out.
     fn take_item(&mut self, source: u32, item: FeedItem) -> Result<(), AllocError>
         requires source { (1 ≤ source) × (source ≤ sources self.old) }
         requires room { full self.old ≡ false }

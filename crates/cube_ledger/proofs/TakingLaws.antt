@@ -7,7 +7,7 @@ use Rattle.cube_ledger.specs.Ledger.{AtSource, Enters, LedgerView, LedgerStandsA
 use Rattle.cube_ledger.specs.Taking.{LedgerStandsFrom}
 use Rattle.cube_ledger.proofs.RulingLaws.{AtSource-length}
 
--- a ledger that took an item, where memory wasn't wanting
+-- a ledger that took an item, where memory didn't run out
 pub ledger-further : {T E : Type 0} (taken : Result T E) (old new : LedgerView) (source : ℕ) (item : Item)
     → OnOk taken (AtSource (Enters old.schema item) source old new)
     → OnOk taken ((arrivals : Arrivals) → LedgerStandsAt old arrivals

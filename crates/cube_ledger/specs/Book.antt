@@ -89,7 +89,7 @@ pub record Takes (old : Entries) (change : Change) (delta : Delta) (new : Entrie
   pub come : delta.come ≡ fact_put change (fact_at old (id_of change))
   pub replaces : Replaces old (id_of change) delta.gone delta.come new
 
--- a fault tells why a book refused a change; memory may be wanting for a change that isn't refused and is no delete
+-- a fault tells why a book refused a change; memory may run out for a change that isn't refused and is no delete
 abbrev pub Explains : Entries → Change → BookFault → Type 0
 Explains book change Present = refused_by book change ≡ Some Present
 Explains book change Absent = refused_by book change ≡ Some Absent

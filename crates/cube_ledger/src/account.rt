@@ -40,7 +40,7 @@ impl Account {
     }
 
     /// What an item comes to whose change, where it says one, the schema takes: its refusal, a fact that is put under
-    /// an id, or an id whose fact is taken out. The only error is want of memory, and only an amendment takes some.
+    /// an id, or an id whose fact is taken out. The only error is that memory ran out, and only an amendment takes some.
     pub(crate) fn rule(
         &self,
         alloc: Global,
@@ -116,7 +116,7 @@ impl Account {
     }
 
     /// Takes an item whose change, where it says one, the schema takes: a refused one is noted with its code, and the
-    /// change of any other is made in the book. Where memory is wanting, the account is as it was, and the item is
+    /// change of any other is made in the book. Where memory runs out, the account is as it was, and the item is
     /// given up.
     pub(crate) fn enter(&mut self, schema: &Schema, item: Item) -> Result<(), AllocError>
         requires all_fit { AllFit schema.now (facts_of self.old.book) }
@@ -137,7 +137,7 @@ impl Account {
         }
     }
 
-    /// Notes a refused item; where memory is wanting, the account is as it was.
+    /// Notes a refused item; where memory runs out, the account is as it was.
     pub(crate) fn refuse(&mut self, number: u32, code: u8) -> Result<(), AllocError>
         ensures ok { OnOk result (self.new ≡ with_refusal self.old number code) }
         ensures err { OnErr result (self.new ≡ self.old) }
@@ -147,7 +147,7 @@ impl Account {
         Ok(())
     }
 
-    /// Puts a fact under an id; the fact that was there comes out. Where memory is wanting, the account is as it was,
+    /// Puts a fact under an id; the fact that was there comes out. Where memory runs out, the account is as it was,
     /// and the fact comes back.
     pub(crate) fn put(&mut self, id: Text, fact: Fact) -> Result<Option<Fact>, Fact>
         ensures put { IfOk result (λ gone. Exchanges id gone (Some fact) self.old self.new) }

@@ -87,7 +87,7 @@ impl Book {
         self.facts.values()
     }
 
-    /// Puts a fact under an id; the fact that was there comes out. Where memory is wanting, the book is as it was,
+    /// Puts a fact under an id; the fact that was there comes out. Where memory runs out, the book is as it was,
     /// and the fact comes back.
     pub(crate) fn put(&mut self, id: Text, fact: Fact) -> Result<Option<Fact>, Fact>
         ensures put { IfOk result (λ gone. Replaces self.old id gone (Some fact) self.new) }

@@ -33,7 +33,7 @@ impl Model for Ledger {
 }
 
 impl Ledger {
-    /// A ledger of 1 to 64 sources of which no item came. The only error is want of memory.
+    /// A ledger of 1 to 64 sources of which no item came. The only error is that memory ran out.
     pub fn new(alloc: Global, schema: &Schema, sources: u32) -> Result<Ledger, AllocError>
         requires { sources ≤ 64 }
         ensures schema { IfOk result (λ ledger. ledger.schema ≡ schema.now) }
@@ -72,7 +72,7 @@ impl Ledger {
     }
 
     /// What an item of a source comes to: its refusal, a fact that is put under an id, or an id whose fact is taken
-    /// out. The only error is want of memory, and only an amendment takes some.
+    /// out. The only error is that memory ran out, and only an amendment takes some.
     pub fn rule(&self, source: u32, what: Result<Change, LineFault>) -> Result<Ruling, AllocError>
         requires first { 1 ≤ source }
         requires last { source ≤ length self.now.accounts }
@@ -91,7 +91,7 @@ impl Ledger {
         account.rule(self.alloc, &self.schema, what)
     }
 
-    /// Notes a refused item of a source; where memory is wanting, the ledger is as it was.
+    /// Notes a refused item of a source; where memory runs out, the ledger is as it was.
     pub fn refuse(&mut self, source: u32, number: u32, code: u8) -> Result<(), AllocError>
         requires first { 1 ≤ source }
         requires last { source ≤ length self.old.accounts }
@@ -103,7 +103,7 @@ impl Ledger {
         account.refuse(number, code)
     }
 
-    /// Puts a fact that fits under an id of a source; the fact that was there comes out. Where memory is wanting, the
+    /// Puts a fact that fits under an id of a source; the fact that was there comes out. Where memory runs out, the
     /// ledger is as it was, and the fact comes back.
     pub fn put(&mut self, source: u32, id: Text, fact: Fact) -> Result<Option<Fact>, Fact>
         requires first { 1 ≤ source }
@@ -129,7 +129,7 @@ impl Ledger {
     }
 
     /// Takes an item of a source: a refused one is noted with its code, and the change of any other is made in the
-    /// source's book. Where memory is wanting, the ledger is as it was, and the item is given up.
+    /// source's book. Where memory runs out, the ledger is as it was, and the item is given up.
     pub fn apply(&mut self, source: u32, item: Item) -> Result<(), AllocError>
         requires first { 1 ≤ source }
         requires last { source ≤ length self.old.accounts }
@@ -173,7 +173,7 @@ impl Ledger {
     }
 
     /// Puts the accounts of another ledger, which has the same schema, after its own; at most 64 sources in all. Nothing
-    /// of them is copied. Where memory is wanting, the ledger is as it was, and the other is given up.
+    /// of them is copied. Where memory runs out, the ledger is as it was, and the other is given up.
     pub fn append(&mut self, other: Ledger) -> Result<(), AllocError>
         requires schema { other.schema ≡ self.old.schema }
         requires most { length self.old.accounts + length other.accounts ≤ 64 }
@@ -220,7 +220,7 @@ impl Ledger {
         account.enter(&self.schema, item)
     }
 
-    /// The facts of all books, source after source. The only error is want of memory.
+    /// The facts of all books, source after source. The only error is that memory ran out.
     pub fn facts(&self) -> Result<Vec<&Fact>, AllocError>
         ensures facts { IfOk result (λ facts.
             map (λ fact. fact.now) facts.items ≡ all_facts self.now.accounts) }
@@ -253,7 +253,7 @@ fn new_accounts(alloc: Global, key: HashKey, sources: u32) -> Result<Vec<Account
     Ok(accounts)
 }
 
-// Puts the facts of a book behind others. The only error is want of memory.
+// Puts the facts of a book behind others. The only error is that memory ran out.
 fn push_facts<'b>(facts: &mut Vec<&'b Fact>, book: &'b Book) -> Result<(), AllocError>
     ensures { OnOk result (map (λ fact. fact.now) facts.new.items
         ≡ map (λ fact. fact.now) facts.old.items ++ facts_of book.now) }

@@ -11,12 +11,12 @@
 //!   [`merge`] makes one printed cube of several.
 #![tactic(auto)]
 
+pub use cube_build::{Builder, Built, FeedingFault, Gate, OpenGate, Settings, build, build_plain};
 pub use cube_cells::{Cell, Cube, KeyedCell, OrderedCells};
 pub use cube_core::{
     Agg, Answer, Change, Coord, CoordRef, Fact, Field, HashKey, Item, Key, LineFault, Partial,
     Pattern, QueryFault, Refusal, Row, Schema, SchemaFault, Shard, Text,
 };
-pub use cube_build::{Builder, Built, FeedingFault, Gate, OpenGate, Settings, build, build_plain};
 pub use cube_feed::{Feed, FeedFault};
 pub use cube_ledger::{BuildFault, Ledger};
 pub use cube_merge::{InputFault, MergeFault, merge};

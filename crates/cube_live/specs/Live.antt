@@ -59,7 +59,7 @@ pub record SameLive (old new : LiveView) : Type 0 where
   pub ledger : new.ledger ≡ old.ledger
   pub numbers : new.numbers ≡ old.numbers
 
--- why a record wasn't taken: its source has the last that the schema takes; memory may be wanting at any time
+-- why a record wasn't taken: its source has the last that the schema takes; memory may run out at any time
 abbrev pub ExplainsLive : ℕ → LiveView → LiveFault → Type 0
 ExplainsLive source live TooMany = get_or live.numbers (source - 1) 0 ≡ live.schema.max_records
 ExplainsLive source live Memory = ⊤

@@ -110,7 +110,7 @@ abbrev pub ReplyFails : Layout → Arrivals → List (List ℕ) → ℕ → Sess
 ReplyFails s arrivals fields sent (TooMany source) old new = (new ≡ old) × IsOneTooMany s arrivals fields source
 ReplyFails s arrivals fields sent fault old new = BreaksReply s arrivals (request_of s fields) sent fault old new
 
--- the input couldn't be read, or memory was wanting
+-- the input couldn't be read, or memory ran out
 abbrev pub IsInputFault : SessionFault → Type 0
 IsInputFault Read = ⊤
 IsInputFault (TooMany source) = ⊥

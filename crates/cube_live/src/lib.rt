@@ -1,13 +1,8 @@
-//! A cube that is kept right change by change, and answers questions in between.
+//! A cube that is kept right change by change, and sessions over it.
 //!
 //! [`open`] takes the feeds that come before a session, [`request_of`] says what a record of one asks, and [`Live`] takes
-//! changes and answers questions.
-//!
-//! A session over a cube that is kept right change by change: its records are changes and questions, and each question
-//! is answered over what came before it.
-//!
-//! [`serve`] takes the records of an input to its end and writes the reply to each, and a [`Journal`] is told of each change
-//! before it is applied. Where the input rests, as a [`Rests`] tells, the journal makes sure of what it was told.
+//! changes and answers questions. [`serve`] takes the records of an input to its end and writes the reply to each, and a
+//! [`Journal`] is told of each change before it is applied.
 #![tactic(auto)]
 
 mod journal;

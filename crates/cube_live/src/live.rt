@@ -7,8 +7,8 @@ ghost use Rattle.cube_live.specs.Shows.{Shows};
 use crate::refusals::{print_refusals, refusals_after_text};
 use crate::request::Question;
 use crate::rows::{cube_text, rows_text};
-use cube_core::{Change, Item, LineFault, Schema};
 use cube_build::Parted;
+use cube_core::{Change, Item, LineFault, Schema};
 use cube_ledger::Ledger;
 use std::alloc::{AllocError, Global};
 use std::marker::Model;
@@ -111,7 +111,7 @@ impl<'s> Live<'s> {
         }
     }
 
-    /// The text that answers a question over what was taken. The only error is want of memory.
+    /// The text that answers a question over what was taken. The only error is that memory ran out.
     pub fn text_of<T: Threads + Sync>(
         &mut self,
         rt: &T,
@@ -128,7 +128,7 @@ impl<'s> Live<'s> {
         self.shown(question)
     }
 
-    /// Has the cubes follow the books, as each question does. The only error is want of memory.
+    /// Has the cubes follow the books, as each question does. The only error is that memory ran out.
     pub fn settle<T: Threads + Sync>(&mut self, rt: &T) -> Result<(), AllocError>
         ensures { self.new ≡ self.old }
     {

@@ -6,11 +6,11 @@ ghost use Rattle.cube_live.specs.Live.{LiveStandsAt};
 ghost use Rattle.cube_live.specs.Opening.{OpeningStandsAt, OpeningView, OpensOver};
 
 use crate::live::Live;
-use cube_core::Schema;
 use cube_build::Parted;
+use cube_core::Schema;
 use cube_feed::{FeedItem, TakesItems};
-use cube_rings::{FeedingFault, Gate, Gatherer, Settings, feed_all};
 use cube_ledger::Ledger;
+use cube_rings::{FeedingFault, Gate, Gatherer, Settings, feed_all};
 use std::alloc::{AllocError, Global};
 use std::io::Read;
 use std::marker::Model;
@@ -77,7 +77,7 @@ impl Opening {
     }
 
     // Takes the next item of a source with a feed, unless it is numbered past those that the schema takes, which no good
-    // feed gives. The only error is want of memory.
+    // feed gives. The only error is that memory ran out.
     fn apply(&mut self, source: u32, item: FeedItem) -> Result<(), AllocError>
         requires { (1 ≤ source) × (source ≤ self.old.feeds) }
         ensures feeds { self.new.feeds ≡ self.old.feeds }

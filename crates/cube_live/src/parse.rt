@@ -15,7 +15,7 @@ use cube_core::{Key, Pattern, QueryFault, Schema, Text};
 use cube_feed::put_rest;
 use std::alloc::{AllocError, Global};
 
-/// What a record asks under a schema. The only error is want of memory.
+/// What a record asks under a schema. The only error is that memory ran out.
 pub fn request_of(
     alloc: Global,
     schema: &Schema,
@@ -72,7 +72,7 @@ fn of_width(fields: &ByteRecord, width: usize, request: Request) -> Request
     }
 }
 
-// An answer to a query, where it wasn't want of memory that refused it.
+// An answer to a query, where it wasn't refused because memory ran out.
 fn unless_memory<T: Drop>(
     answer: Result<T, QueryFault>,
 ) -> Result<Result<T, QueryFault>, AllocError>

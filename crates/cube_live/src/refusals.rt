@@ -14,7 +14,7 @@ use std::alloc::{AllocError, Global};
 /// The header line `source,record,code`, and a line for each refusal: source after source, and within a source in
 /// the order of its items.
 ///
-/// The only error is want of memory.
+/// The only error is that memory ran out.
 pub fn print_refusals(alloc: Global, ledger: &Ledger) -> Result<Vec<u8>, AllocError>
     ensures { IfOk result (λ text. text.items ≡
         text_of_refusals (map (λ account. account.refusals) ledger.now.accounts)) }
@@ -27,7 +27,7 @@ pub fn print_refusals(alloc: Global, ledger: &Ledger) -> Result<Vec<u8>, AllocEr
 
 /// The header line, and a line for each refusal of a source that is numbered above a record of it.
 ///
-/// The only error is want of memory.
+/// The only error is that memory ran out.
 pub fn refusals_after_text(
     alloc: Global,
     source: u32,

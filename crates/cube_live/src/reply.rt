@@ -2,8 +2,8 @@
 ghost use Rattle.std.specs.Prelude.{◌≡◌, IfOk};
 ghost use Rattle.cube_live.specs.Session.{code_line, code_text, ok_line, query_code};
 
-use cube_core::QueryFault;
 use crate::request::RequestFault;
+use cube_core::QueryFault;
 use itoa::Buffer;
 use std::alloc::{AllocError, Global};
 
@@ -33,7 +33,7 @@ fn query_code(fault: QueryFault) -> &'static str
     }
 }
 
-/// The line that says how many bytes follow it. The only error is want of memory.
+/// The line that says how many bytes follow it. The only error is that memory ran out.
 pub fn ok_line(alloc: Global, count: usize) -> Result<Vec<u8>, AllocError>
     ensures { IfOk result (λ line. line.items ≡ ok_line count) }
 {
@@ -45,7 +45,7 @@ pub fn ok_line(alloc: Global, count: usize) -> Result<Vec<u8>, AllocError>
     Ok(line)
 }
 
-/// The line of a code. The only error is want of memory.
+/// The line of a code. The only error is that memory ran out.
 pub fn code_line(alloc: Global, fault: &RequestFault) -> Result<Vec<u8>, AllocError>
     ensures { IfOk result (λ line. line.items ≡ code_line fault.now) }
 {

@@ -9,13 +9,13 @@ ghost use Rattle.cube_live.specs.Live.{CanAsk};
 ghost use Rattle.cube_live.specs.Shows.{AsksRows, IsTextWhere, asks_for, is_key};
 
 use crate::request::Question;
+use cube_build::{AsksCube, DrillDown, Parted, ordered_parts, rows_of_parts};
 use cube_cells::{Counted, Cube, row_of};
 use cube_core::{Key, Pattern, QueryFault, Row, Schema};
-use cube_build::{AsksCube, DrillDown, Parted, ordered_parts, rows_of_parts};
 use cube_text::{print_cells, print_rows};
 use std::alloc::{AllocError, Global};
 
-/// The printed cube of the facts in all books. The only error is want of memory.
+/// The printed cube of the facts in all books. The only error is that memory ran out.
 pub fn cube_text(alloc: Global, schema: &Schema, parted: &Parted) -> Result<Vec<u8>, AllocError>
     requires { parted.now.schema ≡ schema.now }
     ensures { IfOk result (λ text.
@@ -29,7 +29,7 @@ pub fn cube_text(alloc: Global, schema: &Schema, parted: &Parted) -> Result<Vec<
 }
 
 /// The rows that a question asks for, as text: those of a slice without an open dimension and of a roll-up by a look-up in
-/// each part. The only error is want of memory where there is such a drill-down.
+/// each part. The only error is that memory ran out where there is such a drill-down.
 pub fn rows_text(
     alloc: Global,
     schema: &Schema,

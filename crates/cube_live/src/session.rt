@@ -12,14 +12,14 @@ ghost use Rattle.cube_live.specs.Serving.{ExplainsChange, IsInputFault, IsJourna
 ghost use Rattle.cube_live.specs.declared.request.Request.TheVariants as request;
 
 use crate::journal::{Journal, JournalFault};
+use crate::live::Live;
+use crate::parse::request_of;
 use crate::reply::{code_line, ok_line};
+use crate::request::{Question, Request, RequestFault};
 use crate::rests::Rests;
 use csv::ByteRecord;
 use cube_core::{Change, LineFault};
 use cube_feed::{FeedFault, RecordReader, change_of_record, is_read, put_rest};
-use crate::live::Live;
-use crate::parse::request_of;
-use crate::request::{Question, Request, RequestFault};
 use cube_writing::write_whole;
 use std::alloc::{AllocError, Global};
 use std::io::{Read, Write};
@@ -257,7 +257,7 @@ fn change<J: Journal>(
     apply(live, source, what)
 }
 
-// Has the cube take what a record says of a source that has room for it, which only want of memory can refuse.
+// Has the cube take what a record says of a source that has room for it, which is refused only where memory runs out.
 fn apply(
     live: &mut Live<'_>,
     source: u32,

@@ -25,7 +25,7 @@ use Rattle.cube_merge.specs.declared.fault.MergeFault.{MergeFault}
 use Rattle.cube_merge.specs.declared.fault.MergeFault.TheVariants.{Memory, Aggregates, Input, Write}
 
 -- how a merge tells a fault of the input at a place: by its number, counted from 1, and the record;
--- want of memory is told of no input
+-- out of memory is told of no input
 abbrev pub IsFaultAt : InputFault → ℕ → ℕ → MergeFault → Type 0
 IsFaultAt fault place number Memory = ⊤
 IsFaultAt fault place number Aggregates = ⊥

@@ -41,7 +41,7 @@ pub stands-nothing : {B : Type 0} (stands : B → Arrivals → Type 0) (builder 
     → StandsAtFirst stands builder wanting arrivals → StandsAtFirst stands builder wanting (arrivals ++ [])
 stands-nothing stands builder wanting arrivals at = rw (append-nil arrivals) at
 
--- an item was dropped where memory was wanting before
+-- an item was dropped where memory ran out before
 pub stands-dropped : {B : Type 0} (stands : B → Arrivals → Type 0) (builder : B) (wanting : Bool) (arrivals : Arrivals)
     (arrival : ℕ × Item) → wanting ≡ true → StandsAtFirst stands builder wanting arrivals
     → StandsAtFirst stands builder wanting (arrivals ++ arrival ∷ [])
@@ -53,7 +53,7 @@ stands-dropped stands builder wanting arrivals arrival wants at = record {
   at_all = λ enough. cc (sym wants ∙ enough);
 }
 
--- an item was taken, or memory was wanting for it
+-- an item was taken, or memory ran out for it
 pub stands-taken : {B E : Type 0} (stands : B → Arrivals → Type 0) (before after : B) (answer : Result Unit E)
     (arrivals : Arrivals) (arrival : ℕ × Item) → StandsAtFirst stands before false arrivals
     → OnOk answer ((all : Arrivals) → stands before all → stands after (all ++ arrival ∷ []))

@@ -21,7 +21,7 @@ AreFirst rest items = (more : List Item) × (rest.items ≡ items ++ more)
 -- what a feeder's stop says of the items that it sent, where the reader tells its bytes:
 -- without one, or by a fault of the feed's
 -- end, they are all the items to come, and that is their end;
--- by want of memory or a fault of the reader they are the first of them
+-- by out of memory or a fault of the reader they are the first of them
 abbrev pub Stops : KnownRest → List Item → Option FeedFault → Type 0
 Stops None items stop = ⊤
 Stops (Some rest) items None = AreAll rest items None

@@ -43,7 +43,7 @@ pub record TakeAll {B : Type 0} (stands : B → B → Arrivals → Type 0) (s : 
   pub each : AllZip (λ builder gatherer. TakesFeeds (stands builder) feeds gatherer) builders gatherers
 
 -- why the feeds weren't taken:
--- memory or no thread before a record was read, or the lowest source's own fault; want of memory or of a
+-- memory or no thread before a record was read, or the lowest source's own fault; out of memory or of a
 -- receipt only where all feeds are good
 abbrev pub ExplainsFeeding : Layout → SourceBytes → FeedingFault → Type 0
 ExplainsFeeding s sources feeding_fault.Memory = ⊤

@@ -68,7 +68,7 @@ pub record SettlesBuilders {B : Type 0} (ends : List FeederEnd) (old new : List 
   pub begin : AllBegin ends (map received_by old)
   pub kept : map kept_of new ≡ map kept_of old
 
--- why builders aren't settled: the lowest stop, else want of memory, else the lowest source without a receipt
+-- why builders aren't settled: the lowest stop, else that memory ran out, else the lowest source without a receipt
 abbrev pub StopsFeeding : ℕ → List FeederEnd → FeedingFault → Type 0
 StopsFeeding builders ends feeding_fault.Memory = ⊥
 StopsFeeding builders ends feeding_fault.NoThread = ⊥

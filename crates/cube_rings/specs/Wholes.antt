@@ -10,7 +10,7 @@ use Rattle.cube_rings.specs.declared.gatherer.Gatherer.{Gatherer}
 abbrev pub inlets_of : {B : Type 0} → List (Gatherer B) → List (Receiving Parcel)
 inlets_of gatherers = flat_map (λ gatherer. gatherer.inlets.items) gatherers
 
--- what builders are together: the list of them, with the inlets of all, and memory was wanting where it was for one
+-- what builders are together: the list of them, with the inlets of all, and memory ran out where it was for one
 pub record IsWholeOf {B : Type 0} (gatherers : List (Gatherer B)) (whole : Gatherer (Vec B)) : Type 0 where
   pub builders : map (λ gatherer. gatherer.builder) gatherers ≡ whole.builder.items
   pub inlets : inlets_of gatherers ≡ whole.inlets.items

@@ -4,10 +4,10 @@ ghost use Rattle.cube_rings.specs.Feeding.{SendsAll, AreReceipts, Feeds};
 
 use crate::copies::next_copies;
 use crate::gate::Gate;
+use crate::link_ends::{Outlet, Receipt};
 use crate::offering::{Offering, offer_copies, offer_end};
 use crate::parcel::{FeederEnd, Parcel};
 use cube_feed::{Feed, FeedFault};
-use crate::link_ends::{Outlet, Receipt};
 use std::alloc::Global;
 use std::io::Read;
 use std::sync::Wait;

@@ -4,15 +4,15 @@ ghost use Rattle.std.specs.List.{All};
 ghost use Rattle.cube_core.specs.Run.{AreGood};
 ghost use Rattle.cube_rings.specs.FeedingAll.{IsNew, TakeAll, ExplainsFeeding};
 
-use crate::setup::{Setup, set_up};
-use crate::together::run_together;
-use cube_core::Schema;
-use cube_feed::TakesItems;
 use crate::ends::first_stop;
 use crate::fault::FeedingFault;
 use crate::gate::Gate;
 use crate::gatherer::Gatherer;
 use crate::settling::settle;
+use crate::setup::{Setup, set_up};
+use crate::together::run_together;
+use cube_core::Schema;
+use cube_feed::TakesItems;
 use std::alloc::Global;
 use std::io::Read;
 use std::sync::Wait;
@@ -24,7 +24,7 @@ use std::thread::Threads;
 /// Each feeder runs on a thread of its own, the first builder on the caller's, and each other on its own. On Ok every
 /// feed is good, the builders have all taken the same items of them, and of each link all that its receipt names was
 /// received. The first fault that holds is the answer: `Memory` or `NoThread`, where no record was read; `Feed` of the
-/// lowest source whose feed is at fault; `Full` where memory was wanting for a builder; `Unsealed` of the lowest source
+/// lowest source whose feed is at fault; `Full` where memory ran out for a builder; `Unsealed` of the lowest source
 /// that lacks a receipt.
 pub fn feed_all<
     T: Threads + Wait + Sync,

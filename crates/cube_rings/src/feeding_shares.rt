@@ -5,22 +5,22 @@ ghost use Rattle.cube_core.specs.Run.{AreGood};
 ghost use Rattle.cube_rings.specs.FeedingAll.{TakeAll, ExplainsFeeding};
 ghost use Rattle.cube_rings.specs.Shares.{AreWholeOf, StandInShares};
 
-use crate::setup::{Setup, only, set_up_shares};
-use crate::together::run_together;
-use cube_core::Schema;
-use cube_feed::TakesItems;
 use crate::ends::first_stop;
 use crate::fault::FeedingFault;
 use crate::gate::Gate;
 use crate::gatherer::Gatherer;
 use crate::settling::settle;
+use crate::setup::{Setup, only, set_up_shares};
 use crate::shares::put_together;
+use crate::together::run_together;
+use cube_core::Schema;
+use cube_feed::TakesItems;
 use std::alloc::{AllocError, Global};
 use std::io::Read;
 use std::sync::Wait;
 use std::thread::Threads;
 
-// The builders of all shares as one, in a list. The only error is want of memory.
+// The builders of all shares as one, in a list. The only error is that memory ran out.
 fn whole_of<B: Drop>(
     alloc: Global,
     shares: Vec<Gatherer<B>>,
@@ -36,7 +36,7 @@ fn whole_of<B: Drop>(
 ///
 /// Each feeder runs on a thread of its own, the first builder on the caller's, and each other on its own. The gate is told
 /// of one builder, 0, and each source is known by its number among all. Answers and faults are those of
-/// [`feed_all`](crate::feed_all); `Full` also where memory was wanting to put the builders together.
+/// [`feed_all`](crate::feed_all); `Full` also where memory ran out to put the builders together.
 pub fn feed_shares<
     T: Threads + Wait + Sync,
     R: Read + Drop + Send,

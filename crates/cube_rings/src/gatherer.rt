@@ -1,6 +1,6 @@
 //! A builder that gathers, and its place.
-use crate::parcel::Parcel;
 use crate::link_ends::Inlet;
+use crate::parcel::Parcel;
 
 /// What a gate is told of the links of a builder: its number, from 0, and how many sources come before its first.
 #[derive(Clone, Copy, Debug)]
@@ -9,7 +9,7 @@ pub struct Place {
     pub before: u32,
 }
 
-/// A builder with its links from the sources, and whether memory was wanting for it.
+/// A builder with its links from the sources, and whether memory ran out for it.
 #[derive(Drop)]
 pub struct Gatherer<B: Drop> {
     pub builder: B,

@@ -7,10 +7,10 @@ ghost use Rattle.cube_rings.specs.declared.parcel.Parcel.{Parcel as TheParcel};
 
 use crate::gate::{Gate, GatedLink};
 use crate::gatherer::Place;
+use crate::link_ends::Inlet;
 use crate::parcel::Parcel;
 use crate::patience::EmptyRounds;
 use cube_feed::{FeedItem, TakesItems};
-use crate::link_ends::Inlet;
 use std::alloc::AllocError;
 use std::sync::Wait;
 use std::thread;
@@ -28,7 +28,7 @@ struct Taken {
     ended: bool,
 }
 
-// Applies an item, or drops it where memory was wanting before; waits for good where the builder is full.
+// Applies an item, or drops it where memory ran out before; waits for good where the builder is full.
 fn accept<W: Wait, B: TakesItems>(
     rt: &W,
     builder: &mut B,
@@ -164,7 +164,7 @@ fn have_ended(taken: &[Taken; MOST_SOURCES], count: usize) -> bool
 ///
 /// It goes round the links and takes up to 32 parcels from each. After rounds in which nothing was found it yields, 200 times
 /// at most, and then naps, for a microsecond at first and twice as long each time, up to half a millisecond; where the links
-/// have room for less than 64 parcels, it only yields. The only error is want of memory: from the item on that finds none it
+/// have room for less than 64 parcels, it only yields. The only error is that memory ran out: from the item on that finds none it
 /// goes on taking, and drops what comes. Where the builder is full it waits for good.
 pub fn gather<W: Wait, B: TakesItems, G: Gate>(
     rt: &W,

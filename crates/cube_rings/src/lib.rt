@@ -1,20 +1,12 @@
-//! Links: bounded rings from one thread to another, whose ends know what was sent and what was received.
+//! The feeding of whatever takes items: a thread for each source, whose items one to eight builders take from bounded rings.
 //!
-//! An outlet sends and an inlet receives, each on a thread of its own: the bounded buffer of one producer and one
-//! consumer (Lamport 1977). Only `link` takes memory, and no call waits or takes a lock. The outlet's `finish`
-//! gives a receipt, which names every item sent; held against the inlet, it tells what hasn't arrived yet (this
-//! project's choice).
+//! A ring joins two threads: an outlet sends and an inlet receives, the bounded buffer of one producer and one consumer
+//! (Lamport 1977). Only [`link`] takes memory, and no call waits or takes a lock. The outlet's `finish` gives a receipt, which
+//! names every item sent; held against the inlet, it tells what hasn't arrived yet (this project's choice).
 //!
-//! The hand-over of items: what a feeder and a builder each do on a thread of their own, over the links between them.
-//!
-//! [`feed_out`] sends the items of one feed to each builder, as [`Parcel`]s over a link of their own, and [`gather`]
-//! takes them in. [`settle`] holds the receipts of all links against what was taken.
-//!
-//! The feeders of a build: a thread for each source, whose items one to eight builders take from links.
-//!
-//! [`feed_all`] runs the feeds of all sources into whatever [takes items](cube_feed::TakesItems), and holds the receipts
-//! of all links against what was taken; [`feed_shares`] does where each builder has sources of its own. What a feeder
-//! and a builder do on their threads stands in `cube_handover`.
+//! [`feed_out`] sends the items of one feed to each builder as [`Parcel`]s, and [`gather`] takes them in; [`settle`] holds the
+//! receipts of all links against what was taken. [`feed_all`] runs the feeds of all sources into whatever
+//! [takes items](cube_feed::TakesItems), and [`feed_shares`] does where each builder has sources of its own.
 #![tactic(auto)]
 
 mod copies;

@@ -60,7 +60,7 @@ impl<T: Drop> Model for Receipt<T> {
 
 /// The two ends of a new link with room for `capacity` items, 1 to 65536 (this project's choice).
 ///
-/// The only error is want of memory, and no other call of a link takes any. The ring is freed with the end that is
+/// The only error is that memory ran out, and no other call of a link takes any. The ring is freed with the end that is
 /// dropped second, with the items still in it.
 pub fn link<T: Drop>(alloc: Global, capacity: usize) -> Result<(Outlet<T>, Inlet<T>), AllocError>
     requires { (1 ≤ capacity) × (capacity ≤ 65536) }

@@ -7,10 +7,10 @@ ghost use Rattle.cube_rings.specs.declared.parcel.Parcel.{Parcel as TheParcel};
 ghost use Rattle.cube_rings.specs.declared.parcel.Parcel.TheVariants.{Line, End};
 
 use crate::gate::Gate;
+use crate::link_ends::Outlet;
 use crate::parcel::Parcel;
 use crate::patience::Patience;
 use cube_feed::FeedItem;
-use crate::link_ends::Outlet;
 use std::sync::Wait;
 
 /// How far a source has come with its offers to the builders.

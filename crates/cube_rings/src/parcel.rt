@@ -1,6 +1,6 @@
 //! What goes over a link, and what a feeder leaves.
-use cube_feed::{FeedFault, FeedItem};
 use crate::link_ends::Receipt;
+use cube_feed::{FeedFault, FeedItem};
 
 /// What a feeder sends: an item of its feed, or the end, after which nothing comes (this project's choice).
 #[derive(Debug, Drop)]

@@ -1,8 +1,8 @@
 //! How long a feeder waits at full links, and a builder at empty ones.
 ghost use Rattle.std.specs.Prelude.{◌≡◌};
 
-use crate::parcel::Parcel;
 use crate::link_ends::{Inlet, Outlet};
+use crate::parcel::Parcel;
 use std::sync::Wait;
 use std::thread;
 use std::thread::Parker;

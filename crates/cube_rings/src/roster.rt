@@ -1,9 +1,9 @@
 //! Who takes part in a run, and what is kept of them.
-use crate::words::Word;
-use cube_feed::Feed;
 use crate::gatherer::Gatherer;
 use crate::link_ends::{Inlet, Outlet};
 use crate::parcel::{FeederEnd, Parcel};
+use crate::words::Word;
+use cube_feed::Feed;
 use std::io::Read;
 
 /// A feeder that is to be started: the feed of a source, and its links to the builders.

@@ -7,8 +7,8 @@ ghost use Rattle.cube_rings.specs.Settling.{received_on, received_by, kept_of, r
 use crate::ends::first_unsealed;
 use crate::fault::FeedingFault;
 use crate::gatherer::Gatherer;
-use crate::parcel::{FeederEnd, Parcel};
 use crate::link_ends::Inlet;
+use crate::parcel::{FeederEnd, Parcel};
 
 // Holds the receipt of the link to a builder, if one was given, against the link's inlet.
 fn hold(builder: usize, end: &mut FeederEnd, inlet: &mut Inlet<Parcel>)
@@ -51,7 +51,7 @@ fn hold_all<B: Drop>(ends: Vec<FeederEnd>, gatherers: Vec<Gatherer<B>>) -> Vec<G
     gatherers
 }
 
-// Whether memory was wanting for a builder.
+// Whether memory ran out for a builder.
 fn is_wanting<B: Drop>(gatherers: &[Gatherer<B>]) -> bool
     ensures { IsFalse result → All (λ gatherer. gatherer.wanting ≡ false) gatherers.now }
 {
@@ -66,7 +66,7 @@ fn is_wanting<B: Drop>(gatherers: &[Gatherer<B>]) -> bool
 /// Tells why the ends of feeders that didn't stop and the builders make no run, or gives the builders back, each receipt
 /// held against its link.
 ///
-/// The first fault of these: want of memory, the lowest source that lacks a receipt. A link that gave its end has nothing
+/// The first fault of these: out of memory, the lowest source that lacks a receipt. A link that gave its end has nothing
 /// left that its receipt names.
 pub fn settle<B: Drop>(
     ends: Vec<FeederEnd>,

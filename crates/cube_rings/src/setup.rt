@@ -6,12 +6,12 @@ ghost use Rattle.cube_rings.specs.Shares.{AreLinkedInShares};
 ghost use Rattle.cube_feed.specs.Feed.{rest_of_feed};
 ghost use Rattle.cube_rings.specs.Wiring.{AreLinked};
 
+use crate::gatherer::Gatherer;
 use crate::roster::{Feeder, Roster};
+use crate::shares::cut_up;
 use crate::wiring::{feeders_of, gatherers_of, words_for};
 use cube_core::Schema;
 use cube_feed::TakesItems;
-use crate::gatherer::Gatherer;
-use crate::shares::cut_up;
 use std::alloc::{AllocError, Global};
 use std::io::Read;
 
@@ -42,8 +42,8 @@ fn roster_of<B: TakesItems>(
     })
 }
 
-// Builders with their links, and the feeders of all readers, each linked to every builder. The only error is want of
-// memory.
+// Builders with their links, and the feeders of all readers, each linked to every builder. The only error is that memory ran
+// out.
 fn link_up<'e, R: Read + Drop, B: Drop>(
     alloc: Global,
     schema: &'e Schema,
@@ -65,7 +65,7 @@ fn link_up<'e, R: Read + Drop, B: Drop>(
     Ok((gatherers, feeders))
 }
 
-/// Links a feeder of each reader to every builder. The only error is want of memory.
+/// Links a feeder of each reader to every builder. The only error is that memory ran out.
 pub fn set_up<'e, R: Read + Drop, B: TakesItems>(
     alloc: Global,
     schema: &'e Schema,
@@ -98,7 +98,7 @@ pub fn set_up<'e, R: Read + Drop, B: TakesItems>(
 }
 
 /// Links a feeder of each reader to the builder of its share: the first builder has the first readers, as many as it has
-/// sources, and so on. The only error is want of memory.
+/// sources, and so on. The only error is that memory ran out.
 pub fn set_up_shares<'e, R: Read + Drop, B: TakesItems>(
     alloc: Global,
     schema: &'e Schema,
@@ -137,7 +137,7 @@ pub fn set_up_shares<'e, R: Read + Drop, B: TakesItems>(
     })
 }
 
-/// A list of one element. The only error is want of memory.
+/// A list of one element. The only error is that memory ran out.
 pub(crate) fn only<X: Drop>(alloc: Global, one: X) -> Result<Vec<X>, AllocError>
     ensures { IfOk result (λ list. list.items ≡ one ∷ []) }
 {

@@ -4,13 +4,13 @@ ghost use Rattle.std.specs.List.{All};
 ghost use Rattle.cube_rings.specs.Wholes.{IsWholeOf};
 
 use crate::gatherer::{Gatherer, Place};
+use crate::link_ends::Inlet;
 use crate::parcel::Parcel;
 use cube_feed::TakesItems;
-use crate::link_ends::Inlet;
 use std::alloc::{AllocError, Global};
 
 /// Gives each of these builders the links of its sources: the first those of the first sources, the next of those that
-/// follow, and so on. The only error is want of memory.
+/// follow, and so on. The only error is that memory ran out.
 pub fn cut_up<B: TakesItems>(
     alloc: Global,
     whole: Gatherer<Vec<B>>,
@@ -44,8 +44,8 @@ pub fn cut_up<B: TakesItems>(
     Ok(shares)
 }
 
-/// Puts the builders of all shares together, with the links of all sources in their order. The only error is want of
-/// memory.
+/// Puts the builders of all shares together, with the links of all sources in their order. The only error is that memory ran
+/// out.
 pub fn put_together<B: Drop>(
     alloc: Global,
     shares: Vec<Gatherer<B>>,

@@ -4,14 +4,14 @@ ghost use Rattle.std.specs.List.{All, AllZip};
 ghost use Rattle.cube_rings.specs.Feeding.{Feeds};
 ghost use Rattle.cube_rings.specs.Starting.{MayStart, IsReady, HasGathered, Keeps};
 
-use crate::roster::{Feeder, NoThread, Roster};
-use crate::starting_feeders::{gather_all, with_feeders};
-use crate::words::{Word, tell_all, wait_for_word};
-use cube_feed::TakesItems;
 use crate::gate::Gate;
 use crate::gatherer::Gatherer;
 use crate::link_ends::Inlet;
 use crate::parcel::Parcel;
+use crate::roster::{Feeder, NoThread, Roster};
+use crate::starting_feeders::{gather_all, with_feeders};
+use crate::words::{Word, tell_all, wait_for_word};
+use cube_feed::TakesItems;
 use std::alloc::Global;
 use std::io::Read;
 use std::snapshot::Snapshot;

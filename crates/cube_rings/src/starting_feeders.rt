@@ -4,15 +4,15 @@ ghost use Rattle.std.specs.List.{All, AllZip};
 ghost use Rattle.cube_rings.specs.Feeding.{Feeds};
 ghost use Rattle.cube_rings.specs.Starting.{RosterHasRoom, IsReady, HasGathered, Keeps, StartsLast};
 
-use crate::roster::{Feeder, NoThread, Roster};
-use crate::words::{Word, tell_all, wait_for_word};
-use cube_feed::TakesItems;
 use crate::feeding::feed_out;
 use crate::gate::Gate;
 use crate::gatherer::Gatherer;
 use crate::gathering::gather;
 use crate::link_ends::Inlet;
 use crate::parcel::FeederEnd;
+use crate::roster::{Feeder, NoThread, Roster};
+use crate::words::{Word, tell_all, wait_for_word};
+use cube_feed::TakesItems;
 use std::alloc::Global;
 use std::io::Read;
 use std::snapshot::Snapshot;
@@ -48,7 +48,7 @@ fn feed_on_word<W: Wait, R: Read + Drop, G: Gate>(
     }
 }
 
-/// Gathers from all links of a builder, and notes whether memory was wanting.
+/// Gathers from all links of a builder, and notes whether memory ran out.
 pub(crate) fn gather_all<W: Wait, B: TakesItems, G: Gate>(
     rt: &W,
     gatherer: &mut Gatherer<B>,

@@ -4,11 +4,11 @@ ghost use Rattle.std.specs.List.{All, AllZip};
 ghost use Rattle.cube_rings.specs.Feeding.{Feeds};
 ghost use Rattle.cube_rings.specs.Starting.{MayStart, IsReady, HasGathered};
 
+use crate::gate::Gate;
+use crate::gatherer::Gatherer;
 use crate::roster::{Feeder, NoThread, Roster};
 use crate::starting_builders::with_builders;
 use cube_feed::TakesItems;
-use crate::gate::Gate;
-use crate::gatherer::Gatherer;
 use std::alloc::Global;
 use std::io::Read;
 use std::sync::Wait;

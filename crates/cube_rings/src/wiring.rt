@@ -4,13 +4,13 @@ ghost use Rattle.std.specs.List.{All};
 ghost use Rattle.cube_feed.specs.Feed.{rest_of_feed};
 ghost use Rattle.cube_rings.specs.Wiring.{Grows, Connects, AreLinked};
 
+use crate::gatherer::{Gatherer, Place};
+use crate::link_ends::{Inlet, Outlet, link};
+use crate::parcel::Parcel;
 use crate::roster::Feeder;
 use crate::words::Word;
 use cube_core::Schema;
 use cube_feed::Feed;
-use crate::gatherer::{Gatherer, Place};
-use crate::link_ends::{Inlet, Outlet, link};
-use crate::parcel::Parcel;
 use std::alloc::{AllocError, Global};
 use std::io::Read;
 

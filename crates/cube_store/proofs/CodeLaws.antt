@@ -67,7 +67,7 @@ start_fails fault cant (kind.Row number) h = h
 start_fails fault cant (kind.Digest number) h = h
 start_fails fault cant kind.TooMany h = h
 
--- a copy of the log fails for want of memory, or at a fault
+-- a copy of the log fails because memory ran out, or at a fault
 pub copy_fails : (was : trees.View) (fault : Type 0) (e : StoreError) → trees.HasCause was fault ⊥ e
     → HasReason fault (IsTrue was.is_broken) (code_of_failure e)
 copy_fails was fault cause.OutOfMemory h = tt

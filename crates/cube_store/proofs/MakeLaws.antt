@@ -167,7 +167,7 @@ module _ (old put : View) (notes : List Entry) (blank : IsBlank old) (writes : W
         notes_are = ap (λ (t : Trees). t 1) last ∙ writes.notes_are;
       }
 
-  -- a commit of them fails for want of memory or by a fault
+  -- a commit of them fails because memory ran out or by a fault
   pub commit_cause : (a b c : ℕ) (cant : Type 0) (e : StoreError) → a ≤ b → HasCause put (MoreFaults b c) ⊥ e
       → IsCause (MoreFaults a c) ⊥ cant e
   commit_cause a b c cant e up h =

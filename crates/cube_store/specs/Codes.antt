@@ -61,7 +61,7 @@ TellsFailedCall NoRoom = ⊤
 TellsFailedCall Memory = ⊤
 
 -- Why a call on a store is told as failed:
--- want of memory, a fault of the disk or of the file, or one that broke the store before (this project's choice).
+-- out of memory, a fault of the disk or of the file, or one that broke the store before (this project's choice).
 abbrev pub HasReason : Type 0 → Type 0 → StoreFault → Type 0
 HasReason fault broken InUse = ⊥
 HasReason fault broken CantOpen = ⊥

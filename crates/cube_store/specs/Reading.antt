@@ -39,7 +39,7 @@ pub record HasTaken {K : Type 0} (takes : K → Entry → K → Type 0) (form : 
   pub taken : takes start change end
 
 -- Why a row with this number, behind one with that digest, isn't taken: it is no such change, its digest is another,
--- or memory is wanting (this project's choice).
+-- or memory runs out (this project's choice).
 abbrev pub IsntTaken : RowForm → List ℕ → ℕ → Row → OpenFault → Type 0
 IsntTaken form before number row (kind.Store error) = error ≡ OutOfMemory
 IsntTaken form before number row (kind.Row at) =

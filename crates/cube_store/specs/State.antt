@@ -151,7 +151,7 @@ pub record ForgetsNothing {S : Type 0} (view : S → View) (faults : S → ℕ) 
   pub stays : IsClean (view new) → IsTrue (view old).is_open
       → IsTrue (view new).is_open ⊎ MoreFaults (faults old) (faults new)
 
--- Why a call on a store fails: want of memory, a fault of the disk or of the file, that the store was shut,
+-- Why a call on a store fails: out of memory, a fault of the disk or of the file, that the store was shut,
 -- or that the row can't be stored (this project's choice).
 abbrev pub IsCause : Type 0 → Type 0 → Type 0 → StoreError → Type 0
 IsCause fault shut unstorable OutOfMemory = ⊤
@@ -175,7 +175,7 @@ ExplainsUnopened fault shut is_open tables form trees notes (kind.Digest number)
     is_open × IsUnchainedAt form (trees 0) number
 ExplainsUnopened fault shut is_open tables form trees notes kind.TooMany = is_open × (2 ^ 62 < length (trees 0))
 
--- A call on the store failed, for want of memory or by a fault, and not for what is stored (this project's choice).
+-- A call on the store failed, because memory ran out or by a fault, and not for what is stored (this project's choice).
 abbrev pub IsFailedCall : Type 0 → OpenFault → Type 0
 IsFailedCall fault (kind.Store error) = (error ≡ OutOfMemory) ⊎ fault
 IsFailedCall fault _ = ⊥

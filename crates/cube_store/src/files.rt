@@ -12,9 +12,9 @@ ghost use Rattle.cube_store.specs.State.{IsUnmade, stored_form};
 ghost use Rattle.cube_store.specs.Codes.{TellsFailedCall};
 ghost use Rattle.cube_store.specs.Found.{store_schema, BeginsMaking, StoreOf, StoreIn, IsBegun, HasNoTable, HasLooked, IsFoundAs, IsFound, IsFoundMade};
 
+use crate::form::RowForm;
 use crate::store_fault::StoreFault;
 use crate::tables::{form_told, schema};
-use crate::form::RowForm;
 use sqlite_disk::{Disk, Files, Start};
 use sqlite_pager::{Options, Pager};
 use sqlite_pool::probe_blank;
@@ -133,8 +133,8 @@ fn begin_well<D: Disk>(alloc: Global, files: &mut Files<D>) -> Result<bool, Stor
     }
 }
 
-/// The files with the schema of a store in this form, of which nothing is known yet. It gives them back where memory is
-/// wanting.
+/// The files with the schema of a store in this form, of which nothing is known yet. It gives them back where memory runs
+/// out.
 fn unopened<D: Disk>(
     alloc: Global,
     files: Files<D>,

@@ -1,17 +1,13 @@
-//! Changes kept in a store of SQLite's tables, to which they are only appended.
+//! A store of changes in a database file and its log, which sqlite3 reads, and the journal that keeps them there.
 //!
 //! A change is the number of its source and the bytes of its record. A store notes what the feeds were when it was made.
-//! [`open_or_make`] makes one, or hands the changes of the last commit over in their order; [`ChangeJournal::append`] takes
-//! one more, and [`ChangeJournal::commit`] makes what was appended outlast a crash, as [`crash_and_open`] says.
+//! [`open_path`] opens the two files at a path, or makes them; [`open_files`] opens the store that two files hold, or makes
+//! its tables where they hold none; [`start`] goes on from it, with a journal; [`close`] copies the log into the file. A store
+//! has the tables `changes` and `feeds`, and nothing else.
 //!
-//! Each row of a table of the form [`RowForm::Chained`] ends in a digest over it and those before it. A start looks at each.
-//!
-//! A store of changes in a database file and its log, which sqlite3 reads.
-//!
-//! [`prepare_path`] looks at what stands at a path, and [`open_path`] opens the two files there, or makes them; [`open_files`]
-//! opens the store that two files hold, or makes its tables where they hold none, and [`open_made_files`] makes none; [`start`]
-//! goes on from it, with a journal, and so does [`start_made`], which writes nothing; [`close`] copies the log into the file. A
-//! store has the tables `changes` and `feeds`, and nothing else.
+//! Over any store of SQLite's tables, [`open_or_make`] makes a journal, or hands the changes of the last commit over in their
+//! order; [`ChangeJournal::append`] takes one more, and [`ChangeJournal::commit`] makes what was appended outlast a crash, as
+//! [`crash_and_open`] says.
 #![tactic(auto)]
 
 mod batch;

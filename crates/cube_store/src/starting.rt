@@ -11,14 +11,14 @@ ghost use Rattle.cube_store.specs.Closing.{IsCopied, IsEmptied, IsUnharmed, Leav
 ghost use Rattle.cube_store.specs.Codes.{TellsFailedCall};
 ghost use Rattle.cube_store.specs.Found.{StoreIn, IsFound};
 
-use crate::store_fault::StoreFault;
-use crate::files::page_size;
-use crate::tables::schema;
 use crate::begin::{open_made, open_or_make};
+use crate::files::page_size;
 use crate::form::form_of;
 use crate::journal::ChangeJournal;
 use crate::note::FeedNote;
 use crate::sink::ChangeSink;
+use crate::store_fault::StoreFault;
+use crate::tables::schema;
 use sqlite_disk::Disk;
 use sqlite_store::FileStore;
 use sqlite_trees::store::Store;
@@ -85,7 +85,7 @@ pub fn next_open<D: Disk>(journal: &ChangeJournal<FileStore<D>>) -> Result<bool,
 /// Copies the log into the file, so that one file is left, and gives the store back, whose `close` gives the two files. What
 /// isn't committed is lost with the journal.
 ///
-/// An error gives the store back too: want of memory, a fault of the disk, or one that broke the store before. What a crash
+/// An error gives the store back too: out of memory, a fault of the disk, or one that broke the store before. What a crash
 /// leaves then it could leave before.
 pub fn copy_log<D: Disk>(
     journal: ChangeJournal<FileStore<D>>,

@@ -10,12 +10,12 @@ ghost use Rattle.cube_store_commands.specs.Asking.{AnsweredAt, AnswersStored, Fa
 
 use crate::failure::StoredFailure;
 use crate::feeds::StoredFeeds;
-use crate::question::answer_over;
-use cube_core::Schema;
-use cube_live::{Live, open_unsettled};
 use crate::journal::StoreJournal;
+use crate::question::answer_over;
 use crate::session::resume_made;
 use cube_build::{Gate, Settings};
+use cube_core::Schema;
+use cube_live::{Live, open_unsettled};
 use cube_tool::Reporter;
 use cube_tool::command::{Failure, Question, Status};
 use sqlite_trees::store::Store;

@@ -2,8 +2,8 @@
 ghost use Rattle.std.specs.Prelude.{◌≡◌};
 ghost use Rattle.cube_store_commands.specs.Stored.{status_of_stored};
 
-use cube_store::StoreFault;
 use crate::session::{ResumeFault, StoredFault};
+use cube_store::StoreFault;
 use cube_tool::command::{Failure, Status};
 use std::fmt;
 

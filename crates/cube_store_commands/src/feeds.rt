@@ -1,7 +1,7 @@
 //! What a command over a store takes.
-use cube_store::FeedNote;
-use cube_live::Rests;
 use crate::session::Commits;
+use cube_live::Rests;
+use cube_store::FeedNote;
 use std::io::Read;
 
 /// The feeds of a command, and an open store whose changes come after them.

@@ -6,8 +6,8 @@ ghost use Rattle.cube_store.specs.Keeping.{HasKept};
 
 use crate::record::text_of;
 use csv::ByteRecord;
-use cube_store::{BatchJournal, ChangeJournal};
 use cube_live::{Journal, JournalFault};
+use cube_store::{BatchJournal, ChangeJournal};
 use sqlite_trees::error::StoreError;
 use sqlite_trees::store::Store;
 use std::alloc::Global;

@@ -1,13 +1,9 @@
-//! A session's changes, kept in a store: what `cube_session` calls a journal, over `cube_store`.
-//!
-//! [`StoreJournal`] is told of each change before it is applied, and [`Replay`] takes the changes of a store before a
-//! session's first record; [`serve_stored`] does both.
-//!
 //! The commands over a store: `datacube live --store` keeps a cube right, with its changes in the store, and `datacube print
-//! --store` and the like ask what it has come to.
+//! --store` and the like ask what it has come to. They stand apart, so that what reads no store has nothing of one below it.
 //!
-//! [`live_stored`] is `cube_tool`'s `live` over feeds and a store, and [`ask_stored`] its `ask`. They stand apart, so that what
-//! reads no store has nothing of one below it.
+//! [`live_stored`] is `cube_tool`'s `live` over feeds and a store, and [`ask_stored`] its `ask`. [`StoreJournal`] is told of
+//! each change before it is applied, and [`Replay`] takes the changes of a store before a session's first record;
+//! [`serve_stored`] does both.
 #![tactic(auto)]
 
 mod asking;

@@ -8,12 +8,12 @@ ghost use Rattle.cube_store_commands.specs.Stored.{FailsToServeStored, ServesSto
 
 use crate::failure::StoredFailure;
 use crate::feeds::{SessionInput, StoredFeeds};
-use cube_core::Schema;
-use cube_feed::RecordReader;
-use cube_store::ChangeJournal;
-use cube_live::{Rests, open_unsettled};
 use crate::session::serve_stored;
 use cube_build::{Gate, Settings};
+use cube_core::Schema;
+use cube_feed::RecordReader;
+use cube_live::{Rests, open_unsettled};
+use cube_store::ChangeJournal;
 use cube_tool::Reporter;
 use cube_tool::command::{Failure, Status, status_after};
 use sqlite_trees::store::Store;

@@ -22,7 +22,7 @@ fn is_plain_byte(byte: u8) -> bool
     !matches!(byte, b'"' | b'\r' | b'\n')
 }
 
-/// Takes what stands between the commas of a text as the fields of a record. The only error is want of memory.
+/// Takes what stands between the commas of a text as the fields of a record. The only error is that memory ran out.
 pub fn read_pieces(text: &[u8], fields: &mut ByteRecord) -> Result<(), AllocError>
     ensures { OnOk result (fields_of fields.new ≡ pieces text.now) }
 {

@@ -7,7 +7,7 @@ ghost use Rattle.cube_store_commands.specs.Records.{ReadsBack, record_text};
 use csv::{ByteRecord, WriterBuilder};
 use std::alloc::{AllocError, Global};
 
-/// A record as the csv writer writes it, without its line end. The only error is want of memory.
+/// A record as the csv writer writes it, without its line end. The only error is that memory ran out.
 pub fn text_of(alloc: Global, fields: &ByteRecord) -> Result<Vec<u8>, AllocError>
     ensures text { IfOk result (λ text. text.items ≡ record_text (fields_of fields.now)) }
     ensures back { IfOk result (λ text. ReadsBack (fields_of fields.now) text.items) }

@@ -8,8 +8,8 @@ ghost use Rattle.cube_store_commands.specs.Records.{fields_in};
 use crate::plain::{is_plain, read_pieces};
 use csv::ByteRecord;
 use cube_feed::{RecordReader, change_of_record, is_read, put_rest};
-use cube_store::ChangeSink;
 use cube_live::{Live, LiveFault};
+use cube_store::ChangeSink;
 use std::alloc::{AllocError, Global};
 use std::marker::Model;
 
@@ -68,7 +68,7 @@ impl<'s> Replay<'s> {
 }
 
 // Takes the fields of the record in a stored text: the pieces between its commas where it begins as a change does and calls
-// for no quotes, without a reader, which costs much more. The only error is want of memory.
+// for no quotes, without a reader, which costs much more. The only error is that memory ran out.
 fn read_stored(alloc: Global, text: &[u8], fields: &mut ByteRecord) -> Result<(), AllocError>
     ensures { OnOk result (fields_of fields.new ≡ fields_in text.now) }
 {
@@ -88,7 +88,7 @@ fn may_begin(text: &[u8]) -> bool
     }
 }
 
-// Takes the fields of the record in a stored text as a reader reads them. The only error is want of memory.
+// Takes the fields of the record in a stored text as a reader reads them. The only error is that memory ran out.
 fn read_quoted(alloc: Global, text: &[u8], fields: &mut ByteRecord) -> Result<(), AllocError>
     ensures { OnOk result (fields_of fields.new ≡ fields_in text.now) }
 {

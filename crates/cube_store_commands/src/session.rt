@@ -15,8 +15,8 @@ ghost use Rattle.cube_store_commands.specs.Serving.{BreaksStored, ExplainsResume
 use crate::journal::StoreJournal;
 use crate::replay::Replay;
 use cube_feed::RecordReader;
-use cube_store::{FeedNote, StoreFault, start, start_made};
 use cube_live::{Live, Rests, SessionFault, serve};
+use cube_store::{FeedNote, StoreFault, start, start_made};
 use sqlite_trees::store::Store;
 use std::alloc::Global;
 use std::io::{Read, Write};
@@ -69,7 +69,7 @@ impl From<ResumeFault> for StoredFault {
 /// keeps those of the session behind them, of which so many, at least one, may wait. A store without a row notes what the
 /// feeds are, and must have the same notes else.
 ///
-/// A store of changes and of these notes is refused only where a call fails, for want of memory, or where it has more changes
+/// A store of changes and of these notes is refused only where a call fails, because memory ran out, or where it has more changes
 /// of a source than the schema takes. An error gives the store back.
 pub fn resume<'s, S: Store>(
     alloc: Global,
@@ -104,7 +104,7 @@ pub fn resume<'s, S: Store>(
 /// Takes the changes of a store into the cube of a question, which stands where its feeds ended, and gives the journal of the
 /// store. Nothing is written: a store must have these notes, and one without a row is refused.
 ///
-/// A store of changes and of these notes is refused only where a call fails, for want of memory, or where it has more changes
+/// A store of changes and of these notes is refused only where a call fails, because memory ran out, or where it has more changes
 /// of a source than the schema takes. An error gives the store back.
 pub fn resume_made<'s, S: Store>(
     alloc: Global,

@@ -1,6 +1,4 @@
-//! Tests of runs in threads with gates that hold them, and of readers and writers that fail.
-//!
-//! Tests of links.
+//! Tests that need code: runs in threads with gates that hold them, readers and writers that fail, and links.
 #![tactic(auto)]
 
 #[cfg(test)]
@@ -23,5 +21,3 @@ mod texts;
 mod turn;
 #[cfg(test)]
 mod writers;
-
-

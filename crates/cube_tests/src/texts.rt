@@ -1,8 +1,8 @@
 //! Builds and runs over feeds that are texts.
 ghost use Rattle.std.specs.Prelude.{◌≡◌, ◌≤◌, length, vec_len, IfOk};
 
-use cube_core::Schema;
 use cube_build::{Gate, Settings, build};
+use cube_core::Schema;
 use cube_tool::{RunFault, run, run_plain};
 use std::alloc::{AllocError, Global};
 use std::io::Write;

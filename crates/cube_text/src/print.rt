@@ -25,7 +25,7 @@ const BLOCK: usize = 64;
 
 /// The header line of the schema, and a line for each row in the order given.
 ///
-/// The only error is want of memory.
+/// The only error is that memory ran out.
 pub fn print_rows(alloc: Global, schema: &Schema, rows: &[Row]) -> Result<Vec<u8>, AllocError>
     requires { All (HasShapeOf schema.now) rows.now }
     ensures { IfOk result (λ text. text.items ≡ text_of_rows schema.now rows.now) }
@@ -38,7 +38,7 @@ pub fn print_rows(alloc: Global, schema: &Schema, rows: &[Row]) -> Result<Vec<u8
 
 /// The header line of the schema, and a line for the row of each cell in the order given, with no list of the rows.
 ///
-/// The only error is want of memory.
+/// The only error is that memory ran out.
 pub fn print_cells<N: Numbers>(
     alloc: Global,
     schema: &Schema,
@@ -55,7 +55,7 @@ pub fn print_cells<N: Numbers>(
 /// The text that [`print_cells`] gives, in pieces: the cells are cut into as many parts as there are threads, and each
 /// thread makes the lines of one. With one thread, or none, no thread is started.
 ///
-/// The only error is want of memory.
+/// The only error is that memory ran out.
 pub fn print_cells_in_pieces<T: Threads + Sync>(
     rt: &T,
     alloc: Global,

@@ -44,7 +44,7 @@ question_fault s (Drill key dimension) = drill_fault s.grouping_sets dimension k
 question_fault s (RollUp key dimension) = None
 question_fault s Refusals = None
 
--- the fault that is told of a question that may be refused for one that is said, and else for want of memory alone
+-- the fault that is told of a question that may be refused for one that is said, and else because memory ran out alone
 abbrev pub IsToldOf : Option QueryFault → QueryFault → Type 0
 IsToldOf (Some said) fault = fault ≡ said
 IsToldOf None fault = fault ≡ query_fault.Memory
@@ -55,7 +55,7 @@ IsQueryFault s (Drill key dimension) fault = IsToldOf (drill_fault s.grouping_se
 IsQueryFault s _ fault = ⊥
 
 -- what writing a text of which this holds comes to:
--- it was written whole, or its first bytes, as many as the fault says, or for want of memory nothing
+-- it was written whole, or its first bytes, as many as the fault says, or nothing where memory ran out
 abbrev pub Writes : {T : Type 0} → (List ℕ → Type 0) → Result T TextFault → Option (List ℕ) → Option (List ℕ) → Type 0
 Writes Holds (Ok _) old new = Wrote Holds old new
 Writes Holds (Err text_fault.Full) old new = new ≡ old
@@ -94,7 +94,7 @@ SampleLeaves s sources (Run fault) old new = Leaves (ExplainsPlainRun s sources)
 SampleLeaves s sources _ old new = ⊥
 
 -- what showing a text comes to, of which nothing is said:
--- it was written whole, or its first bytes, as many as the failure says, or for want of memory nothing
+-- it was written whole, or its first bytes, as many as the failure says, or nothing where memory ran out
 abbrev pub ShowsText : Result Status Failure → Option (List ℕ) → Option (List ℕ) → Type 0
 ShowsText (Ok status) old new = (status ≡ Done) × Wrote (λ text. ⊤) old new
 ShowsText (Err (Run run_fault.Full)) old new = new ≡ old

@@ -36,7 +36,7 @@ abbrev pub explained : List Note → Option (List ℕ) → List ℕ
 explained notes code = flat_map note_text (filter (has_code code) notes)
 
 -- what a failed explanation leaves:
--- nothing was written of a code that isn't there, nor for want of memory, and else the first bytes
+-- nothing was written of a code that isn't there, nor because memory ran out, and else the first bytes
 abbrev pub ExplainLeaves : List Note → Option (List ℕ) → Failure → Option (List ℕ) → Option (List ℕ) → Type 0
 ExplainLeaves notes code UnknownCode old new = (new ≡ old) × (explained notes code ≡ [])
 ExplainLeaves notes code (Run run_fault.Full) old new = new ≡ old

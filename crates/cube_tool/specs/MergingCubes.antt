@@ -19,7 +19,7 @@ MergeLeaves given wanted texts _ old new = ⊥
 abbrev pub CanBeMerged : Layout → Layout → List (Option (List ℕ)) → Type 0
 CanBeMerged given wanted texts = (text : List ℕ) × IsMergeOf given wanted texts (Some []) (Some text)
 
--- why these texts can't be merged: the fault of one of them; for want of memory nothing is said of them
+-- why these texts can't be merged: the fault of one of them; where memory ran out nothing is said of them
 abbrev pub CannotBeMerged : Layout → List (Option (List ℕ)) → MergeFault → Type 0
 CannotBeMerged given texts fault.Memory = ⊤
 CannotBeMerged given texts fault.Aggregates = ⊤

@@ -76,7 +76,7 @@ Leaves Explains question s sources (run_fault.Write sent) old new =
 Leaves Explains question s sources fault old new = (new ≡ old) × Explains fault
 
 -- why a run over feeds wrote nothing: that for which they weren't taken;
--- want of memory only before a record was read, or where all feeds are good
+-- out of memory only before a record was read, or where all feeds are good
 pub record ExplainsRun (s : Layout) (sources : SourceBytes) (fault : RunFault) : Type 0 where
   pub why : FeedingFault
   pub is : fault ≡ fault_of_feeding why

@@ -1,6 +1,6 @@
 //! What the program does, as calls over words, readers and writers.
 //!
-//! `cube_words` tells what the words of a command line ask for. Each command is one call, which gives the
+//! `cube_console` tells what the words of a command line ask for. Each command is one call, which gives the
 //! [`Status`] to end with, or a [`Failure`], whose text is the line for standard error.
 
 mod explanation;

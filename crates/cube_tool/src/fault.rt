@@ -2,9 +2,9 @@
 ghost use Rattle.std.specs.Prelude.{◌≡◌};
 ghost use Rattle.cube_tool.specs.Faults.{fault_of_build, fault_of_feeding, fault_of_text};
 
+use cube_build::FeedingFault;
 use cube_feed::FeedFault;
 use cube_ledger::BuildFault;
-use cube_build::FeedingFault;
 use cube_writing::WriteFault;
 use std::alloc::AllocError;
 use thiserror::Error;

@@ -11,10 +11,10 @@ mod runs;
 pub use answers::{
     answer, write_cube, write_drill, write_plain_cube, write_refusals, write_roll_up, write_slice,
 };
+pub use cube_build::{Gate, OpenGate, Settings};
 pub use cube_live::print_refusals;
 pub use cube_merge::{InputFault, MergeFault};
 pub use cube_text::{print_cells, print_rows};
-pub use cube_build::{Gate, OpenGate, Settings};
 pub use fault::{RunFault, TextFault};
 pub use question::Question;
 pub use reporter::Reporter;

@@ -7,8 +7,8 @@ ghost use Rattle.cube_tool.specs.Run.{ExplainsPlainRun, ExplainsRun, IsTextOf, L
 use crate::answers::{has_builder, write_cube, write_plain_cube};
 use crate::fault::RunFault;
 use crate::question::Question;
-use cube_core::Schema;
 use cube_build::{Builder, Built, Gate, OpenGate, Settings, build, build_plain};
+use cube_core::Schema;
 use std::alloc::Global;
 use std::io::{Read, Write};
 use std::sync::Wait;
@@ -46,7 +46,7 @@ pub fn run<T: Threads + Wait + Sync, R: Read + Drop + Send, G: Gate + Sync, W: W
 /// Takes every item of at most 64 feeds, source after source, computes the cube of the facts that are present in
 /// the end, over all grouping sets of the schema, and writes its text, all on the caller's thread.
 ///
-/// On a fault nothing was written, but on `Write`, where the first `sent` bytes of the text went out. `Full` is want of
+/// On a fault nothing was written, but on `Write`, where the first `sent` bytes of the text went out. `Full` is out of
 /// memory in building, filling, sorting or printing; a feed at fault that was met before is named.
 pub fn run_plain<R: Read + Drop, W: Write>(
     alloc: Global,

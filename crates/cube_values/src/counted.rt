@@ -6,10 +6,10 @@ ghost use Rattle.cube_values.specs.Narrow.{once_each};
 ghost use Rattle.cube_values.specs.Values.{bag_of, bag_left};
 
 use crate::log::Log;
-use crate::short::{FEW, Short};
-use crate::table::Table;
 use crate::narrow::Narrow;
+use crate::short::{FEW, Short};
 use crate::single::Single;
+use crate::table::Table;
 use std::alloc::{AllocError, Global};
 use std::collections::BTreeMap;
 use std::marker::Model;
@@ -75,7 +75,7 @@ impl Counted {
         }
     }
 
-    /// Adds one `value`. Where memory is wanting, the multiset stays as it was.
+    /// Adds one `value`. Where memory runs out, the multiset stays as it was.
     #[tactic(auto, using(crate::proofs::BagLaws::size_of_once, crate::proofs::BagLaws::adds_once))]
     pub fn add(&mut self, value: i64) -> Result<(), AllocError>
         requires { size_of self.old + 1 < 2 ^ 64 }
@@ -87,7 +87,7 @@ impl Counted {
         Ok(())
     }
 
-    /// Adds all numbers of another multiset, each different one at once. Where memory is wanting, the multiset is
+    /// Adds all numbers of another multiset, each different one at once. Where memory runs out, the multiset is
     /// left empty.
     pub fn merge(&mut self, more: &Counted) -> Result<(), AllocError>
         requires { size_of self.old + size_of more.now < 2 ^ 64 }
@@ -115,8 +115,8 @@ impl Counted {
         }
     }
 
-    /// Takes one `value` away, which is held; a log makes no search for it where it lies between the ends. Where memory is
-    /// wanting, it does without.
+    /// Takes one `value` away, which is held; a log makes no search for it where it lies between the ends. Where memory runs
+    /// out, it does without.
     #[tactic(auto, using(crate::proofs::BagLaws::size_of_one, crate::proofs::BagLaws::held_before))]
     pub fn take(&mut self, value: i64)
         requires { 0 < held_of self.old value }
@@ -127,7 +127,7 @@ impl Counted {
         self.len -= 1;
     }
 
-    /// Takes one `value` away; answers whether there was one. Where memory is wanting, it does without.
+    /// Takes one `value` away; answers whether there was one. Where memory runs out, it does without.
     #[tactic(auto, using(crate::proofs::BagLaws::size_of_one, crate::proofs::BagLaws::held_before))]
     pub fn remove(&mut self, value: i64) -> bool
         ensures found { IsTrue result ↔ (0 < held_of self.old value) }

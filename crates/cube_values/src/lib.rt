@@ -1,12 +1,9 @@
 //! Numbers that are kept: the multiset that clauses speak of, and the forms that keep one.
 //!
-//! [`Single`] is one number, however often, and [`Narrow`] a list of numbers of 32 bits. [`Summary`] keeps how many
-//! there are, the least and the greatest; [`Numbers`] is what is asked of numbers that are added up.
-//!
-//! Counted values: [`Counted`] is a multiset of numbers, which makes the least and the greatest value right under
-//! deletes. It takes one of five forms, two of which ([`Single`](cube_numbers::Single), [`Narrow`](cube_numbers::Narrow))
-//! stand in `cube_numbers`, as do [`Summary`], which keeps the size and the ends alone where no number is taken away,
-//! and [`Numbers`], what both have in common.
+//! [`Counted`] is a multiset of numbers, which makes the least and the greatest value right under deletes. It takes one of
+//! several forms, two of which are [`Single`], one number however often, and [`Narrow`], a list of numbers of 32 bits.
+//! [`Summary`] keeps how many there are, the least and the greatest, where no number is taken away; [`Numbers`] is what is
+//! asked of either.
 #![tactic(auto)]
 
 mod counted;

@@ -7,8 +7,8 @@ ghost use Rattle.cube_values.specs.Bag.{Bag, AddsBag, AddsOne, AddsTimes, SameHe
 ghost use Rattle.cube_values.specs.Log.{Rises, IsJoined, IsOrdered, IsLastOf, IsCut, without, Covers, TakesAll};
 ghost use Rattle.cube_values.specs.Narrow.{times_in, once_each};
 
-use crate::short::{greatest_number, least_number};
 use crate::repeats::is_repetitive;
+use crate::short::{greatest_number, least_number};
 use std::alloc::{AllocError, Global};
 use std::marker::Model;
 

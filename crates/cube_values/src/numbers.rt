@@ -15,13 +15,13 @@ pub trait Numbers: Drop {
         ensures held { (v : ℤ) → held_of (bag result) v ≡ 0 }
         ensures size { size_of (bag result) ≡ 0 };
 
-    /// Adds one `value`. Where memory is wanting, the numbers stay as they were.
+    /// Adds one `value`. Where memory runs out, the numbers stay as they were.
     fn add(&mut self, value: i64) -> Result<(), AllocError>
         requires { size_of (bag self.old) + 1 < 2 ^ 64 }
         ensures added { OnOk result (AddsOne (bag self.old) (bag self.new) value) }
         ensures err { OnErr result (bag self.new ≡ bag self.old) };
 
-    /// Adds all numbers of another. Where memory is wanting, no number is left.
+    /// Adds all numbers of another. Where memory runs out, no number is left.
     fn merge(&mut self, more: &Self) -> Result<(), AllocError>
         requires { size_of (bag self.old) + size_of (bag more.now) < 2 ^ 64 }
         ensures merged { OnOk result (AddsBag (bag self.old) (bag self.new) (bag more.now)) }

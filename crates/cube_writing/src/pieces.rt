@@ -35,7 +35,7 @@ impl Pieces {
         }
     }
 
-    /// A first piece, and the pieces that these results are. It fails where memory is wanting, also where numbers for so
+    /// A first piece, and the pieces that these results are. It fails where memory runs out, also where numbers for so
     /// many bytes are, and where a result is no piece: then with the error of the first such result.
     pub fn of(
         alloc: Global,
@@ -53,7 +53,7 @@ impl Pieces {
         Ok(text)
     }
 
-    /// Puts a piece at the end. The only error is want of memory, also of numbers for so many bytes.
+    /// Puts a piece at the end. The only error is that memory ran out, also of numbers for so many bytes.
     pub fn push(&mut self, piece: Vec<u8>) -> Result<(), AllocError>
         ensures ok { OnOk result (self.new ≡ self.old ++ piece.items) }
         ensures err { OnErr result (self.new ≡ self.old) }

@@ -6,11 +6,16 @@ ghost use Rattle.cube_console.specs.CommandLine.{RunHasRoom, LiveHasRoom};
 use crate::pauses::SessionPauses;
 use crate::watch::Watch;
 use crate::{Asked, open_feed, open_schema, question_of, session_threads, settings_of};
-use cube_core::Schema;
 use cube_console::{Counts, FeedReader, LiveWords, Output, Phase, Progress, RunWords, read_ahead};
-use cube_store::{ChangeJournal, FeedNote, NoteFault, StoreFault, Unknown, Wary, close, note_of, open_files, open_made_files, open_path, prepare_path};
+use cube_core::Schema;
 use cube_live::{NeverRests, Rests};
-use cube_store_commands::{Commits, SessionInput, StoredFailure, StoredFeeds, ask_stored, live_stored};
+use cube_store::{
+    ChangeJournal, FeedNote, NoteFault, StoreFault, Unknown, Wary, close, note_of, open_files,
+    open_made_files, open_path, prepare_path,
+};
+use cube_store_commands::{
+    Commits, SessionInput, StoredFailure, StoredFeeds, ask_stored, live_stored,
+};
 use cube_tool::RunFault;
 use cube_tool::command::{Failure, Question, Status};
 use sqlite_disk::{Disk, Start};

@@ -15,9 +15,13 @@ mod watch;
 use crate::kept::{ask_kept, serve_kept};
 use crate::named::named_cubes;
 use crate::watch::Watch;
-use cube_core::{HashKey, Schema, Shard};
-use cube_console::{Counts, CubeReader, FeedReader, LiveWords, MergeWords, Output, Phase, Progress, Request, RunWords, clashing_words, read_words, unlawful_shard, unreadable_words};
 use cube_build::Settings;
+use cube_console::{
+    Counts, CubeReader, FeedReader, LiveWords, MergeWords, Output, Phase, Progress, Request,
+    RunWords, clashing_words, read_words, unlawful_shard, unreadable_words,
+};
+use cube_core::{HashKey, Schema, Shard};
+use cube_store_commands::StoredFailure;
 use cube_tool::command::{
     FEED_NOTES, Failure, LATER_NOTES, Question, RUN_NOTES, SCHEMA_NOTES, STORE_NOTES, Status,
     answer_words, ask, check, check_cubes, explain, first_repeated, live, merge_cubes, read_cell,
@@ -31,7 +35,6 @@ use std::sync::Wait;
 use std::thread::Threads;
 use std::time::Clock;
 use std::{env, io, mem, thread};
-use cube_store_commands::StoredFailure;
 
 /// The most threads that a run works with once its feeds have ended.
 const MOST_THREADS: usize = 16;

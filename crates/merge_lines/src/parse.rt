@@ -24,7 +24,7 @@ pub fn empty_row(alloc: Global) -> Row {
 }
 
 /// The row whose line is this one with a comma in place of its end, in the memory of a spare row, and how many bytes of the
-/// line show its key; None where it is that of no row. The only error is want of memory.
+/// line show its key; None where it is that of no row. The only error is that memory ran out.
 pub fn parse_row(
     alloc: Global,
     schema: &Schema,

@@ -14,7 +14,7 @@ use itoa::Buffer;
 use std::alloc::{AllocError, Global};
 
 /// Puts the line of a row at the end of the text, of what it shows of its key, each field with a comma, and of its
-/// answers. The only error is want of memory, and then a part of the line may stand there.
+/// answers. The only error is that memory ran out, and then a part of the line may stand there.
 pub fn push_line(text: &mut Vec<u8>, key: &[u8], answers: &[Answer]) -> Result<(), AllocError>
     ensures { OnOk result ((of : Key) → 1 ≤ length of.coords → key.now ≡ key_parts of →
         text.new.items ≡ text.old.items ++ line
@@ -25,7 +25,7 @@ pub fn push_line(text: &mut Vec<u8>, key: &[u8], answers: &[Answer]) -> Result<(
     end_line(text)
 }
 
-/// Puts the header line of a schema at the end of the text. The only error is want of memory, and then a part of the
+/// Puts the header line of a schema at the end of the text. The only error is that memory ran out, and then a part of the
 /// line may stand there.
 pub fn push_header(alloc: Global, text: &mut Vec<u8>, schema: &Schema) -> Result<(), AllocError>
     ensures { OnOk result (text.new.items ≡ text.old.items ++ line (header_fields schema.now)) }

@@ -2,7 +2,7 @@
 use cube_library::{Answer, Coord, Row};
 use std::alloc::{AllocError, Global};
 
-/// A line for each row: its coordinates, and its answers. The only error is want of memory.
+/// A line for each row: its coordinates, and its answers. The only error is that memory ran out.
 pub fn text_of(alloc: Global, rows: &[Row]) -> Result<String, AllocError> {
     let mut text = String::new(alloc);
     for row in rows {

@@ -94,7 +94,7 @@ impl Dictionary {
         }
     }
 
-    /// A copy of the coordinate of a code; the only error is want of memory.
+    /// A copy of the coordinate of a code; the only error is that memory ran out.
     pub fn coord_at(&self, alloc: Global, code: u32) -> Result<Coord, AllocError>
         ensures { IfOk result (λ coord. coord ≡ coord_at self.now code) }
     {

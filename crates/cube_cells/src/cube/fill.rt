@@ -21,7 +21,7 @@ use std::thread::Threads;
 
 impl<N: Numbers> Cube<N> {
     /// The cube of no fact over the finest grouping set alone, that of all dimensions, with the same schema. The
-    /// only error is want of memory.
+    /// only error is that memory ran out.
     pub fn finest(&self) -> Result<Cube<N>, AllocError>
         ensures new { IfOk result (IsNewLattice self.now.schema
             (finest_set (length self.now.schema.dimensions) ∷ [])) }
@@ -35,7 +35,7 @@ impl<N: Numbers> Cube<N> {
     /// Fills the cube with the facts of a cube over the finest grouping set, in place of its own, and gives a code to
     /// no text that has none there.
     ///
-    /// Where memory is wanting, or numbers to count the facts with, it stays as it was.
+    /// Where memory runs out, or numbers to count the facts with, it stays as it was.
     pub fn fill(&mut self, finest: Cube<N>) -> Result<(), AllocError>
         requires schema { finest.schema ≡ self.old.schema }
         requires sets { finest.sets ≡ finest_set (length finest.schema.dimensions) ∷ [] }

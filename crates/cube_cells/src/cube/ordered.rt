@@ -66,7 +66,7 @@ impl<'c, N: Numbers> Model for OrderedCells<'c, N> {
 }
 
 impl<'c, N: Numbers> OrderedCells<'c, N> {
-    /// The cells of these places. The only error is want of memory.
+    /// The cells of these places. The only error is that memory ran out.
     pub(super) fn of(
         alloc: Global,
         aggregates: &'c [Agg],
@@ -88,7 +88,7 @@ impl<'c, N: Numbers> OrderedCells<'c, N> {
         })
     }
 
-    /// Puts the cells of another cube after these, to be sorted with them. The only error is want of memory.
+    /// Puts the cells of another cube after these, to be sorted with them. The only error is that memory ran out.
     pub fn append(&mut self, other: OrderedCells<'c, N>) -> Result<(), AllocError>
         requires { other.aggregates ≡ self.old.aggregates }
         ensures aggregates { self.new.aggregates ≡ self.old.aggregates }
@@ -101,7 +101,7 @@ impl<'c, N: Numbers> OrderedCells<'c, N> {
     }
 
     /// Puts the cells in the order of their keys; those that stand in order together are merged. The only error is
-    /// want of memory.
+    /// that memory ran out.
     pub fn sort(&mut self) -> Result<(), AllocError>
         ensures aggregates { self.new.aggregates ≡ self.old.aggregates }
         ensures same { IsPermutation self.old.cells self.new.cells }
@@ -158,7 +158,7 @@ impl<'c, N: Numbers> OrderedCells<'c, N> {
         row_of(self.alloc, self.aggregates, key, coded.cell)
     }
 
-    /// The rows of the cells, in their order. The only error is want of memory.
+    /// The rows of the cells, in their order. The only error is that memory ran out.
     pub fn rows(&self) -> Result<Vec<Row>, AllocError>
         ensures { IfOk result (λ rows. AreRowsInOrder self.now rows.items) }
     {
@@ -206,7 +206,7 @@ fn key_in(alloc: Global, dictionaries: &[Dictionary], codes: &Codes) -> Result<K
     })
 }
 
-/// The row of a key with a cell. The only error is want of memory.
+/// The row of a key with a cell. The only error is that memory ran out.
 pub fn row_of<N: Numbers>(
     alloc: Global,
     aggregates: &[Agg],

@@ -16,7 +16,7 @@ use cube_values::Numbers;
 use std::alloc::{AllocError, Global};
 
 impl<N: Numbers> Cube<N> {
-    /// The rows of the cells whose keys a pattern matches, in key order. The only error is want of memory.
+    /// The rows of the cells whose keys a pattern matches, in key order. The only error is that memory ran out.
     pub fn slice(&self, pattern: &Pattern) -> Result<Vec<Row>, AllocError>
         ensures rows { IfOk result (λ rows. AreRowsOf (matches pattern.now)
             self.now.schema.aggregates self.now.cells rows.items) }
@@ -33,7 +33,7 @@ impl<N: Numbers> Cube<N> {
     }
 
     /// The row of a key with ALL in a dimension, counted from 0; `None` exactly where that is no cell, as where its
-    /// grouping set isn't kept. The only error is want of memory.
+    /// grouping set isn't kept. The only error is that memory ran out.
     pub fn roll_up(&self, key: &Key, dim: usize) -> Result<Option<Row>, AllocError>
         requires dim { dim < length self.now.schema.dimensions }
         requires width { length key.now.coords ≡ length self.now.schema.dimensions }

@@ -49,7 +49,7 @@ impl<N: Numbers> Cube<N> {
         self.rows_where(&[])
     }
 
-    /// The cells in the order of their keys, for rows that are made one at a time. The only error is want of memory.
+    /// The cells in the order of their keys, for rows that are made one at a time. The only error is that memory ran out.
     pub fn ordered(&self) -> Result<OrderedCells<'_, N>, AllocError>
         ensures rows { IfOk result (λ ordered. (rows : List Row) → AreRowsInOrder ordered rows →
             AreRowsOf (λ key. true) self.now.schema.aggregates self.now.cells rows) }

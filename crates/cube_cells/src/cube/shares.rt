@@ -50,7 +50,7 @@ impl<N: Numbers + Send + Sync> Cube<N> {
     /// this says. Each text has the code that it would have if the facts were added one by one.
     ///
     /// The dimensions are coded side by side; then each thread fills a share of the cells. With one thread no thread is
-    /// started. The only error is want of memory.
+    /// started. The only error is that memory ran out.
     pub fn finest_of<T: Threads + Sync>(
         &self,
         rt: &T,
@@ -70,7 +70,7 @@ impl<N: Numbers + Send + Sync> Cube<N> {
     }
 }
 
-// The cube of coded facts, whose cells over the finest grouping set these are. The only error is want of memory.
+// The cube of coded facts, whose cells over the finest grouping set these are. The only error is that memory ran out.
 fn cube_of<N: Numbers>(
     alloc: Global,
     coded: CodedFacts<'_>,
@@ -103,7 +103,7 @@ fn cube_of<N: Numbers>(
     })
 }
 
-// The facts with their codes; the dimensions are coded side by side. The only error is want of memory.
+// The facts with their codes; the dimensions are coded side by side. The only error is that memory ran out.
 fn coded_facts<'f, T: Threads + Sync>(
     rt: &T,
     threads: usize,
@@ -125,7 +125,7 @@ fn coded_facts<'f, T: Threads + Sync>(
     })
 }
 
-// For each dimension the codes of the facts, unless memory is wanting. With one thread no thread is started.
+// For each dimension the codes of the facts, unless memory runs out. With one thread no thread is started.
 fn made_columns<T: Threads + Sync>(
     rt: &T,
     threads: usize,
@@ -258,10 +258,7 @@ fn number_of_cells<N: Numbers>(levels: &[Level<N>]) -> usize {
 }
 
 // Moves cells to others of other codes.
-fn move_cells<N: Numbers>(
-    cells: &mut Cells<N>,
-    more: Cells<N>,
-) -> Result<(), AllocError>
+fn move_cells<N: Numbers>(cells: &mut Cells<N>, more: Cells<N>) -> Result<(), AllocError>
     ensures { OnOk result (Joins more.entries cells.old.entries cells.new.entries) }
 {
     for (codes, cell) in more {
@@ -270,7 +267,7 @@ fn move_cells<N: Numbers>(
     Ok(())
 }
 
-// For each share, of so many, its cells, unless memory is wanting.
+// For each share, of so many, its cells, unless memory runs out.
 fn made_shares<T: Threads + Sync, N: Numbers + Send + Sync>(
     rt: &T,
     alloc: Global,

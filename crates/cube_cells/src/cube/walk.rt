@@ -118,7 +118,7 @@ pub fn add_to_cell(
     put_cell(alloc, cells, codes, values)
 }
 
-/// Adds to the cell of a key, where the cells are no longer asked if memory is wanting.
+/// Adds to the cell of a key, where the cells are no longer asked if memory runs out.
 pub fn gather_at<N: Numbers>(
     alloc: Global,
     cells: &mut Cells<N>,

@@ -4,10 +4,10 @@ ghost use Rattle.cube_tool.specs.Command.{status_of};
 
 use crate::command::status::Status;
 use crate::fault::{RunFault, TextFault};
-use cube_core::{QueryFault, SchemaFault};
-use cube_merge::MergeFault;
-use cube_live::{JournalFault, SessionFault};
 use cube_build::FeedingFault;
+use cube_core::{QueryFault, SchemaFault};
+use cube_live::{JournalFault, SessionFault};
+use cube_merge::MergeFault;
 use cube_writing::WriteFault;
 use std::fmt;
 

@@ -7,7 +7,7 @@ use crate::command::failure::Failure;
 use cube_core::{Key, Pattern, Schema};
 use std::alloc::Global;
 
-/// The pattern that a word spells; the failure is its fault, or want of memory.
+/// The pattern that a word spells; the failure is its fault, or out of memory.
 pub fn read_pattern(alloc: Global, schema: &Schema, word: &str) -> Result<Pattern, Failure>
     ensures { AnswersQuery (pattern_of schema.now word.now) result }
 {
@@ -17,7 +17,7 @@ pub fn read_pattern(alloc: Global, schema: &Schema, word: &str) -> Result<Patter
     }
 }
 
-/// The cell that a word spells, a coordinate for each dimension; the failure is its fault, or want of memory.
+/// The cell that a word spells, a coordinate for each dimension; the failure is its fault, or out of memory.
 pub fn read_cell(alloc: Global, schema: &Schema, word: &str) -> Result<Key, Failure>
     ensures cell { AnswersQuery (key_of_word schema.now word.now) result }
     ensures width { IfOk result

@@ -4,8 +4,8 @@ ghost use Rattle.cube_tool.specs.Answering.{refusals_of_run};
 ghost use Rattle.cube_tool.specs.Command.{status_after, status_code};
 
 use crate::answers::first_builder;
-use cube_ledger::Ledger;
 use cube_build::Built;
+use cube_ledger::Ledger;
 
 /// What the program ends with.
 #[derive(Clone, Copy, Debug, PartialEq, Eq)]
