@@ -19,8 +19,8 @@ returns-in-Ok-serve_resumed-clause-schema g c =
     c.in-Ok.ensures.noted c.in-Ok.ensures.formed c.args.records.now.left c.in-Ok-serve_resumed.served.0
     c.in-Ok-serve_resumed.ensures.schema c.in-Ok-serve_resumed.ensures.kept
 
-pub returns-in-Err-serve_resumed-clause-err : goal.returns-in-Err-serve_resumed-clause-err
-returns-in-Err-serve_resumed-clause-err g c =
+pub returns-in-Ok-clause-err : goal.returns-in-Ok-clause-err
+returns-in-Ok-clause-err g c =
     laws.BreaksSession-failed g.S.Store.view g.S.Store.recovers
     c.args.live c.in-Ok.live (g.S.Store.view c.args.store) (entries_of c.args.notes.now) c.in-Ok.journal
     _ c.in-Ok.ensures.kept c.in-Ok.ensures.taken c.in-Ok.ensures.stored c.in-Ok.ensures.noted c.in-Ok.ensures.formed c.args.records.now.left _
