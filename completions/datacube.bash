@@ -66,7 +66,8 @@ D4
 D5
 D6
 D7
-D8'
+D8
+D9'
 
 _datacube() {
     local word=${COMP_WORDS[COMP_CWORD]} command=${COMP_WORDS[1]} words IFS=$' \t\n'
@@ -78,14 +79,14 @@ _datacube() {
     slice) words='--ring --shard --builders --threads --quiet --store --wary -h --help' ;;
     drill) words='--ring --shard --builders --threads --quiet --store --wary -h --help' ;;
     rollup) words='--ring --shard --builders --threads --quiet --store --wary -h --help' ;;
-    live) words='--ring --shard --threads --quiet --store --wary -h --help' ;;
+    live) words='--ring --shard --threads --quiet --store --wary --commit-every -h --help' ;;
     merge) words='--partial --check --quiet -h --help' ;;
     explain) words='-h --help' ;;
     *) words= ;;
     esac
     if [ "$COMP_CWORD" -eq 1 ]; then
         COMPREPLY=($(compgen -W 'check print refusals slice drill rollup live merge explain -h --help -V --version' -- "$word"))
-    elif [[ ${COMP_WORDS[COMP_CWORD - 1]} == @(--builders|--ring|--shard|--threads) ]]; then
+    elif [[ ${COMP_WORDS[COMP_CWORD - 1]} == @(--builders|--commit-every|--ring|--shard|--threads) ]]; then
         compopt +o default
     elif [[ $word == -* ]]; then
         COMPREPLY=($(compgen -W "$words" -- "$word"))

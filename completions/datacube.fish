@@ -65,6 +65,7 @@ complete -c datacube -n '__fish_seen_subcommand_from live' -l threads -x -d 'How
 complete -c datacube -n '__fish_seen_subcommand_from live' -l quiet -d 'Shows no progress on standard error, where that is a terminal'
 complete -c datacube -n '__fish_seen_subcommand_from live' -l store -r -F -d 'Keeps each change in this file before an answer shows it, and begins with those it has'
 complete -c datacube -n '__fish_seen_subcommand_from live' -l wary -d 'Supposes nothing of what a torn write leaves of the store, and syncs twice a commit; does nothing without --store'
+complete -c datacube -n '__fish_seen_subcommand_from live' -l commit-every -x -d 'How many changes wait for a commit at most, 1 to 1000000; where the input rests, and before an answer, none do; does nothing without --store [default: 10000]'
 complete -c datacube -n '__fish_seen_subcommand_from live' -s h -l help -d 'Print help'
 complete -c datacube -n '__fish_seen_subcommand_from live' -F
 complete -c datacube -n '__fish_seen_subcommand_from merge' -l partial -d 'Writes the partial form again, so that what is printed can be merged too'
@@ -73,4 +74,4 @@ complete -c datacube -n '__fish_seen_subcommand_from merge' -l quiet -d 'Shows n
 complete -c datacube -n '__fish_seen_subcommand_from merge' -s h -l help -d 'Print help'
 complete -c datacube -n '__fish_seen_subcommand_from merge' -F
 complete -c datacube -n '__fish_seen_subcommand_from explain' -s h -l help -d 'Print help'
-complete -c datacube -n '__fish_seen_subcommand_from explain' -a '"S1" "S2" "S3" "S4" "S5" "S6" "S7" "S8" "S9" "S10" "L1" "L2" "L3" "L4" "L5" "L6" "F1" "F2" "F3" "F4" "P1" "P2" "P3" "P4" "P5" "P6" "P7" "G1" "G2" "G3" "G4" "G5" "G6" "1" "2" "3" "4" "5" "6" "7" "8" "9" "schema unreadable" "feed unreadable" "too many feeds" "unknown code" "no random key" "Q1" "Q2" "Q3" "M1" "M2" "M3" "M4" "M5" "M6" "M7" "M8" "standard input is taken" "too many cubes" "D1" "D2" "D3" "D4" "D5" "D6" "D7" "D8"'
+complete -c datacube -n '__fish_seen_subcommand_from explain' -a '"S1" "S2" "S3" "S4" "S5" "S6" "S7" "S8" "S9" "S10" "L1" "L2" "L3" "L4" "L5" "L6" "F1" "F2" "F3" "F4" "P1" "P2" "P3" "P4" "P5" "P6" "P7" "G1" "G2" "G3" "G4" "G5" "G6" "1" "2" "3" "4" "5" "6" "7" "8" "9" "schema unreadable" "feed unreadable" "too many feeds" "unknown code" "no random key" "Q1" "Q2" "Q3" "M1" "M2" "M3" "M4" "M5" "M6" "M7" "M8" "standard input is taken" "too many cubes" "D1" "D2" "D3" "D4" "D5" "D6" "D7" "D8" "D9"'
