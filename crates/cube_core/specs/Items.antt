@@ -1,5 +1,4 @@
--- The items of a feed:
--- what its records say, one after another, after the header (this project's choice of a change feed).
+-- The header of a feed and the change that a record spells (this project's choice of a change feed).
 use Rattle.std.specs.Prelude.{◌≡◌, ◌==◌, ◌||◌, ◌&&◌, ◌+◌, nat_lt, ℕ, ℤ, Bool, true, false, not, pos, negsuc, ◌^◌, List}
 use Rattle.std.specs.Prelude.{[], ◌∷◌, ◌++◌, length, map, take, drop, get_or, codes, Option, Some, None, is_some}
 use Rattle.std.specs.Prelude.{option_map, Result, Ok, Err, if◌then◌else◌}
@@ -7,14 +6,12 @@ use Rattle.std.specs.Str.{bytes_eq, is_utf8, all_ascii_digits}
 use Rattle.std.specs.Str.Parse.{without_leading_sign, signed_digits_value}
 use Rattle.std.specs.List.{list_all, list_any, filter_map}
 use Rattle.cube_core.specs.Layout.{Layout}
-use Rattle.cube_core.specs.Shard.{is_in_shard}
 use Rattle.cube_core.specs.Takes.{null_text, may_amend}
 use Rattle.cube_core.specs.declared.fact.Fact.{Fact}
 use Rattle.cube_core.specs.declared.change.Change.{Change}
 use Rattle.cube_core.specs.declared.change.Change.TheVariants.{Insert, Update, Amend, Delete}
 use Rattle.cube_core.specs.declared.change.LineFault.{LineFault}
 use Rattle.cube_core.specs.declared.change.LineFault.TheVariants as fault
-use Rattle.cube_core.specs.declared.change.Item.{Item}
 use Rattle.cube_core.specs.declared.partial.Field.{Field}
 use Rattle.cube_core.specs.declared.partial.Field.TheVariants.{Keep, Put}
 use Rattle.cube_core.specs.declared.partial.Partial.{Partial}
@@ -157,44 +154,3 @@ change_of s fields =
     else if bytes_eq (field_at fields 0) (codes "U") then unless_at_fault (update_of s fields) s fields
     else if bytes_eq (field_at fields 0) (codes "D") then delete_of s fields
     else Err fault.Op
-
--- how a feed ends: well, at a first record that isn't the header, or at a data record too many
-pub data FeedEnd : Type 0 where
-  Good : FeedEnd
-  WrongHeader : FeedEnd
-  TooManyRecords : FeedEnd
-
--- what comes of a feed: its items, and its end, as one tells ends
-pub record RestOfFeed (End : Type 0) : Type 0 where
-  pub items : List Item
-  pub end : End
-
--- an item before what comes after it
-abbrev pub item_then : {End : Type 0} → Item → RestOfFeed End → RestOfFeed End
-item_then item rest = record { items = item ∷ rest.items; end = rest.end }
-
--- whether a data record is in the schema's shard: its id decides, whatever its faults, the empty text where it has none
-abbrev pub is_read : Layout → List (List ℕ) → Bool
-is_read s fields = is_in_shard s.shard (field_at fields 1)
-
--- what data records give after so many of them: an item each that is in the shard, up to the schema's number of records
-abbrev pub items_after : Layout → ℕ → List (List (List ℕ)) → RestOfFeed FeedEnd
-items_after s number [] = record { items = []; end = Good }
-items_after s number (fields ∷ records) =
-    if nat_lt number s.max_records then (
-    if is_read s fields
-    then item_then (record { number = number + 1; what = change_of s fields }) (items_after s (number + 1) records)
-    else items_after s (number + 1) records
-    )
-    else record { items = []; end = TooManyRecords }
-
--- what the records of a feed give:
--- nothing where there is none, and only after a right header an item for each data record of the shard
-abbrev pub items_of : Layout → List (List (List ℕ)) → RestOfFeed FeedEnd
-items_of s [] = record { items = []; end = Good }
-items_of s (header ∷ records) =
-    if is_header s header then items_after s 0 records else record { items = []; end = WrongHeader }
-
--- a good feed has no record, or the right header and at most the schema's number of data records
-abbrev pub IsGoodFeed : Layout → List (List (List ℕ)) → Type 0
-IsGoodFeed s records = (items_of s records).end ≡ Good

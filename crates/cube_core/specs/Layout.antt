@@ -1,11 +1,12 @@
 -- The schema of a cube: what its feeds hold and which aggregates it shows (this project's choice).
-use Rattle.std.specs.Prelude.{◌≡◌, ◌<◌, ◌≤◌, ◌&&◌, nat_lt, ℕ, Bool, true, not, List, [], ◌∷◌, ◌++◌, ◌^◌, length, map}
-use Rattle.std.specs.Prelude.{codes, get_or, All}
+use Rattle.std.specs.Prelude.{◌≡◌, ◌<◌, ◌≤◌, ◌&&◌, ◌||◌, ◌==◌, nat_lt, ℕ, Bool, true, not, List, [], ◌∷◌, ◌++◌, ◌^◌}
+use Rattle.std.specs.Prelude.{length, map, codes, get_or, All, Option, Some, None, IfSome, is_some}
 use Rattle.std.specs.Str.{bytes_eq}
 use Rattle.std.specs.List.{list_any, list_all}
 use Rattle.std.specs.List.Sorted.{IsStrictlyIncreasing}
 use Rattle.cube_core.specs.GroupingSet.{mask_of, all_sets, is_among}
 use Rattle.cube_core.specs.Shard.{IsShard, whole_feed}
+use Rattle.cube_core.specs.declared.feed_columns.FeedColumns.{FeedColumns}
 use Rattle.cube_core.specs.declared.key.Key.{Key}
 use Rattle.cube_core.specs.declared.shard.Shard.{Shard}
 use Rattle.cube_core.specs.declared.aggregate.Agg.{Agg}
@@ -13,7 +14,7 @@ use Rattle.cube_core.specs.declared.aggregate.Agg.TheVariants.{CountAll, Count, 
 
 -- a schema: the names of the dimensions and of the measures, the aggregates, each with its spelling,
 -- how many data records a feed may have, the masks of the grouping sets that are kept, the version of its feeds,
--- and the shard of them that is read
+-- the shard of them that is read, and their columns, where they are known by name
 pub record Layout : Type 0 where
   pub dimensions : List (List ℕ)
   pub measures : List (List ℕ)
@@ -23,6 +24,7 @@ pub record Layout : Type 0 where
   pub grouping_sets : List ℕ
   pub version : ℕ
   pub shard : Shard
+  pub columns : Option FeedColumns
 
 -- whether a text stands in a list of texts
 abbrev pub is_listed : List ℕ → List (List ℕ) → Bool
@@ -67,12 +69,25 @@ spelling_of measures (Min m) = spelled_with (codes "min") measures m
 spelling_of measures (Max m) = spelled_with (codes "max") measures m
 spelling_of measures (Avg m) = spelled_with (codes "avg") measures m
 
+-- whether a byte may stand between the fields of a feed: an ASCII character, neither a quote nor a line's end
+abbrev pub is_delimiter : ℕ → Bool
+is_delimiter byte = nat_lt byte 128 && not (byte == 34) && not (byte == 13) && not (byte == 10)
+
+-- what is true of all columns by name: one for each dimension and measure of these numbers, a lawful delimiter,
+-- and the point or the comma, which isn't that, before decimals; without a column of ids there is none of operations
+pub record AreColumnsOf (dimensions measures : ℕ) (columns : FeedColumns) : Type 0 where
+  pub of_dimensions : length columns.dimensions ≡ dimensions
+  pub of_measures : length columns.measures ≡ measures
+  pub delimiter : is_delimiter columns.delimiter ≡ true
+  pub point : ((columns.point == 46) || (columns.point == 44)) && not (columns.point == columns.delimiter) ≡ true
+  pub operations : is_some columns.id || not (is_some columns.op) ≡ true
+
 -- what is true of every schema: the numbers of its parts, lawful names that differ, aggregates of its measures
--- in their spelling, and grouping sets of its dimensions, in ascending order, and a lawful shard
+-- in their spelling, and grouping sets of its dimensions, in ascending order, a lawful shard, and lawful columns
 pub record IsSchema (s : Layout) : Type 0 where
   pub some_dimension : 1 ≤ length s.dimensions
   pub dimensions_at_most : length s.dimensions ≤ 8
-  pub some_measure : 1 ≤ length s.measures
+  pub some_measure : s.columns ≡ None → 1 ≤ length s.measures
   pub measures_at_most : length s.measures ≤ 4
   pub some_aggregate : 1 ≤ length s.aggregates
   pub aggregates_at_most : length s.aggregates ≤ 24
@@ -88,6 +103,7 @@ pub record IsSchema (s : Layout) : Type 0 where
   pub version_at_least : 1 ≤ s.version
   pub version_at_most : s.version ≤ 2
   pub lawful_shard : IsShard s.shard
+  pub lawful_columns : IfSome s.columns (AreColumnsOf (length s.dimensions) (length s.measures))
 
 -- whether a schema keeps the grouping set of a key
 abbrev pub keeps : Layout → Key → Bool
@@ -105,4 +121,5 @@ sample_layout = record {
   grouping_sets = all_sets 2;
   version = 1;
   shard = whole_feed;
+  columns = None;
 }

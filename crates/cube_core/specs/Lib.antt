@@ -4,11 +4,14 @@ pub mod Shard
 pub mod HashKey
 pub mod Layout
 pub mod PartialForm
+pub mod FeedDocument
 pub mod SchemaDocument
 pub mod Records
 pub mod Amendment
 pub mod Takes
 pub mod Items
+pub mod Plain
+pub mod FeedRecords
 pub mod Life
 pub mod Surviving
 pub mod Refusals

@@ -3,7 +3,7 @@
 use Rattle.std.specs.Prelude.{◌≡◌, ℕ, List, length, Option, IfSome}
 use Rattle.std.specs.List.{AllByRecursion, AllZip}
 use Rattle.cube_core.specs.Arrival.{Arrivals, of_sources}
-use Rattle.cube_core.specs.Items.{items_of, IsGoodFeed}
+use Rattle.cube_core.specs.FeedRecords.{items_of, IsGoodFeed}
 use Rattle.cube_core.specs.Layout.{Layout}
 use Rattle.cube_core.specs.Printed.{IsPrinted}
 use Rattle.cube_core.specs.Records.{records_of}

@@ -11,29 +11,24 @@ use Rattle.toml.specs.Data.{get_member}
 use Rattle.toml.specs.Parse.{parse_document}
 use Rattle.cube_core.specs.Shard.{whole_feed}
 use Rattle.cube_core.specs.Layout.{Layout, is_listed, are_distinct, is_lawful_name, spelling_of}
+use Rattle.cube_core.specs.FeedDocument.{texts_of, has_only, if_there, columns_of_feed}
 use Rattle.cube_core.specs.GroupingSet.{all_sets, is_among}
 use Rattle.cube_core.specs.declared.aggregate.Agg.{Agg}
 use Rattle.cube_core.specs.declared.aggregate.Agg.TheVariants.{CountAll, Count, Sum, Min, Max, Avg}
+use Rattle.cube_core.specs.declared.feed_columns.FeedColumns.{FeedColumns}
 use Rattle.cube_core.specs.declared.schema_fault.SchemaFault.{SchemaFault}
 use Rattle.cube_core.specs.declared.schema_fault.SchemaFault.TheVariants.{Memory, Toml, UnknownKey, Dimensions}
 use Rattle.cube_core.specs.declared.schema_fault.SchemaFault.TheVariants.{Measures, Name, Aggregates, MaxRecords}
-use Rattle.cube_core.specs.declared.schema_fault.SchemaFault.TheVariants.{Grouping, Version}
+use Rattle.cube_core.specs.declared.schema_fault.SchemaFault.TheVariants.{Grouping, Version, Columns}
 
 -- the keys that a document may have
 abbrev pub known_keys : List (List ℕ)
 known_keys = codes "dimensions" ∷ codes "measures" ∷ codes "aggregates" ∷ codes "max_records" ∷ codes "grouping"
-    ∷ codes "version" ∷ []
+    ∷ codes "version" ∷ codes "feed" ∷ []
 
 -- whether a document has no other key
 abbrev pub has_known_keys : Members → Bool
-has_known_keys no_members = true
-has_known_keys (member key value others) = is_listed key known_keys && has_known_keys others
-
--- the texts of an array, where it holds nothing else
-abbrev pub texts_of : Items → Option (List (List ℕ))
-texts_of no_items = Some []
-texts_of (item (string text) others) = option_map (λ texts. text ∷ texts) (texts_of others)
-texts_of (item _ others) = None
+has_known_keys document = has_only known_keys document
 
 -- the texts at a key, where the document has an array of texts there
 abbrev pub texts_at : List ℕ → Members → Option (List (List ℕ))
@@ -168,43 +163,59 @@ feed_version _ = None
 abbrev pub version_in : Members → Option ℕ
 version_in document = option_map_or feed_version (get_member (codes "version") document) (Some 1)
 
--- what a schema is made of, as a document or a caller gives it: the names, the spellings of the aggregates,
--- and how many data records a feed may have, the grouping sets that are kept and the version of the feeds,
--- each of the last three where what is said of it is right
+-- the columns by name that the document says, where what it says of them is right; none where it says nothing
+abbrev pub columns_in : Members → Option (Option FeedColumns)
+columns_in document =
+    if_there (columns_of_feed (dimensions_in document) (measures_in document)) (codes "feed") document
+
+-- the least number of measures: none under columns by name, where the document has an array of texts for them
+abbrev pub least_measures_in : Members → ℕ
+least_measures_in document =
+    if is_some (get_member (codes "feed") document) && is_some (texts_at (codes "measures") document) then 0 else 1
+
+-- what a schema is made of, as a document or a caller gives it: the names, the least number of measures,
+-- the spellings of the aggregates, and how many data records a feed may have, the grouping sets that are kept,
+-- the version of the feeds, and their columns by name, each of the last four where what is said of it is right
 pub record SchemaParts : Type 0 where
   pub dimensions : List (List ℕ)
   pub measures : List (List ℕ)
+  pub least_measures : ℕ
   pub spellings : List (List ℕ)
   pub max_records : Option ℕ
   pub grouping_sets : Option (List ℕ)
   pub version : Option ℕ
+  pub columns : Option (Option FeedColumns)
 
 -- the parts that a document gives
 abbrev pub parts_in : Members → SchemaParts
 parts_in document = record {
   dimensions = dimensions_in document;
   measures = measures_in document;
+  least_measures = least_measures_in document;
   spellings = spellings_in document;
   max_records = max_records_in document;
   grouping_sets = grouping_sets_in document;
   version = version_in document;
+  columns = columns_in document;
 }
 
 -- the parts of a schema of which no more is said than its names and the spellings of its aggregates:
--- the most data records, all grouping sets, and version 1
+-- the most data records, all grouping sets, version 1, and columns in the order of the schema
 abbrev pub named_parts : List (List ℕ) → List (List ℕ) → List (List ℕ) → SchemaParts
 named_parts dimensions measures spellings = record {
   dimensions = dimensions;
   measures = measures;
+  least_measures = 1;
   spellings = spellings;
   max_records = Some default_max_records;
   grouping_sets = Some (all_sets (length dimensions));
   version = Some 1;
+  columns = Some None;
 }
 
 -- the faults of parts, in the order in which they are looked for
 abbrev pub parts_faults : List SchemaFault
-parts_faults = Dimensions ∷ Measures ∷ Name ∷ Aggregates ∷ MaxRecords ∷ Grouping ∷ Version ∷ []
+parts_faults = Dimensions ∷ Measures ∷ Name ∷ Aggregates ∷ MaxRecords ∷ Grouping ∷ Version ∷ Columns ∷ []
 
 -- whether parts have this fault
 abbrev pub is_fault_of_parts : SchemaParts → SchemaFault → Bool
@@ -212,13 +223,15 @@ is_fault_of_parts parts Memory = false
 is_fault_of_parts parts Toml = false
 is_fault_of_parts parts UnknownKey = false
 is_fault_of_parts parts Dimensions = not (is_some_up_to 8 parts.dimensions)
-is_fault_of_parts parts Measures = not (is_some_up_to 4 parts.measures)
+is_fault_of_parts parts Measures =
+    not (nat_le parts.least_measures (length parts.measures) && nat_le (length parts.measures) 4)
 is_fault_of_parts parts Name = not (are_lawful_names (parts.dimensions ++ parts.measures))
 is_fault_of_parts parts Aggregates =
     not (is_some_up_to 16 parts.spellings && are_spellings parts.measures parts.spellings)
 is_fault_of_parts parts MaxRecords = not (is_some parts.max_records)
 is_fault_of_parts parts Grouping = not (is_some parts.grouping_sets)
 is_fault_of_parts parts Version = not (is_some parts.version)
+is_fault_of_parts parts Columns = not (is_some parts.columns)
 
 -- the schema of parts that have no fault
 abbrev pub layout_of_parts : SchemaParts → Layout
@@ -231,6 +244,7 @@ layout_of_parts parts = record {
   grouping_sets = unwrap_or parts.grouping_sets [];
   version = unwrap_or parts.version 1;
   shard = whole_feed;
+  columns = unwrap_or parts.columns None;
 }
 
 -- what parts say: their first fault, or their schema

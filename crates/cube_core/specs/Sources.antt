@@ -4,7 +4,7 @@ use Rattle.std.specs.Prelude.{◌≡◌, ℕ, List, map, flat_map}
 use Rattle.std.specs.List.{AllZip}
 use Rattle.cube_core.specs.Layout.{Layout}
 use Rattle.cube_core.specs.Records.{records_of}
-use Rattle.cube_core.specs.Items.{items_of}
+use Rattle.cube_core.specs.FeedRecords.{items_of}
 use Rattle.cube_core.specs.Surviving.{AreSurviving}
 use Rattle.cube_core.specs.Printed.{IsPrinted}
 use Rattle.cube_core.specs.declared.fact.Fact.{Fact}

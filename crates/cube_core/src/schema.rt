@@ -11,6 +11,7 @@ use crate::aggregate::Agg;
 use crate::change::Change;
 use crate::dimension_values::{DimensionValues, text_of};
 use crate::fact::Fact;
+use crate::feed_columns::{FeedColumns, copy_columns};
 use crate::hash_key::HashKey;
 use crate::key::{Coord, Key};
 use crate::partial::{Field, Partial};
@@ -21,7 +22,8 @@ use crate::text::{Text, copy_texts, texts_from_strs};
 use std::alloc::{AllocError, Global};
 use std::marker::Model;
 
-/// The schema of a cube: 1 to 8 dimensions, 1 to 4 measures, 1 to 24 aggregates of these measures, and the
+/// The schema of a cube: 1 to 8 dimensions, 1 to 4 measures (or none, where the columns of feeds are known by name), 1 to 24
+/// aggregates of these measures, and the
 /// number of data records that a feed may have, 1 to 4294967295.
 ///
 /// All names differ, and none is empty, `op`, `id` or `*`.
@@ -35,6 +37,7 @@ pub struct Schema {
     pub(crate) grouping_sets: Vec<u8>,
     pub(crate) version: u32,
     pub(crate) shard: Shard,
+    pub(crate) columns: Option<FeedColumns>,
     pub(crate) hash_key: HashKey,
 }
 
@@ -52,6 +55,7 @@ impl Model for Schema {
       grouping_sets = s.grouping_sets.items;
       version = s.version;
       shard = s.shard;
+      columns = s.columns;
     } };
 
     ghost invariant = { λ s. IsSchema (record {
@@ -63,6 +67,7 @@ impl Model for Schema {
       grouping_sets = s.grouping_sets.items;
       version = s.version;
       shard = s.shard;
+      columns = s.columns;
     }) };
 }
 
@@ -117,6 +122,7 @@ impl Schema {
             grouping_sets: sample_sets(alloc)?,
             version: 1,
             shard: Shard::whole(),
+            columns: None,
             hash_key: HashKey::Known,
         })
     }
@@ -134,6 +140,7 @@ impl Schema {
             grouping_sets: Vec::from_slice(alloc, &self.grouping_sets)?,
             version: self.version,
             shard: self.shard,
+            columns: copy_columns(alloc, &self.columns)?,
             hash_key: self.hash_key,
         })
     }
@@ -193,6 +200,14 @@ impl Schema {
         ensures schema { IsSchema self.now }
     {
         self.version
+    }
+
+    /// The columns of the schema's feeds, where they are known by name; else they stand in the order of the schema.
+    pub fn columns(&self) -> Option<&FeedColumns>
+        ensures value { option_map (λ columns. columns.now) result ≡ self.now.columns }
+        ensures schema { IsSchema self.now }
+    {
+        self.columns.as_ref()
     }
 
     /// The shard of each feed that is read: of the data records, those whose id is in it. A schema that was read is of

@@ -18,7 +18,7 @@ pub enum SchemaFault {
     /// There is no array of 1 to 8 texts for the dimensions.
     #[error("S4")]
     Dimensions,
-    /// There is no array of 1 to 4 texts for the measures.
+    /// There is no array of 1 to 4 texts for the measures; under columns by name there may be none in it.
     #[error("S5")]
     Measures,
     /// A dimension or a measure is empty, `op`, `id` or `*`, or two of them have one name.
@@ -37,6 +37,9 @@ pub enum SchemaFault {
     /// The version of the feeds is neither 1 nor 2.
     #[error("S10")]
     Version,
+    /// The table `feed` has a key that it doesn't know, or one of a wrong kind.
+    #[error("S11")]
+    Columns,
 }
 
 impl From<AllocError> for SchemaFault {

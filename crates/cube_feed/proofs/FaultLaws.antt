@@ -1,7 +1,7 @@
 -- What the end of a feed says of its fault.
 use Rattle.std.proofs.Common.{◌≡◌, false, refl}
 use Rattle.std.specs.Prelude.{Some, None, Result, Ok, Err, is_err, OnOk}
-use Rattle.cube_core.specs.Items.{FeedEnd, Good, WrongHeader, TooManyRecords}
+use Rattle.cube_core.specs.FeedRecords.{FeedEnd, Good, WrongHeader, TooManyRecords}
 use Rattle.cube_feed.specs.Feed.{fault_of}
 use Rattle.cube_feed.specs.declared.fault.FeedFault.TheVariants.{Header, TooMany}
 

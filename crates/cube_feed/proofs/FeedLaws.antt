@@ -3,7 +3,8 @@ use Rattle.std.proofs.Common.{◌≡◌, ◌<◌, ◌+◌, ℕ, List, true, fals
 use Rattle.std.specs.Prelude.{⊤, Result, Ok, Err, Option, nat_lt}
 use Rattle.std.proofs.lemmas.Bool.{lt-ltb}
 use Rattle.cube_core.specs.Layout.{Layout}
-use Rattle.cube_core.specs.Items.{RestOfFeed, item_then, change_of, is_read, items_after}
+use Rattle.cube_core.specs.Items.{change_of}
+use Rattle.cube_core.specs.FeedRecords.{RestOfFeed, item_then, is_read, items_after}
 use Rattle.cube_core.specs.declared.change.Item.{Item}
 use Rattle.cube_feed.specs.Reading.{RecordsView, Advances, IsReadingFault}
 use Rattle.cube_feed.specs.Feed.{KnownRest, Left, Gives, after_header, with_fault}

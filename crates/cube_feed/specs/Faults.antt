@@ -1,7 +1,7 @@
 -- The fault of a feed, told by the bytes of its source,
 -- and the lowest source whose feed is at fault (this project's choice).
 use Rattle.std.specs.Prelude.{◌≡◌, ◌≤◌, ◌-◌, ⊤, ℕ, List, length, take, get_or, Option, None, IfSome}
-use Rattle.cube_core.specs.Items.{FeedEnd, WrongHeader, TooManyRecords, items_of}
+use Rattle.cube_core.specs.FeedRecords.{FeedEnd, WrongHeader, TooManyRecords, items_of}
 use Rattle.cube_core.specs.Layout.{Layout}
 use Rattle.cube_core.specs.Records.{records_of}
 use Rattle.cube_core.specs.Run.{SourceBytes, AreGood}

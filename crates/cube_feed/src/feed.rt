@@ -1,7 +1,8 @@
 //! A feed: the items that its bytes say, one after the other.
 ghost use Rattle.std.specs.Prelude.{◌≡◌, ◌≤◌, ◌+◌, None, Some, IfOk, IfErr, IfSome, IfNone, option_map};
 ghost use Rattle.cube_core.specs.Records.{records_of};
-ghost use Rattle.cube_core.specs.Items.{change_of, items_of};
+ghost use Rattle.cube_core.specs.Items.{change_of};
+ghost use Rattle.cube_core.specs.FeedRecords.{items_of};
 ghost use Rattle.cube_feed.specs.Reading.{IsReadingFault};
 ghost use Rattle.cube_feed.specs.Feed.{HasEnded, Gives, IsNumbered, IsTaken, Numbers, TakesHeader, IsFeed, after_header, ended_of, end_answer, number_after, to_come_of, with_fault};
 

@@ -1,7 +1,8 @@
 //! The fields of a record from a place on, the change that a record says, and whether it is read.
 ghost use Rattle.std.specs.Prelude.{◌≡◌, drop, IfOk, OnOk};
 ghost use Rattle.csv.specs.Records.{fields_of};
-ghost use Rattle.cube_core.specs.Items.{change_of, is_read};
+ghost use Rattle.cube_core.specs.Items.{change_of};
+ghost use Rattle.cube_core.specs.FeedRecords.{is_read};
 
 use crate::field::{Fields, bytes_at};
 use crate::line::change;

@@ -13,11 +13,14 @@ use Rattle.std.proofs.lemmas.List.{length-map, length-append, drop-drop}
 use Rattle.std.proofs.lemmas.List.Folds.{list_all-append, list_any-append}
 use Rattle.std.proofs.lemmas.Str.{IsUtf8-from_ascii, is_utf8-from_IsUtf8}
 use Rattle.csv.specs.Reading.{records}
-use Rattle.cube_core.specs.Items.{FeedEnd, Good, WrongHeader, TooManyRecords, IsGoodFeed, RestOfFeed, item_then, width_of}
+use Rattle.cube_core.specs.Items.{width_of}
+use Rattle.cube_core.specs.FeedRecords.{FeedEnd, Good, WrongHeader, TooManyRecords, IsGoodFeed, RestOfFeed, item_then}
 use Rattle.cube_core.specs.Items.{field_at, is_keep, is_measure, dimension_of, measure_of, number_of}
 use Rattle.cube_core.specs.Items.{dimension_field_of, measure_field_of, dimension_fields, measure_fields, fact_of}
-use Rattle.cube_core.specs.Items.{amendment_of, unless_at_fault, insert_of, update_of, change_of, is_header, is_read}
-use Rattle.cube_core.specs.Items.{items_after, items_of, same_fields, keep_text, column_names, byte_order_mark}
+use Rattle.cube_core.specs.Items.{amendment_of, unless_at_fault, insert_of, update_of, change_of, is_header}
+use Rattle.cube_core.specs.FeedRecords.{is_read}
+use Rattle.cube_core.specs.Items.{same_fields, keep_text, column_names, byte_order_mark}
+use Rattle.cube_core.specs.FeedRecords.{items_after, items_of}
 use Rattle.cube_core.specs.Layout.{Layout}
 use Rattle.cube_core.specs.Records.{records_of}
 use Rattle.cube_core.specs.Shard.{whole_feed, is_in_shard, fnv_hash}

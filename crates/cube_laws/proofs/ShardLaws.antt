@@ -14,9 +14,11 @@ use Rattle.std.proofs.lemmas.List.Elements.{filter-append}
 use Rattle.std.proofs.lemmas.Nat.{mod_below}
 use Rattle.std.proofs.lemmas.Map.Keys.{IsDistinct-head, IsDistinct-tail, IsDistinct-cons, IsDistinct-from_apart}
 use Rattle.std.proofs.lemmas.Slice.Eq.{bytes_eq-Decides}
-use Rattle.cube_core.specs.Items.{RestOfFeed, FeedEnd, Good, TooManyRecords, WrongHeader, change_of, item_then}
+use Rattle.cube_core.specs.Items.{change_of}
+use Rattle.cube_core.specs.FeedRecords.{RestOfFeed, FeedEnd, Good, TooManyRecords, WrongHeader, item_then}
 use Rattle.cube_core.specs.Items.{field_at}
-use Rattle.cube_core.specs.Items.{insert_of, is_header, is_measure, is_read, items_after, items_of, keeps_any}
+use Rattle.cube_core.specs.Items.{insert_of, is_header, is_measure, keeps_any}
+use Rattle.cube_core.specs.FeedRecords.{is_read, items_after, items_of}
 use Rattle.cube_core.specs.Items.{measure_fields, unless_at_fault, update_of, width_of}
 use Rattle.cube_core.specs.Layout.{Layout}
 use Rattle.cube_core.specs.Life.{changes_of, from_insert, id_of, life_of, since_delete, taken_change}

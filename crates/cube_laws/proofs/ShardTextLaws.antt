@@ -5,7 +5,7 @@ use Rattle.std.proofs.Common.{sym, ap, subst, arith, append_assoc}
 use Rattle.std.specs.List.{AllByRecursion, AllZip, range_with_len}
 use Rattle.std.proofs.lemmas.List.Sorted.{IsPermutation-refl, IsPermutation-trans, IsPermutation-append}
 use Rattle.std.proofs.lemmas.List.Sorted.{IsPermutation-append_comm}
-use Rattle.cube_core.specs.Items.{items_of}
+use Rattle.cube_core.specs.FeedRecords.{items_of}
 use Rattle.cube_core.specs.Layout.{Layout, IsSchema}
 use Rattle.cube_core.specs.PartialForm.{partial_form}
 use Rattle.cube_core.specs.Printed.{IsPrinted}

@@ -4,8 +4,9 @@ use Rattle.std.proofs.Common.{None, Result, Ok, Err, refl, sym, ap, ap₂, ◌�
 use Rattle.std.specs.List.{AllByRecursion, AllZip, cons_option}
 use Rattle.std.proofs.lemmas.List.{map-append}
 use Rattle.std.proofs.lemmas.Grind.{flat_map-append}
-use Rattle.cube_core.specs.Items.{RestOfFeed, item_then, FeedEnd, WrongHeader, TooManyRecords, change_of, is_header}
-use Rattle.cube_core.specs.Items.{is_read, items_after, items_of}
+use Rattle.cube_core.specs.Items.{change_of, is_header}
+use Rattle.cube_core.specs.FeedRecords.{RestOfFeed, item_then, FeedEnd, WrongHeader, TooManyRecords}
+use Rattle.cube_core.specs.FeedRecords.{is_read, items_after, items_of}
 use Rattle.cube_core.specs.Layout.{Layout, IsSchema}
 use Rattle.cube_core.specs.Life.{changes_of, taken_change}
 use Rattle.cube_core.specs.PartialForm.{partial_form}

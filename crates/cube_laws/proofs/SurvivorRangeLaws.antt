@@ -16,7 +16,8 @@ use Rattle.std.proofs.lemmas.Map.Keys.{IsDistinct-tail}
 use Rattle.std.proofs.lemmas.Slice.Eq.{bytes_eq-Decides}
 use Rattle.cube_core.specs.Amendment.{over, fields_over}
 use Rattle.cube_core.specs.Items.{change_of, fact_of, fits_i64, insert_of, is_keep, is_measure, is_null, is_number}
-use Rattle.cube_core.specs.Items.{is_read, items_after, items_of, keeps_any, measure_field_of, measure_fields}
+use Rattle.cube_core.specs.Items.{keeps_any, measure_field_of, measure_fields}
+use Rattle.cube_core.specs.FeedRecords.{is_read, items_after, items_of}
 use Rattle.cube_core.specs.Items.{measure_of, number_of, unless_at_fault, update_of, width_of, field_at, is_header}
 use Rattle.cube_core.specs.Layout.{Layout, IsSchema}
 use Rattle.cube_core.specs.Life.{id_of, naming, is_delete, since_delete, updated, from_insert, life_of, taken_change}

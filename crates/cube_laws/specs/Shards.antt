@@ -1,7 +1,7 @@
 -- The shards of feeds: of each feed the records whose id is in the shard (this project's choice).
 use Rattle.std.specs.Prelude.{ℕ, Bool, List, [], get_or}
 use Rattle.std.specs.List.{range_with_len}
-use Rattle.cube_core.specs.Items.{is_read}
+use Rattle.cube_core.specs.FeedRecords.{is_read}
 use Rattle.cube_core.specs.Layout.{Layout}
 
 -- a schema of a shard among so many

@@ -2,7 +2,8 @@
 //! feed).
 ghost use Rattle.std.specs.Prelude.{◌≡◌, ◌↔◌, ◌≤◌, ℕ, true, List, [], ◌∷◌, length, map, IfOk};
 ghost use Rattle.std.specs.List.{AllByRecursion, flat_map};
-ghost use Rattle.cube_core.specs.Items.{Good, IsGoodFeed, change_of, is_header, items_of};
+ghost use Rattle.cube_core.specs.Items.{change_of, is_header};
+ghost use Rattle.cube_core.specs.FeedRecords.{Good, IsGoodFeed, items_of};
 ghost use Rattle.cube_core.specs.Layout.{Layout};
 ghost use Rattle.cube_core.specs.Records.{records_of};
 ghost use Rattle.cube_core.specs.Shard.{whole_feed};

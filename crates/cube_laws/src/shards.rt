@@ -1,7 +1,7 @@
 //! Shards part a feed, and their printed cubes add up.
 ghost use Rattle.std.specs.Prelude.{◌≡◌, ◌≤◌, ℕ, List, Some, codes, filter, map};
 ghost use Rattle.std.specs.List.{AllZip};
-ghost use Rattle.cube_core.specs.Items.{items_of};
+ghost use Rattle.cube_core.specs.FeedRecords.{items_of};
 ghost use Rattle.cube_core.specs.Layout.{IsSchema, Layout};
 ghost use Rattle.cube_core.specs.PartialForm.{partial_form};
 ghost use Rattle.cube_core.specs.Refusals.{refusals_of};

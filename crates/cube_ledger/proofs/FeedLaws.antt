@@ -6,7 +6,7 @@ use Rattle.std.proofs.lemmas.List.{append-nil, map-append}
 use Rattle.cube_core.specs.Arrival.{Arrivals}
 use Rattle.cube_core.specs.Layout.{Layout}
 use Rattle.cube_core.specs.Records.{records_of}
-use Rattle.cube_core.specs.Items.{RestOfFeed, FeedEnd, Good, WrongHeader, TooManyRecords, items_of}
+use Rattle.cube_core.specs.FeedRecords.{RestOfFeed, FeedEnd, Good, WrongHeader, TooManyRecords, items_of}
 use Rattle.cube_core.specs.Run.{IsGood, AreItemsOf}
 use Rattle.cube_core.specs.declared.change.Item.{Item}
 use Rattle.cube_feed.specs.Faults.{IsEndOf, IsFaultOf}

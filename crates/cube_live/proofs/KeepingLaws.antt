@@ -4,7 +4,7 @@ use Rattle.std.proofs.Common.{ap, subst, ◌∙◌, add-one, arith, length-appen
 use Rattle.std.specs.Prelude.{Option, None, Some, IfSome, Result, Ok, Err, OnOk, OnErr, IfErr}
 use Rattle.csv.proofs.WriteFacts.{appends-more}
 use Rattle.cube_core.specs.Arrival.{Arrivals}
-use Rattle.cube_core.specs.Items.{is_read}
+use Rattle.cube_core.specs.FeedRecords.{is_read}
 use Rattle.cube_core.specs.Layout.{Layout}
 use Rattle.cube_feed.specs.Reading.{Advances, RecordsView}
 use Rattle.cube_live.specs.Keeping.{EndsIn, FailsKept, Keeping, KeepsFirst, KeepsOn, KeepsPart, KeepsUpTo}

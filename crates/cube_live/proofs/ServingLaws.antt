@@ -6,7 +6,8 @@ use Rattle.std.specs.Io.KnownBytes.{Appends}
 use Rattle.std.proofs.lemmas.List.{take_all, take-append-le}
 use Rattle.csv.proofs.WriteFacts.{appends-none, appends-more}
 use Rattle.cube_core.specs.Arrival.{Arrivals, of_source}
-use Rattle.cube_core.specs.Items.{change_of, is_read}
+use Rattle.cube_core.specs.Items.{change_of}
+use Rattle.cube_core.specs.FeedRecords.{is_read}
 use Rattle.cube_core.specs.Layout.{Layout}
 use Rattle.cube_core.specs.declared.change.Change.{Change}
 use Rattle.cube_core.specs.declared.change.LineFault.{LineFault}

@@ -2,7 +2,7 @@
 -- of which changes it was told, and of how many it has made sure (this project's choice).
 use Rattle.std.specs.Prelude.{◌≡◌, ◌+◌, ◌++◌, ◌∷◌, [], ◌⊎◌, ℕ, List, length, take, drop, Option, if◌then◌else◌}
 use Rattle.cube_core.specs.Arrival.{Arrivals}
-use Rattle.cube_core.specs.Items.{is_read}
+use Rattle.cube_core.specs.FeedRecords.{is_read}
 use Rattle.cube_core.specs.Layout.{Layout}
 use Rattle.cube_live.specs.Live.{LiveView, LiveStandsAt}
 use Rattle.cube_live.specs.Request.{request_of}

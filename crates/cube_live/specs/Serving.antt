@@ -3,7 +3,7 @@
 use Rattle.std.specs.Prelude.{◌≡◌, ◌≤◌, ◌+◌, ◌-◌, ◌∷◌, ⊤, ℕ, Bool, true, List, length, take, drop, get_or, Option}
 use Rattle.std.specs.Io.KnownBytes.{Appends}
 use Rattle.cube_core.specs.Arrival.{Arrivals, of_source}
-use Rattle.cube_core.specs.Items.{is_read}
+use Rattle.cube_core.specs.FeedRecords.{is_read}
 use Rattle.cube_core.specs.Layout.{Layout}
 use Rattle.cube_live.specs.Live.{LiveView, LiveStandsAt, last_number}
 use Rattle.cube_live.specs.Request.{request_of}

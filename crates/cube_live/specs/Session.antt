@@ -1,7 +1,8 @@
 -- A session: the replies to its records, one after another, each over what came before it (this project's choice).
 use Rattle.std.specs.Prelude.{◌≡◌, ℕ, List, [], ◌∷◌, ◌++◌, length, drop, codes, decimal, if◌then◌else◌}
 use Rattle.cube_core.specs.Arrival.{Arrivals, of_sources}
-use Rattle.cube_core.specs.Items.{change_of, is_read}
+use Rattle.cube_core.specs.Items.{change_of}
+use Rattle.cube_core.specs.FeedRecords.{is_read}
 use Rattle.cube_core.specs.Layout.{Layout}
 use Rattle.cube_core.specs.declared.query.QueryFault.{QueryFault}
 use Rattle.cube_core.specs.declared.query.QueryFault.TheVariants as query

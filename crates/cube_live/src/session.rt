@@ -4,7 +4,7 @@ ghost use Rattle.std.specs.Io.KnownBytes.{Appends};
 ghost use Rattle.csv.specs.Records.{fields_of};
 ghost use Rattle.cube_core.specs.Arrival.{Arrivals};
 ghost use Rattle.cube_feed.specs.Reading.{Advances};
-ghost use Rattle.cube_core.specs.Items.{is_read};
+ghost use Rattle.cube_core.specs.FeedRecords.{is_read};
 ghost use Rattle.cube_core.specs.Layout.{Layout};
 ghost use Rattle.cube_live.specs.Keeping.{EndsIn, FailsKept, KeepsOn, keeping_after, keeping_changed, keeping_with, made_sure, with_change};
 ghost use Rattle.cube_live.specs.Live.{CanAsk, LiveStandsAt, TakesNext};

@@ -3,7 +3,7 @@ use Rattle.std.proofs.Common.{append-nil, ◌≡◌, List, [], ◌∷◌, ◌++�
 use Rattle.std.proofs.Common.{Option, Some, None, Ok, Err}
 use Rattle.std.proofs.lemmas.List.{map-append}
 use Rattle.std.specs.Prelude.{⊤}
-use Rattle.cube_core.specs.Items.{RestOfFeed}
+use Rattle.cube_core.specs.FeedRecords.{RestOfFeed}
 use Rattle.cube_core.specs.declared.change.Item.{Item}
 use Rattle.cube_feed.specs.Feed.{KnownRest, Gives, nothing_but}
 use Rattle.cube_feed.specs.declared.fault.FeedFault.{FeedFault}

@@ -6,7 +6,7 @@ use Rattle.std.specs.List.{All, AllZip, AllByRecursion}
 use Rattle.std.proofs.lemmas.List.{ext_get_or, get_or-map, get_or-take, get_or_default, length-map, length-take}
 use Rattle.std.proofs.lemmas.List.FromFn.{get_or-map-range_with_len, length-map-range_with_len}
 use Rattle.cube_core.specs.Arrival.{Arrivals, of_source, of_sources}
-use Rattle.cube_core.specs.Items.{RestOfFeed, items_of}
+use Rattle.cube_core.specs.FeedRecords.{RestOfFeed, items_of}
 use Rattle.cube_core.specs.Layout.{Layout}
 use Rattle.cube_core.specs.Records.{records_of}
 use Rattle.cube_core.specs.Run.{SourceBytes, IsGood, AreItemsOf, AreGood}

@@ -1,6 +1,6 @@
 -- What a feeder sends, and what it leaves.
 use Rattle.std.specs.Prelude.{◌≡◌, ⊤, ◌<◌, ◌≤◌, ℕ, List, ◌++◌, length, map, slice_index_or, Option, Some, None, IfSome}
-use Rattle.cube_core.specs.Items.{RestOfFeed}
+use Rattle.cube_core.specs.FeedRecords.{RestOfFeed}
 use Rattle.cube_core.specs.declared.change.Item.{Item}
 use Rattle.cube_feed.specs.Feed.{KnownRest}
 use Rattle.cube_feed.specs.declared.fault.FeedFault.{FeedFault}

@@ -5,7 +5,7 @@ use Rattle.std.specs.Prelude.{Option, None, Some, IfSome, if◌then◌else◌}
 use Rattle.std.proofs.lemmas.List.{append-nil, length-map, take_all, take-append-le}
 use Rattle.sqlite_trees.specs.Tree.{Trees}
 use Rattle.sqlite_trees.specs.View.{View, IsClean}
-use Rattle.cube_core.specs.Items.{is_read}
+use Rattle.cube_core.specs.FeedRecords.{is_read}
 use Rattle.cube_core.specs.Layout.{Layout}
 use Rattle.cube_store.specs.Making.{LeavesNotes}
 use Rattle.cube_store.specs.Rows.{Entry}

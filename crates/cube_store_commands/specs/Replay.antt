@@ -1,7 +1,7 @@
 -- What a session is after stored changes, which are taken in their order before its first record.
 use Rattle.std.specs.Prelude.{◌≡◌, ◌≤◌, ◌-◌, ◌⊎◌, ℕ, List, [], ◌∷◌, ◌++◌, drop, get_or, IsTrue, Option, None, Some}
 use Rattle.cube_core.specs.Arrival.{Arrivals, of_source}
-use Rattle.cube_core.specs.Items.{is_read}
+use Rattle.cube_core.specs.FeedRecords.{is_read}
 use Rattle.cube_core.specs.Layout.{Layout}
 use Rattle.cube_store.specs.Rows.{Entry}
 use Rattle.cube_live.specs.Live.{LiveView, LiveStandsAt, last_number}

@@ -1,7 +1,7 @@
 use Rattle.std.proofs.Common.{◌≡◌, ◌∙◌, ℕ, true, List, Result, Ok, Err, IfErr, drop, sym}
 use Rattle.std.proofs.lemmas.Result.{err_from_is_err_and, on_ok_weaker}
 use Rattle.csv.specs.Records.{fields_of}
-use Rattle.cube_core.specs.Items.{is_read}
+use Rattle.cube_core.specs.FeedRecords.{is_read}
 use Rattle.cube_core.specs.Layout.{Layout}
 use Rattle.cube_live.specs.Keeping.{EndsIn, Keeping, KeepsOn, keeping_changed, with_change}
 use Rattle.cube_live.specs.declared.session.SessionFault.{SessionFault}
