@@ -1,6 +1,6 @@
 -- The plain record that a record of a feed stands for: its operation, its id, and a field for each dimension and each
 -- measure, in which null is written as `\N` (this project's choice).
-use Rattle.std.specs.Prelude.{◌==◌, ◌||◌, ℕ, not, List, [], ◌∷◌, ◌++◌, length, map, take, codes, decimal, Option, Some, None}
+use Rattle.std.specs.Prelude.{◌==◌, ℕ, List, [], ◌∷◌, ◌++◌, length, map, take, codes, decimal, Option, Some, None}
 use Rattle.std.specs.Prelude.{if◌then◌else◌}
 use Rattle.std.specs.Str.{bytes_eq, is_utf8}
 use Rattle.std.specs.Fmt.{take_chars}
@@ -20,19 +20,24 @@ delimiter_of s = option_map_or (λ (columns : FeedColumns). columns.delimiter) s
 abbrev pub nulls_of : Layout → List (List ℕ)
 nulls_of s = option_map_or (λ (columns : FeedColumns). columns.nulls) s.columns (null_text ∷ [])
 
--- the plain field of a dimension: null's text for each text that is null, and else its first so many characters;
--- one that isn't UTF-8, or keeps a value, stays
+-- the first so many characters of a text, or all of it; a field that isn't UTF-8 stays
+abbrev pub first_of : Option ℕ → List ℕ → List ℕ
+first_of None field = field
+first_of (Some count) field = if is_utf8 field then take_chars count field else field
+
+-- the plain field of a dimension: one that keeps a value stays, null is written `\N`, and of another text the first
+-- characters are taken
 abbrev pub plain_dimension : Layout → List (List ℕ) → Option ℕ → List ℕ → List ℕ
 plain_dimension s nulls first field =
-    if not (is_utf8 field) || is_keep s field then field
+    if is_keep s field then field
     else if is_listed field nulls then null_text
-    else option_map_or (λ count. take_chars count field) first field
+    else first_of first field
 
--- the plain field of a measure: null's text for each text that is null;
--- one that isn't UTF-8, or keeps a value, stays, and null's text where it is none of those is no number
+-- the plain field of a measure: one that keeps a value stays, null is written `\N`,
+-- and a `\N` that isn't null is left empty, which is no number
 abbrev pub plain_measure : Layout → List (List ℕ) → List ℕ → List ℕ
 plain_measure s nulls field =
-    if not (is_utf8 field) || is_keep s field then field
+    if is_keep s field then field
     else if is_listed field nulls then null_text
     else if bytes_eq field null_text then []
     else field
