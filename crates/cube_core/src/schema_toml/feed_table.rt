@@ -62,11 +62,3 @@ fn columns_of_table(
         measures: Sequence::from_vec(of_measures),
     }))
 }
-
-// What the keys of a table `feed` say that are texts.
-struct PlainKeys<'t> {
-    id: Option<&'t str>,
-    op: Option<&'t str>,
-    delimiter: u8,
-    point: u8,
-}
