@@ -19,3 +19,4 @@ pub mod CellKeyLaws
 pub mod SetLaws
 pub mod QueryLaws
 mod PartialFormLaws
+pub mod PlainLaws
