@@ -41,7 +41,8 @@ plain_measure-same s field = elim (cases_Bool (is_keep s field)) [
 parts-same : (n : ℕ) (fields : List (List ℕ))
     → take 2 fields ++ take n (drop 2 fields) ++ drop (2 + n) fields ≡ fields
 parts-same n fields =
-    ap (λ rest. take 2 fields ++ take n (drop 2 fields) ++ rest) (sym (drop-drop n 2 fields))
+    ap (λ rest. (take 2 fields ++ take n (drop 2 fields)) ++ rest) (sym (drop-drop n 2 fields))
+    ∙ append_assoc (take 2 fields) (take n (drop 2 fields)) (drop n (drop 2 fields))
     ∙ ap (λ rest. take 2 fields ++ rest) (take-append-drop n (drop 2 fields))
     ∙ take-append-drop 2 fields
 

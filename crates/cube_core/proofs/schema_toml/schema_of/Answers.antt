@@ -12,13 +12,18 @@ schema_of_parts-requires-clause-records c =
 pub schema_of_parts-requires-clause-versions : goal.schema_of_parts-requires-clause-versions
 schema_of_parts-requires-clause-versions c = version_in-bounds (table_view c.args.document.now) _ c.version_in.ensures
 
+pub schema_of_parts-requires-clause-measures : goal.schema_of_parts-requires-clause-measures
+schema_of_parts-requires-clause-measures c =
+    let least : c.in_ok-measures.least_measures ≡ least_measures_in (table_view c.args.document.now) = search rules in
+    least_measures_in-bound (table_view c.args.document.now) _ _ least c.value_at-feed.ensures
+
 pub returns : goal.returns
 returns c =
     let document = table_view c.args.document.now in
     let known : has_known_keys document ≡ true = search rules in
     let dimensions : c.in_ok-dimensions.dimensions.items ≡ dimensions_in document = search rules in
-    let measures : c.in_ok-measures_in.measures.items ≡ measures_in document = search rules in
-    let least : c.in_ok-measures_in.least_measures ≡ least_measures_in document = search rules in
+    let measures : c.in_ok-measures.measures.items ≡ measures_in document = search rules in
+    let least : c.in_ok-measures.least_measures ≡ least_measures_in document = search rules in
     let texts : c.in_ok-aggregate_texts.aggregate_texts.items ≡ spellings_in document = search rules in
     document-answered_by document _ _ _ _ _ _ _ _ _ known dimensions measures least texts c.max_records_in.ensures
-    c.value_at.ensures c.version_in.ensures c.value_at-2.ensures c.schema_of_parts.ensures
+    c.value_at-grouping.ensures c.version_in.ensures c.value_at-feed.ensures c.schema_of_parts.ensures

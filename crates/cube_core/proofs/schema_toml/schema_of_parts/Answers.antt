@@ -16,7 +16,7 @@ invariant_of-result c =
     let sets : Some c.in-Some.grouping_sets.items
     ≡ sets_of_grouping c.args.parts.dimensions.items (option_map (λ value. view value.now) c.args.grouping) =
     search rules in
-    let columns : Some c.in-Some-columns.columns
+    let columns : Some c.in-Some-2.columns
     ≡ columns_of_value c.args.parts.dimensions.items c.args.parts.measures.items
     (option_map (λ value. view value.now) c.args.feed) = search rules in
     layout_of_parts-IsSchema _ _ _ _ c.args.parts.least_measures _
