@@ -1,17 +1,17 @@
 -- The columns that the table `feed` of a document says: they are lawful, and when there are none.
-use Rattle.std.proofs.Common.{◌≡◌, ◌≤◌, ℕ, Bool, true, false, ◌&&◌, ◌||◌, not, is_some, List, [], ◌∷◌, ◌++◌, length, codes}
-use Rattle.std.proofs.Common.{Option, Some, None, IfSome, IfNone, refl, sym, ap, ◌∙◌, subst, inl, inr, arith}
+use Rattle.std.proofs.Common.{◌≡◌, ◌≤◌, ℕ, Bool, true, false, ◌||◌, is_some, List, [], ◌++◌, length, codes}
+use Rattle.std.proofs.Common.{Option, Some, None, IfSome, IfNone, refl, sym, ap, ◌∙◌, subst, arith}
 use Rattle.std.specs.Prelude.{◌==◌, unwrap_or, option_map, option_and_then, if◌then◌else◌}
 use Rattle.std.specs.List.{list_all, filter_map}
 use Rattle.std.specs.Option.{option_map_or}
-use Rattle.std.proofs.lemmas.Bool.{and_parts, and_from, and_left, and_right, cases_Bool}
+use Rattle.std.proofs.lemmas.Bool.{and_parts, and_from, and_left, and_right}
 use Rattle.std.proofs.lemmas.Option.{same_Some}
 use Rattle.toml.specs.Data.{Data, string, integer, float, boolean, datetime, array, table, as_str, get_member, Members}
 use Rattle.toml.specs.Data.{no_members}
 use Rattle.cube_core.specs.FeedDocument.{has_only, one_byte, delimiter_value, point_value, id_in, op_in, nulls_in}
 use Rattle.cube_core.specs.FeedDocument.{delimiter_in, point_in, columns_value, is_op_with_id, is_point_apart}
 use Rattle.cube_core.specs.FeedDocument.{are_plain_keys, are_columns, is_feed_table, feed_columns, columns_of_feed}
-use Rattle.cube_core.specs.FeedDocument.{columns_of_value, dimension_column, measure_column, feed_keys}
+use Rattle.cube_core.specs.FeedDocument.{columns_of_value, dimension_column, measure_column}
 use Rattle.cube_core.specs.Layout.{is_delimiter, AreColumnsOf}
 use Rattle.cube_core.specs.declared.feed_columns.FeedColumns.{FeedColumns}
 use Rattle.cube_core.proofs.ItemLaws.{length-filter_map}

@@ -1,5 +1,5 @@
 -- What the table `feed` of a schema's document says (TOML 1.1; this project's choice of the keys).
-use Rattle.std.specs.Prelude.{◌==◌, ◌||◌, ◌&&◌, ℕ, pos, Bool, true, not, nat_le, is_some, length, map, codes, List, [], ◌∷◌}
+use Rattle.std.specs.Prelude.{◌==◌, ◌||◌, ◌&&◌, ℕ, pos, Bool, true, not, nat_le, is_some, codes, List, [], ◌∷◌}
 use Rattle.std.specs.Prelude.{◌++◌, Option, Some, None, option_and_then, option_map, unwrap_or, if◌then◌else◌}
 use Rattle.std.specs.Option.{option_map_or}
 use Rattle.std.specs.List.{list_all, filter_map}
