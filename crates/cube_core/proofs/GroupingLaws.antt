@@ -15,7 +15,8 @@ use Rattle.std.proofs.lemmas.Option.{same_Some, cond_some, option_and_then_some}
 use Rattle.toml.specs.Data.{Data, string, integer, float, boolean, datetime, array, table, as_array, Items, no_items}
 use Rattle.toml.specs.Data.{item}
 use Rattle.cube_core.specs.GroupingSet.{all_sets, is_among}
-use Rattle.cube_core.specs.SchemaDocument.{texts_of, set_of_names, set_of_item, sets_of_items, is_set_of, mask_of_names}
+use Rattle.cube_core.specs.FeedDocument.{texts_of}
+use Rattle.cube_core.specs.SchemaDocument.{set_of_names, set_of_item, sets_of_items, is_set_of, mask_of_names}
 use Rattle.cube_core.specs.SchemaDocument.{are_lawful_sets, rollup_sets, sets_of_word, named_sets, kept_sets}
 use Rattle.cube_core.specs.SchemaDocument.{sets_of_grouping}
 use Rattle.cube_core.proofs.GroupingReadingLaws.{mask_of_names-below}

@@ -8,6 +8,7 @@ mod SchemaReadingLaws
 mod GroupingReadingLaws
 pub mod GroupingLaws
 pub mod SchemaSpellingLaws
+mod FeedDocumentLaws
 mod SchemaLaws
 pub mod AmendmentLaws
 pub mod ItemLaws
@@ -19,3 +20,4 @@ pub mod CellKeyLaws
 pub mod SetLaws
 pub mod QueryLaws
 mod PartialFormLaws
+pub mod PlainLaws

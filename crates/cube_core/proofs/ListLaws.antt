@@ -2,8 +2,8 @@
 -- what a list contains, what holds of all its elements, filters and sums.
 use Rattle.std.proofs.Common.{◌≡◌, ℕ, suc, ◌+◌, Bool, true, false, cond, List, [], ◌∷◌, ◌++◌, length, map, get_or}
 use Rattle.std.proofs.Common.{filter, sum_by, count_by, flat_map, Contains, ◌⊎◌, refl, sym, ap, ap₂, ◌∙◌, subst, inl}
-use Rattle.std.proofs.Common.{inr, arith, zero-add}
-use Rattle.std.specs.List.{AllByRecursion, AllZip, list_any, list_all}
+use Rattle.std.proofs.Common.{inr, arith, zero-add, add-one, drop, drop-cons, append_assoc, Option, Some, ◌<◌}
+use Rattle.std.specs.List.{AllByRecursion, AllZip, filter_map, list_any, list_all}
 use Rattle.std.proofs.lemmas.Bool.{cases_Bool, and_parts, or_left, or_right, or_cases, false≢true}
 use Rattle.std.proofs.lemmas.List.Elements.{Contains-get_or, Contains-append_left, Contains-append_right}
 use Rattle.std.proofs.lemmas.List.Elements.{Contains-append_cases, Contains-push, Contains-push_cases, All-contains}
@@ -196,3 +196,17 @@ count_by-none p [] fails = refl
 count_by-none p (x ∷ xs) fails =
     count_by-failed p x xs (fails x (Contains-head x xs))
     ∙ count_by-none p xs (λ y among. fails y (Contains-tail x xs y among))
+
+-- ---- what a loop has found, and what is to come
+-- what is found so far, and what is to come, with one more item
+pub filter_map-more : {X Y : Type 0} (h : X → Option Y) (xs : List X) (i : ℕ) (d : X) (y : Y) (found : List Y)
+    → i < length xs → Some y ≡ h (get_or xs i d)
+    → (found ++ y ∷ []) ++ filter_map h (drop (i + 1) xs) ≡ found ++ filter_map h (drop i xs)
+filter_map-more h xs i d y found inside is =
+    rw (add-one, drop-cons xs i d, ← is) (append_assoc found (y ∷ []) (filter_map h (drop (suc i) xs)))
+
+-- where an item passes a test, all from it on do where all after it do
+pub list_all-more : {X : Type 0} (test : X → Bool) (xs : List X) (i : ℕ) (d : X) → i < length xs
+    → test (get_or xs i d) ≡ true
+    → list_all test (drop (i + 1) xs) ≡ list_all test (drop i xs)
+list_all-more test xs i d inside passes = rw (add-one, drop-cons xs i d, passes) refl

@@ -9,14 +9,14 @@ use Rattle.toml.specs.View.{view, items_view, members_view}
 use Rattle.toml.specs.declared.value.Value.{Value}
 use Rattle.toml.proofs.Views.{Entry, items_view-drop}
 use Rattle.cube_core.specs.Layout.{is_listed}
-use Rattle.cube_core.specs.SchemaDocument.{known_keys, has_known_keys, texts_of}
+use Rattle.cube_core.specs.FeedDocument.{has_only, texts_of}
 
 -- the test of the keys, on the entries of a table
-pub has_known_keys-view : (entries : List Entry) → has_known_keys (members_view entries)
-    ≡ list_all (λ key. is_listed (string_bytes key) known_keys) (keys_of entries)
-has_known_keys-view [] = refl
-has_known_keys-view (entry ∷ entries) =
-    ap (λ others. is_listed (string_bytes entry.0) known_keys && others) (has_known_keys-view entries)
+pub has_only-view : (keys : List (List ℕ)) (entries : List Entry)
+    → has_only keys (members_view entries) ≡ list_all (λ key. is_listed (string_bytes key) keys) (keys_of entries)
+has_only-view keys [] = refl
+has_only-view keys (entry ∷ entries) =
+    ap (λ others. is_listed (string_bytes entry.0) keys && others) (has_only-view keys entries)
 
 -- the texts of an array whose first item is a text, and of one whose first item is none
 texts_of-text : (value : Data) (others : Items) (text : List ℕ) → Some text ≡ as_str value

@@ -6,12 +6,12 @@ use Rattle.std.specs.Prelude.{None, option_and_then, option_map, unwrap_or, Resu
 use Rattle.std.specs.Str.{bytes_eq}
 use Rattle.std.specs.Option.{option_map_or}
 use Rattle.std.specs.List.{list_all, filter_map, range_with_len}
-use Rattle.toml.specs.Data.{Data, string, integer, array, as_array, Items, no_items, item, Members, no_members, member}
+use Rattle.toml.specs.Data.{Data, string, integer, array, as_array, Items, no_items, item, Members}
 use Rattle.toml.specs.Data.{get_member}
 use Rattle.toml.specs.Parse.{parse_document}
 use Rattle.cube_core.specs.Shard.{whole_feed}
 use Rattle.cube_core.specs.Layout.{Layout, is_listed, are_distinct, is_lawful_name, spelling_of}
-use Rattle.cube_core.specs.FeedDocument.{texts_of, has_only, if_there, columns_of_feed}
+use Rattle.cube_core.specs.FeedDocument.{texts_of, has_only, columns_of_value}
 use Rattle.cube_core.specs.GroupingSet.{all_sets, is_among}
 use Rattle.cube_core.specs.declared.aggregate.Agg.{Agg}
 use Rattle.cube_core.specs.declared.aggregate.Agg.TheVariants.{CountAll, Count, Sum, Min, Max, Avg}
@@ -51,6 +51,10 @@ spellings_in document = texts_in (codes "aggregates") document
 -- whether there are at least one text and at most so many
 abbrev pub is_some_up_to : ℕ → List (List ℕ) → Bool
 is_some_up_to most texts = nat_le 1 (length texts) && nat_le (length texts) most
+
+-- whether there are at least so many measures and at most 4
+abbrev pub is_number_of_measures : ℕ → List (List ℕ) → Bool
+is_number_of_measures least measures = nat_le least (length measures) && nat_le (length measures) 4
 
 -- whether names may stand together: each is lawful, and none stands twice
 abbrev pub are_lawful_names : List (List ℕ) → Bool
@@ -166,7 +170,7 @@ version_in document = option_map_or feed_version (get_member (codes "version") d
 -- the columns by name that the document says, where what it says of them is right; none where it says nothing
 abbrev pub columns_in : Members → Option (Option FeedColumns)
 columns_in document =
-    if_there (columns_of_feed (dimensions_in document) (measures_in document)) (codes "feed") document
+    columns_of_value (dimensions_in document) (measures_in document) (get_member (codes "feed") document)
 
 -- the least number of measures: none under columns by name, where the document has an array of texts for them
 abbrev pub least_measures_in : Members → ℕ
@@ -223,8 +227,7 @@ is_fault_of_parts parts Memory = false
 is_fault_of_parts parts Toml = false
 is_fault_of_parts parts UnknownKey = false
 is_fault_of_parts parts Dimensions = not (is_some_up_to 8 parts.dimensions)
-is_fault_of_parts parts Measures =
-    not (nat_le parts.least_measures (length parts.measures) && nat_le (length parts.measures) 4)
+is_fault_of_parts parts Measures = not (is_number_of_measures parts.least_measures parts.measures)
 is_fault_of_parts parts Name = not (are_lawful_names (parts.dimensions ++ parts.measures))
 is_fault_of_parts parts Aggregates =
     not (is_some_up_to 16 parts.spellings && are_spellings parts.measures parts.spellings)

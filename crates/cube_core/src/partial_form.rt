@@ -4,6 +4,7 @@ ghost use Rattle.cube_core.specs.Layout.{spelling_of, spelled_with};
 ghost use Rattle.cube_core.specs.PartialForm.{AnswersPartial, has_aggregate, partial_aggregates, with_aggregate, with_parts};
 
 use crate::aggregate::Agg;
+use crate::feed_columns::copy_columns;
 use crate::schema::Schema;
 use crate::schema_fault::SchemaFault;
 use crate::text::{Text, copy_texts};
@@ -35,6 +36,7 @@ impl Schema {
             grouping_sets: Vec::from_slice(alloc, &self.grouping_sets)?,
             version: self.version,
             shard: self.shard,
+            columns: copy_columns(alloc, &self.columns)?,
             hash_key: self.hash_key,
         })
     }

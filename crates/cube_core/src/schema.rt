@@ -16,15 +16,14 @@ use crate::hash_key::HashKey;
 use crate::key::{Coord, Key};
 use crate::partial::{Field, Partial};
 use crate::schema_fault::SchemaFault;
-use crate::schema_toml::schema_of_parts;
+use crate::schema_toml::{GivenParts, schema_of_parts};
 use crate::shard::Shard;
 use crate::text::{Text, copy_texts, texts_from_strs};
 use std::alloc::{AllocError, Global};
 use std::marker::Model;
 
-/// The schema of a cube: 1 to 8 dimensions, 1 to 4 measures (or none, where the columns of feeds are known by name), 1 to 24
-/// aggregates of these measures, and the
-/// number of data records that a feed may have, 1 to 4294967295.
+/// The schema of a cube: 1 to 8 dimensions, 1 to 4 measures (or none, where the columns of feeds are known by name),
+/// 1 to 24 aggregates of these measures, and the number of data records that a feed may have, 1 to 4294967295.
 ///
 /// All names differ, and none is empty, `op`, `id` or `*`.
 #[derive(Drop)]
@@ -96,16 +95,15 @@ impl Schema {
         let dimensions = texts_from_strs(alloc, dimensions)?;
         let measures = texts_from_strs(alloc, measures)?;
         let aggregates = texts_from_strs(alloc, aggregates)?;
-        let limit = Some(u32::MAX);
-        schema_of_parts(
-            alloc,
+        let parts = GivenParts {
             dimensions,
             measures,
-            aggregates,
-            limit,
-            None,
-            Some(1),
-        )
+            least_measures: 1,
+            aggregate_texts: aggregates,
+            max_records: Some(u32::MAX),
+            version: Some(1),
+        };
+        schema_of_parts(alloc, parts, None, None)
     }
 
     /// The sample schema: the dimensions `region` and `kind`, the measure `amount`, and `count(*)` with the sum,
@@ -153,7 +151,7 @@ impl Schema {
         self.dimensions.as_slice()
     }
 
-    /// The names of the measures, in order; 1 to 4.
+    /// The names of the measures, in order; 1 to 4, or none, where the columns of feeds are known by name.
     pub fn measures(&self) -> &[Text]
         ensures value { result.now ≡ self.now.measures }
         ensures schema { IsSchema self.now }

@@ -1,12 +1,15 @@
 //! Reads a schema from a TOML document, and makes one of its parts.
-ghost use Rattle.std.specs.Prelude.{◌≡◌, ◌≢◌, ◌≤◌, ℕ, List, ◌++◌, codes, false, true, Option, Some, Err, IfOk, IfErr, IfSome, MatchOption, option_map, position};
+ghost use Rattle.std.specs.Prelude.{◌≡◌, ◌≢◌, ◌≤◌, ℕ, List, ◌++◌, codes, false, true, Option, Some, Err, IfOk, IfErr, IfSome, IfNone, MatchOption, is_some, option_map, position};
 ghost use Rattle.std.specs.Str.{bytes_eq};
 ghost use Rattle.std.specs.List.{list_all, filter_map};
 ghost use Rattle.toml.specs.Data.{get_member};
 ghost use Rattle.toml.specs.View.{view, table_view, items_view};
+ghost use Rattle.cube_core.specs.FeedDocument.{texts_of, columns_of_value};
 ghost use Rattle.cube_core.specs.Layout.{is_listed, are_distinct, is_lawful_name};
-ghost use Rattle.cube_core.specs.SchemaDocument.{AnswersBytes, AnswersDocument, AnswersParts, known_keys, has_known_keys, texts_of, texts_at, texts_in, is_some_up_to, are_lawful_names, aggregate_spelled, are_spellings, record_limit, max_records_in, feed_version, version_in, sets_of_grouping};
+ghost use Rattle.cube_core.specs.SchemaDocument.{AnswersBytes, AnswersDocument, AnswersParts, known_keys, has_known_keys, texts_at, texts_in, measures_in, least_measures_in, is_some_up_to, is_number_of_measures, are_lawful_names, aggregate_spelled, are_spellings, record_limit, max_records_in, feed_version, version_in, sets_of_grouping};
+ghost use Rattle.cube_core.specs.declared.feed_columns.FeedColumns.{FeedColumns};
 
+mod feed_table;
 mod grouping;
 
 use crate::aggregate::Agg;
@@ -15,14 +18,16 @@ use crate::schema::Schema;
 use crate::schema_fault::SchemaFault;
 use crate::shard::Shard;
 use crate::text::Text;
+use feed_table::columns_of_value;
 use grouping::sets_of_grouping;
 use std::alloc::{AllocError, Global};
 use toml::{Table, Value};
 
 impl Schema {
     /// The schema that a TOML document writes: the arrays of texts `dimensions`, `measures` and `aggregates`, the
-    /// whole number `max_records`, which is 4294967295 where the document doesn't give it, the `grouping`, and the
-    /// `version` of the feeds, which is 1 where the document doesn't give it.
+    /// whole number `max_records`, which is 4294967295 where the document doesn't give it, the `grouping`, the
+    /// `version` of the feeds, which is 1 where the document doesn't give it, and the table `feed`, which says the
+    /// columns of feeds by their names.
     ///
     /// The grouping is `cube` for all grouping sets, as where the document doesn't give it, `rollup` for those of
     /// the first dimensions, from none to all, or an array of sets, each an array of names of dimensions in any
@@ -40,6 +45,18 @@ impl Schema {
     }
 }
 
+/// The parts of a schema, as a document or a caller gives them: names, how many measures there are at least, spellings of
+/// aggregates, the number of data records, and the version of the feeds. What is None is wrong.
+#[derive(Drop)]
+pub(crate) struct GivenParts {
+    pub(crate) dimensions: Vec<Text>,
+    pub(crate) measures: Vec<Text>,
+    pub(crate) least_measures: usize,
+    pub(crate) aggregate_texts: Vec<Text>,
+    pub(crate) max_records: Option<u32>,
+    pub(crate) version: Option<u32>,
+}
+
 /// The schema that a document writes, or its first fault.
 fn schema_of(alloc: Global, document: &Table) -> Result<Schema, SchemaFault>
     ensures { AnswersDocument (table_view document.now) result }
@@ -48,107 +65,125 @@ fn schema_of(alloc: Global, document: &Table) -> Result<Schema, SchemaFault>
         return Err(SchemaFault::UnknownKey);
     }
     let dimensions = texts_in(alloc, document, "dimensions")?;
-    let measures = texts_in(alloc, document, "measures")?;
+    let (measures, least_measures) = measures_in(alloc, document)?;
     let aggregate_texts = texts_in(alloc, document, "aggregates")?;
-    schema_of_parts(
-        alloc,
+    let parts = GivenParts {
         dimensions,
         measures,
+        least_measures,
         aggregate_texts,
-        max_records_in(document),
-        value_at(document, "grouping"),
-        version_in(document),
-    )
+        max_records: max_records_in(document),
+        version: version_in(document),
+    };
+    let grouping = value_at(document, "grouping");
+    let feed = value_at(document, "feed");
+    schema_of_parts(alloc, parts, grouping, feed)
 }
 
-/// The schema of its parts, or their first fault: names, spellings of aggregates, the number of data records, the
-/// grouping, which is of all sets where there is none, and the version of the feeds. What is None is wrong.
+/// The measures of a document, and how many there are at least.
+fn measures_in(alloc: Global, document: &Table) -> Result<(Vec<Text>, usize), AllocError>
+    ensures texts { IfOk result (λ found. found.0.items ≡ measures_in (table_view document.now)) }
+    ensures least { IfOk result (λ found. found.1 ≡ least_measures_in (table_view document.now)) }
+{
+    match texts_at(alloc, document, "measures")? {
+        Some(measures) => Ok((measures, if has_feed(document) { 0 } else { 1 })),
+        None => Ok((Vec::new(alloc), 1)),
+    }
+}
+
+fn has_feed(document: &Table) -> bool
+    ensures { result ≡ is_some (get_member (codes "feed") (table_view document.now)) }
+{
+    value_at(document, "feed").is_some()
+}
+
+/// The schema of its parts, or their first fault; the grouping is of all sets where there is none, and feeds have no
+/// columns by name where there is none of `feed`.
 pub(crate) fn schema_of_parts(
     alloc: Global,
-    dimensions: Vec<Text>,
-    measures: Vec<Text>,
-    aggregate_texts: Vec<Text>,
-    max_records: Option<u32>,
+    parts: GivenParts,
     grouping: Option<&Value>,
-    version: Option<u32>,
+    feed: Option<&Value>,
 ) -> Result<Schema, SchemaFault>
-    requires records { IfSome max_records (λ limit. 1 ≤ limit) }
-    requires versions { IfSome version (λ number. (1 ≤ number) × (number ≤ 2)) }
+    requires records { IfSome parts.max_records (λ limit. 1 ≤ limit) }
+    requires versions { IfSome parts.version (λ number. (1 ≤ number) × (number ≤ 2)) }
+    requires measures { IfNone (option_map (λ value. view value.now) feed) (1 ≤ parts.least_measures) }
     ensures { AnswersParts (record {
-      dimensions = dimensions.items;
-      measures = measures.items;
-      spellings = aggregate_texts.items;
-      max_records = max_records;
-      grouping_sets = sets_of_grouping dimensions.items (option_map (λ value. view value.now) grouping.entry);
-      version = version;
+      dimensions = parts.dimensions.items;
+      measures = parts.measures.items;
+      least_measures = parts.least_measures;
+      spellings = parts.aggregate_texts.items;
+      max_records = parts.max_records;
+      grouping_sets = sets_of_grouping parts.dimensions.items (option_map (λ value. view value.now) grouping.entry);
+      version = parts.version;
+      columns = columns_of_value parts.dimensions.items parts.measures.items
+          (option_map (λ value. view value.now) feed.entry);
     }) result }
 {
-    let (aggregates, max_records) = lawful_aggregates(
-        alloc,
-        &dimensions,
-        &measures,
-        &aggregate_texts,
-        max_records,
-    )?;
-    let Some(grouping_sets) = sets_of_grouping(alloc, &dimensions, grouping)? else {
+    let (aggregates, max_records) = lawful_aggregates(alloc, &parts)?;
+    let Some(grouping_sets) = sets_of_grouping(alloc, &parts.dimensions, grouping)? else {
         return Err(SchemaFault::Grouping);
     };
-    let Some(version) = version else {
+    let Some(version) = parts.version else {
         return Err(SchemaFault::Version);
     };
+    let Some(columns) = columns_of_value(alloc, &parts.dimensions, &parts.measures, feed)? else {
+        return Err(SchemaFault::Columns);
+    };
     Ok(Schema {
-        dimensions,
-        measures,
+        dimensions: parts.dimensions,
+        measures: parts.measures,
         aggregates,
-        aggregate_texts,
+        aggregate_texts: parts.aggregate_texts,
         max_records,
         grouping_sets,
         version,
         shard: Shard::whole(),
+        columns,
         hash_key: HashKey::Known,
     })
 }
 
 /// The aggregates and the number of data records of a schema of such names, or the first fault of these parts.
-fn lawful_aggregates(
-    alloc: Global,
-    dimensions: &[Text],
-    measures: &[Text],
-    aggregate_texts: &[Text],
-    max_records: Option<u32>,
-) -> Result<(Vec<Agg>, u32), SchemaFault>
-    ensures faults { (sets : Option (List ℕ)) (version : Option ℕ) → IfErr result (λ fault. AnswersParts (record {
-      dimensions = dimensions.now;
-      measures = measures.now;
-      spellings = aggregate_texts.now;
-      max_records = max_records;
-      grouping_sets = sets;
-      version = version;
-    }) (Err fault)) }
-    ensures numbers { IfOk result (λ _. (is_some_up_to 8 dimensions.now ≡ true)
-        × (is_some_up_to 4 measures.now ≡ true) × (is_some_up_to 16 aggregate_texts.now ≡ true)) }
-    ensures names { IfOk result (λ _. are_lawful_names (dimensions.now ++ measures.now) ≡ true) }
+fn lawful_aggregates(alloc: Global, parts: &GivenParts) -> Result<(Vec<Agg>, u32), SchemaFault>
+    ensures faults { (sets : Option (List ℕ)) (columns : Option (Option FeedColumns))
+        → IfErr result (λ fault. AnswersParts (record {
+          dimensions = parts.now.dimensions.items;
+          measures = parts.now.measures.items;
+          least_measures = parts.now.least_measures;
+          spellings = parts.now.aggregate_texts.items;
+          max_records = parts.now.max_records;
+          grouping_sets = sets;
+          version = parts.now.version;
+          columns = columns;
+        }) (Err fault)) }
+    ensures numbers { IfOk result (λ _. (is_some_up_to 8 parts.now.dimensions.items ≡ true)
+        × (is_number_of_measures parts.now.least_measures parts.now.measures.items ≡ true)
+        × (is_some_up_to 16 parts.now.aggregate_texts.items ≡ true)) }
+    ensures names { IfOk result
+        (λ _. are_lawful_names (parts.now.dimensions.items ++ parts.now.measures.items) ≡ true) }
     ensures aggregates { IfOk result (λ found.
-        (found.0.items ≡ filter_map (aggregate_spelled measures.now) aggregate_texts.now)
-        × (are_spellings measures.now aggregate_texts.now ≡ true)) }
-    ensures records { IfOk result (λ found. max_records ≡ Some found.1) }
+        (found.0.items
+        ≡ filter_map (aggregate_spelled parts.now.measures.items) parts.now.aggregate_texts.items)
+        × (are_spellings parts.now.measures.items parts.now.aggregate_texts.items ≡ true)) }
+    ensures records { IfOk result (λ found. parts.now.max_records ≡ Some found.1) }
 {
-    if !is_some_up_to(dimensions, 8) {
+    if !is_some_up_to(&parts.dimensions, 8) {
         return Err(SchemaFault::Dimensions);
     }
-    if !is_some_up_to(measures, 4) {
+    if !is_number_of_measures(&parts.measures, parts.least_measures) {
         return Err(SchemaFault::Measures);
     }
-    if !are_lawful_names(dimensions, measures) {
+    if !are_lawful_names(&parts.dimensions, &parts.measures) {
         return Err(SchemaFault::Name);
     }
-    if !is_some_up_to(aggregate_texts, 16) {
+    if !is_some_up_to(&parts.aggregate_texts, 16) {
         return Err(SchemaFault::Aggregates);
     }
-    let Some(aggregates) = aggregates_of(alloc, measures, aggregate_texts)? else {
+    let Some(aggregates) = aggregates_of(alloc, &parts.measures, &parts.aggregate_texts)? else {
         return Err(SchemaFault::Aggregates);
     };
-    let Some(max_records) = max_records else {
+    let Some(max_records) = parts.max_records else {
         return Err(SchemaFault::MaxRecords);
     };
     Ok((aggregates, max_records))
@@ -171,7 +206,7 @@ fn is_known_key(key: &str) -> bool
 {
     matches!(
         key,
-        "dimensions" | "measures" | "aggregates" | "max_records" | "grouping" | "version"
+        "dimensions" | "measures" | "aggregates" | "max_records" | "grouping" | "version" | "feed"
     )
 }
 
@@ -223,6 +258,13 @@ fn is_some_up_to(texts: &[Text], most: usize) -> bool
     ensures { result ≡ is_some_up_to most texts.now }
 {
     1 <= texts.len() && texts.len() <= most
+}
+
+/// Whether there are at least `least` measures and at most 4.
+fn is_number_of_measures(measures: &[Text], least: usize) -> bool
+    ensures { result ≡ is_number_of_measures least measures.now }
+{
+    least <= measures.len() && measures.len() <= 4
 }
 
 /// Whether the names of dimensions and of measures may stand in one schema.

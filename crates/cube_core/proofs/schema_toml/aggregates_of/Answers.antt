@@ -1,23 +1,11 @@
-use Rattle.std.proofs.Common.{◌≡◌, ℕ, ◌+◌, ◌<◌, Bool, true, List, [], ◌∷◌, ◌++◌, length, get_or, drop, drop-cons, arith}
-use Rattle.std.proofs.Common.{add-one, suc, Option, Some, is_some, refl, sym, ap, ◌∙◌, append_assoc}
+use Rattle.std.proofs.Common.{◌≡◌, ◌++◌, get_or, arith}
+use Rattle.std.proofs.Common.{Some, is_some, refl, sym, ap, ◌∙◌}
 use Rattle.std.proofs.lemmas.Grind.{common_steps}
-use Rattle.std.specs.List.{filter_map, list_all}
+use Rattle.std.specs.List.{filter_map}
 use Rattle.std.proofs.lemmas.List.{at_drop_all, append-nil}
 use Rattle.cube_core.specs.SchemaDocument.{aggregate_spelled, are_spellings}
+use Rattle.cube_core.proofs.ListLaws.{filter_map-more, list_all-more}
 use Rattle.cube_core.proofs.schema_toml.aggregates_of.Goals as goal
-
--- what is found so far, and what is to come, with one more item
-filter_map-more : {X Y : Type 0} (h : X → Option Y) (xs : List X) (i : ℕ) (d : X) (y : Y) (found : List Y)
-    → i < length xs → Some y ≡ h (get_or xs i d)
-    → (found ++ y ∷ []) ++ filter_map h (drop (i + 1) xs) ≡ found ++ filter_map h (drop i xs)
-filter_map-more h xs i d y found inside is =
-    rw (add-one, drop-cons xs i d, ← is) (append_assoc found (y ∷ []) (filter_map h (drop (suc i) xs)))
-
--- where an item passes a test, all from it on do where all after it do
-list_all-more : {X : Type 0} (test : X → Bool) (xs : List X) (i : ℕ) (d : X) → i < length xs
-    → test (get_or xs i d) ≡ true
-    → list_all test (drop (i + 1) xs) ≡ list_all test (drop i xs)
-list_all-more test xs i d inside passes = rw (add-one, drop-cons xs i d, passes) refl
 
 pub loop-text-preserved : goal.loop-text-preserved
 loop-text-preserved c =

@@ -2,11 +2,11 @@ use Rattle.std.proofs.Common.{◌∙◌, sym, ap, string_bytes}
 use Rattle.std.specs.List.{list_all}
 use Rattle.cube_core.specs.Layout.{is_listed}
 use Rattle.cube_core.specs.SchemaDocument.{known_keys}
-use Rattle.cube_core.proofs.SchemaReadingLaws.{has_known_keys-view}
+use Rattle.cube_core.proofs.SchemaReadingLaws.{has_only-view}
 use Rattle.cube_core.proofs.schema_toml.has_known_keys.Goals as goal
 
 pub loop-key-init : goal.loop-key-init
 loop-key-init c =
     ap (list_all (λ key. is_listed (string_bytes key) known_keys))
     (c.into_iter-key-iterator.ensures.into_iter_gives ∙ c.keys-key-items.ensures.rest)
-    ∙ sym (has_known_keys-view c.args.document.now.entries)
+    ∙ sym (has_only-view known_keys c.args.document.now.entries)

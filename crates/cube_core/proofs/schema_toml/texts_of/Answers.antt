@@ -3,7 +3,7 @@ use Rattle.std.proofs.lemmas.Iterator.Adapters.{option_map_id}
 use Rattle.std.proofs.lemmas.List.{at_drop_all, append-nil}
 use Rattle.toml.specs.Data.{as_str}
 use Rattle.toml.specs.View.{view, items_view}
-use Rattle.cube_core.specs.SchemaDocument.{texts_of}
+use Rattle.cube_core.specs.FeedDocument.{texts_of}
 use Rattle.cube_core.proofs.SchemaReadingLaws.{texts_of-more, texts_of-stop}
 use Rattle.cube_core.proofs.schema_toml.texts_of.Goals as goal
 

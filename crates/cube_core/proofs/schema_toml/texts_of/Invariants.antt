@@ -1,6 +1,6 @@
 use Rattle.std.proofs.Common.{◌≡◌, ◌++◌, drop, option_map}
 use Rattle.toml.specs.View.{items_view}
-use Rattle.cube_core.specs.SchemaDocument.{texts_of}
+use Rattle.cube_core.specs.FeedDocument.{texts_of}
 use Rattle.cube_core.proofs.schema_toml.texts_of.Given as goal
 
 -- the texts so far and those to come are the texts of all

@@ -1,0 +1,58 @@
+-- The plain record of a record in the order of the schema.
+use Rattle.std.proofs.Common.{◌≡◌, ℕ, List, [], ◌∷◌, ◌++◌, map, take, drop, None, refl, sym, ap}
+use Rattle.std.proofs.Common.{◌∙◌, inl, inr, append_assoc}
+use Rattle.std.specs.Prelude.{◌+◌, length}
+use Rattle.std.specs.Str.{bytes_eq}
+use Rattle.std.proofs.lemmas.Bool.{cases_Bool}
+use Rattle.std.proofs.lemmas.List.{drop-drop, take-append-drop}
+use Rattle.std.proofs.lemmas.Slice.Eq.{bytes_eq-Decides}
+use Rattle.cube_core.specs.Items.{is_keep, dimension_fields, measure_fields}
+use Rattle.cube_core.specs.Layout.{Layout}
+use Rattle.cube_core.specs.Plain.{nulls_of, plain_dimension, plain_measure, plain_in_order}
+use Rattle.cube_core.specs.Takes.{null_text}
+
+-- fields of which each stays are the same
+pub map-same : {X : Type 0} (f : X → X) → ((x : X) → f x ≡ x) → (xs : List X) → map f xs ≡ xs
+map-same f same [] = refl
+map-same f same (x ∷ xs) = ap (λ first. first ∷ map f xs) (same x) ∙ ap (λ others. x ∷ others) (map-same f same xs)
+
+-- where only `\N` is null, each field stays as it is
+pub plain_dimension-same : (s : Layout) (field : List ℕ)
+    → plain_dimension s (null_text ∷ null_text ∷ []) None field ≡ field
+plain_dimension-same s field = elim (cases_Bool (is_keep s field)) [
+  | inl keeps ↦ rw keeps refl
+  | inr puts ↦ elim (cases_Bool (bytes_eq field null_text)) [
+    | inl null ↦ rw (puts, null) (sym ((bytes_eq-Decides field null_text).0 null))
+    | inr text ↦ rw (puts, text) refl
+  ]
+]
+
+pub plain_measure-same : (s : Layout) (field : List ℕ)
+    → plain_measure s (null_text ∷ null_text ∷ []) field ≡ field
+plain_measure-same s field = elim (cases_Bool (is_keep s field)) [
+  | inl keeps ↦ rw keeps refl
+  | inr puts ↦ elim (cases_Bool (bytes_eq field null_text)) [
+    | inl null ↦ rw (puts, null) (sym ((bytes_eq-Decides field null_text).0 null))
+    | inr text ↦ rw (puts, text) refl
+  ]
+]
+
+-- the fields of a record in three parts
+parts-same : (n : ℕ) (fields : List (List ℕ))
+    → take 2 fields ++ take n (drop 2 fields) ++ drop (2 + n) fields ≡ fields
+parts-same n fields =
+    ap (λ rest. (take 2 fields ++ take n (drop 2 fields)) ++ rest) (sym (drop-drop n 2 fields))
+    ∙ append_assoc (take 2 fields) (take n (drop 2 fields)) (drop n (drop 2 fields))
+    ∙ ap (λ rest. take 2 fields ++ rest) (take-append-drop n (drop 2 fields))
+    ∙ take-append-drop 2 fields
+
+-- a record in the order of the schema is plain, where feeds have no columns by name
+pub plain_in_order-same : (s : Layout) (fields : List (List ℕ)) → s.columns ≡ None → plain_in_order s fields ≡ fields
+plain_in_order-same s fields none =
+    let nulls : nulls_of s ≡ null_text ∷ [] = rw none refl in
+    rw (
+      nulls,
+      map-same (plain_dimension s (null_text ∷ null_text ∷ []) None) (plain_dimension-same s)
+          (dimension_fields s fields),
+      map-same (plain_measure s (null_text ∷ null_text ∷ [])) (plain_measure-same s) (measure_fields s fields),
+    ) (parts-same (length s.dimensions) fields)
