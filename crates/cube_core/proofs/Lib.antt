@@ -8,6 +8,7 @@ mod SchemaReadingLaws
 mod GroupingReadingLaws
 pub mod GroupingLaws
 pub mod SchemaSpellingLaws
+mod FeedDocumentLaws
 mod SchemaLaws
 pub mod AmendmentLaws
 pub mod ItemLaws

@@ -1,5 +1,6 @@
 -- The partial form of a schema is a schema.
 use Rattle.std.proofs.Common.{◌≡◌, ◌≤◌, ◌∷◌, [], ℕ, Bool, true, List, length, map, fold, refl, inl, inr, arith}
+use Rattle.std.proofs.Common.{Option}
 use Rattle.std.proofs.Common.{length-append}
 use Rattle.std.specs.List.{list_all}
 use Rattle.std.proofs.lemmas.Bool.{cases_Bool, and_parts}
@@ -7,6 +8,7 @@ use Rattle.std.proofs.lemmas.List.Folds.{list_all-append}
 use Rattle.cube_core.specs.Layout.{Layout, IsSchema, is_aggregate_of, spelling_of}
 use Rattle.cube_core.specs.PartialForm.{has_aggregate, with_aggregate, with_parts, partial_aggregates, partial_form}
 use Rattle.cube_core.specs.declared.aggregate.Agg.{Agg}
+use Rattle.cube_core.specs.declared.feed_columns.FeedColumns.{FeedColumns}
 use Rattle.cube_core.specs.declared.aggregate.Agg.TheVariants.{CountAll, Count, Sum, Min, Max, Avg}
 
 -- a list with one more aggregate, or the same list: what all pass, and how long it is at least
@@ -82,13 +84,15 @@ partial_form-IsSchema s is few = record {
   version_at_least = is.version_at_least;
   version_at_most = is.version_at_most;
   lawful_shard = is.lawful_shard;
+  lawful_columns = is.lawful_columns;
 }
 
 -- the same, of parts that were copied or made
 pub copied-IsSchema : (s : Layout) (dimensions measures texts : List (List ℕ)) (aggregates : List Agg) (sets : List ℕ)
-    → IsSchema s
+    (columns : Option FeedColumns) → IsSchema s
     → dimensions ≡ s.dimensions → measures ≡ s.measures → aggregates ≡ partial_aggregates s.aggregates
-    → texts ≡ map (spelling_of measures) aggregates → sets ≡ s.grouping_sets → length aggregates ≤ 24
+    → texts ≡ map (spelling_of measures) aggregates → sets ≡ s.grouping_sets → columns ≡ s.columns
+    → length aggregates ≤ 24
     → IsSchema (record {
       dimensions = dimensions;
       measures = measures;
@@ -98,6 +102,7 @@ pub copied-IsSchema : (s : Layout) (dimensions measures texts : List (List ℕ))
       grouping_sets = sets;
       version = s.version;
       shard = s.shard;
+      columns = columns;
     })
-copied-IsSchema s dimensions measures texts aggregates sets is d m a t g few =
-    rw (d, t, a, m, g) (partial_form-IsSchema s is (rw a at few))
+copied-IsSchema s dimensions measures texts aggregates sets columns is d m a t g c few =
+    rw (d, t, a, m, g, c) (partial_form-IsSchema s is (rw a at few))

@@ -1,5 +1,5 @@
 -- The plain record of a record in the order of the schema.
-use Rattle.std.proofs.Common.{◌≡◌, ℕ, true, false, List, [], ◌∷◌, ◌++◌, map, take, drop, Option, None, refl, sym, ap}
+use Rattle.std.proofs.Common.{◌≡◌, ℕ, List, [], ◌∷◌, ◌++◌, map, take, drop, None, refl, sym, ap}
 use Rattle.std.proofs.Common.{◌∙◌, inl, inr, append_assoc}
 use Rattle.std.specs.Prelude.{◌+◌, length}
 use Rattle.std.specs.Str.{bytes_eq}
@@ -41,7 +41,8 @@ plain_measure-same s field = elim (cases_Bool (is_keep s field)) [
 parts-same : (n : ℕ) (fields : List (List ℕ))
     → take 2 fields ++ take n (drop 2 fields) ++ drop (2 + n) fields ≡ fields
 parts-same n fields =
-    ap (λ rest. take 2 fields ++ take n (drop 2 fields) ++ rest) (sym (drop-drop n 2 fields))
+    ap (λ rest. (take 2 fields ++ take n (drop 2 fields)) ++ rest) (sym (drop-drop n 2 fields))
+    ∙ append_assoc (take 2 fields) (take n (drop 2 fields)) (drop n (drop 2 fields))
     ∙ ap (λ rest. take 2 fields ++ rest) (take-append-drop n (drop 2 fields))
     ∙ take-append-drop 2 fields
 

@@ -1,7 +1,7 @@
 -- A document that has no fault writes a schema.
 use Rattle.std.proofs.Common.{◌≡◌, ℕ, ◌+◌, ◌<◌, ◌≤◌, ◌^◌, pos, zero, suc, Bool, true, false, ◌&&◌, is_some, nat_le}
 use Rattle.std.proofs.Common.{nat_lt, codes, List, [], ◌∷◌, ◌++◌, length, map, find, Option, Some, None, Result, Ok}
-use Rattle.std.proofs.Common.{Err, IfOk, IfSome, IsUtf8, refl, ap, ◌∙◌, sym, subst, inl, inr, arith}
+use Rattle.std.proofs.Common.{Err, IfOk, IfSome, IfNone, IsUtf8, refl, ap, ◌∙◌, sym, subst, inl, inr, arith}
 use Rattle.std.specs.Str.{bytes_eq}
 use Rattle.std.specs.List.{list_all, range_with_len, filter_map, cons_option}
 use Rattle.std.specs.Option.{option_map_or}
@@ -17,13 +17,17 @@ use Rattle.toml.specs.Parse.{parse_document}
 use Rattle.cube_core.specs.declared.schema_fault.SchemaFault.{SchemaFault}
 use Rattle.cube_core.specs.declared.schema_fault.SchemaFault.TheVariants.{Memory, Toml, UnknownKey, Dimensions}
 use Rattle.cube_core.specs.declared.schema_fault.SchemaFault.TheVariants.{Measures, Name, Aggregates, MaxRecords}
-use Rattle.cube_core.specs.declared.schema_fault.SchemaFault.TheVariants.{Grouping, Version}
+use Rattle.cube_core.specs.declared.schema_fault.SchemaFault.TheVariants.{Grouping, Version, Columns}
 use Rattle.cube_core.specs.Shard.{IsShard}
+use Rattle.cube_core.specs.FeedDocument.{columns_of_value}
+use Rattle.cube_core.specs.declared.feed_columns.FeedColumns.{FeedColumns}
+use Rattle.cube_core.proofs.FeedDocumentLaws.{columns_of_value-some_measure, columns_of_value-lawful}
 use Rattle.cube_core.specs.declared.shard.Shard.{Shard}
 use Rattle.cube_core.specs.Layout.{Layout, IsSchema, spelling_of, is_aggregate_of, is_lawful_name, are_distinct}
 use Rattle.cube_core.specs.SchemaDocument.{is_some_up_to, are_lawful_names, aggregates_over, aggregate_spelled}
 use Rattle.cube_core.specs.SchemaDocument.{are_spellings, record_limit, max_records_in, default_max_records}
 use Rattle.cube_core.specs.SchemaDocument.{sets_of_grouping, feed_version, version_in, dimensions_in, measures_in}
+use Rattle.cube_core.specs.SchemaDocument.{is_number_of_measures, least_measures_in}
 use Rattle.cube_core.specs.SchemaDocument.{spellings_in, has_known_keys, SchemaParts, parts_in, named_parts}
 use Rattle.cube_core.specs.SchemaDocument.{parts_faults, is_fault_of_parts, layout_of_parts, document_faults, has_fault}
 use Rattle.cube_core.specs.SchemaDocument.{first_fault, layout_of, AnswersParts, AnswersDocument, AnswersBytes}
@@ -164,13 +168,28 @@ pub version_in-bounds : (document : Members) (found : Option ℕ) → found ≡ 
 version_in-bounds document None is = tt
 version_in-bounds document (Some n) is = version_in-at (get_member (codes "version") document) n (sym is)
 
+-- a number of measures in its bounds
+is_number_of_measures-length : (least : ℕ) (measures : List (List ℕ)) → is_number_of_measures least measures ≡ true
+    → (least ≤ length measures) × (length measures ≤ 4)
+is_number_of_measures-length least measures is =
+    let (above, below) = and_parts (nat_le least (length measures)) (nat_le (length measures) 4) is in
+    (grind (arith, nat_tests), grind (arith, nat_tests))
+
+-- where a document has no table `feed`, there is a measure at least
+pub least_measures_in-bound : (document : Members) (least : ℕ) (feed : Option Data)
+    → least ≡ least_measures_in document → feed ≡ get_member (codes "feed") document → IfNone feed (1 ≤ least)
+least_measures_in-bound document least None is none = rw (is, ← none) (omega arith)
+least_measures_in-bound document least (Some feed) is none = tt
+
 -- parts that have none of the faults make a schema
-pub layout_of_parts-IsSchema : (dimensions measures texts : List (List ℕ)) (aggregates : List Agg) (limit : ℕ)
-    (grouping : Option Data) (sets : List ℕ) (version : ℕ) (shard : Shard)
-    → IsShard shard → is_some_up_to 8 dimensions ≡ true → is_some_up_to 4 measures ≡ true
+pub layout_of_parts-IsSchema : (dimensions measures texts : List (List ℕ)) (aggregates : List Agg) (least limit : ℕ)
+    (grouping : Option Data) (sets : List ℕ) (version : ℕ) (shard : Shard) (feed : Option Data)
+    (columns : Option FeedColumns)
+    → IsShard shard → is_some_up_to 8 dimensions ≡ true → is_number_of_measures least measures ≡ true
     → are_lawful_names (dimensions ++ measures) ≡ true → is_some_up_to 16 texts ≡ true
     → (aggregates ≡ filter_map (aggregate_spelled measures) texts) × (are_spellings measures texts ≡ true)
     → (1 ≤ limit) × (limit < 2 ^ 32) → Some sets ≡ sets_of_grouping dimensions grouping → (1 ≤ version) × (version ≤ 2)
+    → IfNone feed (1 ≤ least) → Some columns ≡ columns_of_value dimensions measures feed
     → IsSchema (record {
       dimensions = dimensions;
       measures = measures;
@@ -180,11 +199,12 @@ pub layout_of_parts-IsSchema : (dimensions measures texts : List (List ℕ)) (ag
       grouping_sets = sets;
       version = version;
       shard = shard;
+      columns = columns;
     })
-layout_of_parts-IsSchema dimensions measures texts aggregates limit grouping sets version shard lawful_shard d m names t
-    spellings range sets_are versions =
+layout_of_parts-IsSchema dimensions measures texts aggregates least limit grouping sets version shard feed columns
+    lawful_shard d m names t spellings range sets_are versions some columns_are =
     let ds = is_some_up_to-length 8 dimensions d in
-    let ms = is_some_up_to-length 4 measures m in
+    let ms = is_number_of_measures-length least measures m in
     let ts = is_some_up_to-length 16 texts t in
     let kept = grouping-AreKept dimensions grouping sets (sym sets_are) in
     let (lawful, distinct) =
@@ -193,7 +213,7 @@ layout_of_parts-IsSchema dimensions measures texts aggregates limit grouping set
     rw spellings.0 (record {
       some_dimension = ds.0;
       dimensions_at_most = ds.1;
-      some_measure = ms.0;
+      some_measure = columns_of_value-some_measure dimensions measures least feed columns some ms.0 columns_are;
       measures_at_most = ms.1;
       some_aggregate = rw all.as_many ts.0;
       aggregates_at_most = omega (arith, all.as_many, ts.1);
@@ -209,6 +229,7 @@ layout_of_parts-IsSchema dimensions measures texts aggregates limit grouping set
       version_at_least = versions.0;
       version_at_most = versions.1;
       lawful_shard = lawful_shard;
+      lawful_columns = columns_of_value-lawful dimensions measures feed columns columns_are;
     })
 
 -- what is answered to the parts of a document with known keys alone is answered to the document
@@ -225,32 +246,39 @@ document-answered document (Err Aggregates) known answers = rw known answers
 document-answered document (Err MaxRecords) known answers = rw known answers
 document-answered document (Err Grouping) known answers = rw known answers
 document-answered document (Err Version) known answers = rw known answers
+document-answered document (Err Columns) known answers = rw known answers
 
 -- the same, of parts that were read one by one
-pub document-answered_by : (document : Members) (dimensions measures spellings : List (List ℕ)) (limit : Option ℕ)
-    (grouping : Option Data) (version : Option ℕ) (answer : Result Layout SchemaFault)
+pub document-answered_by : (document : Members) (dimensions measures spellings : List (List ℕ)) (least : ℕ)
+    (limit : Option ℕ) (grouping : Option Data) (version : Option ℕ) (feed : Option Data)
+    (answer : Result Layout SchemaFault)
     → has_known_keys document ≡ true → dimensions ≡ dimensions_in document → measures ≡ measures_in document
-    → spellings ≡ spellings_in document
+    → least ≡ least_measures_in document → spellings ≡ spellings_in document
     → limit ≡ max_records_in document → grouping ≡ get_member (codes "grouping") document
-    → version ≡ version_in document
+    → version ≡ version_in document → feed ≡ get_member (codes "feed") document
     → AnswersParts (record {
       dimensions = dimensions;
       measures = measures;
+      least_measures = least;
       spellings = spellings;
       max_records = limit;
       grouping_sets = sets_of_grouping dimensions grouping;
       version = version;
+      columns = columns_of_value dimensions measures feed;
     }) answer
     → AnswersDocument document answer
-document-answered_by document dimensions measures spellings limit grouping version answer known d m t l g v answers =
+document-answered_by document dimensions measures spellings least limit grouping version feed answer known d m n t l g v
+    f answers =
     document-answered document answer known (subst (λ (parts : SchemaParts). AnswersParts parts answer)
     (λ i. record {
       dimensions = d i;
       measures = m i;
+      least_measures = n i;
       spellings = t i;
       max_records = l i;
       grouping_sets = sets_of_grouping (d i) (g i);
       version = v i;
+      columns = columns_of_value (d i) (m i) (f i);
     }) answers)
 
 -- what is answered to names, where nothing else is said, is answered to their parts
@@ -259,10 +287,12 @@ pub named_parts-answered : (dimensions measures spellings ds ms ts : List (List 
     → AnswersParts (record {
       dimensions = ds;
       measures = ms;
+      least_measures = 1;
       spellings = ts;
       max_records = Some default_max_records;
       grouping_sets = sets_of_grouping ds None;
       version = Some 1;
+      columns = Some None;
     }) answer
     → AnswersParts (named_parts dimensions measures spellings) answer
 named_parts-answered dimensions measures spellings ds ms ts answer d m t answers =
@@ -272,10 +302,12 @@ named_parts-answered dimensions measures spellings ds ms ts answer d m t answers
     (λ i. record {
       dimensions = d i;
       measures = m i;
+      least_measures = 1;
       spellings = t i;
       max_records = Some default_max_records;
       grouping_sets = sets i;
       version = Some 1;
+      columns = Some None;
     }) answers
 
 -- a schema that is answered to parts is theirs
@@ -295,10 +327,12 @@ pub named_parts-layout : (dimensions measures spellings ds ms ts : List (List �
     → AnswersParts (record {
       dimensions = ds;
       measures = ms;
+      least_measures = 1;
       spellings = ts;
       max_records = Some default_max_records;
       grouping_sets = sets_of_grouping ds None;
       version = Some 1;
+      columns = Some None;
     }) answer
     → IfOk answer (λ layout. layout ≡ layout_of_parts (named_parts dimensions measures spellings))
 named_parts-layout dimensions measures spellings ds ms ts answer d m t answers =
@@ -328,3 +362,4 @@ bytes-answered bytes document (Err Aggregates) utf8 parsed answers = (utf8, docu
 bytes-answered bytes document (Err MaxRecords) utf8 parsed answers = (utf8, document, parsed, answers)
 bytes-answered bytes document (Err Grouping) utf8 parsed answers = (utf8, document, parsed, answers)
 bytes-answered bytes document (Err Version) utf8 parsed answers = (utf8, document, parsed, answers)
+bytes-answered bytes document (Err Columns) utf8 parsed answers = (utf8, document, parsed, answers)

@@ -1,5 +1,5 @@
 -- What the table `feed` of a schema's document says (TOML 1.1; this project's choice of the keys).
-use Rattle.std.specs.Prelude.{◌==◌, ◌||◌, ◌&&◌, ℕ, pos, Bool, true, not, nat_le, is_some, length, map, codes, List, [], ◌∷◌}
+use Rattle.std.specs.Prelude.{◌==◌, ◌||◌, ◌&&◌, ℕ, pos, Bool, true, not, nat_le, is_some, codes, List, [], ◌∷◌}
 use Rattle.std.specs.Prelude.{◌++◌, Option, Some, None, option_and_then, option_map, unwrap_or, if◌then◌else◌}
 use Rattle.std.specs.Option.{option_map_or}
 use Rattle.std.specs.List.{list_all, filter_map}
@@ -33,6 +33,10 @@ or_else reads default key members = option_map_or reads (get_member key members)
 abbrev pub feed_keys : List (List ℕ)
 feed_keys = codes "id" ∷ codes "op" ∷ codes "null" ∷ codes "delimiter" ∷ codes "point" ∷ codes "columns" ∷ []
 
+-- the keys of the table of a column
+abbrev pub cut_keys : List (List ℕ)
+cut_keys = codes "column" ∷ codes "first" ∷ []
+
 -- the byte that a text of one byte is
 abbrev pub one_byte : List ℕ → Option ℕ
 one_byte (byte ∷ []) = Some byte
@@ -60,7 +64,7 @@ count_value _ = None
 -- the column that a table of exactly these two keys names
 abbrev pub cut_column : Members → Option Column
 cut_column members =
-    if has_only (codes "column" ∷ codes "first" ∷ []) members
+    if has_only cut_keys members
     then option_and_then (λ name. option_map (λ count. record { name = name; first = Some count })
     (option_and_then count_value (get_member (codes "first") members)))
     (option_and_then as_str (get_member (codes "column") members))

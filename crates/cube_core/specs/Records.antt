@@ -1,4 +1,4 @@
--- The records of a feed's bytes,
+-- The records of a text with commas,
 -- as `csv` reads them with its default delimiter and quotes (RFC 4180; blank lines are no records).
 use Rattle.std.specs.Prelude.{ℕ, List}
 use Rattle.csv.specs.Reading.{default_config, records, strip_bom}

@@ -6,7 +6,7 @@ use Rattle.std.specs.Prelude.{None, option_and_then, option_map, unwrap_or, Resu
 use Rattle.std.specs.Str.{bytes_eq}
 use Rattle.std.specs.Option.{option_map_or}
 use Rattle.std.specs.List.{list_all, filter_map, range_with_len}
-use Rattle.toml.specs.Data.{Data, string, integer, array, as_array, Items, no_items, item, Members, no_members, member}
+use Rattle.toml.specs.Data.{Data, string, integer, array, as_array, Items, no_items, item, Members}
 use Rattle.toml.specs.Data.{get_member}
 use Rattle.toml.specs.Parse.{parse_document}
 use Rattle.cube_core.specs.Shard.{whole_feed}

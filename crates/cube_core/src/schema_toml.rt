@@ -107,7 +107,7 @@ pub(crate) fn schema_of_parts(
 ) -> Result<Schema, SchemaFault>
     requires records { IfSome parts.max_records (λ limit. 1 ≤ limit) }
     requires versions { IfSome parts.version (λ number. (1 ≤ number) × (number ≤ 2)) }
-    requires measures { IfNone feed (1 ≤ parts.least_measures) }
+    requires measures { IfNone (option_map (λ value. view value.now) feed) (1 ≤ parts.least_measures) }
     ensures { AnswersParts (record {
       dimensions = parts.dimensions.items;
       measures = parts.measures.items;

@@ -58,28 +58,8 @@ Ranked-find p rank (first ∷ xs) x ranked among passes none = elim (Contains-ca
 ]
 
 document_faults-Ranked : Ranked number_of_fault document_faults
-document_faults-Ranked = (
-  (omega arith, (omega arith, (omega arith, (omega arith, (omega arith, (omega arith, (omega arith, tt))))))),
-  (
-    (omega arith, (omega arith, (omega arith, (omega arith, (omega arith, (omega arith, tt)))))),
-    (
-      (omega arith, (omega arith, (omega arith, (omega arith, (omega arith, tt))))),
-      (
-        (omega arith, (omega arith, (omega arith, (omega arith, tt)))),
-        (
-          (omega arith, (omega arith, (omega arith, tt))),
-          (
-            (omega arith, (omega arith, tt)),
-            (
-              (omega arith, tt),
-              (tt, tt),
-            ),
-          ),
-        ),
-      ),
-    ),
-  ),
-)
+document_faults-Ranked =
+    ((omega arith, (omega arith, (omega arith, (omega arith, (omega arith, (omega arith, (omega arith, (omega arith, tt)))))))), ((omega arith, (omega arith, (omega arith, (omega arith, (omega arith, (omega arith, (omega arith, tt))))))), ((omega arith, (omega arith, (omega arith, (omega arith, (omega arith, (omega arith, tt)))))), ((omega arith, (omega arith, (omega arith, (omega arith, (omega arith, tt))))), ((omega arith, (omega arith, (omega arith, (omega arith, tt)))), ((omega arith, (omega arith, (omega arith, tt))), ((omega arith, (omega arith, tt)), ((omega arith, tt), (tt, tt)))))))))
 
 -- a fault that a document has is one of these
 has_fault-Contains : (document : Members) (told : SchemaFault) → has_fault document told ≡ true
@@ -94,6 +74,7 @@ has_fault-Contains document fault.Aggregates has = (4, omega arith, refl)
 has_fault-Contains document fault.MaxRecords has = (5, omega arith, refl)
 has_fault-Contains document fault.Grouping has = (6, omega arith, refl)
 has_fault-Contains document fault.Version has = (7, omega arith, refl)
+has_fault-Contains document fault.Columns has = (8, omega arith, refl)
 
 -- what is told
 told-first_fault : (document : Members) (told : SchemaFault) (first : Option SchemaFault)

@@ -12,16 +12,19 @@ use Rattle.std.proofs.lemmas.Bool.{not-true, or_cases, or_right}
 use Rattle.std.proofs.lemmas.List.{length-map, length-append, drop-drop}
 use Rattle.std.proofs.lemmas.List.Folds.{list_all-append, list_any-append}
 use Rattle.std.proofs.lemmas.Str.{IsUtf8-from_ascii, is_utf8-from_IsUtf8}
-use Rattle.csv.specs.Reading.{records}
+use Rattle.std.specs.Option.{option_map_or}
+use Rattle.csv.specs.Reading.{records, strip_bom}
 use Rattle.cube_core.specs.Items.{width_of}
 use Rattle.cube_core.specs.FeedRecords.{FeedEnd, Good, WrongHeader, TooManyRecords, IsGoodFeed, RestOfFeed, item_then}
 use Rattle.cube_core.specs.Items.{field_at, is_keep, is_measure, dimension_of, measure_of, number_of}
 use Rattle.cube_core.specs.Items.{dimension_field_of, measure_field_of, dimension_fields, measure_fields, fact_of}
 use Rattle.cube_core.specs.Items.{amendment_of, unless_at_fault, insert_of, update_of, change_of, is_header}
-use Rattle.cube_core.specs.FeedRecords.{is_read}
+use Rattle.cube_core.specs.FeedRecords.{config_by, feed_records, found_columns, is_read, names_read, places_by}
+use Rattle.cube_core.specs.FeedRecords.{plain_of, stands_once}
 use Rattle.cube_core.specs.Items.{same_fields, keep_text, column_names, byte_order_mark}
 use Rattle.cube_core.specs.FeedRecords.{items_after, items_of}
 use Rattle.cube_core.specs.Layout.{Layout}
+use Rattle.cube_core.specs.Plain.{plain_in_order}
 use Rattle.cube_core.specs.Records.{records_of}
 use Rattle.cube_core.specs.Shard.{whole_feed, is_in_shard, fnv_hash}
 use Rattle.cube_core.specs.Takes.{takes, may_amend, null_text, is_id, fits, fits_part, is_dimension_value}
@@ -33,10 +36,14 @@ use Rattle.cube_core.specs.declared.change.Item.{Item}
 use Rattle.cube_core.specs.declared.change.LineFault.{LineFault}
 use Rattle.cube_core.specs.declared.change.LineFault.TheVariants as fault
 use Rattle.cube_core.specs.declared.fact.Fact.{Fact}
+use Rattle.cube_core.specs.declared.feed_columns.FeedColumns.{FeedColumns}
+use Rattle.cube_core.specs.declared.feed_columns.FoundColumns.{FoundColumns}
+use Rattle.cube_core.specs.declared.feed_columns.FoundColumns.TheVariants.{InOrder, ByName}
 use Rattle.cube_core.specs.declared.partial.Field.{Field}
 use Rattle.cube_core.specs.declared.partial.Field.TheVariants.{Keep, Put}
 use Rattle.cube_core.specs.declared.partial.Partial.{Partial}
 use Rattle.cube_core.proofs.ItemLaws.{takes-change_of}
+use Rattle.cube_core.proofs.PlainLaws.{plain_in_order-same}
 use Rattle.cube_core.proofs.LifeLaws.{bytes_eq-itself, bytes_eq-other}
 use Rattle.cube_laws.specs.Feeds.{CanBeSpelled, HasField, HasNumber, Puts, dimension_text, header_for, is_kept}
 use Rattle.cube_laws.specs.Feeds.{measure_text, numbered, put_text, record_for, record_with}
@@ -346,22 +353,23 @@ whole-is_read s fields whole =
 no_more : RestOfFeed FeedEnd
 no_more = record { items = []; end = TooManyRecords }
 
-items_after-record_for : (s : Layout) (changes : List Change) (number : ℕ) → s.shard ≡ whole_feed
+items_after-record_for : (s : Layout) (changes : List Change) (number : ℕ) → s.columns ≡ None → s.shard ≡ whole_feed
     → number + length changes ≤ s.max_records → AllByRecursion (CanBeSpelled s) changes
-    → items_after s number (map record_for changes) ≡ record { items = numbered (number + 1) changes; end = Good }
+    → items_after s InOrder number (map record_for changes)
+    ≡ record { items = numbered (number + 1) changes; end = Good }
 unfolding no_more
-items_after-record_for s [] number whole few all = refl
-items_after-record_for s (change ∷ changes) number whole few all =
-    let fields : List (List ℕ) = record_for change in
-    let item : Item = record { number = number + 1; what = change_of s fields } in
-    let rest : RestOfFeed FeedEnd = items_after s (number + 1) (map record_for changes) in
-    ap (λ (b : Bool). if b then (if is_read s fields then item_then item rest else rest) else no_more)
+items_after-record_for s [] number none whole few all = refl
+items_after-record_for s (change ∷ changes) number none whole few all =
+    let plain : List (List ℕ) = plain_in_order s (record_for change) in
+    let item : Item = record { number = number + 1; what = change_of s plain } in
+    let rest : RestOfFeed FeedEnd = items_after s InOrder (number + 1) (map record_for changes) in
+    ap (λ (b : Bool). if b then (if is_read s plain then item_then item rest else rest) else no_more)
     (lt-ltb number s.max_records (omega (arith, few)))
-    ∙ ap (λ (b : Bool). if b then item_then item rest else rest) (whole-is_read s fields whole)
+    ∙ ap (λ (b : Bool). if b then item_then item rest else rest) (whole-is_read s plain whole)
     ∙ ap₂ (λ (what : Result Change LineFault) (more : RestOfFeed FeedEnd).
     item_then (record { number = number + 1; what = what }) more)
-    (change_of-record_for s change all.0)
-    (items_after-record_for s changes (number + 1) whole (omega (arith, few)) all.1)
+    (ap (change_of s) (plain_in_order-same s (record_for change) none) ∙ change_of-record_for s change all.0)
+    (items_after-record_for s changes (number + 1) none whole (omega (arith, few)) all.1)
 
 same_fields-itself : (fields : List (List ℕ)) → same_fields fields fields ≡ true
 same_fields-itself [] = refl
@@ -390,70 +398,86 @@ records_of-feed : (s : Layout) (lines : List (List (List ℕ))) → AllByRecursi
 records_of-feed s lines all =
     records_of-other 111 _ (λ is. omega arith) ∙ records-line (header_for s ∷ lines) (omega arith, all)
 
-pub items_of-record_for : (s : Layout) (changes : List Change) → s.shard ≡ whole_feed
+-- without columns by name a text is read with commas, and its first record has to be the header
+feed_records-in_order : (s : Layout) (bytes : List ℕ) → s.columns ≡ None → feed_records s bytes ≡ records_of bytes
+feed_records-in_order s bytes none =
+    ap (λ (columns : Option FeedColumns).
+    records (config_by (option_map_or (λ (it : FeedColumns). it.delimiter) columns 44)) (strip_bom bytes)) none
+
+found_columns-in_order : (s : Layout) (header : List (List ℕ)) → s.columns ≡ None
+    → found_columns s header ≡ (if is_header s header then Some InOrder else None)
+found_columns-in_order s header none = rw none refl
+
+pub items_of-record_for : (s : Layout) (changes : List Change) → s.columns ≡ None → s.shard ≡ whole_feed
     → length changes ≤ s.max_records → AllByRecursion (CanBeSpelled s) changes
-    → items_of s (records_of (flat_map line (header_for s ∷ map record_for changes)))
+    → items_of s (feed_records s (flat_map line (header_for s ∷ map record_for changes)))
     ≡ record { items = numbered 1 changes; end = Good }
-items_of-record_for s changes whole few all =
+items_of-record_for s changes none whole few all =
+    let lines : List (List (List ℕ)) = map record_for changes in
     let wrong : RestOfFeed FeedEnd = record { items = []; end = WrongHeader } in
-    ap (items_of s) (records_of-feed s (map record_for changes) (some_field changes))
-    ∙ ap (λ (b : Bool). if b then items_after s 0 (map record_for changes) else wrong) (is_header-header_for s)
-    ∙ items_after-record_for s changes 0 whole (omega (arith, few)) all
+    ap (items_of s) (feed_records-in_order s (flat_map line (header_for s ∷ lines)) none)
+    ∙ ap (items_of s) (records_of-feed s lines (some_field changes))
+    ∙ ap (λ (found : Option FoundColumns). option_map_or (λ columns. items_after s columns 0 lines) found wrong)
+    (found_columns-in_order s (header_for s) none
+    ∙ ap (λ (b : Bool). if b then Some InOrder else None) (is_header-header_for s))
+    ∙ items_after-record_for s changes 0 none whole (omega (arith, few)) all
 
 -- ---- how much a feed gives
-items_after-at_most : (s : Layout) (number : ℕ) (records : List (List (List ℕ))) → number ≤ s.max_records
-    → number + length (items_after s number records).items ≤ s.max_records
-items_after-at_most s number [] within = omega (arith, within)
-items_after-at_most s number (fields ∷ records) within =
-    let item : Item = record { number = number + 1; what = change_of s fields } in
-    let rest : RestOfFeed FeedEnd = items_after s (number + 1) records in
+items_after-at_most : (s : Layout) (columns : FoundColumns) (number : ℕ) (records : List (List (List ℕ)))
+    → number ≤ s.max_records
+    → number + length (items_after s columns number records).items ≤ s.max_records
+items_after-at_most s columns number [] within = omega (arith, within)
+items_after-at_most s columns number (fields ∷ records) within =
+    let plain : List (List ℕ) = plain_of s columns (number + 1) fields in
+    let item : Item = record { number = number + 1; what = change_of s plain } in
+    let rest : RestOfFeed FeedEnd = items_after s columns (number + 1) records in
     let past : RestOfFeed FeedEnd = record { items = []; end = TooManyRecords } in
     elim (cases_Bool (nat_lt number s.max_records)) [
       | inl room ↦
           let below : number < s.max_records = ltb-true number s.max_records room in
-          let more = items_after-at_most s (number + 1) records (omega (arith, below)) in
-          subst (λ (b : Bool). number + length (if b then (if is_read s fields then item_then item rest else rest)
-          else past).items ≤ s.max_records) (sym room) (elim (cases_Bool (is_read s fields)) [
+          let more = items_after-at_most s columns (number + 1) records (omega (arith, below)) in
+          subst (λ (b : Bool). number + length (if b then (if is_read s plain then item_then item rest else rest)
+          else past).items ≤ s.max_records) (sym room) (elim (cases_Bool (is_read s plain)) [
             | inl read ↦ subst (λ (b : Bool). number + length (if b then item_then item rest else rest).items
                 ≤ s.max_records) (sym read) (omega (arith, more))
             | inr other ↦ subst (λ (b : Bool). number + length (if b then item_then item rest else rest).items
                 ≤ s.max_records) (sym other) (omega (arith, more))
           ])
       | inr full ↦
-          subst (λ (b : Bool). number + length (if b then (if is_read s fields then item_then item rest else rest)
+          subst (λ (b : Bool). number + length (if b then (if is_read s plain then item_then item rest else rest)
           else past).items ≤ s.max_records) (sym full) (omega (arith, within))
     ]
 
 pub items_of-at_most : (s : Layout) (records : List (List (List ℕ))) → length (items_of s records).items ≤ s.max_records
 items_of-at_most s [] = omega arith
-items_of-at_most s (header ∷ records) =
-    let wrong : RestOfFeed FeedEnd = record { items = []; end = WrongHeader } in
-    elim (cases_Bool (is_header s header)) [
-      | inl right ↦
-          let more = items_after-at_most s 0 records (omega arith) in
-          subst (λ (b : Bool). length (if b then items_after s 0 records else wrong).items ≤ s.max_records)
-          (sym right) (omega (arith, more))
-      | inr other ↦
-          subst (λ (b : Bool). length (if b then items_after s 0 records else wrong).items ≤ s.max_records)
-          (sym other) (omega arith)
-    ]
+items_of-at_most s (header ∷ records) = by (found_columns s header)
+  where
+    by : (found : Option FoundColumns)
+        → length (option_map_or (λ (columns : FoundColumns). items_after s columns 0 records) found
+        (let wrong : RestOfFeed FeedEnd = record { items = []; end = WrongHeader } in wrong)).items ≤ s.max_records
+    by None = omega arith
+    by (Some columns) =
+        let more = items_after-at_most s columns 0 records (omega arith) in
+        omega (arith, more)
 
 -- a feed is good where its records are so few
-items_after-Good : (s : Layout) (number : ℕ) (records : List (List (List ℕ))) → number ≤ s.max_records
-    → ((items_after s number records).end ≡ Good) ↔ (number + length records ≤ s.max_records)
-items_after-Good s number [] within = (λ good. omega (arith, within), λ few. refl)
-items_after-Good s number (fields ∷ records) within =
-    let item : Item = record { number = number + 1; what = change_of s fields } in
-    let rest : RestOfFeed FeedEnd = items_after s (number + 1) records in
+items_after-Good : (s : Layout) (columns : FoundColumns) (number : ℕ) (records : List (List (List ℕ)))
+    → number ≤ s.max_records
+    → ((items_after s columns number records).end ≡ Good) ↔ (number + length records ≤ s.max_records)
+items_after-Good s columns number [] within = (λ good. omega (arith, within), λ few. refl)
+items_after-Good s columns number (fields ∷ records) within =
+    let plain : List (List ℕ) = plain_of s columns (number + 1) fields in
+    let item : Item = record { number = number + 1; what = change_of s plain } in
+    let rest : RestOfFeed FeedEnd = items_after s columns (number + 1) records in
     let past : RestOfFeed FeedEnd = record { items = []; end = TooManyRecords } in
     let all : Bool → RestOfFeed FeedEnd =
-    λ b. if b then (if is_read s fields then item_then item rest else rest) else past in
+    λ b. if b then (if is_read s plain then item_then item rest else rest) else past in
     elim (cases_Bool (nat_lt number s.max_records)) [
       | inl room ↦
           let below : number < s.max_records = ltb-true number s.max_records room in
-          let more = items_after-Good s (number + 1) records (omega (arith, below)) in
+          let more = items_after-Good s columns (number + 1) records (omega (arith, below)) in
           let same : (all (nat_lt number s.max_records)).end ≡ rest.end =
-          ap (λ (b : Bool). (all b).end) room ∙ end-same item rest (is_read s fields) in (
+          ap (λ (b : Bool). (all b).end) room ∙ end-same item rest (is_read s plain) in (
             λ good. let fewer = more.0 (sym same ∙ good) in omega (arith, fewer),
             λ few. same ∙ more.1 (omega (arith, few)),
           )
@@ -473,38 +497,59 @@ items_after-Good s number (fields ∷ records) within =
     apart same = cc
 
 pub IsGoodFeed-some : (s : Layout) (header : List (List ℕ)) (records : List (List (List ℕ)))
-    → IsGoodFeed s (header ∷ records) ↔ ((is_header s header ≡ true) × (length records ≤ s.max_records))
-IsGoodFeed-some s header records =
-    let wrong : RestOfFeed FeedEnd = record { items = []; end = WrongHeader } in
-    let all : Bool → RestOfFeed FeedEnd = λ b. if b then items_after s 0 records else wrong in
-    let told = items_after-Good s 0 records (omega arith) in
-    elim (cases_Bool (is_header s header)) [
-      | inl right ↦
-          let same : (all (is_header s header)).end ≡ (items_after s 0 records).end =
-          ap (λ (b : Bool). (all b).end) right in (
-            λ good. (right, let few = told.0 (sym same ∙ good) in omega (arith, few)),
-            λ both. same ∙ told.1 (omega (arith, both.1)),
-          )
-      | inr other ↦
-          let same : (all (is_header s header)).end ≡ WrongHeader = ap (λ (b : Bool). (all b).end) other in
-          (λ good. absurd (apart (sym same ∙ good)), λ both. absurd (false≢true (sym other ∙ both.0)))
-    ]
+    → IsGoodFeed s (header ∷ records)
+    ↔ ((is_some (found_columns s header) ≡ true) × (length records ≤ s.max_records))
+IsGoodFeed-some s header records = by (found_columns s header)
   where
     apart : WrongHeader ≡ Good → ⊥
     apart same = cc
+
+    by : (found : Option FoundColumns)
+        → ((option_map_or (λ (columns : FoundColumns). items_after s columns 0 records) found
+        (let wrong : RestOfFeed FeedEnd = record { items = []; end = WrongHeader } in wrong)).end ≡ Good)
+        ↔ ((is_some found ≡ true) × (length records ≤ s.max_records))
+    by None = (λ good. absurd (apart good), λ both. absurd (false≢true both.0))
+    by (Some columns) =
+        let told = items_after-Good s columns 0 records (omega arith) in (
+          λ good. (refl, let few = told.0 good in omega (arith, few)),
+          λ both. told.1 (omega (arith, both.1)),
+        )
+
+-- when a first record names the columns
+pub found_columns-header : (s : Layout) (header : List (List ℕ)) → s.columns ≡ None
+    → is_some (found_columns s header) ≡ is_header s header
+found_columns-header s header none =
+    ap is_some (found_columns-in_order s header none) ∙ by (is_header s header)
+  where
+    by : (b : Bool) → is_some {A = FoundColumns} (if b then Some InOrder else None) ≡ b
+    by true = refl
+    by false = refl
+
+pub found_columns-by_name : (s : Layout) (columns : FeedColumns) (header : List (List ℕ)) → s.columns ≡ Some columns
+    → is_some (found_columns s header) ≡ list_all (stands_once header) (names_read columns)
+found_columns-by_name s columns header some =
+    ap (λ (it : Option FeedColumns). is_some (option_map_or (λ (named : FeedColumns).
+    if list_all (stands_once header) (names_read named) then Some (ByName (places_by named header)) else None)
+    it (if is_header s header then Some InOrder else None))) some
+    ∙ by (list_all (stands_once header) (names_read columns)) (ByName (places_by columns header))
+  where
+    by : (b : Bool) (found : FoundColumns) → is_some (if b then Some found else None) ≡ b
+    by true found = refl
+    by false found = refl
 
 -- each change that a feed gives is taken
 abbrev IsTaken : Layout → Item → Type 0
 IsTaken s item = IfOk item.what (λ change. takes s change ≡ true)
 
-items_after-IsTaken : (s : Layout) (number : ℕ) (records : List (List (List ℕ)))
-    → AllByRecursion (IsTaken s) (items_after s number records).items
-items_after-IsTaken s number [] = tt
-items_after-IsTaken s number (fields ∷ records) =
-    let item : Item = record { number = number + 1; what = change_of s fields } in
-    let rest : RestOfFeed FeedEnd = items_after s (number + 1) records in
-    by item rest (takes-change_of s fields) (items_after-IsTaken s (number + 1) records)
-    (nat_lt number s.max_records) (is_read s fields)
+items_after-IsTaken : (s : Layout) (columns : FoundColumns) (number : ℕ) (records : List (List (List ℕ)))
+    → AllByRecursion (IsTaken s) (items_after s columns number records).items
+items_after-IsTaken s columns number [] = tt
+items_after-IsTaken s columns number (fields ∷ records) =
+    let plain : List (List ℕ) = plain_of s columns (number + 1) fields in
+    let item : Item = record { number = number + 1; what = change_of s plain } in
+    let rest : RestOfFeed FeedEnd = items_after s columns (number + 1) records in
+    by item rest (takes-change_of s plain) (items_after-IsTaken s columns (number + 1) records)
+    (nat_lt number s.max_records) (is_read s plain)
   where
     by : (item : Item) (rest : RestOfFeed FeedEnd) → IsTaken s item → AllByRecursion (IsTaken s) rest.items
         → (room read : Bool) → AllByRecursion (IsTaken s)
@@ -517,10 +562,10 @@ items_after-IsTaken s number (fields ∷ records) =
 pub items_of-IsTaken : (s : Layout) (records : List (List (List ℕ)))
     → AllByRecursion (IsTaken s) (items_of s records).items
 items_of-IsTaken s [] = tt
-items_of-IsTaken s (header ∷ records) = by (is_header s header)
+items_of-IsTaken s (header ∷ records) = by (found_columns s header)
   where
-    by : (right : Bool) → AllByRecursion (IsTaken s)
-        (if right then items_after s 0 records
-        else (let wrong : RestOfFeed FeedEnd = record { items = []; end = WrongHeader } in wrong)).items
-    by true = items_after-IsTaken s 0 records
-    by false = tt
+    by : (found : Option FoundColumns) → AllByRecursion (IsTaken s)
+        (option_map_or (λ (columns : FoundColumns). items_after s columns 0 records) found
+        (let wrong : RestOfFeed FeedEnd = record { items = []; end = WrongHeader } in wrong)).items
+    by (Some columns) = items_after-IsTaken s columns 0 records
+    by None = tt

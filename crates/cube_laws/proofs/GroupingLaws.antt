@@ -2,7 +2,7 @@
 use Rattle.std.proofs.Common.{◌≡◌, ℕ, zero, suc, ◌+◌, ◌-◌, ◌*◌, ◌^◌, ◌<◌, ◌≤◌, ◌==◌, ◌||◌, Bool, true, false, not, cond}
 use Rattle.std.proofs.Common.{List, [], ◌∷◌, ◌++◌, length, map, filter, take, Option, Some, None, Ok, Err, unwrap_or}
 use Rattle.std.proofs.Common.{codes, refl, sym, ap, ap₂, ◌∙◌, subst, inl, inr, arith, zero-add, eqb-true}
-use Rattle.std.specs.Prelude.{⊤}
+use Rattle.std.specs.Prelude.{⊤, ◌&&◌, is_some, if◌then◌else◌}
 use Rattle.std.specs.List.{range_with_len}
 use Rattle.std.specs.Str.{bytes_eq}
 use Rattle.std.proofs.Math.Nat.{pow-succ', pow-le-pow_right}
@@ -20,6 +20,8 @@ use Rattle.cube_core.specs.Layout.{Layout, IsSchema, is_listed, are_distinct}
 use Rattle.cube_core.specs.SchemaDocument.{dimensions_in, measures_in, spellings_in, max_records_in}
 use Rattle.cube_core.specs.SchemaDocument.{default_max_records, record_limit, mask_of_names, rollup_sets, kept_sets}
 use Rattle.cube_core.specs.SchemaDocument.{sets_of_grouping, grouping_sets_in, feed_version, version_in, parts_in}
+use Rattle.cube_core.specs.FeedDocument.{columns_of_value}
+use Rattle.cube_core.specs.SchemaDocument.{columns_in, least_measures_in, texts_at}
 use Rattle.cube_core.specs.SchemaDocument.{named_parts, schema_of_parts, first_fault, layout_of, schema_of}
 use Rattle.cube_core.specs.declared.fact.Fact.{Fact}
 use Rattle.cube_core.specs.declared.key.Row.{Row}
@@ -57,13 +59,19 @@ GivesNames-schema_of document dimensions measures spellings gives =
     let sets : grouping_sets_in document ≡ Some (all_sets (length dimensions)) =
     ap₂ sets_of_grouping ds gives.grouping ∙ ap Some (kept_sets-all_sets (length dimensions)) in
     let version : version_in document ≡ Some 1 = ap (λ o. option_map_or feed_version o (Some 1)) gives.version in
+    let columns : columns_in document ≡ Some None =
+    ap (columns_of_value (dimensions_in document) (measures_in document)) gives.feed in
+    let least : least_measures_in document ≡ 1 =
+    ap (λ feed. if is_some feed && is_some (texts_at (codes "measures") document) then 0 else 1) gives.feed in
     let parts : parts_in document ≡ named_parts dimensions measures spellings = λ i. record {
       dimensions = ds i;
       measures = ms i;
+      least_measures = least i;
       spellings = texts i;
       max_records = limit i;
       grouping_sets = sets i;
       version = version i;
+      columns = columns i;
     } in
     rw gives.known_keys (ap schema_of_parts parts)
 

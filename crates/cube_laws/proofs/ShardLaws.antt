@@ -4,7 +4,7 @@ use Rattle.std.proofs.Common.{length, map, filter, filter_map, drop, get_or, if�
 use Rattle.std.proofs.Common.{IfSome, Result, Ok, Err, IfOk, Contains, option_map, ◌≢◌, refl, sym, ap, ◌∙◌, subst, inl}
 use Rattle.std.proofs.Common.{inr, arith, append_assoc, length-append, codes}
 use Rattle.std.specs.Prelude.{◌==◌, ◌||◌, ◌%◌, is_some}
-use Rattle.std.specs.Option.{option_to_list}
+use Rattle.std.specs.Option.{option_map_or, option_to_list}
 use Rattle.std.specs.List.{AllByRecursion, AllZip, IsDistinct, list_all, cons_option, range_with_len}
 use Rattle.std.specs.Str.{bytes_eq, is_utf8}
 use Rattle.std.proofs.lemmas.Bool.{cases_Bool, eqb-true, eq-eqb, false≢true}
@@ -14,12 +14,10 @@ use Rattle.std.proofs.lemmas.List.Elements.{filter-append}
 use Rattle.std.proofs.lemmas.Nat.{mod_below}
 use Rattle.std.proofs.lemmas.Map.Keys.{IsDistinct-head, IsDistinct-tail, IsDistinct-cons, IsDistinct-from_apart}
 use Rattle.std.proofs.lemmas.Slice.Eq.{bytes_eq-Decides}
-use Rattle.cube_core.specs.Items.{change_of}
 use Rattle.cube_core.specs.FeedRecords.{RestOfFeed, FeedEnd, Good, TooManyRecords, WrongHeader, item_then}
-use Rattle.cube_core.specs.Items.{field_at}
-use Rattle.cube_core.specs.Items.{insert_of, is_header, is_measure, keeps_any}
-use Rattle.cube_core.specs.FeedRecords.{is_read, items_after, items_of}
-use Rattle.cube_core.specs.Items.{measure_fields, unless_at_fault, update_of, width_of}
+use Rattle.cube_core.specs.FeedRecords.{found_columns, is_read, items_after, items_of, plain_of}
+use Rattle.cube_core.specs.Items.{change_of, field_at, insert_of, is_measure, keeps_any, measure_fields}
+use Rattle.cube_core.specs.Items.{unless_at_fault, update_of, width_of}
 use Rattle.cube_core.specs.Layout.{Layout}
 use Rattle.cube_core.specs.Life.{changes_of, from_insert, id_of, life_of, since_delete, taken_change}
 use Rattle.cube_core.specs.Refusals.{code_by_presence, code_of, refusal_of, refusals_of, shape_code}
@@ -31,12 +29,14 @@ use Rattle.cube_core.specs.declared.change.Item.{Item}
 use Rattle.cube_core.specs.declared.change.LineFault.{LineFault}
 use Rattle.cube_core.specs.declared.change.Refusal.{Refusal}
 use Rattle.cube_core.specs.declared.fact.Fact.{Fact}
+use Rattle.cube_core.specs.declared.feed_columns.FoundColumns.{FoundColumns}
+use Rattle.cube_core.specs.declared.feed_columns.FoundColumns.TheVariants.{InOrder, ByName}
 use Rattle.cube_core.proofs.ItemLaws.{IfOk-if}
 use Rattle.cube_core.proofs.ListLaws.{AllByRecursion-Contains, Contains-AllByRecursion, Contains-head, Contains-nil}
 use Rattle.cube_core.proofs.ListLaws.{Contains-tail, filter-failed, filter-passed}
 use Rattle.cube_core.proofs.RefusalLaws.{refusals_of-more}
 use Rattle.cube_laws.specs.Merging.{joined}
-use Rattle.cube_laws.specs.Shards.{has_record, of_shard, places}
+use Rattle.cube_laws.specs.Shards.{has_record, is_record_read, of_shard, places}
 use Rattle.cube_merge.proofs.MergedLaws.{AllByRecursion-append}
 
 -- ---- lists
@@ -179,64 +179,79 @@ is_read-whole s fields whole =
     ap (λ shard. is_in_shard shard (field_at fields 1)) whole ∙ mod-one (fnv_hash (field_at fields 1))
 
 -- an item says what the record of its number spells
-abbrev Says : Layout → List (List (List ℕ)) → Item → Type 0
-Says s records item = item.what ≡ change_of s (get_or records item.number [])
+abbrev Says : Layout → FoundColumns → List (List (List ℕ)) → Item → Type 0
+Says s columns records item = item.what ≡ change_of s (plain_of s columns item.number (get_or records item.number []))
 
 -- the item of a record
-abbrev item_at : Layout → ℕ → List (List ℕ) → Item
-item_at s number fields = record { number = number + 1; what = change_of s fields }
+abbrev item_at : Layout → FoundColumns → ℕ → List (List ℕ) → Item
+item_at s columns number fields =
+    record { number = number + 1; what = change_of s (plain_of s columns (number + 1) fields) }
 
 abbrev no_more : RestOfFeed FeedEnd
 no_more = record { items = []; end = TooManyRecords }
 
-module _ (s : Layout) (count place : ℕ) where
+abbrev wrong_header : RestOfFeed FeedEnd
+wrong_header = record { items = []; end = WrongHeader }
+
+-- a record is plain in a shard as it is in the feed
+plain_of-part : (s : Layout) (count place : ℕ) (columns : FoundColumns) (number : ℕ) (fields : List (List ℕ))
+    → plain_of (of_shard count s place) columns number fields ≡ plain_of s columns number fields
+plain_of-part s count place InOrder number fields = refl
+plain_of-part s count place (ByName places) number fields = refl
+
+module _ (s : Layout) (count place : ℕ) (columns : FoundColumns) where
   abbrev part : Layout
   part = of_shard count s place
+
+  -- whether the record of an item is in the shard
+  abbrev is_of_part : List (List (List ℕ)) → Item → Bool
+  is_of_part records item = is_record_read part columns records item.number
 
   -- a record of the feed in its bounds gives an item, and one of the shard too where it is in it
   items_after-whole : (number : ℕ) (fields : List (List ℕ)) (records : List (List (List ℕ))) → s.shard ≡ whole_feed
       → nat_lt number s.max_records ≡ true
-      → items_after s number (fields ∷ records)
-      ≡ item_then (item_at s number fields) (items_after s (number + 1) records)
+      → items_after s columns number (fields ∷ records)
+      ≡ item_then (item_at s columns number fields) (items_after s columns (number + 1) records)
   items_after-whole number fields records whole within =
-      ap (λ b. if b then
-      (if is_read s fields then item_then (item_at s number fields) (items_after s (number + 1) records)
-      else items_after s (number + 1) records) else no_more) within
-      ∙ ap (λ b. if b then item_then (item_at s number fields) (items_after s (number + 1) records)
-      else items_after s (number + 1) records) (is_read-whole s fields whole)
+      ap (λ b. if b then (if is_read s (plain_of s columns (number + 1) fields)
+      then item_then (item_at s columns number fields) (items_after s columns (number + 1) records)
+      else items_after s columns (number + 1) records) else no_more) within
+      ∙ ap (λ b. if b then item_then (item_at s columns number fields) (items_after s columns (number + 1) records)
+      else items_after s columns (number + 1) records) (is_read-whole s (plain_of s columns (number + 1) fields) whole)
 
   items_after-inside : (number : ℕ) (fields : List (List ℕ)) (records : List (List (List ℕ)))
-      → nat_lt number s.max_records ≡ true → is_read part fields ≡ true
-      → items_after part number (fields ∷ records)
-      ≡ item_then (item_at s number fields) (items_after part (number + 1) records)
+      → nat_lt number s.max_records ≡ true → is_read part (plain_of part columns (number + 1) fields) ≡ true
+      → items_after part columns number (fields ∷ records)
+      ≡ item_then (item_at s columns number fields) (items_after part columns (number + 1) records)
   items_after-inside number fields records within read =
-      ap (λ b. if b then
-      (if is_read part fields then item_then (item_at s number fields) (items_after part (number + 1) records)
-      else items_after part (number + 1) records) else no_more) within
-      ∙ ap (λ b. if b then item_then (item_at s number fields) (items_after part (number + 1) records)
-      else items_after part (number + 1) records) read
+      ap (λ b. if b then (if is_read part (plain_of part columns (number + 1) fields)
+      then item_then (item_at part columns number fields) (items_after part columns (number + 1) records)
+      else items_after part columns (number + 1) records) else no_more) within
+      ∙ ap (λ b. if b
+      then item_then (item_at part columns number fields) (items_after part columns (number + 1) records)
+      else items_after part columns (number + 1) records) read
+      ∙ ap (λ plain. let item : Item = record { number = number + 1; what = change_of s plain } in
+      item_then item (items_after part columns (number + 1) records))
+      (plain_of-part s count place columns (number + 1) fields)
 
   items_after-outside : (number : ℕ) (fields : List (List ℕ)) (records : List (List (List ℕ)))
-      → nat_lt number s.max_records ≡ true → is_read part fields ≡ false
-      → items_after part number (fields ∷ records) ≡ items_after part (number + 1) records
+      → nat_lt number s.max_records ≡ true → is_read part (plain_of part columns (number + 1) fields) ≡ false
+      → items_after part columns number (fields ∷ records) ≡ items_after part columns (number + 1) records
   items_after-outside number fields records within other =
-      ap (λ b. if b then
-      (if is_read part fields then item_then (item_at s number fields) (items_after part (number + 1) records)
-      else items_after part (number + 1) records) else no_more) within
-      ∙ ap (λ b. if b then item_then (item_at s number fields) (items_after part (number + 1) records)
-      else items_after part (number + 1) records) other
+      ap (λ b. if b then (if is_read part (plain_of part columns (number + 1) fields)
+      then item_then (item_at part columns number fields) (items_after part columns (number + 1) records)
+      else items_after part columns (number + 1) records) else no_more) within
+      ∙ ap (λ b. if b
+      then item_then (item_at part columns number fields) (items_after part columns (number + 1) records)
+      else items_after part columns (number + 1) records) other
 
   items_after-past : (t : Layout) (number : ℕ) (fields : List (List ℕ)) (records : List (List (List ℕ)))
       → nat_lt number t.max_records ≡ false
-      → items_after t number (fields ∷ records) ≡ no_more
+      → items_after t columns number (fields ∷ records) ≡ no_more
   items_after-past t number fields records past =
-      ap (λ b. if b then
-      (if is_read t fields then item_then (item_at t number fields) (items_after t (number + 1) records)
-      else items_after t (number + 1) records) else no_more) past
-
-  -- whether the record of an item is in the shard
-  abbrev is_of_part : List (List (List ℕ)) → Item → Bool
-  is_of_part records item = has_record part records item.number
+      ap (λ b. if b then (if is_read t (plain_of t columns (number + 1) fields)
+      then item_then (item_at t columns number fields) (items_after t columns (number + 1) records)
+      else items_after t columns (number + 1) records) else no_more) past
 
   -- the record that follows those done
   record-seam : (done records : List (List (List ℕ))) (fields : List (List ℕ)) (number : ℕ) → length done ≡ number + 1
@@ -250,37 +265,40 @@ module _ (s : Layout) (count place : ℕ) where
 
   items_after-part : s.shard ≡ whole_feed → (done records : List (List (List ℕ))) (number : ℕ)
       → length done ≡ number + 1
-      → (items_after part number records).items
-      ≡ filter (is_of_part (done ++ records)) (items_after s number records).items
+      → (items_after part columns number records).items
+      ≡ filter (is_of_part (done ++ records)) (items_after s columns number records).items
   items_after-part whole done [] number as_many = refl
   items_after-part whole done (fields ∷ records) number as_many =
       let all : List (List (List ℕ)) = done ++ fields ∷ records in
-      let after : (items_after part (number + 1) records).items
-      ≡ filter (is_of_part all) (items_after s (number + 1) records).items
+      let after : (items_after part columns (number + 1) records).items
+      ≡ filter (is_of_part all) (items_after s columns (number + 1) records).items
       = subst (λ (rs : List (List (List ℕ))).
-      (items_after part (number + 1) records).items ≡ filter (is_of_part rs) (items_after s (number + 1) records).items)
+      (items_after part columns (number + 1) records).items
+      ≡ filter (is_of_part rs) (items_after s columns (number + 1) records).items)
       (append_assoc done (fields ∷ []) records)
       (items_after-part whole (done ++ fields ∷ []) records (number + 1) (one-more done fields number as_many)) in
-      let here : is_of_part all (item_at s number fields) ≡ is_read part fields =
-      ap (is_read part) (record-seam done records fields number as_many) in
+      let here : is_of_part all (item_at s columns number fields)
+      ≡ is_read part (plain_of part columns (number + 1) fields) =
+      ap (λ found. is_read part (plain_of part columns (number + 1) found))
+      (record-seam done records fields number as_many) in
       elim (cases_Bool (nat_lt number s.max_records)) [
         | inl within ↦
             let feed = ap (λ (rest : RestOfFeed FeedEnd). filter (is_of_part all) rest.items)
             (items_after-whole number fields records whole within) in
-            elim (cases_Bool (is_read part fields)) [
+            elim (cases_Bool (is_read part (plain_of part columns (number + 1) fields))) [
               | inl read ↦
                   ap (λ (rest : RestOfFeed FeedEnd). rest.items)
                   (items_after-inside number fields records within read)
-                  ∙ ap (λ items. item_at s number fields ∷ items) after
-                  ∙ sym (filter-passed (is_of_part all) (item_at s number fields)
-                  (items_after s (number + 1) records).items (here ∙ read))
+                  ∙ ap (λ items. item_at s columns number fields ∷ items) after
+                  ∙ sym (filter-passed (is_of_part all) (item_at s columns number fields)
+                  (items_after s columns (number + 1) records).items (here ∙ read))
                   ∙ sym feed
               | inr other ↦
                   ap (λ (rest : RestOfFeed FeedEnd). rest.items)
                   (items_after-outside number fields records within other)
                   ∙ after
-                  ∙ sym (filter-failed (is_of_part all) (item_at s number fields)
-                  (items_after s (number + 1) records).items (here ∙ other))
+                  ∙ sym (filter-failed (is_of_part all) (item_at s columns number fields)
+                  (items_after s columns (number + 1) records).items (here ∙ other))
                   ∙ sym feed
             ]
         | inr past ↦
@@ -289,20 +307,48 @@ module _ (s : Layout) (count place : ℕ) where
             (items_after-past s number fields records past))
       ]
 
-  pub items_of-part : s.shard ≡ whole_feed → (records : List (List (List ℕ)))
-      → (items_of part records).items ≡ filter (is_of_part records) (items_of s records).items
-  items_of-part whole [] = refl
-  items_of-part whole (header ∷ records) = elim (cases_Bool (is_header s header)) [
-    | inl right ↦
-        ap (λ b. (if b then items_after part 0 records else record { items = []; end = WrongHeader }).items) right
-        ∙ items_after-part whole (header ∷ []) records 0 refl
-        ∙ sym (ap (λ b. filter (is_of_part (header ∷ records))
-        (if b then items_after s 0 records else record { items = []; end = WrongHeader }).items) right)
-    | inr wrong ↦
-        ap (λ b. (if b then items_after part 0 records else record { items = []; end = WrongHeader }).items) wrong
-        ∙ sym (ap (λ b. filter (is_of_part (header ∷ records))
-        (if b then items_after s 0 records else record { items = []; end = WrongHeader }).items) wrong)
-  ]
+-- a shard's record of a number, by the columns that the header names
+has_record-found : (s : Layout) (count place : ℕ) (header : List (List ℕ)) (records : List (List (List ℕ)))
+    (columns : FoundColumns) → found_columns s header ≡ Some columns → (number : ℕ)
+    → has_record (of_shard count s place) (header ∷ records) number
+    ≡ is_record_read (of_shard count s place) columns (header ∷ records) number
+has_record-found s count place header records columns found number =
+    ap (λ found. option_map_or
+    (λ (it : FoundColumns). is_record_read (of_shard count s place) it (header ∷ records) number) found false) found
+
+-- the items of a feed, by its columns
+items_of-found : (s : Layout) (header : List (List ℕ)) (records : List (List (List ℕ))) (found : Option FoundColumns)
+    → found_columns s header ≡ found
+    → items_of s (header ∷ records)
+    ≡ option_map_or (λ (columns : FoundColumns). items_after s columns 0 records) found wrong_header
+items_of-found s header records found is =
+    ap (λ it. option_map_or (λ (columns : FoundColumns). items_after s columns 0 records) it wrong_header) is
+
+pub items_of-part : (s : Layout) (count place : ℕ) → s.shard ≡ whole_feed → (records : List (List (List ℕ)))
+    → (items_of (of_shard count s place) records).items
+    ≡ filter (λ (item : Item). has_record (of_shard count s place) records item.number) (items_of s records).items
+items_of-part s count place whole [] = refl
+items_of-part s count place whole (header ∷ records) = at (found_columns s header) refl
+  where
+    test : Item → Bool
+    test item = has_record (of_shard count s place) (header ∷ records) item.number
+
+    at : (found : Option FoundColumns) → found_columns s header ≡ found
+        → (items_of (of_shard count s place) (header ∷ records)).items
+        ≡ filter test (items_of s (header ∷ records)).items
+    unfolding test
+    at None is =
+        ap (λ (rest : RestOfFeed FeedEnd). rest.items)
+        (items_of-found (of_shard count s place) header records None is)
+        ∙ sym (ap (λ (rest : RestOfFeed FeedEnd). filter test rest.items) (items_of-found s header records None is))
+    at (Some columns) is =
+        ap (λ (rest : RestOfFeed FeedEnd). rest.items)
+        (items_of-found (of_shard count s place) header records (Some columns) is)
+        ∙ items_after-part s count place columns whole (header ∷ []) records 0 refl
+        ∙ ap (λ p. filter p (items_after s columns 0 records).items)
+        (λ i (item : Item). sym (has_record-found s count place header records columns is item.number) i)
+        ∙ sym (ap (λ (rest : RestOfFeed FeedEnd). filter test rest.items)
+        (items_of-found s header records (Some columns) is))
 
 -- ---- how a shard ends
 end_after : ℕ → ℕ → List (List (List ℕ)) → FeedEnd
@@ -310,14 +356,14 @@ end_after most number [] = Good
 end_after most number (fields ∷ records) =
     if nat_lt number most then end_after most (number + 1) records else TooManyRecords
 
-items_after-end : (t : Layout) (number : ℕ) (records : List (List (List ℕ)))
-    → (items_after t number records).end ≡ end_after t.max_records number records
+items_after-end : (t : Layout) (columns : FoundColumns) (number : ℕ) (records : List (List (List ℕ)))
+    → (items_after t columns number records).end ≡ end_after t.max_records number records
 unfolding end_after
-items_after-end t number [] = refl
-items_after-end t number (fields ∷ records) = elim (cases_Bool (nat_lt number t.max_records)) [
-  | inl within ↦ elim (cases_Bool (is_read t fields)) [
-    | inl read ↦ rw (within, read) (items_after-end t (number + 1) records)
-    | inr other ↦ rw (within, other) (items_after-end t (number + 1) records)
+items_after-end t columns number [] = refl
+items_after-end t columns number (fields ∷ records) = elim (cases_Bool (nat_lt number t.max_records)) [
+  | inl within ↦ elim (cases_Bool (is_read t (plain_of t columns (number + 1) fields))) [
+    | inl read ↦ rw (within, read) (items_after-end t columns (number + 1) records)
+    | inr other ↦ rw (within, other) (items_after-end t columns (number + 1) records)
   ]
   | inr past ↦ rw past refl
 ]
@@ -325,79 +371,87 @@ items_after-end t number (fields ∷ records) = elim (cases_Bool (nat_lt number 
 pub items_of-end : (s : Layout) (count place : ℕ) (records : List (List (List ℕ)))
     → (items_of (of_shard count s place) records).end ≡ (items_of s records).end
 items_of-end s count place [] = refl
-items_of-end s count place (header ∷ records) = elim (cases_Bool (is_header s header)) [
-  | inl right ↦ rw right (items_after-end (of_shard count s place) 0 records ∙ sym (items_after-end s 0 records))
-  | inr wrong ↦ rw wrong refl
-]
+items_of-end s count place (header ∷ records) = at (found_columns s header) refl
+  where
+    at : (found : Option FoundColumns) → found_columns s header ≡ found
+        → (items_of (of_shard count s place) (header ∷ records)).end ≡ (items_of s (header ∷ records)).end
+    at None is =
+        ap (λ (rest : RestOfFeed FeedEnd). rest.end) (items_of-found (of_shard count s place) header records None is)
+        ∙ sym (ap (λ (rest : RestOfFeed FeedEnd). rest.end) (items_of-found s header records None is))
+    at (Some columns) is =
+        ap (λ (rest : RestOfFeed FeedEnd). rest.end)
+        (items_of-found (of_shard count s place) header records (Some columns) is)
+        ∙ items_after-end (of_shard count s place) columns 0 records
+        ∙ sym (items_after-end s columns 0 records)
+        ∙ sym (ap (λ (rest : RestOfFeed FeedEnd). rest.end) (items_of-found s header records (Some columns) is))
 
 -- ---- the changes of a shard
 -- each item says what its record spells
-items_after-Says : (s : Layout) (done records : List (List (List ℕ))) (number : ℕ) → length done ≡ number + 1
-    → AllByRecursion (Says s (done ++ records)) (items_after s number records).items
-items_after-Says s done [] number as_many = tt
-items_after-Says s done (fields ∷ records) number as_many =
+items_after-Says : (s : Layout) (columns : FoundColumns) (done records : List (List (List ℕ))) (number : ℕ)
+    → length done ≡ number + 1
+    → AllByRecursion (Says s columns (done ++ records)) (items_after s columns number records).items
+items_after-Says s columns done [] number as_many = tt
+items_after-Says s columns done (fields ∷ records) number as_many =
     let all : List (List (List ℕ)) = done ++ fields ∷ records in
-    let after : AllByRecursion (Says s all) (items_after s (number + 1) records).items
-    = subst (λ (rs : List (List (List ℕ))). AllByRecursion (Says s rs) (items_after s (number + 1) records).items)
+    let after : AllByRecursion (Says s columns all) (items_after s columns (number + 1) records).items
+    = subst (λ (rs : List (List (List ℕ))).
+    AllByRecursion (Says s columns rs) (items_after s columns (number + 1) records).items)
     (append_assoc done (fields ∷ []) records)
-    (items_after-Says s (done ++ fields ∷ []) records (number + 1) (one-more s 0 0 done fields number as_many)) in
-    let here : Says s all (item_at s number fields) =
-    sym (ap (change_of s) (record-seam s 0 0 done records fields number as_many)) in
-    elim (cases_Bool (nat_lt number s.max_records)) [
-      | inl within ↦ elim (cases_Bool (is_read s fields)) [
-        | inl read ↦ rw (within, read) (here, after)
-        | inr other ↦ rw (within, other) after
-      ]
-      | inr past ↦ rw past tt
-    ]
+    (items_after-Says s columns (done ++ fields ∷ []) records (number + 1)
+    (one-more s 0 0 columns done fields number as_many)) in
+    let here : Says s columns all (item_at s columns number fields) =
+    sym (ap (λ found. change_of s (plain_of s columns (number + 1) found))
+    (record-seam s 0 0 columns done records fields number as_many)) in
+    by (item_at s columns number fields) (items_after s columns (number + 1) records) here after
+    (nat_lt number s.max_records) (is_read s (plain_of s columns (number + 1) fields))
+  where
+    by : (item : Item) (rest : RestOfFeed FeedEnd) → Says s columns (done ++ fields ∷ records) item
+        → AllByRecursion (Says s columns (done ++ fields ∷ records)) rest.items → (room read : Bool)
+        → AllByRecursion (Says s columns (done ++ fields ∷ records))
+        (if room then (if read then item_then item rest else rest) else no_more).items
+    by item rest one all true true = (one, all)
+    by item rest one all true false = all
+    by item rest one all false read = tt
 
-items_of-Says : (s : Layout) (records : List (List (List ℕ)))
-    → AllByRecursion (Says s records) (items_of s records).items
-items_of-Says s [] = tt
-items_of-Says s (header ∷ records) = elim (cases_Bool (is_header s header)) [
-  | inl right ↦ rw right (items_after-Says s (header ∷ []) records 0 refl)
-  | inr wrong ↦ rw wrong tt
-]
-
-module _ (s : Layout) (count place : ℕ) (records : List (List (List ℕ))) where
+module _ (s : Layout) (count place : ℕ) (columns : FoundColumns) (records : List (List (List ℕ))) where
   -- a change of an item is of the shard where its record is in it
-  taken_change-is_of : (item : Item) → Says s records item
-      → IfSome (taken_change s item.what) (λ change. is_of count place change ≡ is_of_part s count place records item)
-  taken_change-is_of item says = named item.what (subst (λ what. IfOk what (Names (get_or records item.number [])))
-      (sym says) (change_of-Names s (get_or records item.number [])))
+  taken_change-is_of : (item : Item) → Says s columns records item
+      → IfSome (taken_change s item.what) (λ change. is_of count place change ≡ is_of_part s count place columns records item)
+  taken_change-is_of item says = named item.what (subst (λ what. IfOk what (Names (plain_of s columns item.number (get_or records item.number []))))
+      (sym says) (change_of-Names s (plain_of s columns item.number (get_or records item.number []))))
     where
-      taken : (change : Change) (b : Bool) → Names (get_or records item.number []) change
+      taken : (change : Change) (b : Bool) → Names (plain_of s columns item.number (get_or records item.number [])) change
           → IfSome (if b then Some change else None)
-          (λ (it : Change). is_of count place it ≡ is_of_part s count place records item)
+          (λ (it : Change). is_of count place it ≡ is_of_part s count place columns records item)
       taken change true names = ap (λ id. shard_of count id == place) names
       taken change false names = tt
 
-      named : (what : Result Change LineFault) → IfOk what (Names (get_or records item.number []))
-          → IfSome (taken_change s what) (λ change. is_of count place change ≡ is_of_part s count place records item)
+      named : (what : Result Change LineFault) → IfOk what (Names (plain_of s columns item.number (get_or records item.number [])))
+          → IfSome (taken_change s what) (λ change. is_of count place change ≡ is_of_part s count place columns records item)
       named (Ok change) names = taken change (takes s change) names
       named (Err fault) names = tt
 
   -- the changes of the shard's items are those of all items that are of the shard
-  changes_of-filter : (items : List Item) → AllByRecursion (Says s records) items
-      → changes_of s (filter (is_of_part s count place records) items) ≡ filter (is_of count place) (changes_of s items)
+  changes_of-filter : (items : List Item) → AllByRecursion (Says s columns records) items
+      → changes_of s (filter (is_of_part s count place columns records) items) ≡ filter (is_of count place) (changes_of s items)
   changes_of-filter items says =
-      filter_map-filter (λ (item : Item). taken_change s item.what) (is_of_part s count place records)
+      filter_map-filter (λ (item : Item). taken_change s item.what) (is_of_part s count place columns records)
       (is_of count place) items
       (Contains-AllByRecursion (λ (item : Item). IfSome (taken_change s item.what)
-      (λ change. is_of count place change ≡ is_of_part s count place records item)) items
-      (λ item among. taken_change-is_of item (AllByRecursion-Contains (Says s records) items item says among)))
+      (λ change. is_of count place change ≡ is_of_part s count place columns records item)) items
+      (λ item among. taken_change-is_of item (AllByRecursion-Contains (Says s columns records) items item says among)))
 
   -- ---- the refusals of a shard
   -- an item of the shard is refused after the shard's items before it as it is after all of them
-  code_of-part : (before : List Item) (item : Item) → AllByRecursion (Says s records) before → Says s records item
-      → is_of_part s count place records item ≡ true
-      → code_of s (filter (is_of_part s count place records) before) item.what ≡ code_of s before item.what
+  code_of-part : (before : List Item) (item : Item) → AllByRecursion (Says s columns records) before → Says s columns records item
+      → is_of_part s count place columns records item ≡ true
+      → code_of s (filter (is_of_part s count place columns records) before) item.what ≡ code_of s before item.what
   code_of-part before item says said inside = at item.what
-      (subst (λ what. IfOk what (Names (get_or records item.number []))) (sym said)
-      (change_of-Names s (get_or records item.number [])))
+      (subst (λ what. IfOk what (Names (plain_of s columns item.number (get_or records item.number [])))) (sym said)
+      (change_of-Names s (plain_of s columns item.number (get_or records item.number []))))
     where
-      at : (what : Result Change LineFault) → IfOk what (Names (get_or records item.number []))
-          → code_of s (filter (is_of_part s count place records) before) what ≡ code_of s before what
+      at : (what : Result Change LineFault) → IfOk what (Names (plain_of s columns item.number (get_or records item.number [])))
+          → code_of s (filter (is_of_part s count place columns records) before) what ≡ code_of s before what
       at (Err fault) names = refl
       at (Ok change) names =
           let within : (shard_of count (id_of change) == place) ≡ true =
@@ -409,9 +463,9 @@ module _ (s : Layout) (count place : ℕ) (records : List (List (List ℕ))) whe
 
   -- whether the record of a refusal is in the shard
   abbrev is_refused_here : Refusal → Bool
-  is_refused_here refusal = has_record (of_shard count s place) records refusal.number
+  is_refused_here refusal = is_record_read (of_shard count s place) columns records refusal.number
 
-  refusal-filter : (item : Item) (code : Option ℕ) → is_of_part s count place records item ≡ true
+  refusal-filter : (item : Item) (code : Option ℕ) → is_of_part s count place columns records item ≡ true
       → filter is_refused_here (option_to_list
       (option_map (λ c. let refusal : Refusal = record { number = item.number; code = c } in refusal) code))
       ≡ option_to_list
@@ -420,7 +474,7 @@ module _ (s : Layout) (count place : ℕ) (records : List (List (List ℕ))) whe
   refusal-filter item (Some c) inside =
       filter-passed is_refused_here (record { number = item.number; code = c }) [] inside
 
-  refusal-none : (item : Item) (code : Option ℕ) → is_of_part s count place records item ≡ false
+  refusal-none : (item : Item) (code : Option ℕ) → is_of_part s count place columns records item ≡ false
       → filter is_refused_here (option_to_list
       (option_map (λ c. let refusal : Refusal = record { number = item.number; code = c } in refusal) code)) ≡ []
   refusal-none item None outside = refl
@@ -430,12 +484,12 @@ module _ (s : Layout) (count place : ℕ) (records : List (List (List ℕ))) whe
   -- the refusals of the shard's items, where those of the items before are known
   abbrev RefusesAlike : List Item → Type 0
   RefusesAlike items =
-      refusals_of s (filter (is_of_part s count place records) items) ≡ filter is_refused_here (refusals_of s items)
+      refusals_of s (filter (is_of_part s count place columns records) items) ≡ filter is_refused_here (refusals_of s items)
 
-  RefusesAlike-more : (before : List Item) (item : Item) → AllByRecursion (Says s records) before → Says s records item
+  RefusesAlike-more : (before : List Item) (item : Item) → AllByRecursion (Says s columns records) before → Says s columns records item
       → RefusesAlike before → RefusesAlike (before ++ item ∷ [])
   RefusesAlike-more before item says said alike =
-      let p : Item → Bool = is_of_part s count place records in
+      let p : Item → Bool = is_of_part s count place columns records in
       let after : filter is_refused_here (refusals_of s (before ++ item ∷ []))
       ≡ filter is_refused_here (refusals_of s before)
       ++ filter is_refused_here (option_to_list (refusal_of s before item))
@@ -468,29 +522,60 @@ module _ (s : Layout) (count place : ℕ) (records : List (List (List ℕ))) whe
             ∙ sym after
       ]
 
-  RefusesAlike-all : (before items : List Item) → AllByRecursion (Says s records) before
-      → AllByRecursion (Says s records) items → RefusesAlike before → RefusesAlike (before ++ items)
+  RefusesAlike-all : (before items : List Item) → AllByRecursion (Says s columns records) before
+      → AllByRecursion (Says s columns records) items → RefusesAlike before → RefusesAlike (before ++ items)
   RefusesAlike-all before [] says said alike = subst RefusesAlike (sym (append-nil before)) alike
   RefusesAlike-all before (item ∷ items) says said alike =
       subst RefusesAlike (append_assoc before (item ∷ []) items)
       (RefusesAlike-all (before ++ item ∷ []) items
-      (AllByRecursion-append (Says s records) before (item ∷ []) says (said.0, tt)) said.1
+      (AllByRecursion-append (Says s columns records) before (item ∷ []) says (said.0, tt)) said.1
       (RefusesAlike-more before item says said.0 alike))
 
-  pub refusals_of-part : s.shard ≡ whole_feed
+module _ (s : Layout) (count place : ℕ) where
+  -- what is so of no items, and of items that say what their records spell by some columns, is so of those of a feed
+  by-columns : (P : (ℕ → Bool) → List Item → Type 0) (header : List (List ℕ)) (records : List (List (List ℕ)))
+      → ((test : ℕ → Bool) → P test [])
+      → ((columns : FoundColumns) (items : List Item) → AllByRecursion (Says s columns (header ∷ records)) items
+      → P (is_record_read (of_shard count s place) columns (header ∷ records)) items)
+      → P (has_record (of_shard count s place) (header ∷ records)) (items_of s (header ∷ records)).items
+  by-columns P header records none each = at (found_columns s header) refl
+    where
+      at : (found : Option FoundColumns) → found_columns s header ≡ found
+          → P (has_record (of_shard count s place) (header ∷ records)) (items_of s (header ∷ records)).items
+      at None is =
+          subst (λ (rest : RestOfFeed FeedEnd). P (has_record (of_shard count s place) (header ∷ records)) rest.items)
+          (sym (items_of-found s header records None is)) (none (has_record (of_shard count s place) (header ∷ records)))
+      at (Some columns) is =
+          let same : is_record_read (of_shard count s place) columns (header ∷ records)
+          ≡ has_record (of_shard count s place) (header ∷ records) =
+          (λ i number. sym (has_record-found s count place header records columns is number) i) in
+          subst (λ (rest : RestOfFeed FeedEnd). P (has_record (of_shard count s place) (header ∷ records)) rest.items)
+          (sym (items_of-found s header records (Some columns) is))
+          (subst (λ test. P test (items_after s columns 0 records).items) same
+          (each columns (items_after s columns 0 records).items
+          (items_after-Says s columns (header ∷ []) records 0 refl)))
+
+  pub refusals_of-part : s.shard ≡ whole_feed → (records : List (List (List ℕ)))
       → refusals_of (of_shard count s place) (items_of (of_shard count s place) records).items
-      ≡ filter is_refused_here (refusals_of s (items_of s records).items)
-  refusals_of-part whole =
-      ap (refusals_of (of_shard count s place)) (items_of-part s count place whole records)
-      ∙ RefusesAlike-all [] (items_of s records).items tt (items_of-Says s records) refl
+      ≡ filter (λ (refusal : Refusal). has_record (of_shard count s place) records refusal.number)
+      (refusals_of s (items_of s records).items)
+  refusals_of-part whole [] = refl
+  refusals_of-part whole (header ∷ records) =
+      ap (refusals_of (of_shard count s place)) (items_of-part s count place whole (header ∷ records))
+      ∙ by-columns (λ test items. refusals_of s (filter (λ (item : Item). test item.number) items)
+      ≡ filter (λ (refusal : Refusal). test refusal.number) (refusals_of s items)) header records (λ test. refl)
+      (λ columns items says. RefusesAlike-all s count place columns (header ∷ records) [] items tt says refl)
 
   -- ---- the survivors of a shard
-  changes_of-part : s.shard ≡ whole_feed
+  changes_of-part : s.shard ≡ whole_feed → (records : List (List (List ℕ)))
       → changes_of (of_shard count s place) (items_of (of_shard count s place) records).items
       ≡ filter (is_of count place) (changes_of s (items_of s records).items)
-  changes_of-part whole =
-      ap (changes_of (of_shard count s place)) (items_of-part s count place whole records)
-      ∙ changes_of-filter (items_of s records).items (items_of-Says s records)
+  changes_of-part whole [] = refl
+  changes_of-part whole (header ∷ records) =
+      ap (changes_of (of_shard count s place)) (items_of-part s count place whole (header ∷ records))
+      ∙ by-columns (λ test items. changes_of s (filter (λ (item : Item). test item.number) items)
+      ≡ filter (is_of count place) (changes_of s items)) header records (λ test. refl)
+      (λ columns items says. changes_of-filter s count place columns (header ∷ records) items says)
 
 module _ (count : ℕ) (changes : List Change) where
   -- the life that an id has in all changes
@@ -609,7 +694,7 @@ AllZip-changes s count records start zero [] whole all = tt
 AllZip-changes s count records start zero (facts ∷ parts) whole all = absurd all
 AllZip-changes s count records start (suc len) [] whole all = absurd all
 AllZip-changes s count records start (suc len) (facts ∷ parts) whole all = (
-  subst (λ changes. Survive changes facts) (changes_of-part s count start records whole) all.0,
+  subst (λ changes. Survive changes facts) (changes_of-part s count start whole records) all.0,
   AllZip-changes s count records (start + 1) len parts whole all.1,
 )
 

@@ -5,11 +5,10 @@ use Rattle.std.proofs.Common.{sym, ap, subst, arith, append_assoc}
 use Rattle.std.specs.List.{AllByRecursion, AllZip, range_with_len}
 use Rattle.std.proofs.lemmas.List.Sorted.{IsPermutation-refl, IsPermutation-trans, IsPermutation-append}
 use Rattle.std.proofs.lemmas.List.Sorted.{IsPermutation-append_comm}
-use Rattle.cube_core.specs.FeedRecords.{items_of}
+use Rattle.cube_core.specs.FeedRecords.{feed_records, items_of}
 use Rattle.cube_core.specs.Layout.{Layout, IsSchema}
 use Rattle.cube_core.specs.PartialForm.{partial_form}
 use Rattle.cube_core.specs.Printed.{IsPrinted}
-use Rattle.cube_core.specs.Records.{records_of}
 use Rattle.cube_core.specs.Shard.{whole_feed}
 use Rattle.cube_core.specs.Sources.{SurviveTogether, IsPrintedOf, items_of_sources}
 use Rattle.cube_core.specs.Surviving.{AreSurviving}
@@ -75,7 +74,7 @@ record FirstApart (s : Layout) (count start len : ℕ) (bytes : List ℕ) (sourc
   firsts : List (List Fact)
   others : List (List (List Fact))
   first_survive : AllZip (λ place facts. AreSurviving (of_shard count s place)
-      (items_of (of_shard count s place) (records_of bytes)).items facts) (range_with_len start len) firsts
+      (items_of (of_shard count s place) (feed_records s bytes)).items facts) (range_with_len start len) firsts
   others_survive : SurviveShards s count sources start len others
   moved : IsPermutation (joined (map joined shards)) (joined firsts ++ joined (map joined others))
 
@@ -129,8 +128,8 @@ SurvivesAll-shards s count [] shards whole some all = record {
 }
 SurvivesAll-shards s count (bytes ∷ sources) shards whole some all =
     let apart = FirstApart-all s count 0 count bytes sources shards all in
-    let first : AreSurviving s (items_of s (records_of bytes)).items (joined apart.firsts) =
-    AreSurviving-parts s count (records_of bytes) apart.firsts whole some apart.first_survive in
+    let first : AreSurviving s (items_of s (feed_records s bytes)).items (joined apart.firsts) =
+    AreSurviving-parts s count (feed_records s bytes) apart.firsts whole some apart.first_survive in
     let rest = SurvivesAll-shards s count sources apart.others whole some apart.others_survive in
     record {
       together = joined apart.firsts ++ rest.together;

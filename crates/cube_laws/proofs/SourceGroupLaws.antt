@@ -2,16 +2,16 @@
 use Rattle.std.proofs.Common.{◌≡◌, ℕ, ◌≤◌, ◌+◌, nat_lt, List, [], ◌∷◌, ◌++◌, length, map, if◌then◌else◌, suc, Some}
 use Rattle.std.proofs.Common.{None, Result, Ok, Err, refl, sym, ap, ap₂, ◌∙◌, subst}
 use Rattle.std.specs.List.{AllByRecursion, AllZip, cons_option}
+use Rattle.std.specs.Option.{option_map_or}
 use Rattle.std.proofs.lemmas.List.{map-append}
 use Rattle.std.proofs.lemmas.Grind.{flat_map-append}
-use Rattle.cube_core.specs.Items.{change_of, is_header}
+use Rattle.cube_core.specs.Items.{change_of}
 use Rattle.cube_core.specs.FeedRecords.{RestOfFeed, item_then, FeedEnd, WrongHeader, TooManyRecords}
-use Rattle.cube_core.specs.FeedRecords.{is_read, items_after, items_of}
+use Rattle.cube_core.specs.FeedRecords.{feed_records, found_columns, is_read, items_after, items_of, plain_of}
 use Rattle.cube_core.specs.Layout.{Layout, IsSchema}
 use Rattle.cube_core.specs.Life.{changes_of, taken_change}
 use Rattle.cube_core.specs.PartialForm.{partial_form}
 use Rattle.cube_core.specs.Printed.{IsPrinted}
-use Rattle.cube_core.specs.Records.{records_of}
 use Rattle.cube_core.specs.Sources.{SurviveTogether, IsPrintedOf, items_of_sources}
 use Rattle.cube_core.specs.Surviving.{AreSurviving, Survive}
 use Rattle.cube_core.specs.Takes.{takes}
@@ -20,6 +20,8 @@ use Rattle.cube_core.specs.declared.change.Change.TheVariants.{Insert, Update, A
 use Rattle.cube_core.specs.declared.change.Item.{Item}
 use Rattle.cube_core.specs.declared.change.LineFault.{LineFault}
 use Rattle.cube_core.specs.declared.fact.Fact.{Fact}
+use Rattle.cube_core.specs.declared.feed_columns.FoundColumns.{FoundColumns}
+use Rattle.cube_core.specs.declared.feed_columns.FoundColumns.TheVariants.{InOrder, ByName}
 use Rattle.cube_core.proofs.ListLaws.{AllZip-append}
 use Rattle.cube_laws.specs.Merging.{joined, IsMergedText, PutsPrintedOf}
 use Rattle.cube_merge.specs.Merging.{IsMergeOf}
@@ -28,22 +30,28 @@ use Rattle.cube_laws.proofs.MergedTextLaws.{IsMergeOf-IsMergedText, IsMergedText
 use Rattle.cube_laws.proofs.SurvivorRangeLaws.{SurviveTogether-CanBePrinted}
 
 -- ---- the partial form of a schema reads what the schema reads
-items_after-partial : (s : Layout) (number : ℕ) (records : List (List (List ℕ)))
-    → items_after (partial_form s) number records ≡ items_after s number records
-items_after-partial s number [] = refl
-items_after-partial s number (fields ∷ records) =
-    let item : Item = record { number = number + 1; what = change_of s fields } in
+plain_of-partial : (s : Layout) (columns : FoundColumns) (number : ℕ) (fields : List (List ℕ))
+    → plain_of (partial_form s) columns number fields ≡ plain_of s columns number fields
+plain_of-partial s InOrder number fields = refl
+plain_of-partial s (ByName places) number fields = refl
+
+items_after-partial : (s : Layout) (columns : FoundColumns) (number : ℕ) (records : List (List (List ℕ)))
+    → items_after (partial_form s) columns number records ≡ items_after s columns number records
+items_after-partial s columns number [] = refl
+items_after-partial s columns number (fields ∷ records) =
     let no_more : RestOfFeed FeedEnd = record { items = []; end = TooManyRecords } in
-    ap (λ (rest : RestOfFeed FeedEnd). if nat_lt number s.max_records
-    then (if is_read s fields then item_then item rest else rest) else no_more)
-    (items_after-partial s (number + 1) records)
+    ap₂ (λ (plain : List (List ℕ)) (rest : RestOfFeed FeedEnd). if nat_lt number s.max_records
+    then (if is_read s plain then item_then (record { number = number + 1; what = change_of s plain }) rest else rest)
+    else no_more)
+    (plain_of-partial s columns (number + 1) fields) (items_after-partial s columns (number + 1) records)
 
 items_of-partial : (s : Layout) (records : List (List (List ℕ)))
     → items_of (partial_form s) records ≡ items_of s records
 items_of-partial s [] = refl
 items_of-partial s (header ∷ records) =
     let wrong : RestOfFeed FeedEnd = record { items = []; end = WrongHeader } in
-    ap (λ (rest : RestOfFeed FeedEnd). if is_header s header then rest else wrong) (items_after-partial s 0 records)
+    ap (λ (after : FoundColumns → RestOfFeed FeedEnd). option_map_or after (found_columns s header) wrong)
+    (λ i columns. items_after-partial s columns 0 records i)
 
 -- and it takes the same changes
 takes-partial : (s : Layout) (change : Change) → takes (partial_form s) change ≡ takes s change
@@ -64,13 +72,13 @@ changes_of-partial s (item ∷ items) =
 
 -- so the same facts survive
 AreSurviving-partial : (s : Layout) (bytes : List ℕ) (facts : List Fact)
-    → AreSurviving (partial_form s) (items_of (partial_form s) (records_of bytes)).items facts
-    → AreSurviving s (items_of s (records_of bytes)).items facts
+    → AreSurviving (partial_form s) (items_of (partial_form s) (feed_records s bytes)).items facts
+    → AreSurviving s (items_of s (feed_records s bytes)).items facts
 AreSurviving-partial s bytes facts survive =
     subst (λ (rest : RestOfFeed FeedEnd). Survive (changes_of s rest.items) facts)
-    (items_of-partial s (records_of bytes))
+    (items_of-partial s (feed_records s bytes))
     (subst (λ changes. Survive changes facts)
-    (changes_of-partial s (items_of (partial_form s) (records_of bytes)).items) survive)
+    (changes_of-partial s (items_of (partial_form s) (feed_records s bytes)).items) survive)
 
 pub AllZip-partial : (s : Layout) (sources : List (List ℕ)) (parts : List (List Fact))
     → AllZip (AreSurviving (partial_form s)) (items_of_sources (partial_form s) sources) parts
@@ -99,7 +107,7 @@ SurviveTogether-append : (s : Layout) (sources others : List (List ℕ)) (facts 
 SurviveTogether-append s sources others facts more a b = record {
   parts = a.parts ++ b.parts;
   of_each = subst (λ feeds. AllZip (AreSurviving s) feeds (a.parts ++ b.parts))
-      (sym (map-append (λ (bytes : List ℕ). (items_of s (records_of bytes)).items) sources others))
+      (sym (map-append (λ (bytes : List ℕ). (items_of s (feed_records s bytes)).items) sources others))
       (AllZip-append (AreSurviving s) (items_of_sources s sources)
       (items_of_sources s others) a.parts b.parts a.of_each b.of_each);
   joined = ap₂ (λ (xs ys : List Fact). xs ++ ys) a.joined b.joined

@@ -17,12 +17,14 @@ use Rattle.std.proofs.lemmas.Slice.Eq.{bytes_eq-Decides}
 use Rattle.cube_core.specs.Amendment.{over, fields_over}
 use Rattle.cube_core.specs.Items.{change_of, fact_of, fits_i64, insert_of, is_keep, is_measure, is_null, is_number}
 use Rattle.cube_core.specs.Items.{keeps_any, measure_field_of, measure_fields}
-use Rattle.cube_core.specs.FeedRecords.{is_read, items_after, items_of}
-use Rattle.cube_core.specs.Items.{measure_of, number_of, unless_at_fault, update_of, width_of, field_at, is_header}
+use Rattle.cube_core.specs.FeedRecords.{FeedEnd, WrongHeader, RestOfFeed, feed_records, found_columns, is_read, items_after}
+use Rattle.cube_core.specs.FeedRecords.{items_of, plain_of}
+use Rattle.cube_core.specs.declared.feed_columns.FoundColumns.{FoundColumns}
+use Rattle.std.specs.Option.{option_map_or}
+use Rattle.cube_core.specs.Items.{measure_of, number_of, unless_at_fault, update_of, width_of, field_at}
 use Rattle.cube_core.specs.Layout.{Layout, IsSchema}
 use Rattle.cube_core.specs.Life.{id_of, naming, is_delete, since_delete, updated, from_insert, life_of, taken_change}
 use Rattle.cube_core.specs.Life.{changes_of}
-use Rattle.cube_core.specs.Records.{records_of}
 use Rattle.cube_core.specs.Sources.{SurviveTogether, items_of_sources}
 use Rattle.cube_core.specs.Surviving.{AreSurviving, Survive}
 use Rattle.cube_core.specs.Takes.{fits, fits_part, is_dimension_value, is_id, may_amend, puts_dimension_value, takes}
@@ -305,43 +307,55 @@ change_of-small s fields =
 abbrev IsSmallItem : Item → Type 0
 IsSmallItem item = IfOk item.what IsSmallChange
 
-items_after-small : (s : Layout) (number : ℕ) (records : List (List (List ℕ)))
-    → AllByRecursion IsSmallItem (items_after s number records).items
-items_after-small s number [] = tt
-items_after-small s number (fields ∷ records) = elim (cases_Bool (nat_lt number s.max_records)) [
-  | inl within ↦ elim (cases_Bool (is_read s fields)) [
-    | inl read ↦ rw (within, read) (change_of-small s fields, items_after-small s (number + 1) records)
-    | inr other ↦ rw (within, other) (items_after-small s (number + 1) records)
-  ]
-  | inr past ↦ rw past tt
-]
-
-items_after-length : (s : Layout) (number : ℕ) (records : List (List (List ℕ))) → number ≤ s.max_records
-    → number + length (items_after s number records).items ≤ s.max_records
-items_after-length s number [] within = omega arith
-items_after-length s number (fields ∷ records) within = elim (cases_Bool (nat_lt number s.max_records)) [
-  | inl below ↦
-      let after = items_after-length s (number + 1) records (omega (arith, ltb-true number s.max_records below)) in
-      elim (cases_Bool (is_read s fields)) [
-        | inl read ↦ rw (below, read) (omega (arith, after))
-        | inr other ↦ rw (below, other) (omega (arith, after))
+items_after-small : (s : Layout) (columns : FoundColumns) (number : ℕ) (records : List (List (List ℕ)))
+    → AllByRecursion IsSmallItem (items_after s columns number records).items
+items_after-small s columns number [] = tt
+items_after-small s columns number (fields ∷ records) =
+    let plain : List (List ℕ) = plain_of s columns (number + 1) fields in
+    elim (cases_Bool (nat_lt number s.max_records)) [
+      | inl within ↦ elim (cases_Bool (is_read s plain)) [
+        | inl read ↦ rw (within, read) (change_of-small s plain, items_after-small s columns (number + 1) records)
+        | inr other ↦ rw (within, other) (items_after-small s columns (number + 1) records)
       ]
-  | inr past ↦ rw past (omega arith)
-]
+      | inr past ↦ rw past tt
+    ]
+
+items_after-length : (s : Layout) (columns : FoundColumns) (number : ℕ) (records : List (List (List ℕ)))
+    → number ≤ s.max_records
+    → number + length (items_after s columns number records).items ≤ s.max_records
+items_after-length s columns number [] within = omega arith
+items_after-length s columns number (fields ∷ records) within =
+    let plain : List (List ℕ) = plain_of s columns (number + 1) fields in
+    elim (cases_Bool (nat_lt number s.max_records)) [
+      | inl below ↦
+          let after =
+          items_after-length s columns (number + 1) records (omega (arith, ltb-true number s.max_records below)) in
+          elim (cases_Bool (is_read s plain)) [
+            | inl read ↦ rw (below, read) (omega (arith, after))
+            | inr other ↦ rw (below, other) (omega (arith, after))
+          ]
+      | inr past ↦ rw past (omega arith)
+    ]
 
 items_of-small : (s : Layout) (records : List (List (List ℕ))) → AllByRecursion IsSmallItem (items_of s records).items
 items_of-small s [] = tt
-items_of-small s (header ∷ records) = elim (cases_Bool (is_header s header)) [
-  | inl right ↦ rw right (items_after-small s 0 records)
-  | inr wrong ↦ rw wrong tt
-]
+items_of-small s (header ∷ records) = by (found_columns s header)
+  where
+    by : (found : Option FoundColumns) → AllByRecursion IsSmallItem
+        (option_map_or (λ (columns : FoundColumns). items_after s columns 0 records) found
+        (let wrong : RestOfFeed FeedEnd = record { items = []; end = WrongHeader } in wrong)).items
+    by None = tt
+    by (Some columns) = items_after-small s columns 0 records
 
 items_of-length : (s : Layout) (records : List (List (List ℕ))) → length (items_of s records).items ≤ s.max_records
 items_of-length s [] = omega arith
-items_of-length s (header ∷ records) = elim (cases_Bool (is_header s header)) [
-  | inl right ↦ rw right (omega (arith, items_after-length s 0 records (omega arith)))
-  | inr wrong ↦ rw wrong (omega arith)
-]
+items_of-length s (header ∷ records) = by (found_columns s header)
+  where
+    by : (found : Option FoundColumns)
+        → length (option_map_or (λ (columns : FoundColumns). items_after s columns 0 records) found
+        (let wrong : RestOfFeed FeedEnd = record { items = []; end = WrongHeader } in wrong)).items ≤ s.max_records
+    by None = omega arith
+    by (Some columns) = omega (arith, items_after-length s columns 0 records (omega arith))
 
 -- a change that is taken fits
 takes-fit : (s : Layout) (change : Change) → takes s change ≡ true → IsSmallChange change → IsFitChange s change
@@ -374,20 +388,20 @@ changes_of-length s (item ∷ items) =
 
 -- ---- the survivors of feeds
 AreSurviving-fit : (s : Layout) (bytes : List ℕ) (facts : List Fact)
-    → AreSurviving s (items_of s (records_of bytes)).items facts → AllByRecursion (IsFitFact s) facts
+    → AreSurviving s (items_of s (feed_records s bytes)).items facts → AllByRecursion (IsFitFact s) facts
 AreSurviving-fit s bytes facts survive =
-    Survive-fit s (changes_of s (items_of s (records_of bytes)).items) facts
-    (changes_of-fit s (items_of s (records_of bytes)).items (items_of-small s (records_of bytes))) survive
+    Survive-fit s (changes_of s (items_of s (feed_records s bytes)).items) facts
+    (changes_of-fit s (items_of s (feed_records s bytes)).items (items_of-small s (feed_records s bytes))) survive
 
 AreSurviving-length : (s : Layout) (bytes : List ℕ) (facts : List Fact)
-    → AreSurviving s (items_of s (records_of bytes)).items facts → length facts ≤ s.max_records
+    → AreSurviving s (items_of s (feed_records s bytes)).items facts → length facts ≤ s.max_records
 AreSurviving-length s bytes facts survive =
-    let items = (items_of s (records_of bytes)).items in
+    let items = (items_of s (feed_records s bytes)).items in
     omega (
       arith,
       Survive-length (changes_of s items) facts survive,
       changes_of-length s items,
-      items_of-length s (records_of bytes),
+      items_of-length s (feed_records s bytes),
     )
 
 joined-fit : (s : Layout) (sources : List (List ℕ)) (parts : List (List Fact))

@@ -13,7 +13,8 @@ use Rattle.std.proofs.lemmas.List.Elements.{recursion_from_All}
 use Rattle.std.proofs.lemmas.Slice.Eq.{bytes_eq-Decides}
 use Rattle.toml.specs.Data.{string, integer, array, Items, no_items, item, Members, no_members, member}
 use Rattle.cube_core.specs.Layout.{Layout, IsSchema, is_listed, are_distinct}
-use Rattle.cube_core.specs.SchemaDocument.{texts_of, mask_of_names, set_of_names, set_of_item, sets_of_items}
+use Rattle.cube_core.specs.FeedDocument.{texts_of}
+use Rattle.cube_core.specs.SchemaDocument.{mask_of_names, set_of_names, set_of_item, sets_of_items}
 use Rattle.cube_core.specs.SchemaDocument.{are_distinct_sets, are_lawful_sets, named_sets, kept_sets, sets_of_grouping}
 use Rattle.cube_laws.specs.Written.{WritesSchema}
 use Rattle.cube_laws.proofs.GroupingLaws.{mask_of_names-other, are_distinct-front, Rise, is_among-Rise, filter-Rise}
@@ -167,8 +168,9 @@ document_of s sets =
     (member (codes "measures") (array (items_of_texts s.measures))
     (member (codes "version") (integer (pos s.version)) no_members)))))
 
-pub IsSchema-WritesSchema : (s : Layout) → IsSchema s → (document : Members) × WritesSchema document s
-IsSchema-WritesSchema s is =
+pub IsSchema-WritesSchema : (s : Layout) → IsSchema s → s.columns ≡ None
+    → (document : Members) × WritesSchema document s
+IsSchema-WritesSchema s is none =
     let dimensions = length s.dimensions in
     let below : AllByRecursion (λ set. set < 2 ^ dimensions) s.grouping_sets =
     recursion_from_All _ s.grouping_sets is.sets_are_of_dimensions in
@@ -199,5 +201,6 @@ IsSchema-WritesSchema s is =
             ∙ ap Some kept;
         version = ap (λ b. if b then Some s.version else None)
             (and_from _ _ (le-leb 1 s.version is.version_at_least) (le-leb s.version 2 is.version_at_most));
+        columns = ap Some (sym none);
       },
     )

@@ -1,14 +1,17 @@
 -- A document that writes a schema is read as that schema.
 use Rattle.std.proofs.Common.{◌≡◌, ℕ, ◌≤◌, Bool, true, false, List, [], ◌∷◌, length, map, find, unwrap_or, None, Ok}
-use Rattle.std.proofs.Common.{Err, refl, sym, ap, ◌∙◌}
+use Rattle.std.proofs.Common.{Err, refl, sym, ap, ap₂, ◌∙◌, arith, codes, is_some, Option, Some, ◌&&◌, if◌then◌else◌}
 use Rattle.std.proofs.lemmas.List.{length-map}
 use Rattle.std.specs.List.{list_all, filter_map}
 use Rattle.std.specs.Option.{option_map_or}
-use Rattle.std.proofs.lemmas.Bool.{and_parts, le-leb, not_from_true}
-use Rattle.toml.specs.Data.{Members}
+use Rattle.std.proofs.lemmas.Bool.{and_from, and_parts, le-leb, not_from_true}
+use Rattle.std.proofs.lemmas.Option.{same_Some}
+use Rattle.toml.specs.Data.{Data, Members, get_member}
+use Rattle.cube_core.specs.FeedDocument.{columns_of_value}
 use Rattle.cube_core.specs.Layout.{Layout, IsSchema, spelling_of, is_aggregate_of}
 use Rattle.cube_core.specs.SchemaDocument.{is_some_up_to, aggregate_spelled, are_spellings, dimensions_in, measures_in}
 use Rattle.cube_core.specs.SchemaDocument.{spellings_in, max_records_in, default_max_records, grouping_sets_in}
+use Rattle.cube_core.specs.SchemaDocument.{columns_in, least_measures_in, texts_at}
 use Rattle.cube_core.specs.SchemaDocument.{version_in, document_faults, has_fault, first_fault, layout_of, schema_of}
 use Rattle.cube_core.specs.Shard.{whole_feed}
 use Rattle.cube_laws.specs.Written.{WritesSchema}
@@ -16,6 +19,7 @@ use Rattle.cube_core.specs.declared.aggregate.Agg.{Agg}
 use Rattle.cube_core.specs.declared.schema_fault.SchemaFault.{SchemaFault}
 use Rattle.cube_core.specs.declared.schema_fault.SchemaFault.TheVariants.{UnknownKey, Dimensions, Measures, Name}
 use Rattle.cube_core.specs.declared.schema_fault.SchemaFault.TheVariants.{Aggregates, MaxRecords, Grouping, Version}
+use Rattle.cube_core.specs.declared.schema_fault.SchemaFault.TheVariants.{Columns}
 use Rattle.cube_laws.proofs.SpellingLaws.{aggregate_spelled-IsSchema}
 
 -- the spellings of aggregates are read as these aggregates
@@ -46,8 +50,33 @@ is_some_up_to-length most texts least greatest = rw (le-leb 1 (length texts) lea
 -- no fault, where none of them holds
 find-document_faults : (holds : SchemaFault → Bool) → holds UnknownKey ≡ false → holds Dimensions ≡ false
     → holds Measures ≡ false → holds Name ≡ false → holds Aggregates ≡ false → holds MaxRecords ≡ false
-    → holds Grouping ≡ false → holds Version ≡ false → find holds document_faults ≡ None
-find-document_faults holds a b c d e f g h = rw (a, b, c, d, e, f, g, h)
+    → holds Grouping ≡ false → holds Version ≡ false → holds Columns ≡ false → find holds document_faults ≡ None
+find-document_faults holds a b c d e f g h k = rw (a, b, c, d, e, f, g, h, k)
+
+-- a document has as many measures as it has to have
+least_measures-WritesSchema : (document : Members) (s : Layout) → IsSchema s → WritesSchema document s
+    → least_measures_in document ≤ length s.measures
+least_measures-WritesSchema document s is writes = at (get_member (codes "feed") document) refl
+  where
+    least : Option Data → Bool → ℕ
+    least feed there = if is_some feed && there then 0 else 1
+
+    there : is_some (texts_at (codes "measures") document) ≡ true
+    there = ap is_some writes.measures
+
+    at : (feed : Option Data) → get_member (codes "feed") document ≡ feed
+        → least_measures_in document ≤ length s.measures
+    unfolding least
+    at None none =
+        let said : s.columns ≡ None = sym (same_Some None s.columns
+        (sym (ap (columns_of_value (dimensions_in document) (measures_in document)) none) ∙ writes.columns)) in
+        let one : least_measures_in document ≡ 1 =
+        ap (λ feed. least feed (is_some (texts_at (codes "measures") document))) none in
+        omega (arith, one, is.some_measure said)
+    at (Some feed) some =
+        let zero : least_measures_in document ≡ 0 =
+        ap₂ (λ found is_there. least found is_there) some there in
+        omega (arith, zero)
 
 pub WritesSchema-schema_of : (document : Members) (s : Layout) → IsSchema s → s.shard ≡ whole_feed
     → length s.aggregates ≤ 16
@@ -61,6 +90,7 @@ WritesSchema-schema_of document s is whole few writes =
     let sets : unwrap_or (grouping_sets_in document) [] ≡ s.grouping_sets =
     ap (λ o. unwrap_or o []) writes.grouping_sets in
     let version : unwrap_or (version_in document) 1 ≡ s.version = ap (λ o. unwrap_or o 1) writes.version in
+    let columns : unwrap_or (columns_in document) None ≡ s.columns = ap (λ o. unwrap_or o None) writes.columns in
     let spelled : spellings_in document ≡ map (spelling_of s.measures) s.aggregates =
     texts ∙ is.aggregates_are_spelled in
     let as_many : length s.aggregate_texts ≡ length s.aggregates =
@@ -73,13 +103,17 @@ WritesSchema-schema_of document s is whole few writes =
     find-document_faults (has_fault document)
     (not_from_true _ writes.known_keys)
     (not_from_true _ (rw dimensions (is_some_up_to-length 8 s.dimensions is.some_dimension is.dimensions_at_most)))
-    (not_from_true _ (rw measures (is_some_up_to-length 4 s.measures is.some_measure is.measures_at_most)))
+    (not_from_true _ (and_from _ _
+    (le-leb (least_measures_in document) (length (measures_in document))
+    (rw measures (least_measures-WritesSchema document s is writes)))
+    (le-leb (length (measures_in document)) 4 (rw measures is.measures_at_most))))
     (not_from_true _ (rw (dimensions, measures, is.names_are_lawful) is.names_are_distinct))
     (not_from_true _ (rw all_spelled
     (rw texts (rw (is_some_up_to-length 16 s.aggregate_texts (rw as_many is.some_aggregate) (rw as_many few))))))
     (not_from_true _ (rw writes.max_records))
     (not_from_true _ (rw writes.grouping_sets))
-    (not_from_true _ (rw writes.version)) in
+    (not_from_true _ (rw writes.version))
+    (not_from_true _ (rw writes.columns)) in
     let layout : layout_of document ≡ s = λ i. record {
       dimensions = dimensions i;
       measures = measures i;
@@ -89,5 +123,6 @@ WritesSchema-schema_of document s is whole few writes =
       grouping_sets = sets i;
       version = version i;
       shard = sym whole i;
+      columns = columns i;
     } in
     ap (λ fault. option_map_or Err fault (Ok (layout_of document))) no_fault ∙ ap Ok layout

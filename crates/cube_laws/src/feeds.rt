@@ -1,34 +1,42 @@
 //! What a feed gives: a written one is read back, and none gives more than its schema takes (this project's choice of a change
 //! feed).
-ghost use Rattle.std.specs.Prelude.{◌≡◌, ◌↔◌, ◌≤◌, ℕ, true, List, [], ◌∷◌, length, map, IfOk};
-ghost use Rattle.std.specs.List.{AllByRecursion, flat_map};
+ghost use Rattle.std.specs.Prelude.{◌≡◌, ◌↔◌, ◌≤◌, ℕ, true, List, [], ◌∷◌, length, map, None, Some, is_some, IfOk};
+ghost use Rattle.std.specs.List.{AllByRecursion, flat_map, list_all};
 ghost use Rattle.cube_core.specs.Items.{change_of, is_header};
-ghost use Rattle.cube_core.specs.FeedRecords.{Good, IsGoodFeed, items_of};
+ghost use Rattle.cube_core.specs.FeedRecords.{Good, IsGoodFeed, feed_records, found_columns, items_of, names_read, stands_once};
 ghost use Rattle.cube_core.specs.Layout.{Layout};
-ghost use Rattle.cube_core.specs.Records.{records_of};
 ghost use Rattle.cube_core.specs.Shard.{whole_feed};
 ghost use Rattle.cube_core.specs.Takes.{takes};
 ghost use Rattle.cube_core.specs.Text.{line};
 ghost use Rattle.cube_laws.specs.Feeds.{CanBeSpelled, header_for, numbered, record_for};
 ghost use Rattle.std.specs.Prelude.{Ok};
 ghost use Rattle.cube_core.specs.declared.change.Change.{Change};
+ghost use Rattle.cube_core.specs.declared.feed_columns.FeedColumns.{FeedColumns};
 
-/// A feed that writes changes which the schema takes is read as these changes, in their order, numbered from 1, and is good: no
-/// change that can be written is refused or taken for another (this project's choice).
+/// A feed that writes changes which the schema takes, in the order of the schema, is read as these changes, in their order,
+/// numbered from 1, and is good: no change that can be written is refused or taken for another (this project's choice).
 pub fn written_feed_is_read()
     ensures change { (s : Layout) (change : Change) → CanBeSpelled s change → change_of s (record_for change) ≡ Ok change }
     ensures feed { (s : Layout) (changes : List Change) →
-        s.shard ≡ whole_feed → length changes ≤ s.max_records → AllByRecursion (CanBeSpelled s) changes →
-        items_of s (records_of (flat_map line (header_for s ∷ map record_for changes)))
+        s.columns ≡ None → s.shard ≡ whole_feed → length changes ≤ s.max_records →
+        AllByRecursion (CanBeSpelled s) changes →
+        items_of s (feed_records s (flat_map line (header_for s ∷ map record_for changes)))
         ≡ record { items = numbered 1 changes; end = Good } }
 {}
 
-/// A feed is good exactly where it has no record, or the header first and at most `max_records` records after it; and whatever it
-/// has, it gives no more items than that (this project's choice).
+/// A feed is good exactly where it has no record, or a header first, which names the columns, and at most `max_records` records
+/// after it; and whatever it has, it gives no more items than that. A first record names the columns where it is the header in
+/// the order of the schema or, where columns are known by name, has each that is read by exactly once (this project's choice).
 pub fn feed_has_a_header_and_so_many_records()
     ensures none { (s : Layout) → IsGoodFeed s [] }
     ensures some { (s : Layout) (header : List (List ℕ)) (records : List (List (List ℕ))) →
-        IsGoodFeed s (header ∷ records) ↔ ((is_header s header ≡ true) × (length records ≤ s.max_records)) }
+        IsGoodFeed s (header ∷ records)
+        ↔ ((is_some (found_columns s header) ≡ true) × (length records ≤ s.max_records)) }
+    ensures in_order { (s : Layout) (header : List (List ℕ)) →
+        s.columns ≡ None → is_some (found_columns s header) ≡ is_header s header }
+    ensures by_name { (s : Layout) (columns : FeedColumns) (header : List (List ℕ)) →
+        s.columns ≡ Some columns →
+        is_some (found_columns s header) ≡ list_all (stands_once header) (names_read columns) }
     ensures at_most { (s : Layout) (records : List (List (List ℕ))) →
         length (items_of s records).items ≤ s.max_records }
 {}

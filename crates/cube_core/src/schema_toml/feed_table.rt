@@ -1,10 +1,10 @@
 //! What the table `feed` of a schema's document says.
-ghost use Rattle.std.specs.Prelude.{◌≡◌, ◌++◌, false, true, IfOk, MatchOption, map, is_some, option_and_then, option_map, unwrap_or, None};
+ghost use Rattle.std.specs.Prelude.{◌≡◌, ◌++◌, false, true, IfOk, MatchOption, is_some, option_and_then, option_map, unwrap_or, None};
 ghost use Rattle.std.specs.List.{list_all, filter_map};
 ghost use Rattle.toml.specs.Data.{as_str, get_member, no_members, string, table};
 ghost use Rattle.toml.specs.View.{view, table_view};
 ghost use Rattle.cube_core.specs.Layout.{is_listed, is_delimiter};
-ghost use Rattle.cube_core.specs.FeedDocument.{has_only, if_there, are_plain_keys, is_op_with_id, is_point_apart, one_byte, delimiter_value, delimiter_in, point_value, point_in, texts_value, nulls_in, count_value, cut_column, column_value, columns_value, dimension_column, measure_column, columns_of_feed, columns_of_value};
+ghost use Rattle.cube_core.specs.FeedDocument.{cut_keys, feed_keys, has_only, if_there, are_plain_keys, is_op_with_id, is_point_apart, one_byte, delimiter_value, delimiter_in, point_value, point_in, texts_value, nulls_in, count_value, cut_column, column_value, columns_value, dimension_column, measure_column, columns_of_feed, columns_of_value};
 
 use super::{texts_of, value_at};
 use crate::feed_columns::{Column, FeedColumns};
@@ -77,7 +77,7 @@ fn columns_of_feed(
 fn are_plain_keys(feed: &Table) -> bool
     ensures { result ≡ are_plain_keys (table_view feed.now) }
 {
-    has_only(feed, &["id", "op", "null", "delimiter", "point", "columns"])
+    has_feed_keys(feed)
         && name_in(feed, "id").is_some()
         && name_in(feed, "op").is_some()
         && delimiter_in(feed).is_some()
@@ -213,8 +213,7 @@ fn columns_value<'d>(feed: &'d Table, none: &'d Table) -> Option<&'d Table>
 {
     match value_at(feed, "columns") {
         None => Some(none),
-        Some(Value::Table(columns)) => Some(columns),
-        Some(_) => None,
+        Some(value) => value.as_table(),
     }
 }
 
@@ -242,22 +241,43 @@ fn is_text_in(key: &str, names: &[Text]) -> bool
     names.iter().any(|name| key == name.as_str())
 }
 
-/// Whether a table has no other keys than these.
-fn has_only(members: &Table, keys: &[&str]) -> bool
-    ensures { result ≡ has_only (map (λ key. key.now) keys.entry.now) (table_view members.now) }
+/// Whether `feed` has only keys that it may have.
+fn has_feed_keys(feed: &Table) -> bool
+    ensures { result ≡ has_only feed_keys (table_view feed.now) }
 {
-    for key in members.keys() {
-        if !is_key_in(key.as_str(), keys) {
+    for key in feed.keys() {
+        if !is_feed_key(key.as_str()) {
             return false;
         }
     }
     true
 }
 
-fn is_key_in(key: &str, keys: &[&str]) -> bool
-    ensures { result ≡ is_listed key.now (map (λ one. one.now) keys.entry.now) }
+fn is_feed_key(key: &str) -> bool
+    ensures { result ≡ is_listed key.now feed_keys }
 {
-    keys.iter().any(|one| key == *one)
+    matches!(
+        key,
+        "id" | "op" | "null" | "delimiter" | "point" | "columns"
+    )
+}
+
+/// Whether the table of a column has only keys that it may have.
+fn has_cut_keys(members: &Table) -> bool
+    ensures { result ≡ has_only cut_keys (table_view members.now) }
+{
+    for key in members.keys() {
+        if !is_cut_key(key.as_str()) {
+            return false;
+        }
+    }
+    true
+}
+
+fn is_cut_key(key: &str) -> bool
+    ensures { result ≡ is_listed key.now cut_keys }
+{
+    matches!(key, "column" | "first")
 }
 
 /// The columns of dimensions, where each is right.
@@ -319,7 +339,7 @@ fn whole_column(alloc: Global, name: &str) -> Result<Option<Column>, AllocError>
 fn cut_column(alloc: Global, members: &Table) -> Result<Option<Column>, AllocError>
     ensures { IfOk result (λ found. found ≡ cut_column (table_view members.now)) }
 {
-    if !has_only(members, &["column", "first"]) {
+    if !has_cut_keys(members) {
         return Ok(None);
     }
     let (Some(name), Some(count)) = (text_at(members, "column"), count_at(members, "first")) else {

@@ -1,7 +1,7 @@
-use Rattle.std.proofs.Common.{◌≡◌, ℕ, ◌+◌, ◌<◌, Bool, true, List, [], ◌∷◌, ◌++◌, length, get_or, drop, drop-cons, arith}
-use Rattle.std.proofs.Common.{add-one, suc, Option, Some, is_some, refl, sym, ap, ◌∙◌, append_assoc}
+use Rattle.std.proofs.Common.{◌≡◌, ◌++◌, get_or, arith}
+use Rattle.std.proofs.Common.{Some, is_some, refl, sym, ap, ◌∙◌}
 use Rattle.std.proofs.lemmas.Grind.{common_steps}
-use Rattle.std.specs.List.{filter_map, list_all}
+use Rattle.std.specs.List.{filter_map}
 use Rattle.std.proofs.lemmas.List.{at_drop_all, append-nil}
 use Rattle.cube_core.specs.SchemaDocument.{aggregate_spelled, are_spellings}
 use Rattle.cube_core.proofs.ListLaws.{filter_map-more, list_all-more}

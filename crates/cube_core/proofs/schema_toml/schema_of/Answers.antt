@@ -1,7 +1,8 @@
 use Rattle.std.proofs.Common.{◌≡◌, true, rules}
 use Rattle.toml.specs.View.{table_view}
-use Rattle.cube_core.specs.SchemaDocument.{has_known_keys, dimensions_in, measures_in, spellings_in}
+use Rattle.cube_core.specs.SchemaDocument.{has_known_keys, dimensions_in, measures_in, least_measures_in, spellings_in}
 use Rattle.cube_core.proofs.SchemaLaws.{document-answered_by, max_records_in-bounds, version_in-bounds}
+use Rattle.cube_core.proofs.SchemaLaws.{least_measures_in-bound}
 use Rattle.cube_core.proofs.schema_toml.schema_of.Goals as goal
 
 pub schema_of_parts-requires-clause-records : goal.schema_of_parts-requires-clause-records
@@ -11,12 +12,18 @@ schema_of_parts-requires-clause-records c =
 pub schema_of_parts-requires-clause-versions : goal.schema_of_parts-requires-clause-versions
 schema_of_parts-requires-clause-versions c = version_in-bounds (table_view c.args.document.now) _ c.version_in.ensures
 
+pub schema_of_parts-requires-clause-measures : goal.schema_of_parts-requires-clause-measures
+schema_of_parts-requires-clause-measures c =
+    let least : c.in_ok-measures.least_measures ≡ least_measures_in (table_view c.args.document.now) = search rules in
+    least_measures_in-bound (table_view c.args.document.now) _ _ least c.value_at-feed.ensures
+
 pub returns : goal.returns
 returns c =
     let document = table_view c.args.document.now in
     let known : has_known_keys document ≡ true = search rules in
     let dimensions : c.in_ok-dimensions.dimensions.items ≡ dimensions_in document = search rules in
     let measures : c.in_ok-measures.measures.items ≡ measures_in document = search rules in
+    let least : c.in_ok-measures.least_measures ≡ least_measures_in document = search rules in
     let texts : c.in_ok-aggregate_texts.aggregate_texts.items ≡ spellings_in document = search rules in
-    document-answered_by document _ _ _ _ _ _ _ known dimensions measures texts c.max_records_in.ensures
-    c.value_at.ensures c.version_in.ensures c.schema_of_parts.ensures
+    document-answered_by document _ _ _ _ _ _ _ _ _ known dimensions measures least texts c.max_records_in.ensures
+    c.value_at-grouping.ensures c.version_in.ensures c.value_at-feed.ensures c.schema_of_parts.ensures

@@ -15,6 +15,7 @@ invariant_of-result c =
       grouping_sets = c.self.inside.grouping_sets.items;
       version = c.self.inside.version;
       shard = c.self.inside.shard;
+      columns = c.self.inside.columns;
     } in
     let dimensions : c.in_ok-copy_texts.field-0.items ≡ s.dimensions = search rules in
     let measures : c.in_ok-copy_texts-2.field-0.items ≡ s.measures = search rules in
@@ -23,5 +24,6 @@ invariant_of-result c =
     ≡ map (spelling_of c.in_ok-copy_texts-2.field-0.items) c.in_ok-aggregates.aggregates.items =
     search (rules, measures) in
     let sets : c.in_ok-from_slice.field-0.items ≡ s.grouping_sets = search rules in
+    let columns : c.in_ok-copy_columns.field-0 ≡ s.columns = search rules in
     let few : length c.in_ok-aggregates.aggregates.items ≤ 24 = search rules in
-    copied-IsSchema s _ _ _ _ _ c.self.invariant dimensions measures aggregates texts sets few
+    copied-IsSchema s _ _ _ _ _ _ c.self.invariant dimensions measures aggregates texts sets columns few
