@@ -69,7 +69,8 @@ records_from-fuel cfg (suc n) (suc m) s xs h k = by (next_record cfg s [] [] xs)
     ]
 
 -- where no record follows, there is none
-records_at-None : (cfg : Config) (s : State) (xs : List ℕ) → next_record cfg s [] [] xs ≡ None → records_at cfg s xs ≡ []
+records_at-None : (cfg : Config) (s : State) (xs : List ℕ) → next_record cfg s [] [] xs ≡ None
+    → records_at cfg s xs ≡ []
 unfolding records_from
 records_at-None cfg s xs h = rw (add-one (length xs), h) refl
 

@@ -1,8 +1,6 @@
 -- Where the columns of a feed stand, told of single names, and what putting fields into a record does (this project's
 -- choice).
-use Rattle.std.specs.Prelude.{◌≡◌, ◌+◌, ℕ, List, [], ◌∷◌, ◌++◌, length, filter, drop, Option, Some, None, if◌then◌else◌}
-use Rattle.std.specs.Str.{bytes_eq}
-use Rattle.std.specs.List.{position, position_from}
+use Rattle.std.specs.Prelude.{◌≡◌, ℕ, List, [], ◌∷◌, ◌++◌, Option, Some, None, if◌then◌else◌}
 use Rattle.std.specs.Option.{option_map_or}
 use Rattle.csv.specs.Records.{Row, fields_of, partial_of}
 use Rattle.cube_core.specs.FeedRecords.{place_in, stands_once}

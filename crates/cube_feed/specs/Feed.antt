@@ -38,7 +38,8 @@ nothing_but end = record { items = []; end = end }
 
 -- what is to come of a feed of these bytes, where its reader tells them
 abbrev pub rest_of_feed : Layout → Option (List ℕ) → KnownRest
-rest_of_feed schema bytes = option_map (λ (known : List ℕ). with_fault (items_of schema (feed_records schema known))) bytes
+rest_of_feed schema bytes =
+    option_map (λ (known : List ℕ). with_fault (items_of schema (feed_records schema known))) bytes
 
 -- what is to come before the header was read, and after it
 abbrev pub before_header : Layout → Left → KnownRest

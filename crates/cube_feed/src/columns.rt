@@ -48,11 +48,7 @@ fn in_order(schema: &Schema, header: &ByteRecord) -> Option<FoundColumns>
 }
 
 // Where columns stand that are known by name; the header is at fault where one of them doesn't stand in it exactly once.
-fn places(
-    alloc: Global,
-    columns: &FeedColumns,
-    header: &ByteRecord,
-) -> Result<ColumnPlaces, Stop>
+fn places(alloc: Global, columns: &FeedColumns, header: &ByteRecord) -> Result<ColumnPlaces, Stop>
     ensures places { IfOk result (λ places. places ≡ places_by columns.now (fields_of header.now)) }
     ensures once { IfOk result (λ _. list_all (stands_once (fields_of header.now)) (names_read columns.now) ≡ true) }
     ensures line { IfErr result (λ e. e ≡ stop.Line →
@@ -113,11 +109,7 @@ fn dimension_places(
 }
 
 // Where the columns of measures stand; the header is at fault where one of them doesn't stand in it once.
-fn measure_places(
-    alloc: Global,
-    header: &ByteRecord,
-    names: &[Text],
-) -> Result<Vec<usize>, Stop>
+fn measure_places(alloc: Global, header: &ByteRecord, names: &[Text]) -> Result<Vec<usize>, Stop>
     ensures places { IfOk result (λ places. places.items ≡ map (place_in (fields_of header.now)) names.now) }
     ensures once { IfOk result (λ _. list_all (stands_once (fields_of header.now)) names.now ≡ true) }
     ensures line { IfErr result (λ e. e ≡ stop.Line →

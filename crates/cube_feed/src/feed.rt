@@ -96,7 +96,14 @@ fn item_of<R: Read>(
     ensures kept { (rows.new.records ≡ rows.old.records) × (rows.new.columns ≡ rows.old.columns) }
 {
     let fields = rows.records.fields();
-    match change_of_row(alloc, schema, &rows.columns, number, fields, &mut rows.plain) {
+    match change_of_row(
+        alloc,
+        schema,
+        &rows.columns,
+        number,
+        fields,
+        &mut rows.plain,
+    ) {
         Ok(what) => Ok(Item { number, what }),
         Err(_) => Err(FeedFault::Memory),
     }

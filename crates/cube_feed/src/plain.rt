@@ -41,8 +41,22 @@ pub(crate) fn put_in_order(
     let first_measure = 2 + schema.dimensions().len();
     plain.clear();
     put_part(schema, FieldKind::Other, fields, 0, 2, plain)?;
-    put_part(schema, FieldKind::Dimension, fields, 2, first_measure, plain)?;
-    put_part(schema, FieldKind::Measure, fields, first_measure, fields.len(), plain)
+    put_part(
+        schema,
+        FieldKind::Dimension,
+        fields,
+        2,
+        first_measure,
+        plain,
+    )?;
+    put_part(
+        schema,
+        FieldKind::Measure,
+        fields,
+        first_measure,
+        fields.len(),
+        plain,
+    )
 }
 
 // Puts the plain fields of those from a place to another behind the fields of a record.
@@ -73,7 +87,12 @@ fn plain_field<'f>(schema: &Schema, kind: FieldKind, field: &'f [u8]) -> &'f [u8
 {
     match kind {
         FieldKind::Other => field,
-        FieldKind::Dimension => dimension_from(schema, is_null_in_order(schema, field), None, field),
+        FieldKind::Dimension => dimension_from(
+            schema,
+            is_null_in_order(schema, field),
+            None,
+            field,
+        ),
         FieldKind::Measure => measure_from(schema, is_null_in_order(schema, field), field),
     }
 }

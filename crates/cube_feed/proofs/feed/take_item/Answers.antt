@@ -61,8 +61,7 @@ loop-before-preserved g c =
     let before = c.loop-before.before in
     let same = c.loop-before.invariant.1 in
     let below : before < s.max_records = search rules in
-    let other = rw (c.fields.ensures, same) at (sym c.is_read_at.ensures ∙ c.if-is_read_at.false) in
-    (
+    let other = rw (c.fields.ensures, same) at (sym c.is_read_at.ensures ∙ c.if-is_read_at.false) in (
       omega arith,
       same,
       StillComes-skip s columns before (after_header s columns c.args.number c.args.rows.now.records.left)

@@ -1,4 +1,4 @@
-use Rattle.std.proofs.Common.{◌≡◌, ◌∙◌, sym, arith, suc, ◌++◌, take, drop, ap}
+use Rattle.std.proofs.Common.{◌∙◌, sym, arith, ◌++◌, take, drop, ap}
 use Rattle.std.specs.Fmt.{take_chars}
 use Rattle.cube_feed.proofs.PlainFieldLaws.{take_chars-stops, take_chars-begins, take_chars-goes_on, take_chars-all}
 use Rattle.cube_feed.proofs.plain.first_chars.Goals as goal
@@ -19,11 +19,11 @@ loop-place-preserved c =
     let test = sym c.is_char_start.ensures in
     elim c.if-is_char_start.branch [
       | then-is_char_start+else-left-eq0 w ↦
-      take_chars-begins text place c.loop-place.left c.if-is_char_start.left c.loop-place-test.true
-      (test ∙ w.if-is_char_start.true) (omega arith) ∙ c.loop-place.invariant
+          take_chars-begins text place c.loop-place.left c.if-is_char_start.left c.loop-place-test.true
+          (test ∙ w.if-is_char_start.true) (omega arith) ∙ c.loop-place.invariant
       | else-is_char_start w ↦
-      rw w.left-is (take_chars-goes_on text place c.loop-place.left c.loop-place-test.true
-      (test ∙ w.if-is_char_start.false) ∙ c.loop-place.invariant)
+          rw w.left-is (take_chars-goes_on text place c.loop-place.left c.loop-place-test.true
+          (test ∙ w.if-is_char_start.false) ∙ c.loop-place.invariant)
     ]
 
 pub returns : goal.returns

@@ -1,4 +1,3 @@
-use Rattle.std.proofs.Common.{◌≡◌}
 use Rattle.csv.specs.Records.{fields_of, partial_of}
 use Rattle.cube_feed.specs.PlainFields.{plain_field}
 use Rattle.cube_feed.proofs.PlainFieldLaws.{part-more, part-none}
