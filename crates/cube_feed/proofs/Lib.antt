@@ -3,6 +3,8 @@ pub mod FieldLaws
 mod HeaderLaws
 mod LineLaws
 pub mod NumberLaws
+mod ColumnLaws
+mod PlainFieldLaws
 mod RecordLaws
 mod FeedLaws
 pub mod FaultLaws

@@ -3,7 +3,7 @@ use Rattle.std.proofs.Common.{◌≡◌, ◌<◌, ◌+◌, ◌⊎◌, inl, inr, 
 use Rattle.std.proofs.Common.{Some, None, refl, sym, ap, arith, add-one}
 use Rattle.std.specs.Prelude.{zero, suc, option_map, if◌then◌else◌}
 use Rattle.csv.specs.Machine.{Read, next_record, ends_at_end, is_end, step, fields_after, field_after}
-use Rattle.csv.specs.Reading.{records_from, records_next, default_config, source_of, pending_of, reader_trim}
+use Rattle.csv.specs.Reading.{records_from, records_next, source_of, pending_of, reader_config, reader_trim}
 use Rattle.csv.specs.Reading.{reader_state, has_failed, Ready, ReadRecord, NextIs, ReadsNext}
 use Rattle.csv.specs.declared.reader.Reader.{Reader}
 use Rattle.csv.specs.declared.reader.Trim.TheVariants as trim
@@ -69,43 +69,47 @@ records_from-fuel cfg (suc n) (suc m) s xs h k = by (next_record cfg s [] [] xs)
     ]
 
 -- where no record follows, there is none
-records_at-None : (s : State) (xs : List ℕ) → next_record default_config s [] [] xs ≡ None → records_at s xs ≡ []
+records_at-None : (cfg : Config) (s : State) (xs : List ℕ) → next_record cfg s [] [] xs ≡ None
+    → records_at cfg s xs ≡ []
 unfolding records_from
-records_at-None s xs h = rw (add-one (length xs), h) refl
+records_at-None cfg s xs h = rw (add-one (length xs), h) refl
 
 -- where a record follows, it is the first, and the others are those of the bytes that it leaves
-records_at-Some : (s : State) (xs : List ℕ) (r : Read) → next_record default_config s [] [] xs ≡ Some r
-    → records_at s xs ≡ r.0 ∷ records_at r.1 r.2
+records_at-Some : (cfg : Config) (s : State) (xs : List ℕ) (r : Read) → next_record cfg s [] [] xs ≡ Some r
+    → records_at cfg s xs ≡ r.0 ∷ records_at cfg r.1 r.2
 unfolding records_from
-records_at-Some s xs r h = rw (add-one (length xs), h) (ap (λ (rs : List (List (List ℕ))). r.0 ∷ rs) same)
+records_at-Some cfg s xs r h = rw (add-one (length xs), h) (ap (λ (rs : List (List (List ℕ))). r.0 ∷ rs) same)
   where
-    same : records_from default_config (length xs) r.1 r.2 ≡ records_from default_config (length r.2 + 1) r.1 r.2
-    same = elim (next_record-Shrinks default_config s [] [] xs r h).is [
-      | inl a ↦ records_from-fuel default_config (length xs) (length r.2 + 1) r.1 r.2 (omega arith) (omega arith)
-      | inr b ↦ rw (b.0, b.1, records_from-nil default_config (length xs)) (sym (records_from-nil default_config 1))
+    same : records_from cfg (length xs) r.1 r.2 ≡ records_from cfg (length r.2 + 1) r.1 r.2
+    same = elim (next_record-Shrinks cfg s [] [] xs r h).is [
+      | inl a ↦ records_from-fuel cfg (length xs) (length r.2 + 1) r.1 r.2 (omega arith) (omega arith)
+      | inr b ↦ rw (b.0, b.1, records_from-nil cfg (length xs)) (sym (records_from-nil cfg 1))
     ]
 
-NextIs-true : (s : State) (xs : List ℕ) (o : Option Read) (fields : List (List ℕ)) (s2 : State) (ys : List ℕ)
-    → next_record default_config s [] [] xs ≡ o → NextIs o true fields s2 ys
-    → records_at s xs ≡ fields ∷ records_at s2 ys
-NextIs-true s xs None fields s2 ys e n = cc n
-NextIs-true s xs (Some r) fields s2 ys e n = rw (n.1, n.2, n.3) (records_at-Some s xs r e)
+NextIs-true : (cfg : Config) (s : State) (xs : List ℕ) (o : Option Read) (fields : List (List ℕ)) (s2 : State)
+    (ys : List ℕ)
+    → next_record cfg s [] [] xs ≡ o → NextIs o true fields s2 ys
+    → records_at cfg s xs ≡ fields ∷ records_at cfg s2 ys
+NextIs-true cfg s xs None fields s2 ys e n = cc n
+NextIs-true cfg s xs (Some r) fields s2 ys e n = rw (n.1, n.2, n.3) (records_at-Some cfg s xs r e)
 
-NextIs-false : (s : State) (xs : List ℕ) (o : Option Read) (fields : List (List ℕ)) (s2 : State) (ys : List ℕ)
-    → next_record default_config s [] [] xs ≡ o → NextIs o false fields s2 ys → records_at s xs ≡ []
-NextIs-false s xs None fields s2 ys e n = records_at-None s xs e
-NextIs-false s xs (Some r) fields s2 ys e n = cc n.0
+NextIs-false : (cfg : Config) (s : State) (xs : List ℕ) (o : Option Read) (fields : List (List ℕ)) (s2 : State)
+    (ys : List ℕ)
+    → next_record cfg s [] [] xs ≡ o → NextIs o false fields s2 ys → records_at cfg s xs ≡ []
+NextIs-false cfg s xs None fields s2 ys e n = records_at-None cfg s xs e
+NextIs-false cfg s xs (Some r) fields s2 ys e n = cc n.0
 
 -- what a read of csv does to the records that are left
-ReadsNext-Advances : (s : State) (xs : List ℕ) (after : Option (List ℕ)) (found : Bool) (fields : List (List ℕ))
-    (s2 : State)
-    → ReadsNext default_config s (Some xs) after found fields s2
-    → Advances (Some (records_at s xs)) found (record { left = option_map (records_at s2) after; fields = fields })
-ReadsNext-Advances s xs None found fields s2 h = absurd h
-ReadsNext-Advances s xs (Some ys) true fields s2 h =
-    rw (NextIs-true s xs (next_record default_config s [] [] xs) fields s2 ys refl h) (refl, refl, refl)
-ReadsNext-Advances s xs (Some ys) false fields s2 h =
-    rw (NextIs-false s xs (next_record default_config s [] [] xs) fields s2 ys refl h) refl
+ReadsNext-Advances : (cfg : Config) (s : State) (xs : List ℕ) (after : Option (List ℕ)) (found : Bool)
+    (fields : List (List ℕ)) (s2 : State)
+    → ReadsNext cfg s (Some xs) after found fields s2
+    → Advances (Some (records_at cfg s xs)) found
+    (record { left = option_map (records_at cfg s2) after; fields = fields })
+ReadsNext-Advances cfg s xs None found fields s2 h = absurd h
+ReadsNext-Advances cfg s xs (Some ys) true fields s2 h =
+    rw (NextIs-true cfg s xs (next_record cfg s [] [] xs) fields s2 ys refl h) (refl, refl, refl)
+ReadsNext-Advances cfg s xs (Some ys) false fields s2 h =
+    rw (NextIs-false cfg s xs (next_record cfg s [] [] xs) fields s2 ys refl h) refl
 
 -- a read takes the first of the records that are left
 pub ReadRecord-Advances : {R : Type 0} (remaining : R → Option (List ℕ)) (old new : Reader R) (found : Bool)
@@ -115,13 +119,14 @@ pub ReadRecord-Advances : {R : Type 0} (remaining : R → Option (List ℕ)) (ol
 ReadRecord-Advances {R} remaining old new found fields plain reads = by (has_failed old) refl
   where
     known : has_failed old ≡ false → (source : Option (List ℕ)) → source_of remaining old ≡ source
-        → Advances (option_map (records_at (reader_state old)) source) found
+        → Advances (option_map (records_at (reader_config old) (reader_state old)) source) found
         (record { left = left_of remaining new; fields = fields })
     known e None q = tt
     known e (Some xs) q =
         let read = reads (plain.trims e) (plain.ready e) in
-        let next = rw (plain.config e, q) at read.0 in
-        rw read.1 (ReadsNext-Advances old.state xs (pending_of (remaining new.rdr) new) found fields new.state next)
+        let next = rw q at read.0 in
+        rw (read.1, read.2) (ReadsNext-Advances old.config old.state xs (pending_of (remaining new.rdr) new) found
+        fields new.state next)
 
     by : (failed : Bool) → has_failed old ≡ failed
         → Advances (left_of remaining old) found (record { left = left_of remaining new; fields = fields })

@@ -1,9 +1,8 @@
 -- The fault of a feed, told by the bytes of its source,
 -- and the lowest source whose feed is at fault (this project's choice).
 use Rattle.std.specs.Prelude.{◌≡◌, ◌≤◌, ◌-◌, ⊤, ℕ, List, length, take, get_or, Option, None, IfSome}
-use Rattle.cube_core.specs.FeedRecords.{FeedEnd, WrongHeader, TooManyRecords, items_of}
+use Rattle.cube_core.specs.FeedRecords.{FeedEnd, WrongHeader, TooManyRecords, feed_records, items_of}
 use Rattle.cube_core.specs.Layout.{Layout}
-use Rattle.cube_core.specs.Records.{records_of}
 use Rattle.cube_core.specs.Run.{SourceBytes, AreGood}
 use Rattle.cube_feed.specs.declared.fault.FeedFault.{FeedFault}
 use Rattle.cube_feed.specs.declared.fault.FeedFault.TheVariants.{Memory, Read, Header, TooMany}
@@ -17,7 +16,7 @@ IsEndOf end TooMany = end ≡ TooManyRecords
 
 -- a fault of the feed of a source
 abbrev pub IsFaultOf : Layout → Option (List ℕ) → FeedFault → Type 0
-IsFaultOf s bytes fault = IfSome bytes (λ known. IsEndOf (items_of s (records_of known)).end fault)
+IsFaultOf s bytes fault = IfSome bytes (λ known. IsEndOf (items_of s (feed_records s known)).end fault)
 
 -- the feed of this source is at fault, and those of all lower sources are good
 pub record IsLowestFault (s : Layout) (sources : SourceBytes) (source : ℕ) (fault : FeedFault) : Type 0 where

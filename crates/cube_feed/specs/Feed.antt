@@ -2,12 +2,12 @@
 use Rattle.std.specs.Prelude.{◌≡◌, ⊤, ◌+◌, ◌<◌, ◌≤◌, ℕ, Bool, true, false, List, [], Option, Some, None, option_map}
 use Rattle.std.specs.Prelude.{Result, Ok, Err, IfOk, IfSome}
 use Rattle.cube_core.specs.Layout.{Layout}
-use Rattle.cube_core.specs.Records.{records_of}
 use Rattle.cube_core.specs.Shard.{whole_feed}
 use Rattle.cube_core.specs.Takes.{takes}
 use Rattle.cube_core.specs.FeedRecords.{RestOfFeed, FeedEnd, Good, WrongHeader, TooManyRecords, item_then, items_of}
-use Rattle.cube_core.specs.FeedRecords.{items_after}
+use Rattle.cube_core.specs.FeedRecords.{feed_records, items_after}
 use Rattle.cube_core.specs.declared.change.Item.{Item}
+use Rattle.cube_core.specs.declared.feed_columns.FoundColumns.{FoundColumns}
 use Rattle.cube_feed.specs.declared.fault.FeedFault.{FeedFault}
 use Rattle.cube_feed.specs.declared.fault.FeedFault.TheVariants.{Memory, Read, Header, TooMany}
 use Rattle.cube_feed.specs.declared.feed.Stage.{Stage}
@@ -38,15 +38,16 @@ nothing_but end = record { items = []; end = end }
 
 -- what is to come of a feed of these bytes, where its reader tells them
 abbrev pub rest_of_feed : Layout → Option (List ℕ) → KnownRest
-rest_of_feed schema bytes = option_map (λ (known : List ℕ). with_fault (items_of schema (records_of known))) bytes
+rest_of_feed schema bytes =
+    option_map (λ (known : List ℕ). with_fault (items_of schema (feed_records schema known))) bytes
 
 -- what is to come before the header was read, and after it
 abbrev pub before_header : Layout → Left → KnownRest
 before_header schema left = option_map (λ (records : List (List (List ℕ))). with_fault (items_of schema records)) left
 
-abbrev pub after_header : Layout → ℕ → Left → KnownRest
-after_header schema number left =
-    option_map (λ (records : List (List (List ℕ))). with_fault (items_after schema number records)) left
+abbrev pub after_header : Layout → FoundColumns → ℕ → Left → KnownRest
+after_header schema columns number left =
+    option_map (λ (records : List (List (List ℕ))). with_fault (items_after schema columns number records)) left
 
 -- what a caller sees of a feed:
 -- its schema, the number of its last item, its end once it has come there, and what is to come,
@@ -64,10 +65,10 @@ ended_of stage.Records = None
 ended_of (stage.Ended end) = Some end
 
 -- what is to come at a stage
-abbrev pub to_come_of : Layout → ℕ → Stage → Left → KnownRest
-to_come_of schema number stage.Start left = before_header schema left
-to_come_of schema number stage.Records left = after_header schema number left
-to_come_of schema number (stage.Ended end) left = Some (nothing_but end)
+abbrev pub to_come_of : Layout → FoundColumns → ℕ → Stage → Left → KnownRest
+to_come_of schema columns number stage.Start left = before_header schema left
+to_come_of schema columns number stage.Records left = after_header schema columns number left
+to_come_of schema columns number (stage.Ended end) left = Some (nothing_but end)
 
 -- the feed has ended so: nothing is to come but this end
 abbrev pub HasEnded : FeedView → Option FeedFault → Type 0
@@ -115,16 +116,18 @@ Numbers old (Ok (Some item)) new =
 Numbers old (Ok None) new = new.number ≡ old.number
 Numbers old (Err fault) new = new.number ≡ old.number
 
--- the header was taken, and the data records are left; or there is no record, or the first isn't the header
-abbrev pub TakesHeader : Layout → Left → Result Bool FeedFault → Left → Type 0
-TakesHeader schema None answer new = ⊤
-TakesHeader schema (Some records) (Ok true) new =
-    (rest : List (List (List ℕ))) × (items_of schema records ≡ items_after schema 0 rest) × (new ≡ Some rest)
-TakesHeader schema (Some records) (Ok false) new = items_of schema records ≡ record { items = []; end = Good }
-TakesHeader schema (Some records) (Err Memory) new = ⊤
-TakesHeader schema (Some records) (Err Read) new = ⊤
-TakesHeader schema (Some records) (Err Header) new = items_of schema records ≡ record { items = []; end = WrongHeader }
-TakesHeader schema (Some records) (Err TooMany) new = ⊥
+-- the header was taken, which says where the columns stand, and the data records are left;
+-- or there is no record, or the first isn't the header
+abbrev pub TakesHeader : Layout → Left → Result Bool FeedFault → FoundColumns → Left → Type 0
+TakesHeader schema None answer columns new = ⊤
+TakesHeader schema (Some records) (Ok true) columns new =
+    (rest : List (List (List ℕ))) × (items_of schema records ≡ items_after schema columns 0 rest) × (new ≡ Some rest)
+TakesHeader schema (Some records) (Ok false) columns new = items_of schema records ≡ record { items = []; end = Good }
+TakesHeader schema (Some records) (Err Memory) columns new = ⊤
+TakesHeader schema (Some records) (Err Read) columns new = ⊤
+TakesHeader schema (Some records) (Err Header) columns new =
+    items_of schema records ≡ record { items = []; end = WrongHeader }
+TakesHeader schema (Some records) (Err TooMany) columns new = ⊥
 
 -- what is true of every feed: its last item's number is the schema's number of records at most,
 -- and 0 before the header was read

@@ -1,16 +1,22 @@
 -- What a reader of records has left, and what taking one does (this project's choice).
 use Rattle.std.specs.Prelude.{◌+◌, length, ◌≡◌, ⊤, ℕ, Bool, true, false, List, [], ◌∷◌, Option, Some, None, option_map}
 use Rattle.csv.specs.Reading.{source_of, reader_config, reader_trim, is_flexible, names_headers, reader_state}
-use Rattle.csv.specs.Reading.{has_failed, Ready, default_config, records_from}
+use Rattle.csv.specs.Reading.{has_failed, Ready, records, records_from, strip_bom}
+use Rattle.csv.specs.declared.parser.Config.{Config}
 use Rattle.csv.specs.declared.parser.State.{State}
 use Rattle.csv.specs.declared.reader.Reader.{Reader}
 use Rattle.csv.specs.declared.reader.Trim.TheVariants as trim
+use Rattle.cube_core.specs.FeedRecords.{config_by}
 use Rattle.cube_feed.specs.declared.fault.FeedFault.{FeedFault}
 use Rattle.cube_feed.specs.declared.fault.FeedFault.TheVariants.{Memory, Read, Header, TooMany}
 
+-- the records of a whole text whose fields stand apart by this byte; one byte order mark at its start is left out
+abbrev pub records_by : ℕ → List ℕ → List (List (List ℕ))
+records_by delimiter bytes = records (config_by delimiter) (strip_bom bytes)
+
 -- the records of the rest of a text, from a state of its reading
-abbrev pub records_at : State → List ℕ → List (List (List ℕ))
-records_at state bytes = records_from default_config (length bytes + 1) state bytes
+abbrev pub records_at : Config → State → List ℕ → List (List (List ℕ))
+records_at config state bytes = records_from config (length bytes + 1) state bytes
 
 -- the records that are left, where the reader tells its bytes, and the fields of the one taken last
 pub record RecordsView : Type 0 where
@@ -19,11 +25,11 @@ pub record RecordsView : Type 0 where
 
 -- the records that a reader of csv has left
 abbrev pub left_of : {R : Type 0} → (R → Option (List ℕ)) → Reader R → Option (List (List (List ℕ)))
-left_of remaining reader = option_map (records_at (reader_state reader)) (source_of remaining reader)
+left_of remaining reader =
+    option_map (records_at (reader_config reader) (reader_state reader)) (source_of remaining reader)
 
--- until it fails, the reader reads by the defaults, each record by itself and of any length
+-- until it fails, the reader reads each record by itself and of any length
 pub record ReadsPlainly {R : Type 0} (reader : Reader R) : Type 0 where
-  pub config : has_failed reader ≡ false → reader_config reader ≡ default_config
   pub trims : has_failed reader ≡ false → reader_trim reader ≡ trim.None
   pub flexible : has_failed reader ≡ false → is_flexible reader ≡ true
   pub names : has_failed reader ≡ false → names_headers reader ≡ false

@@ -1,16 +1,18 @@
 //! A feed: the items that its bytes say, one after the other.
 ghost use Rattle.std.specs.Prelude.{◌≡◌, ◌≤◌, ◌+◌, None, Some, IfOk, IfErr, IfSome, IfNone, option_map};
-ghost use Rattle.cube_core.specs.Records.{records_of};
+ghost use Rattle.csv.specs.Records.{fields_of};
 ghost use Rattle.cube_core.specs.Items.{change_of};
-ghost use Rattle.cube_core.specs.FeedRecords.{items_of};
+ghost use Rattle.cube_core.specs.FeedRecords.{feed_records, items_of, plain_of};
+ghost use Rattle.cube_core.specs.Plain.{delimiter_of};
 ghost use Rattle.cube_feed.specs.Reading.{IsReadingFault};
 ghost use Rattle.cube_feed.specs.Feed.{HasEnded, Gives, IsNumbered, IsTaken, Numbers, TakesHeader, IsFeed, after_header, ended_of, end_answer, number_after, to_come_of, with_fault};
 
+use crate::columns::find_columns;
 use crate::fault::FeedFault;
-use crate::header::is_header;
+use crate::plain::{change_of_row, is_read_at};
 use crate::record_reader::RecordReader;
-use crate::rest::{change_of_record, is_read};
-use cube_core::{Item, Schema};
+use csv::ByteRecord;
+use cube_core::{FoundColumns, Item, Schema};
 use std::alloc::Global;
 use std::io::Read;
 use std::marker::Model;
@@ -26,12 +28,20 @@ enum Stage {
     Ended(Option<FeedFault>),
 }
 
+/// The records of a feed, where their columns stand, and room for the plain record that one of them stands for.
+#[derive(Drop)]
+struct Rows<R: Read> {
+    records: RecordReader<R>,
+    columns: FoundColumns,
+    plain: ByteRecord,
+}
+
 /// A feed: the changes of one source, read from its bytes as they are asked for.
 #[derive(Drop)]
 pub struct Feed<'s, R: Read> {
     alloc: Global,
     schema: &'s Schema,
-    records: RecordReader<R>,
+    rows: Rows<R>,
     number: u32,
     stage: Stage,
 }
@@ -45,23 +55,30 @@ impl<'s, R: Read> Model for Feed<'s, R> {
       schema = f.schema.now;
       number = f.number;
       ended = ended_of f.stage;
-      to_come = to_come_of f.schema.now f.number f.stage f.records.left;
+      to_come = to_come_of f.schema.now f.rows.columns f.number f.stage f.rows.records.left;
     } };
 
     ghost invariant = { λ f. IsFeed f.schema.now f.number f.stage };
 }
 
-// Reads the header; the answer is whether there is any record.
-fn take_header<R: Read>(schema: &Schema, records: &mut RecordReader<R>) -> Result<bool, FeedFault>
-    ensures { TakesHeader schema.now records.old.left result records.new.left }
+// Reads the header, which says where the columns stand; the answer is whether there is any record.
+fn take_header<R: Read>(
+    alloc: Global,
+    schema: &Schema,
+    rows: &mut Rows<R>,
+) -> Result<bool, FeedFault>
+    ensures { TakesHeader schema.now rows.old.records.left result rows.new.columns rows.new.records.left }
 {
-    if !records.advance()? {
+    if !rows.records.advance()? {
         return Ok(false);
     }
-    if is_header(schema, records.fields()) {
-        Ok(true)
-    } else {
-        Err(FeedFault::Header)
+    match find_columns(alloc, schema, rows.records.fields()) {
+        Ok(Some(columns)) => {
+            rows.columns = columns;
+            Ok(true)
+        }
+        Ok(None) => Err(FeedFault::Header),
+        Err(_) => Err(FeedFault::Memory),
     }
 }
 
@@ -69,14 +86,24 @@ fn take_header<R: Read>(schema: &Schema, records: &mut RecordReader<R>) -> Resul
 fn item_of<R: Read>(
     alloc: Global,
     schema: &Schema,
-    records: &RecordReader<R>,
+    rows: &mut Rows<R>,
     number: u32,
 ) -> Result<Item, FeedFault>
     ensures number { IfOk result (λ item. item.number ≡ number) }
-    ensures what { IfOk result (λ item. item.what ≡ change_of schema.now records.now.fields) }
+    ensures what { IfOk result (λ item. item.what
+        ≡ change_of schema.now (plain_of schema.now rows.old.columns number rows.old.records.fields)) }
     ensures fault { IfErr result IsReadingFault }
+    ensures kept { (rows.new.records ≡ rows.old.records) × (rows.new.columns ≡ rows.old.columns) }
 {
-    match change_of_record(alloc, schema, records.fields()) {
+    let fields = rows.records.fields();
+    match change_of_row(
+        alloc,
+        schema,
+        &rows.columns,
+        number,
+        fields,
+        &mut rows.plain,
+    ) {
         Ok(what) => Ok(Item { number, what }),
         Err(_) => Err(FeedFault::Memory),
     }
@@ -86,24 +113,24 @@ fn item_of<R: Read>(
 fn take_item<R: Read>(
     alloc: Global,
     schema: &Schema,
-    records: &mut RecordReader<R>,
+    rows: &mut Rows<R>,
     number: u32,
 ) -> Result<Option<Item>, FeedFault>
     requires { number ≤ schema.now.max_records }
-    ensures gives { Gives (after_header schema.now number records.old.left) result
-        (after_header schema.now (number_after number result) records.new.left) }
+    ensures gives { Gives (after_header schema.now rows.old.columns number rows.old.records.left) result
+        (after_header schema.now rows.new.columns (number_after number result) rows.new.records.left) }
     ensures item { IfOk result (λ next. IfSome next (λ item. IsNumbered schema.now number item.number)) }
     ensures taken { IsTaken schema.now result }
 {
     for before in number..schema.max_records() {
-        if !records.advance()? {
+        if !rows.records.advance()? {
             return Ok(None);
         }
-        if is_read(schema, records.fields()) {
-            return Ok(Some(item_of(alloc, schema, records, before + 1)?));
+        if is_read_at(schema, &rows.columns, before + 1, rows.records.fields()) {
+            return Ok(Some(item_of(alloc, schema, rows, before + 1)?));
         }
     }
-    if records.advance()? {
+    if rows.records.advance()? {
         return Err(FeedFault::TooMany);
     }
     Ok(None)
@@ -113,23 +140,33 @@ fn take_item<R: Read>(
 fn take_next<R: Read>(
     alloc: Global,
     schema: &Schema,
-    records: &mut RecordReader<R>,
+    rows: &mut Rows<R>,
     number: u32,
     stage: Stage,
 ) -> Result<Option<Item>, FeedFault>
     requires feed { IsFeed schema.now number stage }
     requires open { ended_of stage ≡ None }
-    ensures gives { Gives (to_come_of schema.now number stage records.old.left) result
-        (after_header schema.now (number_after number result) records.new.left) }
+    ensures gives { Gives (to_come_of schema.now rows.old.columns number stage rows.old.records.left) result
+        (after_header schema.now rows.new.columns (number_after number result) rows.new.records.left) }
     ensures item { IfOk result (λ next. IfSome next (λ item. IsNumbered schema.now number item.number)) }
     ensures taken { IsTaken schema.now result }
 {
     if let Stage::Start = stage {
-        if !take_header(schema, records)? {
+        if !take_header(alloc, schema, rows)? {
             return Ok(None);
         }
     }
-    take_item(alloc, schema, records, number)
+    take_item(alloc, schema, rows, number)
+}
+
+// The byte between the fields of a schema's feeds.
+fn delimiter(schema: &Schema) -> u8
+    ensures { result ≡ delimiter_of schema.now }
+{
+    match schema.columns() {
+        None => b',',
+        Some(columns) => columns.delimiter,
+    }
 }
 
 impl<'s, R: Read> Feed<'s, R> {
@@ -140,12 +177,16 @@ impl<'s, R: Read> Feed<'s, R> {
         ensures schema { result.schema ≡ schema.now }
         ensures number { result.number ≡ 0 }
         ensures open { result.ended ≡ None }
-        ensures to_come { result.to_come ≡ option_map (λ bytes. with_fault (items_of schema.now (records_of bytes))) (R.remaining reader) }
+        ensures to_come { result.to_come ≡ option_map (λ bytes. with_fault (items_of schema.now (feed_records schema.now bytes))) (R.remaining reader) }
     {
         Feed {
             alloc,
             schema,
-            records: RecordReader::new(alloc, reader),
+            rows: Rows {
+                records: RecordReader::new(alloc, reader, delimiter(schema)),
+                columns: FoundColumns::InOrder,
+                plain: ByteRecord::new(alloc),
+            },
             number: 0,
             stage: Stage::Start,
         }
@@ -175,7 +216,7 @@ impl<'s, R: Read> Feed<'s, R> {
         let next = take_next(
             self.alloc,
             self.schema,
-            &mut self.records,
+            &mut self.rows,
             self.number,
             self.stage,
         );

@@ -142,7 +142,7 @@ impl<'r> Fields<'r> {
 
 // Whether a field is UTF-8.
 #[cold]
-fn is_text(field: &[u8]) -> bool
+pub(crate) fn is_text(field: &[u8]) -> bool
     ensures { result ≡ is_utf8 field.now }
 {
     match str::from_utf8(field) {

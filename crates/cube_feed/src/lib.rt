@@ -5,6 +5,7 @@
 //! change that the fields of a record spell, or its first fault.
 #![tactic(auto)]
 
+mod columns;
 mod contiguous;
 mod fault;
 mod feed;
@@ -12,6 +13,7 @@ mod feed_item;
 mod field;
 mod header;
 mod line;
+mod plain;
 mod record_reader;
 mod rest;
 mod spelled_list;

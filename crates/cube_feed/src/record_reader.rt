@@ -1,8 +1,7 @@
 //! The records of a text, one after the other, in one buffer.
 ghost use Rattle.std.specs.Prelude.{◌≡◌, IfOk, IfErr, option_map};
 ghost use Rattle.csv.specs.Records.{fields_of};
-ghost use Rattle.cube_core.specs.Records.{records_of};
-ghost use Rattle.cube_feed.specs.Reading.{Advances, IsReadingFault};
+ghost use Rattle.cube_feed.specs.Reading.{Advances, IsReadingFault, records_by};
 
 use crate::fault::FeedFault;
 use csv::{ByteRecord, ErrorKind, Reader, ReaderBuilder};
@@ -30,15 +29,16 @@ impl<R: Read> Model for RecordReader<R> {
 }
 
 impl<R: Read> RecordReader<R> {
-    /// The records of what `reader` gives; takes no memory and reads nothing.
+    /// The records of what `reader` gives, whose fields stand apart by `delimiter`; takes no memory and reads nothing.
     ///
     /// What is left are the records of the reader's bytes, where it tells them.
-    pub fn new(alloc: Global, reader: R) -> RecordReader<R>
-        ensures { result.left ≡ option_map records_of (R.remaining reader) }
+    pub fn new(alloc: Global, reader: R, delimiter: u8) -> RecordReader<R>
+        ensures { result.left ≡ option_map (records_by delimiter) (R.remaining reader) }
     {
         let reader = ReaderBuilder::new()
             .has_headers(false)
             .flexible(true)
+            .delimiter(delimiter)
             .from_reader(alloc, reader);
         RecordReader {
             reader,

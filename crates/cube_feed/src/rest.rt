@@ -1,11 +1,11 @@
 //! The fields of a record from a place on, the change that a record says, and whether it is read.
 ghost use Rattle.std.specs.Prelude.{◌≡◌, drop, IfOk, OnOk};
 ghost use Rattle.csv.specs.Records.{fields_of};
-ghost use Rattle.cube_core.specs.Items.{change_of};
-ghost use Rattle.cube_core.specs.FeedRecords.{is_read};
+ghost use Rattle.cube_core.specs.FeedRecords.{change_in_order, is_read};
 
 use crate::field::{Fields, bytes_at};
 use crate::line::change;
+use crate::plain::put_in_order;
 use csv::ByteRecord;
 use cube_core::{Change, LineFault, Schema};
 use std::alloc::{AllocError, Global};
@@ -24,15 +24,21 @@ pub fn put_rest(fields: &ByteRecord, from: usize, rest: &mut ByteRecord) -> Resu
     Ok(())
 }
 
-/// The change that a data record of a feed spells, or its first fault. The only error is that memory ran out.
+/// The change that a record in the order of the schema spells, or its first fault. The only error is that memory ran out.
 pub fn change_of_record(
     alloc: Global,
     schema: &Schema,
     fields: &ByteRecord,
 ) -> Result<Result<Change, LineFault>, AllocError>
-    ensures { IfOk result (λ what. what ≡ change_of schema.now (fields_of fields.now)) }
+    ensures { IfOk result (λ what. what ≡ change_in_order schema.now (fields_of fields.now)) }
 {
-    change(alloc, schema, &Fields::of(fields))
+    if schema.columns().is_none() {
+        // Each field stays as it is.
+        return change(alloc, schema, &Fields::of(fields));
+    }
+    let mut plain = ByteRecord::new(alloc);
+    put_in_order(schema, fields, &mut plain)?;
+    change(alloc, schema, &Fields::of(&plain))
 }
 
 /// Whether a data record of a feed is in the schema's shard. Its id alone decides, whatever its faults: the empty text where

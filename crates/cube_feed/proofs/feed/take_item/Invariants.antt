@@ -7,5 +7,7 @@ use Rattle.cube_feed.proofs.feed.take_item.Given as goal
 abbrev pub invariant-loop-before : goal.invariant-loop-before
 invariant-loop-before g l =
     (l.number ≤ l.before)
-    × StillComes (after_header l.schema l.number l.initial.records.left) (after_header l.schema l.before l.records.left)
+    × (l.rows.columns ≡ l.initial.rows.columns)
+    × StillComes (after_header l.schema l.initial.rows.columns l.number l.initial.rows.records.left)
+    (after_header l.schema l.initial.rows.columns l.before l.rows.records.left)
     × (l.schema.shard ≡ whole_feed → l.before ≡ l.number)
