@@ -215,7 +215,7 @@ def formats_in_manual(program):
     named = ["schema.toml", "market.csv", "street.csv", "online.csv"]
     ask = lambda *words: example(f"$ datacube {' '.join(words)}\n{program.said(*(it.strip(chr(39)) for it in words), folder=shop)}")
     page = ".SH SCHEMAS\n" + from_markdown(section_of(text, "The schema"))
-    page += ".PP\nCODES below has the faults of a schema, S1 to S10.\n"
+    page += ".PP\nCODES below has the faults of a schema, S1 to S11.\n"
     page += ".SH FEEDS\n" + from_markdown(section_of(text, "A feed"))
     page += ".PP\nA feed under the sample schema, which inserts three facts:\n" + example(text_at(feed))
     page += ".PP\nCODES has the faults of lines, L1 to L6, by which a line is refused, and those of a whole feed, F1 to F4.\n"
