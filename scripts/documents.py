@@ -203,7 +203,7 @@ def from_markdown(text):
 
 def section_of(text, title):
     """A section of docs/FORMATS.md up to its first heading below, without the tables of codes and what leads to them."""
-    found = re.search(rf"^## {title}\n(.*?)(?=^##)", text + "\n##", re.DOTALL | re.MULTILINE)[1]
+    found = re.search(rf"^##+ {title}\n(.*?)(?=^##)", text + "\n##", re.DOTALL | re.MULTILINE)[1]
     return re.sub(r"[^\n]*\n\n<!-- codes: .*?<!-- end of codes -->", "", found, flags=re.DOTALL)
 
 
@@ -215,9 +215,10 @@ def formats_in_manual(program):
     named = ["schema.toml", "market.csv", "street.csv", "online.csv"]
     ask = lambda *words: example(f"$ datacube {' '.join(words)}\n{program.said(*(it.strip(chr(39)) for it in words), folder=shop)}")
     page = ".SH SCHEMAS\n" + from_markdown(section_of(text, "The schema"))
-    page += ".PP\nCODES below has the faults of a schema, S1 to S10.\n"
+    page += ".PP\nCODES below has the faults of a schema, S1 to S11.\n"
     page += ".SH FEEDS\n" + from_markdown(section_of(text, "A feed"))
     page += ".PP\nA feed under the sample schema, which inserts three facts:\n" + example(text_at(feed))
+    page += ".SS Feeds by names\n" + from_markdown(section_of(text, "A feed by names"))
     page += ".PP\nCODES has the faults of lines, L1 to L6, by which a line is refused, and those of a whole feed, F1 to F4.\n"
     page += ".SH THE PRINTED CUBE\n" + from_markdown(section_of(text, "The printed cube"))
     page += ".PP\nOf the feed above, in a file feed.csv:\n" + example(f"$ datacube < feed.csv\n{program.said(given=feed)}")

@@ -617,9 +617,36 @@ TEXTS = [b"", b"a", b"b", b"west", b"\\N", b"\\A", b"?", b"a,b", b'"', b"two\r\n
          b"y" * 3000, b"\\=", b"=a", b" a "]
 NUMBERS = [b"0", b"1", b"-1", b"+5", b"007", b"-0", b"9223372036854775807", b"-9223372036854775808", b"\\N", b"12", b"-12"]
 WRONG_NUMBERS = [b"", b"9223372036854775808", b"1.5", b"x", b"+", b"--1", b" 1", b"\\="]
+COLUMNS = ["", "op", "id", "no", "when", "a;b", 'x "y"', "two\nlines", "Größe", "\\N"]
+NULLS = [["\\N"], ["\\N"], [], [""], ["", "NA"], ["a", "12"], ["\\N", "b", "grüße"], ["\\=", "0"]]
+DELIMITERS = [",", ",", ";", "\t", "|", " ", "=", "\\", "a", "0", "."]
 
 
-def random_schema(rng):
+def random_feed(rng, dimensions, measures):
+    """A table `feed` for a schema with these names."""
+    columns = {}
+    for name in dimensions + measures:
+        if rng.random() < 0.4:
+            columns[name] = rng.choice(COLUMNS + dimensions + measures)
+        if name in dimensions and rng.random() < 0.3:
+            columns[name] = columns.get(name, name), rng.choice([1, 1, 2, 3, 7, 255])
+    id = rng.choice([None, None, *COLUMNS, dimensions[0]])
+    op = rng.choice([None, *COLUMNS]) if id is not None else None
+    delimiter = rng.choice(DELIMITERS)
+    return oracle.Feed(id, op, rng.choice(NULLS), delimiter, rng.choice([it for it in ".," if it != delimiter]), columns)
+
+
+def random_schema(rng, by_names=False):
+    """A schema; where feeds may be read by the names of their columns, one in three says so."""
+    schema = positional_schema(rng)
+    if by_names and rng.random() < 0.33:
+        schema.feed = random_feed(rng, schema.dimensions, schema.measures)
+        if rng.random() < 0.1:
+            schema.measures, schema.aggregates, schema.feed.columns = [], [("count", None)], {}
+    return schema
+
+
+def positional_schema(rng):
     names = rng.sample(NAMES, rng.choice([1, 2, 2, 3, 3, 4, 5, 8]) + rng.choice([1, 1, 2, 3, 4]))
     measures = [names.pop() for _ in range(min(len(names) - 1, rng.choice([1, 1, 2, 4])))]
     aggregates = [("count", None)] + [
@@ -652,9 +679,39 @@ def random_record(rng, schema, texts, ids):
     return record
 
 
-def random_case(rng):
-    """A schema, the records of its feeds, and the bytes of these with their headers."""
-    schema = random_schema(rng)
+def by_names(rng, schema, records, is_right):
+    """The records of a feed by names that says about what records in the order of the schema do: its columns in any order, with
+    others between them; a header that isn't right lacks one that is needed, or has it twice."""
+    names = schema.feed.names(schema)
+    needed = [it.encode() for it in dict.fromkeys(names) if it is not None]
+    extra = [it for it in [b"x", b"x", b"", b"\xff", b"more, of it", b"Region"] if it not in needed]
+    header = needed + rng.sample(extra, rng.choice([0, 0, 1, 2, len(extra)]))
+    rng.shuffle(header)
+    nulls, rows = schema.nulls(), []
+    for record in records:
+        null = lambda it: rng.choice(nulls) if it == b"\\N" and nulls and rng.random() < 0.7 else it
+        fields = {name.encode(): null(it) for name, it in [*zip(names, record)][::-1] if name is not None}
+        row = [fields.get(it, rng.choice([b"", b"x", b"\xff", b"I"])) for it in header]
+        row += [b"more"] if rng.random() < 0.02 else []
+        rows.append(row[:-1] if len(row) > 1 and rng.random() < 0.02 else row)
+    if not is_right:
+        at = header.index(rng.choice(needed))
+        header[at : at + 1] = rng.choice([[b"not it"], [header[at], header[at]]])
+    return [header, *rows]
+
+
+def written(rng, schema, records, is_right=True):
+    """The bytes of a feed with these records in the order of the schema, with a right header or none, and its data records."""
+    if not schema.feed:
+        head = schema.header() if is_right else schema.header()[::-1]
+        return oracle.encode([head]) + oracle.encode(records, rng), records
+    data = oracle.encode(by_names(rng, schema, records, is_right), rng, schema.delimiter())
+    return data, oracle.data_records(schema, data)[0]
+
+
+def random_case(rng, by_names=False):
+    """A schema, and the records of its feeds in its order."""
+    schema = random_schema(rng, by_names)
     texts = rng.sample(TEXTS, rng.randint(2, len(TEXTS)))
     sources = rng.choice([1, 1, 2, 3, 5, 64])
     most = rng.choice([3, 20, 20, 60, 400] * 12 + [3000]) if sources < 10 else 5
@@ -673,17 +730,17 @@ def expected(schema, feeds, headers):
 
 
 def compare(program, rng):
-    schema, feeds = random_case(rng)
+    schema, feeds = random_case(rng, True)
     program.write("case.toml", schema.toml())
     headers = [rng.random() > 0.01 for _ in feeds]
+    fault = expected(schema, feeds, headers)
     files = []
     for at, (records, is_right) in enumerate(zip(feeds, headers)):
-        head = schema.header() if is_right else schema.header()[::-1]
         mark = b"\xef\xbb\xbf" if is_right and rng.random() < 0.05 else b""
-        files.append(program.write(f"case{at}.csv", mark + oracle.encode([head]) + oracle.encode(records, rng)))
+        data, feeds[at] = written(rng, schema, records, is_right)
+        files.append(program.write(f"case{at}.csv", mark + data))
     options = ["--ring", str(rng.choice([1, 2, 64, 65536])), "--builders", str(rng.choice([1, 1, 2, 3, 8])),
                *rng.choice([[], ["--threads", str(rng.choice([1, 2, 3, 4, 16]))]])]
-    fault = expected(schema, feeds, headers)
     run = oracle.Run(schema, feeds) if not fault else None
     pattern = [rng.choice(["any", "any", None, oracle.ALL, rng.choice(TEXTS[:4])]) for _ in schema.dimensions]
     key = [rng.choice([oracle.ALL, oracle.ALL, None, rng.choice(TEXTS[:4])]) for _ in schema.dimensions]

@@ -39,7 +39,7 @@ def respelled(field, rng):
 
 def case_of(rng):
     """A schema and the data records of feeds, few where there are many grouping sets."""
-    schema, feeds = hostile.random_case(rng)
+    schema, feeds = hostile.random_case(rng, True)
     most = 400 if len(schema.masks) <= 8 else 60 if len(schema.masks) <= 32 else 10
     schema.max_records = 2**32 - 1
     return schema, [records[:most] for records in feeds][: max(1, most // 6)]
@@ -88,7 +88,8 @@ def shards(room, rng):
     """The shards of feeds: their partial cubes, which are merged, and their refusals."""
     schema, feeds = case_of(rng)
     room.write("schema.toml", schema.toml())
-    names = [room.write(f"feed{at}.csv", oracle.encode([schema.header(), *it], rng)) for at, it in enumerate(feeds)]
+    pairs = [hostile.written(rng, schema, it) for it in feeds]
+    names, feeds = [room.write(f"feed{at}.csv", data) for at, (data, _) in enumerate(pairs)], [it for _, it in pairs]
     count, whole = rng.choice([1, 2, 3, 5]), oracle.Run(schema, feeds)
     texts, refused, partial = [], [], schema.partial()
     for shard in range(1, count + 1):

@@ -7,8 +7,10 @@ It takes the words of `datacube` and answers as that does, so that a case says o
 `scripts/cases.py --program scripts/oracle.py`. Only the texts of help and of codes, and of what is wrong with
 a command line are its own, and it never runs out of memory.
 
-A feed is a list of records, each a list of fields (bytes). `encode` writes a feed as CSV, `records_of` reads one.
+A feed is a list of records, each a list of fields (bytes), in the order of the schema, or a `Line` that was read by the names of
+its columns. `encode` writes a feed as CSV, `records_of` reads one.
 """
+import functools
 import hashlib
 import itertools
 import math
@@ -46,12 +48,50 @@ def digests_of(rows):
     return digests
 
 
-class Schema:
-    """Dimensions and measures by name, aggregates as (kind, measure or None), and the masks of the kept grouping sets."""
+class Feed:
+    """The table `feed` of a schema: the columns of ids and of operations or None, what null is spelled as, what stands between
+    fields, the point, and for names of the schema a column, or a column and how many characters of it."""
 
-    def __init__(self, dimensions, measures, aggregates, grouping="cube", version=1, max_records=2**32 - 1):
+    def __init__(self, id=None, op=None, null=("\\N",), delimiter=",", point=".", columns=()):
+        self.id, self.op, self.null, self.delimiter, self.point, self.columns = id, op, list(null), delimiter, point, dict(columns)
+
+    def column(self, name):
+        """The column that a name of the schema comes from, and how many characters of it, or None for all."""
+        column = self.columns.get(name, name)
+        return column if isinstance(column, tuple) else (column, None)
+
+    def names(self, schema):
+        """The columns that are read: for the operation, the id, the dimensions and the measures, None where there is none."""
+        return [self.op, self.id, *(self.column(it)[0] for it in schema.dimensions + schema.measures)]
+
+    def toml(self):
+        lines = ["[feed]"]
+        lines += [f"{key} = {quoted(it)}" for key, it in (("id", self.id), ("op", self.op)) if it is not None]
+        lines += [f"null = {array(map(quoted, self.null))}"] if self.null != ["\\N"] else []
+        lines += [f"delimiter = {quoted(self.delimiter)}"] if self.delimiter != "," else []
+        lines += [f"point = {quoted(self.point)}"] if self.point != "." else []
+        columns = [(quoted(name), self.column(name)) for name in self.columns]
+        forms = [f"{name} = " + (f"{{ column = {quoted(it)}, first = {first} }}" if first else quoted(it)) for name, (it, first) in columns]
+        return lines + ([f"columns = {{ {', '.join(forms)} }}"] if forms else [])
+
+
+def quoted(text):
+    """A text of TOML."""
+    escaped = lambda it: "\\" + it if it in '"\\' else it if " " <= it != "\x7f" else f"\\u{ord(it):04x}"
+    return '"' + "".join(map(escaped, text)) + '"'
+
+
+def array(items):
+    return "[" + ", ".join(items) + "]"
+
+
+class Schema:
+    """Dimensions and measures by name, aggregates as (kind, measure or None), and the masks of the kept grouping sets; and
+    where feeds are read by the names of their columns, the `Feed` of it."""
+
+    def __init__(self, dimensions, measures, aggregates, grouping="cube", version=1, max_records=2**32 - 1, feed=None):
         self.dimensions, self.measures, self.aggregates = dimensions, measures, aggregates
-        self.grouping, self.version, self.max_records = grouping, version, max_records
+        self.grouping, self.version, self.max_records, self.feed = grouping, version, max_records, feed
         count = len(dimensions)
         if grouping == "cube":
             masks = range(2**count)
@@ -76,11 +116,16 @@ class Schema:
         aggregates = list(self.aggregates)
         for _, at in [it for it in self.aggregates if it[0] == "avg"]:
             aggregates += [it for it in (("sum", at), ("count", at)) if it not in aggregates]
-        return Schema(self.dimensions, self.measures, aggregates, self.grouping, self.version, self.max_records)
+        return Schema(self.dimensions, self.measures, aggregates, self.grouping, self.version, self.max_records, self.feed)
+
+    def nulls(self):
+        """What null is spelled as in its feeds."""
+        return [it.encode() for it in self.feed.null] if self.feed else [NULL]
+
+    def delimiter(self):
+        return self.feed.delimiter.encode() if self.feed else b","
 
     def toml(self):
-        quoted = lambda it: '"' + it.replace("\\", "\\\\").replace('"', '\\"').replace("\n", "\\n").replace("\r", "\\r") + '"'
-        array = lambda items: "[" + ", ".join(items) + "]"
         lines = [
             f"dimensions = {array(map(quoted, self.dimensions))}",
             f"measures = {array(map(quoted, self.measures))}",
@@ -94,16 +139,17 @@ class Schema:
             lines.append(f"version = {self.version}")
         if self.max_records != 2**32 - 1:
             lines.append(f"max_records = {self.max_records}")
+        lines += self.feed.toml() if self.feed else []
         return ("\n".join(lines) + "\n").encode()
 
 
-def encode(records, rng=None):
+def encode(records, rng=None, delimiter=b","):
     """The bytes of records; with a random source some fields are quoted without need, and line ends vary."""
     out = []
     for at, record in enumerate(records):
         fields = []
         for field in record:
-            needs = any(it in field for it in b',"\r\n') or record == [b""]
+            needs = any(it in field for it in delimiter + b'"\r\n') or record == [b""]
             if needs or rng and rng.random() < 0.1:
                 field = b'"' + field.replace(b'"', b'""') + b'"'
             fields.append(field)
@@ -112,18 +158,21 @@ def encode(records, rng=None):
             end = b""
         if rng and rng.random() < 0.05:
             end += b"\n"
-        out.append(b",".join(fields) + end)
+        out.append(delimiter.join(fields) + end)
     return b"".join(out)
 
 
-PLAIN = re.compile(rb"[^,\r\n]*")
+@functools.cache
+def plain(delimiter):
+    """What a field without quotes is, where this byte stands between fields."""
+    return re.compile(b"[^" + re.escape(delimiter) + b"\r\n]*")
 
 
-def records_of(data):
+def records_of(data, delimiter=b","):
     """The records of CSV, as the crate `csv` reads them: RFC 4180, one byte order mark at the start left out."""
     records, at = [], start_of(data)
     while True:
-        record, at = record_at(data, at)
+        record, at = record_at(data, at, delimiter)
         if record is None:
             return records
         records.append(record)
@@ -133,20 +182,20 @@ def start_of(data):
     return len(MARK) if data.startswith(MARK) else 0
 
 
-def record_at(data, at):
+def record_at(data, at, delimiter=b","):
     """The first record from there on, or None, and where it ends, before its line end."""
     while data[at : at + 1] in (b"\r", b"\n"):
         at += 1
     if at == len(data):
         return None, at
     record = []
-    while not record or data[at : at + 1] == b",":
-        field, at = field_at(data, at + 1 if record else at)
+    while not record or data[at : at + 1] == delimiter:
+        field, at = field_at(data, at + 1 if record else at, delimiter)
         record.append(field)
     return record, at
 
 
-def field_at(data, at):
+def field_at(data, at, delimiter):
     """The field that begins there, and where it ends: a quote that is never closed takes all that follows."""
     parts = []
     if data[at : at + 1] == b'"':
@@ -156,22 +205,61 @@ def field_at(data, at):
                 return b'"'.join([*parts, data[at + 1 :]]), len(data)
             parts.append(data[at + 1 : close])
             at = close + 1
-    end = PLAIN.match(data, at).end()
+    end = plain(delimiter).match(data, at).end()
     return b'"'.join(parts) + data[at:end], end
 
 
 def data_records(schema, data):
     """The data records of a feed, and the code of what is wrong with the feed, or None."""
-    records, head = records_of(data), schema.header()
-    if records and records[0] not in (head, [MARK + head[0], *head[1:]]):
+    records, head = records_of(data, schema.delimiter()), schema.header()
+    if records and schema.feed:
+        needed = [it.encode() for it in schema.feed.names(schema) if it is not None]
+        is_right = all(records[0].count(it) == 1 for it in needed)
+    else:
+        is_right = not records or records[0] in (head, [MARK + head[0], *head[1:]])
+    if not is_right:
         return [], "F3"
-    return records[1 : schema.max_records + 1], "F4" if len(records) - 1 > schema.max_records else None
+    rest = records[1 : schema.max_records + 1]
+    if schema.feed:
+        rest = [Line.by_names(schema, records[0], number, it) for number, it in enumerate(rest, 1)]
+    return rest, "F4" if len(records) - 1 > schema.max_records else None
 
 
-def shard_of(record, count):
-    """The shard of a data record among so many, from 0: FNV-1a of 64 bits over its second field, which may not be there."""
+class Line:
+    """What a data record says: its operation, its id, for each dimension a field and how many characters of it are taken or None,
+    a field for each measure, whether it has as many fields as it should, and what is null in a measure."""
+
+    def __init__(self, op, id, dims, measures, is_whole, nulls):
+        self.op, self.id, self.dims, self.measures, self.is_whole, self.nulls = op, id, dims, measures, is_whole, nulls
+
+    @staticmethod
+    def in_order(schema, record):
+        """That of a record in the order of the schema."""
+        middle = 2 + len(schema.dimensions)
+        op, name = (record + [b"", b""])[:2]
+        is_whole = len(record) == middle + len(schema.measures) or op == b"D" and len(record) == 2
+        return Line(op, name, [(it, None) for it in record[2:middle]], record[middle:], is_whole, schema.nulls() + [NULL])
+
+    @staticmethod
+    def by_names(schema, header, number, record):
+        """That of the data record of a number under a header that names its columns."""
+        feed, count = schema.feed, 2 + len(schema.dimensions)
+        fields = [None if it is None else field_of(header, record, it.encode()) for it in feed.names(schema)]
+        op, name = b"I" if feed.op is None else fields[0], b"%d" % number if feed.id is None else fields[1]
+        dims = [(it, feed.column(name)[1]) for it, name in zip(fields[2:], schema.dimensions)]
+        return Line(op, name, dims, fields[count:], len(record) == len(header), schema.nulls())
+
+
+def field_of(header, record, name):
+    """The field in the column of a name, the empty text where the record ends before it."""
+    place = header.index(name)
+    return record[place] if place < len(record) else b""
+
+
+def shard_of(name, count):
+    """The shard of an id among so many, from 0: FNV-1a of 64 bits."""
     value = 14695981039346656037
-    for byte in record[1] if len(record) > 1 else b"":
+    for byte in name:
         value = (value ^ byte) * 1099511628211 % 2**64
     return value % count
 
@@ -192,31 +280,50 @@ def is_text(field):
         return False
 
 
-def change_of(schema, record):
-    """The change of a record as (op, id, dims, measures), or the number of its fault."""
-    op, width = record[0] if record else None, 2 + len(schema.dimensions) + len(schema.measures)
-    if op not in (b"I", b"U", b"D"):
+def change_of(schema, line):
+    """The change of a line as (op, id, dims, measures), or the number of its fault."""
+    if line.op not in (b"I", b"U", b"D"):
         return 1
-    if len(record) != width and not (op == b"D" and len(record) == 2):
+    if not line.is_whole:
         return 2
-    used = record[1:2] if op == b"D" else record[1:]
-    if not all(map(is_text, used)):
+    used = [] if line.op == b"D" else [it for it, _ in line.dims] + line.measures
+    if not all(map(is_text, [line.id, *used])):
         return 3
-    if record[1] == b"":
+    if line.id == b"":
         return 4
-    if op == b"D":
-        return op, record[1], None, None
-    middle = 2 + len(schema.dimensions)
-    dims, measures = record[2:middle], record[middle:]
-    keeps = schema.version == 2
-    for it in measures:
-        if it != NULL and number(it) is None and not (keeps and it == KEEP):
-            return 5
-    if keeps and op == b"I" and KEEP in dims + measures:
+    if line.op == b"D":
+        return line.op, line.id, None, None
+    measures = [measure_of(schema, it, line.nulls) for it in line.measures]
+    if "wrong" in measures:
+        return 5
+    dims = [dimension_of(schema, it, first) for it, first in line.dims]
+    if line.op == b"I" and KEPT in dims + measures:
         return 6
-    dims = [KEPT if keeps and it == KEEP else None if it == NULL else it for it in dims]
-    measures = [KEPT if keeps and it == KEEP else None if it == NULL else number(it) for it in measures]
-    return op, record[1], dims, measures
+    return line.op, line.id, dims, measures
+
+
+def keeps(schema, field):
+    return schema.version == 2 and field == KEEP
+
+
+def measure_of(schema, field, nulls):
+    """The number that a field says, None for null, KEPT, or "wrong"."""
+    if keeps(schema, field):
+        return KEPT
+    if field in nulls:
+        return None
+    value = number(field)
+    return "wrong" if value is None else value
+
+
+def dimension_of(schema, field, first):
+    """The text that so many first characters of a field say, None for null, or KEPT."""
+    if keeps(schema, field):
+        return KEPT
+    if field in schema.nulls():
+        return None
+    text = field.decode()[:first].encode()
+    return None if text == NULL else KEPT if keeps(schema, text) else text
 
 
 class Source:
@@ -228,9 +335,10 @@ class Source:
     def take(self, record, shard=(1, 1)):
         """Takes the next data record, which is only counted where it is in another shard."""
         self.count += 1
-        if shard_of(record, shard[1]) == shard[0] - 1:
+        line = record if isinstance(record, Line) else Line.in_order(self.schema, record)
+        if shard_of(line.id, shard[1]) == shard[0] - 1:
             self.last = self.count
-            code = self.code_of(change_of(self.schema, record))
+            code = self.code_of(change_of(self.schema, line))
             self.refusals += [(self.count, code)] if code else []
 
     def code_of(self, change):
@@ -399,7 +507,7 @@ class Session:
             answer = self.answer(record)
             return answer.encode() + b"\n" if isinstance(answer, str) else b"ok %d\n" % len(answer) + answer
         source = self.sources[at - 1]
-        if shard_of(record[1:], self.shard[1]) != self.shard[0] - 1:
+        if shard_of((record + [b"", b""])[2], self.shard[1]) != self.shard[0] - 1:
             return b""
         if source.last == self.schema.max_records:
             raise Failure(f"G3 {at} F4", 1)
@@ -660,10 +768,10 @@ def schema_of(data):
         raise Failure("S2", 3) from None
     if not all(LEAST <= it <= GREATEST for it in numbers_in(table)):
         raise Failure("S2", 3)
-    if not set(table) <= {"dimensions", "measures", "aggregates", "max_records", "grouping", "version"}:
+    if not set(table) <= {"dimensions", "measures", "aggregates", "max_records", "grouping", "version", "feed"}:
         raise Failure("S3", 3)
     dimensions = texts_of(table, "dimensions", 8, "S4")
-    measures = texts_of(table, "measures", 4, "S5")
+    measures = texts_of(table, "measures", 4, "S5", 0 if "feed" in table else 1)
     names = dimensions + measures
     if len(set(names)) < len(names) or set(names) & {"", "op", "id", "*"}:
         raise Failure("S6", 3)
@@ -681,7 +789,40 @@ def schema_of(data):
     version = table.get("version", 1)
     if type(version) is not int or version not in (1, 2):
         raise Failure("S10", 3)
-    return Schema(dimensions, measures, aggregates, grouping, version, most)
+    return Schema(dimensions, measures, aggregates, grouping, version, most, feed_of(table.get("feed"), dimensions, measures))
+
+
+def feed_of(table, dimensions, measures):
+    """The feed that the value of the key `feed` says, None where there is none."""
+    is_name = lambda it: isinstance(it, str)
+    kinds = {
+        "id": is_name,
+        "op": is_name,
+        "null": lambda it: isinstance(it, list) and all(map(is_name, it)),
+        "delimiter": lambda it: is_name(it) and len(it) == 1 and ord(it) < 128 and it not in '"\r\n',
+        "point": lambda it: it in (".", ","),
+        "columns": lambda it: isinstance(it, dict) and set(it) <= set(dimensions + measures),
+    }
+    if table is None:
+        return None
+    if not isinstance(table, dict) or not set(table) <= set(kinds) or not all(kinds[key](it) for key, it in table.items()):
+        raise Failure("S11", 3)
+    columns = {name: column_of(it, name in dimensions) for name, it in table.get("columns", {}).items()}
+    feed = Feed(**{**table, "columns": columns})
+    if feed.op is not None and feed.id is None or feed.point == feed.delimiter:
+        raise Failure("S11", 3)
+    return feed
+
+
+def column_of(value, is_dimension):
+    """The column that a value of `columns` names, with a number of characters where it says one."""
+    if isinstance(value, str):
+        return value
+    if not is_dimension or not isinstance(value, dict) or set(value) != {"column", "first"} or not isinstance(value["column"], str):
+        raise Failure("S11", 3)
+    if type(value["first"]) is not int or not 1 <= value["first"] <= 255:
+        raise Failure("S11", 3)
+    return value["column"], value["first"]
 
 
 KINDS = ("count", "sum", "min", "max", "avg")
@@ -693,9 +834,9 @@ def numbers_in(value):
     return [value] if type(value) is int else []
 
 
-def texts_of(table, key, most, code):
+def texts_of(table, key, most, code, least=1):
     value = table.get(key)
-    if not isinstance(value, list) or not all(isinstance(it, str) for it in value) or not 1 <= len(value) <= most:
+    if not isinstance(value, list) or not all(isinstance(it, str) for it in value) or not least <= len(value) <= most:
         raise Failure(code, 3)
     return value
 

@@ -47,9 +47,9 @@ def question(rng, schema):
 
 def session(rng):
     """A schema, the data records of feeds, and the records of a session."""
-    schema = hostile.random_schema(rng)
+    schema = hostile.random_schema(rng, True)
     while len(schema.masks) > 32:
-        schema = hostile.random_schema(rng)
+        schema = hostile.random_schema(rng, True)
     texts, ids = rng.sample(hostile.TEXTS, rng.randint(2, 6)), rng.choice([2, 5, 12])
     change = lambda: hostile.random_record(rng, schema, texts, ids)
     feeds = [[change() for _ in range(rng.choice([0, 3, 30]))] for _ in range(rng.choice([0, 0, 1, 2, 64]))]
@@ -131,7 +131,8 @@ def is_as_run(schema, feeds, records, live, shard):
 def compare(room, rng, made_by=session):
     schema, feeds, records = made_by(rng)
     room.write("schema.toml", schema.toml())
-    names = [room.write(f"feed{at}.csv", oracle.encode([schema.header(), *it], rng)) for at, it in enumerate(feeds)]
+    pairs = [hostile.written(rng, schema, it) for it in feeds]
+    names, feeds = [room.write(f"feed{at}.csv", data) for at, (data, _) in enumerate(pairs)], [it for _, it in pairs]
     options = rng.choice([[], ["--ring", "1"], ["--threads", "2"]])
     shard = rng.choice([(1, 1), (1, 1), (1, 2), (3, 3)])
     options += ["--shard", "%d/%d" % shard] if shard != (1, 1) else []

@@ -293,6 +293,8 @@ def read_schema(path):
     """The schema of a file that the program takes."""
     with open(path, "rb") as file:
         table = tomllib.load(file)
+    if "feed" in table:
+        sys.exit(f"{path}: with [feed] columns are known by name, and this script reads them in the order of the schema alone")
     aggregates = [(kind, table["measures"].index(rest[:-1]) if rest != "*)" else None)
                   for kind, rest in (it.split("(", 1) for it in table["aggregates"])]
     rest = {it: table[it] for it in ("grouping", "version", "max_records") if it in table}

@@ -9,7 +9,7 @@ import sys
 import tempfile
 import unittest
 from fractions import Fraction
-from typing import Any, Iterator, List, Sequence, Tuple
+from typing import Any, Dict, Iterator, List, Sequence, Tuple
 from unittest import mock
 
 ROOT = os.path.dirname(os.path.dirname(os.path.dirname(os.path.realpath(__file__))))
@@ -62,8 +62,16 @@ def schema_like(schema: oracle.Schema) -> jackraisin.Schema:
     grouping, most = schema.grouping, schema.max_records
     return jackraisin.Schema(
         schema.dimensions, schema.measures, schema.aggregate_texts(), grouping=grouping, version=schema.version,
-        max_records=None if most == 2**32 - 1 else most,
+        max_records=None if most == 2**32 - 1 else most, feed=None if schema.feed is None else feed_like(schema.feed),
     )
+
+
+def feed_like(feed: oracle.Feed) -> Dict[str, Any]:
+    """The oracle's table `feed` as one of the package."""
+    columns = {name: feed.column(name) for name in feed.columns}
+    forms = {name: {"column": column, "first": first} if first else column for name, (column, first) in columns.items()}
+    given = {"null": feed.null, "delimiter": feed.delimiter, "point": feed.point, "columns": forms}
+    return {**given, **{key: it for key, it in (("id", feed.id), ("op", feed.op)) if it is not None}}
 
 
 def coordinate(it: Any) -> Any:

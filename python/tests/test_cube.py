@@ -13,6 +13,7 @@ from fractions import Fraction
 from unittest import mock
 
 import beside
+import hostile
 import jackraisin
 import oracle
 from beside import SHOP, needs, rows_like, rows_of
@@ -318,6 +319,67 @@ class Generated(unittest.TestCase):
                 self.assertEqual(jackraisin.Schema.read(path), given)
                 with open(path, "rb") as file:
                     self.assertEqual(vars(oracle.schema_of(file.read())), vars(schema))
+
+
+class ByNames(unittest.TestCase):
+    """Feeds that are read by the names of their columns."""
+
+    def test_a_file_with_a_header(self):
+        columns = {"month": {"column": "when", "first": 7}, "pieces": "Pieces"}
+        schema = jackraisin.Schema(["city", "month"], ["pieces"], ["sum(pieces)"], feed={"null": ["", "NA"], "delimiter": ";", "columns": columns})
+        with tempfile.TemporaryDirectory() as folder:
+            path = os.path.join(folder, "sales.csv")
+            with open(path, "w", encoding="utf-8", newline="") as out:
+                out.write("when;Pieces;till;city\r\n2026-11-28;3;1;York\r\n2026-11-30;NA;;York\r\n;5;2;\r\n")
+            cube = jackraisin.cube(schema, path)
+        self.assertEqual(cube.at({"city": "York", "month": "2026-11"})["sum(pieces)"], 3)
+        self.assertEqual(cube.at([None, None])["sum(pieces)"], 5)
+        self.assertEqual(cube.at({})["sum(pieces)"], 8)
+
+    def test_a_cube_of_counts(self):
+        with tempfile.TemporaryDirectory() as folder:
+            path = os.path.join(folder, "flowers.csv")
+            with open(path, "w", encoding="utf-8") as out:
+                out.write('"width","kind"\n5.1,"a"\n4.9,"a"\n7,"b"\n')
+            cube = jackraisin.cube(jackraisin.Schema(["kind"], [], ["count(*)"], feed={}), path)
+        self.assertEqual([it["count(*)"] for it in cube], [2, 1, 3])
+
+    def test_generated_feeds(self):
+        count = 0
+        for seed in range(200):
+            rng = random.Random(f"by names {seed}")
+            schema, records = hostile.random_case(rng, True)
+            if schema.feed and len(schema.masks) <= 32 and schema.max_records > 5:
+                pairs, count = [hostile.written(rng, schema, it[:60]) for it in records[:3]], count + 1
+                with self.subTest(seed=seed), tempfile.TemporaryDirectory() as folder:
+                    paths = [os.path.join(folder, f"feed{at}.csv") for at, _ in enumerate(pairs)]
+                    for path, (data, _) in zip(paths, pairs):
+                        with open(path, "wb") as out:
+                            out.write(data)
+                    run, like = oracle.Run(schema, [it for _, it in pairs]), beside.schema_like(schema)
+                    self.assertEqual(jackraisin.cube(like, paths).text.encode(), run.print())
+                    self.assertEqual(jackraisin.refusals(like, paths), run.refused)
+        self.assertGreater(count, 20)
+
+    @unittest.skipIf(sys.version_info < (3, 11), "this Python reads no TOML")
+    def test_schemas_come_back(self):
+        for seed in range(60):
+            schema = hostile.random_schema(random.Random(f"by names {seed}"), True)
+            given = beside.schema_like(schema)
+            with given.file() as path:
+                again = jackraisin.Schema.read(path)
+            self.assertEqual((again, hash(again), pickle.loads(pickle.dumps(given))), (given, hash(given), given))
+
+    def test_what_is_given_is_copied(self):
+        feed = {"null": ("NA",), "columns": {"kind": "Kind"}}
+        schema = jackraisin.Schema(["kind"], [], ["count(*)"], feed=feed)
+        feed["columns"]["kind"] = "other"
+        self.assertEqual(schema.feed, {"null": ["NA"], "columns": {"kind": "Kind"}})
+
+    def test_a_table_that_isnt_right(self):
+        with self.assertRaises(jackraisin.Failure) as caught:
+            jackraisin.Schema(["kind"], [], ["count(*)"], feed={"op": "what"}).check()
+        self.assertEqual((caught.exception.code, caught.exception.status), ("S11", 3))
 
 
 class Faults(unittest.TestCase):

@@ -16,6 +16,7 @@ from jackraisin import ALL, ANY, KEEP, Live
 
 PLAIN = jackraisin.Schema(["region", "kind"], ["amount"], ["count(*)", "sum(amount)", "avg(amount)"])
 KEEPING = jackraisin.Schema(["region", "kind"], ["amount"], ["count(*)", "sum(amount)"], version=2)
+NAMED = jackraisin.Schema(["region"], ["amount"], ["count(*)", "sum(amount)"], feed={"null": ["", "NA", "-1"], "delimiter": ";"})
 SHORT = jackraisin.Schema(["region"], ["amount"], ["count(*)"], max_records=2)
 TEXTS = [it.decode() for it in hostile.TEXTS]
 
@@ -156,6 +157,15 @@ class Says(unittest.TestCase):
             ):
                 self.assertRaises(TypeError, call)
             self.assertEqual((live.cube().at({})["count(*)"], live.refusals(), keeping.refusals()), (0, [], []))
+
+    def test_what_is_null_by_the_schema(self):
+        with Live(NAMED) as live:
+            for values in (["", 1], ["NA", 1], ["\\N", 1], ["w", -1]):
+                self.assertRaises(jackraisin.Unsayable, live.insert, 1, "a", values[:1], values[1:])
+            live.insert(1, "NA", [None], [None])
+            live.insert(1, "b", ["a;b"], [-2])
+            live.insert(1, "c", {"region": "na"}, {"amount": 0})
+            self.assertEqual(rows_of(live.cube()), [(("a;b",), (1, -2)), (("na",), (1, 0)), ((None,), (1, None)), ((ALL,), (3, -2))])
 
     def test_texts_that_look_like_marks(self):
         with Live(PLAIN) as live:

@@ -139,15 +139,23 @@ class Live(Questions):
             raise Unsayable("an id isn't empty")
         can_keep = op == "U" and self.schema.version == 2
         texts = [self._text(name, it, can_keep) for name, it in zip(self.schema.dimensions, dims)]
-        numbers = [number(name, it, can_keep) for name, it in zip(self.schema.measures, measures)]
+        numbers = [self._number(name, it, can_keep) for name, it in zip(self.schema.measures, measures)]
         return [str(operator.index(source)), op, id, *texts, *numbers]
 
     def _text(self, name: str, value: Union[str, None, Keep], can_keep: bool) -> str:
         if value is None or isinstance(value, Mark):
             return mark(f"dimension {name}", value, can_keep)
         text = text_of(value, f"dimension {name}")
-        if text == NULL or text == "\\=" and self.schema.version == 2:
-            raise Unsayable(f"dimension {name}: a feed can't say the text {text}, which means {'null' if text == NULL else 'KEEP'}")
+        if text == "\\=" and self.schema.version == 2:
+            raise Unsayable(f"dimension {name}: a feed can't say the text {text}, which means KEEP")
+        if text in self.schema.nulls():
+            raise Unsayable(f"dimension {name}: a feed can't say the text {text}, which means null")
+        return text
+
+    def _number(self, name: str, value: Union[int, None, Keep], can_keep: bool) -> str:
+        text = number(name, value, can_keep)
+        if not isinstance(value, (Mark, type(None))) and text in self.schema.nulls():
+            raise Unsayable(f"measure {name}: a feed of this schema can't say the number {text}, which means null")
         return text
 
     def refusals(self, source: Optional[int] = None, after: int = 0) -> List[Refusal]:

@@ -5,11 +5,12 @@ import contextlib
 import json
 import os
 import tempfile
-from dataclasses import dataclass
-from typing import Any, Dict, Iterator, Optional, Sequence, Tuple, Union
+from dataclasses import dataclass, field
+from typing import Any, Dict, Iterator, List, Mapping, Optional, Sequence, Tuple, Union
 
 from ._errors import DatacubeError, Unsayable
 from ._program import Path, run, words_of
+from ._records import NULL
 
 Grouping = Union[str, Sequence[Sequence[str]]]
 
@@ -17,7 +18,8 @@ Grouping = Union[str, Sequence[Sequence[str]]]
 @dataclass(frozen=True, init=False)
 class Schema:
     """The names of dimensions and measures, the aggregates as `sum(amount)`, and as the schema file has them the kept
-    grouping sets, the version of feeds and the most records of a feed. The program checks it where it is used, or `check`."""
+    grouping sets, the version of feeds, the most records of a feed, and the table `feed`, by which feeds are read by the names
+    of their columns. The program checks it where it is used, or `check`."""
 
     dimensions: Tuple[str, ...]
     measures: Tuple[str, ...]
@@ -25,6 +27,7 @@ class Schema:
     grouping: Union[str, Tuple[Tuple[str, ...], ...]]
     version: int
     max_records: Optional[int]
+    feed: Optional[Mapping[str, Any]] = field(hash=False)
 
     def __init__(
         self,
@@ -35,11 +38,16 @@ class Schema:
         grouping: Grouping = "cube",
         version: int = 1,
         max_records: Optional[int] = None,
+        feed: Optional[Mapping[str, Any]] = None,
     ) -> None:
         sets = grouping if isinstance(grouping, str) else tuple(tuple(it) for it in grouping)
-        values = (tuple(dimensions), tuple(measures), tuple(aggregates), sets, version, max_records)
-        for name, value in zip(("dimensions", "measures", "aggregates", "grouping", "version", "max_records"), values):
+        values = (tuple(dimensions), tuple(measures), tuple(aggregates), sets, version, max_records, copied(feed))
+        for name, value in zip(("dimensions", "measures", "aggregates", "grouping", "version", "max_records", "feed"), values):
             object.__setattr__(self, name, value)
+
+    def nulls(self) -> List[str]:
+        """The texts that are null in a change of a session."""
+        return [NULL, *(self.feed.get("null", ()) if self.feed else ())]
 
     @classmethod
     def read(cls, path: Path) -> "Schema":
@@ -60,6 +68,8 @@ class Schema:
         lines.append(f"version = {self.version}")
         if self.max_records is not None:
             lines.append(f"max_records = {self.max_records}")
+        if self.feed is not None:
+            lines.append(f"feed = {quoted(self.feed)}")
         return "\n".join(lines) + "\n"
 
     @contextlib.contextmanager
@@ -81,8 +91,19 @@ def schema_of(schema: Union[Schema, Path]) -> Schema:
     return schema if isinstance(schema, Schema) else Schema.read(schema)
 
 
+def copied(value: Any) -> Any:
+    """A value of TOML, with lists and dicts in place of other sequences and mappings."""
+    if isinstance(value, Mapping):
+        return {name: copied(it) for name, it in value.items()}
+    return [copied(it) for it in value] if isinstance(value, (list, tuple)) else value
+
+
 def quoted(value: object) -> str:
-    """A text or an array in TOML: its strings are those of JSON, but that DEL is escaped too."""
+    """A text, an array or a table in TOML: its strings are those of JSON, but that DEL is escaped too."""
+    if isinstance(value, Mapping):
+        return "{ " + ", ".join(f"{quoted(name)} = {quoted(it)}" for name, it in value.items()) + " }"
+    if isinstance(value, (list, tuple)):
+        return "[" + ", ".join(map(quoted, value)) + "]"
     return json.dumps(value, ensure_ascii=False).replace("\x7f", "\\u007f")
 
 

@@ -16,7 +16,7 @@ pub struct Note {
 }
 
 /// The codes of schemas.
-pub const SCHEMA_NOTES: [Note; 10] = [
+pub const SCHEMA_NOTES: [Note; 11] = [
     Note {
         code: "S1",
         about: "schema",
@@ -34,8 +34,8 @@ pub const SCHEMA_NOTES: [Note; 10] = [
     Note {
         code: "S3",
         about: "schema",
-        means: "The schema has a key other than `dimensions`, `measures`, `aggregates`, `max_records`, `grouping` and `version`.",
-        mend: "Look for a misspelled key, and take what isn't one of the six out.",
+        means: "The schema has a key other than `dimensions`, `measures`, `aggregates`, `max_records`, `grouping`, `version` and `feed`.",
+        mend: "Look for a misspelled key, and take what isn't one of the seven out. The keys of `[feed]` stand under it.",
         example: "",
     },
     Note {
@@ -48,7 +48,7 @@ pub const SCHEMA_NOTES: [Note; 10] = [
     Note {
         code: "S5",
         about: "schema",
-        means: "`measures` is missing, isn't an array of texts alone, or doesn't have 1 to 4 of them.",
+        means: "`measures` is missing, isn't an array of texts alone, or doesn't have 1 to 4 of them; with `[feed]` it may have none.",
         mend: "Name one to four measures, each in quotes.",
         example: "measures = [\"amount\"]",
     },
@@ -87,6 +87,13 @@ pub const SCHEMA_NOTES: [Note; 10] = [
         mend: "Write it without quotes, or leave the key out for version 1.",
         example: "version = 2",
     },
+    Note {
+        code: "S11",
+        about: "schema",
+        means: "`[feed]` isn't a table of `id`, `op`, `null`, `delimiter`, `point` and `columns`; one of these is of another kind; `columns` has a key that is no name of the schema; `op` stands without `id`; or `point` is the delimiter.",
+        mend: "Write the names of columns in quotes, `null` as an array of texts, `delimiter` as one ASCII character, `point` as \".\" or \",\". The first characters of a column, 1 to 255, are for a dimension alone.",
+        example: "feed = { id = \"no\", null = [\"\", \"NA\"], columns = { kind = { column = \"code\", first = 2 } } }",
+    },
 ];
 
 /// The codes of lines, feeds, patterns and cells.
@@ -94,21 +101,21 @@ pub const FEED_NOTES: [Note; 17] = [
     Note {
         code: "L1",
         about: "line of a feed",
-        means: "The first field isn't `I`, `U` or `D`.",
+        means: "The operation isn't `I`, `U` or `D`: the first field, or that in the column that `op` of `[feed]` names.",
         mend: "Begin each line with `I` to insert, `U` to update or `D` to delete, a capital without spaces.",
         example: "I,1,west,a,5",
     },
     Note {
         code: "L2",
         about: "line of a feed",
-        means: "An `I` or a `U` doesn't have the full number of fields, or a `D` has neither 2 nor the full number.",
+        means: "An `I` or a `U` doesn't have the full number of fields, or a `D` has neither 2 nor the full number; with `[feed]`, a line of a feed has another number of fields than the header.",
         mend: "Count the fields: the operation, the id, one for each dimension, one for each measure. Quote a field that holds a comma.",
         example: "D,1",
     },
     Note {
         code: "L3",
         about: "line of a feed",
-        means: "A field that is used isn't UTF-8: any after the first of an `I` or a `U`, the id of a `D`.",
+        means: "A field that is used isn't UTF-8: the id, a dimension or a measure of an `I` or a `U`, the id of a `D`.",
         mend: "Write the feed in UTF-8.",
         example: "",
     },
@@ -122,8 +129,8 @@ pub const FEED_NOTES: [Note; 17] = [
     Note {
         code: "L5",
         about: "line of a feed",
-        means: "A measure of an `I` or a `U` is neither `\\N` nor a number; in a `U` of feed version 2 it may also be `\\=`.",
-        mend: "Write a whole number from -9223372036854775808 to 9223372036854775807 in digits alone, or `\\N` where there is no value.",
+        means: "A measure of an `I` or a `U` is neither null nor a number; in a `U` of feed version 2 it may also be `\\=`.",
+        mend: "Write a whole number from -9223372036854775808 to 9223372036854775807 in digits alone, or null where there is no value: `\\N`, or with `[feed]` what its `null` has.",
         example: "I,1,west,a,\\N",
     },
     Note {
@@ -150,8 +157,8 @@ pub const FEED_NOTES: [Note; 17] = [
     Note {
         code: "F3",
         about: "feed",
-        means: "The first record of the feed isn't the header of the schema.",
-        mend: "Begin the feed with `op`, `id`, the dimensions and the measures of the schema, in its order and spelling.",
+        means: "The first record of the feed isn't the header of the schema; with `[feed]`, a column that the schema reads doesn't stand in it exactly once.",
+        mend: "Begin the feed with `op`, `id`, the dimensions and the measures of the schema, in its order and spelling. To read the columns by their names, add `[feed]` to the schema, and name there the delimiter and each column that has another name.",
         example: "op,id,region,kind,amount",
     },
     Note {
@@ -260,7 +267,7 @@ pub const RUN_NOTES: [Note; 22] = [
     Note {
         code: "1",
         about: "refused line",
-        means: "The line fault L1: the first field isn't `I`, `U` or `D`.",
+        means: "The line fault L1: the operation isn't `I`, `U` or `D`.",
         mend: "As for L1.",
         example: "",
     },
