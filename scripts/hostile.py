@@ -709,7 +709,60 @@ def compare(program, rng):
         plain = subprocess.run(call, cwd=program.folder, stdout=subprocess.PIPE, stderr=subprocess.DEVNULL, timeout=120)
         if (plain.returncode == 0, plain.stdout) != (not fault, b"" if fault else run.print()):
             return f"on one thread: status {plain.returncode}, or other text"
-    return None
+    return compare_session(program, rng, schema, feeds, files, fault)
+
+
+def compare_session(program, rng, schema, feeds, files, fault):
+    """A session over a store that gets changes and questions, and then what is asked of the store: why either is wrong."""
+    sources, most = rng.choice([[1], [1, 2, 64]]), rng.choice([1, 1, 2, 3, 64, 10000, 1000000])
+    records = [random_message(rng, schema, sources) for _ in range(rng.choice([0, 5, 5, 100]))]
+    session = oracle.Session(schema, [] if fault else feeds)
+    answers, code, taken, certain = ([], fault, 0, 0) if fault else served(session, records, most)
+    for it in ("case.db", "case.db-wal"):
+        if os.path.exists(os.path.join(program.folder, it)):
+            os.unlink(os.path.join(program.folder, it))
+    options = ["--ring", str(rng.choice([1, 64])), *rng.choice([[], [], ["--wary"]]), "--commit-every", str(most)]
+    kept = ["--store", "case.db", "case.toml", *files]
+    live = program.run(["live", *options, *kept], oracle.encode(records, rng), limit=120)
+    wanted = (1 if code else session.status(), b"".join(answers), f"datacube: {code}\n".encode() if code else b"")
+    if (live.status, live.out, live.err) != wanted:
+        return f"a session, {options}: status {live.status}, {live.err[:200]!r}, or other answers"
+    asked = program.run(["print", *kept], limit=120)
+    is_right = asked.code() == fault if fault else is_first_part(asked, oracle.Session(schema, feeds), records[:taken], certain)
+    return None if is_right else f"the store of a session, {options}: status {asked.status}, {asked.err[:200]!r}, or other text"
+
+
+def served(session, records, most):
+    """The answers to records until one ends the session, the code of that or None, how many records came before it, and how
+    many of them are certain, where so many changes may wait."""
+    answers, waiting, certain = [], 0, 0
+    for at, record in enumerate(records):
+        try:
+            answers.append(session.reply(record))
+        except oracle.Failure as failure:
+            return answers, failure.line, at, certain
+        waiting += 1
+        if answers[-1] or waiting == most:
+            waiting, certain = 0, at + 1
+    return answers, None, len(records), len(records)
+
+
+def is_first_part(asked, session, records, certain):
+    """Whether what was asked of a store is what a session says after a first part of these records, so many at least."""
+    for at in range(len(records) + 1):
+        if at >= certain and (asked.status, asked.out) == (session.status(), session.run().print()):
+            return True
+        if at < len(records):
+            session.reply(records[at])
+    return False
+
+
+def random_message(rng, schema, sources):
+    """A change of one of the sources, or now and then a question."""
+    if rng.random() < 0.9:
+        return [b"%d" % rng.choice(sources), *random_record(rng, schema, TEXTS, 10)]
+    pattern = [rng.choice([b"?", b"\\A", b"\\N", b"=a"]) for _ in schema.dimensions]
+    return rng.choice([[b"print"], [b"refusals"], [b"sync"], [b"slice", *pattern]])
 
 
 def generated(trials, cases, seed):
