@@ -492,19 +492,36 @@ def big_inputs(trials):
                  lambda: None if unread().code() in ("G3 1 F2", "feed 1 unreadable") else repr(unread().err))
 
 
+LETTERS = bytes(range(ord("a"), ord("z") + 1)) + b"0123456789-_.:/ABCDEFGHIJKLMNOPQRSTUVWXYZ"
+
+
 def colliding_ids(count):
     """Ids that collide in a hash which multiplies and folds words, with the seed and the factor that many programs use:
     the state after the first block is spelled by the next word, so that the last product is zero whatever ends the id."""
     factor, seed, every = 0x9E3779B97F4A7C15, 0x243F6A8885A308D3 + 32, 2**64 - 1
-    letters = bytes(range(ord("a"), ord("z") + 1)) + b"0123456789-_.:/ABCDEFGHIJKLMNOPQRSTUVWXYZ"
     rng = random.Random(1)
     while True:
-        front = bytes(rng.choice(letters) for _ in range(16))
+        front = bytes(rng.choice(LETTERS) for _ in range(16))
         low, high = (int.from_bytes(front[at : at + 8], "little") for at in (0, 8))
         product = (low ^ seed) * (high ^ factor)
         word = ((product & every) ^ (product >> 64)).to_bytes(8, "little")
-        if all(byte in letters for byte in word):
+        if all(byte in LETTERS for byte in word):
             return [front + word + b"%08d" % at for at in range(count)]
+
+
+def fx_texts(count, letters=None):
+    """Texts that collide in Fx, whatever its seed; with letters to draw from, texts of that form by chance.
+
+    A step of Fx turns the state by 5 bits, takes in 8 bytes and multiplies by an odd number: so of two words that differ in bit 62
+    alone the states differ there, and perhaps in the top bit, and a next word that differs in bit 3, and perhaps in bit 4, makes
+    them equal again. Of all texts of some such pairs of words each shares its hash with the square root of their number. (The top
+    bit and bit 4 of the next word would do for certain, but of two texts that differ in a byte's top bit alone one isn't UTF-8.)
+    """
+    rng, pairs = random.Random(2), max(1, (count - 1).bit_length() + 1 >> 1)
+    for at in range(count):
+        turns = [at >> 2 * it & 3 for it in range(pairs)]
+        ends = [(rng.choice(letters), rng.choice(letters)) if letters else (b"q1"[it & 1], b"aiqy"[it & 1 | it & 2]) for it in turns]
+        yield b"".join(b"a word %c%cs next." % it for it in ends)
 
 
 def sample_feed(records):
@@ -524,6 +541,13 @@ HURTFUL = {
     "different numbers, and all taken out again": lambda count: sample_feed(
         [*(b"I,%d,w,a,%d\n" % (at, at) for at in range(count // 2)), *(b"D,%d\n" % at for at in range(count // 2))]),
     "each line refused": lambda count: sample_feed(b"D,%d\n" % at for at in range(count)),
+}
+
+
+# (feeds of texts that collide in Fx, or of texts by chance)
+FX_FEEDS = {
+    "ids": lambda texts: sample_feed(b"I,%s,w,a,1\n" % it for it in texts),
+    "texts": lambda texts: sample_feed(b"I,%d,%s,a,1\n" % it for it in enumerate(texts)),
 }
 
 
@@ -608,6 +632,9 @@ def hurtful(trials):
         trials.trial(f"as fast as by chance: {name}", lambda: as_by_chance(program, made(kind), made("none")))
         trials.trial(f"near linear: {name}, in a session", lambda: near_linear(
             program, in_session(program, made(kind)), 25000, 4, [*session, "colliding.csv"]))
+    for name, feed_of in FX_FEEDS.items():
+        trials.trial(f"as fast as by chance: {name} that collide in Fx, whatever its seed", lambda: as_by_chance(
+            program, lambda lines: feed_of(fx_texts(lines)), lambda lines: feed_of(fx_texts(lines, LETTERS)), 2**17))
     trials.trial("near linear: numbers that collide in a session",
                  lambda: near_linear(program, made("numbers"), 12500, 4, session))
 
