@@ -492,19 +492,36 @@ def big_inputs(trials):
                  lambda: None if unread().code() in ("G3 1 F2", "feed 1 unreadable") else repr(unread().err))
 
 
+LETTERS = bytes(range(ord("a"), ord("z") + 1)) + b"0123456789-_.:/ABCDEFGHIJKLMNOPQRSTUVWXYZ"
+
+
 def colliding_ids(count):
     """Ids that collide in a hash which multiplies and folds words, with the seed and the factor that many programs use:
     the state after the first block is spelled by the next word, so that the last product is zero whatever ends the id."""
     factor, seed, every = 0x9E3779B97F4A7C15, 0x243F6A8885A308D3 + 32, 2**64 - 1
-    letters = bytes(range(ord("a"), ord("z") + 1)) + b"0123456789-_.:/ABCDEFGHIJKLMNOPQRSTUVWXYZ"
     rng = random.Random(1)
     while True:
-        front = bytes(rng.choice(letters) for _ in range(16))
+        front = bytes(rng.choice(LETTERS) for _ in range(16))
         low, high = (int.from_bytes(front[at : at + 8], "little") for at in (0, 8))
         product = (low ^ seed) * (high ^ factor)
         word = ((product & every) ^ (product >> 64)).to_bytes(8, "little")
-        if all(byte in letters for byte in word):
+        if all(byte in LETTERS for byte in word):
             return [front + word + b"%08d" % at for at in range(count)]
+
+
+def fx_texts(count, letters=None):
+    """Texts that collide in Fx, whatever its seed; with letters to draw from, texts of that form by chance.
+
+    A step of Fx turns the state by 5 bits, takes in 8 bytes and multiplies by an odd number: so of two words that differ in bit 62
+    alone the states differ there, and perhaps in the top bit, and a next word that differs in bit 3, and perhaps in bit 4, makes
+    them equal again. Of all texts of some such pairs of words each shares its hash with the square root of their number. (The top
+    bit and bit 4 of the next word would do for certain, but of two texts that differ in a byte's top bit alone one isn't UTF-8.)
+    """
+    rng, pairs = random.Random(2), max(1, (count - 1).bit_length() + 1 >> 1)
+    for at in range(count):
+        turns = [at >> 2 * it & 3 for it in range(pairs)]
+        ends = [(rng.choice(letters), rng.choice(letters)) if letters else (b"q1"[it & 1], b"aiqy"[it & 1 | it & 2]) for it in turns]
+        yield b"".join(b"a word %c%cs next." % it for it in ends)
 
 
 def sample_feed(records):
@@ -524,6 +541,13 @@ HURTFUL = {
     "different numbers, and all taken out again": lambda count: sample_feed(
         [*(b"I,%d,w,a,%d\n" % (at, at) for at in range(count // 2)), *(b"D,%d\n" % at for at in range(count // 2))]),
     "each line refused": lambda count: sample_feed(b"D,%d\n" % at for at in range(count)),
+}
+
+
+# (feeds of texts that collide in Fx, or of texts by chance)
+FX_FEEDS = {
+    "ids": lambda texts: sample_feed(b"I,%s,w,a,1\n" % it for it in texts),
+    "texts": lambda texts: sample_feed(b"I,%d,%s,a,1\n" % it for it in enumerate(texts)),
 }
 
 
@@ -608,6 +632,9 @@ def hurtful(trials):
         trials.trial(f"as fast as by chance: {name}", lambda: as_by_chance(program, made(kind), made("none")))
         trials.trial(f"near linear: {name}, in a session", lambda: near_linear(
             program, in_session(program, made(kind)), 25000, 4, [*session, "colliding.csv"]))
+    for name, feed_of in FX_FEEDS.items():
+        trials.trial(f"as fast as by chance: {name} that collide in Fx, whatever its seed", lambda: as_by_chance(
+            program, lambda lines: feed_of(fx_texts(lines)), lambda lines: feed_of(fx_texts(lines, LETTERS)), 2**17))
     trials.trial("near linear: numbers that collide in a session",
                  lambda: near_linear(program, made("numbers"), 12500, 4, session))
 
@@ -766,7 +793,60 @@ def compare(program, rng):
         plain = subprocess.run(call, cwd=program.folder, stdout=subprocess.PIPE, stderr=subprocess.DEVNULL, timeout=120)
         if (plain.returncode == 0, plain.stdout) != (not fault, b"" if fault else run.print()):
             return f"on one thread: status {plain.returncode}, or other text"
-    return None
+    return compare_session(program, rng, schema, feeds, files, fault)
+
+
+def compare_session(program, rng, schema, feeds, files, fault):
+    """A session over a store that gets changes and questions, and then what is asked of the store: why either is wrong."""
+    sources, most = rng.choice([[1], [1, 2, 64]]), rng.choice([1, 1, 2, 3, 64, 10000, 1000000])
+    records = [random_message(rng, schema, sources) for _ in range(rng.choice([0, 5, 5, 100]))]
+    session = oracle.Session(schema, [] if fault else feeds)
+    answers, code, taken, certain = ([], fault, 0, 0) if fault else served(session, records, most)
+    for it in ("case.db", "case.db-wal"):
+        if os.path.exists(os.path.join(program.folder, it)):
+            os.unlink(os.path.join(program.folder, it))
+    options = ["--ring", str(rng.choice([1, 64])), *rng.choice([[], [], ["--wary"]]), "--commit-every", str(most)]
+    kept = ["--store", "case.db", "case.toml", *files]
+    live = program.run(["live", *options, *kept], oracle.encode(records, rng), limit=120)
+    wanted = (1 if code else session.status(), b"".join(answers), f"datacube: {code}\n".encode() if code else b"")
+    if (live.status, live.out, live.err) != wanted:
+        return f"a session, {options}: status {live.status}, {live.err[:200]!r}, or other answers"
+    asked = program.run(["print", *kept], limit=120)
+    is_right = asked.code() == fault if fault else is_first_part(asked, oracle.Session(schema, feeds), records[:taken], certain)
+    return None if is_right else f"the store of a session, {options}: status {asked.status}, {asked.err[:200]!r}, or other text"
+
+
+def served(session, records, most):
+    """The answers to records until one ends the session, the code of that or None, how many records came before it, and how
+    many of them are certain, where so many changes may wait."""
+    answers, waiting, certain = [], 0, 0
+    for at, record in enumerate(records):
+        try:
+            answers.append(session.reply(record))
+        except oracle.Failure as failure:
+            return answers, failure.line, at, certain
+        waiting += 1
+        if answers[-1] or waiting == most:
+            waiting, certain = 0, at + 1
+    return answers, None, len(records), len(records)
+
+
+def is_first_part(asked, session, records, certain):
+    """Whether what was asked of a store is what a session says after a first part of these records, so many at least."""
+    for at in range(len(records) + 1):
+        if at >= certain and (asked.status, asked.out) == (session.status(), session.run().print()):
+            return True
+        if at < len(records):
+            session.reply(records[at])
+    return False
+
+
+def random_message(rng, schema, sources):
+    """A change of one of the sources, or now and then a question."""
+    if rng.random() < 0.9:
+        return [b"%d" % rng.choice(sources), *random_record(rng, schema, TEXTS, 10)]
+    pattern = [rng.choice([b"?", b"\\A", b"\\N", b"=a"]) for _ in schema.dimensions]
+    return rng.choice([[b"print"], [b"refusals"], [b"sync"], [b"slice", *pattern]])
 
 
 def generated(trials, cases, seed):

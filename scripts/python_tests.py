@@ -9,6 +9,7 @@ PostgreSQL, of some minutes. The tests have a folder of their own for temporary 
 last line is `N passed, M failed`.
 """
 import argparse
+import ast
 import os
 import re
 import shutil
@@ -22,6 +23,8 @@ import programs
 ROOT = programs.ROOT
 DEBIANS = "/usr/bin/python3"
 COUNTED = re.compile(r"(\d+) (passed|failed|errors?|skipped)")
+# (the reason that unittest gives for what it leaves out, as Python writes a text)
+LEFT_OUT = re.compile(r"\.\.\. skipped ('.*'|\".*\")$", re.MULTILINE)
 
 
 def has_pytest(python):
@@ -35,8 +38,8 @@ def pytest(python, env):
     ran = subprocess.run([python, *words], cwd=ROOT, env=env, stdout=subprocess.PIPE, stderr=subprocess.STDOUT, text=True, errors="replace")
     if ran.returncode not in (0, 5):
         print(ran.stdout)
-    for line in re.findall(r"^SKIPPED \[\d+\] .*?: (.*)$", ran.stdout, re.MULTILINE):
-        print(f"left out: {line}")
+    for it in dict.fromkeys(re.findall(r"^SKIPPED \[\d+\] .*?: (.*)$", ran.stdout, re.MULTILINE)):
+        print(f"left out: {it}")
     counts = {kind: int(count) for count, kind in COUNTED.findall(ran.stdout.strip().rpartition("\n")[2])}
     failed = counts.get("failed", 0) + counts.get("error", 0) + counts.get("errors", 0)
     return counts.get("passed", 0), failed or int(ran.returncode not in (0, 5))
@@ -44,10 +47,12 @@ def pytest(python, env):
 
 def unittests(env):
     """Runs the tests by unittest; gives the numbers that passed and failed."""
-    print("left out, since there is no pytest: what wants packages that this Python doesn't have")
-    ran = subprocess.run([sys.executable, "-B", "-m", "unittest", "discover", "-s", "python/tests"], cwd=ROOT, env=env, stdout=subprocess.PIPE, stderr=subprocess.STDOUT, text=True)
+    words = ["-B", "-m", "unittest", "discover", "-v", "-s", "python/tests"]
+    ran = subprocess.run([sys.executable, *words], cwd=ROOT, env=env, stdout=subprocess.PIPE, stderr=subprocess.STDOUT, text=True, errors="replace")
     if ran.returncode:
         print(ran.stdout)
+    for it in dict.fromkeys(LEFT_OUT.findall(ran.stdout)):
+        print(f"left out: {ast.literal_eval(it)}")
     found = re.search(r"^Ran (\d+) tests?", ran.stdout, re.MULTILINE)
     bad = sum(map(int, re.findall(r"(?:failures|errors)=(\d+)", ran.stdout)))
     skipped = sum(map(int, re.findall(r"skipped=(\d+)", ran.stdout)))

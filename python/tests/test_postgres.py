@@ -1006,13 +1006,33 @@ class Commands(Base):
         self.assertEqual((ran.returncode, "schema unreadable" in ran.stderr), (1, True))
 
     def test_interrupted(self):
+        """Each of these ends it well: Ctrl-C, a `kill`, a terminal that closes, which may say so twice, and a service manager that
+        sends both."""
         self.sales((1, "York", "tea", 5))
-        command = Command(*self.words())
+        hang_up = [signal.SIGHUP]
+        for signals in ([signal.SIGINT], [signal.SIGTERM], hang_up, hang_up * 2, [signal.SIGTERM, *hang_up]):
+            with self.subTest(signals=signals):
+                command = Command(*self.words())
+                command.ask("print")
+                for it in signals:
+                    command.process.send_signal(it)
+                    time.sleep(0.01)
+                self.assertEqual(command.process.wait(SECONDS), 0)
+                command.end()
+                self.assertEqual(PRIVATE.ask("SELECT slot_name FROM pg_replication_slots"), [])
+
+    def test_without_hangups(self):
+        """Under nohup a terminal that closes doesn't end it."""
+        self.sales((1, "York", "tea", 5))
+        before = signal.signal(signal.SIGHUP, signal.SIG_IGN)
+        try:
+            command = Command(*self.words())
+        finally:
+            signal.signal(signal.SIGHUP, before)
         command.ask("print")
-        command.process.send_signal(signal.SIGTERM)
-        self.assertEqual(command.process.wait(), 0)
-        command.end()
-        self.assertEqual(PRIVATE.ask("SELECT slot_name FROM pg_replication_slots"), [])
+        command.process.send_signal(signal.SIGHUP)
+        self.assertEqual(command.ask("print"), self.cube_of_sql())
+        self.assertEqual(command.end(), 0)
 
 
 def get(address, **headers):

@@ -30,6 +30,7 @@ if TYPE_CHECKING:
     from psycopg2.extensions import connection as Connection
 
 SECONDS_BETWEEN_LOOKS = 0.2
+ENDING = signal.SIGTERM, signal.SIGHUP
 
 
 def parser() -> argparse.ArgumentParser:
@@ -145,7 +146,17 @@ def run(given: argparse.Namespace) -> None:
             serve(follower, given.serve, given.slice)
 
 
+def take_signals() -> None:
+    """Lets SIGTERM and SIGHUP end the command as Ctrl-C does; one that is ignored, as under nohup, stays so."""
+    for it in ENDING:
+        if signal.getsignal(it) != signal.SIG_IGN:
+            signal.signal(it, interrupted)
+
+
 def interrupted(*_: object) -> NoReturn:
+    # (a terminal that closes sends SIGHUP twice, and the slot is dropped all the same)
+    for it in ENDING:
+        signal.signal(it, lambda *_: None)
     raise KeyboardInterrupt
 
 
@@ -155,7 +166,7 @@ def main(words: Optional[Sequence[str]] = None) -> int:
     if not given.drop and given.schema is None:
         asks.error("the following arguments are required: --schema")
     logging.basicConfig(format="jackraisin.postgres: %(message)s", level=logging.INFO)
-    signal.signal(signal.SIGTERM, interrupted)
+    take_signals()
     try:
         run(given)
     except KeyboardInterrupt:
