@@ -34,6 +34,8 @@ DASK = os.path.join(HERE, "..", "cluster")
 SAMPLE = oracle.Schema(
     ["region", "kind"], ["amount"], [("count", None), ("sum", 0), ("min", 0), ("max", 0), ("avg", 0)]
 )
+NAMED = oracle.Schema(SAMPLE.dimensions, SAMPLE.measures, SAMPLE.aggregates, feed=oracle.Feed(
+    "no", "what", ["", "NA"], ";", columns={"region": ("place", 20), "amount": "Amount"}))
 ONE = [b"I", b"1", b"west", b"a", b"5"]
 MIXED = [
     ONE,
@@ -63,7 +65,7 @@ STATUS = {"S": 3, "P": 2, "G": 1, "Q": 1, "M": 1}
 MEMORY = [r"S1", r"G1", r"G2", r"G3 \d+ F1", r"G4", r"P6", r"M1"]
 READS = [r"G3 \d+ F2", r"schema unreadable", r"Q3", r"M3 \d+( \d+)?"]
 # (what the short form refuses memory, reads and writes; threads are refused everywhere)
-SHORT = ("no words", "check", "print, one fact", "print, 3 feeds, 2 builders", "slice", "live", "merge")
+SHORT = ("no words", "check", "print, one fact", "print, 3 feeds, 2 builders", "print, by names", "slice", "live", "merge")
 # (what is said where there is no memory for the words themselves)
 NO_WORDS = b"error: out of memory\n"
 
@@ -204,9 +206,21 @@ def commands(program):
     made["refusals"] = (["refusals", "schema.toml", *files[:2]], b"")
     made["print --partial"] = (["print", "--partial", "schema.toml", *files[:2]], b"")
     made["live"] = (["live", "schema.toml", *files[:2]], oracle.encode(SESSION))
+    made["check, by names"] = (["check", named(program)], b"")
+    made["print, by names"] = (["print", "named.toml", *[program.write(f"named{at}.csv", named_feed()) for at in (1, 2)]], b"")
     made["merge"] = (["merge", "schema.toml", *cubes(program, files)], b"")
     made["merge --check"] = (["merge", "--check", *made["merge"][0][1:]], b"")
     return made, files
+
+
+def named(program):
+    """The file of a schema whose feeds are read by the names of their columns."""
+    return program.write("named.toml", NAMED.toml())
+
+
+def named_feed():
+    """The bytes of a feed for it."""
+    return oracle.encode(by_names(random.Random("named"), NAMED, MIXED, True), delimiter=NAMED.delimiter())
 
 
 def cubes(program, files):
@@ -353,6 +367,20 @@ def cut_feeds(trials):
     program.write("schema.toml", SAMPLE.toml())
     data = oracle.encode([SAMPLE.header(), *MIXED])
     trials.trial("a feed cut at each byte, 1 and 3 builders", lambda: cut_in_turn(program, data))
+    trials.trial("a feed by names cut at each byte, beside a slow program of its own", lambda: cut_names_in_turn(program, named_feed()))
+
+
+def cut_names_in_turn(program, data):
+    named(program)
+    for size in range(len(data) + 1):
+        program.write("cut.csv", data[:size])
+        answer = program.run(["print", "named.toml", "cut.csv"])
+        records, code = oracle.data_records(NAMED, data[:size])
+        run = oracle.Run(NAMED, [records])
+        wanted = (1, b"", b"datacube: G3 1 %s\n" % code.encode()) if code else (run.status, run.print(), b"")
+        if (answer.status, answer.out, answer.err) != wanted:
+            return f"{size} bytes: {answer.status}, {answer.err[:200]!r}"
+    return len(data) + 1
 
 
 def cut_in_turn(program, data):
