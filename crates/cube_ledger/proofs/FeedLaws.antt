@@ -5,8 +5,7 @@ use Rattle.std.proofs.Math.ListN.{length-set}
 use Rattle.std.proofs.lemmas.List.{append-nil, map-append}
 use Rattle.cube_core.specs.Arrival.{Arrivals}
 use Rattle.cube_core.specs.Layout.{Layout}
-use Rattle.cube_core.specs.Records.{records_of}
-use Rattle.cube_core.specs.FeedRecords.{RestOfFeed, FeedEnd, Good, WrongHeader, TooManyRecords, items_of}
+use Rattle.cube_core.specs.FeedRecords.{RestOfFeed, FeedEnd, Good, WrongHeader, TooManyRecords, feed_records, items_of}
 use Rattle.cube_core.specs.Run.{IsGood, AreItemsOf}
 use Rattle.cube_core.specs.declared.change.Item.{Item}
 use Rattle.cube_feed.specs.Faults.{IsEndOf, IsFaultOf}
@@ -99,7 +98,7 @@ all-done s None done now next left gives = (tt, tt)
 all-done s (Some known) done now next left gives =
     let given : left.0 ≡ nothing_but None = subst (λ (n : KnownRest). Gives n (Ok None) next) left.1 gives in (
       sym (left.2 ∙ ap (λ (t : RestOfFeed (Option FeedFault)). done ++ t.items) given ∙ append-nil done),
-      fault_of-None (items_of s (records_of known)).end
+      fault_of-None (items_of s (feed_records s known)).end
           (left.3 ∙ ap (λ (t : RestOfFeed (Option FeedFault)). t.end) given),
     )
 
@@ -132,18 +131,18 @@ ends-so TooManyRecords TooMany is = refl
 -- where nothing is to come but a fault, it is the feed's
 fault-given : (s : Layout) (known : List ℕ) (done : List Item) (now next : KnownRest) (fault : FeedFault)
     → LeftOf (rest_of_feed s (Some known)) done now → Gives now (Err fault) next
-    → IsEndOf (items_of s (records_of known)).end fault
+    → IsEndOf (items_of s (feed_records s known)).end fault
 fault-given s known done now next Memory left gives = tt
 fault-given s known done now next Read left gives = tt
 fault-given s known done now next Header left gives =
     let given : left.0 ≡ nothing_but (Some Header) =
     subst (λ (n : KnownRest). Gives n (Err Header) next) left.1 gives in
-    ends-so (items_of s (records_of known)).end Header
+    ends-so (items_of s (feed_records s known)).end Header
     (left.3 ∙ ap (λ (t : RestOfFeed (Option FeedFault)). t.end) given)
 fault-given s known done now next TooMany left gives =
     let given : left.0 ≡ nothing_but (Some TooMany) =
     subst (λ (n : KnownRest). Gives n (Err TooMany) next) left.1 gives in
-    ends-so (items_of s (records_of known)).end TooMany
+    ends-so (items_of s (feed_records s known)).end TooMany
     (left.3 ∙ ap (λ (t : RestOfFeed (Option FeedFault)). t.end) given)
 
 pub fault-told : (s : Layout) (bytes : Option (List ℕ)) (start : KnownRest) (source : ℕ) (old now : LedgerView)

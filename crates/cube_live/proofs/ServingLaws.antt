@@ -6,8 +6,7 @@ use Rattle.std.specs.Io.KnownBytes.{Appends}
 use Rattle.std.proofs.lemmas.List.{take_all, take-append-le}
 use Rattle.csv.proofs.WriteFacts.{appends-none, appends-more}
 use Rattle.cube_core.specs.Arrival.{Arrivals, of_source}
-use Rattle.cube_core.specs.Items.{change_of}
-use Rattle.cube_core.specs.FeedRecords.{is_read}
+use Rattle.cube_core.specs.FeedRecords.{change_in_order, is_read}
 use Rattle.cube_core.specs.Layout.{Layout}
 use Rattle.cube_core.specs.declared.change.Change.{Change}
 use Rattle.cube_core.specs.declared.change.LineFault.{LineFault}
@@ -217,7 +216,7 @@ WritesNone-first line text sent (Journal fault) old new fails = absurd fails
 -- ---- one record
 -- a change was taken that is in the schema's shard, or left alone that isn't
 pub TakesChange-read : (source : ℕ) (fields : List (List ℕ)) (what : Result Change LineFault) (old new : LiveView)
-    → is_read old.schema fields ≡ true → what ≡ change_of old.schema fields
+    → is_read old.schema fields ≡ true → what ≡ change_in_order old.schema fields
     → TakesNext source what old new → TakesChange source fields old new
 TakesChange-read source fields what old new read is takes arrivals stands = rw (read, ← is) (takes arrivals stands)
 

@@ -1,8 +1,7 @@
 -- A session: the replies to its records, one after another, each over what came before it (this project's choice).
 use Rattle.std.specs.Prelude.{◌≡◌, ℕ, List, [], ◌∷◌, ◌++◌, length, drop, codes, decimal, if◌then◌else◌}
 use Rattle.cube_core.specs.Arrival.{Arrivals, of_sources}
-use Rattle.cube_core.specs.Items.{change_of}
-use Rattle.cube_core.specs.FeedRecords.{is_read}
+use Rattle.cube_core.specs.FeedRecords.{change_in_order, is_read}
 use Rattle.cube_core.specs.Layout.{Layout}
 use Rattle.cube_core.specs.declared.query.QueryFault.{QueryFault}
 use Rattle.cube_core.specs.declared.query.QueryFault.TheVariants as query
@@ -51,7 +50,7 @@ IsReply s arrivals (Wrong fault) reply = reply ≡ code_line fault
 -- one item more where the record is in the schema's shard, and else the same
 abbrev pub arrivals_changed : Layout → Arrivals → ℕ → List (List ℕ) → Arrivals
 arrivals_changed s arrivals source fields =
-    if is_read s fields then arrivals ++ (source, said_item arrivals source (change_of s fields)) ∷ [] else arrivals
+    if is_read s fields then arrivals ++ (source, said_item arrivals source (change_in_order s fields)) ∷ [] else arrivals
 
 -- an arrival list after a record that asks this: changed by a change, and else the same
 abbrev pub arrivals_by : Layout → Arrivals → Request → List (List ℕ) → Arrivals

@@ -6,9 +6,8 @@ use Rattle.std.specs.List.{All, AllZip, AllByRecursion}
 use Rattle.std.proofs.lemmas.List.{ext_get_or, get_or-map, get_or-take, get_or_default, length-map, length-take}
 use Rattle.std.proofs.lemmas.List.FromFn.{get_or-map-range_with_len, length-map-range_with_len}
 use Rattle.cube_core.specs.Arrival.{Arrivals, of_source, of_sources}
-use Rattle.cube_core.specs.FeedRecords.{RestOfFeed, items_of}
+use Rattle.cube_core.specs.FeedRecords.{RestOfFeed, feed_records, items_of}
 use Rattle.cube_core.specs.Layout.{Layout}
-use Rattle.cube_core.specs.Records.{records_of}
 use Rattle.cube_core.specs.Run.{SourceBytes, IsGood, AreItemsOf, AreGood}
 use Rattle.cube_core.specs.declared.change.Item.{Item}
 use Rattle.cube_feed.specs.Faults.{IsFaultOf, IsLowestFault}
@@ -63,7 +62,7 @@ stops-none : (s : Layout) (bytes : Option (List ℕ)) (items : List Item) → St
 stops-none s None items stops = (tt, tt)
 stops-none s (Some bytes) items stops = (
   sym (ap (λ (c : RestOfFeed (Option FeedFault)). c.items) stops),
-  fault_of-None (items_of s (records_of bytes)).end (ap (λ (c : RestOfFeed (Option FeedFault)). c.end) stops),
+  fault_of-None (items_of s (feed_records s bytes)).end (ap (λ (c : RestOfFeed (Option FeedFault)). c.end) stops),
 )
 
 -- a stop is the feed's own fault
@@ -73,9 +72,9 @@ stops-fault s None items fault stops = tt
 stops-fault s (Some bytes) items Memory stops = tt
 stops-fault s (Some bytes) items Read stops = tt
 stops-fault s (Some bytes) items Header stops =
-    fault_of-Header (items_of s (records_of bytes)).end (ap (λ (c : RestOfFeed (Option FeedFault)). c.end) stops)
+    fault_of-Header (items_of s (feed_records s bytes)).end (ap (λ (c : RestOfFeed (Option FeedFault)). c.end) stops)
 stops-fault s (Some bytes) items TooMany stops =
-    fault_of-TooMany (items_of s (records_of bytes)).end (ap (λ (c : RestOfFeed (Option FeedFault)). c.end) stops)
+    fault_of-TooMany (items_of s (feed_records s bytes)).end (ap (λ (c : RestOfFeed (Option FeedFault)). c.end) stops)
 
 -- ---- what an end says of the links of its source
 

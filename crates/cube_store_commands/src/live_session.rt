@@ -66,7 +66,7 @@ pub fn live_stored<
     };
     watcher.begins_serving();
     let SessionInput { reader, commits } = input;
-    let mut records = RecordReader::new(alloc, reader);
+    let mut records = RecordReader::new(alloc, reader, b',');
     let served = serve_stored(rt, alloc, live, store, &notes, &mut records, commits, out);
     drop(records);
     match served {

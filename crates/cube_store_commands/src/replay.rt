@@ -95,7 +95,7 @@ fn read_quoted(alloc: Global, text: &[u8], fields: &mut ByteRecord) -> Result<()
     let mut line = Vec::with_capacity(alloc, 1)?;
     line.extend_from_slice(text)?;
     line.push(b'\n')?;
-    let mut records = RecordReader::new(alloc, line.as_slice());
+    let mut records = RecordReader::new(alloc, line.as_slice(), b',');
     fields.clear();
     match records.advance() {
         Ok(true) => put_rest(records.fields(), 0, fields),

@@ -68,7 +68,7 @@ fn serve_input<T: Threads + Sync, I: Read + Drop, W: Write>(
         (W.contents out.old) (W.contents out.new))) }
     ensures schema { live.new.schema ≡ live.old.schema }
 {
-    let mut records = RecordReader::new(alloc, input);
+    let mut records = RecordReader::new(alloc, input, b',');
     serve(
         rt,
         alloc,
