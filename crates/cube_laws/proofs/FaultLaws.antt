@@ -59,7 +59,10 @@ Ranked-find p rank (first ∷ xs) x ranked among passes none = elim (Contains-ca
 
 document_faults-Ranked : Ranked number_of_fault document_faults
 document_faults-Ranked = (
-  (omega arith, (omega arith, (omega arith, (omega arith, (omega arith, (omega arith, (omega arith, (omega arith, tt)))))))),
+  (
+    omega arith,
+    (omega arith, (omega arith, (omega arith, (omega arith, (omega arith, (omega arith, (omega arith, tt))))))),
+  ),
   (
     (omega arith, (omega arith, (omega arith, (omega arith, (omega arith, (omega arith, (omega arith, tt))))))),
     (

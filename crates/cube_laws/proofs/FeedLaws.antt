@@ -1,6 +1,6 @@
 -- A written feed, read back; and how much a feed gives.
-use Rattle.std.specs.Prelude.{◌≡◌, ◌≢◌, ◌↔◌, ◌==◌, ◌&&◌, ◌||◌, ◌+◌, ◌%◌, ◌≤◌, ◌<◌, nat_lt, ℕ, zero, suc, ℤ, Bool, true, false, not}
-use Rattle.std.specs.Prelude.{List, [], ◌∷◌, ◌++◌, length, map, take, drop, codes, Option, Some, None, is_some}
+use Rattle.std.specs.Prelude.{◌≡◌, ◌≢◌, ◌↔◌, ◌==◌, ◌&&◌, ◌||◌, ◌+◌, ◌%◌, ◌≤◌, ◌<◌, nat_lt, ℕ, zero, suc, ℤ, Bool}
+use Rattle.std.specs.Prelude.{true, false, not, List, [], ◌∷◌, ◌++◌, length, map, take, drop, codes, Option, Some, None, is_some}
 use Rattle.std.specs.Prelude.{option_map, Result, Ok, Err, IfOk, if◌then◌else◌}
 use Rattle.std.specs.Fmt.{signed_decimal}
 use Rattle.std.specs.List.{AllByRecursion, flat_map, list_all, list_any, filter_map, cons_option}

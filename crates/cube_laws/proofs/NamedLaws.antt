@@ -1,27 +1,28 @@
 -- Feeds whose columns are known by their names: what they give.
-use Rattle.std.proofs.Common.{◌≡◌, ◌≤◌, ◌<◌, ◌+◌, ℕ, zero, suc, Bool, true, false, not, List, [], ◌∷◌, ◌++◌, length, map}
-use Rattle.std.proofs.Common.{get_or, filter, codes, Option, Some, None, option_map, refl, sym, ap, ap₂, ◌∙◌, subst, inl, inr}
-use Rattle.std.proofs.Common.{arith, nat_lt, zero-add, IsPermutation}
+use Rattle.std.proofs.Common.{◌≡◌, ◌≤◌, ◌<◌, ◌+◌, ℕ, zero, suc, Bool, true, false, not, List, [], ◌∷◌, ◌++◌, length}
+use Rattle.std.proofs.Common.{get_or, filter, map, codes, Option, Some, None, option_map, refl, sym, ap, ap₂, ◌∙◌, subst}
+use Rattle.std.proofs.Common.{inl, inr, arith, nat_lt, zero-add, IsPermutation}
 use Rattle.std.specs.Prelude.{◌==◌, cond, unwrap_or, if◌then◌else◌}
 use Rattle.std.specs.List.{AllByRecursion, AllZip, list_all, position_from, range_with_len}
 use Rattle.std.specs.Option.{option_map_or}
 use Rattle.std.specs.Str.{bytes_eq}
 use Rattle.std.proofs.lemmas.Bool.{and_parts, cases_Bool, eq-eqb, eqb-true, false_from_ne_true, false≢true, not-true}
 use Rattle.std.proofs.lemmas.Iterator.Adapters.{position_from-zero}
-use Rattle.std.proofs.lemmas.List.{append-nil, ext_get_or, get_or-map, get_or_default, length-append, length-map, map-append}
+use Rattle.std.proofs.lemmas.List.{append-nil, ext_get_or, get_or-map, get_or_default, length-append, length-map}
+use Rattle.std.proofs.lemmas.List.{map-append}
 use Rattle.std.proofs.lemmas.List.FromFn.{get_or-map-range_with_len, get_or-range_with_len, length-map-range_with_len}
 use Rattle.std.proofs.lemmas.List.FromFn.{length-range_with_len}
 use Rattle.std.proofs.lemmas.List.Sorted.{All-permutation, IsPermutation-map, length_permutation}
 use Rattle.std.proofs.lemmas.List.Sums.{list_all-from_AllPass}
 use Rattle.std.proofs.lemmas.Slice.Eq.{bytes_eq-Decides}
 use Rattle.cube_core.specs.FeedRecords.{FeedEnd, RestOfFeed, TooManyRecords, WrongHeader, found_columns, is_read}
-use Rattle.cube_core.specs.FeedRecords.{item_then, items_after, items_of, names_read, place_in, places_by, stands_once}
+use Rattle.cube_core.specs.FeedRecords.{item_then, items_after, items_of, names_read, place_by, place_in, places_by}
+use Rattle.cube_core.specs.FeedRecords.{stands_once}
 use Rattle.cube_core.specs.Items.{change_of, field_at, is_header, is_keep, width_of}
 use Rattle.cube_core.specs.Layout.{IsSchema, Layout, are_distinct, is_lawful_name, is_listed}
 use Rattle.cube_core.specs.Plain.{nulls_of, plain_at, plain_by_name, plain_dimension, plain_measure}
 use Rattle.cube_core.specs.Takes.{null_text}
 use Rattle.cube_core.specs.declared.feed_columns.Column.{Column}
-use Rattle.cube_core.specs.declared.feed_columns.DimensionPlace.{DimensionPlace}
 use Rattle.cube_core.specs.declared.feed_columns.FeedColumns.{FeedColumns}
 use Rattle.cube_core.specs.declared.feed_columns.FoundColumns.{FoundColumns}
 use Rattle.cube_core.specs.declared.feed_columns.FoundColumns.TheVariants.{InOrder, ByName}
@@ -51,11 +52,14 @@ found_columns-once s columns header some once =
     it (if is_header s header then Some InOrder else None)) some
     ∙ ap (λ (b : Bool). if b then Some (ByName (places_by columns header)) else None) once
 
+-- what records give after a header that names these columns, or none
+abbrev gives : Layout → List (List (List ℕ)) → Option FoundColumns → RestOfFeed FeedEnd
+gives s records found = option_map_or (λ (columns : FoundColumns). items_after s columns 0 records) found
+    (let wrong : RestOfFeed FeedEnd = record { items = []; end = WrongHeader } in wrong)
+
 items_of-found : (s : Layout) (header : List (List ℕ)) (records : List (List (List ℕ))) (columns : FoundColumns)
     → found_columns s header ≡ Some columns → items_of s (header ∷ records) ≡ items_after s columns 0 records
-items_of-found s header records columns found =
-    let wrong : RestOfFeed FeedEnd = record { items = []; end = WrongHeader } in
-    ap (λ (it : Option FoundColumns). option_map_or (λ (that : FoundColumns). items_after s that 0 records) it wrong) found
+items_of-found s header records columns found = ap (gives s records) found
 
 -- ---- records that are read alike
 module _ (s : Layout) (columns : FeedColumns) (header other : List (List ℕ)) where
@@ -68,9 +72,6 @@ module _ (s : Layout) (columns : FeedColumns) (header other : List (List ℕ)) w
       ≡ option_map_or (field_at others) (option_map (place_in other) name) default
   same-name fields others None default same = refl
   same-name fields others (Some name) default same = same.0
-
-  abbrev place_by : List (List ℕ) → Column → DimensionPlace
-  place_by names column = record { place = place_in names column.name; first = column.first }
 
   same-dimensions : (fields others : List (List ℕ)) (dimensions : List Column)
       → AllByRecursion (SameAt fields others) (map (λ (column : Column). column.name) dimensions)
@@ -291,9 +292,7 @@ module _ (point : ℕ) (s : Layout) (is : IsSchema s) where
   at fields name = field_at fields (place_in (header_for s) name)
 
   own-dimensions : (fields names : List (List ℕ))
-      → map (plain_at named fields) (map (λ (column : Column).
-      (let it : DimensionPlace = record { place = place_in (header_for s) column.name; first = column.first } in it))
-      (map whole_column names))
+      → map (plain_at named fields) (map (place_by (header_for s)) (map whole_column names))
       ≡ map (at fields) names
   own-dimensions fields [] = refl
   own-dimensions fields (name ∷ names) =
@@ -301,7 +300,8 @@ module _ (point : ℕ) (s : Layout) (is : IsSchema s) where
       (plain_dimension-own named (at fields name)) (own-dimensions fields names)
 
   own-measures : (fields names : List (List ℕ))
-      → map (λ place. plain_measure named (nulls_of named) (field_at fields place)) (map (place_in (header_for s)) names)
+      → map (λ place. plain_measure named (nulls_of named) (field_at fields place))
+      (map (place_in (header_for s)) names)
       ≡ map (at fields) names
   own-measures fields [] = refl
   own-measures fields (name ∷ names) =
@@ -449,10 +449,7 @@ items_of-missing : (s : Layout) (header other : List (List ℕ)) (records others
     → found_columns s header ≡ None → found_columns s other ≡ None
     → items_of s (header ∷ records) ≡ items_of s (other ∷ others)
 items_of-missing s header other records others none other_none =
-    let wrong : RestOfFeed FeedEnd = record { items = []; end = WrongHeader } in
-    ap (λ (it : Option FoundColumns). option_map_or (λ (that : FoundColumns). items_after s that 0 records) it wrong) none
-    ∙ sym (ap (λ (it : Option FoundColumns). option_map_or (λ (that : FoundColumns). items_after s that 0 others) it wrong)
-    other_none)
+    ap (gives s records) none ∙ sym (ap (gives s others) other_none)
 
 pub items_of-moved : (s : Layout) (columns : FeedColumns) (places : List ℕ) (header : List (List ℕ))
     (records : List (List (List ℕ))) → s.columns ≡ Some columns
@@ -465,8 +462,8 @@ items_of-moved s columns places header records some all wide =
     sym (ap (λ test. list_all test (names_read columns)) (moved-once columns places header all)) in
     elim (cases_Bool (list_all (stands_once header) (names_read columns))) [
       | inl once ↦
-          items_of-alike s columns (picked places header) header (map (picked places) records) records some (same ∙ once)
-          once (moved-records columns places header all records once wide)
+          items_of-alike s columns (picked places header) header (map (picked places) records) records some
+          (same ∙ once) once (moved-records columns places header all records once wide)
       | inr missing ↦
           items_of-missing s (picked places header) header (map (picked places) records) records
           (found_columns-missing s columns (picked places header) some (same ∙ missing))

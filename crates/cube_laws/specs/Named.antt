@@ -12,8 +12,8 @@ use Rattle.cube_core.specs.declared.feed_columns.FeedColumns.{FeedColumns}
 abbrev pub whole_column : List ℕ → Column
 whole_column name = record { name = name; first = None }
 
--- the columns of a schema's own order, by their names: `op` and `id`, and each dimension and measure under its own name,
--- with `\N` alone for null, with commas, and with this point
+-- the columns of a schema's own order, by their names: `op` and `id`, and each dimension and measure under its own
+-- name, with `\N` alone for null, with commas, and with this point
 abbrev pub own_columns : ℕ → Layout → FeedColumns
 own_columns point s = record {
   id = Some (codes "id");
