@@ -1,12 +1,13 @@
 -- Feeds whose columns are known by their names: what they give.
 use Rattle.std.proofs.Common.{◌≡◌, ◌≤◌, ◌<◌, ◌+◌, ℕ, zero, suc, Bool, true, false, not, List, [], ◌∷◌, ◌++◌, length}
-use Rattle.std.proofs.Common.{get_or, filter, map, codes, Option, Some, None, option_map, refl, sym, ap, ap₂, ◌∙◌, subst}
-use Rattle.std.proofs.Common.{inl, inr, arith, nat_lt, zero-add, IsPermutation}
-use Rattle.std.specs.Prelude.{◌==◌, cond, unwrap_or, if◌then◌else◌}
-use Rattle.std.specs.List.{AllByRecursion, AllZip, list_all, position_from, range_with_len}
+use Rattle.std.proofs.Common.{get_or, filter, map, codes, Option, Some, None, option_map, refl, sym, ap, ap₂, ◌∙◌}
+use Rattle.std.proofs.Common.{subst, inl, inr, arith, nat_lt, zero-add, IsPermutation}
+use Rattle.std.specs.Prelude.{◌==◌, cond, is_some, unwrap_or, if◌then◌else◌}
+use Rattle.std.specs.List.{AllByRecursion, AllZip, filter_map, list_all, position_from, range_with_len}
 use Rattle.std.specs.Option.{option_map_or}
 use Rattle.std.specs.Str.{bytes_eq}
-use Rattle.std.proofs.lemmas.Bool.{and_parts, cases_Bool, eq-eqb, eqb-true, false_from_ne_true, false≢true, not-true}
+use Rattle.std.proofs.lemmas.Bool.{and_from, and_parts, cases_Bool, eq-eqb, eqb-true, false_from_ne_true, false≢true}
+use Rattle.std.proofs.lemmas.Bool.{not-true}
 use Rattle.std.proofs.lemmas.Iterator.Adapters.{position_from-zero}
 use Rattle.std.proofs.lemmas.List.{append-nil, ext_get_or, get_or-map, get_or_default, length-append, length-map}
 use Rattle.std.proofs.lemmas.List.{map-append}
@@ -15,6 +16,8 @@ use Rattle.std.proofs.lemmas.List.FromFn.{length-range_with_len}
 use Rattle.std.proofs.lemmas.List.Sorted.{All-permutation, IsPermutation-map, length_permutation}
 use Rattle.std.proofs.lemmas.List.Sums.{list_all-from_AllPass}
 use Rattle.std.proofs.lemmas.Slice.Eq.{bytes_eq-Decides}
+use Rattle.toml.specs.Data.{no_members, table}
+use Rattle.cube_core.specs.FeedDocument.{columns_of_feed, dimension_column, feed_columns, is_feed_table, measure_column}
 use Rattle.cube_core.specs.FeedRecords.{FeedEnd, RestOfFeed, TooManyRecords, WrongHeader, found_columns, is_read}
 use Rattle.cube_core.specs.FeedRecords.{item_then, items_after, items_of, names_read, place_by, place_in, places_by}
 use Rattle.cube_core.specs.FeedRecords.{stands_once}
@@ -31,7 +34,7 @@ use Rattle.cube_core.proofs.ListLaws.{filter-failed, filter-passed}
 use Rattle.cube_core.proofs.PlainLaws.{plain_in_order-same}
 use Rattle.cube_laws.proofs.FeedLaws.{is_header-header_for}
 use Rattle.cube_laws.specs.Feeds.{header_for}
-use Rattle.cube_laws.specs.Named.{AreReadAlike, by_names, in_order, own_columns, picked, whole_column}
+use Rattle.cube_laws.specs.Named.{AreReadAlike, bare_columns, by_names, in_order, own_columns, picked, whole_column}
 use Rattle.cube_laws.proofs.RowOrderLaws.{IsPermutation-Reordered, Reordered, filter-Reordered, length-Reordered}
 
 -- what holds of all elements of two lists, joined, holds of all of each
@@ -469,3 +472,37 @@ items_of-moved s columns places header records some all wide =
           (found_columns-missing s columns (picked places header) some (same ∙ missing))
           (found_columns-missing s columns header some missing)
     ]
+
+-- ---- an empty table `feed`
+bare-dimensions : (names : List (List ℕ))
+    → (list_all (λ name. is_some (dimension_column no_members name)) names ≡ true)
+    × (filter_map (dimension_column no_members) names ≡ map whole_column names)
+bare-dimensions [] = (refl, refl)
+bare-dimensions (name ∷ names) =
+    let rest = bare-dimensions names in
+    (rest.0, ap (λ (columns : List Column). whole_column name ∷ columns) rest.1)
+
+bare-measures : (names : List (List ℕ))
+    → (list_all (λ name. is_some (measure_column no_members name)) names ≡ true)
+    × (filter_map (measure_column no_members) names ≡ names)
+bare-measures [] = (refl, refl)
+bare-measures (name ∷ names) =
+    let rest = bare-measures names in
+    (rest.0, ap (λ (others : List (List ℕ)). name ∷ others) rest.1)
+
+pub columns_of_feed-empty : (dimensions measures : List (List ℕ))
+    → columns_of_feed dimensions measures (table no_members) ≡ Some (bare_columns dimensions measures)
+columns_of_feed-empty dimensions measures =
+    let ds = bare-dimensions dimensions in
+    let ms = bare-measures measures in
+    let right : is_feed_table dimensions measures no_members ≡ true = and_from _ _ refl (and_from _ _ ds.0 ms.0) in
+    ap (λ (yes : Bool). if yes then Some (feed_columns dimensions measures no_members) else None) right
+    ∙ ap₂ (λ (of_dimensions : List Column) (of_measures : List (List ℕ)). Some (record {
+      id = None;
+      op = None;
+      nulls = null_text ∷ [];
+      delimiter = 44;
+      point = 46;
+      dimensions = of_dimensions;
+      measures = of_measures;
+    })) ds.1 ms.1

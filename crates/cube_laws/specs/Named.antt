@@ -25,6 +25,19 @@ own_columns point s = record {
   measures = s.measures;
 }
 
+-- the columns that go by nothing but the names of a schema: without ids and operations, with `\N` alone for null,
+-- with commas, and with the point
+abbrev pub bare_columns : List (List ℕ) → List (List ℕ) → FeedColumns
+bare_columns dimensions measures = record {
+  id = None;
+  op = None;
+  nulls = null_text ∷ [];
+  delimiter = 44;
+  point = 46;
+  dimensions = map whole_column dimensions;
+  measures = measures;
+}
+
 -- the same schema, with feeds of these columns, and with feeds of columns in its order
 abbrev pub by_names : FeedColumns → Layout → Layout
 by_names columns s = record s { columns = Some columns }

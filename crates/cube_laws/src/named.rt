@@ -1,11 +1,13 @@
 //! What feeds give whose columns are known by their names.
 ghost use Rattle.std.specs.Prelude.{◌≡◌, ℕ, true, List, ◌∷◌, length, map, Some, IsPermutation};
 ghost use Rattle.std.specs.List.{AllByRecursion, AllZip, list_all, range_with_len};
+ghost use Rattle.toml.specs.Data.{no_members, table};
+ghost use Rattle.cube_core.specs.FeedDocument.{columns_of_feed};
 ghost use Rattle.cube_core.specs.FeedRecords.{items_of, names_read, stands_once};
 ghost use Rattle.cube_core.specs.Items.{width_of};
 ghost use Rattle.cube_core.specs.Layout.{IsSchema, Layout};
 ghost use Rattle.cube_laws.specs.Feeds.{header_for};
-ghost use Rattle.cube_laws.specs.Named.{AreReadAlike, by_names, in_order, own_columns, picked};
+ghost use Rattle.cube_laws.specs.Named.{AreReadAlike, bare_columns, by_names, in_order, own_columns, picked};
 ghost use Rattle.cube_core.specs.declared.feed_columns.FeedColumns.{FeedColumns};
 
 /// A feed in the order of the schema, each record as wide as the header, gives the same where its columns are read by their
@@ -37,4 +39,11 @@ pub fn order_of_columns_does_not_count()
         s.columns ≡ Some columns → IsPermutation (range_with_len 0 (length header)) places →
         AllByRecursion (λ fields. length fields ≡ length header) records →
         items_of s (picked places header ∷ map (picked places) records) ≡ items_of s (header ∷ records) }
+{}
+
+/// An empty table `feed` says that each column has the name of its dimension or its measure, that no column has ids or
+/// operations, that `\N` alone is null, and that commas stand between fields (this project's choice).
+pub fn empty_table_takes_the_names_of_the_schema()
+    ensures { (dimensions measures : List (List ℕ)) →
+        columns_of_feed dimensions measures (table no_members) ≡ Some (bare_columns dimensions measures) }
 {}
