@@ -58,8 +58,34 @@ Ranked-find p rank (first ∷ xs) x ranked among passes none = elim (Contains-ca
 ]
 
 document_faults-Ranked : Ranked number_of_fault document_faults
-document_faults-Ranked =
-    ((omega arith, (omega arith, (omega arith, (omega arith, (omega arith, (omega arith, (omega arith, (omega arith, tt)))))))), ((omega arith, (omega arith, (omega arith, (omega arith, (omega arith, (omega arith, (omega arith, tt))))))), ((omega arith, (omega arith, (omega arith, (omega arith, (omega arith, (omega arith, tt)))))), ((omega arith, (omega arith, (omega arith, (omega arith, (omega arith, tt))))), ((omega arith, (omega arith, (omega arith, (omega arith, tt)))), ((omega arith, (omega arith, (omega arith, tt))), ((omega arith, (omega arith, tt)), ((omega arith, tt), (tt, tt)))))))))
+document_faults-Ranked = (
+  (
+    omega arith,
+    (omega arith, (omega arith, (omega arith, (omega arith, (omega arith, (omega arith, (omega arith, tt))))))),
+  ),
+  (
+    (omega arith, (omega arith, (omega arith, (omega arith, (omega arith, (omega arith, (omega arith, tt))))))),
+    (
+      (omega arith, (omega arith, (omega arith, (omega arith, (omega arith, (omega arith, tt)))))),
+      (
+        (omega arith, (omega arith, (omega arith, (omega arith, (omega arith, tt))))),
+        (
+          (omega arith, (omega arith, (omega arith, (omega arith, tt)))),
+          (
+            (omega arith, (omega arith, (omega arith, tt))),
+            (
+              (omega arith, (omega arith, tt)),
+              (
+                (omega arith, tt),
+                (tt, tt),
+              ),
+            ),
+          ),
+        ),
+      ),
+    ),
+  ),
+)
 
 -- a fault that a document has is one of these
 has_fault-Contains : (document : Members) (told : SchemaFault) → has_fault document told ≡ true

@@ -1,6 +1,6 @@
 -- A written feed, read back; and how much a feed gives.
-use Rattle.std.specs.Prelude.{◌≡◌, ◌≢◌, ◌↔◌, ◌==◌, ◌&&◌, ◌||◌, ◌+◌, ◌%◌, ◌≤◌, ◌<◌, nat_lt, ℕ, zero, suc, ℤ, Bool, true, false, not}
-use Rattle.std.specs.Prelude.{List, [], ◌∷◌, ◌++◌, length, map, take, drop, codes, Option, Some, None, is_some}
+use Rattle.std.specs.Prelude.{◌≡◌, ◌≢◌, ◌↔◌, ◌==◌, ◌&&◌, ◌||◌, ◌+◌, ◌%◌, ◌≤◌, ◌<◌, nat_lt, ℕ, zero, suc, ℤ, Bool}
+use Rattle.std.specs.Prelude.{true, false, not, List, [], ◌∷◌, ◌++◌, length, map, take, drop, codes, Option, Some, None, is_some}
 use Rattle.std.specs.Prelude.{option_map, Result, Ok, Err, IfOk, if◌then◌else◌}
 use Rattle.std.specs.Fmt.{signed_decimal}
 use Rattle.std.specs.List.{AllByRecursion, flat_map, list_all, list_any, filter_map, cons_option}
@@ -376,7 +376,7 @@ same_fields-itself [] = refl
 same_fields-itself (field ∷ fields) =
     and_from (bytes_eq field field) (same_fields fields fields) (bytes_eq-itself field) (same_fields-itself fields)
 
-is_header-header_for : (s : Layout) → is_header s (header_for s) ≡ true
+pub is_header-header_for : (s : Layout) → is_header s (header_for s) ≡ true
 is_header-header_for s =
     ap (λ b. b || same_fields (header_for s) ((byte_order_mark ++ codes "op") ∷ column_names s))
     (same_fields-itself (header_for s))
@@ -521,7 +521,7 @@ pub found_columns-header : (s : Layout) (header : List (List ℕ)) → s.columns
 found_columns-header s header none =
     ap is_some (found_columns-in_order s header none) ∙ by (is_header s header)
   where
-    by : (b : Bool) → is_some {A = FoundColumns} (if b then Some InOrder else None) ≡ b
+    by : (b : Bool) → is_some (if b then Some InOrder else None) ≡ b
     by true = refl
     by false = refl
 

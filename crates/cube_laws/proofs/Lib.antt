@@ -39,4 +39,5 @@ mod AskedLaws
 mod NumberLaws
 mod FeedLaws
 mod FaultLaws
+mod NamedLaws
 mod SameCubeLaws

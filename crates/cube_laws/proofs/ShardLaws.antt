@@ -336,7 +336,6 @@ items_of-part s count place whole (header ∷ records) = at (found_columns s hea
     at : (found : Option FoundColumns) → found_columns s header ≡ found
         → (items_of (of_shard count s place) (header ∷ records)).items
         ≡ filter test (items_of s (header ∷ records)).items
-    unfolding test
     at None is =
         ap (λ (rest : RestOfFeed FeedEnd). rest.items)
         (items_of-found (of_shard count s place) header records None is)
@@ -414,48 +413,60 @@ items_after-Says s columns done (fields ∷ records) number as_many =
     by item rest one all false read = tt
 
 module _ (s : Layout) (count place : ℕ) (columns : FoundColumns) (records : List (List (List ℕ))) where
+  -- the plain record of an item, and whether it is in the shard
+  abbrev plain : Item → List (List ℕ)
+  plain item = plain_of s columns item.number (get_or records item.number [])
+
+  abbrev in_part : Item → Bool
+  in_part item = is_of_part s count place columns records item
+
+  plain-in_part : (item : Item) → (shard_of count (field_at (plain item) 1) == place) ≡ in_part item
+  plain-in_part item =
+      ap (is_read (of_shard count s place))
+      (sym (plain_of-part s count place columns item.number (get_or records item.number [])))
+
   -- a change of an item is of the shard where its record is in it
   taken_change-is_of : (item : Item) → Says s columns records item
-      → IfSome (taken_change s item.what) (λ change. is_of count place change ≡ is_of_part s count place columns records item)
-  taken_change-is_of item says = named item.what (subst (λ what. IfOk what (Names (plain_of s columns item.number (get_or records item.number []))))
-      (sym says) (change_of-Names s (plain_of s columns item.number (get_or records item.number []))))
+      → IfSome (taken_change s item.what) (λ change. is_of count place change ≡ in_part item)
+  taken_change-is_of item says = named item.what (subst (λ what. IfOk what (Names (plain item)))
+      (sym says) (change_of-Names s (plain item)))
     where
-      taken : (change : Change) (b : Bool) → Names (plain_of s columns item.number (get_or records item.number [])) change
+      taken : (change : Change) (b : Bool) → Names (plain item) change
           → IfSome (if b then Some change else None)
-          (λ (it : Change). is_of count place it ≡ is_of_part s count place columns records item)
-      taken change true names = ap (λ id. shard_of count id == place) names
+          (λ (it : Change). is_of count place it ≡ in_part item)
+      taken change true names = ap (λ id. shard_of count id == place) names ∙ plain-in_part item
       taken change false names = tt
 
-      named : (what : Result Change LineFault) → IfOk what (Names (plain_of s columns item.number (get_or records item.number [])))
-          → IfSome (taken_change s what) (λ change. is_of count place change ≡ is_of_part s count place columns records item)
+      named : (what : Result Change LineFault) → IfOk what (Names (plain item))
+          → IfSome (taken_change s what) (λ change. is_of count place change ≡ in_part item)
       named (Ok change) names = taken change (takes s change) names
       named (Err fault) names = tt
 
   -- the changes of the shard's items are those of all items that are of the shard
   changes_of-filter : (items : List Item) → AllByRecursion (Says s columns records) items
-      → changes_of s (filter (is_of_part s count place columns records) items) ≡ filter (is_of count place) (changes_of s items)
+      → changes_of s (filter (in_part) items) ≡ filter (is_of count place) (changes_of s items)
   changes_of-filter items says =
-      filter_map-filter (λ (item : Item). taken_change s item.what) (is_of_part s count place columns records)
+      filter_map-filter (λ (item : Item). taken_change s item.what) (in_part)
       (is_of count place) items
       (Contains-AllByRecursion (λ (item : Item). IfSome (taken_change s item.what)
-      (λ change. is_of count place change ≡ is_of_part s count place columns records item)) items
+      (λ change. is_of count place change ≡ in_part item)) items
       (λ item among. taken_change-is_of item (AllByRecursion-Contains (Says s columns records) items item says among)))
 
   -- ---- the refusals of a shard
   -- an item of the shard is refused after the shard's items before it as it is after all of them
-  code_of-part : (before : List Item) (item : Item) → AllByRecursion (Says s columns records) before → Says s columns records item
-      → is_of_part s count place columns records item ≡ true
-      → code_of s (filter (is_of_part s count place columns records) before) item.what ≡ code_of s before item.what
+  code_of-part : (before : List Item) (item : Item) → AllByRecursion (Says s columns records) before
+      → Says s columns records item → in_part item ≡ true
+      → code_of s (filter (in_part) before) item.what ≡ code_of s before item.what
   code_of-part before item says said inside = at item.what
-      (subst (λ what. IfOk what (Names (plain_of s columns item.number (get_or records item.number [])))) (sym said)
-      (change_of-Names s (plain_of s columns item.number (get_or records item.number []))))
+      (subst (λ what. IfOk what (Names (plain item))) (sym said)
+      (change_of-Names s (plain item)))
     where
-      at : (what : Result Change LineFault) → IfOk what (Names (plain_of s columns item.number (get_or records item.number [])))
-          → code_of s (filter (is_of_part s count place columns records) before) what ≡ code_of s before what
+      at : (what : Result Change LineFault) → IfOk what (Names (plain item))
+          → code_of s (filter (in_part) before) what ≡ code_of s before what
       at (Err fault) names = refl
       at (Ok change) names =
           let within : (shard_of count (id_of change) == place) ≡ true =
-          ap (λ id. shard_of count id == place) names ∙ inside in
+          ap (λ id. shard_of count id == place) names ∙ plain-in_part item ∙ inside in
           let life = ap (life_of (id_of change)) (changes_of-filter before says)
           ∙ life_of-inside count place (id_of change) (changes_of s before) within in
           ap (λ found. if not (takes s change) then Some (shape_code s) else code_by_presence s change (is_some found))
@@ -465,7 +476,7 @@ module _ (s : Layout) (count place : ℕ) (columns : FoundColumns) (records : Li
   abbrev is_refused_here : Refusal → Bool
   is_refused_here refusal = is_record_read (of_shard count s place) columns records refusal.number
 
-  refusal-filter : (item : Item) (code : Option ℕ) → is_of_part s count place columns records item ≡ true
+  refusal-filter : (item : Item) (code : Option ℕ) → in_part item ≡ true
       → filter is_refused_here (option_to_list
       (option_map (λ c. let refusal : Refusal = record { number = item.number; code = c } in refusal) code))
       ≡ option_to_list
@@ -474,7 +485,7 @@ module _ (s : Layout) (count place : ℕ) (columns : FoundColumns) (records : Li
   refusal-filter item (Some c) inside =
       filter-passed is_refused_here (record { number = item.number; code = c }) [] inside
 
-  refusal-none : (item : Item) (code : Option ℕ) → is_of_part s count place columns records item ≡ false
+  refusal-none : (item : Item) (code : Option ℕ) → in_part item ≡ false
       → filter is_refused_here (option_to_list
       (option_map (λ c. let refusal : Refusal = record { number = item.number; code = c } in refusal) code)) ≡ []
   refusal-none item None outside = refl
@@ -484,12 +495,12 @@ module _ (s : Layout) (count place : ℕ) (columns : FoundColumns) (records : Li
   -- the refusals of the shard's items, where those of the items before are known
   abbrev RefusesAlike : List Item → Type 0
   RefusesAlike items =
-      refusals_of s (filter (is_of_part s count place columns records) items) ≡ filter is_refused_here (refusals_of s items)
+      refusals_of s (filter (in_part) items) ≡ filter is_refused_here (refusals_of s items)
 
-  RefusesAlike-more : (before : List Item) (item : Item) → AllByRecursion (Says s columns records) before → Says s columns records item
-      → RefusesAlike before → RefusesAlike (before ++ item ∷ [])
+  RefusesAlike-more : (before : List Item) (item : Item) → AllByRecursion (Says s columns records) before
+      → Says s columns records item → RefusesAlike before → RefusesAlike (before ++ item ∷ [])
   RefusesAlike-more before item says said alike =
-      let p : Item → Bool = is_of_part s count place columns records in
+      let p : Item → Bool = in_part in
       let after : filter is_refused_here (refusals_of s (before ++ item ∷ []))
       ≡ filter is_refused_here (refusals_of s before)
       ++ filter is_refused_here (option_to_list (refusal_of s before item))
@@ -544,7 +555,8 @@ module _ (s : Layout) (count place : ℕ) where
           → P (has_record (of_shard count s place) (header ∷ records)) (items_of s (header ∷ records)).items
       at None is =
           subst (λ (rest : RestOfFeed FeedEnd). P (has_record (of_shard count s place) (header ∷ records)) rest.items)
-          (sym (items_of-found s header records None is)) (none (has_record (of_shard count s place) (header ∷ records)))
+          (sym (items_of-found s header records None is))
+          (none (has_record (of_shard count s place) (header ∷ records)))
       at (Some columns) is =
           let same : is_record_read (of_shard count s place) columns (header ∷ records)
           ≡ has_record (of_shard count s place) (header ∷ records) =

@@ -45,6 +45,7 @@ of_shard-IsSchema s count place is below most = record {
   version_at_least = is.version_at_least;
   version_at_most = is.version_at_most;
   lawful_shard = record { below = below; at_most = most };
+  lawful_columns = is.lawful_columns;
 }
 
 -- ---- shards of several sources

@@ -6,6 +6,7 @@ use Rattle.std.proofs.Common.{inl, inr, arith, codes}
 use Rattle.std.specs.Prelude.{◌==◌, ◌&&◌, ◌||◌, not}
 use Rattle.std.specs.Int.{w64}
 use Rattle.std.specs.List.{AllByRecursion, AllZip, IsDistinct, list_all, list_any}
+use Rattle.std.specs.Option.{option_map_or}
 use Rattle.std.specs.Str.{bytes_eq, is_utf8}
 use Rattle.std.specs.Str.Parse.{signed_digits_value}
 use Rattle.std.proofs.lemmas.Bool.{cases_Bool, and_parts, and_from, eqb-true, eq-eqb}
@@ -17,10 +18,8 @@ use Rattle.std.proofs.lemmas.Slice.Eq.{bytes_eq-Decides}
 use Rattle.cube_core.specs.Amendment.{over, fields_over}
 use Rattle.cube_core.specs.Items.{change_of, fact_of, fits_i64, insert_of, is_keep, is_measure, is_null, is_number}
 use Rattle.cube_core.specs.Items.{keeps_any, measure_field_of, measure_fields}
-use Rattle.cube_core.specs.FeedRecords.{FeedEnd, WrongHeader, RestOfFeed, feed_records, found_columns, is_read, items_after}
-use Rattle.cube_core.specs.FeedRecords.{items_of, plain_of}
-use Rattle.cube_core.specs.declared.feed_columns.FoundColumns.{FoundColumns}
-use Rattle.std.specs.Option.{option_map_or}
+use Rattle.cube_core.specs.FeedRecords.{WrongHeader, RestOfFeed, feed_records, found_columns, is_read, items_after}
+use Rattle.cube_core.specs.FeedRecords.{FeedEnd, items_of, plain_of}
 use Rattle.cube_core.specs.Items.{measure_of, number_of, unless_at_fault, update_of, width_of, field_at}
 use Rattle.cube_core.specs.Layout.{Layout, IsSchema}
 use Rattle.cube_core.specs.Life.{id_of, naming, is_delete, since_delete, updated, from_insert, life_of, taken_change}
@@ -33,6 +32,7 @@ use Rattle.cube_core.specs.declared.change.Change.TheVariants.{Insert, Update, A
 use Rattle.cube_core.specs.declared.change.Item.{Item}
 use Rattle.cube_core.specs.declared.change.LineFault.{LineFault}
 use Rattle.cube_core.specs.declared.fact.Fact.{Fact}
+use Rattle.cube_core.specs.declared.feed_columns.FoundColumns.{FoundColumns}
 use Rattle.cube_core.specs.declared.partial.Field.{Field}
 use Rattle.cube_core.specs.declared.partial.Field.TheVariants.{Keep, Put}
 use Rattle.cube_core.specs.declared.partial.Partial.{Partial}

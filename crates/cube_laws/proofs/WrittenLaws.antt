@@ -66,7 +66,6 @@ least_measures-WritesSchema document s is writes = at (get_member (codes "feed")
 
     at : (feed : Option Data) → get_member (codes "feed") document ≡ feed
         → least_measures_in document ≤ length s.measures
-    unfolding least
     at None none =
         let said : s.columns ≡ None = sym (same_Some None s.columns
         (sym (ap (columns_of_value (dimensions_in document) (measures_in document)) none) ∙ writes.columns)) in

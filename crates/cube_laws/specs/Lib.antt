@@ -13,3 +13,4 @@ pub mod Lines
 pub mod Single
 pub mod Asked
 pub mod Feeds
+pub mod Named

@@ -9,6 +9,7 @@ pub mod fraction;
 pub mod keys;
 pub mod life;
 pub mod merging;
+pub mod named;
 pub mod order;
 pub mod queries;
 pub mod records;
