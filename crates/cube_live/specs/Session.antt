@@ -50,7 +50,8 @@ IsReply s arrivals (Wrong fault) reply = reply ≡ code_line fault
 -- one item more where the record is in the schema's shard, and else the same
 abbrev pub arrivals_changed : Layout → Arrivals → ℕ → List (List ℕ) → Arrivals
 arrivals_changed s arrivals source fields =
-    if is_read s fields then arrivals ++ (source, said_item arrivals source (change_in_order s fields)) ∷ [] else arrivals
+    if is_read s fields then arrivals ++ (source, said_item arrivals source (change_in_order s fields)) ∷ []
+    else arrivals
 
 -- an arrival list after a record that asks this: changed by a change, and else the same
 abbrev pub arrivals_by : Layout → Arrivals → Request → List (List ℕ) → Arrivals
