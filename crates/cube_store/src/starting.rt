@@ -1,13 +1,14 @@
 //! A journal over a store's files.
-ghost use Rattle.std.specs.Prelude.{◌≡◌, ◌⊎◌, IsTrue, IfOk, IfErr, OnOk};
+ghost use Rattle.std.specs.Prelude.{◌≡◌, ◌⊎◌, IsTrue, IfOk, IfErr};
 ghost use Rattle.sqlite_wal.specs.Recovery.{Image};
+ghost use Rattle.sqlite_wal.specs.Reads.{AreClean};
 ghost use Rattle.sqlite_trees.specs.Tree.{Trees};
 ghost use Rattle.sqlite_trees.specs.View.{View, IsClean};
 ghost use Rattle.sqlite_store.specs.FileStore.{state, view, recovers};
 ghost use Rattle.cube_store.specs.Rows.{entries_of};
 ghost use Rattle.cube_store.specs.State.{stored_in, noted_in, Finds, IsStore, IsUnmade, LeadsTo, Starts};
 ghost use Rattle.cube_store.specs.Making.{LeavesNotes};
-ghost use Rattle.cube_store.specs.Closing.{IsCopied, IsEmptied, IsUnharmed, LeavesOneFile, LeavesUnharmed};
+ghost use Rattle.cube_store.specs.Closing.{IsCopied, IsEmptied, IsUnharmed, LeavesOneFile};
 ghost use Rattle.cube_store.specs.Codes.{TellsFailedCall};
 ghost use Rattle.cube_store.specs.Found.{StoreIn, IsFound};
 
@@ -19,7 +20,7 @@ use crate::note::FeedNote;
 use crate::sink::ChangeSink;
 use crate::store_fault::StoreFault;
 use crate::tables::schema;
-use sqlite_disk::Disk;
+use sqlite_disk::{Disk, Files};
 use sqlite_store::FileStore;
 use sqlite_trees::store::Store;
 use std::alloc::{AllocError, Global};
@@ -101,21 +102,18 @@ pub fn copy_log<D: Disk>(
     }
 }
 
-/// Copies the log into the file, as `copy_log` does, and closes both. What isn't committed is lost.
+/// Copies the log into the file, as `copy_log` does, and gives the two files: the database file alone is the store then,
+/// without the log. What isn't committed is lost.
 ///
-/// An error closes them too. What a crash leaves then it could leave before.
-pub fn close<D: Disk + Drop>(journal: ChangeJournal<FileStore<D>>) -> Result<(), StoreFault>
-    ensures left { OnOk result (LeavesOneFile journal.store) }
-    ensures unharmed { IfErr result (λ fault. LeavesUnharmed journal.store fault) }
+/// An error gives the store back. What a crash leaves then it could leave before.
+pub fn close<D: Disk>(
+    journal: ChangeJournal<FileStore<D>>,
+) -> Result<Files<D>, (StoreFault, FileStore<D>)>
+    ensures left { IfOk result (λ it. AreClean D.Disk it.log it.db → LeavesOneFile journal.store it.log it.db) }
+    ensures unharmed { IfErr result (λ e. IsUnharmed journal.store e.1 e.0) }
 {
     match copy_log(journal) {
-        Ok(store) => {
-            drop(store.close());
-            Ok(())
-        }
-        Err((fault, store)) => {
-            drop(store.close());
-            Err(fault)
-        }
+        Ok(store) => Ok(store.close()),
+        Err(refused) => Err(refused),
     }
 }

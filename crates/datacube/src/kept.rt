@@ -108,12 +108,26 @@ fn serve_and_close<T: Threads + Wait + Clock + Copy + Send + Sync + 'static, D: 
 {
     match serve_over(rt, threads, words, schema, feeds, progress) {
         Ok((status, journal)) => {
-            close(journal)?;
+            copy_and_close(journal)?;
             Ok(status)
         }
         Err((failure, store)) => {
             drop(store.close());
             Err(failure)
+        }
+    }
+}
+
+/// Copies a store's log into its file, and closes both.
+fn copy_and_close<D: Disk + Drop>(journal: ChangeJournal<FileStore<D>>) -> Result<(), StoreFault> {
+    match close(journal) {
+        Ok(files) => {
+            drop(files);
+            Ok(())
+        }
+        Err((fault, store)) => {
+            drop(store.close());
+            Err(fault)
         }
     }
 }
