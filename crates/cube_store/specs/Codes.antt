@@ -9,7 +9,8 @@ use Rattle.sqlite_wal.specs.declared.error.Error.TheVariants as log
 use Rattle.cube_store.specs.declared.fault.OpenFault.{OpenFault}
 use Rattle.cube_store.specs.declared.fault.OpenFault.TheVariants as kind
 use Rattle.cube_store.specs.declared.store_fault.StoreFault.{StoreFault}
-use Rattle.cube_store.specs.declared.store_fault.StoreFault.TheVariants.{InUse, CantOpen, NotAStore, Row, Digest, Feed}
+use Rattle.cube_store.specs.declared.store_fault.StoreFault.TheVariants.{InUse, CantOpen, NotAStore}
+use Rattle.cube_store.specs.declared.store_fault.StoreFault.TheVariants.{Row, Digest, Feed}
 use Rattle.cube_store.specs.declared.store_fault.StoreFault.TheVariants.{Failed, NoRoom, Memory}
 
 -- What a failed call on an open store is told as (this project's choice).
@@ -60,8 +61,8 @@ TellsFailedCall Failed = ⊤
 TellsFailedCall NoRoom = ⊤
 TellsFailedCall Memory = ⊤
 
--- Why a call on a store is told as failed:
--- out of memory, a fault of the disk or of the file, or one that broke the store before (this project's choice).
+-- Why a call on a store is told as failed: out of memory, a fault of the disk or of the file, or
+-- one that broke the store before (this project's choice).
 abbrev pub HasReason : Type 0 → Type 0 → StoreFault → Type 0
 HasReason fault broken InUse = ⊥
 HasReason fault broken CantOpen = ⊥

@@ -1,16 +1,17 @@
 //! A store's two files.
-ghost use Rattle.std.specs.Prelude.{◌≡◌, ◌⊎◌, ◌↔◌, true, false, length, IsTrue, IfOk, IfErr};
+ghost use Rattle.std.specs.Prelude.{◌≡◌, ◌↔◌, true, false, length, IsTrue, IfOk, IfErr};
 ghost use Rattle.sqlite_wal.specs.PageSize.{bytes_of};
-ghost use Rattle.sqlite_wal.specs.Files.{seen_image};
-ghost use Rattle.sqlite_wal.specs.Reads.{AreClean, OnlyReads};
+ghost use Rattle.sqlite_wal.specs.Reads.{OnlyReads};
 ghost use Rattle.sqlite_pool.specs.Opening.{IsBlankFile};
 ghost use Rattle.sqlite_trees.specs.View.{IsClean};
 ghost use Rattle.sqlite_store.specs.FileStore.{view};
 ghost use Rattle.sqlite_store.specs.Unopened.{state_of, wanted_by, files_of, image, AreUsable};
 ghost use Rattle.sqlite_std_file.specs.File.{file_is_usable, IsFresh};
-ghost use Rattle.cube_store.specs.State.{IsUnmade, stored_form};
+ghost use Rattle.cube_store.specs.State.{stored_form, IsUnmade};
 ghost use Rattle.cube_store.specs.Codes.{TellsFailedCall};
-ghost use Rattle.cube_store.specs.Found.{store_schema, BeginsMaking, StoreOf, StoreIn, IsBegun, HasNoTable, HasLooked, IsFoundAs, IsFound, IsFoundMade};
+ghost use Rattle.cube_store.specs.Found.{store_schema, StoreOf, StoreIn, HasLooked, IsFoundAs};
+ghost use Rattle.cube_store.specs.Found.{BeginsMaking, IsBegunIfBlank, HasNoTable, HoldsNothing};
+ghost use Rattle.cube_store.specs.Found.{IsFound, IsFoundMade, seen_in, AreHonest, AreBothUsable};
 
 use crate::form::RowForm;
 use crate::store_fault::StoreFault;
@@ -25,8 +26,8 @@ use std::alloc::Global;
 
 const PAGE_BYTES: usize = 4096;
 
-/// The bytes 5 to 16 of the log that a making begins: the format's version, the page size and a count of checkpoints that no
-/// other log has.
+/// The bytes 5 to 16 of the log that a making begins: the format's version, the page size and a
+/// count of checkpoints that no other log has.
 const MAKING_MARK: [u8; 12] = [0, 45, 226, 24, 0, 0, 16, 0, 255, 255, 255, 255];
 
 /// The page size of a store.
@@ -36,9 +37,11 @@ pub(crate) fn page_size() -> PageSize
     PageSize::new(PAGE_BYTES).unwrap()
 }
 
-/// Opens the two files at a path, and makes those that are missing. No other process can open them until they are closed.
+/// Opens the two files at a path, and makes those that are missing. No other process can open them
+/// until they are closed.
 ///
-/// `Unknown` supposes that a torn write leaves each byte old or new; `Wary` supposes nothing, and syncs twice a commit.
+/// `Unknown` supposes that a torn write leaves each byte old or new; `Wary` supposes nothing, and
+/// syncs twice a commit.
 pub fn open_path<S: Start>(
     rt: &HostRuntime,
     path: &str,
@@ -54,12 +57,14 @@ pub fn open_path<S: Start>(
     }
 }
 
-/// Whether the files hold no database: none was made, or only the first bytes of one, as any single byte counts.
+/// Whether the files hold no database: none was made, or only the first bytes of one, as any single
+/// byte counts.
 fn hold_none<D: Disk>(alloc: Global, files: &mut Files<D>) -> Result<bool, StoreFault>
     requires log { IsTrue (D.Disk.is_usable files.old.log) }
     requires db { IsTrue (D.Disk.is_usable files.old.db) }
-    ensures ok { IfOk result (λ none. AreClean D.Disk files.new.log files.new.db → (IsTrue none ↔ IsBlankFile 4096 (seen_image D.Disk files.old.log files.old.db))) }
-    ensures cause { IfErr result (λ e. AreClean D.Disk files.new.log files.new.db → TellsFailedCall e) }
+    ensures ok { IfOk result (λ none. AreHonest D.Disk files.new
+        → (IsTrue none ↔ IsBlankFile 4096 (seen_in D.Disk files.old))) }
+    ensures cause { IfErr result (λ e. AreHonest D.Disk files.new → TellsFailedCall e) }
     ensures log { OnlyReads D.Disk files.old.log files.new.log }
     ensures db { OnlyReads D.Disk files.old.db files.new.db }
 {
@@ -72,7 +77,8 @@ fn hold_none<D: Disk>(alloc: Global, files: &mut Files<D>) -> Result<bool, Store
 /// Whether the file is empty.
 fn is_empty<D: Disk>(db: &mut D) -> Result<bool, StoreFault>
     requires { IsTrue (D.Disk.is_usable db.old) }
-    ensures ok { IfOk result (λ empty. IsTrue (D.Disk.is_clean db.new) → IsTrue empty → length (D.Disk.seen db.old) ≡ 0) }
+    ensures ok { IfOk result (λ empty. IsTrue (D.Disk.is_clean db.new)
+        → IsTrue empty → length (D.Disk.seen db.old) ≡ 0) }
     ensures cause { IfErr result TellsFailedCall }
     ensures same { OnlyReads D.Disk db.old db.new }
 {
@@ -85,7 +91,8 @@ fn is_empty<D: Disk>(db: &mut D) -> Result<bool, StoreFault>
 /// Whether the log begins as a making's does.
 fn begins_making<D: Disk>(log: &mut D) -> Result<bool, StoreFault>
     requires { IsTrue (D.Disk.is_usable log.old) }
-    ensures ok { IfOk result (λ begins. IsTrue (D.Disk.is_clean log.new) → IsTrue begins → BeginsMaking (D.Disk.seen log.old)) }
+    ensures ok { IfOk result (λ begins. IsTrue (D.Disk.is_clean log.new)
+        → IsTrue begins → BeginsMaking (D.Disk.seen log.old)) }
     ensures cause { IfErr result TellsFailedCall }
     ensures same { OnlyReads D.Disk log.old log.new }
 {
@@ -106,8 +113,8 @@ fn begins_making<D: Disk>(log: &mut D) -> Result<bool, StoreFault>
 fn were_begun<D: Disk>(files: &mut Files<D>) -> Result<bool, StoreFault>
     requires log { IsTrue (D.Disk.is_usable files.old.log) }
     requires db { IsTrue (D.Disk.is_usable files.old.db) }
-    ensures ok { IfOk result (λ begun. AreClean D.Disk files.new.log files.new.db → IsTrue begun → IsBlankFile 4096 (seen_image D.Disk files.old.log files.old.db)
-        → IsBegun (seen_image D.Disk files.old.log files.old.db)) }
+    ensures ok { IfOk result (λ begun. AreHonest D.Disk files.new
+        → IsTrue begun → IsBegunIfBlank (seen_in D.Disk files.old)) }
     ensures cause { IfErr result TellsFailedCall }
     ensures log { OnlyReads D.Disk files.old.log files.new.log }
     ensures db { OnlyReads D.Disk files.old.db files.new.db }
@@ -122,8 +129,10 @@ fn were_begun<D: Disk>(files: &mut Files<D>) -> Result<bool, StoreFault>
 fn begin_well<D: Disk>(alloc: Global, files: &mut Files<D>) -> Result<bool, StoreFault>
     requires log { IsTrue (D.Disk.is_usable files.old.log) }
     requires db { IsTrue (D.Disk.is_usable files.old.db) }
-    ensures ok { IfOk result (λ well. AreClean D.Disk files.new.log files.new.db → StoreIn (seen_image D.Disk files.old.log files.old.db) → IsTrue well) }
-    ensures cause { IfErr result (λ e. AreClean D.Disk files.new.log files.new.db → StoreIn (seen_image D.Disk files.old.log files.old.db) → TellsFailedCall e) }
+    ensures ok { IfOk result (λ well. AreHonest D.Disk files.new
+        → StoreIn (seen_in D.Disk files.old) → IsTrue well) }
+    ensures cause { IfErr result (λ e. AreHonest D.Disk files.new
+        → StoreIn (seen_in D.Disk files.old) → TellsFailedCall e) }
     ensures log { OnlyReads D.Disk files.old.log files.new.log }
     ensures db { OnlyReads D.Disk files.old.db files.new.db }
 {
@@ -133,8 +142,8 @@ fn begin_well<D: Disk>(alloc: Global, files: &mut Files<D>) -> Result<bool, Stor
     }
 }
 
-/// The files with the schema of a store in this form, of which nothing is known yet. It gives them back where memory runs
-/// out.
+/// The files with the schema of a store in this form, of which nothing is known yet. It gives them
+/// back where memory runs out.
 fn unopened<D: Disk>(
     alloc: Global,
     files: Files<D>,
@@ -157,17 +166,17 @@ fn unopened<D: Disk>(
     }
 }
 
-/// Makes the two tables in files that hold nothing, or no more than a making that was cut short leaves: that of changes has
-/// digests.
+/// Makes the two tables in files that hold nothing, or no more than a making that was cut short
+/// leaves: that of changes has digests.
 fn make_tables<D: Disk>(fresh: Unopened<D>) -> Result<FileStore<D>, (StoreFault, Files<D>)>
     requires usable { AreUsable fresh }
     requires size { (state_of fresh).page_size ≡ 4096 }
     requires schema { wanted_by fresh ≡ store_schema RowForm.Chained }
     ensures made { IfOk result (λ it. IsClean (view it) → IsUnmade (view it)) }
     ensures form { IfOk result (λ it. stored_form (view it) ≡ RowForm.Chained) }
-    ensures started { IfOk result (λ it. IsClean (view it) → ∥ IsBlankFile 4096 (image fresh) ⊎ HasNoTable (image fresh) ∥₁) }
+    ensures started { IfOk result (λ it. IsClean (view it) → ∥ HoldsNothing (image fresh) ∥₁) }
     ensures honest { IfOk result (λ it. IsClean (view it) → IsTrue (state_of fresh).is_clean) }
-    ensures falls { IfErr result (λ e. AreClean D.Disk e.1.log e.1.db → IsTrue (state_of fresh).is_clean) }
+    ensures falls { IfErr result (λ e. AreHonest D.Disk e.1 → IsTrue (state_of fresh).is_clean) }
 {
     match fresh.create() {
         Ok(store) => Ok(store),
@@ -185,9 +194,10 @@ fn finish<D: Disk>(
     requires db { IsTrue (D.Disk.is_usable files.db) }
     ensures made { IfOk result (λ it. IsClean (view it) → IsUnmade (view it)) }
     ensures form { IfOk result (λ it. stored_form (view it) ≡ RowForm.Chained) }
-    ensures started { IfOk result (λ it. IsClean (view it) → ∥ IsBlankFile 4096 (seen_image D.Disk files.log files.db) ⊎ HasNoTable (seen_image D.Disk files.log files.db) ∥₁) }
-    ensures honest { IfOk result (λ it. IsClean (view it) → AreClean D.Disk files.log files.db) }
-    ensures falls { IfErr result (λ e. AreClean D.Disk e.1.log e.1.db → AreClean D.Disk files.log files.db) }
+    ensures started { IfOk result (λ it. IsClean (view it)
+        → ∥ HoldsNothing (seen_in D.Disk files) ∥₁) }
+    ensures honest { IfOk result (λ it. IsClean (view it) → AreHonest D.Disk files) }
+    ensures falls { IfErr result (λ e. AreHonest D.Disk e.1 → AreHonest D.Disk files) }
 {
     match unopened(alloc, files, options, RowForm::Chained) {
         Ok(fresh) => make_tables(fresh),
@@ -204,10 +214,12 @@ fn open_store<D: Disk>(
 ) -> Result<FileStore<D>, (StoreFault, Files<D>)>
     requires log { IsTrue (D.Disk.is_usable files.log) }
     requires db { IsTrue (D.Disk.is_usable files.db) }
-    ensures found { IfOk result (λ it. IsClean (view it) → IsFoundAs form (seen_image D.Disk files.log files.db) (view it)) }
-    ensures honest { IfOk result (λ it. IsClean (view it) → AreClean D.Disk files.log files.db) }
-    ensures falls { IfErr result (λ e. AreClean D.Disk e.1.log e.1.db → AreClean D.Disk files.log files.db) }
-    ensures accepts { IfErr result (λ e. AreClean D.Disk e.1.log e.1.db → StoreOf form (seen_image D.Disk files.log files.db) → TellsFailedCall e.0) }
+    ensures found { IfOk result (λ it. IsClean (view it)
+        → IsFoundAs form (seen_in D.Disk files) (view it)) }
+    ensures honest { IfOk result (λ it. IsClean (view it) → AreHonest D.Disk files) }
+    ensures falls { IfErr result (λ e. AreHonest D.Disk e.1 → AreHonest D.Disk files) }
+    ensures accepts { IfErr result (λ e. AreHonest D.Disk e.1
+        → StoreOf form (seen_in D.Disk files) → TellsFailedCall e.0) }
 {
     let fresh = match unopened(alloc, files, options, form) {
         Ok(fresh) => fresh,
@@ -225,10 +237,12 @@ fn read_form<D: Disk>(
 ) -> Result<(Option<RowForm>, Files<D>), (StoreFault, Files<D>)>
     requires usable { AreUsable fresh }
     requires size { (state_of fresh).page_size ≡ 4096 }
-    ensures seen { IfOk result (λ r. AreClean D.Disk r.1.log r.1.db → HasLooked (image fresh) (seen_image D.Disk r.1.log r.1.db) r.0) }
-    ensures usable { IfOk result (λ r. IsTrue (D.Disk.is_usable r.1.log) × IsTrue (D.Disk.is_usable r.1.db)) }
-    ensures honest { IfOk result (λ r. AreClean D.Disk r.1.log r.1.db → IsTrue (state_of fresh).is_clean) }
-    ensures accepts { IfErr result (λ e. AreClean D.Disk e.1.log e.1.db → StoreIn (image fresh) → TellsFailedCall e.0) }
+    ensures seen { IfOk result (λ r. AreHonest D.Disk r.1
+        → HasLooked (image fresh) (seen_in D.Disk r.1) r.0) }
+    ensures usable { IfOk result (λ r. AreBothUsable D.Disk r.1) }
+    ensures honest { IfOk result (λ r. AreHonest D.Disk r.1 → IsTrue (state_of fresh).is_clean) }
+    ensures accepts { IfErr result (λ e. AreHonest D.Disk e.1
+        → StoreIn (image fresh) → TellsFailedCall e.0) }
 {
     match fresh.read_catalog() {
         Ok(rows) => Ok((form_told(&rows), fresh.close())),
@@ -236,8 +250,8 @@ fn read_form<D: Disk>(
     }
 }
 
-/// In which form the files list the table of changes, or that they list nothing, where they recover to a database; nothing
-/// but its recovery is written.
+/// In which form the files list the table of changes, or that they list nothing, where they recover
+/// to a database; nothing but its recovery is written.
 fn look<D: Disk>(
     alloc: Global,
     mut files: Files<D>,
@@ -245,10 +259,12 @@ fn look<D: Disk>(
 ) -> Result<(Option<RowForm>, Files<D>), (StoreFault, Files<D>)>
     requires log { IsTrue (D.Disk.is_usable files.log) }
     requires db { IsTrue (D.Disk.is_usable files.db) }
-    ensures seen { IfOk result (λ r. AreClean D.Disk r.1.log r.1.db → HasLooked (seen_image D.Disk files.log files.db) (seen_image D.Disk r.1.log r.1.db) r.0) }
-    ensures usable { IfOk result (λ r. IsTrue (D.Disk.is_usable r.1.log) × IsTrue (D.Disk.is_usable r.1.db)) }
-    ensures honest { IfOk result (λ r. AreClean D.Disk r.1.log r.1.db → AreClean D.Disk files.log files.db) }
-    ensures accepts { IfErr result (λ e. AreClean D.Disk e.1.log e.1.db → StoreIn (seen_image D.Disk files.log files.db) → TellsFailedCall e.0) }
+    ensures seen { IfOk result (λ r. AreHonest D.Disk r.1
+        → HasLooked (seen_in D.Disk files) (seen_in D.Disk r.1) r.0) }
+    ensures usable { IfOk result (λ r. AreBothUsable D.Disk r.1) }
+    ensures honest { IfOk result (λ r. AreHonest D.Disk r.1 → AreHonest D.Disk files) }
+    ensures accepts { IfErr result (λ e. AreHonest D.Disk e.1
+        → StoreIn (seen_in D.Disk files) → TellsFailedCall e.0) }
 {
     match begin_well(alloc, &mut files) {
         Ok(true) => {}
@@ -271,9 +287,10 @@ fn finish_first_page<D: Disk>(
     requires db { IsTrue (D.Disk.is_usable files.db) }
     ensures made { IfOk result (λ it. IsClean (view it) → IsUnmade (view it)) }
     ensures form { IfOk result (λ it. stored_form (view it) ≡ RowForm.Chained) }
-    ensures started { IfOk result (λ it. IsClean (view it) → ∥ HasNoTable (seen_image D.Disk files.log files.db) ∥₁) }
-    ensures honest { IfOk result (λ it. IsClean (view it) → AreClean D.Disk files.log files.db) }
-    ensures falls { IfErr result (λ e. AreClean D.Disk e.1.log e.1.db → AreClean D.Disk files.log files.db) }
+    ensures started { IfOk result (λ it. IsClean (view it)
+        → ∥ HasNoTable (seen_in D.Disk files) ∥₁) }
+    ensures honest { IfOk result (λ it. IsClean (view it) → AreHonest D.Disk files) }
+    ensures falls { IfErr result (λ e. AreHonest D.Disk e.1 → AreHonest D.Disk files) }
 {
     match hold_none(alloc, &mut files) {
         Ok(true) => Err((StoreFault::NotAStore, files)),
@@ -282,7 +299,8 @@ fn finish_first_page<D: Disk>(
     }
 }
 
-/// Makes the tables in files that hold no database, unless they are other bytes than a making's first ones.
+/// Makes the tables in files that hold no database, unless they are other bytes than a making's
+/// first ones.
 fn finish_begun<D: Disk>(
     alloc: Global,
     mut files: Files<D>,
@@ -292,9 +310,9 @@ fn finish_begun<D: Disk>(
     requires db { IsTrue (D.Disk.is_usable files.db) }
     ensures made { IfOk result (λ it. IsClean (view it) → IsUnmade (view it)) }
     ensures form { IfOk result (λ it. stored_form (view it) ≡ RowForm.Chained) }
-    ensures begun { IfOk result (λ it. IsClean (view it) → IsBlankFile 4096 (seen_image D.Disk files.log files.db) → IsBegun (seen_image D.Disk files.log files.db)) }
-    ensures honest { IfOk result (λ it. IsClean (view it) → AreClean D.Disk files.log files.db) }
-    ensures falls { IfErr result (λ e. AreClean D.Disk e.1.log e.1.db → AreClean D.Disk files.log files.db) }
+    ensures begun { IfOk result (λ it. IsClean (view it) → IsBegunIfBlank (seen_in D.Disk files)) }
+    ensures honest { IfOk result (λ it. IsClean (view it) → AreHonest D.Disk files) }
+    ensures falls { IfErr result (λ e. AreHonest D.Disk e.1 → AreHonest D.Disk files) }
 {
     match were_begun(&mut files) {
         Ok(true) => finish(alloc, files, options),
@@ -311,8 +329,10 @@ fn open_held<D: Disk>(
 ) -> Result<FileStore<D>, (StoreFault, Files<D>)>
     requires log { IsTrue (D.Disk.is_usable files.log) }
     requires db { IsTrue (D.Disk.is_usable files.db) }
-    ensures found { IfOk result (λ it. IsClean (view it) → IsFound (seen_image D.Disk files.log files.db) (view it)) }
-    ensures accepts { IfErr result (λ e. AreClean D.Disk e.1.log e.1.db → StoreIn (seen_image D.Disk files.log files.db) → TellsFailedCall e.0) }
+    ensures found { IfOk result (λ it. IsClean (view it)
+        → IsFound (seen_in D.Disk files) (view it)) }
+    ensures accepts { IfErr result (λ e. AreHonest D.Disk e.1
+        → StoreIn (seen_in D.Disk files) → TellsFailedCall e.0) }
 {
     match look(alloc, files, options) {
         Ok((None, files)) => finish_first_page(alloc, files, options),
@@ -321,13 +341,14 @@ fn open_held<D: Disk>(
     }
 }
 
-/// Opens the store that two files hold, or makes its two tables where the file is empty or has what a making that was cut short
-/// leaves: the first bytes of a database's first page, beside a log that begins as a making's does, or that page whole, as a
-/// sound database without a table. `seed` is a random number.
+/// Opens the store that two files hold, or makes its two tables where the file is empty or has what
+/// a making that was cut short leaves: the first bytes of a database's first page, beside a log
+/// that begins as a making's does, or that page whole, as a sound database without a table. `seed`
+/// is a random number.
 ///
-/// A new table of changes has digests; one without, as stores up to release 1.11 have it, is opened as it is. Files that
-/// recover to sound pages of these two tables, with no other table or index, are refused only where a call fails. An error
-/// gives the files back.
+/// A new table of changes has digests; one without, as stores up to release 1.11 have it, is opened
+/// as it is. Files that recover to sound pages of these two tables, with no other table or index,
+/// are refused only where a call fails. An error gives the files back.
 pub fn open_files<D: Disk>(
     alloc: Global,
     mut files: Files<D>,
@@ -335,8 +356,10 @@ pub fn open_files<D: Disk>(
 ) -> Result<FileStore<D>, (StoreFault, Files<D>)>
     requires log { IsTrue (D.Disk.is_usable files.log) }
     requires db { IsTrue (D.Disk.is_usable files.db) }
-    ensures found { IfOk result (λ it. IsClean (view it) → IsFound (seen_image D.Disk files.log files.db) (view it)) }
-    ensures accepts { IfErr result (λ e. AreClean D.Disk e.1.log e.1.db → StoreIn (seen_image D.Disk files.log files.db) → TellsFailedCall e.0) }
+    ensures found { IfOk result (λ it. IsClean (view it)
+        → IsFound (seen_in D.Disk files) (view it)) }
+    ensures accepts { IfErr result (λ e. AreHonest D.Disk e.1
+        → StoreIn (seen_in D.Disk files) → TellsFailedCall e.0) }
 {
     let options = Options::new(seed);
     match hold_none(alloc, &mut files) {
@@ -346,11 +369,12 @@ pub fn open_files<D: Disk>(
     }
 }
 
-/// Opens the store that two files hold, and makes none: what a making that was cut short leaves is refused too. `seed` is a
-/// random number.
+/// Opens the store that two files hold, and makes none: what a making that was cut short leaves is
+/// refused too. `seed` is a random number.
 ///
-/// A table of changes with digests is opened, and one without. Files that recover to sound pages of these two tables, with no
-/// other table or index, are refused only where a call fails. An error gives the files back.
+/// A table of changes with digests is opened, and one without. Files that recover to sound pages of
+/// these two tables, with no other table or index, are refused only where a call fails. An error
+/// gives the files back.
 pub fn open_made_files<D: Disk>(
     alloc: Global,
     files: Files<D>,
@@ -358,8 +382,10 @@ pub fn open_made_files<D: Disk>(
 ) -> Result<FileStore<D>, (StoreFault, Files<D>)>
     requires log { IsTrue (D.Disk.is_usable files.log) }
     requires db { IsTrue (D.Disk.is_usable files.db) }
-    ensures found { IfOk result (λ it. IsClean (view it) → IsFoundMade (seen_image D.Disk files.log files.db) (view it)) }
-    ensures accepts { IfErr result (λ e. AreClean D.Disk e.1.log e.1.db → StoreIn (seen_image D.Disk files.log files.db) → TellsFailedCall e.0) }
+    ensures found { IfOk result (λ it. IsClean (view it)
+        → IsFoundMade (seen_in D.Disk files) (view it)) }
+    ensures accepts { IfErr result (λ e. AreHonest D.Disk e.1
+        → StoreIn (seen_in D.Disk files) → TellsFailedCall e.0) }
 {
     let options = Options::new(seed);
     match look(alloc, files, options) {

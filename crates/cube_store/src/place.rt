@@ -21,8 +21,8 @@ pub struct LogPlace {
 }
 
 impl LogPlace {
-    /// Takes a log without a frame away again that the opening of files made which are no store. The files have to be open
-    /// still, so that no other process has them.
+    /// Takes a log without a frame away again that the opening of files made which are no store.
+    /// The files have to be open still, so that no other process has them.
     pub fn forget(&self, rt: &HostRuntime) {
         if self.was_there {
             return;
@@ -35,11 +35,12 @@ impl LogPlace {
     }
 }
 
-/// Looks at what stands at a path before a store is opened there. Where nothing does and `makes` holds, an empty file is made
-/// that only its owner may read and write; and a log that stands beside the file gets the file's rights.
+/// Looks at what stands at a path before a store is opened there. Where nothing does and `makes`
+/// holds, an empty file is made that only its owner may read and write; and a log that stands
+/// beside the file gets the file's rights.
 ///
-/// A file that isn't empty, doesn't begin as each database of SQLite does and has no log beside it isn't a store, and nothing is
-/// made beside it. Without `makes` an empty file isn't one either.
+/// A file that isn't empty, doesn't begin as each database of SQLite does and has no log beside it
+/// isn't a store, and nothing is made beside it. Without `makes` an empty file isn't one either.
 pub fn prepare_path(rt: &HostRuntime, path: &str, makes: bool) -> Result<LogPlace, StoreFault> {
     if makes {
         make_private(rt, path)?;
@@ -84,7 +85,8 @@ fn make_private(rt: &HostRuntime, path: &str) -> Result<(), StoreFault> {
     }
 }
 
-// Whether a file of this length may be a store's, or be made one, by how it begins and by whether its log has a byte.
+// Whether a file of this length may be a store's, or be made one, by how it begins and by whether
+// its log has a byte.
 fn may_be_store(
     rt: &HostRuntime,
     path: &str,

@@ -16,8 +16,7 @@ returns-clause-found g c =
     let midway : IsClean mid = omega (arith, quiet.clean) in (
       mid.committed,
       rw c.into_store-store.ensures.value at (c.in_default.ensures.found midway),
-      (h clean).0.stored,
-      (h clean).0.held,
+      ((h clean).0.stored, (h clean).0.held),
     )) c.open.ensures.quiet c.open.ensures.found
 
 pub returns-clause-last : goal.returns-clause-last
