@@ -1,13 +1,11 @@
 -- What is opened after a crash.
 use Rattle.std.proofs.Common.{◌≡◌, ◌⊎◌, inl, inr, ℕ, ◌≤◌, false, List, IsTrue, sym, ap, subst, ◌∙◌, arith}
 use Rattle.sqlite_disk.specs.Disk.{MoreFaults}
-use Rattle.sqlite_trees.specs.declared.error.StoreError.TheVariants.{OutOfMemory}
 use Rattle.sqlite_trees.specs.declared.store.Shape.{Shape}
 use Rattle.sqlite_trees.specs.Objects.{catalog_tree}
 use Rattle.sqlite_trees.specs.Tree.{Trees}
 use Rattle.sqlite_trees.specs.View.{View, IsClean, IsReopened}
 use Rattle.cube_store.specs.declared.fault.OpenFault.{OpenFault}
-use Rattle.cube_store.specs.declared.fault.OpenFault.TheVariants as kind
 use Rattle.cube_store.specs.Rows.{Entry, entries_in}
 use Rattle.cube_store.specs.State.{form_by, form_in, stored_form, Holds, HasTables, IsStore, IsFailedCall}
 use Rattle.cube_store.specs.Rows.{no_digest}
@@ -44,16 +42,11 @@ reopened_store old mid notes have was_clean clean fresh broken unaltered found =
 -- a call failed, as of before another
 pub failed_since : (a b c : ℕ) (e : OpenFault) → a ≤ b → IsFailedCall (MoreFaults b c) e
     → IsFailedCall (MoreFaults a c) e
-failed_since a b c (kind.Store error) up h = widen h
+failed_since a b c e up h = (h.0, h.1, widen h.2)
   where
     wide : MoreFaults b c → MoreFaults a c
     wide f = omega arith
 
-    widen : (error ≡ OutOfMemory) ⊎ MoreFaults b c → (error ≡ OutOfMemory) ⊎ MoreFaults a c
+    widen : {P : Type 0} → P ⊎ MoreFaults b c → P ⊎ MoreFaults a c
     widen (inl none) = inl none
     widen (inr f) = inr (wide f)
-failed_since a b c kind.NoTables up h = h
-failed_since a b c (kind.Feed source) up h = h
-failed_since a b c (kind.Row number) up h = h
-failed_since a b c (kind.Digest number) up h = h
-failed_since a b c kind.TooMany up h = h

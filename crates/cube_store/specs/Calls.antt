@@ -8,11 +8,12 @@ use Rattle.sqlite_trees.specs.declared.error.StoreError.{StoreError}
 use Rattle.sqlite_trees.specs.Tree.{Trees, put_row}
 use Rattle.sqlite_trees.specs.View.{View, IsClean, IsQuiet, SetsTree, HasCause}
 use Rattle.cube_store.specs.declared.fault.OpenFault.{OpenFault}
+use Rattle.cube_store.specs.declared.fault.OpenFault.TheVariants as kind
 use Rattle.cube_store.specs.declared.note.FeedNote.{FeedNote}
-use Rattle.cube_store.specs.Rows.{Entry, row_of, change_row, entry_of, entries_in}
+use Rattle.cube_store.specs.Rows.{Entry, row_of, change_row, entry_of, entries_in, entries_of}
 use Rattle.cube_store.specs.State.{held_in, stored_in, noted_in, form_in, stored_form, Holds}
 use Rattle.cube_store.specs.State.{HasTables, IsStore, LeadsTo}
-use Rattle.cube_store.specs.State.{ForgetsNothing, IsCause, ExplainsUnopened}
+use Rattle.cube_store.specs.State.{ForgetsNothing, IsCause, ExplainsUnopened, HasNoRow}
 use Rattle.cube_store.specs.Reading.{TellsWhether}
 use Rattle.cube_store.specs.Making.{CantNote, LeavesNotes, LeavesEither}
 use Rattle.cube_store.specs.Keeping.{Batch, HasKept, HasBroken, BatchKeepsOn}
@@ -176,6 +177,23 @@ module _ {S : Type 0} (s : Ghosts S) where
       ExplainsUnopened (HasFaulted old new) (((s.view old).is_open ≡ false) ⊎ HasFaulted old new)
       (IsTrue (s.view old).is_open) (HasTables (s.view old)) (stored_form (s.view old))
       (s.view old).committed notes
+
+  -- Why a store isn't made with these notes: memory, a fault, or that one can't be stored
+  -- (this project's choice).
+  abbrev pub IsntMade : S → S → List FeedNote → OpenFault → Type 0
+  IsntMade old new notes fault = (error : StoreError) × (fault ≡ kind.Store error)
+      × IsCause (HasFaulted old new) ⊥ (IsUnnotable notes) error
+
+  -- Why a store is neither opened nor made with these notes (this project's choice).
+  abbrev pub IsntStarted : S → S → List FeedNote → OpenFault → Type 0
+  IsntStarted old new notes fault =
+      IsntOpened old new (entries_of notes) fault ⊎ IsntMade old new notes fault
+
+  -- Why a store that was made before isn't opened with these notes, or that it has no row
+  -- (this project's choice).
+  abbrev pub IsntReopened : S → S → List Entry → OpenFault → Type 0
+  IsntReopened old new notes fault =
+      IsntOpened old new notes fault ⊎ ((fault ≡ kind.NoTables) × HasNoRow (s.view old))
 
   -- A journal goes on from what it kept, with this change behind the others
   -- (this project's choice).

@@ -14,7 +14,7 @@ use Rattle.sqlite_store.specs.FileStore.{state, view, files, recovers, faults, r
 use Rattle.sqlite_store.specs.FileStore.{HasSpilled}
 use Rattle.sqlite_store.specs.Listing.{file_trees}
 use Rattle.cube_store.specs.State.{stored_in, noted_in, stored_form, Holds}
-use Rattle.cube_store.specs.declared.store_fault.StoreFault.{StoreFault}
+use Rattle.cube_store.specs.declared.store_fault.CallFault.{CallFault}
 use Rattle.cube_store.specs.Codes.{HasReason}
 
 module _ {D : Type 0} {g : Ghosts D} where
@@ -40,12 +40,12 @@ module _ {D : Type 0} {g : Ghosts D} where
   abbrev pub IsEmptied : FileStore D g → FileStore D g → Type 0
   IsEmptied was it = (HasSpilled was → ⊥) → log_frames it ≡ 0
 
-  -- A store became another one, which a call has told as failed:
-  -- a crash leaves no more than before, and the failure has a cause (this project's choice).
-  pub record IsUnharmed (was it : FileStore D g) (fault : StoreFault) : Type 0 where
+  -- A store became another one, which a call has told as failed: a crash leaves no more than before,
+  -- and the failure has a cause (this project's choice).
+  pub record IsUnharmed (was it : FileStore D g) (fault : CallFault) : Type 0 where
     pub crash : (db : Trees) → recovers it db → recovers was db
     pub cause : IsClean (view it)
-        → HasReason (MoreFaults (faults was) (faults it)) (IsTrue (view was).is_broken) fault
+        → HasReason (view was) (MoreFaults (faults was) (faults it)) fault
 
   -- Recovery finds in two files, as they are and after each crash, the pages that a store committed
   -- last, which read as its tables; and in the database file alone, without the log, unless the log

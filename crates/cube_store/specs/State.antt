@@ -88,6 +88,10 @@ pub record IsUnmade (v : View) : Type 0 where
   pub tables : HasTables v
   pub none : (v.committed 0 ≡ []) × (v.committed 1 ≡ [])
 
+-- The last commit of an open store has no row (this project's choice).
+abbrev pub HasNoRow : View → Type 0
+HasNoRow v = IsTrue v.is_open × (v.committed 0 ≡ []) × (v.committed 1 ≡ [])
+
 -- Only cursors have moved (this project's choice).
 abbrev pub OnlyReads : View → View → Type 0
 OnlyReads old new = new ≡ record old { cursors = new.cursors }
@@ -197,14 +201,13 @@ ExplainsUnopened fault shut is_open tables form trees notes kind.TooMany =
 -- A call on the store failed, because memory ran out or by a fault, and not for what is stored
 -- (this project's choice).
 abbrev pub IsFailedCall : Type 0 → OpenFault → Type 0
-IsFailedCall fault (kind.Store error) = (error ≡ OutOfMemory) ⊎ fault
-IsFailedCall fault _ = ⊥
+IsFailedCall fault e =
+    (error : StoreError) × (e ≡ kind.Store error) × ((error ≡ OutOfMemory) ⊎ fault)
 
 -- A call on the store failed, or what is to be stored can't be (this project's choice).
 abbrev pub FailsToStart : Type 0 → Type 0 → OpenFault → Type 0
-FailsToStart fault unstorable (kind.Store error) =
-    ((error ≡ OutOfMemory) ⊎ fault) ⊎ ((error ≡ Unstorable) × unstorable)
-FailsToStart fault unstorable _ = ⊥
+FailsToStart fault unstorable e =
+    IsFailedCall fault e ⊎ ((e ≡ kind.Store Unstorable) × unstorable)
 
 -- An open journal has the last commit of a store with these notes (this project's choice).
 abbrev pub FindsNoted : List Entry → View → View → Type 0

@@ -3,7 +3,8 @@ ghost use Rattle.std.specs.Prelude.{◌≡◌, ◌⊎◌, IfOk, IfErr};
 ghost use Rattle.cube_store.specs.Rows.{entries_of};
 ghost use Rattle.cube_store.specs.State.{IsStore, IsUnmade, FailsToStart, FindsNoted, Starts};
 ghost use Rattle.cube_store.specs.Calls.{IsUnnotable, IsHonest, Shown, HasFaulted, Remembers};
-ghost use Rattle.cube_store.specs.Calls.{LeavesNoMore, MayLeaveNotes, HandsOver};
+ghost use Rattle.cube_store.specs.Calls.{LeavesNoMore, MayLeaveNotes, HandsOver, IsntStarted};
+ghost use Rattle.cube_store.specs.Calls.{IsntReopened};
 
 use crate::fault::OpenFault;
 use crate::journal::ChangeJournal;
@@ -35,6 +36,8 @@ pub fn open_or_make<S: Store, K: ChangeSink>(
     ensures unharmed { IfErr result (λ e. MayLeaveNotes S.Store (entries_of notes.now) store e.1) }
     ensures on { IfOk result (λ j. Remembers S.Store store j.store) }
     ensures on_err { IfErr result (λ e. Remembers S.Store store e.1) }
+    ensures cause { IfErr result (λ e. IsHonest S.Store e.1
+        → IsntStarted S.Store store e.1 notes.now e.0) }
     ensures accepts { IfErr result (λ e. IsHonest S.Store e.1
         → IsStore (S.Store.view store) (entries_of notes.now) ⊎ IsUnmade (S.Store.view store)
         → FailsToStart (HasFaulted S.Store store e.1) (IsUnnotable notes.now) e.0) }
@@ -65,6 +68,8 @@ pub fn open_made<S: Store, K: ChangeSink>(
         HandsOver S.Store K.ChangeSink.takes sink.old j.store sink.new) }
     ensures crash { IfOk result (λ j. LeavesNoMore S.Store store j.store) }
     ensures unharmed { IfErr result (λ e. LeavesNoMore S.Store store e.1) }
+    ensures cause { IfErr result (λ e. IsHonest S.Store e.1
+        → IsntReopened S.Store store e.1 (entries_of notes.now) e.0) }
     ensures accepts { IfErr result (λ e. IsHonest S.Store e.1
         → IsStore (S.Store.view store) (entries_of notes.now) → ¬ IsUnmade (S.Store.view store)
         → FailsToStart (HasFaulted S.Store store e.1) ⊥ e.0) }

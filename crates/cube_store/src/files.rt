@@ -14,7 +14,7 @@ ghost use Rattle.cube_store.specs.Found.{BeginsMaking, IsBegunIfBlank, HasNoTabl
 ghost use Rattle.cube_store.specs.Found.{IsFound, IsFoundMade, seen_in, AreHonest, AreBothUsable};
 
 use crate::form::RowForm;
-use crate::store_fault::StoreFault;
+use crate::store_fault::{CallFault, StoreFault};
 use crate::tables::{form_told, schema};
 use sqlite_disk::{Disk, Files, Start};
 use sqlite_pager::{Options, Pager};
@@ -75,29 +75,27 @@ fn hold_none<D: Disk>(alloc: Global, files: &mut Files<D>) -> Result<bool, Store
 }
 
 /// Whether the file is empty.
-fn is_empty<D: Disk>(db: &mut D) -> Result<bool, StoreFault>
+fn is_empty<D: Disk>(db: &mut D) -> Result<bool, CallFault>
     requires { IsTrue (D.Disk.is_usable db.old) }
     ensures ok { IfOk result (λ empty. IsTrue (D.Disk.is_clean db.new)
         → IsTrue empty → length (D.Disk.seen db.old) ≡ 0) }
-    ensures cause { IfErr result TellsFailedCall }
     ensures same { OnlyReads D.Disk db.old db.new }
 {
     match db.len() {
         Ok(length) => Ok(length == 0),
-        Err(_) => Err(StoreFault::Failed),
+        Err(_) => Err(CallFault::Failed),
     }
 }
 
 /// Whether the log begins as a making's does.
-fn begins_making<D: Disk>(log: &mut D) -> Result<bool, StoreFault>
+fn begins_making<D: Disk>(log: &mut D) -> Result<bool, CallFault>
     requires { IsTrue (D.Disk.is_usable log.old) }
     ensures ok { IfOk result (λ begins. IsTrue (D.Disk.is_clean log.new)
         → IsTrue begins → BeginsMaking (D.Disk.seen log.old)) }
-    ensures cause { IfErr result TellsFailedCall }
     ensures same { OnlyReads D.Disk log.old log.new }
 {
     let Ok(length) = log.len() else {
-        return Err(StoreFault::Failed);
+        return Err(CallFault::Failed);
     };
     if length < 16 {
         return Ok(false);
@@ -105,17 +103,16 @@ fn begins_making<D: Disk>(log: &mut D) -> Result<bool, StoreFault>
     let mut mark = [0; 12];
     match log.read_at(4, &mut mark) {
         Ok(()) => Ok(mark == MAKING_MARK),
-        Err(_) => Err(StoreFault::Failed),
+        Err(_) => Err(CallFault::Failed),
     }
 }
 
 /// Whether the file is empty, or the log beside it begins as a making's does.
-fn were_begun<D: Disk>(files: &mut Files<D>) -> Result<bool, StoreFault>
+fn were_begun<D: Disk>(files: &mut Files<D>) -> Result<bool, CallFault>
     requires log { IsTrue (D.Disk.is_usable files.old.log) }
     requires db { IsTrue (D.Disk.is_usable files.old.db) }
     ensures ok { IfOk result (λ begun. AreHonest D.Disk files.new
         → IsTrue begun → IsBegunIfBlank (seen_in D.Disk files.old)) }
-    ensures cause { IfErr result TellsFailedCall }
     ensures log { OnlyReads D.Disk files.old.log files.new.log }
     ensures db { OnlyReads D.Disk files.old.db files.new.db }
 {
@@ -201,7 +198,7 @@ fn finish<D: Disk>(
 {
     match unopened(alloc, files, options, RowForm::Chained) {
         Ok(fresh) => make_tables(fresh),
-        Err(left) => Err((StoreFault::Memory, left)),
+        Err(left) => Err((StoreFault::Call(CallFault::Memory), left)),
     }
 }
 
@@ -223,7 +220,7 @@ fn open_store<D: Disk>(
 {
     let fresh = match unopened(alloc, files, options, form) {
         Ok(fresh) => fresh,
-        Err(left) => return Err((StoreFault::Memory, left)),
+        Err(left) => return Err((StoreFault::Call(CallFault::Memory), left)),
     };
     match fresh.open() {
         Ok(store) => Ok(store),
@@ -273,7 +270,7 @@ fn look<D: Disk>(
     }
     match unopened(alloc, files, options, RowForm::Chained) {
         Ok(fresh) => read_form(fresh),
-        Err(left) => Err((StoreFault::Memory, left)),
+        Err(left) => Err((StoreFault::Call(CallFault::Memory), left)),
     }
 }
 
@@ -317,7 +314,7 @@ fn finish_begun<D: Disk>(
     match were_begun(&mut files) {
         Ok(true) => finish(alloc, files, options),
         Ok(false) => Err((StoreFault::NotAStore, files)),
-        Err(fault) => Err((fault, files)),
+        Err(fault) => Err((StoreFault::Call(fault), files)),
     }
 }
 

@@ -1,11 +1,12 @@
 //! The making of a store: what the feeds are is noted, in one commit, before the first change.
 ghost use Rattle.std.specs.Prelude.{◌≡◌, [], ◌<◌, ◌^◌, IfOk, IfErr, OnOk};
 ghost use Rattle.cube_store.specs.Rows.{entries_of};
-ghost use Rattle.cube_store.specs.State.{stored_form, MakesJournal, IsCause, FailsToStart};
+ghost use Rattle.cube_store.specs.State.{stored_form, MakesJournal, IsCause};
 ghost use Rattle.cube_store.specs.Making.{WritesNotes, CantNoteAt, IsMade, IsBlank, TellsUnmade};
 ghost use Rattle.cube_store.specs.Calls.{PutsNote, TellsEmpty, TellBothEmpty, IsUnnotable};
 ghost use Rattle.cube_store.specs.Calls.{IsHonest, Shown, HasFaulted, IsQuietCall, HasTable};
 ghost use Rattle.cube_store.specs.Calls.{MakesOrLeaves, CantWrite, CantRead, CantLook, CantPut};
+ghost use Rattle.cube_store.specs.Calls.{IsntMade};
 
 use crate::cursor::{begin, step};
 use crate::fault::OpenFault;
@@ -136,7 +137,7 @@ pub(crate) fn make<S: Store>(
     ensures left { IfOk result (λ j. MakesOrLeaves S.Store (entries_of notes.now) store j.store) }
     ensures left_err { IfErr result (λ e. MakesOrLeaves S.Store (entries_of notes.now) store e.1) }
     ensures cause { IfErr result (λ e. IsHonest S.Store e.1
-        → FailsToStart (HasFaulted S.Store store e.1) (IsUnnotable notes.now) e.0) }
+        → IsntMade S.Store store e.1 notes.now e.0) }
 {
     let mut row = Row::new(alloc);
     match write_notes(&mut store, &mut row, notes) {

@@ -1,5 +1,5 @@
 //! What stands at a store's path, and beside it, before its files are opened.
-use crate::store_fault::StoreFault;
+use crate::store_fault::{CallFault, StoreFault};
 use std::fs::{self, File, Metadata, OpenOptions, Permissions};
 use std::io::{ErrorKind, Read};
 use std::os::unix::fs::{MetadataExt, OpenOptionsExt, PermissionsExt};
@@ -52,7 +52,7 @@ pub fn prepare_path(rt: &HostRuntime, path: &str, makes: bool) -> Result<LogPlac
         return Err(StoreFault::CantOpen);
     };
     let Ok(log) = format!(in rt.alloc(); "{}-wal", real.as_str()) else {
-        return Err(StoreFault::Memory);
+        return Err(StoreFault::Call(CallFault::Memory));
     };
     if !found.is_file() {
         return Err(StoreFault::CantOpen);

@@ -8,10 +8,10 @@ ghost use Rattle.sqlite_store.specs.FileStore.{state, view, recovers};
 ghost use Rattle.cube_store.specs.Rows.{entries_of};
 ghost use Rattle.cube_store.specs.State.{IsStore, IsUnmade, FindsNoted, Starts};
 ghost use Rattle.cube_store.specs.Closing.{IsCopied, IsUnharmed, LeavesOneFile, IsEmptied};
-ghost use Rattle.cube_store.specs.Codes.{TellsFailedCall};
+ghost use Rattle.cube_store.specs.Codes.{TellsFailedCall, IsToldOf};
 ghost use Rattle.cube_store.specs.Found.{StoreIn, IsFound};
 ghost use Rattle.cube_store.specs.Calls.{HasCommitted, IsHonest, Shown, LeavesNoMore};
-ghost use Rattle.cube_store.specs.Calls.{MayLeaveNotes, HandsOver};
+ghost use Rattle.cube_store.specs.Calls.{MayLeaveNotes, HandsOver, IsntStarted, IsntReopened};
 
 use crate::begin::{open_made, open_or_make};
 use crate::files::page_size;
@@ -19,7 +19,7 @@ use crate::form::form_of;
 use crate::journal::ChangeJournal;
 use crate::note::FeedNote;
 use crate::sink::ChangeSink;
-use crate::store_fault::StoreFault;
+use crate::store_fault::{CallFault, StoreFault};
 use crate::tables::schema;
 use sqlite_disk::{Disk, Files};
 use sqlite_store::FileStore;
@@ -42,6 +42,8 @@ pub fn start<S: Store, K: ChangeSink>(
         HandsOver S.Store K.ChangeSink.takes sink.old j.store sink.new) }
     ensures crash { IfOk result (λ j. MayLeaveNotes S.Store (entries_of notes.now) store j.store) }
     ensures unharmed { IfErr result (λ e. MayLeaveNotes S.Store (entries_of notes.now) store e.1) }
+    ensures cause { IfErr result (λ e. IsHonest S.Store e.1
+        → IsToldOf (IsntStarted S.Store store e.1 notes.now) e.0) }
     ensures accepts { IfErr result (λ e. IsHonest S.Store e.1
         → IsStore (S.Store.view store) (entries_of notes.now) ⊎ IsUnmade (S.Store.view store)
         → TellsFailedCall e.0) }
@@ -70,6 +72,8 @@ pub fn start_made<S: Store, K: ChangeSink>(
         HandsOver S.Store K.ChangeSink.takes sink.old j.store sink.new) }
     ensures crash { IfOk result (λ j. LeavesNoMore S.Store store j.store) }
     ensures unharmed { IfErr result (λ e. LeavesNoMore S.Store store e.1) }
+    ensures cause { IfErr result (λ e. IsHonest S.Store e.1
+        → IsToldOf (IsntReopened S.Store store e.1 (entries_of notes.now)) e.0) }
     ensures accepts { IfErr result (λ e. IsHonest S.Store e.1
         → IsStore (S.Store.view store) (entries_of notes.now) × (¬ IsUnmade (S.Store.view store))
         → TellsFailedCall e.0) }
@@ -102,7 +106,7 @@ pub fn next_open<D: Disk>(journal: &ChangeJournal<FileStore<D>>) -> Result<bool,
 /// store before. What a crash leaves then it could leave before.
 pub fn copy_log<D: Disk>(
     journal: ChangeJournal<FileStore<D>>,
-) -> Result<FileStore<D>, (StoreFault, FileStore<D>)>
+) -> Result<FileStore<D>, (CallFault, FileStore<D>)>
     ensures copied { IfOk result (λ it. IsClean (view it) → IsCopied journal.store it) }
     ensures emptied { IfOk result (λ it. IsEmptied journal.store it) }
     ensures unharmed { IfErr result (λ e. IsUnharmed journal.store e.1 e.0) }
@@ -110,7 +114,7 @@ pub fn copy_log<D: Disk>(
     let mut store = journal.into_store();
     match store.checkpoint() {
         Ok(()) => Ok(store),
-        Err(error) => Err((StoreFault::from(error), store)),
+        Err(error) => Err((CallFault::from(error), store)),
     }
 }
 
@@ -120,7 +124,7 @@ pub fn copy_log<D: Disk>(
 /// An error gives the store back. What a crash leaves then it could leave before.
 pub fn close<D: Disk>(
     journal: ChangeJournal<FileStore<D>>,
-) -> Result<Files<D>, (StoreFault, FileStore<D>)>
+) -> Result<Files<D>, (CallFault, FileStore<D>)>
     ensures left { IfOk result (λ it. AreClean D.Disk it.log it.db
         → LeavesOneFile journal.store it.log it.db) }
     ensures unharmed { IfErr result (λ e. IsUnharmed journal.store e.1 e.0) }

@@ -127,7 +127,7 @@ fn copy_and_close<D: Disk + Drop>(journal: ChangeJournal<FileStore<D>>) -> Resul
         }
         Err((fault, store)) => {
             drop(store.close());
-            Err(fault)
+            Err(StoreFault::Call(fault))
         }
     }
 }
