@@ -14,6 +14,7 @@ use Rattle.cube_store.specs.Rows.{Entry, row_of, change_row, entry_of, entries_i
 use Rattle.cube_store.specs.State.{held_in, stored_in, noted_in, form_in, stored_form, Holds}
 use Rattle.cube_store.specs.State.{HasTables, IsStore, LeadsTo}
 use Rattle.cube_store.specs.State.{ForgetsNothing, IsCause, ExplainsUnopened, HasNoRow}
+use Rattle.cube_store.specs.State.{IsFailedCall}
 use Rattle.cube_store.specs.Reading.{TellsWhether}
 use Rattle.cube_store.specs.Making.{CantNote, LeavesNotes, LeavesEither}
 use Rattle.cube_store.specs.Keeping.{Batch, HasKept, HasBroken, BatchKeepsOn}
@@ -194,6 +195,13 @@ module _ {S : Type 0} (s : Ghosts S) where
   abbrev pub IsntReopened : S → S → List Entry → OpenFault → Type 0
   IsntReopened old new notes fault =
       IsntOpened old new notes fault ⊎ ((fault ≡ kind.NoTables) × HasNoRow (s.view old))
+
+  -- Why nothing is taken after a crash: a call failed, or what the crash left isn't a store with
+  -- these notes (this project's choice).
+  abbrev pub IsntFound : S → S → List Entry → OpenFault → Type 0
+  IsntFound old new notes fault = IsFailedCall (HasFaulted old new) fault
+      ⊎ ((db : Trees) × s.recovers old db × ExplainsUnopened (HasFaulted old new)
+      (HasFaulted old new) ⊤ ⊤ (form_in (s.view old)) db notes fault)
 
   -- A journal goes on from what it kept, with this change behind the others
   -- (this project's choice).

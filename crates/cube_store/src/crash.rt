@@ -4,7 +4,7 @@ ghost use Rattle.sqlite_trees.specs.Tree.{Trees};
 ghost use Rattle.cube_store.specs.Rows.{entries_of};
 ghost use Rattle.cube_store.specs.State.{stored_in, IsFailedCall};
 ghost use Rattle.cube_store.specs.Calls.{HasChanges, IsHonest, Shown, HasFaulted, LeavesStores};
-ghost use Rattle.cube_store.specs.Calls.{HandsOver};
+ghost use Rattle.cube_store.specs.Calls.{HandsOver, IsntFound};
 
 use crate::fault::OpenFault;
 use crate::journal::ChangeJournal;
@@ -32,6 +32,8 @@ pub fn crash_and_open<S: Reopen, K: ChangeSink>(
         (λ old new. IsTrue old.is_open → stored_in new ≡ stored_in old)) }
     ensures taken { IfOk result (λ j.
         HandsOver S.Store K.ChangeSink.takes sink.old j.store sink.new) }
+    ensures cause { IfErr result (λ e. IsHonest S.Store e.1
+        → IsntFound S.Store journal.store e.1 (entries_of notes.now) e.0) }
     ensures accepts { IfErr result (λ e. IsHonest S.Store e.1
         → LeavesStores S.Store journal.store (entries_of notes.now)
         → IsFailedCall (HasFaulted S.Store journal.store e.1) e.0) }
