@@ -1,5 +1,5 @@
 -- Which codes a refusal may have.
-use Rattle.std.proofs.Common.{◌≡◌, ◌⊎◌, inl, inr, ℕ, IsTrue}
+use Rattle.std.proofs.Common.{◌≡◌, ◌⊎◌, inl, inr, ℕ}
 use Rattle.sqlite_wal.specs.declared.error.Error.{Error}
 use Rattle.sqlite_wal.specs.declared.error.Error.TheVariants as log
 use Rattle.sqlite_wal.specs.Outcome.{HasCause, OnlyIf}
