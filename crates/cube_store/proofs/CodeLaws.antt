@@ -8,11 +8,11 @@ use Rattle.sqlite_store.specs.declared.error.OpenError.TheVariants as refusal
 use Rattle.sqlite_store.specs.Opening.{FailsToOpen}
 use Rattle.cube_store.specs.declared.fault.OpenFault.{OpenFault}
 use Rattle.cube_store.specs.State as journal
-use Rattle.cube_store.specs.Codes.{open_code_of, file_code_of, look_code_of, TellsFailedCall}
+use Rattle.cube_store.specs.Codes.{open_code_of, file_code_of, look_code_of, TellsFailedCall, FailsByCall}
 
 -- a look that only a log without end stops
 pub look_fails : (a b : ℕ) (P : Type 0) (e : Error) → HasCause a b (OnlyIf log.Full P) e
-    → TellsFailedCall (look_code_of e)
+    → FailsByCall (look_code_of e)
 look_fails a b P (log.Io error) h = tt
 look_fails a b P log.OutOfMemory h = tt
 look_fails a b P log.Full h = tt
@@ -23,7 +23,7 @@ look_fails a b P log.Exists h = let no : log.Exists ≡ log.Full = h.0 in absurd
 
 -- the same of one that a log that can't be read stops too, where it can be
 pub first_look_fails : (a b : ℕ) (P Q : Type 0) (e : Error) → (P → ⊥)
-    → HasCause a b (λ e. OnlyIf log.Corrupt P e ⊎ OnlyIf log.Full Q e) e → TellsFailedCall (look_code_of e)
+    → HasCause a b (λ e. OnlyIf log.Corrupt P e ⊎ OnlyIf log.Full Q e) e → FailsByCall (look_code_of e)
 first_look_fails a b P Q (log.Io error) never h = tt
 first_look_fails a b P Q log.OutOfMemory never h = tt
 first_look_fails a b P Q log.Full never h = tt
@@ -38,7 +38,7 @@ first_look_fails a b P Q log.Exists never (inr h) = let no : log.Exists ≡ log.
 
 -- files that are what is wanted are refused only where a call fails
 pub attach_fails : (a b : ℕ) (limit wanted : Type 0) (e : OpenError) → FailsToOpen a b limit wanted e → wanted
-    → TellsFailedCall (file_code_of e)
+    → FailsByCall (file_code_of e)
 attach_fails a b limit wanted refusal.OutOfMemory h w = tt
 attach_fails a b limit wanted refusal.Io h w = tt
 attach_fails a b limit wanted refusal.Full h w = tt

@@ -12,6 +12,8 @@ use Rattle.cube_store.specs.declared.fault.OpenFault.TheVariants as kind
 use Rattle.cube_store.specs.declared.store_fault.StoreFault.{StoreFault}
 use Rattle.cube_store.specs.declared.store_fault.StoreFault.TheVariants.{NotAStore, Row, Digest}
 use Rattle.cube_store.specs.declared.store_fault.StoreFault.TheVariants.{Feed, Call}
+use Rattle.cube_store.specs.declared.store_fault.FileFault.{FileFault}
+use Rattle.cube_store.specs.declared.store_fault.FileFault.TheVariants as file
 use Rattle.cube_store.specs.declared.store_fault.CallFault.{CallFault}
 use Rattle.cube_store.specs.declared.store_fault.CallFault.TheVariants.{Failed, NoRoom, Memory}
 
@@ -34,21 +36,31 @@ open_code_of (kind.Digest number) = Digest number
 open_code_of kind.TooMany = NotAStore
 
 -- What refused files are told as (this project's choice).
-abbrev pub file_code_of : OpenError → StoreFault
-file_code_of refusal.OutOfMemory = Call Memory
-file_code_of refusal.Io = Call Failed
-file_code_of refusal.Full = Call NoRoom
-file_code_of refusal.Refused = NotAStore
+abbrev pub file_code_of : OpenError → FileFault
+file_code_of refusal.OutOfMemory = file.Call Memory
+file_code_of refusal.Io = file.Call Failed
+file_code_of refusal.Full = file.Call NoRoom
+file_code_of refusal.Refused = file.NotAStore
 
 -- What a failed look at the files is told as (this project's choice).
-abbrev pub look_code_of : Error → StoreFault
-look_code_of (log.Io error) = Call Failed
-look_code_of log.OutOfMemory = Call Memory
-look_code_of log.Full = Call NoRoom
-look_code_of log.Closed = NotAStore
-look_code_of log.NoSuchPage = NotAStore
-look_code_of log.Corrupt = NotAStore
-look_code_of log.Exists = NotAStore
+abbrev pub look_code_of : Error → FileFault
+look_code_of (log.Io error) = file.Call Failed
+look_code_of log.OutOfMemory = file.Call Memory
+look_code_of log.Full = file.Call NoRoom
+look_code_of log.Closed = file.NotAStore
+look_code_of log.NoSuchPage = file.NotAStore
+look_code_of log.Corrupt = file.NotAStore
+look_code_of log.Exists = file.NotAStore
+
+-- What refused files are told as by a store (this project's choice).
+abbrev pub code_of_files : FileFault → StoreFault
+code_of_files file.NotAStore = NotAStore
+code_of_files (file.Call fault) = Call fault
+
+-- Files are refused because a call failed, and not for what they hold (this project's choice).
+abbrev pub FailsByCall : FileFault → Type 0
+FailsByCall file.NotAStore = ⊥
+FailsByCall (file.Call fault) = ⊤
 
 -- What is told is that a call failed, and not that something was refused for what the files hold
 -- (this project's choice).

@@ -8,13 +8,13 @@ ghost use Rattle.sqlite_store.specs.FileStore.{view};
 ghost use Rattle.sqlite_store.specs.Unopened.{state_of, wanted_by, files_of, image, AreUsable};
 ghost use Rattle.sqlite_std_file.specs.File.{file_is_usable, IsFresh};
 ghost use Rattle.cube_store.specs.State.{stored_form, IsUnmade};
-ghost use Rattle.cube_store.specs.Codes.{TellsFailedCall};
+ghost use Rattle.cube_store.specs.Codes.{FailsByCall};
 ghost use Rattle.cube_store.specs.Found.{store_schema, StoreOf, StoreIn, HasLooked, IsFoundAs};
 ghost use Rattle.cube_store.specs.Found.{BeginsMaking, IsBegunIfBlank, HasNoTable, HoldsNothing};
 ghost use Rattle.cube_store.specs.Found.{IsFound, IsFoundMade, seen_in, AreHonest, AreBothUsable};
 
 use crate::form::RowForm;
-use crate::store_fault::{CallFault, StoreFault};
+use crate::store_fault::{CallFault, FileFault, StoreFault};
 use crate::tables::{form_told, schema};
 use sqlite_disk::{Disk, Files, Start};
 use sqlite_pager::{Options, Pager};
@@ -59,18 +59,18 @@ pub fn open_path<S: Start>(
 
 /// Whether the files hold no database: none was made, or only the first bytes of one, as any single
 /// byte counts.
-fn hold_none<D: Disk>(alloc: Global, files: &mut Files<D>) -> Result<bool, StoreFault>
+fn hold_none<D: Disk>(alloc: Global, files: &mut Files<D>) -> Result<bool, FileFault>
     requires log { IsTrue (D.Disk.is_usable files.old.log) }
     requires db { IsTrue (D.Disk.is_usable files.old.db) }
     ensures ok { IfOk result (λ none. AreHonest D.Disk files.new
         → (IsTrue none ↔ IsBlankFile 4096 (seen_in D.Disk files.old))) }
-    ensures cause { IfErr result (λ e. AreHonest D.Disk files.new → TellsFailedCall e) }
+    ensures cause { IfErr result (λ e. AreHonest D.Disk files.new → FailsByCall e) }
     ensures log { OnlyReads D.Disk files.old.log files.new.log }
     ensures db { OnlyReads D.Disk files.old.db files.new.db }
 {
     match probe_blank(alloc, files, page_size(), false) {
         Ok(none) => Ok(none),
-        Err(error) => Err(StoreFault::from(error)),
+        Err(error) => Err(FileFault::from(error)),
     }
 }
 
@@ -123,19 +123,19 @@ fn were_begun<D: Disk>(files: &mut Files<D>) -> Result<bool, CallFault>
 }
 
 /// Whether the files begin as each database of SQLite does. Recovery would write to others.
-fn begin_well<D: Disk>(alloc: Global, files: &mut Files<D>) -> Result<bool, StoreFault>
+fn begin_well<D: Disk>(alloc: Global, files: &mut Files<D>) -> Result<bool, FileFault>
     requires log { IsTrue (D.Disk.is_usable files.old.log) }
     requires db { IsTrue (D.Disk.is_usable files.old.db) }
     ensures ok { IfOk result (λ well. AreHonest D.Disk files.new
         → StoreIn (seen_in D.Disk files.old) → IsTrue well) }
     ensures cause { IfErr result (λ e. AreHonest D.Disk files.new
-        → StoreIn (seen_in D.Disk files.old) → TellsFailedCall e) }
+        → StoreIn (seen_in D.Disk files.old) → FailsByCall e) }
     ensures log { OnlyReads D.Disk files.old.log files.new.log }
     ensures db { OnlyReads D.Disk files.old.db files.new.db }
 {
     match probe_first_page(alloc, files, page_size()) {
         Ok(head) => Ok(head.0 == b'S'),
-        Err(error) => Err(StoreFault::from(error)),
+        Err(error) => Err(FileFault::from(error)),
     }
 }
 
@@ -165,7 +165,7 @@ fn unopened<D: Disk>(
 
 /// Makes the two tables in files that hold nothing, or no more than a making that was cut short
 /// leaves: that of changes has digests.
-fn make_tables<D: Disk>(fresh: Unopened<D>) -> Result<FileStore<D>, (StoreFault, Files<D>)>
+fn make_tables<D: Disk>(fresh: Unopened<D>) -> Result<FileStore<D>, (FileFault, Files<D>)>
     requires usable { AreUsable fresh }
     requires size { (state_of fresh).page_size ≡ 4096 }
     requires schema { wanted_by fresh ≡ store_schema RowForm.Chained }
@@ -177,7 +177,7 @@ fn make_tables<D: Disk>(fresh: Unopened<D>) -> Result<FileStore<D>, (StoreFault,
 {
     match fresh.create() {
         Ok(store) => Ok(store),
-        Err((error, left)) => Err((StoreFault::from(error), left.close())),
+        Err((error, left)) => Err((FileFault::from(error), left.close())),
     }
 }
 
@@ -186,7 +186,7 @@ fn finish<D: Disk>(
     alloc: Global,
     files: Files<D>,
     options: Options,
-) -> Result<FileStore<D>, (StoreFault, Files<D>)>
+) -> Result<FileStore<D>, (FileFault, Files<D>)>
     requires log { IsTrue (D.Disk.is_usable files.log) }
     requires db { IsTrue (D.Disk.is_usable files.db) }
     ensures made { IfOk result (λ it. IsClean (view it) → IsUnmade (view it)) }
@@ -198,7 +198,7 @@ fn finish<D: Disk>(
 {
     match unopened(alloc, files, options, RowForm::Chained) {
         Ok(fresh) => make_tables(fresh),
-        Err(left) => Err((StoreFault::Call(CallFault::Memory), left)),
+        Err(left) => Err((FileFault::Call(CallFault::Memory), left)),
     }
 }
 
@@ -208,7 +208,7 @@ fn open_store<D: Disk>(
     files: Files<D>,
     options: Options,
     form: RowForm,
-) -> Result<FileStore<D>, (StoreFault, Files<D>)>
+) -> Result<FileStore<D>, (FileFault, Files<D>)>
     requires log { IsTrue (D.Disk.is_usable files.log) }
     requires db { IsTrue (D.Disk.is_usable files.db) }
     ensures found { IfOk result (λ it. IsClean (view it)
@@ -216,22 +216,22 @@ fn open_store<D: Disk>(
     ensures honest { IfOk result (λ it. IsClean (view it) → AreHonest D.Disk files) }
     ensures falls { IfErr result (λ e. AreHonest D.Disk e.1 → AreHonest D.Disk files) }
     ensures accepts { IfErr result (λ e. AreHonest D.Disk e.1
-        → StoreOf form (seen_in D.Disk files) → TellsFailedCall e.0) }
+        → StoreOf form (seen_in D.Disk files) → FailsByCall e.0) }
 {
     let fresh = match unopened(alloc, files, options, form) {
         Ok(fresh) => fresh,
-        Err(left) => return Err((StoreFault::Call(CallFault::Memory), left)),
+        Err(left) => return Err((FileFault::Call(CallFault::Memory), left)),
     };
     match fresh.open() {
         Ok(store) => Ok(store),
-        Err((error, left)) => Err((StoreFault::from(error), left.close())),
+        Err((error, left)) => Err((FileFault::from(error), left.close())),
     }
 }
 
 /// What the files list, as `look` says, and the files. Recovery is all that is written.
 fn read_form<D: Disk>(
     mut fresh: Unopened<D>,
-) -> Result<(Option<RowForm>, Files<D>), (StoreFault, Files<D>)>
+) -> Result<(Option<RowForm>, Files<D>), (FileFault, Files<D>)>
     requires usable { AreUsable fresh }
     requires size { (state_of fresh).page_size ≡ 4096 }
     ensures seen { IfOk result (λ r. AreHonest D.Disk r.1
@@ -239,11 +239,11 @@ fn read_form<D: Disk>(
     ensures usable { IfOk result (λ r. AreBothUsable D.Disk r.1) }
     ensures honest { IfOk result (λ r. AreHonest D.Disk r.1 → IsTrue (state_of fresh).is_clean) }
     ensures accepts { IfErr result (λ e. AreHonest D.Disk e.1
-        → StoreIn (image fresh) → TellsFailedCall e.0) }
+        → StoreIn (image fresh) → FailsByCall e.0) }
 {
     match fresh.read_catalog() {
         Ok(rows) => Ok((form_told(&rows), fresh.close())),
-        Err(error) => Err((StoreFault::from(error), fresh.close())),
+        Err(error) => Err((FileFault::from(error), fresh.close())),
     }
 }
 
@@ -253,7 +253,7 @@ fn look<D: Disk>(
     alloc: Global,
     mut files: Files<D>,
     options: Options,
-) -> Result<(Option<RowForm>, Files<D>), (StoreFault, Files<D>)>
+) -> Result<(Option<RowForm>, Files<D>), (FileFault, Files<D>)>
     requires log { IsTrue (D.Disk.is_usable files.log) }
     requires db { IsTrue (D.Disk.is_usable files.db) }
     ensures seen { IfOk result (λ r. AreHonest D.Disk r.1
@@ -261,16 +261,16 @@ fn look<D: Disk>(
     ensures usable { IfOk result (λ r. AreBothUsable D.Disk r.1) }
     ensures honest { IfOk result (λ r. AreHonest D.Disk r.1 → AreHonest D.Disk files) }
     ensures accepts { IfErr result (λ e. AreHonest D.Disk e.1
-        → StoreIn (seen_in D.Disk files) → TellsFailedCall e.0) }
+        → StoreIn (seen_in D.Disk files) → FailsByCall e.0) }
 {
     match begin_well(alloc, &mut files) {
         Ok(true) => {}
-        Ok(false) => return Err((StoreFault::NotAStore, files)),
+        Ok(false) => return Err((FileFault::NotAStore, files)),
         Err(fault) => return Err((fault, files)),
     }
     match unopened(alloc, files, options, RowForm::Chained) {
         Ok(fresh) => read_form(fresh),
-        Err(left) => Err((StoreFault::Call(CallFault::Memory), left)),
+        Err(left) => Err((FileFault::Call(CallFault::Memory), left)),
     }
 }
 
@@ -279,7 +279,7 @@ fn finish_first_page<D: Disk>(
     alloc: Global,
     mut files: Files<D>,
     options: Options,
-) -> Result<FileStore<D>, (StoreFault, Files<D>)>
+) -> Result<FileStore<D>, (FileFault, Files<D>)>
     requires log { IsTrue (D.Disk.is_usable files.log) }
     requires db { IsTrue (D.Disk.is_usable files.db) }
     ensures made { IfOk result (λ it. IsClean (view it) → IsUnmade (view it)) }
@@ -290,7 +290,7 @@ fn finish_first_page<D: Disk>(
     ensures falls { IfErr result (λ e. AreHonest D.Disk e.1 → AreHonest D.Disk files) }
 {
     match hold_none(alloc, &mut files) {
-        Ok(true) => Err((StoreFault::NotAStore, files)),
+        Ok(true) => Err((FileFault::NotAStore, files)),
         Ok(false) => finish(alloc, files, options),
         Err(fault) => Err((fault, files)),
     }
@@ -302,7 +302,7 @@ fn finish_begun<D: Disk>(
     alloc: Global,
     mut files: Files<D>,
     options: Options,
-) -> Result<FileStore<D>, (StoreFault, Files<D>)>
+) -> Result<FileStore<D>, (FileFault, Files<D>)>
     requires log { IsTrue (D.Disk.is_usable files.log) }
     requires db { IsTrue (D.Disk.is_usable files.db) }
     ensures made { IfOk result (λ it. IsClean (view it) → IsUnmade (view it)) }
@@ -313,8 +313,8 @@ fn finish_begun<D: Disk>(
 {
     match were_begun(&mut files) {
         Ok(true) => finish(alloc, files, options),
-        Ok(false) => Err((StoreFault::NotAStore, files)),
-        Err(fault) => Err((StoreFault::Call(fault), files)),
+        Ok(false) => Err((FileFault::NotAStore, files)),
+        Err(fault) => Err((FileFault::Call(fault), files)),
     }
 }
 
@@ -323,13 +323,13 @@ fn open_held<D: Disk>(
     alloc: Global,
     files: Files<D>,
     options: Options,
-) -> Result<FileStore<D>, (StoreFault, Files<D>)>
+) -> Result<FileStore<D>, (FileFault, Files<D>)>
     requires log { IsTrue (D.Disk.is_usable files.log) }
     requires db { IsTrue (D.Disk.is_usable files.db) }
     ensures found { IfOk result (λ it. IsClean (view it)
         → IsFound (seen_in D.Disk files) (view it)) }
     ensures accepts { IfErr result (λ e. AreHonest D.Disk e.1
-        → StoreIn (seen_in D.Disk files) → TellsFailedCall e.0) }
+        → StoreIn (seen_in D.Disk files) → FailsByCall e.0) }
 {
     match look(alloc, files, options) {
         Ok((None, files)) => finish_first_page(alloc, files, options),
@@ -350,13 +350,13 @@ pub fn open_files<D: Disk>(
     alloc: Global,
     mut files: Files<D>,
     seed: u64,
-) -> Result<FileStore<D>, (StoreFault, Files<D>)>
+) -> Result<FileStore<D>, (FileFault, Files<D>)>
     requires log { IsTrue (D.Disk.is_usable files.log) }
     requires db { IsTrue (D.Disk.is_usable files.db) }
     ensures found { IfOk result (λ it. IsClean (view it)
         → IsFound (seen_in D.Disk files) (view it)) }
     ensures accepts { IfErr result (λ e. AreHonest D.Disk e.1
-        → StoreIn (seen_in D.Disk files) → TellsFailedCall e.0) }
+        → StoreIn (seen_in D.Disk files) → FailsByCall e.0) }
 {
     let options = Options::new(seed);
     match hold_none(alloc, &mut files) {
@@ -376,18 +376,18 @@ pub fn open_made_files<D: Disk>(
     alloc: Global,
     files: Files<D>,
     seed: u64,
-) -> Result<FileStore<D>, (StoreFault, Files<D>)>
+) -> Result<FileStore<D>, (FileFault, Files<D>)>
     requires log { IsTrue (D.Disk.is_usable files.log) }
     requires db { IsTrue (D.Disk.is_usable files.db) }
     ensures found { IfOk result (λ it. IsClean (view it)
         → IsFoundMade (seen_in D.Disk files) (view it)) }
     ensures accepts { IfErr result (λ e. AreHonest D.Disk e.1
-        → StoreIn (seen_in D.Disk files) → TellsFailedCall e.0) }
+        → StoreIn (seen_in D.Disk files) → FailsByCall e.0) }
 {
     let options = Options::new(seed);
     match look(alloc, files, options) {
         Ok((Some(form), left)) => open_store(alloc, left, options, form),
-        Ok((None, left)) => Err((StoreFault::NotAStore, left)),
+        Ok((None, left)) => Err((FileFault::NotAStore, left)),
         Err(refused) => Err(refused),
     }
 }

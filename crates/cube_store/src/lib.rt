@@ -44,4 +44,4 @@ pub use place::{LogPlace, prepare_path};
 pub use sink::ChangeSink;
 pub use sqlite_std_file::{Unknown, Wary};
 pub use starting::{close, copy_log, next_open, start, start_made};
-pub use store_fault::{CallFault, StoreFault};
+pub use store_fault::{CallFault, FileFault, StoreFault};

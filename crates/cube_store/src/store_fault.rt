@@ -19,6 +19,17 @@ pub enum CallFault {
     Memory,
 }
 
+/// Why two files aren't opened as a store. The text of each is its code.
+#[derive(Clone, Copy, Debug, PartialEq, Eq, Error)]
+pub enum FileFault {
+    /// The file isn't a store, or it is damaged.
+    #[error("D3")]
+    NotAStore,
+    /// A call on the files failed.
+    #[error(transparent)]
+    Call(CallFault),
+}
+
 /// Why a store isn't opened, or can't go on. The text of each is its code.
 #[derive(Clone, Copy, Debug, PartialEq, Eq, Error)]
 pub enum StoreFault {
@@ -60,6 +71,20 @@ impl From<StoreError> for CallFault {
     }
 }
 
+impl From<FileFault> for StoreFault {
+    ghost use Rattle.std.specs.Prelude.{◌≡◌};
+    ghost use Rattle.cube_store.specs.Codes.{code_of_files};
+
+    ghost from_gives = { λ error fault. fault ≡ code_of_files error };
+
+    fn from(fault: FileFault) -> StoreFault {
+        match fault {
+            FileFault::NotAStore => StoreFault::NotAStore,
+            FileFault::Call(fault) => StoreFault::Call(fault),
+        }
+    }
+}
+
 impl From<OpenFault> for StoreFault {
     ghost use Rattle.std.specs.Prelude.{◌≡◌};
     ghost use Rattle.cube_store.specs.Codes.{open_code_of};
@@ -77,34 +102,34 @@ impl From<OpenFault> for StoreFault {
     }
 }
 
-impl From<OpenError> for StoreFault {
+impl From<OpenError> for FileFault {
     ghost use Rattle.std.specs.Prelude.{◌≡◌};
     ghost use Rattle.cube_store.specs.Codes.{file_code_of};
 
     ghost from_gives = { λ error fault. fault ≡ file_code_of error };
 
-    fn from(error: OpenError) -> StoreFault {
+    fn from(error: OpenError) -> FileFault {
         match error {
-            OpenError::OutOfMemory => StoreFault::Call(CallFault::Memory),
-            OpenError::Io => StoreFault::Call(CallFault::Failed),
-            OpenError::Full => StoreFault::Call(CallFault::NoRoom),
-            OpenError::Refused => StoreFault::NotAStore,
+            OpenError::OutOfMemory => FileFault::Call(CallFault::Memory),
+            OpenError::Io => FileFault::Call(CallFault::Failed),
+            OpenError::Full => FileFault::Call(CallFault::NoRoom),
+            OpenError::Refused => FileFault::NotAStore,
         }
     }
 }
 
-impl From<sqlite_wal::Error> for StoreFault {
+impl From<sqlite_wal::Error> for FileFault {
     ghost use Rattle.std.specs.Prelude.{◌≡◌};
     ghost use Rattle.cube_store.specs.Codes.{look_code_of};
 
     ghost from_gives = { λ error fault. fault ≡ look_code_of error };
 
-    fn from(error: sqlite_wal::Error) -> StoreFault {
+    fn from(error: sqlite_wal::Error) -> FileFault {
         match error {
-            sqlite_wal::Error::OutOfMemory => StoreFault::Call(CallFault::Memory),
-            sqlite_wal::Error::Io(_) => StoreFault::Call(CallFault::Failed),
-            sqlite_wal::Error::Full => StoreFault::Call(CallFault::NoRoom),
-            _ => StoreFault::NotAStore,
+            sqlite_wal::Error::OutOfMemory => FileFault::Call(CallFault::Memory),
+            sqlite_wal::Error::Io(_) => FileFault::Call(CallFault::Failed),
+            sqlite_wal::Error::Full => FileFault::Call(CallFault::NoRoom),
+            _ => FileFault::NotAStore,
         }
     }
 }

@@ -10,8 +10,8 @@ use cube_console::{Counts, FeedReader, LiveWords, Output, Phase, Progress, RunWo
 use cube_core::Schema;
 use cube_live::{NeverRests, Rests};
 use cube_store::{
-    ChangeJournal, FeedNote, NoteFault, StoreFault, Unknown, Wary, close, note_of, open_files,
-    open_made_files, open_path, prepare_path,
+    ChangeJournal, FeedNote, FileFault, NoteFault, StoreFault, Unknown, Wary, close, note_of,
+    open_files, open_made_files, open_path, prepare_path,
 };
 use cube_store_commands::{
     Commits, SessionInput, StoredFailure, StoredFeeds, ask_stored, live_stored,
@@ -321,11 +321,11 @@ fn open_store<S: Start>(
     match opened {
         Ok(store) => Ok(store),
         Err((fault, files)) => {
-            if fault == StoreFault::NotAStore {
+            if fault == FileFault::NotAStore {
                 beside.forget(rt);
             }
             drop(files);
-            Err(fault)
+            Err(StoreFault::from(fault))
         }
     }
 }
