@@ -118,20 +118,6 @@ fn serve_and_close<T: Threads + Wait + Clock + Copy + Send + Sync + 'static, D: 
     }
 }
 
-/// Copies a store's log into its file, and closes both.
-fn copy_and_close<D: Disk + Drop>(journal: ChangeJournal<FileStore<D>>) -> Result<(), StoreFault> {
-    match close(journal) {
-        Ok(files) => {
-            drop(files);
-            Ok(())
-        }
-        Err((fault, store)) => {
-            drop(store.close());
-            Err(StoreFault::Call(fault))
-        }
-    }
-}
-
 /// The same, over a store of any kind, which is given back. A thread of its own reads standard input ahead, so that the session
 /// sees where it rests; where none can be had, the session reads it, and sees no rest.
 fn serve_over<T: Threads + Wait + Clock + Copy + Send + Sync + 'static, S: Store>(
@@ -297,6 +283,20 @@ fn ask_over<T: Threads + Wait + Clock + Sync, S: Store>(
         &watch,
         out,
     )
+}
+
+/// Copies a store's log into its file, and closes both.
+fn copy_and_close<D: Disk + Drop>(journal: ChangeJournal<FileStore<D>>) -> Result<(), StoreFault> {
+    match close(journal) {
+        Ok(files) => {
+            drop(files);
+            Ok(())
+        }
+        Err((fault, store)) => {
+            drop(store.close());
+            Err(StoreFault::Call(fault))
+        }
+    }
 }
 
 /// The store at a path, which is made where there is none if `makes` holds. A file that is no store is left as it was, with
