@@ -40,8 +40,8 @@ module _ {D : Type 0} {g : Ghosts D} where
   abbrev pub IsEmptied : FileStore D g → FileStore D g → Type 0
   IsEmptied was it = (HasSpilled was → ⊥) → log_frames it ≡ 0
 
-  -- A store became another one, which a call has told as failed: a crash leaves no more than before,
-  -- and the failure has a cause (this project's choice).
+  -- A store became another one, which a call has told as failed: a crash leaves no more than
+  -- before, and the failure has a cause (this project's choice).
   pub record IsUnharmed (was it : FileStore D g) (fault : CallFault) : Type 0 where
     pub crash : (db : Trees) → recovers it db → recovers was db
     pub cause : IsClean (view it)
