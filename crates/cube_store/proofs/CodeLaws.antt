@@ -1,23 +1,18 @@
 -- Which codes a refusal may have.
-use Rattle.std.proofs.Common.{◌≡◌, ◌⊎◌, inl, inr, ℕ, IsTrue}
+use Rattle.std.proofs.Common.{◌≡◌, ◌⊎◌, inl, inr, ℕ}
 use Rattle.sqlite_wal.specs.declared.error.Error.{Error}
 use Rattle.sqlite_wal.specs.declared.error.Error.TheVariants as log
 use Rattle.sqlite_wal.specs.Outcome.{HasCause, OnlyIf}
 use Rattle.sqlite_store.specs.declared.error.OpenError.{OpenError}
 use Rattle.sqlite_store.specs.declared.error.OpenError.TheVariants as refusal
 use Rattle.sqlite_store.specs.Opening.{FailsToOpen}
-use Rattle.sqlite_trees.specs.declared.error.StoreError.{StoreError}
-use Rattle.sqlite_trees.specs.declared.error.StoreError.TheVariants as cause
-use Rattle.sqlite_trees.specs.View as trees
 use Rattle.cube_store.specs.declared.fault.OpenFault.{OpenFault}
-use Rattle.cube_store.specs.declared.fault.OpenFault.TheVariants as kind
 use Rattle.cube_store.specs.State as journal
-use Rattle.cube_store.specs.Codes.{code_of_failure, open_code_of, file_code_of, look_code_of, TellsFailedCall}
-use Rattle.cube_store.specs.Codes.{HasReason}
+use Rattle.cube_store.specs.Codes.{open_code_of, file_code_of, look_code_of, TellsFailedCall, FailsByCall}
 
 -- a look that only a log without end stops
 pub look_fails : (a b : ℕ) (P : Type 0) (e : Error) → HasCause a b (OnlyIf log.Full P) e
-    → TellsFailedCall (look_code_of e)
+    → FailsByCall (look_code_of e)
 look_fails a b P (log.Io error) h = tt
 look_fails a b P log.OutOfMemory h = tt
 look_fails a b P log.Full h = tt
@@ -28,7 +23,7 @@ look_fails a b P log.Exists h = let no : log.Exists ≡ log.Full = h.0 in absurd
 
 -- the same of one that a log that can't be read stops too, where it can be
 pub first_look_fails : (a b : ℕ) (P Q : Type 0) (e : Error) → (P → ⊥)
-    → HasCause a b (λ e. OnlyIf log.Corrupt P e ⊎ OnlyIf log.Full Q e) e → TellsFailedCall (look_code_of e)
+    → HasCause a b (λ e. OnlyIf log.Corrupt P e ⊎ OnlyIf log.Full Q e) e → FailsByCall (look_code_of e)
 first_look_fails a b P Q (log.Io error) never h = tt
 first_look_fails a b P Q log.OutOfMemory never h = tt
 first_look_fails a b P Q log.Full never h = tt
@@ -43,36 +38,14 @@ first_look_fails a b P Q log.Exists never (inr h) = let no : log.Exists ≡ log.
 
 -- files that are what is wanted are refused only where a call fails
 pub attach_fails : (a b : ℕ) (limit wanted : Type 0) (e : OpenError) → FailsToOpen a b limit wanted e → wanted
-    → TellsFailedCall (file_code_of e)
+    → FailsByCall (file_code_of e)
 attach_fails a b limit wanted refusal.OutOfMemory h w = tt
 attach_fails a b limit wanted refusal.Io h w = tt
 attach_fails a b limit wanted refusal.Full h w = tt
 attach_fails a b limit wanted refusal.Refused h w = absurd (h w)
 
-stored_fails : (e : StoreError) → TellsFailedCall (code_of_failure e)
-stored_fails cause.OutOfMemory = tt
-stored_fails cause.Io = tt
-stored_fails cause.Corrupt = tt
-stored_fails cause.Full = tt
-stored_fails cause.Broken = tt
-stored_fails cause.Unstorable = tt
-
 -- so is a store that a start takes
 pub start_fails : (fault cant : Type 0) (e : OpenFault) → journal.FailsToStart fault cant e
     → TellsFailedCall (open_code_of e)
-start_fails fault cant (kind.Store error) h = stored_fails error
-start_fails fault cant kind.NoTables h = h
-start_fails fault cant (kind.Feed source) h = h
-start_fails fault cant (kind.Row number) h = h
-start_fails fault cant (kind.Digest number) h = h
-start_fails fault cant kind.TooMany h = h
-
--- a copy of the log fails because memory ran out, or at a fault
-pub copy_fails : (was : trees.View) (fault : Type 0) (e : StoreError) → trees.HasCause was fault ⊥ e
-    → HasReason fault (IsTrue was.is_broken) (code_of_failure e)
-copy_fails was fault cause.OutOfMemory h = tt
-copy_fails was fault cause.Io h = inl h
-copy_fails was fault cause.Corrupt h = inl h
-copy_fails was fault cause.Full h = h
-copy_fails was fault cause.Broken h = inr h
-copy_fails was fault cause.Unstorable h = absurd h
+start_fails fault cant e (inl h) = rw h.1 tt
+start_fails fault cant e (inr h) = rw h.0 tt

@@ -37,6 +37,7 @@ use Rattle.sqlite_store.specs.Unopened.{IsCatalogOf}
 use Rattle.sqlite_pages.specs.PageMap.{PageMap}
 use Rattle.cube_store.specs.declared.form.RowForm.{RowForm}
 use Rattle.cube_store.specs.declared.form.RowForm.TheVariants.{Plain, Chained}
+use Rattle.cube_store.specs.Calls.{HasCommitted}
 use Rattle.cube_store.specs.State.{HasTables, IsUnmade, form_by, stored_form}
 use Rattle.cube_store.specs.Found.{store_schema, catalog_in, tables_in, listed_form, form_told, StoreOf, StoreIn}
 use Rattle.cube_store.specs.Found.{HasTablesOf, HasLooked, HasNoTable, IsUnstarted, IsFoundAs, ReadsAs, IsFound, IsFoundMade}
@@ -329,11 +330,11 @@ module _ {D : Type 0} {g : Ghosts D} (it : FileStore D g) (form : RowForm) (left
       same Chained Chained never = refl
 
   pub found_again : (v : View) → IsFound left v
-      → (db : Trees) × recovers it db × (v.committed 0 ≡ db 0) × (v.committed 1 ≡ db 1)
+      → (db : Trees) × recovers it db × HasCommitted v db
   found_again v is = again is.found
     where
       again : ReadsAs left v ⊎ (IsUnmade v × (stored_form v ≡ Chained) × ∥ IsUnstarted left ∥₁ × (StoreIn left → ⊥))
-          → (db : Trees) × recovers it db × (v.committed 0 ≡ db 0) × (v.committed 1 ≡ db 1)
+          → (db : Trees) × recovers it db × HasCommitted v db
       again (inr none) = absurd (∥∥₁_elim leaves_store (λ a _. absurd a) none.3)
       again (inl held) =
           let recovered : Recovers (state_of_store it).page_size left held.0 =
@@ -343,6 +344,5 @@ module _ {D : Type 0} {g : Ghosts D} (it : FileStore D g) (form : RowForm) (left
           ap (λ f. tables_in f held.0) one ∙ ap₂ (λ n s. file_trees n s held.0) (sym size) (sym (listed held.0)) in (
             reading it held.0,
             (left, held.0, may, ∣ recovered ∣₁, refl),
-            held.2 ∙ ap (λ (t : Trees). t 0) same,
-            held.3 ∙ ap (λ (t : Trees). t 1) same,
+            (held.2 ∙ ap (λ (t : Trees). t 0) same, held.3 ∙ ap (λ (t : Trees). t 1) same),
           )

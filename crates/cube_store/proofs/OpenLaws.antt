@@ -75,9 +75,12 @@ pub refuses_none : (fault more : Type 0) (was : View) (notes : List Entry) (e : 
     → (fault → more) → (was.is_open ≡ false → more)
     → ExplainsUnopened fault ((was.is_open ≡ false) ⊎ fault) (IsTrue was.is_open) (HasTables was) (stored_form was) was.committed notes e
     → IsFailedCall more e
-refuses_none fault more was notes (kind.Store error) tables holds up shut h =
-    failed more ((was.is_open ≡ false) ⊎ fault) error wide (cause_then fault more ((was.is_open ≡ false) ⊎ fault)
-    ((was.is_open ≡ false) ⊎ fault) ⊥ ⊥ error up (λ x. x) (λ x. x) h)
+refuses_none fault more was notes (kind.Store error) tables holds up shut h = (
+  error,
+  refl,
+  failed more ((was.is_open ≡ false) ⊎ fault) error wide (cause_then fault more
+      ((was.is_open ≡ false) ⊎ fault) ((was.is_open ≡ false) ⊎ fault) ⊥ ⊥ error up (λ x. x) (λ x. x) h),
+)
   where
     wide : (was.is_open ≡ false) ⊎ fault → more
     wide (inl is_shut) = shut is_shut

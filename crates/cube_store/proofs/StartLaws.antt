@@ -1,5 +1,5 @@
 -- What a start on a store finds or makes, as of before it was looked at.
-use Rattle.std.proofs.Common.{◌≡◌, ◌⊎◌, inl, inr, ℕ, ◌≤◌, List, [], refl, IsTrue, false, sym, ap, subst, ◌∙◌, arith}
+use Rattle.std.proofs.Common.{◌≡◌, ◌⊎◌, inl, inr, ℕ, ◌≤◌, List, [], refl, IsTrue, Bool, true, false, sym, ap, subst, ◌∙◌, arith}
 use Rattle.std.proofs.Common.{true≢false}
 use Rattle.sqlite_disk.specs.Disk.{MoreFaults}
 use Rattle.sqlite_trees.specs.declared.error.StoreError.TheVariants.{OutOfMemory, Io, Corrupt, Full, Broken, Unstorable}
@@ -11,10 +11,10 @@ use Rattle.cube_store.specs.declared.fault.OpenFault.TheVariants as kind
 use Rattle.cube_store.specs.Rows.{Entry, entries_in}
 use Rattle.cube_store.specs.State.{stored_in, noted_in, stored_form, Holds, HasTables, IsStore, IsUnmade, Finds}
 use Rattle.cube_store.specs.State.{MakesJournal}
-use Rattle.cube_store.specs.State.{IsCause, ExplainsUnopened, IsFailedCall, FailsToStart, ForgetsNothing}
-use Rattle.cube_store.specs.Making.{LeavesNotes, LeavesEither, HasRolledBack, TellsUnmade}
+use Rattle.cube_store.specs.State.{IsCause, ExplainsUnopened, FailsToStart, ForgetsNothing, HasNoRow}
+use Rattle.cube_store.specs.Making.{LeavesNotes, LeavesEither, HasRolledBack, TellsUnmade, IsBlank}
 use Rattle.cube_store.proofs.MakeLaws.{goes_quiet, goes_then}
-use Rattle.cube_store.proofs.OpenLaws.{refuses_none, failed}
+use Rattle.cube_store.proofs.OpenLaws.{refuses_none, failed, explains_then}
 
 module _ (was mid : View) (settled : HasRolledBack was mid) (notes : List Entry) where
   pub makes_before : (now : View) → MakesJournal notes mid now → MakesJournal notes was now
@@ -54,33 +54,54 @@ module _ (was mid : View) (settled : HasRolledBack was mid) (notes : List Entry)
   noted_before now finds noted =
       sym (ap (λ (t : Trees). entries_in (t 1)) (settled.committed finds.was_open)) ∙ noted
 
-pub failed_to_start : (fault cant : Type 0) (e : OpenFault) → IsFailedCall fault e → FailsToStart fault cant e
-failed_to_start fault cant (kind.Store error) h = inl h
-failed_to_start fault cant kind.NoTables h = h
-failed_to_start fault cant (kind.Feed source) h = h
-failed_to_start fault cant (kind.Row number) h = h
-failed_to_start fault cant (kind.Digest number) h = h
-failed_to_start fault cant kind.TooMany h = h
+  pub no_row_before : IsBlank mid → HasNoRow was
+  no_row_before blank =
+      let same = settled.committed blank.unmade.is_open in (
+        settled.was_open blank.unmade.is_open,
+        ap (λ (t : Trees). t 0) (sym same) ∙ blank.unmade.none.0,
+        ap (λ (t : Trees). t 1) (sym same) ∙ blank.unmade.none.1,
+      )
 
-pub starts_since : (fault more cant : Type 0) (e : OpenFault) → (fault → more) → FailsToStart fault cant e
-    → FailsToStart more cant e
-starts_since fault more cant (kind.Store error) up (inl (inl none)) = inl (inl none)
-starts_since fault more cant (kind.Store error) up (inl (inr f)) = inl (inr (up f))
-starts_since fault more cant (kind.Store error) up (inr why) = inr why
-starts_since fault more cant kind.NoTables up h = h
-starts_since fault more cant (kind.Feed source) up h = h
-starts_since fault more cant (kind.Row number) up h = h
-starts_since fault more cant (kind.Digest number) up h = h
-starts_since fault more cant kind.TooMany up h = h
+  -- why a store isn't opened, as of before it was looked at
+  pub explains_since : (a b c : ℕ) (e : OpenFault) → a ≤ b → b ≤ c
+      → (IsTrue was.is_open → IsTrue mid.is_open ⊎ MoreFaults a b)
+      → ExplainsUnopened (MoreFaults b c) ((mid.is_open ≡ false) ⊎ MoreFaults b c) (IsTrue mid.is_open) (HasTables mid)
+      (stored_form mid) mid.committed notes e
+      → ExplainsUnopened (MoreFaults a c) ((was.is_open ≡ false) ⊎ MoreFaults a c) (IsTrue was.is_open) (HasTables was)
+      (stored_form was) was.committed notes e
+  explains_since a b c e up later closes h =
+      explains_then (MoreFaults b c) (MoreFaults a c) ((mid.is_open ≡ false) ⊎ MoreFaults b c)
+      ((was.is_open ≡ false) ⊎ MoreFaults a c) (IsTrue mid.is_open) (IsTrue was.is_open) (HasTables mid) (HasTables was)
+      (stored_form mid) (stored_form was) mid.committed was.committed notes e wide back settled.was_open settled.tables
+      settled.committed (λ _. settled.form) h
+    where
+      wide : MoreFaults b c → MoreFaults a c
+      wide f = omega arith
 
-pub write_fails : (fault cant : Type 0) (e : StoreError) → IsCause fault ⊥ cant e
-    → FailsToStart fault cant (kind.Store e)
-write_fails fault cant OutOfMemory h = inl (inl refl)
-write_fails fault cant Io h = inl (inr h)
-write_fails fault cant Corrupt h = inl (inr h)
-write_fails fault cant Full h = inl (inr h)
-write_fails fault cant Broken h = absurd h
-write_fails fault cant Unstorable h = inr (refl, h)
+      wider : MoreFaults a b → MoreFaults a c
+      wider f = omega arith
+
+      shut_by : mid.is_open ≡ false → IsTrue mid.is_open ⊎ MoreFaults a b → MoreFaults a c
+      shut_by is (inl is_open) = absurd (true≢false (sym is_open ∙ is))
+      shut_by is (inr f) = wider f
+
+      shut : mid.is_open ≡ false → (is_open : Bool) → was.is_open ≡ is_open → (was.is_open ≡ false) ⊎ MoreFaults a c
+      shut is false was_shut = inl was_shut
+      shut is true was_on = inr (shut_by is (closes was_on))
+
+      back : (mid.is_open ≡ false) ⊎ MoreFaults b c → (was.is_open ≡ false) ⊎ MoreFaults a c
+      back (inl is) = shut is was.is_open refl
+      back (inr f) = inr (wide f)
+
+-- a making fails because a call does, or because a note can't be stored
+pub making_fails : (fault more cant : Type 0) (e : OpenFault) (error : StoreError) → (fault → more) → e ≡ kind.Store error
+    → IsCause fault ⊥ cant error → FailsToStart more cant e
+making_fails fault more cant e OutOfMemory up is h = inl (OutOfMemory, is, inl refl)
+making_fails fault more cant e Io up is h = inl (Io, is, inr (up h))
+making_fails fault more cant e Corrupt up is h = inl (Corrupt, is, inr (up h))
+making_fails fault more cant e Full up is h = inl (Full, is, inr (up h))
+making_fails fault more cant e Broken up is h = absurd h
+making_fails fault more cant e Unstorable up is h = inr (is, h)
 
 was_open_if : (v : View) (notes : List Entry) → IsStore v notes ⊎ IsUnmade v → IsTrue v.is_open
 was_open_if v notes (inl store) = store.is_open
@@ -91,7 +112,8 @@ pub look_fails : (was : View) (notes : List Entry) (fault cant : Type 0) (e : St
     → IsStore was notes ⊎ IsUnmade was
     → IsCause fault ((was.is_open ≡ false) ⊎ fault) ⊥ e
     → FailsToStart fault cant (kind.Store e)
-look_fails was notes fault cant e either h = inl (failed fault ((was.is_open ≡ false) ⊎ fault) e shut h)
+look_fails was notes fault cant e either h =
+    inl (e, refl, failed fault ((was.is_open ≡ false) ⊎ fault) e shut h)
   where
     shut : (was.is_open ≡ false) ⊎ fault → fault
     shut (inl is) = absurd (true≢false (sym (was_open_if was notes either) ∙ is))
@@ -106,8 +128,7 @@ pub opening_fails : (was mid : View) (a b c : ℕ) (notes : List Entry) (cant : 
     → FailsToStart (MoreFaults a c) cant e
 opening_fails was mid a b c notes cant e told up later closes h (inr unmade) = absurd (told.1 unmade)
 opening_fails was mid a b c notes cant e told up later closes h (inl store) =
-    failed_to_start (MoreFaults a c) cant e
-    (refuses_none (MoreFaults b c) (MoreFaults a c) mid notes e (told.0.tables store.tables) holds wide shut h)
+    inl (refuses_none (MoreFaults b c) (MoreFaults a c) mid notes e (told.0.tables store.tables) holds wide shut h)
   where
     wide : MoreFaults b c → MoreFaults a c
     wide f = omega arith

@@ -8,3 +8,4 @@ pub mod Codes
 pub mod Found
 pub mod Keeping
 pub mod Noting
+pub mod Calls

@@ -1,5 +1,6 @@
 -- The notes of a new store.
-use Rattle.std.specs.Prelude.{◌≡◌, ◌<◌, ◌≤◌, ◌^◌, ◌⊎◌, ℕ, Bool, true, false, List, [], length, get_or}
+use Rattle.std.specs.Prelude.{◌≡◌, ◌<◌, ◌≤◌, ◌^◌, ◌⊎◌, ℕ, Bool, true, false, List, [], length}
+use Rattle.std.specs.Prelude.{get_or}
 use Rattle.std.specs.Prelude.{IsTrue}
 use Rattle.sqlite_trees.specs.Tree.{Trees}
 use Rattle.sqlite_trees.specs.View.{View, IsClean, IsStorableRow}
@@ -14,15 +15,22 @@ pub record WritesNotes (old new : View) (notes : List Entry) : Type 0 where
   pub changes : new.trees 0 ≡ old.trees 0
   pub notes_are : AreNotes (new.trees 1) notes
 
+-- A note can't be stored with this number: its row can't be, or its feed is too long
+-- (this project's choice).
+abbrev pub CantNoteAt : ℕ → ℕ → FeedNote → Type 0
+CantNoteAt reals number note =
+    (¬ IsStorableRow reals (row_of number (entry_of note))) ⊎ (2 ^ 63 ≤ note.length)
+
 -- One of these notes can't be stored (this project's choice).
 pub record CantNote (reals : ℕ) (notes : List FeedNote) : Type 0 where
   pub place : ℕ
   pub note : FeedNote
   pub within : place < length notes
   pub note_is : note ≡ get_or notes place note
-  pub why : (IsStorableRow reals (row_of place (entry_of note)) → ⊥) ⊎ (2 ^ 63 ≤ note.length)
+  pub why : CantNoteAt reals place note
 
--- A store with a table of changes of this form has these notes committed, and no change (this project's choice).
+-- A store with a table of changes of this form has these notes committed, and no change
+-- (this project's choice).
 pub record IsMade (form : RowForm) (now : View) (notes : List Entry) : Type 0 where
   pub sound : now.is_broken ≡ false
   pub tables : HasTables now
@@ -31,7 +39,8 @@ pub record IsMade (form : RowForm) (now : View) (notes : List Entry) : Type 0 wh
   pub changes : now.committed 0 ≡ []
   pub notes_are : AreNotes (now.committed 1) notes
 
--- What a crash within a making may leave: these notes and no change, in tables that had no row (this project's choice).
+-- What a crash within a making may leave: these notes and no change, in tables that had no row
+-- (this project's choice).
 pub record LeavesNotes (was : View) (notes : List Entry) (db : Trees) : Type 0 where
   pub clean : IsClean was
   pub was_open : IsTrue was.is_open
@@ -40,8 +49,8 @@ pub record LeavesNotes (was : View) (notes : List Entry) (db : Trees) : Type 0 w
 
 -- A call that makes a store forgets nothing, and a crash leaves the notes alone,
 -- or what it left before (this project's choice).
-pub record LeavesEither {S : Type 0} (view : S → View) (faults : S → ℕ) (recovers : S → Trees → Type 0)
-    (notes : List Entry) (old new : S) : Type 0 where
+pub record LeavesEither {S : Type 0} (view : S → View) (faults : S → ℕ)
+    (recovers : S → Trees → Type 0) (notes : List Entry) (old new : S) : Type 0 where
   pub crash : (db : Trees) → recovers new db → LeavesNotes (view old) notes db ⊎ recovers old db
   pub on : ForgetsNothing view faults old new
 

@@ -4,7 +4,8 @@ use Rattle.std.specs.Bool.{MatchBool}
 use Rattle.std.specs.List.{AllByRecursion}
 use Rattle.sqlite_value.specs.Order.{Row}
 use Rattle.sqlite_trees.specs.View.{View}
-use Rattle.cube_store.specs.Rows.{Entry, change_rows, change_row, next_digest, last_digest, entries_in, IsOfSource}
+use Rattle.cube_store.specs.Rows.{Entry, change_rows, change_row, next_digest, last_digest}
+use Rattle.cube_store.specs.Rows.{entries_in, IsOfSource}
 use Rattle.cube_store.specs.Rows.{IsRowOf, AreChanges, AreNotes}
 use Rattle.cube_store.specs.State.{OnlyReads, rows_left, LeadsTo, form_in}
 use Rattle.sqlite_trees.specs.declared.error.StoreError.TheVariants.{OutOfMemory}
@@ -28,18 +29,18 @@ abbrev pub value_count : RowForm → ℕ
 value_count Plain = 4
 value_count Chained = 5
 
--- A row is that of a change with this number, ends in this digest, which chains it to a row with that one,
--- and was taken (this project's choice).
-pub record HasTaken {K : Type 0} (takes : K → Entry → K → Type 0) (form : RowForm) (before : List ℕ) (number : ℕ)
-    (row : Row) (start end : K) (digest : List ℕ) : Type 0 where
+-- A row is that of a change with this number, ends in this digest, which chains it to a row with
+-- that one, and was taken (this project's choice).
+pub record HasTaken {K : Type 0} (takes : K → Entry → K → Type 0) (form : RowForm) (before : List ℕ)
+    (number : ℕ) (row : Row) (start end : K) (digest : List ℕ) : Type 0 where
   pub change : Entry
   pub source : IsOfSource change
   pub digest_is : digest ≡ next_digest form before number change
   pub row_is : row ≡ change_row form digest number change
   pub taken : takes start change end
 
--- Why a row with this number, behind one with that digest, isn't taken: it is no such change, its digest is another,
--- or memory runs out (this project's choice).
+-- Why a row with this number, behind one with that digest, isn't taken: it is no such change, its
+-- digest is another, or memory runs out (this project's choice).
 abbrev pub IsntTaken : RowForm → List ℕ → ℕ → Row → OpenFault → Type 0
 IsntTaken form before number row (kind.Store error) = error ≡ OutOfMemory
 IsntTaken form before number row (kind.Row at) =
@@ -49,10 +50,10 @@ IsntTaken form before number row (kind.Digest at) = (at ≡ number)
     × (row ≡ change_row form (next_digest form before number change) number change → ⊥))
 IsntTaken form before number row other = ⊥
 
--- Of these rows so many changes are passed and taken, and the others are left, of which the first is to be chained to
--- this digest (this project's choice).
-pub record HasPassed {K : Type 0} (takes : K → Entry → K → Type 0) (form : RowForm) (rows left : List Row) (at : ℕ)
-    (digest : List ℕ) (start end : K) : Type 0 where
+-- Of these rows so many changes are passed and taken, and the others are left, of which the first
+-- is to be chained to this digest (this project's choice).
+pub record HasPassed {K : Type 0} (takes : K → Entry → K → Type 0) (form : RowForm)
+    (rows left : List Row) (at : ℕ) (digest : List ℕ) (start end : K) : Type 0 where
   pub passed : List Entry
   pub rows_are : rows ≡ change_rows form passed ++ left
   pub digest_is : digest ≡ last_digest form passed
@@ -72,10 +73,10 @@ pub record HasCompared (old new : View) (notes : List Entry) : Type 0 where
   pub reads : OnlyReads old new
   pub sound : old.is_broken ≡ false
 
--- The table of changes has so many, and all were taken, and the next is to be chained to this digest
--- (this project's choice).
-pub record HasReplayed {K : Type 0} (takes : K → Entry → K → Type 0) (old new : View) (count : ℕ) (digest : List ℕ)
-    (start end : K) : Type 0 where
+-- The table of changes has so many, and all were taken, and the next is to be chained to this
+-- digest (this project's choice).
+pub record HasReplayed {K : Type 0} (takes : K → Entry → K → Type 0) (old new : View) (count : ℕ)
+    (digest : List ℕ) (start end : K) : Type 0 where
   pub changes : AreChanges (form_in old) (old.trees 0) count
   pub digest_is : digest ≡ last_digest (form_in old) (entries_in (old.trees 0))
   pub taken : LeadsTo takes start (entries_in (old.trees 0)) end

@@ -1,5 +1,6 @@
 -- How changes, and the notes on feeds, stand as the rows of a store's tables.
-use Rattle.std.specs.Prelude.{◌≡◌, ◌≤◌, ℕ, ◌+◌, pos, List, [], ◌∷◌, ◌++◌, map, length, replicate, Option, Some, None}
+use Rattle.std.specs.Prelude.{◌≡◌, ◌≤◌, ℕ, ◌+◌, pos, List, [], ◌∷◌, ◌++◌, map, length, replicate}
+use Rattle.std.specs.Prelude.{Option, Some, None}
 use Rattle.std.specs.Int.{w64, to_be_bytes}
 use Rattle.std.specs.List.{AllByRecursion}
 use Rattle.sqlite_value.specs.declared.value.Value.{Value}
@@ -10,13 +11,13 @@ use Rattle.cube_store.specs.declared.note.FeedNote.{FeedNote}
 use Rattle.cube_store.specs.declared.form.RowForm.{RowForm}
 use Rattle.cube_store.specs.declared.form.RowForm.TheVariants.{Plain, Chained}
 
--- What a row says beside its number:
--- the source of a change and the bytes of its record, or the length of a feed and its digest (this project's choice).
+-- What a row says beside its number: the source of a change and the bytes of its record, or the
+-- length of a feed and its digest (this project's choice).
 abbrev pub Entry : Type 0
 Entry = ℕ × List ℕ
 
--- The row with this number:
--- the column that is the table's INTEGER PRIMARY KEY is stored as NULL (SQLite's "Database File Format").
+-- The row with this number: the column that is the table's INTEGER PRIMARY KEY is stored as NULL
+-- (SQLite's "Database File Format").
 abbrev pub row_of : ℕ → Entry → Row
 row_of number entry = Int (pos number) ∷ Null ∷ Int (pos entry.0) ∷ Blob entry.1 ∷ []
 
@@ -46,8 +47,9 @@ IsOfSource entry = (1 ≤ entry.0) × (entry.0 ≤ 64)
 abbrev pub no_digest : List ℕ
 no_digest = replicate 32 0
 
--- The digest of the row of a change with this number, behind a row with that digest: SHA-256 (FIPS 180-4) of that digest,
--- the number and the source in 8 bytes each, the highest first, and the record (this project's choice).
+-- The digest of the row of a change with this number, behind a row with that digest: SHA-256 (FIPS
+-- 180-4) of that digest, the number and the source in 8 bytes each, the highest first, and the
+-- record (this project's choice).
 abbrev pub digest_of : List ℕ → ℕ → Entry → List ℕ
 digest_of before number change =
     sha256 (((before ++ to_be_bytes w64 number) ++ to_be_bytes w64 change.0) ++ change.1)
@@ -57,13 +59,14 @@ abbrev pub next_digest : RowForm → List ℕ → ℕ → Entry → List ℕ
 next_digest Plain before number change = before
 next_digest Chained before number change = digest_of before number change
 
--- The row of a change with this number, which ends in this digest if it has one (this project's choice).
+-- The row of a change with this number, which ends in this digest if it has one
+-- (this project's choice).
 abbrev pub change_row : RowForm → List ℕ → ℕ → Entry → Row
 change_row Plain digest number change = row_of number change
 change_row Chained digest number change = row_of number change ++ Blob digest ∷ []
 
--- The rows of changes, numbered without a gap from this number on,
--- each chained to the one before it, and the first to a row with this digest (this project's choice).
+-- The rows of changes, numbered without a gap from this number on, each chained to the one before
+-- it, and the first to a row with this digest (this project's choice).
 abbrev pub rows_after : RowForm → List ℕ → ℕ → List Entry → List Row
 rows_after form before number [] = []
 rows_after form before number (change ∷ changes) =
@@ -84,12 +87,14 @@ change_rows form changes = rows_after form no_digest 1 changes
 abbrev pub last_digest : RowForm → List Entry → List ℕ
 last_digest form changes = digest_after form no_digest 1 changes
 
--- The row is that of this change with this number, whatever its digest says (this project's choice).
+-- The row is that of this change with this number, whatever its digest says
+-- (this project's choice).
 abbrev pub IsRowOf : RowForm → ℕ → Entry → Row → Type 0
 IsRowOf Plain number change row = row ≡ row_of number change
 IsRowOf Chained number change row = (last : Value) × (row ≡ row_of number change ++ last ∷ [])
 
--- The rows are those of so many changes, with right digests if they have any (this project's choice).
+-- The rows are those of so many changes, with right digests if they have any
+-- (this project's choice).
 pub record AreChanges (form : RowForm) (rows : List Row) (count : ℕ) : Type 0 where
   pub rows_are : rows ≡ change_rows form (entries_in rows)
   pub sources : AllByRecursion IsOfSource (entries_in rows)
@@ -122,13 +127,16 @@ pub record DifferAt (some others : List Row) (place : ℕ) : Type 0 where
   pub place_is : length same ≡ place
   pub apart : first some_left ≡ first others_left → ⊥
 
--- The rows before this one are those of changes, with right digests if they have any (this project's choice).
-pub record IsRowAt (form : RowForm) (rows : List Row) (number : ℕ) (before : List Entry) (row : Row) : Type 0 where
+-- The rows before this one are those of changes, with right digests if they have any
+-- (this project's choice).
+pub record IsRowAt (form : RowForm) (rows : List Row) (number : ℕ) (before : List Entry)
+    (row : Row) : Type 0 where
   pub left : List Row
   pub rows_are : rows ≡ change_rows form before ++ row ∷ left
   pub place_is : length before + 1 ≡ number
 
--- The rows before this one are those of changes, and this one isn't the next (this project's choice).
+-- The rows before this one are those of changes, and this one isn't the next
+-- (this project's choice).
 pub record IsForeignAt (form : RowForm) (rows : List Row) (number : ℕ) : Type 0 where
   pub before : List Entry
   pub row : Row
@@ -144,4 +152,5 @@ pub record IsUnchainedAt (form : RowForm) (rows : List Row) (number : ℕ) : Typ
   pub stands : IsRowAt form rows number before row
   pub source : IsOfSource change
   pub next : IsRowOf form number change row
-  pub unchained : row ≡ change_row form (next_digest form (last_digest form before) number change) number change → ⊥
+  pub unchained : row ≡ change_row form (next_digest form (last_digest form before) number change)
+      number change → ⊥

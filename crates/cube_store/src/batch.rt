@@ -1,16 +1,16 @@
 //! A journal that commits by itself where many changes wait.
-ghost use Rattle.std.specs.Prelude.{◌≡◌, ◌<◌, ◌≤◌, ◌++◌, ◌∷◌, [], length, false, IsTrue, IfErr, OnOk, OnErr};
-ghost use Rattle.sqlite_disk.specs.Disk.{MoreFaults};
-ghost use Rattle.sqlite_trees.specs.View.{IsClean};
-ghost use Rattle.cube_store.specs.State.{held_in, stored_in, ForgetsNothing, IsCause};
-ghost use Rattle.cube_store.specs.Keeping.{HasBroken, HasKept, BatchKeepsOn, CantStore, TakesAsBefore};
+ghost use Rattle.std.specs.Prelude.{◌≡◌, ◌<◌, ◌≤◌, [], IfErr, OnOk, OnErr};
+ghost use Rattle.cube_store.specs.Keeping.{HasKept, CantStore, TakesAsBefore};
+ghost use Rattle.cube_store.specs.Calls.{Shown, Remembers, IsCommitted, Fails, KeepsMore, BreaksAt};
+ghost use Rattle.cube_store.specs.Calls.{KeepsOn, Breaks, MakesSure};
 
 use crate::journal::ChangeJournal;
 use sqlite_trees::error::StoreError;
 use sqlite_trees::store::Store;
 use std::marker::Model;
 
-/// A journal of changes that commits by itself where as many wait as may, so that memory and a commit's time have a bound.
+/// A journal of changes that commits by itself where as many wait as may, so that memory and a
+/// commit's time have a bound.
 pub struct BatchJournal<S: Store> {
     journal: ChangeJournal<S>,
     waiting: u64,
@@ -43,12 +43,13 @@ impl<S: Store + Drop> Drop for BatchJournal<S> {
 }
 
 impl<S: Store> BatchJournal<S> {
-    /// Goes on with a journal in which nothing waits for a commit, and so many changes, at least one, may.
+    /// Goes on with a journal in which nothing waits for a commit, and so many changes, at least
+    /// one, may.
     pub fn new(journal: ChangeJournal<S>, most: u64) -> BatchJournal<S>
         requires { 1 ≤ most }
         ensures store { result.store ≡ journal.store }
         ensures most { result.most ≡ most }
-        ensures kept { (IsClean (S.Store.view journal.store) → IsTrue (S.Store.view journal.store).is_open × (held_in (S.Store.view journal.store) ≡ stored_in (S.Store.view journal.store)))
+        ensures kept { IsCommitted S.Store journal.store
             → HasKept S.Store.view S.Store.recovers result result [] 0 }
     {
         let _settled = journal.store();
@@ -59,18 +60,17 @@ impl<S: Store> BatchJournal<S> {
         }
     }
 
-    /// Takes a change of a source, 1 to 64, and the bytes of its record, behind the others. No more is certain than before.
+    /// Takes a change of a source, 1 to 64, and the bytes of its record, behind the others. No more
+    /// is certain than before.
     ///
-    /// After an error nothing more is to be taken: a crash, and the next opening, find a first part of the changes, and of
-    /// these all that were certain.
+    /// After an error nothing more is to be taken: a crash, and the next opening, find a first part
+    /// of the changes, and of these all that were certain.
     pub fn append(&mut self, source: u32, content: &[u8]) -> Result<(), StoreError>
-        ensures kept { OnOk result (BatchKeepsOn S.Store.view S.Store.recovers (HasKept S.Store.view S.Store.recovers) self.old self.new
-            (λ changes. changes ++ (source, content.now) ∷ []) (λ _ sure. sure)) }
-        ensures broken { OnErr result (BatchKeepsOn S.Store.view S.Store.recovers (HasBroken S.Store.view S.Store.recovers) self.old self.new
-            (λ changes. changes ++ (source, content.now) ∷ []) (λ _ sure. sure)) }
-        ensures cause { IfErr result (λ e. IsClean (S.Store.view self.new.store) → IsCause (MoreFaults (S.Store.faults self.old.store) (S.Store.faults self.new.store))
-            ((S.Store.view self.old.store).is_open ≡ false) (CantStore (S.Store.view self.old.store) (source, content.now)) e) }
-        ensures on { ForgetsNothing S.Store.view S.Store.faults self.old.store self.new.store }
+        ensures kept { OnOk result (KeepsMore S.Store self.old self.new (source, content.now)) }
+        ensures broken { OnErr result (BreaksAt S.Store self.old self.new (source, content.now)) }
+        ensures cause { IfErr result (Fails S.Store self.old.store self.new.store
+            (CantStore (S.Store.view self.old.store) (source, content.now))) }
+        ensures on { Remembers S.Store self.old.store self.new.store }
     {
         self.make_room()?;
         let _held = self.journal.count();
@@ -81,15 +81,12 @@ impl<S: Store> BatchJournal<S> {
 
     // Makes all changes certain where as many wait as may.
     fn make_room(&mut self) -> Result<(), StoreError>
-        ensures kept { OnOk result (BatchKeepsOn S.Store.view S.Store.recovers (HasKept S.Store.view S.Store.recovers) self.old self.new
-            (λ changes. changes) (λ _ sure. sure)) }
-        ensures broken { OnErr result (BatchKeepsOn S.Store.view S.Store.recovers (HasBroken S.Store.view S.Store.recovers) self.old self.new
-            (λ changes. changes) (λ _ sure. sure)) }
+        ensures kept { OnOk result (KeepsOn S.Store self.old self.new) }
+        ensures broken { OnErr result (Breaks S.Store self.old self.new) }
         ensures room { OnOk result (self.new.waiting < self.new.most) }
-        ensures same { OnOk result (IsClean (S.Store.view self.new.store) → TakesAsBefore (S.Store.view self.old.store) (S.Store.view self.new.store)) }
-        ensures cause { IfErr result (λ e. IsClean (S.Store.view self.new.store) → IsCause (MoreFaults (S.Store.faults self.old.store) (S.Store.faults self.new.store))
-            ((S.Store.view self.old.store).is_open ≡ false) ⊥ e) }
-        ensures on { ForgetsNothing S.Store.view S.Store.faults self.old.store self.new.store }
+        ensures same { OnOk result (Shown S.Store self.old.store self.new.store TakesAsBefore) }
+        ensures cause { IfErr result (Fails S.Store self.old.store self.new.store ⊥) }
+        ensures on { Remembers S.Store self.old.store self.new.store }
     {
         if self.waiting < self.most {
             return Ok(());
@@ -101,18 +98,14 @@ impl<S: Store> BatchJournal<S> {
     ///
     /// After an error nothing more is to be taken, as after one of `append`.
     pub fn settle(&mut self) -> Result<(), StoreError>
-        ensures kept { OnOk result (BatchKeepsOn S.Store.view S.Store.recovers (HasKept S.Store.view S.Store.recovers) self.old self.new
-            (λ changes. changes) (λ changes _. length changes)) }
-        ensures still { OnOk result (BatchKeepsOn S.Store.view S.Store.recovers (HasKept S.Store.view S.Store.recovers) self.old self.new
-            (λ changes. changes) (λ _ sure. sure)) }
-        ensures broken { OnErr result (BatchKeepsOn S.Store.view S.Store.recovers (HasBroken S.Store.view S.Store.recovers) self.old self.new
-            (λ changes. changes) (λ _ sure. sure)) }
+        ensures kept { OnOk result (MakesSure S.Store self.old self.new) }
+        ensures still { OnOk result (KeepsOn S.Store self.old self.new) }
+        ensures broken { OnErr result (Breaks S.Store self.old self.new) }
         ensures none { OnOk result (self.new.waiting ≡ 0) }
         ensures room { OnOk result (self.new.waiting < self.new.most) }
-        ensures same { OnOk result (IsClean (S.Store.view self.new.store) → TakesAsBefore (S.Store.view self.old.store) (S.Store.view self.new.store)) }
-        ensures cause { IfErr result (λ e. IsClean (S.Store.view self.new.store) → IsCause (MoreFaults (S.Store.faults self.old.store) (S.Store.faults self.new.store))
-            ((S.Store.view self.old.store).is_open ≡ false) ⊥ e) }
-        ensures on { ForgetsNothing S.Store.view S.Store.faults self.old.store self.new.store }
+        ensures same { OnOk result (Shown S.Store self.old.store self.new.store TakesAsBefore) }
+        ensures cause { IfErr result (Fails S.Store self.old.store self.new.store ⊥) }
+        ensures on { Remembers S.Store self.old.store self.new.store }
     {
         if self.waiting == 0 {
             return Ok(());

@@ -1,5 +1,5 @@
 //! The two forms of a table of changes, and the digests that chain its rows.
-ghost use Rattle.std.specs.Prelude.{◌≡◌, length};
+ghost use Rattle.std.specs.Prelude.{◌≡◌};
 ghost use Rattle.cube_store.specs.Rows.{next_digest};
 ghost use Rattle.cube_store.specs.State.{form_in};
 
@@ -12,12 +12,14 @@ use sqlite_trees::store::Store;
 pub enum RowForm {
     /// The record: a table of three columns.
     Plain,
-    /// A digest behind the record, which chains the row to those before it: a table of four columns.
+    /// A digest behind the record, which chains the row to those before it: a table of four
+    /// columns.
     Chained,
 }
 
-/// What the table of changes with digests has in `reals`: the bit of a column that no row has, so that no value is read
-/// or written otherwise for it. It isn't in the file: a store's schema has it, and so an open store tells its form.
+/// What the table of changes with digests has in `reals`: the bit of a column that no row has, so
+/// that no value is read or written otherwise for it. It isn't in the file: a store's schema has
+/// it, and so an open store tells its form.
 pub const CHAINED: u64 = 1 << 63;
 
 /// The bytes of a SHA-256.
@@ -37,7 +39,8 @@ pub fn form_of<S: Store>(store: &S) -> RowForm
     }
 }
 
-/// The digest of the row of a change with this number, behind a row with that digest. Without digests it stays.
+/// The digest of the row of a change with this number, behind a row with that digest. Without
+/// digests it stays.
 pub(crate) fn digest_after(
     form: RowForm,
     before: &[u8; DIGEST_BYTES],

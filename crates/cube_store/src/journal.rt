@@ -1,10 +1,11 @@
 //! A journal of changes over an open store.
-ghost use Rattle.std.specs.Prelude.{◌≡◌, ◌⊎◌, ◌+◌, ◌<◌, ◌≤◌, ◌^◌, length, false, IsTrue, IfErr, OnOk, OnErr};
-ghost use Rattle.sqlite_disk.specs.Disk.{MoreFaults};
-ghost use Rattle.sqlite_trees.specs.Tree.{Trees, put_row};
-ghost use Rattle.sqlite_trees.specs.View.{IsClean, KeepsCommitted, SetsTree, IsQuiet, HasCause};
-ghost use Rattle.cube_store.specs.Rows.{change_row, IsOfSource};
-ghost use Rattle.cube_store.specs.State.{held_in, stored_in, noted_in, form_in, Holds, HasTables, IsStore, CantHold, Appends, Undoes, Commits, ForgetsNothing, IsCause};
+ghost use Rattle.std.specs.Prelude.{◌≡◌, ◌+◌, ◌≤◌, ◌^◌, length, IsTrue, IfErr, OnOk, OnErr};
+ghost use Rattle.sqlite_trees.specs.View.{KeepsCommitted};
+ghost use Rattle.cube_store.specs.Rows.{IsOfSource};
+ghost use Rattle.cube_store.specs.State.{Appends, Undoes, Commits, held_in, HasTables, CantAppend};
+ghost use Rattle.cube_store.specs.Calls.{PutsChange, IsHonest, Shown, IsQuietCall, Remembers};
+ghost use Rattle.cube_store.specs.Calls.{HasTable, LeavesNoMore, LeavesHeld, LeavesHeldOrLess};
+ghost use Rattle.cube_store.specs.Calls.{LeavesStored, StaysStore, CantWrite, Fails};
 
 use crate::form::{DIGEST_BYTES, digest_after, form_of};
 use crate::row::fill_change;
@@ -46,7 +47,8 @@ impl<S: Store> Model for ChangeJournal<S> {
 
     ghost view = { λ j. record { store = j.store; count = j.count; committed = j.committed } };
 
-    ghost invariant = { λ j. IsJournal (S.Store.view j.store) j.count j.committed j.digest j.committed_digest };
+    ghost invariant = { λ j.
+        IsJournal (S.Store.view j.store) j.count j.committed j.digest j.committed_digest };
 }
 
 // By hand, so that no caller proves again how a store's parts are let go.
@@ -63,8 +65,8 @@ impl<S: Store + Drop> Drop for ChangeJournal<S> {
     }
 }
 
-/// Puts the row of a change into the table, if it is one: its source is 1 to 64, and there is room for its number. It ends
-/// in this digest where rows have one.
+/// Puts the row of a change into the table, if it is one: its source is 1 to 64, and there is room
+/// for its number. It ends in this digest where rows have one.
 fn put_change<S: Store>(
     store: &mut S,
     row: &mut Row,
@@ -73,13 +75,15 @@ fn put_change<S: Store>(
     source: u32,
     content: &[u8],
 ) -> Result<(), StoreError>
-    requires { IsClean (S.Store.view store.old) → (S.Store.view store.old).shape 0 ≡ Shape.Table }
+    requires { HasTable S.Store store.old 0 }
     ensures change { OnOk result (IsOfSource (source, content.now) × (number ≤ 2 ^ 62)) }
-    ensures ok { OnOk result (IsClean (S.Store.view store.new) → SetsTree (S.Store.view store.old) (S.Store.view store.new) 0 (put_row (change_row (form_in (S.Store.view store.old)) digest.now number (source, content.now)))) }
-    ensures kept { IsClean (S.Store.view store.new) → OnErr result (KeepsCommitted (S.Store.view store.old) (S.Store.view store.new)) }
-    ensures cause { IsClean (S.Store.view store.new) → IfErr result (HasCause (S.Store.view store.old) (MoreFaults (S.Store.faults store.old) (S.Store.faults store.new))
-        (CantHold ((S.Store.view store.old).reals 0) number (source, content.now) ⊎ ((2 ^ 62 < number) ⊎ (¬ IsOfSource (source, content.now))))) }
-    ensures quiet { IsQuiet S.Store.view S.Store.faults S.Store.recovers S.Store.is_shielded store.old store.new }
+    ensures ok { OnOk result (Shown S.Store store.old store.new
+        (PutsChange digest.now number (source, content.now))) }
+    ensures kept { IsHonest S.Store store.new
+        → OnErr result (KeepsCommitted (S.Store.view store.old) (S.Store.view store.new)) }
+    ensures cause { IsHonest S.Store store.new → IfErr result (CantWrite S.Store store.old store.new
+        (CantAppend ((S.Store.view store.old).reals 0) number (source, content.now))) }
+    ensures quiet { IsQuietCall S.Store store.old store.new }
 {
     if number > MAX_CHANGES || source < 1 || source > 64 {
         return Err(StoreError::Unstorable);
@@ -92,7 +96,8 @@ impl<S: Store> ChangeJournal<S> {
     /// How many changes there are, those among them that aren't committed yet.
     pub fn count(&self) -> u64
         ensures value { result ≡ self.now.count }
-        ensures held { IsTrue (S.Store.view self.now.store).is_open → length (held_in (S.Store.view self.now.store)) ≡ result }
+        ensures held { IsTrue (S.Store.view self.now.store).is_open
+            → length (held_in (S.Store.view self.now.store)) ≡ result }
     {
         self.count
     }
@@ -104,17 +109,21 @@ impl<S: Store> ChangeJournal<S> {
         self.count - self.committed
     }
 
-    /// Takes a change of a source, 1 to 64, and the bytes of its record, behind the others. It lasts from the next commit
-    /// on: a crash leaves what it left before. An error takes back all that wasn't committed.
+    /// Takes a change of a source, 1 to 64, and the bytes of its record, behind the others. It
+    /// lasts from the next commit on: a crash leaves what it left before. An error takes back all
+    /// that wasn't committed.
     pub fn append(&mut self, source: u32, content: &[u8]) -> Result<(), StoreError>
-        ensures ok { OnOk result (IsClean (S.Store.view self.new.store) → Appends (S.Store.view self.old.store) (S.Store.view self.new.store) (source, content.now)) }
-        ensures counts { OnOk result ((self.new.count ≡ self.old.count + 1) × (self.new.committed ≡ self.old.committed)) }
-        ensures err { OnErr result (IsClean (S.Store.view self.new.store) → Undoes (S.Store.view self.old.store) (S.Store.view self.new.store)) }
-        ensures taken_back { OnErr result ((self.new.count ≡ self.old.committed) × (self.new.committed ≡ self.old.committed)) }
-        ensures cause { IfErr result (λ e. IsClean (S.Store.view self.new.store) → IsCause (MoreFaults (S.Store.faults self.old.store) (S.Store.faults self.new.store)) ((S.Store.view self.old.store).is_open ≡ false)
-            (CantHold ((S.Store.view self.old.store).reals 0) (self.old.count + 1) (source, content.now) ⊎ ((2 ^ 62 < self.old.count + 1) ⊎ (¬ IsOfSource (source, content.now)))) e) }
-        ensures crash { (db : Trees) → S.Store.recovers self.new.store db → S.Store.recovers self.old.store db }
-        ensures on { ForgetsNothing S.Store.view S.Store.faults self.old.store self.new.store }
+        ensures ok { OnOk result (Shown S.Store self.old.store self.new.store
+            (λ old new. Appends old new (source, content.now))) }
+        ensures counts { OnOk result ((self.new.count ≡ self.old.count + 1)
+            × (self.new.committed ≡ self.old.committed)) }
+        ensures err { OnErr result (Shown S.Store self.old.store self.new.store Undoes) }
+        ensures taken_back { OnErr result ((self.new.count ≡ self.old.committed)
+            × (self.new.committed ≡ self.old.committed)) }
+        ensures cause { IfErr result (Fails S.Store self.old.store self.new.store (CantAppend
+            ((S.Store.view self.old.store).reals 0) (self.old.count + 1) (source, content.now))) }
+        ensures crash { LeavesNoMore S.Store self.old.store self.new.store }
+        ensures on { Remembers S.Store self.old.store self.new.store }
     {
         let number = self.count + 1;
         let form = form_of(&self.store);
@@ -142,19 +151,23 @@ impl<S: Store> ChangeJournal<S> {
         }
     }
 
-    /// Makes what was appended last: after it each crash leaves exactly the changes so far, in their order. A crash within
-    /// it leaves these, or what it left before. An error takes back all that wasn't committed.
+    /// Makes what was appended last: after it each crash leaves exactly the changes so far, in
+    /// their order. A crash within it leaves these, or what it left before. An error takes back all
+    /// that wasn't committed.
     pub fn commit(&mut self) -> Result<(), StoreError>
-        ensures ok { OnOk result (IsClean (S.Store.view self.new.store) → Commits (S.Store.view self.old.store) (S.Store.view self.new.store)) }
-        ensures counts { OnOk result ((self.new.count ≡ self.old.count) × (self.new.committed ≡ self.old.count)) }
-        ensures reals { OnOk result (IsClean (S.Store.view self.new.store) → (S.Store.view self.new.store).reals ≡ (S.Store.view self.old.store).reals) }
-        ensures durable { OnOk result (IsClean (S.Store.view self.new.store) → (db : Trees) → S.Store.recovers self.new.store db → Holds (form_in (S.Store.view self.old.store)) db (held_in (S.Store.view self.old.store)) (noted_in (S.Store.view self.old.store))) }
-        ensures err { OnErr result (IsClean (S.Store.view self.new.store) → Undoes (S.Store.view self.old.store) (S.Store.view self.new.store)) }
-        ensures taken_back { OnErr result ((self.new.count ≡ self.old.committed) × (self.new.committed ≡ self.old.committed)) }
-        ensures cause { IfErr result (λ e. IsClean (S.Store.view self.new.store) → IsCause (MoreFaults (S.Store.faults self.old.store) (S.Store.faults self.new.store)) ((S.Store.view self.old.store).is_open ≡ false) ⊥ e) }
-        ensures crash { (db : Trees) → S.Store.recovers self.new.store db
-            → (IsClean (S.Store.view self.old.store) × Holds (form_in (S.Store.view self.old.store)) db (held_in (S.Store.view self.old.store)) (noted_in (S.Store.view self.old.store))) ⊎ S.Store.recovers self.old.store db }
-        ensures on { ForgetsNothing S.Store.view S.Store.faults self.old.store self.new.store }
+        ensures ok { OnOk result (Shown S.Store self.old.store self.new.store Commits) }
+        ensures counts { OnOk result ((self.new.count ≡ self.old.count)
+            × (self.new.committed ≡ self.old.count)) }
+        ensures reals { OnOk result (Shown S.Store self.old.store self.new.store
+            (λ old new. new.reals ≡ old.reals)) }
+        ensures durable { OnOk result (IsHonest S.Store self.new.store
+            → LeavesHeld S.Store self.old.store self.new.store) }
+        ensures err { OnErr result (Shown S.Store self.old.store self.new.store Undoes) }
+        ensures taken_back { OnErr result ((self.new.count ≡ self.old.committed)
+            × (self.new.committed ≡ self.old.committed)) }
+        ensures cause { IfErr result (Fails S.Store self.old.store self.new.store ⊥) }
+        ensures crash { LeavesHeldOrLess S.Store self.old.store self.new.store }
+        ensures on { Remembers S.Store self.old.store self.new.store }
     {
         match self.store.commit() {
             Ok(()) => {
@@ -172,12 +185,13 @@ impl<S: Store> ChangeJournal<S> {
         }
     }
 
-    /// The store. Between any two calls, while no fault has shut it, a crash leaves exactly the changes of the last commit.
+    /// The store. Between any two calls, while no fault has shut it, a crash leaves exactly the
+    /// changes of the last commit.
     pub fn store(&self) -> &S
         ensures value { result.now ≡ self.now.store }
-        ensures settled { IsTrue (S.Store.view self.now.store).is_open → (db : Trees) → S.Store.recovers self.now.store db → Holds (form_in (S.Store.view self.now.store)) db (stored_in (S.Store.view self.now.store)) (noted_in (S.Store.view self.now.store)) }
-        ensures can_open { IsTrue (S.Store.view self.now.store).is_open → IsStore (S.Store.view self.now.store) (noted_in (S.Store.view self.now.store)) }
-        ensures tables { IsClean (S.Store.view self.now.store) → HasTables (S.Store.view self.now.store) }
+        ensures settled { LeavesStored S.Store self.now.store }
+        ensures can_open { StaysStore S.Store self.now.store }
+        ensures tables { IsHonest S.Store self.now.store → HasTables (S.Store.view self.now.store) }
     {
         &self.store
     }
@@ -185,9 +199,9 @@ impl<S: Store> ChangeJournal<S> {
     /// Gives the store back. What isn't committed is lost with the journal.
     pub fn into_store(self) -> S
         ensures value { result ≡ self.store }
-        ensures settled { IsTrue (S.Store.view self.store).is_open → (db : Trees) → S.Store.recovers self.store db → Holds (form_in (S.Store.view self.store)) db (stored_in (S.Store.view self.store)) (noted_in (S.Store.view self.store)) }
-        ensures can_open { IsTrue (S.Store.view self.store).is_open → IsStore (S.Store.view self.store) (noted_in (S.Store.view self.store)) }
-        ensures tables { IsClean (S.Store.view self.store) → HasTables (S.Store.view self.store) }
+        ensures settled { LeavesStored S.Store self.store }
+        ensures can_open { StaysStore S.Store self.store }
+        ensures tables { IsHonest S.Store self.store → HasTables (S.Store.view self.store) }
     {
         let ChangeJournal {
             store,

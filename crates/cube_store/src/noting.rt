@@ -20,7 +20,8 @@ pub enum NoteFault {
     Memory,
 }
 
-/// What is to be noted of a feed, or of the schema's file: its bytes are read to their end, counted and hashed.
+/// What is to be noted of a feed, or of the schema's file: its bytes are read to their end, counted
+/// and hashed.
 pub fn note_of<R: Read>(alloc: Global, reader: &mut R) -> Result<FeedNote, NoteFault>
     ensures { IfOk result (λ note. IfSome (R.remaining reader.old) (IsNoteOf note)) }
 {
@@ -50,7 +51,8 @@ pub fn note_of<R: Read>(alloc: Global, reader: &mut R) -> Result<FeedNote, NoteF
 fn next_piece<R: Read>(reader: &mut R, piece: &mut [u8]) -> Result<usize, NoteFault>
     requires { 0 < length piece.old }
     ensures within { IfOk result (λ count. count ≤ length piece.new) }
-    ensures takes { IfOk result (λ count. Consumes (R.remaining reader.old) (R.remaining reader.new) (take count piece.new)) }
+    ensures takes { IfOk result (λ count.
+        Consumes (R.remaining reader.old) (R.remaining reader.new) (take count piece.new)) }
     ensures end { IfOk result (λ count. count ≡ 0 → IsAtEnd (R.remaining reader.new)) }
     ensures size { length piece.new ≡ length piece.old }
 {

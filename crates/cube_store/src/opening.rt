@@ -1,10 +1,11 @@
-//! The opening of a store: its feeds are compared with what is noted, and its changes are handed over.
-ghost use Rattle.std.specs.Prelude.{◌≡◌, ◌↔◌, ◌⊎◌, List, ◌<◌, ◌≤◌, ◌^◌, false, IsTrue, IfOk, IfErr, OnOk, ⊤};
-ghost use Rattle.sqlite_disk.specs.Disk.{MoreFaults};
-ghost use Rattle.sqlite_trees.specs.View.{IsClean, IsQuiet};
+//! The opening of a store: its feeds are compared with what is noted, and its changes are handed
+//! over.
+ghost use Rattle.std.specs.Prelude.{◌≡◌, ◌↔◌, List, ◌<◌, ◌≤◌, ◌^◌, IsTrue, IfOk, IfErr, OnOk, ⊤};
 ghost use Rattle.cube_store.specs.Rows.{Entry, entries_of, AreNotes};
-ghost use Rattle.cube_store.specs.Reading.{HasCompared, HasReplayed, HasTaken, IsntTaken};
-ghost use Rattle.cube_store.specs.State.{stored_in, noted_in, form_in, stored_form, HasTables, LeadsTo, Finds, ExplainsUnopened};
+ghost use Rattle.cube_store.specs.Reading.{HasTaken, IsntTaken, HasCompared, HasReplayed};
+ghost use Rattle.cube_store.specs.State.{stored_in, noted_in, LeadsTo, Finds};
+ghost use Rattle.cube_store.specs.Calls.{AreTables, IsHonest, Shown, IsQuietCall, HasTable};
+ghost use Rattle.cube_store.specs.Calls.{IsntRead, IsntOpened};
 
 use crate::cursor::{begin, step};
 use crate::fault::OpenFault;
@@ -20,18 +21,19 @@ use std::alloc::Global;
 
 /// Whether a store has the two tables.
 pub(crate) fn has_tables<S: Store>(store: &S) -> bool
-    ensures { IsTrue result ↔ (((S.Store.view store.now).shape 0 ≡ Shape.Table) × ((S.Store.view store.now).shape 1 ≡ Shape.Table)) }
+    ensures { IsTrue result ↔ AreTables (S.Store.view store.now) }
 {
     store.shape(CHANGES) == Shape::Table && store.shape(FEEDS) == Shape::Table
 }
 
 /// Compares what is noted with these notes.
 fn compare<S: Store>(store: &mut S, row: &mut Row, notes: &[FeedNote]) -> Result<(), OpenFault>
-    requires { IsClean (S.Store.view store.old) → (S.Store.view store.old).shape 1 ≡ Shape.Table }
-    ensures seen { OnOk result (IsClean (S.Store.view store.new) → HasCompared (S.Store.view store.old) (S.Store.view store.new) (entries_of notes.now)) }
-    ensures cause { IsClean (S.Store.view store.new) → IfErr result (ExplainsUnopened (MoreFaults (S.Store.faults store.old) (S.Store.faults store.new)) (IsTrue (S.Store.view store.old).is_broken)
-        ((S.Store.view store.old).is_broken ≡ false) ⊤ (form_in (S.Store.view store.old)) (S.Store.view store.old).trees (entries_of notes.now)) }
-    ensures quiet { IsQuiet S.Store.view S.Store.faults S.Store.recovers S.Store.is_shielded store.old store.new }
+    requires { HasTable S.Store store.old 1 }
+    ensures seen { OnOk result (Shown S.Store store.old store.new
+        (λ old new. HasCompared old new (entries_of notes.now))) }
+    ensures cause { IsHonest S.Store store.new
+        → IfErr result (IsntRead S.Store store.old store.new ⊤ (entries_of notes.now)) }
+    ensures quiet { IsQuietCall S.Store store.old store.new }
 {
     begin(store, row, FEEDS)?;
     'notes: for at in 0..notes.len() {
@@ -49,8 +51,8 @@ fn compare<S: Store>(store: &mut S, row: &mut Row, notes: &[FeedNote]) -> Result
     Ok(())
 }
 
-/// Hands the change in a row over, if it is the row of the change with this number and, where rows have digests, chained to
-/// the one before. The next is to be chained to what comes back.
+/// Hands the change in a row over, if it is the row of the change with this number and, where rows
+/// have digests, chained to the one before. The next is to be chained to what comes back.
 fn take_row<K: ChangeSink>(
     row: &Row,
     form: RowForm,
@@ -59,7 +61,8 @@ fn take_row<K: ChangeSink>(
     sink: &mut K,
 ) -> Result<[u8; DIGEST_BYTES], OpenFault>
     requires { number < 2 ^ 63 }
-    ensures taken { IfOk result (HasTaken K.ChangeSink.takes form before.now number row.now sink.old sink.new) }
+    ensures taken { IfOk result
+        (HasTaken K.ChangeSink.takes form before.now number row.now sink.old sink.new) }
     ensures cause { IfErr result (IsntTaken form before.now number row.now) }
 {
     let Some(source) = source_at(row, form, number) else {
@@ -80,12 +83,13 @@ fn replay<S: Store, K: ChangeSink>(
     row: &mut Row,
     sink: &mut K,
 ) -> Result<(u64, [u8; DIGEST_BYTES]), OpenFault>
-    requires { IsClean (S.Store.view store.old) → (S.Store.view store.old).shape 0 ≡ Shape.Table }
+    requires { HasTable S.Store store.old 0 }
     ensures few { IfOk result (λ r. r.0 ≤ 2 ^ 62) }
-    ensures read { IfOk result (λ r. IsClean (S.Store.view store.new) → HasReplayed K.ChangeSink.takes (S.Store.view store.old) (S.Store.view store.new) r.0 r.1 sink.old sink.new) }
-    ensures cause { IsClean (S.Store.view store.new) → IfErr result (λ e. (notes : List Entry) → ExplainsUnopened (MoreFaults (S.Store.faults store.old) (S.Store.faults store.new)) (IsTrue (S.Store.view store.old).is_broken)
-        ((S.Store.view store.old).is_broken ≡ false) ⊤ (form_in (S.Store.view store.old)) (S.Store.view store.old).trees notes e) }
-    ensures quiet { IsQuiet S.Store.view S.Store.faults S.Store.recovers S.Store.is_shielded store.old store.new }
+    ensures read { IfOk result (λ r. Shown S.Store store.old store.new (λ old new.
+        HasReplayed K.ChangeSink.takes old new r.0 r.1 sink.old sink.new)) }
+    ensures cause { IsHonest S.Store store.new → IfErr result (λ e. (notes : List Entry)
+        → IsntRead S.Store store.old store.new ⊤ notes e) }
+    ensures quiet { IsQuietCall S.Store store.old store.new }
 {
     let form = form_of(store);
     begin(store, row, CHANGES)?;
@@ -109,12 +113,13 @@ fn read_all<S: Store, K: ChangeSink>(
     notes: &[FeedNote],
     sink: &mut K,
 ) -> Result<(u64, [u8; DIGEST_BYTES]), OpenFault>
-    ensures fits { IfOk result (λ r. (r.0 ≤ 2 ^ 62) × (((S.Store.view store.old).shape 0 ≡ Shape.Table) × ((S.Store.view store.old).shape 1 ≡ Shape.Table))) }
-    ensures read { IfOk result (λ r. IsClean (S.Store.view store.new) → HasReplayed K.ChangeSink.takes (S.Store.view store.old) (S.Store.view store.new) r.0 r.1 sink.old sink.new
-        × AreNotes ((S.Store.view store.old).trees 1) (entries_of notes.now)) }
-    ensures cause { IsClean (S.Store.view store.new) → IfErr result (ExplainsUnopened (MoreFaults (S.Store.faults store.old) (S.Store.faults store.new)) (IsTrue (S.Store.view store.old).is_broken)
-        ((S.Store.view store.old).is_broken ≡ false) (((S.Store.view store.old).shape 0 ≡ Shape.Table) × ((S.Store.view store.old).shape 1 ≡ Shape.Table)) (form_in (S.Store.view store.old)) (S.Store.view store.old).trees (entries_of notes.now)) }
-    ensures quiet { IsQuiet S.Store.view S.Store.faults S.Store.recovers S.Store.is_shielded store.old store.new }
+    ensures fits { IfOk result (λ r. (r.0 ≤ 2 ^ 62) × AreTables (S.Store.view store.old)) }
+    ensures read { IfOk result (λ r. Shown S.Store store.old store.new (λ old new.
+        HasReplayed K.ChangeSink.takes old new r.0 r.1 sink.old sink.new
+        × AreNotes (old.trees 1) (entries_of notes.now))) }
+    ensures cause { IsHonest S.Store store.new → IfErr result (IsntRead S.Store store.old store.new
+        (AreTables (S.Store.view store.old)) (entries_of notes.now)) }
+    ensures quiet { IsQuietCall S.Store store.old store.new }
 {
     if !has_tables(store) {
         return Err(OpenFault::NoTables);
@@ -123,22 +128,25 @@ fn read_all<S: Store, K: ChangeSink>(
     replay(store, row, sink)
 }
 
-/// Opens a store that was made with these notes, and hands the changes of its last commit over in their order.
+/// Opens a store that was made with these notes, and hands the changes of its last commit over in
+/// their order.
 ///
-/// Nothing is written: what a crash may leave stays as it was, also after an error, which gives the store back.
+/// Nothing is written: what a crash may leave stays as it was, also after an error, which gives the
+/// store back.
 pub(crate) fn open<S: Store, K: ChangeSink>(
     alloc: Global,
     mut store: S,
     notes: &[FeedNote],
     sink: &mut K,
 ) -> Result<ChangeJournal<S>, (OpenFault, S)>
-    ensures found { IfOk result (λ j. IsClean (S.Store.view j.store) → Finds (S.Store.view store) (S.Store.view j.store) × (noted_in (S.Store.view store) ≡ entries_of notes.now)
-        × LeadsTo K.ChangeSink.takes sink.old (stored_in (S.Store.view store)) sink.new) }
+    ensures found { IfOk result (λ j. Shown S.Store store j.store (λ old new.
+        Finds old new × (noted_in old ≡ entries_of notes.now)
+        × LeadsTo K.ChangeSink.takes sink.old (stored_in old) sink.new)) }
     ensures counts { IfOk result (λ j. j.committed ≡ j.count) }
-    ensures quiet { IfOk result (λ j. IsQuiet S.Store.view S.Store.faults S.Store.recovers S.Store.is_shielded store j.store) }
-    ensures unharmed { IfErr result (λ e. IsQuiet S.Store.view S.Store.faults S.Store.recovers S.Store.is_shielded store e.1) }
-    ensures cause { IfErr result (λ e. IsClean (S.Store.view e.1) → ExplainsUnopened (MoreFaults (S.Store.faults store) (S.Store.faults e.1)) (((S.Store.view store).is_open ≡ false) ⊎ MoreFaults (S.Store.faults store) (S.Store.faults e.1))
-        (IsTrue (S.Store.view store).is_open) (HasTables (S.Store.view store)) (stored_form (S.Store.view store)) (S.Store.view store).committed (entries_of notes.now) e.0) }
+    ensures quiet { IfOk result (λ j. IsQuietCall S.Store store j.store) }
+    ensures unharmed { IfErr result (λ e. IsQuietCall S.Store store e.1) }
+    ensures cause { IfErr result (λ e. IsHonest S.Store e.1
+        → IsntOpened S.Store store e.1 (entries_of notes.now) e.0) }
 {
     store.rollback();
     let mut row = Row::new(alloc);

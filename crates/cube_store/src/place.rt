@@ -1,5 +1,5 @@
 //! What stands at a store's path, and beside it, before its files are opened.
-use crate::store_fault::StoreFault;
+use crate::store_fault::{CallFault, StoreFault};
 use std::fs::{self, File, Metadata, OpenOptions, Permissions};
 use std::io::{ErrorKind, Read};
 use std::os::unix::fs::{MetadataExt, OpenOptionsExt, PermissionsExt};
@@ -21,8 +21,8 @@ pub struct LogPlace {
 }
 
 impl LogPlace {
-    /// Takes a log without a frame away again that the opening of files made which are no store. The files have to be open
-    /// still, so that no other process has them.
+    /// Takes a log without a frame away again that the opening of files made which are no store.
+    /// The files have to be open still, so that no other process has them.
     pub fn forget(&self, rt: &HostRuntime) {
         if self.was_there {
             return;
@@ -35,11 +35,12 @@ impl LogPlace {
     }
 }
 
-/// Looks at what stands at a path before a store is opened there. Where nothing does and `makes` holds, an empty file is made
-/// that only its owner may read and write; and a log that stands beside the file gets the file's rights.
+/// Looks at what stands at a path before a store is opened there. Where nothing does and `makes`
+/// holds, an empty file is made that only its owner may read and write; and a log that stands
+/// beside the file gets the file's rights.
 ///
-/// A file that isn't empty, doesn't begin as each database of SQLite does and has no log beside it isn't a store, and nothing is
-/// made beside it. Without `makes` an empty file isn't one either.
+/// A file that isn't empty, doesn't begin as each database of SQLite does and has no log beside it
+/// isn't a store, and nothing is made beside it. Without `makes` an empty file isn't one either.
 pub fn prepare_path(rt: &HostRuntime, path: &str, makes: bool) -> Result<LogPlace, StoreFault> {
     if makes {
         make_private(rt, path)?;
@@ -51,7 +52,7 @@ pub fn prepare_path(rt: &HostRuntime, path: &str, makes: bool) -> Result<LogPlac
         return Err(StoreFault::CantOpen);
     };
     let Ok(log) = format!(in rt.alloc(); "{}-wal", real.as_str()) else {
-        return Err(StoreFault::Memory);
+        return Err(StoreFault::Call(CallFault::Memory));
     };
     if !found.is_file() {
         return Err(StoreFault::CantOpen);
@@ -84,7 +85,8 @@ fn make_private(rt: &HostRuntime, path: &str) -> Result<(), StoreFault> {
     }
 }
 
-// Whether a file of this length may be a store's, or be made one, by how it begins and by whether its log has a byte.
+// Whether a file of this length may be a store's, or be made one, by how it begins and by whether
+// its log has a byte.
 fn may_be_store(
     rt: &HostRuntime,
     path: &str,

@@ -1,10 +1,11 @@
-//! The row of a change, or of a note on a feed: its number, NULL for the column of the INTEGER PRIMARY KEY, a number and bytes.
+//! The row of a change, or of a note on a feed: its number, NULL for the column of the INTEGER
+//! PRIMARY KEY, a number and bytes.
 ghost use Rattle.std.specs.Prelude.{◌≡◌, ◌↔◌, ◌<◌, ◌^◌, ℕ, take, IsTrue, IfSome, OnOk};
 ghost use Rattle.std.specs.Option.{IfNone};
 ghost use Rattle.sqlite_value.specs.Order.{column, bytes};
 ghost use Rattle.sqlite_value.specs.declared.value.Value.TheVariants.{Blob};
 ghost use Rattle.sqlite_value.specs.Value.{owned};
-ghost use Rattle.cube_store.specs.Rows.{Entry, row_of, change_row, entry_of, IsOfSource, IsRowOf};
+ghost use Rattle.cube_store.specs.Rows.{Entry, row_of, IsOfSource, change_row, IsRowOf, entry_of};
 ghost use Rattle.cube_store.specs.Reading.{value_count};
 
 use crate::form::{DIGEST_BYTES, RowForm};
@@ -27,7 +28,8 @@ pub fn fill(row: &mut Row, number: u64, value: u64, content: &[u8]) -> Result<()
     row.push(ValueRef::Blob(content))
 }
 
-/// Writes the row of the change with this number over `row`. It ends in this digest where rows have one.
+/// Writes the row of the change with this number over `row`. It ends in this digest where rows have
+/// one.
 pub fn fill_change(
     row: &mut Row,
     form: RowForm,
@@ -46,10 +48,12 @@ pub fn fill_change(
     }
 }
 
-/// The number in a row beside its own, if its first four values are this number, NULL, a number and bytes.
+/// The number in a row beside its own, if its first four values are this number, NULL, a number and
+/// bytes.
 fn head_value(row: &Row, number: u64) -> Option<u64>
     requires { number < 2 ^ 63 }
-    ensures some { IfSome result (λ value. take 4 row.now ≡ row_of number (value, bytes (column row.now 3))) }
+    ensures some { IfSome result
+        (λ value. take 4 row.now ≡ row_of number (value, bytes (column row.now 3))) }
     ensures none { IfNone result ((entry : Entry) → take 4 row.now ≡ row_of number entry → ⊥) }
 {
     let ValueRef::Int(id) = row.get(0) else {
@@ -70,10 +74,12 @@ fn head_value(row: &Row, number: u64) -> Option<u64>
     Some(value as u64)
 }
 
-/// The number in a row beside its own, if the row is one with this number, a number and bytes, and nothing else.
+/// The number in a row beside its own, if the row is one with this number, a number and bytes, and
+/// nothing else.
 fn value_at(row: &Row, number: u64) -> Option<u64>
     requires { number < 2 ^ 63 }
-    ensures some { IfSome result (λ value. row.now ≡ row_of number (value, bytes (column row.now 3))) }
+    ensures some { IfSome result
+        (λ value. row.now ≡ row_of number (value, bytes (column row.now 3))) }
     ensures none { IfNone result ((entry : Entry) → row.now ≡ row_of number entry → ⊥) }
 {
     if row.len() != 4 {
@@ -92,12 +98,15 @@ fn value_count(form: RowForm) -> usize
     }
 }
 
-/// The source of the change in a row, if it is the row of a change with this number, whatever its digest says.
+/// The source of the change in a row, if it is the row of a change with this number, whatever its
+/// digest says.
 pub fn source_at(row: &Row, form: RowForm, number: u64) -> Option<u32>
     requires { number < 2 ^ 63 }
     ensures source { IfSome result (λ source. IsOfSource (source, bytes (column row.now 3))) }
-    ensures some { IfSome result (λ source. IsRowOf form number (source, bytes (column row.now 3)) row.now) }
-    ensures none { IfNone result ((change : Entry) → IsOfSource change → IsRowOf form number change row.now → ⊥) }
+    ensures some { IfSome result
+        (λ source. IsRowOf form number (source, bytes (column row.now 3)) row.now) }
+    ensures none { IfNone result
+        ((change : Entry) → IsOfSource change → IsRowOf form number change row.now → ⊥) }
 {
     if row.len() != value_count(form) {
         return None;
@@ -113,7 +122,8 @@ pub fn source_at(row: &Row, form: RowForm, number: u64) -> Option<u32>
 
 /// Whether the row of a change ends in this digest, where rows have one.
 pub fn ends_in(row: &Row, form: RowForm, digest: &[u8; DIGEST_BYTES]) -> bool
-    ensures { (number : ℕ) → (change : Entry) → IsRowOf form number change row.now → (IsTrue result ↔ (row.now ≡ change_row form digest.now number change)) }
+    ensures { (number : ℕ) → (change : Entry) → IsRowOf form number change row.now
+        → (IsTrue result ↔ (row.now ≡ change_row form digest.now number change)) }
 {
     match form {
         RowForm::Plain => true,

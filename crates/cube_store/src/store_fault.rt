@@ -5,6 +5,31 @@ use sqlite_trees::error::StoreError;
 use std::io::ErrorKind;
 use thiserror::Error;
 
+/// Why a call on a store's files fails. The text of each is its code.
+#[derive(Clone, Copy, Debug, PartialEq, Eq, Error)]
+pub enum CallFault {
+    /// A read or a write of the file failed.
+    #[error("D6")]
+    Failed,
+    /// The disk is full, or the file has no room for a row.
+    #[error("D7")]
+    NoRoom,
+    /// A growth was refused.
+    #[error("D8")]
+    Memory,
+}
+
+/// Why two files aren't opened as a store. The text of each is its code.
+#[derive(Clone, Copy, Debug, PartialEq, Eq, Error)]
+pub enum FileFault {
+    /// The file isn't a store, or it is damaged.
+    #[error("D3")]
+    NotAStore,
+    /// A call on the files failed.
+    #[error(transparent)]
+    Call(CallFault),
+}
+
 /// Why a store isn't opened, or can't go on. The text of each is its code.
 #[derive(Clone, Copy, Debug, PartialEq, Eq, Error)]
 pub enum StoreFault {
@@ -26,28 +51,36 @@ pub enum StoreFault {
     /// The feed of this source isn't the one that was noted; 0 is the schema's file.
     #[error("D5 {0}")]
     Feed(u64),
-    /// A read or a write of the file failed.
-    #[error("D6")]
-    Failed,
-    /// The disk is full, or the file has no room for a row.
-    #[error("D7")]
-    NoRoom,
-    /// A growth was refused.
-    #[error("D8")]
-    Memory,
+    /// A call on the files failed.
+    #[error(transparent)]
+    Call(CallFault),
 }
 
-impl From<StoreError> for StoreFault {
+impl From<StoreError> for CallFault {
     ghost use Rattle.std.specs.Prelude.{◌≡◌};
     ghost use Rattle.cube_store.specs.Codes.{code_of_failure};
 
     ghost from_gives = { λ error fault. fault ≡ code_of_failure error };
 
-    fn from(error: StoreError) -> StoreFault {
+    fn from(error: StoreError) -> CallFault {
         match error {
-            StoreError::OutOfMemory => StoreFault::Memory,
-            StoreError::Io | StoreError::Corrupt | StoreError::Broken => StoreFault::Failed,
-            StoreError::Full | StoreError::Unstorable => StoreFault::NoRoom,
+            StoreError::OutOfMemory => CallFault::Memory,
+            StoreError::Io | StoreError::Corrupt | StoreError::Broken => CallFault::Failed,
+            StoreError::Full | StoreError::Unstorable => CallFault::NoRoom,
+        }
+    }
+}
+
+impl From<FileFault> for StoreFault {
+    ghost use Rattle.std.specs.Prelude.{◌≡◌};
+    ghost use Rattle.cube_store.specs.Codes.{code_of_files};
+
+    ghost from_gives = { λ error fault. fault ≡ code_of_files error };
+
+    fn from(fault: FileFault) -> StoreFault {
+        match fault {
+            FileFault::NotAStore => StoreFault::NotAStore,
+            FileFault::Call(fault) => StoreFault::Call(fault),
         }
     }
 }
@@ -60,7 +93,7 @@ impl From<OpenFault> for StoreFault {
 
     fn from(fault: OpenFault) -> StoreFault {
         match fault {
-            OpenFault::Store(error) => StoreFault::from(error),
+            OpenFault::Store(error) => StoreFault::Call(CallFault::from(error)),
             OpenFault::NoTables | OpenFault::TooMany => StoreFault::NotAStore,
             OpenFault::Feed(source) => StoreFault::Feed(source),
             OpenFault::Row(number) => StoreFault::Row(number),
@@ -69,34 +102,34 @@ impl From<OpenFault> for StoreFault {
     }
 }
 
-impl From<OpenError> for StoreFault {
+impl From<OpenError> for FileFault {
     ghost use Rattle.std.specs.Prelude.{◌≡◌};
     ghost use Rattle.cube_store.specs.Codes.{file_code_of};
 
     ghost from_gives = { λ error fault. fault ≡ file_code_of error };
 
-    fn from(error: OpenError) -> StoreFault {
+    fn from(error: OpenError) -> FileFault {
         match error {
-            OpenError::OutOfMemory => StoreFault::Memory,
-            OpenError::Io => StoreFault::Failed,
-            OpenError::Full => StoreFault::NoRoom,
-            OpenError::Refused => StoreFault::NotAStore,
+            OpenError::OutOfMemory => FileFault::Call(CallFault::Memory),
+            OpenError::Io => FileFault::Call(CallFault::Failed),
+            OpenError::Full => FileFault::Call(CallFault::NoRoom),
+            OpenError::Refused => FileFault::NotAStore,
         }
     }
 }
 
-impl From<sqlite_wal::Error> for StoreFault {
+impl From<sqlite_wal::Error> for FileFault {
     ghost use Rattle.std.specs.Prelude.{◌≡◌};
     ghost use Rattle.cube_store.specs.Codes.{look_code_of};
 
     ghost from_gives = { λ error fault. fault ≡ look_code_of error };
 
-    fn from(error: sqlite_wal::Error) -> StoreFault {
+    fn from(error: sqlite_wal::Error) -> FileFault {
         match error {
-            sqlite_wal::Error::OutOfMemory => StoreFault::Memory,
-            sqlite_wal::Error::Io(_) => StoreFault::Failed,
-            sqlite_wal::Error::Full => StoreFault::NoRoom,
-            _ => StoreFault::NotAStore,
+            sqlite_wal::Error::OutOfMemory => FileFault::Call(CallFault::Memory),
+            sqlite_wal::Error::Io(_) => FileFault::Call(CallFault::Failed),
+            sqlite_wal::Error::Full => FileFault::Call(CallFault::NoRoom),
+            _ => FileFault::NotAStore,
         }
     }
 }
@@ -104,10 +137,10 @@ impl From<sqlite_wal::Error> for StoreFault {
 impl From<sqlite_std_file::OpenError> for StoreFault {
     fn from(error: sqlite_std_file::OpenError) -> StoreFault {
         match error {
-            sqlite_std_file::OpenError::OutOfMemory => StoreFault::Memory,
+            sqlite_std_file::OpenError::OutOfMemory => StoreFault::Call(CallFault::Memory),
             sqlite_std_file::OpenError::Busy => StoreFault::InUse,
             sqlite_std_file::OpenError::Io(error) if error.kind() == ErrorKind::OutOfMemory =>
-                StoreFault::Memory,
+                StoreFault::Call(CallFault::Memory),
             _ => StoreFault::CantOpen,
         }
     }

@@ -3,7 +3,8 @@ ghost use Rattle.std.specs.Prelude.{◌≡◌, map};
 ghost use Rattle.sqlite_value.specs.declared.value.Value.TheVariants.{Text};
 ghost use Rattle.sqlite_value.specs.Value.{owned};
 ghost use Rattle.sqlite_store.specs.Catalog.{wanted_of, describes, same_value};
-ghost use Rattle.cube_store.specs.Found.{changes_table, feeds_table, store_schema, list_digests, listed_form, form_told};
+ghost use Rattle.cube_store.specs.Found.{changes_table, feeds_table, store_schema, list_digests};
+ghost use Rattle.cube_store.specs.Found.{listed_form, form_told};
 
 use crate::form::{CHAINED, RowForm};
 use sqlite_trees::schema::Object;
@@ -14,11 +15,13 @@ use sqlite_value::value::ValueRef;
 
 /// The text of the table of changes whose rows have no digests: stores up to release 1.11 have it.
 const PLAIN_TEXT: &str =
-    "CREATE TABLE changes(number INTEGER PRIMARY KEY, source INTEGER NOT NULL, record BLOB NOT NULL) STRICT";
+    "CREATE TABLE changes(number INTEGER PRIMARY KEY, source INTEGER NOT NULL, \
+     record BLOB NOT NULL) STRICT";
 
 /// The text of the one whose rows have digests.
 const CHAINED_TEXT: &str =
-    "CREATE TABLE changes(number INTEGER PRIMARY KEY, source INTEGER NOT NULL, record BLOB NOT NULL, digest BLOB NOT NULL) STRICT";
+    "CREATE TABLE changes(number INTEGER PRIMARY KEY, source INTEGER NOT NULL, \
+     record BLOB NOT NULL, digest BLOB NOT NULL) STRICT";
 
 /// The table of changes.
 fn changes(form: RowForm) -> Object<'static>
@@ -55,7 +58,8 @@ fn feeds() -> Object<'static>
         table: "feeds",
         reals: 0,
         sql: Some(
-            "CREATE TABLE feeds(source INTEGER PRIMARY KEY, length INTEGER NOT NULL, digest BLOB NOT NULL) STRICT",
+            "CREATE TABLE feeds(source INTEGER PRIMARY KEY, length INTEGER NOT NULL, \
+             digest BLOB NOT NULL) STRICT",
         ),
     }
 }
@@ -67,7 +71,8 @@ pub fn schema(form: RowForm) -> [Object<'static>; 2]
     [changes(form), feeds()]
 }
 
-/// The form of the table of changes in a file, by the rows of its list of tables; or that these list nothing.
+/// The form of the table of changes in a file, by the rows of its list of tables; or that these
+/// list nothing.
 pub fn form_told(rows: &[Row]) -> Option<RowForm>
     ensures { result ≡ form_told rows.now }
 {

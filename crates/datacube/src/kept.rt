@@ -10,8 +10,8 @@ use cube_console::{Counts, FeedReader, LiveWords, Output, Phase, Progress, RunWo
 use cube_core::Schema;
 use cube_live::{NeverRests, Rests};
 use cube_store::{
-    ChangeJournal, FeedNote, NoteFault, StoreFault, Unknown, Wary, close, note_of, open_files,
-    open_made_files, open_path, prepare_path,
+    ChangeJournal, FeedNote, FileFault, NoteFault, StoreFault, Unknown, Wary, close, note_of,
+    open_files, open_made_files, open_path, prepare_path,
 };
 use cube_store_commands::{
     Commits, SessionInput, StoredFailure, StoredFeeds, ask_stored, live_stored,
@@ -108,7 +108,7 @@ fn serve_and_close<T: Threads + Wait + Clock + Copy + Send + Sync + 'static, D: 
 {
     match serve_over(rt, threads, words, schema, feeds, progress) {
         Ok((status, journal)) => {
-            close(journal)?;
+            copy_and_close(journal)?;
             Ok(status)
         }
         Err((failure, store)) => {
@@ -285,6 +285,20 @@ fn ask_over<T: Threads + Wait + Clock + Sync, S: Store>(
     )
 }
 
+/// Copies a store's log into its file, and closes both.
+fn copy_and_close<D: Disk + Drop>(journal: ChangeJournal<FileStore<D>>) -> Result<(), StoreFault> {
+    match close(journal) {
+        Ok(files) => {
+            drop(files);
+            Ok(())
+        }
+        Err((fault, store)) => {
+            drop(store.close());
+            Err(StoreFault::Call(fault))
+        }
+    }
+}
+
 /// The store at a path, which is made where there is none if `makes` holds. A file that is no store is left as it was, with
 /// nothing beside it that wasn't there.
 fn open_store<S: Start>(
@@ -307,11 +321,11 @@ fn open_store<S: Start>(
     match opened {
         Ok(store) => Ok(store),
         Err((fault, files)) => {
-            if fault == StoreFault::NotAStore {
+            if fault == FileFault::NotAStore {
                 beside.forget(rt);
             }
             drop(files);
-            Err(fault)
+            Err(StoreFault::from(fault))
         }
     }
 }

@@ -1,4 +1,4 @@
-use Rattle.std.proofs.Common.{inl, sym, subst, arith}
+use Rattle.std.proofs.Common.{inl, inr, refl, sym, subst, arith}
 use Rattle.std.proofs.lemmas.Result.{IfOk-weaker, IfErr-weaker}
 use Rattle.sqlite_trees.specs.View.{IsClean}
 use Rattle.cube_store.specs.Rows.{entries_of}
@@ -11,6 +11,15 @@ use Rattle.cube_store.proofs.begin.open_made.Goals as goal
 
 pub returns-in-Ok-true-clause-unharmed : goal.returns-in-Ok-true-clause-unharmed
 returns-in-Ok-true-clause-unharmed g c = λ db h. c.is_unmade.ensures.quiet.outcomes db h
+
+pub returns-in-Ok-true-clause-cause : goal.returns-in-Ok-true-clause-cause
+returns-in-Ok-true-clause-cause g c = λ clean.
+    let told = rw c.in-Ok-true.field-0-test at (c.in-Ok-true.ensures.found clean) in
+    inr (
+      refl,
+      laws.no_row_before (g.S.Store.view c.args.store) (g.S.Store.view c.is_unmade.new.store) told.0
+          (entries_of c.args.notes.now) told.1,
+    )
 
 -- ---- the store that is there is opened
 
@@ -64,7 +73,21 @@ returns-in-Ok-false-clause-accepts g c =
     (g.S.Store.faults e.1) (entries_of c.args.notes.now) _ e.0 told c.is_unmade.ensures.quiet.counts quiet.counts
     (c.is_unmade.ensures.quiet.closes midway) (h clean) (inl store)) c.open.ensures.unharmed c.open.ensures.cause
 
+pub returns-in-Ok-false-clause-cause : goal.returns-in-Ok-false-clause-cause
+returns-in-Ok-false-clause-cause g c =
+    let was = c.args.store in
+    let mid = c.is_unmade.new.store in
+    err_both c.open.result _ _ _ (λ e quiet h clean.
+    let midway : IsClean (g.S.Store.view mid) = omega (arith, quiet.clean) in
+    let told = rw c.in-Ok-false.field-0-test at (c.in-Ok-false.ensures.found midway) in
+    inl (laws.explains_since (g.S.Store.view was) (g.S.Store.view mid) told.0 (entries_of c.args.notes.now)
+    (g.S.Store.faults was) (g.S.Store.faults mid) (g.S.Store.faults e.1) e.0 c.is_unmade.ensures.quiet.counts quiet.counts
+    (c.is_unmade.ensures.quiet.closes midway) (h clean))) c.open.ensures.unharmed c.open.ensures.cause
+
 -- ---- the store can't be looked at
+
+pub returns-in-Err-clause-cause : goal.returns-in-Err-clause-cause
+returns-in-Err-clause-cause g c = λ clean. inl (c.in-Err.ensures.cause clean)
 
 pub returns-in-Err-clause-unharmed : goal.returns-in-Err-clause-unharmed
 returns-in-Err-clause-unharmed g c = λ db h. c.is_unmade.ensures.quiet.outcomes db h

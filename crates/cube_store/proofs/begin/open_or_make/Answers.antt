@@ -4,7 +4,7 @@ use Rattle.sqlite_disk.specs.Disk.{MoreFaults}
 use Rattle.sqlite_trees.specs.View.{IsClean}
 use Rattle.cube_store.specs.Rows.{entries_of}
 use Rattle.cube_store.specs.State.{LeadsTo}
-use Rattle.cube_store.proofs.ReadingLaws.{ok_both, err_both}
+use Rattle.cube_store.proofs.ReadingLaws.{ok_both, err_both, cause_then}
 use Rattle.cube_store.proofs.MakeLaws.{goes_quiet}
 use Rattle.cube_store.proofs.StartLaws as laws
 use Rattle.cube_store.proofs.begin.open_or_make.Goals as goal
@@ -65,8 +65,24 @@ returns-in-Ok-true-clause-accepts g c =
     IfErr-weaker c.make.result _ _ (λ e h clean either.
     let wide : MoreFaults mid (g.S.Store.faults e.1) → MoreFaults was (g.S.Store.faults e.1) =
     λ f. omega (arith, c.is_unmade.ensures.quiet.counts) in
-    laws.starts_since (MoreFaults mid (g.S.Store.faults e.1)) (MoreFaults was (g.S.Store.faults e.1)) _ e.0 wide
-    (h clean)) c.make.ensures.cause
+    let why = h clean in
+    laws.making_fails (MoreFaults mid (g.S.Store.faults e.1)) (MoreFaults was (g.S.Store.faults e.1)) _ e.0 why.0 wide why.1
+    why.2) c.make.ensures.cause
+
+pub returns-in-Ok-true-clause-cause : goal.returns-in-Ok-true-clause-cause
+returns-in-Ok-true-clause-cause g c =
+    let was = g.S.Store.faults c.args.store in
+    let mid = g.S.Store.faults c.is_unmade.new.store in
+    IfErr-weaker c.make.result _ _ (λ e h clean.
+    let wide : MoreFaults mid (g.S.Store.faults e.1) → MoreFaults was (g.S.Store.faults e.1) =
+    λ f. omega (arith, c.is_unmade.ensures.quiet.counts) in
+    let why = h clean in
+    inr (
+      why.0,
+      why.1,
+      cause_then (MoreFaults mid (g.S.Store.faults e.1)) (MoreFaults was (g.S.Store.faults e.1))
+          ⊥ ⊥ _ _ why.0 wide (λ x. x) (λ x. x) why.2,
+    )) c.make.ensures.cause
 
 -- ---- the store that is there is opened
 
@@ -125,7 +141,21 @@ returns-in-Ok-false-clause-accepts g c =
     (g.S.Store.faults e.1) (entries_of c.args.notes.now) _ e.0 told c.is_unmade.ensures.quiet.counts quiet.counts
     (c.is_unmade.ensures.quiet.closes midway) (h clean) either) c.open.ensures.unharmed c.open.ensures.cause
 
+pub returns-in-Ok-false-clause-cause : goal.returns-in-Ok-false-clause-cause
+returns-in-Ok-false-clause-cause g c =
+    let was = c.args.store in
+    let mid = c.is_unmade.new.store in
+    err_both c.open.result _ _ _ (λ e quiet h clean.
+    let midway : IsClean (g.S.Store.view mid) = omega (arith, quiet.clean) in
+    let told = rw c.in-Ok-false.field-0-test at (c.in-Ok-false.ensures.found midway) in
+    inl (laws.explains_since (g.S.Store.view was) (g.S.Store.view mid) told.0 (entries_of c.args.notes.now)
+    (g.S.Store.faults was) (g.S.Store.faults mid) (g.S.Store.faults e.1) e.0 c.is_unmade.ensures.quiet.counts quiet.counts
+    (c.is_unmade.ensures.quiet.closes midway) (h clean))) c.open.ensures.unharmed c.open.ensures.cause
+
 -- ---- the store can't be looked at
+
+pub returns-in-Err-clause-cause : goal.returns-in-Err-clause-cause
+returns-in-Err-clause-cause g c = λ clean. inl (c.in-Err.ensures.cause clean)
 
 pub returns-in-Err-clause-unharmed : goal.returns-in-Err-clause-unharmed
 returns-in-Err-clause-unharmed g c = λ db h. inr (c.is_unmade.ensures.quiet.outcomes db h)

@@ -3,7 +3,6 @@ use Rattle.sqlite_trees.specs.View.{IsClean}
 use Rattle.cube_store.specs.Rows.{entries_of}
 use Rattle.cube_store.specs.State.{stored_form}
 use Rattle.cube_store.proofs.MakeLaws as laws
-use Rattle.cube_store.proofs.StartLaws as starting
 use Rattle.cube_store.proofs.making.make.Goals as goal
 
 pub invariant_of-result : goal.invariant_of-result
@@ -19,4 +18,4 @@ returns-in-Ok-clause-made g c = λ clean.
     (c.requires before) refl (g.met.S.Store.broken_if_shut c.write_notes.new.store)
 
 pub returns-in-Err-clause-cause : goal.returns-in-Err-clause-cause
-returns-in-Err-clause-cause g c = λ clean. starting.write_fails _ _ c.in-Err.error (c.in-Err.ensures.cause clean)
+returns-in-Err-clause-cause g c = λ clean. (c.in-Err.error, refl, c.in-Err.ensures.cause clean)

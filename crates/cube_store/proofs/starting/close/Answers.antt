@@ -1,8 +1,7 @@
+use Rattle.cube_store.proofs.ClosingLaws as laws
 use Rattle.cube_store.proofs.starting.close.Goals as goal
 
 pub returns-in-Ok-clause-left : goal.returns-in-Ok-clause-left
 returns-in-Ok-clause-left g c =
-    record { it = c.in-Ok.store; copied = c.in-Ok.ensures.copied; emptied = c.in-Ok.ensures.emptied }
-
-pub returns-in-Err-clause-unharmed : goal.returns-in-Err-clause-unharmed
-returns-in-Err-clause-unharmed g c = record { it = c.in-Err.store; unharmed = c.in-Err.ensures.unharmed }
+    laws.leaves-one _ c.in-Ok.store g.met.D.Disk.seen_may_stay _ _ c.close.ensures c.in-Ok.ensures.copied
+    c.in-Ok.ensures.emptied

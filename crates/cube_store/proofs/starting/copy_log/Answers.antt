@@ -3,7 +3,6 @@ use Rattle.sqlite_store.specs.FileStore.{view}
 use Rattle.sqlite_store.specs.declared.store.FileStore.{FileStore}
 use Rattle.cube_store.specs.Closing.{IsUnharmed}
 use Rattle.cube_store.proofs.ClosingLaws as laws
-use Rattle.cube_store.proofs.CodeLaws as codes
 use Rattle.cube_store.proofs.starting.copy_log.Goals as goal
 
 pub returns-in-Ok-clause-copied : goal.returns-in-Ok-clause-copied
@@ -17,8 +16,7 @@ returns-in-Err-clause-unharmed g c =
     subst (λ (was : FileStore g.row.D.Denot g.D.Disk). IsUnharmed was c.checkpoint.new.self c.from.result)
     c.into_store-store.ensures.value (record {
       crash = c.checkpoint.ensures.quiet.outcomes;
-      cause = λ clean. rw c.from.ensures
-          (codes.copy_fails (view c.into_store-store.result) _ c.in-Err.error (c.in-Err.ensures.cause clean));
+      cause = λ clean. (c.in-Err.error, c.from.ensures, c.in-Err.ensures.cause clean);
     })
 
 pub returns-in-Ok-clause-emptied : goal.returns-in-Ok-clause-emptied

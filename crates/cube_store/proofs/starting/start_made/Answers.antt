@@ -5,3 +5,6 @@ pub returns-in-Err-clause-accepts : goal.returns-in-Err-clause-accepts
 returns-in-Err-clause-accepts g c =
     λ clean store. rw c.from.ensures
     (codes.start_fails _ _ c.in-Err.fault (c.in-Err.ensures.accepts clean store.0 store.1))
+
+pub returns-in-Err-clause-cause : goal.returns-in-Err-clause-cause
+returns-in-Err-clause-cause g c = λ clean. (c.in-Err.fault, c.from.ensures, c.in-Err.ensures.cause clean)

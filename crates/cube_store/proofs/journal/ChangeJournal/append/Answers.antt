@@ -12,7 +12,7 @@ invariant_of-self g c =
     let change : Entry = (c.args.source, c.args.content.now) in
     let source : IsOfSource change = c.in-Ok.ensures.change.0 in
     let few : c.self.inside.count < 2 ^ 62 = omega (arith, c.in-Ok.ensures.change.1) in
-    rw (c.digest_after-digest.ensures, c.form_of-form.ensures) (laws.append_keeps old new c.self.inside.count c.self.inside.committed c.self.inside.digest c.self.inside.committed_digest change c.self.invariant source few back
+    rw (c.digest_after-digest.ensures, c.form_of-form.ensures) (laws.append_keeps old new _ _ _ _ change c.self.invariant source few back
     (rw (c.digest_after-digest.ensures, c.form_of-form.ensures) at c.in-Ok.ensures.ok)
     (g.met.S.Store.shut_if_dirty c.put_change.new.store))
 
@@ -24,7 +24,7 @@ returns-in-Ok-clause-ok g c =
     let change : Entry = (c.args.source, c.args.content.now) in
     let source : IsOfSource change = c.in-Ok.ensures.change.0 in
     let few : c.self.inside.count < 2 ^ 62 = omega (arith, c.in-Ok.ensures.change.1) in
-    rw (← c.self.view_is) (laws.append_adds old new c.self.inside.count c.self.inside.committed c.self.inside.digest c.self.inside.committed_digest change c.self.invariant
+    rw (← c.self.view_is) (laws.append_adds old new _ _ _ _ change c.self.invariant
     source few back (rw (c.digest_after-digest.ensures, c.form_of-form.ensures) at c.in-Ok.ensures.ok)
     (g.met.S.Store.shut_if_dirty c.put_change.new.store) (g.met.S.Store.broken_if_shut c.put_change.new.store))
 
@@ -36,7 +36,7 @@ invariant_of-self-in-Err g c =
     let to_mid : IsClean new → IsClean mid = λ h. omega (arith, c.rollback.ensures.quiet.clean) in
     let to_old : IsClean new → IsClean old =
     λ h. omega (arith, c.rollback.ensures.quiet.clean, c.put_change.ensures.quiet.clean) in
-    laws.undo_keeps old mid new c.self.inside.count c.self.inside.committed c.self.inside.digest c.self.inside.committed_digest c.self.invariant to_mid to_old
+    laws.undo_keeps old mid new _ _ _ _ c.self.invariant to_mid to_old
     c.in-Err.ensures.kept c.rollback.ensures.undone
     (g.met.S.Store.shut_if_dirty c.rollback.new.self)
 
@@ -48,7 +48,7 @@ returns-in-Err-clause-err g c =
     let to_mid : IsClean new → IsClean mid = λ h. omega (arith, c.rollback.ensures.quiet.clean) in
     let to_old : IsClean new → IsClean old =
     λ h. omega (arith, c.rollback.ensures.quiet.clean, c.put_change.ensures.quiet.clean) in
-    rw (← c.self.view_is) (laws.undo_undoes old mid new c.self.inside.count c.self.inside.committed c.self.inside.digest c.self.inside.committed_digest c.self.invariant
+    rw (← c.self.view_is) (laws.undo_undoes old mid new _ _ _ _ c.self.invariant
     to_mid to_old c.in-Err.ensures.kept c.rollback.ensures.undone
     (g.met.S.Store.shut_if_dirty c.rollback.new.self))
 
@@ -59,6 +59,6 @@ returns-in-Err-clause-cause g c =
     let new = c.rollback.new.self in
     rw (← c.self.view_is) (λ h.
     let midway : IsClean (g.S.Store.view mid) = omega (arith, c.rollback.ensures.quiet.clean) in
-    laws.cause_of (g.S.Store.view store) c.self.inside.count c.self.inside.committed c.self.inside.digest c.self.inside.committed_digest c.self.invariant
+    laws.cause_of (g.S.Store.view store) _ _ _ _ c.self.invariant
     (g.S.Store.faults store) (g.S.Store.faults mid) (g.S.Store.faults new)
     _ _ c.in-Err.error c.rollback.ensures.quiet.counts (λ x. x) (c.in-Err.ensures.cause midway))

@@ -8,7 +8,7 @@ invariant_of-self g c =
     let old = g.S.Store.view c.self.inside.store in
     let new = g.S.Store.view c.commit.new.self in
     let back : IsClean new → IsClean old = λ h. omega (arith, c.commit.ensures.clean) in
-    laws.commit_keeps old new c.self.inside.count c.self.inside.committed c.self.inside.digest c.self.inside.committed_digest c.self.invariant back c.in-Ok.ensures.ok
+    laws.commit_keeps old new _ _ _ _ c.self.invariant back c.in-Ok.ensures.ok
     (g.met.S.Store.shut_if_dirty c.commit.new.self)
 
 pub invariant_of-self-in-Err : goal.invariant_of-self-in-Err
@@ -16,7 +16,7 @@ invariant_of-self-in-Err g c =
     let old = g.S.Store.view c.self.inside.store in
     let new = g.S.Store.view c.commit.new.self in
     let back : IsClean new → IsClean old = λ h. omega (arith, c.commit.ensures.clean) in
-    laws.undo_keeps old old new c.self.inside.count c.self.inside.committed c.self.inside.digest c.self.inside.committed_digest c.self.invariant back back
+    laws.undo_keeps old old new _ _ _ _ c.self.invariant back back
     (λ _. laws.kept_itself old) c.in-Err.ensures.err
     (g.met.S.Store.shut_if_dirty c.commit.new.self)
 
@@ -25,7 +25,7 @@ returns-in-Ok-clause-ok g c =
     let old = g.S.Store.view c.self.inside.store in
     let new = g.S.Store.view c.commit.new.self in
     let back : IsClean new → IsClean old = λ h. omega (arith, c.commit.ensures.clean) in
-    rw (← c.self.view_is) (laws.commit_commits old new c.self.inside.count c.self.inside.committed c.self.inside.digest c.self.inside.committed_digest c.self.invariant back
+    rw (← c.self.view_is) (laws.commit_commits old new _ _ _ _ c.self.invariant back
     c.in-Ok.ensures.ok (g.met.S.Store.shut_if_dirty c.commit.new.self)
     (g.met.S.Store.broken_if_shut c.commit.new.self))
 
@@ -35,7 +35,7 @@ returns-in-Ok-clause-durable g c =
     let old = g.S.Store.view c.self.inside.store in
     let new = g.S.Store.view store in
     let back : IsClean new → IsClean old = λ h. omega (arith, c.commit.ensures.clean) in
-    rw (← c.self.view_is) (laws.commit_lasts old new c.self.inside.count c.self.inside.committed c.self.inside.digest c.self.inside.committed_digest c.self.invariant back
+    rw (← c.self.view_is) (laws.commit_lasts old new _ _ _ _ c.self.invariant back
     c.in-Ok.ensures.ok (g.met.S.Store.shut_if_dirty store)
     (g.met.S.Store.broken_if_shut store) (g.S.Store.recovers store) (g.met.S.Store.settled store))
 
@@ -44,7 +44,7 @@ returns-in-Err-clause-err g c =
     let old = g.S.Store.view c.self.inside.store in
     let new = g.S.Store.view c.commit.new.self in
     let back : IsClean new → IsClean old = λ h. omega (arith, c.commit.ensures.clean) in
-    rw (← c.self.view_is) (laws.undo_undoes old old new c.self.inside.count c.self.inside.committed c.self.inside.digest c.self.inside.committed_digest c.self.invariant
+    rw (← c.self.view_is) (laws.undo_undoes old old new _ _ _ _ c.self.invariant
     back back (λ _. laws.kept_itself old) c.in-Err.ensures.err
     (g.met.S.Store.shut_if_dirty c.commit.new.self))
 
@@ -53,21 +53,21 @@ returns-in-Err-clause-cause g c =
     let store = c.self.inside.store in
     let new = c.commit.new.self in
     let last : g.S.Store.faults new ≤ g.S.Store.faults new = omega arith in
-    rw (← c.self.view_is) (λ h. laws.cause_of (g.S.Store.view store) c.self.inside.count c.self.inside.committed c.self.inside.digest c.self.inside.committed_digest
+    rw (← c.self.view_is) (λ h. laws.cause_of (g.S.Store.view store) _ _ _ _
     c.self.invariant (g.S.Store.faults store) (g.S.Store.faults new) (g.S.Store.faults new)
     ⊥ ⊥ c.in-Err.error last (λ x. x) (c.in-Err.ensures.cause h))
 
 pub returns-in-Ok-clause-crash : goal.returns-in-Ok-clause-crash
 returns-in-Ok-clause-crash g c =
     let store = c.self.inside.store in
-    rw (← c.self.view_is) (λ db h. laws.commit_leaves (g.S.Store.view store) c.self.inside.count c.self.inside.committed c.self.inside.digest c.self.inside.committed_digest
+    rw (← c.self.view_is) (λ db h. laws.commit_leaves (g.S.Store.view store) _ _ _ _
     (g.S.Store.recovers store) db c.self.invariant
     (g.met.S.Store.broken_if_shut store) (g.met.S.Store.shut_if_dirty store) (c.commit.ensures.crash db h))
 
 pub returns-in-Err-clause-crash : goal.returns-in-Err-clause-crash
 returns-in-Err-clause-crash g c =
     let store = c.self.inside.store in
-    rw (← c.self.view_is) (λ db h. laws.commit_leaves (g.S.Store.view store) c.self.inside.count c.self.inside.committed c.self.inside.digest c.self.inside.committed_digest
+    rw (← c.self.view_is) (λ db h. laws.commit_leaves (g.S.Store.view store) _ _ _ _
     (g.S.Store.recovers store) db c.self.invariant
     (g.met.S.Store.broken_if_shut store) (g.met.S.Store.shut_if_dirty store) (c.commit.ensures.crash db h))
 
