@@ -15,7 +15,6 @@ use Rattle.cube_core.specs.declared.change.Change.{Change}
 use Rattle.cube_core.specs.declared.change.LineFault.{LineFault}
 use Rattle.cube_core.specs.declared.change.Item.{Item}
 use Rattle.cube_core.specs.declared.feed_columns.Column.{Column}
-use Rattle.cube_core.specs.declared.feed_columns.DimensionPlace.{DimensionPlace}
 use Rattle.cube_core.specs.declared.feed_columns.FeedColumns.{FeedColumns}
 use Rattle.cube_core.specs.declared.feed_columns.ColumnPlaces.{ColumnPlaces}
 use Rattle.cube_core.specs.declared.feed_columns.FoundColumns.{FoundColumns}
@@ -46,17 +45,14 @@ names_read columns =
     ++ map (λ (column : Column). column.name) columns.dimensions
     ++ columns.measures
 
--- where the column of a dimension stands, by a header
-abbrev pub place_by : List (List ℕ) → Column → DimensionPlace
-place_by header column = record { place = place_in header column.name; first = column.first }
-
 -- where columns stand, by a header
 abbrev pub places_by : FeedColumns → List (List ℕ) → ColumnPlaces
 places_by columns header = record {
   width = length header;
   op = option_map (place_in header) columns.op;
   id = option_map (place_in header) columns.id;
-  dimensions = map (place_by header) columns.dimensions;
+  dimensions =
+      map (λ (column : Column). record { place = place_in header column.name; first = column.first }) columns.dimensions;
   measures = map (place_in header) columns.measures;
 }
 
@@ -87,7 +83,7 @@ pub record RestOfFeed (End : Type 0) : Type 0 where
 abbrev pub item_then : {End : Type 0} → Item → RestOfFeed End → RestOfFeed End
 item_then item rest = record { items = item ∷ rest.items; end = rest.end }
 
--- whether a plain record is in the schema's shard: its id decides, whatever its faults; the empty text where it has none
+-- whether a plain record is in the schema's shard: its id decides, whatever its faults, the empty text where it has none
 abbrev pub is_read : Layout → List (List ℕ) → Bool
 is_read s fields = is_in_shard s.shard (field_at fields 1)
 
@@ -100,8 +96,8 @@ abbrev pub items_after : Layout → FoundColumns → ℕ → List (List (List �
 items_after s columns number [] = record { items = []; end = Good }
 items_after s columns number (fields ∷ records) = let plain = plain_of s columns (number + 1) fields in
     if nat_lt number s.max_records then (
-    if is_read s plain then
-    item_then (record { number = number + 1; what = change_of s plain }) (items_after s columns (number + 1) records)
+    if is_read s plain
+    then item_then (record { number = number + 1; what = change_of s plain }) (items_after s columns (number + 1) records)
     else items_after s columns (number + 1) records
     )
     else record { items = []; end = TooManyRecords }

@@ -53,8 +53,8 @@ plain_in_order s fields = let nulls = null_text ∷ nulls_of s in
 abbrev pub plain_at : Layout → List (List ℕ) → DimensionPlace → List ℕ
 plain_at s fields at = plain_dimension s (nulls_of s) at.first (field_at fields at.place)
 
--- the plain record of one that is read by the names of its columns, the data record of this number: without a column
--- of operations an insert, and without one of ids under its number; one field too many, where its width isn't the header's
+-- the plain record of one that is read by the names of its columns, the data record of this number: without a column of
+-- operations an insert, and without one of ids under its number. Of another width than the header it has a field too many
 abbrev pub plain_by_name : Layout → ColumnPlaces → ℕ → List (List ℕ) → List (List ℕ)
 plain_by_name s at number fields =
     option_map_or (field_at fields) at.op (codes "I")

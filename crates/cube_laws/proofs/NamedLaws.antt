@@ -19,7 +19,7 @@ use Rattle.std.proofs.lemmas.Slice.Eq.{bytes_eq-Decides}
 use Rattle.toml.specs.Data.{no_members, table}
 use Rattle.cube_core.specs.FeedDocument.{columns_of_feed, dimension_column, feed_columns, is_feed_table, measure_column}
 use Rattle.cube_core.specs.FeedRecords.{FeedEnd, RestOfFeed, TooManyRecords, WrongHeader, found_columns, is_read}
-use Rattle.cube_core.specs.FeedRecords.{item_then, items_after, items_of, names_read, place_by, place_in, places_by}
+use Rattle.cube_core.specs.FeedRecords.{item_then, items_after, items_of, names_read, place_in, places_by}
 use Rattle.cube_core.specs.FeedRecords.{stands_once}
 use Rattle.cube_core.specs.Items.{change_of, field_at, is_header, is_keep, width_of}
 use Rattle.cube_core.specs.Layout.{IsSchema, Layout, are_distinct, is_lawful_name, is_listed}
@@ -36,6 +36,11 @@ use Rattle.cube_laws.proofs.FeedLaws.{is_header-header_for}
 use Rattle.cube_laws.specs.Feeds.{header_for}
 use Rattle.cube_laws.specs.Named.{AreReadAlike, bare_columns, by_names, in_order, own_columns, picked, whole_column}
 use Rattle.cube_laws.proofs.RowOrderLaws.{IsPermutation-Reordered, Reordered, filter-Reordered, length-Reordered}
+use Rattle.cube_core.specs.declared.feed_columns.DimensionPlace.{DimensionPlace}
+
+-- where the column of a dimension stands, by a header
+abbrev place_by : List (List ℕ) → Column → DimensionPlace
+place_by header column = record { place = place_in header column.name; first = column.first }
 
 -- what holds of all elements of two lists, joined, holds of all of each
 AllByRecursion-split : {X : Type 0} (P : X → Type 0) (xs ys : List X) → AllByRecursion P (xs ++ ys)
