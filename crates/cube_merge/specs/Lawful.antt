@@ -1,9 +1,10 @@
 -- The rows that the cube of a schema may have (this project's choice: counts of 64 bits, sums of 128, measures of 64).
-use Rattle.std.specs.Prelude.{◌≡◌, ◌<◌, ◌^◌, ⊤, Bool, true, not, IsTrue, length, FitsSigned}
-use Rattle.std.specs.Int.{w64, w128}
+use Rattle.std.specs.Prelude.{◌≡◌, ◌<◌, ◌^◌, ⊤, Bool, true, false, not, IsTrue, length, FitsSigned, unsigned_abs}
+use Rattle.std.specs.Int.{w64, w128, IsGcd}
 use Rattle.std.specs.List.{AllZip, list_all}
 use Rattle.std.specs.Str.{bytes_eq}
-use Rattle.cube_core.specs.Layout.{Layout}
+use Rattle.cube_core.specs.GroupingSet.{is_all_coord}
+use Rattle.cube_core.specs.Layout.{Layout, keeps}
 use Rattle.cube_core.specs.Takes.{null_text}
 use Rattle.cube_core.specs.declared.aggregate.Agg.{Agg}
 use Rattle.cube_core.specs.declared.aggregate.Agg.TheVariants.{CountAll, Count, Sum, Min, Max, Avg}
@@ -45,10 +46,10 @@ IsValue (answer.Whole z) = FitsSigned w64 z
 IsValue (answer.Count n) = ⊥
 IsValue (answer.Ratio p q) = ⊥
 
--- an answer is a fraction of a number of 128 bits by a count of 64, or null
+-- an answer is a fraction in lowest terms of a number of 128 bits by a count of 64, at least 1, or null
 abbrev pub IsFraction : Answer → Type 0
 IsFraction answer.Null = ⊤
-IsFraction (answer.Ratio p q) = FitsSigned w128 p × (q < 2 ^ 64)
+IsFraction (answer.Ratio p q) = FitsSigned w128 p × (q < 2 ^ 64) × (0 < q) × IsGcd (unsigned_abs p) q 1
 IsFraction (answer.Count n) = ⊥
 IsFraction (answer.Whole z) = ⊥
 
@@ -61,9 +62,28 @@ IsOfKind (Min m) a = IsValue a
 IsOfKind (Max m) a = IsValue a
 IsOfKind (Avg m) a = IsFraction a
 
--- a cube of a schema may have this row: it has a coordinate for each dimension,
--- none of them the text that stands for null, and an answer of its kind to each aggregate
+-- an answer isn't a count of 0
+abbrev pub IsNoZero : Answer → Type 0
+IsNoZero (answer.Count n) = 0 < n
+IsNoZero answer.Null = ⊤
+IsNoZero (answer.Whole z) = ⊤
+IsNoZero (answer.Ratio p q) = ⊤
+
+-- an answer, where it is one to `count(*)`, isn't 0
+abbrev pub CountsFacts : Agg → Answer → Type 0
+CountsFacts CountAll a = IsNoZero a
+CountsFacts (Count m) a = ⊤
+CountsFacts (Sum m) a = ⊤
+CountsFacts (Min m) a = ⊤
+CountsFacts (Max m) a = ⊤
+CountsFacts (Avg m) a = ⊤
+
+-- a cube of a schema may have this row, as far as said here: it has a coordinate for each dimension,
+-- none of them the text that stands for null, the schema keeps its grouping set, it has an answer of its kind
+-- to each aggregate, and it counts a fact, if it isn't the grand total
 pub record IsLawfulRow (s : Layout) (row : Row) : Type 0 where
   pub coords : length row.key.coords ≡ length s.dimensions
   pub told : IsTrue (has_no_null_text row.key)
+  pub kept : IsTrue (keeps s row.key)
   pub answers : AllZip IsOfKind s.aggregates row.answers
+  pub counted : list_all is_all_coord row.key.coords ≡ false → AllZip CountsFacts s.aggregates row.answers

@@ -1,19 +1,18 @@
 //! What a row tells of itself: whether a printed cube can have it.
-ghost use Rattle.std.specs.Prelude.{◌≡◌, true};
+ghost use Rattle.std.specs.Prelude.{◌≡◌, ◌<◌, length, true, unsigned_abs};
+ghost use Rattle.std.specs.Int.{IsGcd};
 ghost use Rattle.std.specs.List.{AllZip, list_all};
 ghost use Rattle.cube_core.specs.GroupingSet.{is_all_coord};
-ghost use Rattle.cube_merge.specs.Lawful.{IsFraction, IsNumber, IsOfKind, IsLawfulRow, IsValue, has_no_null_text, is_no_null_text};
+ghost use Rattle.cube_merge.specs.Lawful.{CountsFacts, IsFraction, IsNumber, IsOfKind, IsLawfulRow, IsValue, has_no_null_text, is_no_null_text};
 
 use crate::gather::{answer_at, mean_of};
 use crate::source::place_of;
-use cube_core::{Agg, Answer, Coord, Key, Row, Schema};
+use cube_core::{Agg, Answer, Coord, Key, Row, Schema, reduced};
 use std::alloc::{AllocError, Global};
 
 /// Where the answers of a row stand that must not gainsay one another.
 #[derive(Drop)]
 pub(crate) struct Laws {
-    // The number of facts.
-    facts: Option<usize>,
     // Each aggregate that stood before, and the first time that it stood.
     repeats: Vec<(usize, usize)>,
     measures: Vec<MeasurePlaces>,
@@ -34,7 +33,6 @@ impl Laws {
     pub(crate) fn of(alloc: Global, schema: &Schema) -> Result<Laws, AllocError> {
         let aggregates = schema.aggregates();
         Ok(Laws {
-            facts: place_of(aggregates, &Agg::CountAll),
             repeats: repeats_of(alloc, aggregates)?,
             measures: measures_of(alloc, aggregates, schema.measures().len())?,
         })
@@ -82,11 +80,13 @@ pub(crate) fn is_lawful(schema: &Schema, laws: &Laws, row: &Row) -> bool
     schema.keeps(&row.key)
         && are_repeats_same(laws.repeats.as_slice(), answers)
         && are_measures_consistent(laws.measures.as_slice(), answers)
-        && (is_total(row) || !has_no_fact(laws, answers))
+        && (is_total(row) || count_facts(schema.aggregates(), answers))
 }
 
 fn is_row_of(schema: &Schema, row: &Row) -> bool
-    ensures { result ≡ true → IsLawfulRow schema.now row.now }
+    ensures coords { result ≡ true → length row.now.key.coords ≡ length schema.now.dimensions }
+    ensures told { result ≡ true → has_no_null_text row.now.key ≡ true }
+    ensures answers { result ≡ true → AllZip IsOfKind schema.now.aggregates row.now.answers }
 {
     row.key.coords.len() == schema.dimensions().len()
         && has_no_null_text(&row.key)
@@ -159,7 +159,21 @@ fn is_value(answer: Answer) -> bool
 fn is_fraction(answer: Answer) -> bool
     ensures { result ≡ true → IsFraction answer }
 {
-    matches!(answer, Answer::Null | Answer::Ratio { .. })
+    match answer {
+        Answer::Null => true,
+        Answer::Ratio { p, q } => is_in_lowest_terms(p, q),
+        Answer::Count(_) | Answer::Whole(_) => false,
+    }
+}
+
+fn is_in_lowest_terms(p: i128, q: u64) -> bool
+    ensures { result ≡ true → (0 < q) × IsGcd (unsigned_abs p) q 1 }
+{
+    if q == 0 {
+        return false;
+    }
+    let (numerator, denominator) = reduced(p, q);
+    numerator == p && denominator == q
 }
 
 /// Whether the key of a row is ALL in each dimension.
@@ -194,9 +208,28 @@ fn answer_in(answers: &[Answer], place: Option<usize>) -> Option<Answer> {
     Some(answer_at(answers, place?))
 }
 
-// Whether the row counts no fact.
-fn has_no_fact(laws: &Laws, answers: &[Answer]) -> bool {
-    matches!(answer_in(answers, laws.facts), Some(Answer::Count(0)))
+// Whether no answer to `count(*)` is 0.
+fn count_facts(aggregates: &[Agg], answers: &[Answer]) -> bool
+    ensures { result ≡ true → AllZip CountsFacts aggregates.now answers.now }
+{
+    if aggregates.len() != answers.len() {
+        return false;
+    }
+    for place in 0..aggregates.len() {
+        if !counts_facts(&aggregates[place], answers[place]) {
+            return false;
+        }
+    }
+    true
+}
+
+fn counts_facts(aggregate: &Agg, answer: Answer) -> bool
+    ensures { result ≡ true → CountsFacts aggregate.now answer }
+{
+    match (aggregate, answer) {
+        (Agg::CountAll, Answer::Count(count)) => count > 0,
+        _ => true,
+    }
 }
 
 fn are_measures_consistent(measures: &[MeasurePlaces], answers: &[Answer]) -> bool {
