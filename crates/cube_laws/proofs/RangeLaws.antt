@@ -1,30 +1,34 @@
 -- The answers over facts that can be counted are in the ranges of their kinds.
-use Rattle.std.proofs.Common.{◌≡◌, ℕ, zero, suc, ◌+◌, ◌*◌, ◌<◌, ◌≤◌, ◌≤ℤ◌, ◌^◌, Bool, ℤ, pos, negsuc, neg_ℤ, ◌+ℤ◌}
+use Rattle.std.proofs.Common.{◌≡◌, ℕ, zero, suc, ◌+◌, ◌*◌, ◌<◌, ◌≤◌, ◌≤ℤ◌, ◌^◌, ℤ, pos, negsuc, neg_ℤ, ◌+ℤ◌}
+use Rattle.std.proofs.Common.{Bool, true, false, ◌||◌}
 use Rattle.std.proofs.Common.{unsigned_abs, List, [], ◌∷◌, length, get_or, filter, Option, Some, None, IfSome}
 use Rattle.std.proofs.Common.{FitsSigned, sym, ap, ◌∙◌, subst, inl, inr, arith}
 use Prim.Native.Nat.{◌∣◌}
 use Rattle.std.specs.Int.{w64, w128}
-use Rattle.std.specs.List.{AllByRecursion, AllZip, cons_option}
-use Rattle.std.proofs.lemmas.Bool.{cases_Bool}
+use Rattle.std.specs.List.{AllByRecursion, AllZip, cons_option, list_all, list_any}
+use Rattle.std.proofs.lemmas.Bool.{cases_Bool, and_parts, or_cases, both_ways, false≢true}
 use Rattle.std.proofs.lemmas.Int.{ints, fits_signed_from_abs, unsigned_abs-mul}
 use Rattle.std.proofs.lemmas.List.Elements.{All-filter, All-from_recursion, recursion_from_All}
 use Rattle.std.proofs.lemmas.Nat.Gcd.{IsGcd-swap, le_of_dvd}
 use Rattle.std.proofs.Math.Nat.{dvd-mul_left, dvd-mul_right, mul_comm, le-mul_of_pos_right}
 use Rattle.cube_core.specs.Answer.{IsSum, IsBest, IsMean, IsAnswer, AreAnswers}
 use Rattle.cube_core.specs.Covers.{covers}
-use Rattle.cube_core.specs.Cube.{AreRows, HasAnswers, key_of}
+use Rattle.cube_core.specs.Cube.{AreRows, HasAnswers, is_total, key_of}
 use Rattle.cube_core.specs.Fraction.{IsInLowestTerms}
 use Rattle.cube_core.specs.Group.{group_of, values_of, value_of, total_of}
-use Rattle.cube_core.specs.Layout.{Layout}
+use Rattle.cube_core.specs.GroupingSet.{is_all_coord}
+use Rattle.cube_core.specs.Layout.{Layout, keeps}
 use Rattle.cube_core.specs.declared.aggregate.Agg.{Agg}
 use Rattle.cube_core.specs.declared.aggregate.Agg.TheVariants.{CountAll, Count, Sum, Min, Max, Avg}
 use Rattle.cube_core.specs.declared.aggregate.Answer.{Answer}
 use Rattle.cube_core.specs.declared.fact.Fact.{Fact}
+use Rattle.cube_core.specs.declared.key.Key.{Key}
 use Rattle.cube_core.specs.declared.key.Row.{Row}
 use Rattle.cube_core.proofs.CommonDivisorLaws.{divides-coprime}
 use Rattle.cube_core.proofs.ListLaws.{AllByRecursion-Contains, Contains-AllByRecursion, map-Contains, filter-passed}
 use Rattle.cube_core.proofs.ListLaws.{filter-failed}
 use Rattle.cube_merge.specs.Lawful.{IsCount, IsNumber, IsValue, IsFraction, IsOfKind, IsLawfulRow}
+use Rattle.cube_merge.specs.Lawful.{IsNoZero, CountsFacts}
 use Rattle.cube_laws.specs.Told.{HasSmallValues, AreCountable, CanBePrinted}
 use Rattle.cube_laws.proofs.KeyLaws.{IsTold-is_cell}
 
@@ -116,7 +120,12 @@ IsMean-IsFraction (v ∷ vs) a few small h =
     let total = total_of-fits (v ∷ vs) few small in
     let size = IsInLowestTerms-total (total_of (v ∷ vs)) (length (v ∷ vs)) h.0 h.1 (omega arith) h.3 in
     let count = IsInLowestTerms-count (total_of (v ∷ vs)) (length (v ∷ vs)) h.0 h.1 (omega arith) h.3 in
-    subst IsFraction (sym h.2) (fits_wide h.0 (omega (arith, total, size)), omega (arith, count, few))
+    subst IsFraction (sym h.2) (
+      fits_wide h.0 (omega (arith, total, size)),
+      omega (arith, count, few),
+      h.3.positive,
+      h.3.coprime,
+    )
 
 -- ---- groups
 length-filter-le : {X : Type 0} (p : X → Bool) (xs : List X) → length (filter p xs) ≤ length xs
@@ -192,18 +201,60 @@ group_of-AreCountable facts row countable = record {
       (All-filter (covers row.key) HasSmallValues facts (All-from_recursion HasSmallValues facts countable.small));
 }
 
+-- ---- rows that count facts
+-- where an element passes, a filter keeps some
+filter-some : {X : Type 0} (p : X → Bool) (xs : List X) → list_any p xs ≡ true → 0 < length (filter p xs)
+filter-some p [] any = absurd (false≢true any)
+filter-some p (x ∷ xs) any = elim (cases_Bool (p x)) [
+  | inl passes ↦ omega (arith, ap length (filter-passed p x xs passes))
+  | inr fails ↦ omega (arith, ap length (filter-failed p x xs fails), filter-some p xs
+      (subst (λ b. (b || list_any p xs) ≡ true) fails any))
+]
+
+IsAnswer-CountsFacts : (group : List Fact) (agg : Agg) (a : Answer) → 0 < length group → IsAnswer group agg a
+    → CountsFacts agg a
+IsAnswer-CountsFacts group CountAll a some h = subst IsNoZero (sym h) some
+IsAnswer-CountsFacts group (Count m) a some h = tt
+IsAnswer-CountsFacts group (Sum m) a some h = tt
+IsAnswer-CountsFacts group (Min m) a some h = tt
+IsAnswer-CountsFacts group (Max m) a some h = tt
+IsAnswer-CountsFacts group (Avg m) a some h = tt
+
+AreAnswers-CountFacts : (group : List Fact) (aggregates : List Agg) (answers : List Answer) → 0 < length group
+    → AreAnswers group aggregates answers → AllZip CountsFacts aggregates answers
+AreAnswers-CountFacts group [] [] some h = h
+AreAnswers-CountFacts group [] (a ∷ answers) some h = h
+AreAnswers-CountFacts group (agg ∷ aggregates) [] some h = h
+AreAnswers-CountFacts group (agg ∷ aggregates) (a ∷ answers) some h =
+    (IsAnswer-CountsFacts group agg a some h.0, AreAnswers-CountFacts group aggregates answers some h.1)
+
+-- a cell that isn't the grand total has facts
+group_of-some : (dimensions : ℕ) (facts : List Fact) (key : Key)
+    → is_total dimensions key || list_any (covers key) facts ≡ true → list_all is_all_coord key.coords ≡ false
+    → 0 < length (group_of key facts)
+group_of-some dimensions facts key cell part =
+    elim (or_cases (is_total dimensions key) (list_any (covers key) facts) cell) [
+      | inl total ↦ absurd (both_ways _ part (and_parts _ _ total).1)
+      | inr any ↦ filter-some (covers key) facts any
+    ]
+
 -- the rows of a cube are rows of its schema
 pub AreRows-IsLawfulRow : (s : Layout) (facts : List Fact) (rows : List Row) → CanBePrinted s facts
     → AreRows s facts rows
     → AllByRecursion (IsLawfulRow s) rows
 AreRows-IsLawfulRow s facts rows printable are =
     Contains-AllByRecursion (IsLawfulRow s) rows (λ row among.
-    let told = IsTold-is_cell s s.grouping_sets facts row.key printable.fit
-    ((are.cells row.key).0 (map-Contains key_of rows row among)) in
+    let cell = (are.cells row.key).0 (map-Contains key_of rows row among) in
+    let told = IsTold-is_cell s s.grouping_sets facts row.key printable.fit cell in
+    let parts =
+    and_parts (keeps s row.key) (is_total (length s.dimensions) row.key || list_any (covers row.key) facts) cell in
+    let answers = AllByRecursion-Contains (HasAnswers s.aggregates facts) rows row are.answers among in
     record {
       coords = told.1;
       told = told.0;
+      kept = parts.0;
       answers = AreAnswers-AreOfKind (group_of row.key facts) s.aggregates row.answers
-          (group_of-AreCountable facts row printable.countable)
-          (AllByRecursion-Contains (HasAnswers s.aggregates facts) rows row are.answers among);
+          (group_of-AreCountable facts row printable.countable) answers;
+      counted = λ part. AreAnswers-CountFacts (group_of row.key facts) s.aggregates row.answers
+          (group_of-some (length s.dimensions) facts row.key parts.1 part) answers;
     })

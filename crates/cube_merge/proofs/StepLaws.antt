@@ -29,7 +29,8 @@ use Rattle.cube_core.proofs.ListLaws.{Contains-nil, Contains-cases, Contains-hea
 use Rattle.cube_merge.specs.Lawful.{IsLawfulRow}
 use Rattle.cube_merge.specs.Range.{AreInRange}
 use Rattle.cube_merge.specs.Merging.{AreOfSchema, InputView, IsAbove, TakesLine, Moves, AllMove, IsUse, AreUses}
-use Rattle.cube_merge.specs.Merging.{used_row, used_of_each, used_rows, Gave, IsCounted, IsEnded, IsBelow, AreWhole, IsWhole, MayEnd}
+use Rattle.cube_merge.specs.Merging.{used_row, used_of_each, used_rows, Gave, IsCounted, IsEnded, IsBelow}
+use Rattle.cube_merge.specs.Merging.{AreWhole, IsWhole, MayEnd}
 use Rattle.cube_merge.specs.Merging.{AreInKeyOrder}
 use Rattle.cube_merge.specs.Merging.{all_rows, nothing_left, IsMerging}
 use Rattle.cube_merge.proofs.MergedLaws.{AllByRecursion-append, AreInRange-push, AreMerged-push, sorted-push}
@@ -279,8 +280,8 @@ below-Moves s key low true old new under is_use moved = by_row new.row moved whe
 -- a row with as many coordinates as dimensions, each ALL, is the grand total
 is_total-all : (dimensions : ℕ) (row : Row) → length row.key.coords ≡ dimensions
     → list_all is_all_coord row.key.coords ≡ true → is_total dimensions row.key ≡ true
-is_total-all dimensions row long all = and_from (length row.key.coords == dimensions) (list_all is_all_coord row.key.coords)
-    (eq-eqb _ _ long) all
+is_total-all dimensions row long all =
+    and_from (length row.key.coords == dimensions) (list_all is_all_coord row.key.coords) (eq-eqb _ _ long) all
 
 -- rows of an input that took no further line are a whole cube's
 AreWhole-end : (s : Layout) (rows : List Row) (last : Option Row)

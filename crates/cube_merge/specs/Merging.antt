@@ -40,7 +40,7 @@ abbrev pub IsTotalRow : Option Row → Type 0
 IsTotalRow None = ⊥
 IsTotalRow (Some row) = list_all is_all_coord row.key.coords ≡ true
 
--- a cube may end behind this row, or behind its header where there is none: with the grand total, if the schema keeps it
+-- a cube may end behind this row, or its header where there is none: with the grand total, if the schema keeps it
 abbrev pub MayEnd : Layout → Option Row → Type 0
 MayEnd s last = Contains s.grouping_sets 0 → IsTotalRow last
 

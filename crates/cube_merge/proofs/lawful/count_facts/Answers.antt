@@ -8,5 +8,5 @@ loop-place-preserved c =
     let on : c.counts_facts.result ≡ true = search rules in
     let inside : c.loop-place.place < length c.args.answers.now =
     omega (arith, c.loop-place-test.true, c.if-aggregates-answers.false) in
-    AllZip-next CountsFacts c.args.aggregates.now c.args.answers.now c.loop-place.place _ _ c.loop-place-test.true inside
-    c.loop-place.invariant (c.counts_facts.ensures on)
+    AllZip-next CountsFacts c.args.aggregates.now c.args.answers.now c.loop-place.place _ _ c.loop-place-test.true
+    inside c.loop-place.invariant (c.counts_facts.ensures on)

@@ -36,8 +36,7 @@ returns-then-is_empty-clause-ok g c =
     let none : length c.read_line.new.line.items ≡ 0 = search (rules, arith) in
     let empty = nil_from_length c.read_line.new.line.items none in
     let row : c.self.inside.row ≡ None = rw (← c.self.view_is) at c.requires in
-    rw (← c.self.view_is, row)
-    (
+    rw (← c.self.view_is, row) (
       subst (Consumes _ _) empty c.in_ok-read_line.ensures.taken,
       c.in_ok-read_line.ensures.end empty,
       c.is_complete.ensures.complete (search rules),
