@@ -21,6 +21,7 @@ use Rattle.cube_core.specs.Layout.{Layout, keeps}
 use Rattle.cube_core.specs.declared.aggregate.Agg.{Agg}
 use Rattle.cube_core.specs.declared.aggregate.Agg.TheVariants.{CountAll, Count, Sum, Min, Max, Avg}
 use Rattle.cube_core.specs.declared.aggregate.Answer.{Answer}
+use Rattle.cube_core.specs.declared.aggregate.Answer.TheVariants.{Whole}
 use Rattle.cube_core.specs.declared.fact.Fact.{Fact}
 use Rattle.cube_core.specs.declared.key.Key.{Key}
 use Rattle.cube_core.specs.declared.key.Row.{Row}
@@ -28,7 +29,7 @@ use Rattle.cube_core.proofs.CommonDivisorLaws.{divides-coprime}
 use Rattle.cube_core.proofs.ListLaws.{AllByRecursion-Contains, Contains-AllByRecursion, map-Contains, filter-passed}
 use Rattle.cube_core.proofs.ListLaws.{filter-failed}
 use Rattle.cube_merge.specs.Lawful.{IsCount, IsNumber, IsValue, IsFraction, IsOfKind, IsLawfulRow}
-use Rattle.cube_merge.specs.Lawful.{IsNoZero, CountsFacts}
+use Rattle.cube_merge.specs.Lawful.{IsNoZero, CountsFacts, IsInOrder, IsAtLeast, IsWithin}
 use Rattle.cube_laws.specs.Told.{HasSmallValues, AreCountable, CanBePrinted}
 use Rattle.cube_laws.proofs.KeyLaws.{IsTold-is_cell}
 
@@ -228,6 +229,55 @@ AreAnswers-CountFacts group (agg ∷ aggregates) [] some h = h
 AreAnswers-CountFacts group (agg ∷ aggregates) (a ∷ answers) some h =
     (IsAnswer-CountsFacts group agg a some h.0, AreAnswers-CountFacts group aggregates answers some h.1)
 
+-- ---- least and greatest values
+-- of one group the least value isn't above the greatest
+IsBest-IsInOrder : (values : List ℤ) (a b : Answer) → IsBest (λ m x. m ≤ℤ x) values a
+    → IsBest (λ m x. x ≤ℤ m) values b → IsInOrder a b
+IsBest-IsInOrder [] a b h k = subst (λ x. IsInOrder x b) (sym h) tt
+IsBest-IsInOrder (v ∷ vs) a b h k =
+    subst (λ x. IsInOrder x b) (sym h.1) (subst (λ y. IsInOrder (Whole h.0) y) (sym k.1)
+    (AllByRecursion-Contains (λ x. h.0 ≤ℤ x) (v ∷ vs) k.0 h.3 k.2))
+
+IsAnswer-IsAtLeast : (group : List Fact) (m : ℕ) (least : Answer) (agg : Agg) (a : Answer)
+    → IsAnswer group (Min m) least → IsAnswer group agg a → IsAtLeast m least agg a
+IsAnswer-IsAtLeast group m least CountAll a h k = tt
+IsAnswer-IsAtLeast group m least (Count other) a h k = tt
+IsAnswer-IsAtLeast group m least (Sum other) a h k = tt
+IsAnswer-IsAtLeast group m least (Min other) a h k = tt
+IsAnswer-IsAtLeast group m least (Max other) a h k =
+    λ same. IsBest-IsInOrder (values_of m group) least a h
+    (subst (λ n. IsBest (λ m x. x ≤ℤ m) (values_of n group) a) same k)
+IsAnswer-IsAtLeast group m least (Avg other) a h k = tt
+
+AreAnswers-AreAtLeast : (group : List Fact) (m : ℕ) (least : Answer) (aggregates : List Agg) (answers : List Answer)
+    → IsAnswer group (Min m) least → AreAnswers group aggregates answers
+    → AllZip (IsAtLeast m least) aggregates answers
+AreAnswers-AreAtLeast group m least [] [] h all = all
+AreAnswers-AreAtLeast group m least [] (a ∷ answers) h all = all
+AreAnswers-AreAtLeast group m least (agg ∷ aggregates) [] h all = all
+AreAnswers-AreAtLeast group m least (agg ∷ aggregates) (a ∷ answers) h all = (
+  IsAnswer-IsAtLeast group m least agg a h all.0,
+  AreAnswers-AreAtLeast group m least aggregates answers h all.1,
+)
+
+module _ (group : List Fact) (aggregates : List Agg) (answers : List Answer)
+    (all : AreAnswers group aggregates answers) where
+  IsAnswer-IsWithin : (agg : Agg) (a : Answer) → IsAnswer group agg a → IsWithin aggregates answers agg a
+  IsAnswer-IsWithin CountAll a h = tt
+  IsAnswer-IsWithin (Count m) a h = tt
+  IsAnswer-IsWithin (Sum m) a h = tt
+  IsAnswer-IsWithin (Min m) a h = AreAnswers-AreAtLeast group m a aggregates answers h all
+  IsAnswer-IsWithin (Max m) a h = tt
+  IsAnswer-IsWithin (Avg m) a h = tt
+
+  AreAnswers-AreWithin : (some : List Agg) (their : List Answer) → AreAnswers group some their
+      → AllZip (IsWithin aggregates answers) some their
+  AreAnswers-AreWithin [] [] h = h
+  AreAnswers-AreWithin [] (a ∷ their) h = h
+  AreAnswers-AreWithin (agg ∷ some) [] h = h
+  AreAnswers-AreWithin (agg ∷ some) (a ∷ their) h =
+      (IsAnswer-IsWithin agg a h.0, AreAnswers-AreWithin some their h.1)
+
 -- a cell that isn't the grand total has facts
 group_of-some : (dimensions : ℕ) (facts : List Fact) (key : Key)
     → is_total dimensions key || list_any (covers key) facts ≡ true → list_all is_all_coord key.coords ≡ false
@@ -255,6 +305,8 @@ AreRows-IsLawfulRow s facts rows printable are =
       kept = parts.0;
       answers = AreAnswers-AreOfKind (group_of row.key facts) s.aggregates row.answers
           (group_of-AreCountable facts row printable.countable) answers;
+      in_order = AreAnswers-AreWithin (group_of row.key facts) s.aggregates row.answers answers s.aggregates row.answers
+          answers;
       counted = λ part. AreAnswers-CountFacts (group_of row.key facts) s.aggregates row.answers
           (group_of-some (length s.dimensions) facts row.key parts.1 part) answers;
     })

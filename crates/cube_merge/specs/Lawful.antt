@@ -1,5 +1,6 @@
 -- The rows that the cube of a schema may have (this project's choice: counts of 64 bits, sums of 128, measures of 64).
-use Rattle.std.specs.Prelude.{◌≡◌, ◌<◌, ◌^◌, ⊤, Bool, true, false, not, IsTrue, length, FitsSigned, unsigned_abs}
+use Rattle.std.specs.Prelude.{◌≡◌, ◌<◌, ◌≤ℤ◌, ◌^◌, ⊤, ℕ, Bool, true, false, not, IsTrue, List, length}
+use Rattle.std.specs.Prelude.{FitsSigned, unsigned_abs}
 use Rattle.std.specs.Int.{w64, w128, IsGcd}
 use Rattle.std.specs.List.{AllZip, list_all}
 use Rattle.std.specs.Str.{bytes_eq}
@@ -78,12 +79,41 @@ CountsFacts (Min m) a = ⊤
 CountsFacts (Max m) a = ⊤
 CountsFacts (Avg m) a = ⊤
 
+-- a least answer isn't above a greatest one, where both are numbers
+abbrev pub IsInOrder : Answer → Answer → Type 0
+IsInOrder (answer.Whole least) (answer.Whole greatest) = least ≤ℤ greatest
+IsInOrder (answer.Whole least) _ = ⊤
+IsInOrder _ greatest = ⊤
+
+-- a least answer of a measure isn't above this answer, where it is one to the measure's greatest value
+abbrev pub IsAtLeast : ℕ → Answer → Agg → Answer → Type 0
+IsAtLeast m least (Max other) a = other ≡ m → IsInOrder least a
+IsAtLeast m least CountAll a = ⊤
+IsAtLeast m least (Count other) a = ⊤
+IsAtLeast m least (Sum other) a = ⊤
+IsAtLeast m least (Min other) a = ⊤
+IsAtLeast m least (Avg other) a = ⊤
+
+-- an answer, where it is one to a least value, isn't above the greatest value of its measure among answers
+abbrev pub IsWithin : List Agg → List Answer → Agg → Answer → Type 0
+IsWithin aggregates answers (Min m) a = AllZip (IsAtLeast m a) aggregates answers
+IsWithin aggregates answers CountAll a = ⊤
+IsWithin aggregates answers (Count m) a = ⊤
+IsWithin aggregates answers (Sum m) a = ⊤
+IsWithin aggregates answers (Max m) a = ⊤
+IsWithin aggregates answers (Avg m) a = ⊤
+
+-- no least value among answers is above the greatest value of its measure
+abbrev pub AreInOrder : List Agg → List Answer → Type 0
+AreInOrder aggregates answers = AllZip (IsWithin aggregates answers) aggregates answers
+
 -- a cube of a schema may have this row, as far as said here: it has a coordinate for each dimension,
 -- none of them the text that stands for null, the schema keeps its grouping set, it has an answer of its kind
--- to each aggregate, and it counts a fact, if it isn't the grand total
+-- to each aggregate, it counts a fact, if it isn't the grand total, and no least value is above the greatest one
 pub record IsLawfulRow (s : Layout) (row : Row) : Type 0 where
   pub coords : length row.key.coords ≡ length s.dimensions
   pub told : IsTrue (has_no_null_text row.key)
   pub kept : IsTrue (keeps s row.key)
   pub answers : AllZip IsOfKind s.aggregates row.answers
+  pub in_order : AreInOrder s.aggregates row.answers
   pub counted : list_all is_all_coord row.key.coords ≡ false → AllZip CountsFacts s.aggregates row.answers

@@ -3,7 +3,7 @@ ghost use Rattle.std.specs.Prelude.{◌≡◌, ◌<◌, length, true, unsigned_a
 ghost use Rattle.std.specs.Int.{IsGcd};
 ghost use Rattle.std.specs.List.{AllZip, list_all};
 ghost use Rattle.cube_core.specs.GroupingSet.{is_all_coord};
-ghost use Rattle.cube_merge.specs.Lawful.{CountsFacts, IsFraction, IsNumber, IsOfKind, IsLawfulRow, IsValue, has_no_null_text, is_no_null_text};
+ghost use Rattle.cube_merge.specs.Lawful.{AreInOrder, CountsFacts, IsAtLeast, IsFraction, IsInOrder, IsWithin, IsNumber, IsOfKind, IsLawfulRow, IsValue, has_no_null_text, is_no_null_text};
 
 use crate::gather::{answer_at, mean_of};
 use crate::source::place_of;
@@ -78,6 +78,7 @@ pub(crate) fn is_lawful(schema: &Schema, laws: &Laws, row: &Row) -> bool
     }
     let answers = row.answers.as_slice();
     schema.keeps(&row.key)
+        && is_row_in_order(schema, row)
         && are_repeats_same(laws.repeats.as_slice(), answers)
         && are_measures_consistent(laws.measures.as_slice(), answers)
         && (is_total(row) || count_facts(schema.aggregates(), answers))
@@ -242,7 +243,7 @@ fn are_measures_consistent(measures: &[MeasurePlaces], answers: &[Answer]) -> bo
 }
 
 // Whether the answers to the aggregates of a measure can be those of one group: null together, exactly where the count is
-// there and 0; the least not above the greatest; and the mean that of the sum and the count.
+// there and 0; and the mean that of the sum and the count.
 fn is_measure_consistent(places: &MeasurePlaces, answers: &[Answer]) -> bool {
     let count = answer_in(answers, places.count);
     let sum = answer_in(answers, places.sum);
@@ -260,7 +261,6 @@ fn is_measure_consistent(places: &MeasurePlaces, answers: &[Answer]) -> bool {
         && is_null_as(&least, is_empty)
         && is_null_as(&greatest, is_empty)
         && is_null_as(&mean, is_empty)
-        && are_in_order(&least, &greatest)
         && is_mean_of(&mean, &sum, &count)
 }
 
@@ -275,9 +275,65 @@ fn is_null_as(answer: &Option<Answer>, is_null: bool) -> bool {
     }
 }
 
-fn are_in_order(least: &Option<Answer>, greatest: &Option<Answer>) -> bool {
+// Whether no least value of a row is above the greatest value of its measure.
+fn is_row_in_order(schema: &Schema, row: &Row) -> bool
+    ensures { result ≡ true → AreInOrder schema.now.aggregates row.now.answers }
+{
+    are_in_order(schema.aggregates(), row.answers.as_slice())
+}
+
+fn are_in_order(aggregates: &[Agg], answers: &[Answer]) -> bool
+    ensures { result ≡ true → AreInOrder aggregates.now answers.now }
+{
+    if aggregates.len() != answers.len() {
+        return false;
+    }
+    for place in 0..aggregates.len() {
+        if !is_within(aggregates, answers, &aggregates[place], answers[place]) {
+            return false;
+        }
+    }
+    true
+}
+
+fn is_within(aggregates: &[Agg], answers: &[Answer], aggregate: &Agg, answer: Answer) -> bool
+    ensures { result ≡ true → IsWithin aggregates.now answers.now aggregate.now answer }
+{
+    match aggregate {
+        Agg::Min(measure) => is_least(aggregates, answers, *measure, answer),
+        _ => true,
+    }
+}
+
+// Whether a least value of a measure isn't above a greatest one of it among answers.
+fn is_least(aggregates: &[Agg], answers: &[Answer], measure: usize, least: Answer) -> bool
+    ensures { result ≡ true → AllZip (IsAtLeast measure least) aggregates.now answers.now }
+{
+    if aggregates.len() != answers.len() {
+        return false;
+    }
+    for place in 0..aggregates.len() {
+        if !is_at_least(measure, least, &aggregates[place], answers[place]) {
+            return false;
+        }
+    }
+    true
+}
+
+fn is_at_least(measure: usize, least: Answer, aggregate: &Agg, answer: Answer) -> bool
+    ensures { result ≡ true → IsAtLeast measure least aggregate.now answer }
+{
+    match aggregate {
+        Agg::Max(other) => *other != measure || is_in_order(least, answer),
+        _ => true,
+    }
+}
+
+fn is_in_order(least: Answer, greatest: Answer) -> bool
+    ensures { result ≡ true → IsInOrder least greatest }
+{
     match (least, greatest) {
-        (Some(Answer::Whole(least)), Some(Answer::Whole(greatest))) => least <= greatest,
+        (Answer::Whole(least), Answer::Whole(greatest)) => least <= greatest,
         _ => true,
     }
 }
