@@ -1,12 +1,12 @@
 -- The answers over facts that can be counted are in the ranges of their kinds.
 use Rattle.std.proofs.Common.{◌≡◌, ℕ, zero, suc, ◌+◌, ◌*◌, ◌<◌, ◌≤◌, ◌≤ℤ◌, ◌^◌, ℤ, pos, negsuc, neg_ℤ, ◌+ℤ◌}
-use Rattle.std.proofs.Common.{Bool, true, false, ◌||◌}
+use Rattle.std.proofs.Common.{Bool, true, false, ◌||◌, ◌==◌, refl}
 use Rattle.std.proofs.Common.{unsigned_abs, List, [], ◌∷◌, length, get_or, filter, Option, Some, None, IfSome}
 use Rattle.std.proofs.Common.{FitsSigned, sym, ap, ◌∙◌, subst, inl, inr, arith}
 use Prim.Native.Nat.{◌∣◌}
 use Rattle.std.specs.Int.{w64, w128}
 use Rattle.std.specs.List.{AllByRecursion, AllZip, cons_option, list_all, list_any}
-use Rattle.std.proofs.lemmas.Bool.{cases_Bool, and_parts, or_cases, both_ways, false≢true}
+use Rattle.std.proofs.lemmas.Bool.{cases_Bool, and_parts, or_cases, both_ways, false≢true, eqb-true}
 use Rattle.std.proofs.lemmas.Int.{ints, fits_signed_from_abs, unsigned_abs-mul}
 use Rattle.std.proofs.lemmas.List.Elements.{All-filter, All-from_recursion, recursion_from_All}
 use Rattle.std.proofs.lemmas.Nat.Gcd.{IsGcd-swap, le_of_dvd}
@@ -30,6 +30,7 @@ use Rattle.cube_core.proofs.ListLaws.{AllByRecursion-Contains, Contains-AllByRec
 use Rattle.cube_core.proofs.ListLaws.{filter-failed}
 use Rattle.cube_merge.specs.Lawful.{IsCount, IsNumber, IsValue, IsFraction, IsOfKind, IsLawfulRow}
 use Rattle.cube_merge.specs.Lawful.{IsNoZero, CountsFacts, IsInOrder, IsAtLeast, IsWithin}
+use Rattle.cube_merge.specs.Lawful.{IsNoneAmong, TellsNone, measure_of, tells_none}
 use Rattle.cube_laws.specs.Told.{HasSmallValues, AreCountable, CanBePrinted}
 use Rattle.cube_laws.proofs.KeyLaws.{IsTold-is_cell}
 
@@ -278,6 +279,90 @@ module _ (group : List Fact) (aggregates : List Agg) (answers : List Answer)
   AreAnswers-AreWithin (agg ∷ some) (a ∷ their) h =
       (IsAnswer-IsWithin agg a h.0, AreAnswers-AreWithin some their h.1)
 
+-- ---- nulls
+-- a count tells that there is no value where there is none, and there alone
+none-of-length : (values : List ℤ) → (length values == 0) ≡ true → values ≡ []
+none-of-length [] e = refl
+none-of-length (v ∷ vs) e = absurd (omega (arith, eqb-true (length (v ∷ vs)) 0 e))
+
+some-same : (a b : ℕ) → Some a ≡ Some b → a ≡ b
+some-same a b e = cc
+
+none-at : (group : List Fact) (k m : ℕ) → values_of m group ≡ [] → Some k ≡ Some m → values_of k group ≡ []
+none-at group k m empty is = subst (λ n. values_of n group ≡ []) (sym (some-same k m is)) empty
+
+none-of-best : (R : ℤ → ℤ → Type 0) (values : List ℤ) (a : Answer) → IsBest R values a → tells_none a ≡ true
+    → values ≡ []
+none-of-best R [] a h none = refl
+none-of-best R (v ∷ vs) a h none = absurd (false≢true (ap tells_none (sym h.1) ∙ none))
+
+-- so does an answer of a measure
+tells_none-values : (group : List Fact) (m : ℕ) (agg : Agg) (a : Answer) → IsAnswer group agg a
+    → measure_of agg ≡ Some m → tells_none a ≡ true → values_of m group ≡ []
+tells_none-values group m CountAll a h is none = cc
+tells_none-values group m (Count k) a h is none =
+    subst (λ n. values_of n group ≡ []) (some-same k m is)
+    (none-of-length (values_of k group) (ap tells_none (sym h) ∙ none))
+tells_none-values group m (Sum k) a h is none =
+    subst (λ n. values_of n group ≡ []) (some-same k m is) (by_values (values_of k group) h) where
+      by_values : (values : List ℤ) → IsSum values a → values ≡ []
+      by_values [] s = refl
+      by_values (v ∷ vs) s = absurd (false≢true (ap tells_none (sym s) ∙ none))
+tells_none-values group m (Min k) a h is none =
+    subst (λ n. values_of n group ≡ []) (some-same k m is) (none-of-best (λ m x. m ≤ℤ x) (values_of k group) a h none)
+tells_none-values group m (Max k) a h is none =
+    subst (λ n. values_of n group ≡ []) (some-same k m is) (none-of-best (λ m x. x ≤ℤ m) (values_of k group) a h none)
+tells_none-values group m (Avg k) a h is none =
+    subst (λ n. values_of n group ≡ []) (some-same k m is) (by_values (values_of k group) h) where
+      by_values : (values : List ℤ) → IsMean values a → values ≡ []
+      by_values [] s = refl
+      by_values (v ∷ vs) s = absurd (false≢true (ap tells_none (sym s.2) ∙ none))
+
+values-tells_none : (group : List Fact) (m : ℕ) (agg : Agg) (a : Answer) → values_of m group ≡ []
+    → IsAnswer group agg a → TellsNone m agg a
+values-tells_none group m CountAll a empty h is = cc
+values-tells_none group m (Count k) a empty h is =
+    ap tells_none h ∙ ap (λ (l : List ℤ). length l == 0) (none-at group k m empty is)
+values-tells_none group m (Sum k) a empty h is =
+    ap tells_none (subst (λ values. IsSum values a) (none-at group k m empty is) h)
+values-tells_none group m (Min k) a empty h is =
+    ap tells_none (subst (λ values. IsBest (λ m x. m ≤ℤ x) values a) (none-at group k m empty is) h)
+values-tells_none group m (Max k) a empty h is =
+    ap tells_none (subst (λ values. IsBest (λ m x. x ≤ℤ m) values a) (none-at group k m empty is) h)
+values-tells_none group m (Avg k) a empty h is =
+    ap tells_none (subst (λ values. IsMean values a) (none-at group k m empty is) h)
+
+AreAnswers-TellNone : (group : List Fact) (m : ℕ) (aggregates : List Agg) (answers : List Answer)
+    → values_of m group ≡ [] → AreAnswers group aggregates answers → AllZip (TellsNone m) aggregates answers
+AreAnswers-TellNone group m [] [] empty all = all
+AreAnswers-TellNone group m [] (a ∷ answers) empty all = all
+AreAnswers-TellNone group m (agg ∷ aggregates) [] empty all = all
+AreAnswers-TellNone group m (agg ∷ aggregates) (a ∷ answers) empty all =
+    (values-tells_none group m agg a empty all.0, AreAnswers-TellNone group m aggregates answers empty all.1)
+
+module _ (group : List Fact) (aggregates : List Agg) (answers : List Answer)
+    (all : AreAnswers group aggregates answers) where
+  none-of_measure : (m : ℕ) (agg : Agg) (a : Answer) → IsAnswer group agg a → measure_of agg ≡ Some m
+      → tells_none a ≡ true → AllZip (TellsNone m) aggregates answers
+  none-of_measure m agg a h is none =
+      AreAnswers-TellNone group m aggregates answers (tells_none-values group m agg a h is none) all
+
+  IsAnswer-IsNoneAmong : (agg : Agg) (a : Answer) → IsAnswer group agg a → IsNoneAmong aggregates answers agg a
+  IsAnswer-IsNoneAmong CountAll a h none = tt
+  IsAnswer-IsNoneAmong (Count m) a h none = none-of_measure m (Count m) a h refl none
+  IsAnswer-IsNoneAmong (Sum m) a h none = none-of_measure m (Sum m) a h refl none
+  IsAnswer-IsNoneAmong (Min m) a h none = none-of_measure m (Min m) a h refl none
+  IsAnswer-IsNoneAmong (Max m) a h none = none-of_measure m (Max m) a h refl none
+  IsAnswer-IsNoneAmong (Avg m) a h none = none-of_measure m (Avg m) a h refl none
+
+  AreAnswers-AreNone : (some : List Agg) (their : List Answer) → AreAnswers group some their
+      → AllZip (IsNoneAmong aggregates answers) some their
+  AreAnswers-AreNone [] [] h = h
+  AreAnswers-AreNone [] (a ∷ their) h = h
+  AreAnswers-AreNone (agg ∷ some) [] h = h
+  AreAnswers-AreNone (agg ∷ some) (a ∷ their) h =
+      (IsAnswer-IsNoneAmong agg a h.0, AreAnswers-AreNone some their h.1)
+
 -- a cell that isn't the grand total has facts
 group_of-some : (dimensions : ℕ) (facts : List Fact) (key : Key)
     → is_total dimensions key || list_any (covers key) facts ≡ true → list_all is_all_coord key.coords ≡ false
@@ -307,6 +392,8 @@ AreRows-IsLawfulRow s facts rows printable are =
           (group_of-AreCountable facts row printable.countable) answers;
       in_order = AreAnswers-AreWithin (group_of row.key facts) s.aggregates row.answers answers s.aggregates row.answers
           answers;
+      none_together = AreAnswers-AreNone (group_of row.key facts) s.aggregates row.answers answers s.aggregates
+          row.answers answers;
       counted = λ part. AreAnswers-CountFacts (group_of row.key facts) s.aggregates row.answers
           (group_of-some (length s.dimensions) facts row.key parts.1 part) answers;
     })

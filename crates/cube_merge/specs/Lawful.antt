@@ -1,6 +1,6 @@
 -- The rows that the cube of a schema may have (this project's choice: counts of 64 bits, sums of 128, measures of 64).
 use Rattle.std.specs.Prelude.{◌≡◌, ◌<◌, ◌≤ℤ◌, ◌^◌, ⊤, ℕ, Bool, true, false, not, IsTrue, List, length}
-use Rattle.std.specs.Prelude.{FitsSigned, unsigned_abs}
+use Rattle.std.specs.Prelude.{◌==◌, Option, Some, None, IfSome, FitsSigned, unsigned_abs}
 use Rattle.std.specs.Int.{w64, w128, IsGcd}
 use Rattle.std.specs.List.{AllZip, list_all}
 use Rattle.std.specs.Str.{bytes_eq}
@@ -107,13 +107,44 @@ IsWithin aggregates answers (Avg m) a = ⊤
 abbrev pub AreInOrder : List Agg → List Answer → Type 0
 AreInOrder aggregates answers = AllZip (IsWithin aggregates answers) aggregates answers
 
+-- whether an answer tells that a measure has no value: it is null, or a count of 0
+abbrev pub tells_none : Answer → Bool
+tells_none answer.Null = true
+tells_none (answer.Count n) = n == 0
+tells_none (answer.Whole z) = false
+tells_none (answer.Ratio p q) = false
+
+-- the measure that an aggregate is of, if it is of one
+abbrev pub measure_of : Agg → Option ℕ
+measure_of CountAll = None
+measure_of (Count m) = Some m
+measure_of (Sum m) = Some m
+measure_of (Min m) = Some m
+measure_of (Max m) = Some m
+measure_of (Avg m) = Some m
+
+-- an answer, where it is one of this measure, tells that it has no value
+abbrev pub TellsNone : ℕ → Agg → Answer → Type 0
+TellsNone m agg a = measure_of agg ≡ Some m → tells_none a ≡ true
+
+-- where an answer tells that its measure has no value, so do all of that measure among answers
+abbrev pub IsNoneAmong : List Agg → List Answer → Agg → Answer → Type 0
+IsNoneAmong aggregates answers agg a =
+    tells_none a ≡ true → IfSome (measure_of agg) (λ m. AllZip (TellsNone m) aggregates answers)
+
+-- the answers of a measure are null together, and exactly where its count is 0
+abbrev pub AreNoneTogether : List Agg → List Answer → Type 0
+AreNoneTogether aggregates answers = AllZip (IsNoneAmong aggregates answers) aggregates answers
+
 -- a cube of a schema may have this row, as far as said here: it has a coordinate for each dimension,
 -- none of them the text that stands for null, the schema keeps its grouping set, it has an answer of its kind
--- to each aggregate, it counts a fact, if it isn't the grand total, and no least value is above the greatest one
+-- to each aggregate, it counts a fact, if it isn't the grand total, no least value is above the greatest one,
+-- and the answers of a measure are null together, where its count is 0
 pub record IsLawfulRow (s : Layout) (row : Row) : Type 0 where
   pub coords : length row.key.coords ≡ length s.dimensions
   pub told : IsTrue (has_no_null_text row.key)
   pub kept : IsTrue (keeps s row.key)
   pub answers : AllZip IsOfKind s.aggregates row.answers
   pub in_order : AreInOrder s.aggregates row.answers
+  pub none_together : AreNoneTogether s.aggregates row.answers
   pub counted : list_all is_all_coord row.key.coords ≡ false → AllZip CountsFacts s.aggregates row.answers

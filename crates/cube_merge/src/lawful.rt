@@ -3,7 +3,7 @@ ghost use Rattle.std.specs.Prelude.{◌≡◌, ◌<◌, length, true, unsigned_a
 ghost use Rattle.std.specs.Int.{IsGcd};
 ghost use Rattle.std.specs.List.{AllZip, list_all};
 ghost use Rattle.cube_core.specs.GroupingSet.{is_all_coord};
-ghost use Rattle.cube_merge.specs.Lawful.{AreInOrder, CountsFacts, IsAtLeast, IsFraction, IsInOrder, IsWithin, IsNumber, IsOfKind, IsLawfulRow, IsValue, has_no_null_text, is_no_null_text};
+ghost use Rattle.cube_merge.specs.Lawful.{AreInOrder, AreNoneTogether, CountsFacts, IsNoneAmong, TellsNone, measure_of, tells_none, IsAtLeast, IsFraction, IsInOrder, IsWithin, IsNumber, IsOfKind, IsLawfulRow, IsValue, has_no_null_text, is_no_null_text};
 
 use crate::gather::{answer_at, mean_of};
 use crate::source::place_of;
@@ -18,13 +18,11 @@ pub(crate) struct Laws {
     measures: Vec<MeasurePlaces>,
 }
 
-// Where the answers to the aggregates of a measure stand.
+// Where the count, the sum and the mean of a measure stand.
 #[derive(Clone, Copy)]
 struct MeasurePlaces {
     count: Option<usize>,
     sum: Option<usize>,
-    least: Option<usize>,
-    greatest: Option<usize>,
     mean: Option<usize>,
 }
 
@@ -60,8 +58,6 @@ fn measures_of(
         measures.push(MeasurePlaces {
             count: place_of(aggregates, &Agg::Count(measure)),
             sum: place_of(aggregates, &Agg::Sum(measure)),
-            least: place_of(aggregates, &Agg::Min(measure)),
-            greatest: place_of(aggregates, &Agg::Max(measure)),
             mean: place_of(aggregates, &Agg::Avg(measure)),
         })?;
     }
@@ -79,8 +75,9 @@ pub(crate) fn is_lawful(schema: &Schema, laws: &Laws, row: &Row) -> bool
     let answers = row.answers.as_slice();
     schema.keeps(&row.key)
         && is_row_in_order(schema, row)
+        && is_row_none_together(schema, row)
         && are_repeats_same(laws.repeats.as_slice(), answers)
-        && are_measures_consistent(laws.measures.as_slice(), answers)
+        && are_means_consistent(laws.measures.as_slice(), answers)
         && (is_total(row) || count_facts(schema.aggregates(), answers))
 }
 
@@ -233,45 +230,98 @@ fn counts_facts(aggregate: &Agg, answer: Answer) -> bool
     }
 }
 
-fn are_measures_consistent(measures: &[MeasurePlaces], answers: &[Answer]) -> bool {
+fn are_means_consistent(measures: &[MeasurePlaces], answers: &[Answer]) -> bool {
     for places in measures {
-        if !is_measure_consistent(places, answers) {
+        if !is_mean_consistent(places, answers) {
             return false;
         }
     }
     true
 }
 
-// Whether the answers to the aggregates of a measure can be those of one group: null together, exactly where the count is
-// there and 0; and the mean that of the sum and the count.
-fn is_measure_consistent(places: &MeasurePlaces, answers: &[Answer]) -> bool {
+// Whether the mean of a measure is that of its sum and its count.
+fn is_mean_consistent(places: &MeasurePlaces, answers: &[Answer]) -> bool {
     let count = answer_in(answers, places.count);
     let sum = answer_in(answers, places.sum);
-    let least = answer_in(answers, places.least);
-    let greatest = answer_in(answers, places.greatest);
     let mean = answer_in(answers, places.mean);
-    let is_empty = match count {
-        Some(count) => count == Answer::Count(0),
-        None => is_some_null(&sum)
-            || is_some_null(&least)
-            || is_some_null(&greatest)
-            || is_some_null(&mean),
-    };
-    is_null_as(&sum, is_empty)
-        && is_null_as(&least, is_empty)
-        && is_null_as(&greatest, is_empty)
-        && is_null_as(&mean, is_empty)
-        && is_mean_of(&mean, &sum, &count)
+    is_mean_of(&mean, &sum, &count)
 }
 
-fn is_some_null(answer: &Option<Answer>) -> bool {
-    matches!(answer, Some(Answer::Null))
+// Whether the answers of a measure in a row are null together, and exactly where its count is 0.
+fn is_row_none_together(schema: &Schema, row: &Row) -> bool
+    ensures { result ≡ true → AreNoneTogether schema.now.aggregates row.now.answers }
+{
+    are_none_together(schema.aggregates(), row.answers.as_slice())
 }
 
-fn is_null_as(answer: &Option<Answer>, is_null: bool) -> bool {
-    match answer {
-        Some(answer) => matches!(answer, Answer::Null) == is_null,
+fn are_none_together(aggregates: &[Agg], answers: &[Answer]) -> bool
+    ensures { result ≡ true → AreNoneTogether aggregates.now answers.now }
+{
+    if aggregates.len() != answers.len() {
+        return false;
+    }
+    for place in 0..aggregates.len() {
+        if !is_none_among(aggregates, answers, &aggregates[place], answers[place]) {
+            return false;
+        }
+    }
+    true
+}
+
+fn is_none_among(aggregates: &[Agg], answers: &[Answer], aggregate: &Agg, answer: Answer) -> bool
+    ensures { result ≡ true → IsNoneAmong aggregates.now answers.now aggregate.now answer }
+{
+    if !tells_none(answer) {
+        return true;
+    }
+    match measure_of(aggregate) {
+        Some(measure) => are_none(aggregates, answers, measure),
         None => true,
+    }
+}
+
+// Whether each answer of a measure among answers tells that it has no value.
+fn are_none(aggregates: &[Agg], answers: &[Answer], measure: usize) -> bool
+    ensures { result ≡ true → AllZip (TellsNone measure) aggregates.now answers.now }
+{
+    if aggregates.len() != answers.len() {
+        return false;
+    }
+    for place in 0..aggregates.len() {
+        if !is_none_of(measure, &aggregates[place], answers[place]) {
+            return false;
+        }
+    }
+    true
+}
+
+fn is_none_of(measure: usize, aggregate: &Agg, answer: Answer) -> bool
+    ensures { result ≡ true → TellsNone measure aggregate.now answer }
+{
+    measure_of(aggregate) != Some(measure) || tells_none(answer)
+}
+
+fn measure_of(aggregate: &Agg) -> Option<usize>
+    ensures { result ≡ measure_of aggregate.now }
+{
+    match aggregate {
+        Agg::CountAll => None,
+        Agg::Count(measure)
+        | Agg::Sum(measure)
+        | Agg::Min(measure)
+        | Agg::Max(measure)
+        | Agg::Avg(measure) => Some(*measure),
+    }
+}
+
+// Whether an answer tells that a measure has no value: it is null, or a count of 0.
+fn tells_none(answer: Answer) -> bool
+    ensures { result ≡ tells_none answer }
+{
+    match answer {
+        Answer::Null => true,
+        Answer::Count(count) => count == 0,
+        Answer::Whole(_) | Answer::Ratio { .. } => false,
     }
 }
 
