@@ -1,30 +1,36 @@
 -- The answers over facts that can be counted are in the ranges of their kinds.
-use Rattle.std.proofs.Common.{◌≡◌, ℕ, zero, suc, ◌+◌, ◌*◌, ◌<◌, ◌≤◌, ◌≤ℤ◌, ◌^◌, Bool, ℤ, pos, negsuc, neg_ℤ, ◌+ℤ◌}
+use Rattle.std.proofs.Common.{◌≡◌, ℕ, zero, suc, ◌+◌, ◌*◌, ◌<◌, ◌≤◌, ◌≤ℤ◌, ◌^◌, ℤ, pos, negsuc, neg_ℤ, ◌+ℤ◌}
+use Rattle.std.proofs.Common.{Bool, true, false, ◌||◌, ◌==◌, refl}
 use Rattle.std.proofs.Common.{unsigned_abs, List, [], ◌∷◌, length, get_or, filter, Option, Some, None, IfSome}
 use Rattle.std.proofs.Common.{FitsSigned, sym, ap, ◌∙◌, subst, inl, inr, arith}
 use Prim.Native.Nat.{◌∣◌}
 use Rattle.std.specs.Int.{w64, w128}
-use Rattle.std.specs.List.{AllByRecursion, AllZip, cons_option}
-use Rattle.std.proofs.lemmas.Bool.{cases_Bool}
+use Rattle.std.specs.List.{AllByRecursion, AllZip, cons_option, list_all, list_any}
+use Rattle.std.proofs.lemmas.Bool.{cases_Bool, and_parts, or_cases, both_ways, false≢true, eqb-true}
 use Rattle.std.proofs.lemmas.Int.{ints, fits_signed_from_abs, unsigned_abs-mul}
 use Rattle.std.proofs.lemmas.List.Elements.{All-filter, All-from_recursion, recursion_from_All}
 use Rattle.std.proofs.lemmas.Nat.Gcd.{IsGcd-swap, le_of_dvd}
 use Rattle.std.proofs.Math.Nat.{dvd-mul_left, dvd-mul_right, mul_comm, le-mul_of_pos_right}
 use Rattle.cube_core.specs.Answer.{IsSum, IsBest, IsMean, IsAnswer, AreAnswers}
 use Rattle.cube_core.specs.Covers.{covers}
-use Rattle.cube_core.specs.Cube.{AreRows, HasAnswers, key_of}
+use Rattle.cube_core.specs.Cube.{AreRows, HasAnswers, is_total, key_of}
 use Rattle.cube_core.specs.Fraction.{IsInLowestTerms}
 use Rattle.cube_core.specs.Group.{group_of, values_of, value_of, total_of}
-use Rattle.cube_core.specs.Layout.{Layout}
+use Rattle.cube_core.specs.GroupingSet.{is_all_coord}
+use Rattle.cube_core.specs.Layout.{Layout, keeps}
 use Rattle.cube_core.specs.declared.aggregate.Agg.{Agg}
 use Rattle.cube_core.specs.declared.aggregate.Agg.TheVariants.{CountAll, Count, Sum, Min, Max, Avg}
 use Rattle.cube_core.specs.declared.aggregate.Answer.{Answer}
+use Rattle.cube_core.specs.declared.aggregate.Answer.TheVariants.{Whole}
 use Rattle.cube_core.specs.declared.fact.Fact.{Fact}
+use Rattle.cube_core.specs.declared.key.Key.{Key}
 use Rattle.cube_core.specs.declared.key.Row.{Row}
 use Rattle.cube_core.proofs.CommonDivisorLaws.{divides-coprime}
 use Rattle.cube_core.proofs.ListLaws.{AllByRecursion-Contains, Contains-AllByRecursion, map-Contains, filter-passed}
 use Rattle.cube_core.proofs.ListLaws.{filter-failed}
 use Rattle.cube_merge.specs.Lawful.{IsCount, IsNumber, IsValue, IsFraction, IsOfKind, IsLawfulRow}
+use Rattle.cube_merge.specs.Lawful.{IsNoZero, CountsFacts, IsInOrder, IsAtLeast, IsWithin}
+use Rattle.cube_merge.specs.Lawful.{IsNoneAmong, TellsNone, measure_of, tells_none}
 use Rattle.cube_laws.specs.Told.{HasSmallValues, AreCountable, CanBePrinted}
 use Rattle.cube_laws.proofs.KeyLaws.{IsTold-is_cell}
 
@@ -116,7 +122,12 @@ IsMean-IsFraction (v ∷ vs) a few small h =
     let total = total_of-fits (v ∷ vs) few small in
     let size = IsInLowestTerms-total (total_of (v ∷ vs)) (length (v ∷ vs)) h.0 h.1 (omega arith) h.3 in
     let count = IsInLowestTerms-count (total_of (v ∷ vs)) (length (v ∷ vs)) h.0 h.1 (omega arith) h.3 in
-    subst IsFraction (sym h.2) (fits_wide h.0 (omega (arith, total, size)), omega (arith, count, few))
+    subst IsFraction (sym h.2) (
+      fits_wide h.0 (omega (arith, total, size)),
+      omega (arith, count, few),
+      h.3.positive,
+      h.3.coprime,
+    )
 
 -- ---- groups
 length-filter-le : {X : Type 0} (p : X → Bool) (xs : List X) → length (filter p xs) ≤ length xs
@@ -192,18 +203,197 @@ group_of-AreCountable facts row countable = record {
       (All-filter (covers row.key) HasSmallValues facts (All-from_recursion HasSmallValues facts countable.small));
 }
 
+-- ---- rows that count facts
+-- where an element passes, a filter keeps some
+filter-some : {X : Type 0} (p : X → Bool) (xs : List X) → list_any p xs ≡ true → 0 < length (filter p xs)
+filter-some p [] any = absurd (false≢true any)
+filter-some p (x ∷ xs) any = elim (cases_Bool (p x)) [
+  | inl passes ↦ omega (arith, ap length (filter-passed p x xs passes))
+  | inr fails ↦ omega (arith, ap length (filter-failed p x xs fails), filter-some p xs
+      (subst (λ b. (b || list_any p xs) ≡ true) fails any))
+]
+
+IsAnswer-CountsFacts : (group : List Fact) (agg : Agg) (a : Answer) → 0 < length group → IsAnswer group agg a
+    → CountsFacts agg a
+IsAnswer-CountsFacts group CountAll a some h = subst IsNoZero (sym h) some
+IsAnswer-CountsFacts group (Count m) a some h = tt
+IsAnswer-CountsFacts group (Sum m) a some h = tt
+IsAnswer-CountsFacts group (Min m) a some h = tt
+IsAnswer-CountsFacts group (Max m) a some h = tt
+IsAnswer-CountsFacts group (Avg m) a some h = tt
+
+AreAnswers-CountFacts : (group : List Fact) (aggregates : List Agg) (answers : List Answer) → 0 < length group
+    → AreAnswers group aggregates answers → AllZip CountsFacts aggregates answers
+AreAnswers-CountFacts group [] [] some h = h
+AreAnswers-CountFacts group [] (a ∷ answers) some h = h
+AreAnswers-CountFacts group (agg ∷ aggregates) [] some h = h
+AreAnswers-CountFacts group (agg ∷ aggregates) (a ∷ answers) some h =
+    (IsAnswer-CountsFacts group agg a some h.0, AreAnswers-CountFacts group aggregates answers some h.1)
+
+-- ---- least and greatest values
+-- of one group the least value isn't above the greatest
+IsBest-IsInOrder : (values : List ℤ) (a b : Answer) → IsBest (λ m x. m ≤ℤ x) values a
+    → IsBest (λ m x. x ≤ℤ m) values b → IsInOrder a b
+IsBest-IsInOrder [] a b h k = subst (λ x. IsInOrder x b) (sym h) tt
+IsBest-IsInOrder (v ∷ vs) a b h k =
+    subst (λ x. IsInOrder x b) (sym h.1) (subst (λ y. IsInOrder (Whole h.0) y) (sym k.1)
+    (AllByRecursion-Contains (λ x. h.0 ≤ℤ x) (v ∷ vs) k.0 h.3 k.2))
+
+IsAnswer-IsAtLeast : (group : List Fact) (m : ℕ) (least : Answer) (agg : Agg) (a : Answer)
+    → IsAnswer group (Min m) least → IsAnswer group agg a → IsAtLeast m least agg a
+IsAnswer-IsAtLeast group m least CountAll a h k = tt
+IsAnswer-IsAtLeast group m least (Count other) a h k = tt
+IsAnswer-IsAtLeast group m least (Sum other) a h k = tt
+IsAnswer-IsAtLeast group m least (Min other) a h k = tt
+IsAnswer-IsAtLeast group m least (Max other) a h k =
+    λ same. IsBest-IsInOrder (values_of m group) least a h
+    (subst (λ n. IsBest (λ m x. x ≤ℤ m) (values_of n group) a) same k)
+IsAnswer-IsAtLeast group m least (Avg other) a h k = tt
+
+AreAnswers-AreAtLeast : (group : List Fact) (m : ℕ) (least : Answer) (aggregates : List Agg) (answers : List Answer)
+    → IsAnswer group (Min m) least → AreAnswers group aggregates answers
+    → AllZip (IsAtLeast m least) aggregates answers
+AreAnswers-AreAtLeast group m least [] [] h all = all
+AreAnswers-AreAtLeast group m least [] (a ∷ answers) h all = all
+AreAnswers-AreAtLeast group m least (agg ∷ aggregates) [] h all = all
+AreAnswers-AreAtLeast group m least (agg ∷ aggregates) (a ∷ answers) h all = (
+  IsAnswer-IsAtLeast group m least agg a h all.0,
+  AreAnswers-AreAtLeast group m least aggregates answers h all.1,
+)
+
+module _ (group : List Fact) (aggregates : List Agg) (answers : List Answer)
+    (all : AreAnswers group aggregates answers) where
+  IsAnswer-IsWithin : (agg : Agg) (a : Answer) → IsAnswer group agg a → IsWithin aggregates answers agg a
+  IsAnswer-IsWithin CountAll a h = tt
+  IsAnswer-IsWithin (Count m) a h = tt
+  IsAnswer-IsWithin (Sum m) a h = tt
+  IsAnswer-IsWithin (Min m) a h = AreAnswers-AreAtLeast group m a aggregates answers h all
+  IsAnswer-IsWithin (Max m) a h = tt
+  IsAnswer-IsWithin (Avg m) a h = tt
+
+  AreAnswers-AreWithin : (some : List Agg) (their : List Answer) → AreAnswers group some their
+      → AllZip (IsWithin aggregates answers) some their
+  AreAnswers-AreWithin [] [] h = h
+  AreAnswers-AreWithin [] (a ∷ their) h = h
+  AreAnswers-AreWithin (agg ∷ some) [] h = h
+  AreAnswers-AreWithin (agg ∷ some) (a ∷ their) h =
+      (IsAnswer-IsWithin agg a h.0, AreAnswers-AreWithin some their h.1)
+
+-- ---- nulls
+-- a count tells that there is no value where there is none, and there alone
+none-of-length : (values : List ℤ) → (length values == 0) ≡ true → values ≡ []
+none-of-length [] e = refl
+none-of-length (v ∷ vs) e = absurd (omega (arith, eqb-true (length (v ∷ vs)) 0 e))
+
+some-same : (a b : ℕ) → Some a ≡ Some b → a ≡ b
+some-same a b e = cc
+
+none-at : (group : List Fact) (k m : ℕ) → values_of m group ≡ [] → Some k ≡ Some m → values_of k group ≡ []
+none-at group k m empty is = subst (λ n. values_of n group ≡ []) (sym (some-same k m is)) empty
+
+none-of-best : (R : ℤ → ℤ → Type 0) (values : List ℤ) (a : Answer) → IsBest R values a → tells_none a ≡ true
+    → values ≡ []
+none-of-best R [] a h none = refl
+none-of-best R (v ∷ vs) a h none = absurd (false≢true (ap tells_none (sym h.1) ∙ none))
+
+-- so does an answer of a measure
+tells_none-values : (group : List Fact) (m : ℕ) (agg : Agg) (a : Answer) → IsAnswer group agg a
+    → measure_of agg ≡ Some m → tells_none a ≡ true → values_of m group ≡ []
+tells_none-values group m CountAll a h is none = cc
+tells_none-values group m (Count k) a h is none =
+    subst (λ n. values_of n group ≡ []) (some-same k m is)
+    (none-of-length (values_of k group) (ap tells_none (sym h) ∙ none))
+tells_none-values group m (Sum k) a h is none =
+    subst (λ n. values_of n group ≡ []) (some-same k m is) (by_values (values_of k group) h) where
+      by_values : (values : List ℤ) → IsSum values a → values ≡ []
+      by_values [] s = refl
+      by_values (v ∷ vs) s = absurd (false≢true (ap tells_none (sym s) ∙ none))
+tells_none-values group m (Min k) a h is none =
+    subst (λ n. values_of n group ≡ []) (some-same k m is) (none-of-best (λ m x. m ≤ℤ x) (values_of k group) a h none)
+tells_none-values group m (Max k) a h is none =
+    subst (λ n. values_of n group ≡ []) (some-same k m is) (none-of-best (λ m x. x ≤ℤ m) (values_of k group) a h none)
+tells_none-values group m (Avg k) a h is none =
+    subst (λ n. values_of n group ≡ []) (some-same k m is) (by_values (values_of k group) h) where
+      by_values : (values : List ℤ) → IsMean values a → values ≡ []
+      by_values [] s = refl
+      by_values (v ∷ vs) s = absurd (false≢true (ap tells_none (sym s.2) ∙ none))
+
+values-tells_none : (group : List Fact) (m : ℕ) (agg : Agg) (a : Answer) → values_of m group ≡ []
+    → IsAnswer group agg a → TellsNone m agg a
+values-tells_none group m CountAll a empty h is = cc
+values-tells_none group m (Count k) a empty h is =
+    ap tells_none h ∙ ap (λ (l : List ℤ). length l == 0) (none-at group k m empty is)
+values-tells_none group m (Sum k) a empty h is =
+    ap tells_none (subst (λ values. IsSum values a) (none-at group k m empty is) h)
+values-tells_none group m (Min k) a empty h is =
+    ap tells_none (subst (λ values. IsBest (λ m x. m ≤ℤ x) values a) (none-at group k m empty is) h)
+values-tells_none group m (Max k) a empty h is =
+    ap tells_none (subst (λ values. IsBest (λ m x. x ≤ℤ m) values a) (none-at group k m empty is) h)
+values-tells_none group m (Avg k) a empty h is =
+    ap tells_none (subst (λ values. IsMean values a) (none-at group k m empty is) h)
+
+AreAnswers-TellNone : (group : List Fact) (m : ℕ) (aggregates : List Agg) (answers : List Answer)
+    → values_of m group ≡ [] → AreAnswers group aggregates answers → AllZip (TellsNone m) aggregates answers
+AreAnswers-TellNone group m [] [] empty all = all
+AreAnswers-TellNone group m [] (a ∷ answers) empty all = all
+AreAnswers-TellNone group m (agg ∷ aggregates) [] empty all = all
+AreAnswers-TellNone group m (agg ∷ aggregates) (a ∷ answers) empty all =
+    (values-tells_none group m agg a empty all.0, AreAnswers-TellNone group m aggregates answers empty all.1)
+
+module _ (group : List Fact) (aggregates : List Agg) (answers : List Answer)
+    (all : AreAnswers group aggregates answers) where
+  none-of_measure : (m : ℕ) (agg : Agg) (a : Answer) → IsAnswer group agg a → measure_of agg ≡ Some m
+      → tells_none a ≡ true → AllZip (TellsNone m) aggregates answers
+  none-of_measure m agg a h is none =
+      AreAnswers-TellNone group m aggregates answers (tells_none-values group m agg a h is none) all
+
+  IsAnswer-IsNoneAmong : (agg : Agg) (a : Answer) → IsAnswer group agg a → IsNoneAmong aggregates answers agg a
+  IsAnswer-IsNoneAmong CountAll a h none = tt
+  IsAnswer-IsNoneAmong (Count m) a h none = none-of_measure m (Count m) a h refl none
+  IsAnswer-IsNoneAmong (Sum m) a h none = none-of_measure m (Sum m) a h refl none
+  IsAnswer-IsNoneAmong (Min m) a h none = none-of_measure m (Min m) a h refl none
+  IsAnswer-IsNoneAmong (Max m) a h none = none-of_measure m (Max m) a h refl none
+  IsAnswer-IsNoneAmong (Avg m) a h none = none-of_measure m (Avg m) a h refl none
+
+  AreAnswers-AreNone : (some : List Agg) (their : List Answer) → AreAnswers group some their
+      → AllZip (IsNoneAmong aggregates answers) some their
+  AreAnswers-AreNone [] [] h = h
+  AreAnswers-AreNone [] (a ∷ their) h = h
+  AreAnswers-AreNone (agg ∷ some) [] h = h
+  AreAnswers-AreNone (agg ∷ some) (a ∷ their) h =
+      (IsAnswer-IsNoneAmong agg a h.0, AreAnswers-AreNone some their h.1)
+
+-- a cell that isn't the grand total has facts
+group_of-some : (dimensions : ℕ) (facts : List Fact) (key : Key)
+    → is_total dimensions key || list_any (covers key) facts ≡ true → list_all is_all_coord key.coords ≡ false
+    → 0 < length (group_of key facts)
+group_of-some dimensions facts key cell part =
+    elim (or_cases (is_total dimensions key) (list_any (covers key) facts) cell) [
+      | inl total ↦ absurd (both_ways _ part (and_parts _ _ total).1)
+      | inr any ↦ filter-some (covers key) facts any
+    ]
+
 -- the rows of a cube are rows of its schema
 pub AreRows-IsLawfulRow : (s : Layout) (facts : List Fact) (rows : List Row) → CanBePrinted s facts
     → AreRows s facts rows
     → AllByRecursion (IsLawfulRow s) rows
 AreRows-IsLawfulRow s facts rows printable are =
     Contains-AllByRecursion (IsLawfulRow s) rows (λ row among.
-    let told = IsTold-is_cell s s.grouping_sets facts row.key printable.fit
-    ((are.cells row.key).0 (map-Contains key_of rows row among)) in
+    let cell = (are.cells row.key).0 (map-Contains key_of rows row among) in
+    let told = IsTold-is_cell s s.grouping_sets facts row.key printable.fit cell in
+    let parts =
+    and_parts (keeps s row.key) (is_total (length s.dimensions) row.key || list_any (covers row.key) facts) cell in
+    let answers = AllByRecursion-Contains (HasAnswers s.aggregates facts) rows row are.answers among in
     record {
       coords = told.1;
       told = told.0;
+      kept = parts.0;
       answers = AreAnswers-AreOfKind (group_of row.key facts) s.aggregates row.answers
-          (group_of-AreCountable facts row printable.countable)
-          (AllByRecursion-Contains (HasAnswers s.aggregates facts) rows row are.answers among);
+          (group_of-AreCountable facts row printable.countable) answers;
+      in_order = AreAnswers-AreWithin (group_of row.key facts) s.aggregates row.answers answers s.aggregates row.answers
+          answers;
+      none_together = AreAnswers-AreNone (group_of row.key facts) s.aggregates row.answers answers s.aggregates
+          row.answers answers;
+      counted = λ part. AreAnswers-CountFacts (group_of row.key facts) s.aggregates row.answers
+          (group_of-some (length s.dimensions) facts row.key parts.1 part) answers;
     })

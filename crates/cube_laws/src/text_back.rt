@@ -29,8 +29,10 @@ pub fn cube_reads_back()
         records default_config (text_of_rows s rows) ≡ header_fields s ∷ map row_fields rows }
 {}
 
-/// A row of a cube has a coordinate for each dimension, none of them the text that stands for null, and answers of the
-/// kinds of their aggregates, in their ranges, where the facts fit and can be counted (this project's choice).
+/// A row of a cube has a coordinate for each dimension, none of them the text that stands for null, a grouping set that
+/// the schema keeps, and answers of the kinds of their aggregates, in their ranges, each mean in lowest terms, no least
+/// value above the greatest, those of a measure null together, where its count is 0; and it counts a fact, if it isn't the
+/// grand total; where the facts fit and can be counted (this project's choice).
 pub fn rows_of_a_cube_are_of_its_schema()
     ensures { (s : Layout) (facts : List Fact) (rows : List Row) →
         CanBePrinted s facts → AreRows s facts rows →

@@ -171,6 +171,9 @@ IsMergeOf-ends remaining given wanted readers inputs old new taken merges =
       ordered = λ k. subst (λ rs. IsStrictlySortedBy key_cmp (map key_of rs))
           (ap (λ o. get_or merging.cubes k [] ++ option_to_list o) (m.4 k) ∙ append-nil (get_or merging.cubes k []))
           (merging.ordered k);
+      complete = λ k below. merging.whole k (subst (λ n. k < n)
+          (length-map readers remaining ∙ AllZip-length (TookHeader remaining header) readers inputs taken ∙ sym m.2)
+          below) (m.4 k);
       drawn = merging.drawn;
       merged = merging.merged;
       fit = merging.fit;
@@ -205,4 +208,4 @@ IsMerging-begun given wanted starts olds news us used fresh same moved =
     IsMerging-start given wanted starts olds news us
     (λ k. Gave-none (get_or starts k None) (get_or olds k nothing_left) (fresh.left k) (fresh.row k))
     fresh.row fresh.lines
-    (λ k unused. IsEnded-unused (get_or starts k None) us olds k used unused) same moved
+    (λ k unused. IsEnded-unused (get_or starts k None) us olds k used unused) used same moved

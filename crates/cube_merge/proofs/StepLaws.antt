@@ -4,16 +4,19 @@ use Rattle.std.proofs.Common.{None, Contains, map, length, get_or, refl, sym, ap
 use Rattle.std.proofs.Common.{inr, flat_map, append_assoc, option_to_list, IsPermutation}
 use Rattle.std.specs.declared.cmp.Ordering.TheVariants.{Less}
 use Rattle.std.specs.Prelude.{IfSome}
-use Rattle.std.specs.List.{AllByRecursion, AllZip}
+use Rattle.std.specs.Prelude.{◌==◌}
+use Rattle.std.specs.List.{list_all, AllByRecursion, AllZip}
 use Rattle.std.specs.List.Sorted.{IsStrictlySortedBy}
 use Rattle.std.specs.Io.KnownBytes.{Consumes, IsAtEnd}
 use Rattle.std.proofs.KnownBytes.{Consumes-trans}
+use Rattle.std.proofs.lemmas.Bool.{and_from, eq-eqb}
 use Rattle.std.proofs.lemmas.Grind.{flat_map-append}
 use Rattle.std.proofs.lemmas.List.{append-nil, map-append}
 use Rattle.std.proofs.lemmas.List.Elements.{Contains-append_cases, Contains-append_right}
 use Rattle.std.proofs.lemmas.List.Sorted.{IsPermutation-refl, IsPermutation-trans, IsPermutation-append_left}
 use Rattle.std.proofs.lemmas.List.Sorted.{IsPermutation-append_right, IsPermutation-append_comm}
-use Rattle.cube_core.specs.Cube.{key_of}
+use Rattle.cube_core.specs.Cube.{is_total, key_of}
+use Rattle.cube_core.specs.GroupingSet.{is_all_coord}
 use Rattle.cube_core.specs.Layout.{Layout}
 use Rattle.cube_core.specs.Merged.{AreMerged, IsMerged}
 use Rattle.cube_core.specs.Order.{key_cmp}
@@ -27,6 +30,7 @@ use Rattle.cube_merge.specs.Lawful.{IsLawfulRow}
 use Rattle.cube_merge.specs.Range.{AreInRange}
 use Rattle.cube_merge.specs.Merging.{AreOfSchema, InputView, IsAbove, TakesLine, Moves, AllMove, IsUse, AreUses}
 use Rattle.cube_merge.specs.Merging.{used_row, used_of_each, used_rows, Gave, IsCounted, IsEnded, IsBelow}
+use Rattle.cube_merge.specs.Merging.{AreWhole, IsWhole, MayEnd}
 use Rattle.cube_merge.specs.Merging.{AreInKeyOrder}
 use Rattle.cube_merge.specs.Merging.{all_rows, nothing_left, IsMerging}
 use Rattle.cube_merge.proofs.MergedLaws.{AllByRecursion-append, AreInRange-push, AreMerged-push, sorted-push}
@@ -273,6 +277,37 @@ below-Moves s key low true old new under is_use moved = by_row new.row moved whe
         | inr is ↦ ap (λ k. key_cmp k r.key) is ∙ above
       ]
 
+-- a row with as many coordinates as dimensions, each ALL, is the grand total
+is_total-all : (dimensions : ℕ) (row : Row) → length row.key.coords ≡ dimensions
+    → list_all is_all_coord row.key.coords ≡ true → is_total dimensions row.key ≡ true
+is_total-all dimensions row long all =
+    and_from (length row.key.coords == dimensions) (list_all is_all_coord row.key.coords) (eq-eqb _ _ long) all
+
+-- rows of an input that took no further line are a whole cube's
+AreWhole-end : (s : Layout) (rows : List Row) (last : Option Row)
+    → AllByRecursion (IsLawfulRow s) (rows ++ option_to_list last) → MayEnd s last
+    → AreWhole s (rows ++ option_to_list last)
+AreWhole-end s rows None are may kept = absurd (may kept)
+AreWhole-end s rows (Some row) are may kept = (
+  rows,
+  row,
+  refl,
+  is_total-all (length s.dimensions) row (AllByRecursion-Contains (IsLawfulRow s) (rows ++ row ∷ []) row are
+      (Contains-append_right rows (row ∷ []) row (Contains-head row []))).coords (may kept),
+)
+
+-- an input that took no further line gave a whole cube's rows
+IsWhole-Moves : (s : Layout) (used : Bool) (old new : InputView) (rows : List Row) → AreOfSchema s old rows
+    → (used ≡ false → IsWhole s old rows) → Moves s used old new → IsWhole s new (rows ++ used_row used old)
+IsWhole-Moves s false old new rows are whole same =
+    subst (λ (input : InputView). IsWhole s input (rows ++ [])) (sym same)
+    (subst (λ rs. IsWhole s old rs) (sym (append-nil rows)) (whole refl))
+IsWhole-Moves s true old new rows are whole moved = by_row new.row moved where
+  by_row : (row : Option Row) → TakesLine s old (record { left = new.left; row = row; lines = new.lines })
+      → row ≡ None → AreWhole s (rows ++ option_to_list old.row)
+  by_row None m e = AreWhole-end s rows old.row are m.2
+  by_row (Some r) m e = absurd (cc)
+
 told : (start old : Option (List ℕ)) (bs : List ℕ) (P : Type 0) → Consumes start old bs → IfSome old (λ _. P)
     → IfSome start (λ _. P)
 told None old bs P c p = tt
@@ -328,6 +363,11 @@ IsMerging-step given wanted starts olds news rows us row m same same_news uses s
           (get_or m.cubes k []) (uses k) (m.counted k) (moved k));
       ended = λ k. ended-Moves given (get_or starts k None) (get_or m.cubes k []) (get_or us k false)
           (get_or olds k nothing_left) (get_or news k nothing_left) (m.gave k) (λ _. m.ended k) (moved k);
+      whole = λ k below. subst (λ rs. IsWhole given (get_or news k nothing_left) rs)
+          (sym (join_each-at m.cubes gains k wide
+          ∙ ap (λ g. get_or m.cubes k [] ++ g) (used_of_each-at us olds k same)))
+          (IsWhole-Moves given (get_or us k false) (get_or olds k nothing_left) (get_or news k nothing_left)
+          (get_or m.cubes k []) (m.of_schema k) (λ _. m.whole k (subst (λ n. k < n) same_news below)) (moved k));
       drawn = IsPermutation-trans _ _ _ (join_each-all_rows m.cubes gains wide)
           (IsPermutation-append_left (used_rows us olds) _ _ m.drawn);
       merged = AreMerged-push given.aggregates wanted m.parts rows (used_rows us olds) row m.merged under
@@ -384,8 +424,9 @@ pub IsMerging-start : (given : Layout) (wanted : List Agg) (starts : List (Optio
     → ((k : ℕ) → Gave (get_or starts k None) (get_or olds k nothing_left) [])
     → ((k : ℕ) → (get_or olds k nothing_left).row ≡ None) → ((k : ℕ) → (get_or olds k nothing_left).lines ≡ 1)
     → ((k : ℕ) → get_or us k false ≡ false → IsEnded (get_or starts k None) (get_or olds k nothing_left))
+    → ((k : ℕ) → k < length olds → get_or us k false ≡ true)
     → length news ≡ length olds → AllMove given us olds news → IsMerging given wanted starts news []
-IsMerging-start given wanted starts olds news us gave rows ones ended same moved = record {
+IsMerging-start given wanted starts olds news us gave rows ones ended used same moved = record {
   cubes = replicate_empty news;
   parts = [];
   width = replicate_empty-length news;
@@ -406,11 +447,19 @@ IsMerging-start given wanted starts olds news us gave rows ones ended same moved
       (ones k) (moved k));
   ended = λ k. ended-Moves given (get_or starts k None) [] (get_or us k false) (get_or olds k nothing_left)
       (get_or news k nothing_left) (gave k) (ended k) (moved k);
+  whole = λ k below.
+      subst (λ rs. IsWhole given (get_or news k nothing_left) rs) (none_used k ∙ sym (replicate_empty-at news k))
+      (IsWhole-Moves given (get_or us k false) (get_or olds k nothing_left) (get_or news k nothing_left) []
+      (AreOfSchema-none given (get_or olds k nothing_left) (rows k)) (λ unused. absurd (unlike
+      (sym (used k (subst (λ n. k < n) same below)) ∙ unused))) (moved k));
   drawn = subst (λ l. IsPermutation l []) (sym (replicate_empty-rows news)) (IsPermutation-refl []);
   merged = AreMerged-none given.aggregates wanted;
   fit = tt;
   below = λ key among k. absurd (Contains-nil key among);
 } where
+  unlike : true ≡ false → ⊥
+  unlike e = cc
+
   none_used : (k : ℕ) → [] ++ used_row (get_or us k false) (get_or olds k nothing_left) ≡ []
   none_used k = by_use (get_or us k false) where
     by_use : (u : Bool) → used_row u (get_or olds k nothing_left) ≡ []

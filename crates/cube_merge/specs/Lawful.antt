@@ -1,9 +1,11 @@
 -- The rows that the cube of a schema may have (this project's choice: counts of 64 bits, sums of 128, measures of 64).
-use Rattle.std.specs.Prelude.{◌≡◌, ◌<◌, ◌^◌, ⊤, Bool, true, not, IsTrue, length, FitsSigned}
-use Rattle.std.specs.Int.{w64, w128}
+use Rattle.std.specs.Prelude.{◌≡◌, ◌<◌, ◌≤ℤ◌, ◌^◌, ⊤, ℕ, Bool, true, false, not, IsTrue, List, length}
+use Rattle.std.specs.Prelude.{◌==◌, Option, Some, None, IfSome, FitsSigned, unsigned_abs}
+use Rattle.std.specs.Int.{w64, w128, IsGcd}
 use Rattle.std.specs.List.{AllZip, list_all}
 use Rattle.std.specs.Str.{bytes_eq}
-use Rattle.cube_core.specs.Layout.{Layout}
+use Rattle.cube_core.specs.GroupingSet.{is_all_coord}
+use Rattle.cube_core.specs.Layout.{Layout, keeps}
 use Rattle.cube_core.specs.Takes.{null_text}
 use Rattle.cube_core.specs.declared.aggregate.Agg.{Agg}
 use Rattle.cube_core.specs.declared.aggregate.Agg.TheVariants.{CountAll, Count, Sum, Min, Max, Avg}
@@ -45,10 +47,10 @@ IsValue (answer.Whole z) = FitsSigned w64 z
 IsValue (answer.Count n) = ⊥
 IsValue (answer.Ratio p q) = ⊥
 
--- an answer is a fraction of a number of 128 bits by a count of 64, or null
+-- an answer is a fraction in lowest terms of a number of 128 bits by a count of 64, at least 1, or null
 abbrev pub IsFraction : Answer → Type 0
 IsFraction answer.Null = ⊤
-IsFraction (answer.Ratio p q) = FitsSigned w128 p × (q < 2 ^ 64)
+IsFraction (answer.Ratio p q) = FitsSigned w128 p × (q < 2 ^ 64) × (0 < q) × IsGcd (unsigned_abs p) q 1
 IsFraction (answer.Count n) = ⊥
 IsFraction (answer.Whole z) = ⊥
 
@@ -61,9 +63,88 @@ IsOfKind (Min m) a = IsValue a
 IsOfKind (Max m) a = IsValue a
 IsOfKind (Avg m) a = IsFraction a
 
--- a cube of a schema may have this row: it has a coordinate for each dimension,
--- none of them the text that stands for null, and an answer of its kind to each aggregate
+-- an answer isn't a count of 0
+abbrev pub IsNoZero : Answer → Type 0
+IsNoZero (answer.Count n) = 0 < n
+IsNoZero answer.Null = ⊤
+IsNoZero (answer.Whole z) = ⊤
+IsNoZero (answer.Ratio p q) = ⊤
+
+-- an answer, where it is one to `count(*)`, isn't 0
+abbrev pub CountsFacts : Agg → Answer → Type 0
+CountsFacts CountAll a = IsNoZero a
+CountsFacts (Count m) a = ⊤
+CountsFacts (Sum m) a = ⊤
+CountsFacts (Min m) a = ⊤
+CountsFacts (Max m) a = ⊤
+CountsFacts (Avg m) a = ⊤
+
+-- a least answer isn't above a greatest one, where both are numbers
+abbrev pub IsInOrder : Answer → Answer → Type 0
+IsInOrder (answer.Whole least) (answer.Whole greatest) = least ≤ℤ greatest
+IsInOrder (answer.Whole least) _ = ⊤
+IsInOrder _ greatest = ⊤
+
+-- a least answer of a measure isn't above this answer, where it is one to the measure's greatest value
+abbrev pub IsAtLeast : ℕ → Answer → Agg → Answer → Type 0
+IsAtLeast m least (Max other) a = other ≡ m → IsInOrder least a
+IsAtLeast m least CountAll a = ⊤
+IsAtLeast m least (Count other) a = ⊤
+IsAtLeast m least (Sum other) a = ⊤
+IsAtLeast m least (Min other) a = ⊤
+IsAtLeast m least (Avg other) a = ⊤
+
+-- an answer, where it is one to a least value, isn't above the greatest value of its measure among answers
+abbrev pub IsWithin : List Agg → List Answer → Agg → Answer → Type 0
+IsWithin aggregates answers (Min m) a = AllZip (IsAtLeast m a) aggregates answers
+IsWithin aggregates answers CountAll a = ⊤
+IsWithin aggregates answers (Count m) a = ⊤
+IsWithin aggregates answers (Sum m) a = ⊤
+IsWithin aggregates answers (Max m) a = ⊤
+IsWithin aggregates answers (Avg m) a = ⊤
+
+-- no least value among answers is above the greatest value of its measure
+abbrev pub AreInOrder : List Agg → List Answer → Type 0
+AreInOrder aggregates answers = AllZip (IsWithin aggregates answers) aggregates answers
+
+-- whether an answer tells that a measure has no value: it is null, or a count of 0
+abbrev pub tells_none : Answer → Bool
+tells_none answer.Null = true
+tells_none (answer.Count n) = n == 0
+tells_none (answer.Whole z) = false
+tells_none (answer.Ratio p q) = false
+
+-- the measure that an aggregate is of, if it is of one
+abbrev pub measure_of : Agg → Option ℕ
+measure_of CountAll = None
+measure_of (Count m) = Some m
+measure_of (Sum m) = Some m
+measure_of (Min m) = Some m
+measure_of (Max m) = Some m
+measure_of (Avg m) = Some m
+
+-- an answer, where it is one of this measure, tells that it has no value
+abbrev pub TellsNone : ℕ → Agg → Answer → Type 0
+TellsNone m agg a = measure_of agg ≡ Some m → tells_none a ≡ true
+
+-- where an answer tells that its measure has no value, so do all of that measure among answers
+abbrev pub IsNoneAmong : List Agg → List Answer → Agg → Answer → Type 0
+IsNoneAmong aggregates answers agg a =
+    tells_none a ≡ true → IfSome (measure_of agg) (λ m. AllZip (TellsNone m) aggregates answers)
+
+-- the answers of a measure are null together, and exactly where its count is 0
+abbrev pub AreNoneTogether : List Agg → List Answer → Type 0
+AreNoneTogether aggregates answers = AllZip (IsNoneAmong aggregates answers) aggregates answers
+
+-- a cube of a schema may have this row, as far as said here: it has a coordinate for each dimension,
+-- none of them the text that stands for null, the schema keeps its grouping set, it has an answer of its kind
+-- to each aggregate, it counts a fact, if it isn't the grand total, no least value is above the greatest one,
+-- and the answers of a measure are null together, where its count is 0
 pub record IsLawfulRow (s : Layout) (row : Row) : Type 0 where
   pub coords : length row.key.coords ≡ length s.dimensions
   pub told : IsTrue (has_no_null_text row.key)
+  pub kept : IsTrue (keeps s row.key)
   pub answers : AllZip IsOfKind s.aggregates row.answers
+  pub in_order : AreInOrder s.aggregates row.answers
+  pub none_together : AreNoneTogether s.aggregates row.answers
+  pub counted : list_all is_all_coord row.key.coords ≡ false → AllZip CountsFacts s.aggregates row.answers

@@ -1,12 +1,13 @@
 -- How the rows of several inputs are merged, step by step (this project's choice).
 use Rattle.std.specs.Prelude.{◌≡◌, ◌<◌, ◌+◌, ◌∷◌, [], ◌++◌, ⊤, ℕ, Bool, true, false, List, Option, Some, None, IfSome}
 use Rattle.std.specs.Prelude.{MatchOption, option_to_list, map, get_or, length, IsPermutation, Contains}
-use Rattle.std.specs.List.{flat_map, AllByRecursion, AllZip}
+use Rattle.std.specs.List.{flat_map, list_all, AllByRecursion, AllZip}
 use Rattle.std.specs.List.Sorted.{IsStrictlySortedBy}
 use Rattle.std.specs.declared.cmp.Ordering.TheVariants.{Less}
 use Rattle.std.specs.Io.KnownBytes.{Appends, Consumes, IsAtEnd}
 use Rattle.cube_core.specs.Layout.{Layout}
-use Rattle.cube_core.specs.Cube.{key_of}
+use Rattle.cube_core.specs.Cube.{is_total, key_of}
+use Rattle.cube_core.specs.GroupingSet.{is_all_coord}
 use Rattle.cube_core.specs.Merged.{AreMerged, IsMerged, rows_at}
 use Rattle.cube_core.specs.Order.{key_cmp}
 use Rattle.cube_core.specs.Text.{row_line, text_of_rows}
@@ -34,10 +35,24 @@ abbrev pub IsAbove : Option Row → Row → Type 0
 IsAbove None row = ⊤
 IsAbove (Some before) row = key_cmp before.key row.key ≡ Less
 
+-- there is a row, and its key is ALL in each dimension
+abbrev pub IsTotalRow : Option Row → Type 0
+IsTotalRow None = ⊥
+IsTotalRow (Some row) = list_all is_all_coord row.key.coords ≡ true
+
+-- a cube may end behind this row, or its header where there is none: with the grand total, if the schema keeps it
+abbrev pub MayEnd : Layout → Option Row → Type 0
+MayEnd s last = Contains s.grouping_sets 0 → IsTotalRow last
+
+-- no byte is left of an input, of which this row was the last
+abbrev pub TakesNone : Layout → InputView → InputView → Type 0
+TakesNone s old new =
+    Consumes old.left new.left [] × IfSome old.left (λ _. IsAtEnd new.left) × MayEnd s old.row
+
 -- the next line was taken, that of a row of the schema above the one before, or none is left
 abbrev pub TakesLine : Layout → InputView → InputView → Type 0
 TakesLine s old new =
-    MatchOption new.row (Consumes old.left new.left [] × IfSome old.left (λ _. IsAtEnd new.left)) (λ row.
+    MatchOption new.row (TakesNone s old new) (λ row.
     Consumes old.left new.left (row_line row) × IsAbove old.row row × (new.lines ≡ old.lines + 1) × IsLawfulRow s row)
 
 -- an input whose line was used took the next one, and any other stays
@@ -109,6 +124,20 @@ IsCounted input rows = IfSome input.row (λ _. input.lines ≡ length rows + 2)
 abbrev pub IsEnded : Option (List ℕ) → InputView → Type 0
 IsEnded start input = input.row ≡ None → IfSome start (λ _. IsAtEnd input.left)
 
+-- the last of rows is the grand total
+abbrev pub EndsWithTotal : Layout → List Row → Type 0
+EndsWithTotal s rows =
+    (before : List Row) × (last : Row) × (rows ≡ before ++ last ∷ [])
+    × (is_total (length s.dimensions) last.key ≡ true)
+
+-- rows are a whole cube's, as far as their last tells: it is the grand total, where the schema keeps that
+abbrev pub AreWhole : Layout → List Row → Type 0
+AreWhole s rows = Contains s.grouping_sets 0 → EndsWithTotal s rows
+
+-- the rows that an input without a row gave are a whole cube's
+abbrev pub IsWhole : Layout → InputView → List Row → Type 0
+IsWhole s input rows = input.row ≡ None → AreWhole s rows
+
 -- a key is below that of the input's row
 abbrev pub IsBelow : Key → InputView → Type 0
 IsBelow key input = IfSome input.row (λ row. key_cmp key row.key ≡ Less)
@@ -128,6 +157,7 @@ pub record IsMerging (given : Layout) (wanted : List Agg) (starts : List (Option
   pub of_schema : (k : ℕ) → AreOfSchema given (get_or inputs k nothing_left) (get_or cubes k [])
   pub counted : (k : ℕ) → IsCounted (get_or inputs k nothing_left) (get_or cubes k [])
   pub ended : (k : ℕ) → IsEnded (get_or starts k None) (get_or inputs k nothing_left)
+  pub whole : (k : ℕ) → k < length inputs → IsWhole given (get_or inputs k nothing_left) (get_or cubes k [])
   pub drawn : IsPermutation (all_rows cubes) parts
   pub merged : AreMerged given.aggregates wanted parts rows
   pub fit : AllByRecursion (IsMadeInRange given.aggregates parts) rows
@@ -193,7 +223,8 @@ abbrev pub IsToldTextOf : Layout → Option (List ℕ) → List Row → Type 0
 IsToldTextOf s text rows = IfSome text (λ known. known ≡ text_of_rows s rows)
 
 -- what was written is the text, under the wanted schema,
--- of the merged rows of cubes whose texts under the given one were read, each of rows of that schema in key order;
+-- of the merged rows of cubes whose texts under the given one were read, each of rows of that schema in key order,
+-- of which the last is the grand total, where the schema keeps that;
 -- each count and each sum that the rows with one key make is in range
 pub record IsMergeOf (given wanted : Layout) (texts : List (Option (List ℕ))) (old new : Option (List ℕ)) : Type 0 where
   pub cubes : List (List Row)
@@ -203,6 +234,7 @@ pub record IsMergeOf (given wanted : Layout) (texts : List (Option (List ℕ))) 
   pub read : (k : ℕ) → IsToldTextOf given (get_or texts k None) (get_or cubes k [])
   pub of_schema : (k : ℕ) → AllByRecursion (IsLawfulRow given) (get_or cubes k [])
   pub ordered : (k : ℕ) → IsStrictlySortedBy key_cmp (map key_of (get_or cubes k []))
+  pub complete : (k : ℕ) → k < length texts → AreWhole given (get_or cubes k [])
   pub drawn : IsPermutation (all_rows cubes) parts
   pub merged : AreMerged given.aggregates wanted.aggregates parts rows
   pub fit : AllByRecursion (IsMadeInRange given.aggregates parts) rows

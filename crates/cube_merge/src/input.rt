@@ -4,7 +4,7 @@ ghost use Rattle.std.specs.List.{list_all};
 ghost use Rattle.std.specs.Io.KnownBytes.{Consumes};
 ghost use Rattle.cube_core.specs.GroupingSet.{is_all_coord};
 ghost use Rattle.cube_merge.specs.Faults.{FailsToMove, FailsToTakeHeader};
-ghost use Rattle.cube_merge.specs.Merging.{TakesLine, IsAbove, Moves};
+ghost use Rattle.cube_merge.specs.Merging.{TakesLine, IsAbove, MayEnd, Moves};
 ghost use Rattle.merge_lines.specs.Parts.{key_parts};
 
 use crate::fault::InputFault;
@@ -183,7 +183,8 @@ fn put_spare(spare: &mut Row, row: Option<Row>)
 
 // Whether a row may be the last of a cube: it is the grand total, where that is kept.
 fn is_complete(schema: &Schema, row: &Option<Row>) -> bool
-    ensures { result ≡ false → Contains schema.now.grouping_sets 0
+    ensures complete { result ≡ true → MayEnd schema.now row.now }
+    ensures lacks { result ≡ false → Contains schema.now.grouping_sets 0
         × IfSome row.now (λ row. list_all is_all_coord row.key.coords ≡ false) }
 {
     let keeps_total = schema.grouping_sets().contains(&0);

@@ -1,31 +1,28 @@
 //! What a row tells of itself: whether a printed cube can have it.
-ghost use Rattle.std.specs.Prelude.{◌≡◌, true};
+ghost use Rattle.std.specs.Prelude.{◌≡◌, ◌<◌, length, true, unsigned_abs};
+ghost use Rattle.std.specs.Int.{IsGcd};
 ghost use Rattle.std.specs.List.{AllZip, list_all};
 ghost use Rattle.cube_core.specs.GroupingSet.{is_all_coord};
-ghost use Rattle.cube_merge.specs.Lawful.{IsFraction, IsNumber, IsOfKind, IsLawfulRow, IsValue, has_no_null_text, is_no_null_text};
+ghost use Rattle.cube_merge.specs.Lawful.{AreInOrder, AreNoneTogether, CountsFacts, IsNoneAmong, TellsNone, measure_of, tells_none, IsAtLeast, IsFraction, IsInOrder, IsWithin, IsNumber, IsOfKind, IsLawfulRow, IsValue, has_no_null_text, is_no_null_text};
 
 use crate::gather::{answer_at, mean_of};
 use crate::source::place_of;
-use cube_core::{Agg, Answer, Coord, Key, Row, Schema};
+use cube_core::{Agg, Answer, Coord, Key, Row, Schema, reduced};
 use std::alloc::{AllocError, Global};
 
 /// Where the answers of a row stand that must not gainsay one another.
 #[derive(Drop)]
 pub(crate) struct Laws {
-    // The number of facts.
-    facts: Option<usize>,
     // Each aggregate that stood before, and the first time that it stood.
     repeats: Vec<(usize, usize)>,
     measures: Vec<MeasurePlaces>,
 }
 
-// Where the answers to the aggregates of a measure stand.
+// Where the count, the sum and the mean of a measure stand.
 #[derive(Clone, Copy)]
 struct MeasurePlaces {
     count: Option<usize>,
     sum: Option<usize>,
-    least: Option<usize>,
-    greatest: Option<usize>,
     mean: Option<usize>,
 }
 
@@ -34,7 +31,6 @@ impl Laws {
     pub(crate) fn of(alloc: Global, schema: &Schema) -> Result<Laws, AllocError> {
         let aggregates = schema.aggregates();
         Ok(Laws {
-            facts: place_of(aggregates, &Agg::CountAll),
             repeats: repeats_of(alloc, aggregates)?,
             measures: measures_of(alloc, aggregates, schema.measures().len())?,
         })
@@ -62,8 +58,6 @@ fn measures_of(
         measures.push(MeasurePlaces {
             count: place_of(aggregates, &Agg::Count(measure)),
             sum: place_of(aggregates, &Agg::Sum(measure)),
-            least: place_of(aggregates, &Agg::Min(measure)),
-            greatest: place_of(aggregates, &Agg::Max(measure)),
             mean: place_of(aggregates, &Agg::Avg(measure)),
         })?;
     }
@@ -80,13 +74,17 @@ pub(crate) fn is_lawful(schema: &Schema, laws: &Laws, row: &Row) -> bool
     }
     let answers = row.answers.as_slice();
     schema.keeps(&row.key)
+        && is_row_in_order(schema, row)
+        && is_row_none_together(schema, row)
         && are_repeats_same(laws.repeats.as_slice(), answers)
-        && are_measures_consistent(laws.measures.as_slice(), answers)
-        && (is_total(row) || !has_no_fact(laws, answers))
+        && are_means_consistent(laws.measures.as_slice(), answers)
+        && (is_total(row) || count_facts(schema.aggregates(), answers))
 }
 
 fn is_row_of(schema: &Schema, row: &Row) -> bool
-    ensures { result ≡ true → IsLawfulRow schema.now row.now }
+    ensures coords { result ≡ true → length row.now.key.coords ≡ length schema.now.dimensions }
+    ensures told { result ≡ true → has_no_null_text row.now.key ≡ true }
+    ensures answers { result ≡ true → AllZip IsOfKind schema.now.aggregates row.now.answers }
 {
     row.key.coords.len() == schema.dimensions().len()
         && has_no_null_text(&row.key)
@@ -159,7 +157,21 @@ fn is_value(answer: Answer) -> bool
 fn is_fraction(answer: Answer) -> bool
     ensures { result ≡ true → IsFraction answer }
 {
-    matches!(answer, Answer::Null | Answer::Ratio { .. })
+    match answer {
+        Answer::Null => true,
+        Answer::Ratio { p, q } => is_in_lowest_terms(p, q),
+        Answer::Count(_) | Answer::Whole(_) => false,
+    }
+}
+
+fn is_in_lowest_terms(p: i128, q: u64) -> bool
+    ensures { result ≡ true → (0 < q) × IsGcd (unsigned_abs p) q 1 }
+{
+    if q == 0 {
+        return false;
+    }
+    let (numerator, denominator) = reduced(p, q);
+    numerator == p && denominator == q
 }
 
 /// Whether the key of a row is ALL in each dimension.
@@ -194,57 +206,184 @@ fn answer_in(answers: &[Answer], place: Option<usize>) -> Option<Answer> {
     Some(answer_at(answers, place?))
 }
 
-// Whether the row counts no fact.
-fn has_no_fact(laws: &Laws, answers: &[Answer]) -> bool {
-    matches!(answer_in(answers, laws.facts), Some(Answer::Count(0)))
-}
-
-fn are_measures_consistent(measures: &[MeasurePlaces], answers: &[Answer]) -> bool {
-    for places in measures {
-        if !is_measure_consistent(places, answers) {
+// Whether no answer to `count(*)` is 0.
+fn count_facts(aggregates: &[Agg], answers: &[Answer]) -> bool
+    ensures { result ≡ true → AllZip CountsFacts aggregates.now answers.now }
+{
+    if aggregates.len() != answers.len() {
+        return false;
+    }
+    for place in 0..aggregates.len() {
+        if !counts_facts(&aggregates[place], answers[place]) {
             return false;
         }
     }
     true
 }
 
-// Whether the answers to the aggregates of a measure can be those of one group: null together, exactly where the count is
-// there and 0; the least not above the greatest; and the mean that of the sum and the count.
-fn is_measure_consistent(places: &MeasurePlaces, answers: &[Answer]) -> bool {
+fn counts_facts(aggregate: &Agg, answer: Answer) -> bool
+    ensures { result ≡ true → CountsFacts aggregate.now answer }
+{
+    match (aggregate, answer) {
+        (Agg::CountAll, Answer::Count(count)) => count > 0,
+        _ => true,
+    }
+}
+
+fn are_means_consistent(measures: &[MeasurePlaces], answers: &[Answer]) -> bool {
+    for places in measures {
+        if !is_mean_consistent(places, answers) {
+            return false;
+        }
+    }
+    true
+}
+
+// Whether the mean of a measure is that of its sum and its count.
+fn is_mean_consistent(places: &MeasurePlaces, answers: &[Answer]) -> bool {
     let count = answer_in(answers, places.count);
     let sum = answer_in(answers, places.sum);
-    let least = answer_in(answers, places.least);
-    let greatest = answer_in(answers, places.greatest);
     let mean = answer_in(answers, places.mean);
-    let is_empty = match count {
-        Some(count) => count == Answer::Count(0),
-        None => is_some_null(&sum)
-            || is_some_null(&least)
-            || is_some_null(&greatest)
-            || is_some_null(&mean),
-    };
-    is_null_as(&sum, is_empty)
-        && is_null_as(&least, is_empty)
-        && is_null_as(&greatest, is_empty)
-        && is_null_as(&mean, is_empty)
-        && are_in_order(&least, &greatest)
-        && is_mean_of(&mean, &sum, &count)
+    is_mean_of(&mean, &sum, &count)
 }
 
-fn is_some_null(answer: &Option<Answer>) -> bool {
-    matches!(answer, Some(Answer::Null))
+// Whether the answers of a measure in a row are null together, and exactly where its count is 0.
+fn is_row_none_together(schema: &Schema, row: &Row) -> bool
+    ensures { result ≡ true → AreNoneTogether schema.now.aggregates row.now.answers }
+{
+    are_none_together(schema.aggregates(), row.answers.as_slice())
 }
 
-fn is_null_as(answer: &Option<Answer>, is_null: bool) -> bool {
-    match answer {
-        Some(answer) => matches!(answer, Answer::Null) == is_null,
+fn are_none_together(aggregates: &[Agg], answers: &[Answer]) -> bool
+    ensures { result ≡ true → AreNoneTogether aggregates.now answers.now }
+{
+    if aggregates.len() != answers.len() {
+        return false;
+    }
+    for place in 0..aggregates.len() {
+        if !is_none_among(aggregates, answers, &aggregates[place], answers[place]) {
+            return false;
+        }
+    }
+    true
+}
+
+fn is_none_among(aggregates: &[Agg], answers: &[Answer], aggregate: &Agg, answer: Answer) -> bool
+    ensures { result ≡ true → IsNoneAmong aggregates.now answers.now aggregate.now answer }
+{
+    if !tells_none(answer) {
+        return true;
+    }
+    match measure_of(aggregate) {
+        Some(measure) => are_none(aggregates, answers, measure),
         None => true,
     }
 }
 
-fn are_in_order(least: &Option<Answer>, greatest: &Option<Answer>) -> bool {
+// Whether each answer of a measure among answers tells that it has no value.
+fn are_none(aggregates: &[Agg], answers: &[Answer], measure: usize) -> bool
+    ensures { result ≡ true → AllZip (TellsNone measure) aggregates.now answers.now }
+{
+    if aggregates.len() != answers.len() {
+        return false;
+    }
+    for place in 0..aggregates.len() {
+        if !is_none_of(measure, &aggregates[place], answers[place]) {
+            return false;
+        }
+    }
+    true
+}
+
+fn is_none_of(measure: usize, aggregate: &Agg, answer: Answer) -> bool
+    ensures { result ≡ true → TellsNone measure aggregate.now answer }
+{
+    measure_of(aggregate) != Some(measure) || tells_none(answer)
+}
+
+fn measure_of(aggregate: &Agg) -> Option<usize>
+    ensures { result ≡ measure_of aggregate.now }
+{
+    match aggregate {
+        Agg::CountAll => None,
+        Agg::Count(measure)
+        | Agg::Sum(measure)
+        | Agg::Min(measure)
+        | Agg::Max(measure)
+        | Agg::Avg(measure) => Some(*measure),
+    }
+}
+
+// Whether an answer tells that a measure has no value: it is null, or a count of 0.
+fn tells_none(answer: Answer) -> bool
+    ensures { result ≡ tells_none answer }
+{
+    match answer {
+        Answer::Null => true,
+        Answer::Count(count) => count == 0,
+        Answer::Whole(_) | Answer::Ratio { .. } => false,
+    }
+}
+
+// Whether no least value of a row is above the greatest value of its measure.
+fn is_row_in_order(schema: &Schema, row: &Row) -> bool
+    ensures { result ≡ true → AreInOrder schema.now.aggregates row.now.answers }
+{
+    are_in_order(schema.aggregates(), row.answers.as_slice())
+}
+
+fn are_in_order(aggregates: &[Agg], answers: &[Answer]) -> bool
+    ensures { result ≡ true → AreInOrder aggregates.now answers.now }
+{
+    if aggregates.len() != answers.len() {
+        return false;
+    }
+    for place in 0..aggregates.len() {
+        if !is_within(aggregates, answers, &aggregates[place], answers[place]) {
+            return false;
+        }
+    }
+    true
+}
+
+fn is_within(aggregates: &[Agg], answers: &[Answer], aggregate: &Agg, answer: Answer) -> bool
+    ensures { result ≡ true → IsWithin aggregates.now answers.now aggregate.now answer }
+{
+    match aggregate {
+        Agg::Min(measure) => is_least(aggregates, answers, *measure, answer),
+        _ => true,
+    }
+}
+
+// Whether a least value of a measure isn't above a greatest one of it among answers.
+fn is_least(aggregates: &[Agg], answers: &[Answer], measure: usize, least: Answer) -> bool
+    ensures { result ≡ true → AllZip (IsAtLeast measure least) aggregates.now answers.now }
+{
+    if aggregates.len() != answers.len() {
+        return false;
+    }
+    for place in 0..aggregates.len() {
+        if !is_at_least(measure, least, &aggregates[place], answers[place]) {
+            return false;
+        }
+    }
+    true
+}
+
+fn is_at_least(measure: usize, least: Answer, aggregate: &Agg, answer: Answer) -> bool
+    ensures { result ≡ true → IsAtLeast measure least aggregate.now answer }
+{
+    match aggregate {
+        Agg::Max(other) => *other != measure || is_in_order(least, answer),
+        _ => true,
+    }
+}
+
+fn is_in_order(least: Answer, greatest: Answer) -> bool
+    ensures { result ≡ true → IsInOrder least greatest }
+{
     match (least, greatest) {
-        (Some(Answer::Whole(least)), Some(Answer::Whole(greatest))) => least <= greatest,
+        (Answer::Whole(least), Answer::Whole(greatest)) => least <= greatest,
         _ => true,
     }
 }

@@ -1,5 +1,6 @@
 use Rattle.std.proofs.Common.{◌<◌, ◌≡◌, true, length, rules, arith}
-use Rattle.cube_merge.proofs.LawfulLaws.{AreOfKind-next}
+use Rattle.cube_merge.proofs.LawfulLaws.{AllZip-next}
+use Rattle.cube_merge.specs.Lawful.{IsOfKind}
 use Rattle.cube_merge.proofs.lawful.are_of_kind.Goals as goal
 
 pub loop-place-preserved : goal.loop-place-preserved
@@ -7,5 +8,5 @@ loop-place-preserved c =
     let on : c.is_of_kind.result ≡ true = search rules in
     let inside : c.loop-place.place < length c.args.answers.now =
     omega (arith, c.loop-place-test.true, c.if-aggregates-answers.false) in
-    AreOfKind-next c.args.aggregates.now c.args.answers.now c.loop-place.place _ _ c.loop-place-test.true inside
+    AllZip-next IsOfKind c.args.aggregates.now c.args.answers.now c.loop-place.place _ _ c.loop-place-test.true inside
     c.loop-place.invariant (c.is_of_kind.ensures on)

@@ -36,14 +36,17 @@ returns-then-is_empty-clause-ok g c =
     let none : length c.read_line.new.line.items ≡ 0 = search (rules, arith) in
     let empty = nil_from_length c.read_line.new.line.items none in
     let row : c.self.inside.row ≡ None = rw (← c.self.view_is) at c.requires in
-    rw (← c.self.view_is, row)
-    (subst (Consumes _ _) empty c.in_ok-read_line.ensures.taken, c.in_ok-read_line.ensures.end empty)
+    rw (← c.self.view_is, row) (
+      subst (Consumes _ _) empty c.in_ok-read_line.ensures.taken,
+      c.in_ok-read_line.ensures.end empty,
+      c.is_complete.ensures.complete (search rules),
+    )
 
 pub returns-then-not-is_complete-clause-err : goal.returns-then-not-is_complete-clause-err
 returns-then-not-is_complete-clause-err g c =
     let none : length c.read_line.new.line.items ≡ 0 = search (rules, arith) in
     let empty = nil_from_length c.read_line.new.line.items none in
-    let lacks = c.is_complete.ensures c.if-not-is_complete.true in (
+    let lacks = c.is_complete.ensures.lacks c.if-not-is_complete.true in (
       search rules,
       subst (λ (i : InputView). LacksTotal c.args.schema.now
           (record { left = i.left; row = c.args.before.now; lines = i.lines })) c.self.view_is
