@@ -209,8 +209,12 @@ filter-some : {X : Type 0} (p : X → Bool) (xs : List X) → list_any p xs ≡ 
 filter-some p [] any = absurd (false≢true any)
 filter-some p (x ∷ xs) any = elim (cases_Bool (p x)) [
   | inl passes ↦ omega (arith, ap length (filter-passed p x xs passes))
-  | inr fails ↦ omega (arith, ap length (filter-failed p x xs fails), filter-some p xs
-      (subst (λ b. (b || list_any p xs) ≡ true) fails any))
+  | inr fails ↦ omega (
+    arith,
+    ap length (filter-failed p x xs fails),
+    filter-some p xs
+        (subst (λ b. (b || list_any p xs) ≡ true) fails any),
+  )
 ]
 
 IsAnswer-CountsFacts : (group : List Fact) (agg : Agg) (a : Answer) → 0 < length group → IsAnswer group agg a
