@@ -1,5 +1,5 @@
 -- The builders of a run, each over its part of the schema's grouping sets (this project's choice).
-use Rattle.std.specs.Prelude.{◌≡◌, ◌<◌, ℕ, Bool, List, [], ◌∷◌, length, slice_index_or, Option}
+use Rattle.std.specs.Prelude.{◌≡◌, ◌<◌, ℕ, Bool, List, [], ◌∷◌, length, slice_index_or, Option, None}
 use Rattle.cube_core.specs.Arrival.{Arrivals}
 use Rattle.cube_core.specs.Layout.{Layout}
 use Rattle.cube_core.specs.Query.{AreRowsWhere}
@@ -35,6 +35,7 @@ no_ledger = record {
     grouping_sets = [];
     version = 1;
     shard = whole_feed;
+    columns = None;
   };
   accounts = [];
 }
