@@ -24,6 +24,7 @@ CanBeMerged-merged given wanted texts old new merged = (
     read = merged.read;
     of_schema = merged.of_schema;
     ordered = merged.ordered;
+    complete = merged.complete;
     drawn = merged.drawn;
     merged = merged.merged;
     fit = merged.fit;
