@@ -28,7 +28,7 @@ pub fn check<R: Read + Drop, W: Write>(
     ensures err { IfErr result (λ failure.
         CheckLeaves (R.Read.remaining file) failure (W.contents out.old) (W.contents out.new)) }
 {
-    let _schema = read_schema(alloc, file)?;
+    drop(read_schema(alloc, file)?);
     write_whole(out, b"ok\n")?;
     Ok(Status::Done)
 }
