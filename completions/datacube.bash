@@ -10,6 +10,7 @@ S8
 S9
 S10
 S11
+S12
 L1
 L2
 L3
@@ -68,26 +69,29 @@ D5
 D6
 D7
 D8
-D9'
+D9
+no columns'
 
 _datacube() {
     local word=${COMP_WORDS[COMP_CWORD]} command=${COMP_WORDS[1]} words IFS=$' \t\n'
     COMPREPLY=()
     case $command in
+    table) words='--by --of --ring --shard --builders --threads --quiet --json --aligned --width -h --help' ;;
+    schema) words='--by --of -h --help' ;;
     check) words='-h --help' ;;
-    print) words='--ring --shard --builders --threads --quiet --store --wary --partial -h --help' ;;
+    print) words='--ring --shard --builders --threads --quiet --store --wary --partial --json --aligned --width -h --help' ;;
     refusals) words='--ring --shard --builders --threads --quiet --store --wary -h --help' ;;
-    slice) words='--ring --shard --builders --threads --quiet --store --wary -h --help' ;;
-    drill) words='--ring --shard --builders --threads --quiet --store --wary -h --help' ;;
-    rollup) words='--ring --shard --builders --threads --quiet --store --wary -h --help' ;;
+    slice) words='--ring --shard --builders --threads --quiet --store --wary --json --aligned --width -h --help' ;;
+    drill) words='--ring --shard --builders --threads --quiet --store --wary --json --aligned --width -h --help' ;;
+    rollup) words='--ring --shard --builders --threads --quiet --store --wary --json --aligned --width -h --help' ;;
     live) words='--ring --shard --threads --quiet --store --wary --commit-every -h --help' ;;
     merge) words='--partial --check --quiet -h --help' ;;
     explain) words='-h --help' ;;
     *) words= ;;
     esac
     if [ "$COMP_CWORD" -eq 1 ]; then
-        COMPREPLY=($(compgen -W 'check print refusals slice drill rollup live merge explain -h --help -V --version' -- "$word"))
-    elif [[ ${COMP_WORDS[COMP_CWORD - 1]} == @(--builders|--commit-every|--ring|--shard|--threads) ]]; then
+        COMPREPLY=($(compgen -W 'table schema check print refusals slice drill rollup live merge explain -h --help -V --version' -- "$word"))
+    elif [[ ${COMP_WORDS[COMP_CWORD - 1]} == @(--builders|--by|--commit-every|--of|--ring|--shard|--threads|--width) ]]; then
         compopt +o default
     elif [[ $word == -* ]]; then
         COMPREPLY=($(compgen -W "$words" -- "$word"))

@@ -29,7 +29,8 @@ is ../examples. A case is a block of lines:
     stdout WAY           where the output goes: `closed`, `full` (a full disk), `gone` (a pipe that nobody reads), or a number:
                          a file that has room for so many bytes
     out                  the output, as the lines below it; `out FILE` as that file, `out has TEXT` with this text in it
-    err TEXT             the line on standard error; `err has TEXT` with this text in it
+    err TEXT             the line on standard error, and `err` alone the lines below it; `err has TEXT` with this text in it
+    variable NAME=VALUE  a variable of the environment
     status N             the status
     row A || B || C      the case once more, with A for $1, B for $2 and C for $3 in all its lines; a \\n in a value is
                          the end of a line. A case with rows is those alone, each named after its first value
@@ -70,6 +71,7 @@ class Case:
         self.stdout = None
         self.out = [("is", b"")]
         self.err = [("is", b"")]
+        self.variables = {}
         self.status = 0
 
 
@@ -169,8 +171,13 @@ def read_line(case, word, rest, place):
         if wanted == [("is", b"")]:
             wanted.clear()
         wanted.append(("has", rest[4:].encode()))
+    elif word == "err" and not rest:
+        case.err = [("lines", lines)]
     elif word == "err":
         case.err = [("is", rest.encode() + b"\n")]
+    elif word == "variable":
+        name, _, value = rest.partition("=")
+        case.variables[name] = value
     else:
         sys.exit(f"{place}: {word} means nothing here")
     return lines
@@ -250,6 +257,7 @@ def run(case, room):
             return f"a run before it ends with status {ran.returncode}: {ran.stderr!r}"
     words = program + case.words
     how = {"cwd": room, "stderr": subprocess.PIPE, "stdin": subprocess.DEVNULL, "stdout": subprocess.PIPE, "timeout": SECONDS}
+    how["env"] = {**os.environ, **case.variables}
     closed = [fd for fd, way in ((0, case.stdin), (1, case.stdout)) if way == "closed"]
     if case.stdin and case.stdin != "closed":
         how["stdin"] = open(f"{room}/{case.stdin}", "rb")
@@ -311,6 +319,9 @@ def tried(cases, program, first):
     with tempfile.TemporaryDirectory(prefix="datacube-cases-") as room:
         os.chmod(room, 0o755)
         shutil.copy(program, f"{room}/datacube")
+        if program.endswith(".py"):
+            # The oracle, which takes the forms of a cube from a file beside it.
+            shutil.copy(f"{ROOT}/scripts/views.py", room)
         shutil.copytree(f"{ROOT}/examples", f"{room}/examples")
         with ThreadPoolExecutor(os.cpu_count()) as pool:
             for start in range(0, len(cases), 16):

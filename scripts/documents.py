@@ -53,7 +53,7 @@ BOUNDED = {
 }
 # what README.md says in its first lines, so many
 FIRST_LINES = 20
-FIRST_SAID = ["whole numbers of 64 bits", "dimensions", "status 4", "Licence: none has been chosen yet"]
+FIRST_SAID = ["whole numbers of 64 bits", "decimals", "dimensions", "status 4", "Licence: none has been chosen yet"]
 
 
 class Program:
@@ -215,7 +215,8 @@ def formats_in_manual(program):
     named = ["schema.toml", "market.csv", "street.csv", "online.csv"]
     ask = lambda *words: example(f"$ datacube {' '.join(words)}\n{program.said(*(it.strip(chr(39)) for it in words), folder=shop)}")
     page = ".SH SCHEMAS\n" + from_markdown(section_of(text, "The schema"))
-    page += ".PP\nCODES below has the faults of a schema, S1 to S11.\n"
+    page += ".PP\nCODES below has the faults of a schema, S1 to S12.\n"
+    page += ".SS Without writing one\n" + from_markdown(section_of(text, "A schema without writing one"))
     page += ".SH FEEDS\n" + from_markdown(section_of(text, "A feed"))
     page += ".PP\nA feed under the sample schema, which inserts three facts:\n" + example(text_at(feed))
     page += ".SS Feeds by names\n" + from_markdown(section_of(text, "A feed by names"))

@@ -281,7 +281,10 @@ def decimal(text):
 def shown_answer(text):
     if text == "\\N":
         return "[null]"
-    return f"{text} {decimal(text)}" if "/" in text else f"{int(text):,}"
+    if "/" in text:
+        return f"{text} {decimal(text)}"
+    sign, whole, point, decimals = re.fullmatch(r"(-?)(\d+)(\.?)(\d*)", text).groups()
+    return f"{sign}{int(whole):,}{point}{decimals}"
 
 
 def wanted_rows(records, open_dimensions):
@@ -531,6 +534,41 @@ def strange_texts(trials, page, room):
     page.driver.set_window_size(1280, 800)
 
 
+# (answers of a measure with two decimals and of one with eighteen, by the city; the totals are of all four)
+PRICES = """city,grouping(city),count(*),count(m),sum(m),min(m),max(m),avg(m),sum(long)
+Hull,0,1,0,\\N,\\N,\\N,\\N,\\N
+Leeds,0,2,2,-0.05,-92233720368547758.08,92233720368547758.07,-1/40,-9.223372036854775808
+Paris,0,3,3,1234567.80,-0.01,1234567.81,2057613/5,0.000000000000000001
+York,0,3,3,1234567.90,0.00,1234560.00,12345679/30,9.223372036854775807
+\\N,1,9,8,2469135.65,-92233720368547758.08,92233720368547758.07,49382713/160,0.000000000000000000
+"""
+
+
+def decimals(trials, page, room):
+    """Numbers with decimals: all are shown, and the order and the sums are exact."""
+    path = f"{room}/prices.csv"
+    with open(path, "w", encoding="utf-8") as file:
+        file.write(PRICES)
+    page.open(path, "")
+    body = [line.split(",") for line in PRICES.splitlines()[1:-1]]
+    rows = [[line[0], *map(shown_answer, line[2:])] for line in body]
+    trials.see("decimals: rows", page.shown()["body"], rows)
+    trials.see("decimals: thousands and a sign", [it[3] for it in rows], ["[null]", "-0.05", "1,234,567.80", "1,234,567.90"])
+    for column, name in ((4, "sums"), (8, "long sums")):
+        page.click(f"[data-sort='{column}']")
+        order = [it[0] for it in page.shown()["body"]]
+        trials.see(f"decimals: {name} in their order", order, ["York", "Paris", "Leeds", "Hull"])
+    page.find("ee")
+    trials.see("decimals: one row is found", page.shown()["foot"][0],
+               ["1 found", "2", "2", *map(shown_answer, ["-0.05", "-92233720368547758.08", "92233720368547758.07", "-1/40", "-9.223372036854775808"])])
+    page.find("r")
+    trials.see("decimals: the sums of the rows found", page.shown()["foot"][0],
+               ["2 found", "6", "6", *map(shown_answer, ["2469135.70", "-0.01", "1234567.81", "24691357/60", "9.223372036854775808"])])
+    sides = page.js("return [...document.querySelectorAll('.main-number')].map("
+                    "(it) => Math.round(it.closest('td').getBoundingClientRect().right - it.getBoundingClientRect().right))")
+    trials.see("decimals: numbers stand to the right", len(set(sides)), 1)
+
+
 def rolled_up(trials, page, room):
     """A cube that doesn't keep all grouping sets."""
     with open(f"{room}/up.toml", "w") as file:
@@ -557,7 +595,17 @@ WRONG = {
     "grouping": ("a,grouping(a),count(*)\nx,2,1\n",
                  "Line 2 of the file has neither 0 nor 1 in the column grouping(a)."),
     "number": ("a,grouping(a),sum(m)\nx,0,1e5\n",
-               "Line 2 of the file has “1e5” in the column sum(m), which is no whole number."),
+               "Line 2 of the file has “1e5” in the column sum(m), which is no number."),
+    "point": ("a,grouping(a),sum(m)\nx,0,5\ny,0,5.0\n",
+              "Line 3 of the file has “5.0” in the column sum(m), which is no whole number."),
+    "decimals": ("a,grouping(a),sum(m)\nx,0,\\N\ny,0,5.25\nz,0,5.2\n",
+                 "Line 4 of the file has “5.2” in the column sum(m), which is no number with 2 decimals."),
+    "no decimal": ("a,grouping(a),sum(m)\nx,0,5.\n", "Line 2 of the file has “5.” in the column sum(m), which is no number."),
+    "no digit": ("a,grouping(a),sum(m)\nx,0,-.5\n", "Line 2 of the file has “-.5” in the column sum(m), which is no number."),
+    "two points": ("a,grouping(a),sum(m)\nx,0,1.2.3\n",
+                   "Line 2 of the file has “1.2.3” in the column sum(m), which is no number."),
+    "two signs": ("a,grouping(a),sum(m)\nx,0,1.-5\n", "Line 2 of the file has “1.-5” in the column sum(m), which is no number."),
+    "count": ("a,grouping(a),count(*)\nx,0,1.0\n", "Line 2 of the file has “1.0” in the column count(*), which is no number."),
     "mean": ("a,grouping(a),avg(m)\nx,0,1/0\n",
              "Line 2 of the file has “1/0” in the column avg(m), which is no fraction."),
     "all": ("a,grouping(a),count(*)\nx,1,1\n", "Line 2 of the file has a value in the column a, where it is ALL."),
@@ -869,7 +917,7 @@ def try_small(trials, page, room, given):
     print_cube(cube, SHOP_SCHEMA, *SHOP)
     for trial in (shop_views, shop_order, shop_heat, shop_contrast, shop_means, shop_keys):
         trials.run(trial, page, cube)
-    for trial in (strange_texts, rolled_up):
+    for trial in (strange_texts, decimals, rolled_up):
         trials.run(trial, page, room)
     trials.run(wrong_files, page, room, cube)
     trials.run(firefox, room, cube)

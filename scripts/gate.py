@@ -173,6 +173,8 @@ def quick_parts(program):
         ("documents", ["scripts/documents.py", "--check", "--program", program]),
         ("a wrong program", ["scripts/spoil.py", "--program", program]),
         ("merges beside a slow program", ["scripts/merges.py", "--cases", "40", "--program", program]),
+        ("schemas of files beside a slow program", ["scripts/guesses.py", "--cases", "60", "--program", program]),
+        ("forms of a cube beside a slow program", ["scripts/views.py", "--count", "60", "--program", program]),
         ("sessions beside a slow program", ["scripts/sessions.py", "--cases", "10", "--program", program]),
         ("starting, installing and packing it", ["scripts/installing.py", "--program", program]),
         ("the progress line in a terminal", ["scripts/progress.py", "--program", program]),

@@ -34,8 +34,8 @@ DASK = os.path.join(HERE, "..", "cluster")
 SAMPLE = oracle.Schema(
     ["region", "kind"], ["amount"], [("count", None), ("sum", 0), ("min", 0), ("max", 0), ("avg", 0)]
 )
-NAMED = oracle.Schema(SAMPLE.dimensions, SAMPLE.measures, SAMPLE.aggregates, feed=oracle.Feed(
-    "no", "what", ["", "NA"], ";", columns={"region": ("place", 20), "amount": "Amount"}))
+NAMED = oracle.Schema(SAMPLE.dimensions, SAMPLE.measures, SAMPLE.aggregates, decimals={"amount": 2}, feed=oracle.Feed(
+    "no", "what", ["", "NA"], ";", ",", columns={"region": ("place", 20), "amount": "Amount"}))
 ONE = [b"I", b"1", b"west", b"a", b"5"]
 MIXED = [
     ONE,
@@ -63,9 +63,9 @@ SESSION = [
 ]
 STATUS = {"S": 3, "P": 2, "G": 1, "Q": 1, "M": 1}
 MEMORY = [r"S1", r"G1", r"G2", r"G3 \d+ F1", r"G4", r"P6", r"M1"]
-READS = [r"G3 \d+ F2", r"schema unreadable", r"Q3", r"M3 \d+( \d+)?"]
+READS = [r"G3 \d+ F2", r"schema unreadable", r"feed \d+ unreadable", r"Q3", r"M3 \d+( \d+)?"]
 # (what the short form refuses memory, reads and writes; threads are refused everywhere)
-SHORT = ("no words", "check", "print, one fact", "print, 3 feeds, 2 builders", "print, by names", "slice", "live", "merge")
+SHORT = ("no words", "check", "print, one fact", "print, 3 feeds, 2 builders", "print, by names", "slice", "live", "schema", "table", "merge")
 # (what is said where there is no memory for the words themselves)
 NO_WORDS = b"error: out of memory\n"
 
@@ -208,6 +208,9 @@ def commands(program):
     made["live"] = (["live", "schema.toml", *files[:2]], oracle.encode(SESSION))
     made["check, by names"] = (["check", named(program)], b"")
     made["print, by names"] = (["print", "named.toml", *[program.write(f"named{at}.csv", named_feed()) for at in (1, 2)]], b"")
+    own = program.write("own.csv", b"when;city;qty\n2026-11-28;York;3\n2026-11-29;Leeds;NA\n2026-12-01;;5\n")
+    made["schema"] = (["schema", own], b"")
+    made["table"] = (["table", own, own], b"")
     made["merge"] = (["merge", "schema.toml", *cubes(program, files)], b"")
     made["merge --check"] = (["merge", "--check", *made["merge"][0][1:]], b"")
     return made, files
@@ -220,7 +223,8 @@ def named(program):
 
 def named_feed():
     """The bytes of a feed for it."""
-    return oracle.encode(by_names(random.Random("named"), NAMED, MIXED, True), delimiter=NAMED.delimiter())
+    records = [[*it[:4], it[4] + b".5"] if len(it) == 5 and it[4] != oracle.NULL else it for it in MIXED]
+    return oracle.encode(by_names(random.Random("a feed by names"), NAMED, records, True), delimiter=NAMED.delimiter())
 
 
 def cubes(program, files):
@@ -671,7 +675,9 @@ NAMES = ["region", "kind", "a,b", 'say "so"', "two\nlines", "café", "count(*)",
 TEXTS = [b"", b"a", b"b", b"west", b"\\N", b"\\A", b"?", b"a,b", b'"', b"two\r\nlines", "grüße".encode(), b"x" * 30,
          b"y" * 3000, b"\\=", b"=a", b" a "]
 NUMBERS = [b"0", b"1", b"-1", b"+5", b"007", b"-0", b"9223372036854775807", b"-9223372036854775808", b"\\N", b"12", b"-12"]
-WRONG_NUMBERS = [b"", b"9223372036854775808", b"1.5", b"x", b"+", b"--1", b" 1", b"\\="]
+WRONG_NUMBERS = [b"", b"9223372036854775808", b"1.5", b"x", b"+", b"--1", b" 1", b"\\=", b".5", b"5.", b"1e3", b"1,000", b"-.1",
+                 b"1..5", b"1.5.0", b"+.", b".", b"1.5x", b"1. 5", b"1.-5", b"1.000000000000000000001", b"-9223372036854775809"]
+PLACES = [0, 0, 1, 2, 2, 2, 3, 6, 17, 18]
 COLUMNS = ["", "op", "id", "no", "when", "a;b", 'x "y"', "two\nlines", "Größe", "\\N"]
 NULLS = [["\\N"], ["\\N"], [], [""], ["", "NA"], ["a", "12"], ["\\N", "b", "grüße"], ["\\=", "0"]]
 DELIMITERS = [",", ",", ";", "\t", "|", " ", "=", "\\", "a", "0", "."]
@@ -694,10 +700,12 @@ def random_feed(rng, dimensions, measures):
 def random_schema(rng, by_names=False):
     """A schema; where feeds may be read by the names of their columns, one in three says so."""
     schema = positional_schema(rng)
+    if rng.random() < 0.4:
+        schema.decimals = {name: rng.choice(PLACES) for name in schema.measures if rng.random() < 0.8}
     if by_names and rng.random() < 0.33:
         schema.feed = random_feed(rng, schema.dimensions, schema.measures)
         if rng.random() < 0.1:
-            schema.measures, schema.aggregates, schema.feed.columns = [], [("count", None)], {}
+            schema.measures, schema.aggregates, schema.feed.columns, schema.decimals = [], [("count", None)], {}, {}
     return schema
 
 
@@ -715,10 +723,26 @@ def positional_schema(rng):
     return oracle.Schema(dimensions, measures, aggregates, grouping, rng.choice([1, 2]), rng.choice([2**32 - 1] * 8 + [5]))
 
 
+def number_of(rng, places):
+    """A number of a measure with so many decimals, of one that has none said where that is None."""
+    if places is None or rng.random() < 0.2:
+        return rng.choice(NUMBERS)
+    units = rng.choice([oracle.GREATEST, oracle.LEAST, *range(-3, 4), rng.randint(-(10**4), 10**4), rng.randint(-(10**19), 10**19)])
+    units += rng.choice([0] * 20 + [1, -1])
+    sign, text = rng.choice(["", "", "+"]) if units >= 0 else "-", oracle.decimal(abs(units), places)
+    if units == 0:
+        sign = rng.choice(["", "-", "+"])
+    if rng.random() < 0.3 and places:
+        text = text.rstrip("0").rstrip(".")
+    text += ("." if "." not in text else "") + "0" * rng.choice([1, 2, 20]) if rng.random() < 0.3 else ""
+    text += rng.choice(["1", "5", "."]) if rng.random() < 0.02 else ""
+    return (sign + rng.choice(["", "", "", "0", "000"]) + text).encode()
+
+
 def random_record(rng, schema, texts, ids):
     keeps = [b"\\="] if rng.random() < 0.3 else []
     dims = [rng.choice(texts + keeps * 3) for _ in schema.dimensions]
-    measures = [rng.choice(NUMBERS + keeps * 3) for _ in schema.measures]
+    measures = [rng.choice(keeps * 3 + [number_of(rng, schema.decimals.get(it))] * 11) for it in schema.measures]
     kind = rng.random()
     record = [rng.choice([b"I", b"I", b"I", b"U", b"U"]), b"%d" % rng.randrange(ids), *dims, *measures]
     if kind < 0.15:
@@ -742,9 +766,11 @@ def by_names(rng, schema, records, is_right):
     extra = [it for it in [b"x", b"x", b"", b"\xff", b"more, of it", b"Region"] if it not in needed]
     header = needed + rng.sample(extra, rng.choice([0, 0, 1, 2, len(extra)]))
     rng.shuffle(header)
-    nulls, rows = schema.nulls(), []
+    nulls, rows, first, point = schema.nulls(), [], 2 + len(schema.dimensions), schema.feed.point.encode()
     for record in records:
         null = lambda it: rng.choice(nulls) if it == b"\\N" and nulls and rng.random() < 0.7 else it
+        if rng.random() < 0.95:
+            record = record[:first] + [it.replace(b".", point) for it in record[first:]]
         fields = {name.encode(): null(it) for name, it in [*zip(names, record)][::-1] if name is not None}
         row = [fields.get(it, rng.choice([b"", b"x", b"\xff", b"I"])) for it in header]
         row += [b"more"] if rng.random() < 0.02 else []

@@ -21,7 +21,8 @@ SPELLINGS = [
     lambda it: b"+" + it, lambda it: b"0" + it, lambda it: b"-" + it, lambda it: b'"' + it + b'"', lambda it: it + b" ",
     lambda it: it + b"\r", lambda it: it + b"/2", lambda it: it + b",", lambda it: b"", lambda it: b"\\N", lambda it: b"-0",
     lambda it: b"0", lambda it: b"1", lambda it: b"2", lambda it: b"\xff", lambda it: b"%d" % 2**64, lambda it: b"%d" % 2**127,
-    lambda it: b"%d" % 2**63, lambda it: b"\\A",
+    lambda it: b"%d" % 2**63, lambda it: b"\\A", lambda it: it + b"0", lambda it: it[:-1], lambda it: it + b".0", lambda it: it + b".",
+    lambda it: b"." + it, lambda it: b"-0.00", lambda it: b"0.0", lambda it: it.replace(b".", b","), lambda it: it.replace(b".", b""),
 ]
 # (of a whole number, or of the numbers of a fraction)
 NUMBERS = [
@@ -32,6 +33,10 @@ NUMBERS = [
 
 def respelled(field, rng):
     """A field in another spelling, or another number in its place."""
+    found = re.fullmatch(rb"(-?[0-9]+)\.([0-9]+)", field)
+    if found and rng.random() < 0.5:
+        units = rng.choice([1, -1, 10, -10]) + int(found[1] + found[2])
+        return oracle.decimal(units, max(len(found[2]) + rng.choice([0, 0, 0, 1, -1]), 0)).encode()
     if not re.fullmatch(rb"-?[0-9]+(/[0-9]+)?", field) or rng.random() < 0.5:
         return rng.choice(SPELLINGS)(field)
     return b"/".join(b"%d" % it for it in rng.choice(NUMBERS)([int(it) for it in field.split(b"/")]))
@@ -123,7 +128,10 @@ def bounds(room, rng):
 
 
 def times_of(answer, kind, times):
-    return str(int(answer) * times) if kind in ("count", "sum") and answer != "\\N" else answer
+    """A count or a sum so many times, with the decimals that it has."""
+    if kind not in ("count", "sum") or answer == "\\N":
+        return answer
+    return oracle.decimal(int(answer.replace(".", "")) * times, len(answer.partition(".")[2]))
 
 
 def lines_of(text):

@@ -19,6 +19,9 @@ import re
 import stat
 import sys
 
+sys.dont_write_bytecode = True
+import views
+
 NULL = b"\\N"
 KEEP = b"\\="
 ALL = object()
@@ -86,12 +89,13 @@ def array(items):
 
 
 class Schema:
-    """Dimensions and measures by name, aggregates as (kind, measure or None), and the masks of the kept grouping sets; and
-    where feeds are read by the names of their columns, the `Feed` of it."""
+    """Dimensions and measures by name, aggregates as (kind, measure or None), and the masks of the kept grouping sets; where
+    feeds are read by the names of their columns, the `Feed` of it; and by the names of measures, the decimals that they have."""
 
-    def __init__(self, dimensions, measures, aggregates, grouping="cube", version=1, max_records=2**32 - 1, feed=None):
+    def __init__(self, dimensions, measures, aggregates, grouping="cube", version=1, max_records=2**32 - 1, feed=None, decimals=()):
         self.dimensions, self.measures, self.aggregates = dimensions, measures, aggregates
         self.grouping, self.version, self.max_records, self.feed = grouping, version, max_records, feed
+        self.decimals = dict(decimals)
         count = len(dimensions)
         if grouping == "cube":
             masks = range(2**count)
@@ -116,7 +120,12 @@ class Schema:
         aggregates = list(self.aggregates)
         for _, at in [it for it in self.aggregates if it[0] == "avg"]:
             aggregates += [it for it in (("sum", at), ("count", at)) if it not in aggregates]
-        return Schema(self.dimensions, self.measures, aggregates, self.grouping, self.version, self.max_records, self.feed)
+        rest = self.grouping, self.version, self.max_records, self.feed, self.decimals
+        return Schema(self.dimensions, self.measures, aggregates, *rest)
+
+    def places(self, at):
+        """How many decimals the measure at a place is printed with."""
+        return self.decimals.get(self.measures[at], 0)
 
     def nulls(self):
         """What null is spelled as in its feeds."""
@@ -140,6 +149,7 @@ class Schema:
         if self.max_records != 2**32 - 1:
             lines.append(f"max_records = {self.max_records}")
         lines += self.feed.toml() if self.feed else []
+        lines += ["[decimals]", *(f"{quoted(name)} = {places}" for name, places in self.decimals.items())] if self.decimals else []
         return ("\n".join(lines) + "\n").encode()
 
 
@@ -227,10 +237,11 @@ def data_records(schema, data):
 
 class Line:
     """What a data record says: its operation, its id, for each dimension a field and how many characters of it are taken or None,
-    a field for each measure, whether it has as many fields as it should, and what is null in a measure."""
+    a field for each measure, whether it has as many fields as it should, what is null in a measure, and what its point is."""
 
-    def __init__(self, op, id, dims, measures, is_whole, nulls):
+    def __init__(self, op, id, dims, measures, is_whole, nulls, point=b"."):
         self.op, self.id, self.dims, self.measures, self.is_whole, self.nulls = op, id, dims, measures, is_whole, nulls
+        self.point = point
 
     @staticmethod
     def in_order(schema, record):
@@ -247,7 +258,7 @@ class Line:
         fields = [None if it is None else field_of(header, record, it.encode()) for it in feed.names(schema)]
         op, name = b"I" if feed.op is None else fields[0], b"%d" % number if feed.id is None else fields[1]
         dims = [(it, feed.column(name)[1]) for it, name in zip(fields[2:], schema.dimensions)]
-        return Line(op, name, dims, fields[count:], len(record) == len(header), schema.nulls())
+        return Line(op, name, dims, fields[count:], len(record) == len(header), schema.nulls(), feed.point.encode())
 
 
 def field_of(header, record, name):
@@ -264,12 +275,25 @@ def shard_of(name, count):
     return value % count
 
 
-def number(field):
+def number(field, places=None, point=b"."):
+    """The value of a field in units of 10 to the power of minus so many places, or None where it is no such number; without
+    places it takes no point."""
     digits = field[1:] if field[:1] in (b"+", b"-") else field
-    if not digits or any(it not in b"0123456789" for it in digits):
+    whole, has_point, rest = digits.partition(point) if places is not None else (digits, b"", b"")
+    if not whole or has_point and not rest or any(it not in b"0123456789" for it in whole + rest):
         return None
-    value = int(digits) * (-1 if field[:1] == b"-" else 1)
+    kept, beyond = rest[: places or 0], rest[places or 0 :]
+    if beyond.strip(b"0"):
+        return None
+    value = int(whole + kept.ljust(places or 0, b"0")) * (-1 if field[:1] == b"-" else 1)
     return value if LEAST <= value <= GREATEST else None
+
+
+def decimal(units, places):
+    """A number of units of 10 to the power of minus so many places, as it is printed."""
+    digits = str(abs(units)).zfill(places + 1)
+    end = len(digits) - places
+    return ("-" if units < 0 else "") + digits[:end] + ("." + digits[end:] if places else "")
 
 
 def is_text(field):
@@ -293,7 +317,7 @@ def change_of(schema, line):
         return 4
     if line.op == b"D":
         return line.op, line.id, None, None
-    measures = [measure_of(schema, it, line.nulls) for it in line.measures]
+    measures = [measure_of(schema, line, *it) for it in zip(schema.measures, line.measures)]
     if "wrong" in measures:
         return 5
     dims = [dimension_of(schema, it, first) for it, first in line.dims]
@@ -306,13 +330,13 @@ def keeps(schema, field):
     return schema.version == 2 and field == KEEP
 
 
-def measure_of(schema, field, nulls):
-    """The number that a field says, None for null, KEPT, or "wrong"."""
+def measure_of(schema, line, name, field):
+    """The units that a field says of the measure of a name, None for null, KEPT, or "wrong"."""
     if keeps(schema, field):
         return KEPT
-    if field in nulls:
+    if field in line.nulls:
         return None
-    value = number(field)
+    value = number(field, schema.decimals.get(name), line.point)
     return "wrong" if value is None else value
 
 
@@ -365,7 +389,7 @@ def keep_over(new, old):
     return [before if it is KEPT else it for it, before in zip(new, old)]
 
 
-def answer(kind, at, facts):
+def answer(schema, kind, at, facts):
     if kind == "count" and at is None:
         return str(len(facts))
     values = [measures[at] for _, measures in facts if measures[at] is not None]
@@ -373,18 +397,16 @@ def answer(kind, at, facts):
         return str(len(values))
     if not values:
         return "\\N"
-    if kind == "sum":
-        return str(sum(values))
-    if kind == "min":
-        return str(min(values))
-    if kind == "max":
-        return str(max(values))
-    return fraction(sum(values), len(values))
+    if kind == "avg":
+        return fraction(sum(values), len(values), schema.places(at))
+    return decimal({"sum": sum, "min": min, "max": max}[kind](values), schema.places(at))
 
 
-def fraction(total, count):
-    divisor = math.gcd(total, count)
-    return f"{total // divisor}/{count // divisor}"
+def fraction(total, count, places):
+    """The mean of so many numbers, of whose units this is the sum, in lowest terms."""
+    below = count * 10**places
+    divisor = math.gcd(total, below)
+    return f"{total // divisor}/{below // divisor}"
 
 
 def rows_of(schema, facts):
@@ -398,7 +420,7 @@ def rows_of(schema, facts):
             key = tuple(it if mask >> at & 1 else ALL for at, it in enumerate(fact[0]))
             groups.setdefault(key, []).append(fact)
         for key, group in groups.items():
-            rows.append((key, [answer(kind, at, group) for kind, at in schema.aggregates]))
+            rows.append((key, [answer(schema, kind, at, group) for kind, at in schema.aggregates]))
     return sorted(rows, key=lambda row: order_of(row[0]))
 
 
@@ -444,6 +466,8 @@ def text_of_refusals(refused):
 
 class Run:
     """What a run over the data records of several feeds prints, row by row, with its refusals and its status."""
+
+    view = staticmethod(lambda text: text)
 
     def __init__(self, schema, feeds, shard=(1, 1)):
         self.schema, self.sources = schema, [Source(schema) for _ in feeds]
@@ -589,8 +613,10 @@ BARE = re.compile(rb'[^",\r\n]*')
 NEEDS_QUOTES = re.compile(rb'[",\r\n]')
 COUNT = re.compile(rb"0|[1-9][0-9]*")
 WHOLE = re.compile(rb"0|-?[1-9][0-9]*")
+DECIMAL = re.compile(rb"-?[0-9]+(\.[0-9]+)?")
 MOST_COUNT = 2**64 - 1
 MOST_SUM = 2**127 - 1
+BOUNDS = {"sum": (-MOST_SUM - 1, MOST_SUM), "min": (LEAST, GREATEST), "max": (LEAST, GREATEST)}
 
 
 class CubeFault(Exception):
@@ -669,29 +695,30 @@ def printed_row(schema, fields):
     key = tuple(ALL if mark == b"1" else None if text == NULL else text for mark, text in zip(marks, texts))
     values = {}
     for aggregate, field in zip(schema.aggregates, answers):
-        value = printed_value(aggregate[0], field)
+        value = printed_value(schema, *aggregate, field)
         if value == "wrong" or values.setdefault(aggregate, value) != value:
             return None
-    return (key, values) if schema.keeps(key) and are_sound(key, values) else None
+    return (key, values) if schema.keeps(key) and are_sound(schema, key, values) else None
 
 
-def printed_value(kind, field):
-    """The number that an answer spells, a pair for a mean, None for null, or "wrong"."""
+def printed_value(schema, kind, at, field):
+    """The number that an answer spells, in units of its measure, a pair for a mean, None for null, or "wrong"."""
     whole = lambda text, form, least, most: int(text) if form.fullmatch(text) and least <= int(text) <= most else "wrong"
     if kind == "count":
         return whole(field, COUNT, 0, MOST_COUNT)
     if field == NULL:
         return None
-    if kind == "sum":
-        return whole(field, WHOLE, -MOST_SUM - 1, MOST_SUM)
-    if kind in ("min", "max"):
-        return whole(field, WHOLE, LEAST, GREATEST)
-    above, _, below = field.partition(b"/")
-    pair = whole(above, WHOLE, -MOST_SUM - 1, MOST_SUM), whole(below, COUNT, 1, MOST_COUNT)
-    return pair if "wrong" not in pair and math.gcd(*pair) == 1 else "wrong"
+    if kind == "avg":
+        above, _, below = field.partition(b"/")
+        pair = whole(above, WHOLE, -MOST_SUM - 1, MOST_SUM), whole(below, COUNT, 1, MOST_COUNT * 10 ** schema.places(at))
+        return pair if "wrong" not in pair and math.gcd(*pair) == 1 else "wrong"
+    if not DECIMAL.fullmatch(field):
+        return "wrong"
+    units, (least, most) = int(field.replace(b".", b"")), BOUNDS[kind]
+    return units if least <= units <= most and decimal(units, schema.places(at)).encode() == field else "wrong"
 
 
-def are_sound(key, values):
+def are_sound(schema, key, values):
     """Whether the values of a line go together."""
     if values.get(("count", None)) == 0 and any(it is not ALL for it in key):
         return False
@@ -703,7 +730,7 @@ def are_sound(key, values):
         if True not in nulls:
             if "min" in of and "max" in of and of["min"] > of["max"]:
                 return False
-            if "avg" in of and of["avg"][0] * of["count"] != of["avg"][1] * of["sum"]:
+            if "avg" in of and of["avg"][0] * of["count"] * 10 ** schema.places(at) != of["avg"][1] * of["sum"]:
                 return False
     return True
 
@@ -718,12 +745,12 @@ def merged_answers(schema, used):
         elif not held(kind):
             answers.append("\\N")
         elif kind == "sum":
-            answers.append(str(added(held(kind), -MOST_SUM - 1, MOST_SUM)))
+            answers.append(decimal(added(held(kind), -MOST_SUM - 1, MOST_SUM), schema.places(at)))
         elif kind == "avg":
             sums, counts = added(held("sum"), -MOST_SUM - 1, MOST_SUM), added(held("count"), 0, MOST_COUNT)
-            answers.append(fraction(sums, counts))
+            answers.append(fraction(sums, counts, schema.places(at)))
         else:
-            answers.append(str((min if kind == "min" else max)(value for _, value in held(kind))))
+            answers.append(decimal((min if kind == "min" else max)(value for _, value in held(kind)), schema.places(at)))
     return answers
 
 
@@ -768,7 +795,7 @@ def schema_of(data):
         raise Failure("S2", 3) from None
     if not all(LEAST <= it <= GREATEST for it in numbers_in(table)):
         raise Failure("S2", 3)
-    if not set(table) <= {"dimensions", "measures", "aggregates", "max_records", "grouping", "version", "feed"}:
+    if not set(table) <= {"dimensions", "measures", "aggregates", "max_records", "grouping", "version", "feed", "decimals"}:
         raise Failure("S3", 3)
     dimensions = texts_of(table, "dimensions", 8, "S4")
     measures = texts_of(table, "measures", 4, "S5", 0 if "feed" in table else 1)
@@ -789,7 +816,13 @@ def schema_of(data):
     version = table.get("version", 1)
     if type(version) is not int or version not in (1, 2):
         raise Failure("S10", 3)
-    return Schema(dimensions, measures, aggregates, grouping, version, most, feed_of(table.get("feed"), dimensions, measures))
+    feed = feed_of(table.get("feed"), dimensions, measures)
+    decimals = table.get("decimals", {})
+    if not isinstance(decimals, dict) or not set(decimals) <= set(measures):
+        raise Failure("S12", 3)
+    if not all(type(it) is int and 0 <= it <= 18 for it in decimals.values()):
+        raise Failure("S12", 3)
+    return Schema(dimensions, measures, aggregates, grouping, version, most, feed, decimals)
 
 
 def feed_of(table, dimensions, measures):
@@ -877,6 +910,10 @@ def is_up_to(most):
     return lambda word: word.isdigit() and 1 <= int(word) <= most
 
 
+def is_between(least, most):
+    return lambda word: word.isdigit() and least <= int(word) <= most
+
+
 def is_shard(word):
     found = re.fullmatch(rb"([1-9][0-9]*)/([1-9][0-9]*)", word)
     return bool(found) and int(found[1]) <= int(found[2]) <= MOST_SHARDS
@@ -884,8 +921,10 @@ def is_shard(word):
 
 # (whether an option's word is right; None where it has none)
 OPTIONS = {b"--ring": is_up_to(65536), b"--builders": is_up_to(8), b"--threads": is_up_to(16), b"--shard": is_shard,
-           b"--commit-every": is_up_to(1000000), b"--partial": None, b"--check": None}
+           b"--commit-every": is_up_to(1000000), b"--by": is_text, b"--of": is_text, b"--partial": None, b"--check": None,
+           b"--json": None, b"--aligned": None, b"--width": is_between(20, 10000)}
 OF_FEEDS = [b"--ring", b"--builders", b"--threads", b"--shard"]
+OF_VIEWS = [b"--json", b"--aligned", b"--width"]
 
 
 class Words:
@@ -959,9 +998,16 @@ def read_feeds(schema, paths):
     return feeds
 
 
+def one_form(given):
+    """Ends the command where two forms of a cube are asked for."""
+    if len({b"--json", b"--aligned", b"--partial"} & set(given.options)) > 1:
+        raise wrong_words(b"at most one form can be asked for")
+
+
 def run_of(words, at, *others):
     """The schema of a command, what it checks of CELL and DIM, and its run: FEED is the word at a place and those after it."""
     given = Words(words, [*OF_FEEDS, *others], at + 1, sys.maxsize)
+    one_form(given)
     if len(given.rest) - at > MOST_FEEDS:
         raise Failure("too many feeds", 2)
     schema = read_schema(given.rest[0])
@@ -974,14 +1020,30 @@ def run_of(words, at, *others):
     if at > 2 and place is None:
         raise Failure("P5", 2)
     feeds = read_feeds(schema, given.rest[at:])
-    return Run(schema.partial() if b"--partial" in given.options else schema, feeds, given.shard()), wanted, place
+    run = Run(schema.partial() if b"--partial" in given.options else schema, feeds, given.shard())
+    run.view = view_of(given.options, schema)
+    return run, wanted, place
+
+
+def view_of(options, schema):
+    """What makes of a printed cube the form that the options ask for."""
+    dimensions = len(schema.dimensions)
+    decimals = [schema.places(at) if at is not None else 0 for _, at in schema.aggregates]
+    if b"--json" in options:
+        return lambda text: views.json_form(text, dimensions)
+    if b"--aligned" in options:
+        columns = os.environ.get("COLUMNS", "") if os.isatty(1) else ""
+        most = int(columns) if columns.isdigit() and 20 <= int(columns) <= 10000 else None
+        most = int(options[b"--width"]) if b"--width" in options else most
+        return lambda text: views.aligned_form(text, dimensions, decimals, most)
+    return lambda text: text
 
 
 def written(run, text):
     """Writes what a run answers, or ends by the code that it answers."""
     if isinstance(text, str):
         raise Failure(text, 2)
-    write(text)
+    write(run.view(text))
     return run.status
 
 
@@ -1011,7 +1073,7 @@ def check_command(words):
 
 
 def print_command(words):
-    run, _, _ = run_of(words, 1, b"--partial")
+    run, _, _ = run_of(words, 1, b"--partial", *OF_VIEWS)
     return written(run, run.print())
 
 
@@ -1021,17 +1083,17 @@ def refusals_command(words):
 
 
 def slice_command(words):
-    run, wanted, _ = run_of(words, 2)
+    run, wanted, _ = run_of(words, 2, *OF_VIEWS)
     return written(run, run.slice(wanted))
 
 
 def drill_command(words):
-    run, wanted, place = run_of(words, 3)
+    run, wanted, place = run_of(words, 3, *OF_VIEWS)
     return written(run, run.drill(wanted, place))
 
 
 def rollup_command(words):
-    run, wanted, place = run_of(words, 3)
+    run, wanted, place = run_of(words, 3, *OF_VIEWS)
     return written(run, run.rollup(wanted, place))
 
 
@@ -1085,6 +1147,39 @@ def read_cubes(paths):
     return datas
 
 
+def schema_command(words):
+    given = Words(words, [b"--by", b"--of"], 1, 1)
+    write(made_text(given))
+    return 0
+
+
+def table_command(words):
+    given = Words(words, [*OF_FEEDS, b"--by", b"--of", *OF_VIEWS], 1, sys.maxsize)
+    one_form(given)
+    if len(given.rest) > MOST_FEEDS:
+        raise Failure("too many feeds", 2)
+    schema = schema_of(made_text(given))
+    run = Run(schema, read_feeds(schema, given.rest), given.shard())
+    run.view = view_of(given.options, schema)
+    return written(run, run.print())
+
+
+def made_text(given):
+    """The text of the schema that is made of the first file."""
+    import guess
+
+    [file] = files_at(given.rest[:1], lambda at: f"feed {at} unreadable")
+    try:
+        with open(file, "rb") as opened:
+            data = opened.read()
+    except OSError:
+        raise Failure("feed 1 unreadable", 1) from None
+    try:
+        return guess.schema_text(data, given.options.get(b"--by"), given.options.get(b"--of"))
+    except guess.Wrong as it:
+        raise Failure(f"no columns: {it}", 2) from None
+
+
 SAMPLE = Schema(["region", "kind"], ["amount"], [("count", None)] + [(it, 0) for it in ("sum", "min", "max", "avg")])
 COMMANDS = {
     b"check": check_command,
@@ -1095,6 +1190,8 @@ COMMANDS = {
     b"rollup": rollup_command,
     b"live": live_command,
     b"merge": merge_command,
+    b"schema": schema_command,
+    b"table": table_command,
 }
 
 

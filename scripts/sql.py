@@ -66,6 +66,18 @@ CREATE FUNCTION fraction(total numeric, number numeric) RETURNS text IMMUTABLE S
 $$;
 """
 
+IS_DECIMAL = r"""
+CREATE FUNCTION is_decimal(field text, places int) RETURNS boolean IMMUTABLE LANGUAGE sql AS $$
+    SELECT CASE
+        WHEN field !~ '^[+-]?[0-9]+([.][0-9]+)?$' THEN false
+        WHEN rtrim(substr(split_part(field, '.', 2), places + 1), '0') <> '' THEN false
+        WHEN length(ltrim(split_part(field, '.', 1), '+-0')) > 19 THEN false
+        ELSE (split_part(field, '.', 1) || rpad(left(split_part(field, '.', 2), places), places, '0'))::numeric
+            BETWEEN -9223372036854775808 AND 9223372036854775807
+    END
+$$;
+"""
+
 RECORDS = """
 CREATE TEMP TABLE records (source int, record int, fields text[]);
 """
@@ -77,12 +89,20 @@ SELECT source, record, fields[1] AS op, fields[2] AS id, fields,
         WHEN fields[1] NOT IN ('I', 'U', 'D') THEN 1
         WHEN cardinality(fields) <> {width} AND NOT (fields[1] = 'D' AND cardinality(fields) = 2) THEN 2
         WHEN fields[2] = '' THEN 4
-        WHEN fields[1] <> 'D' AND EXISTS (
-            SELECT FROM unnest(fields[{measures}]) AS field WHERE field NOT IN ({no_numbers}) AND NOT is_number(field)
-        ) THEN 5{sixth}
+        WHEN fields[1] <> 'D' AND {fifth} THEN 5{sixth}
     END AS fault
 FROM records;
 """
+
+FIFTH = r"""EXISTS (
+            SELECT FROM unnest(fields[{first}:{last}]) AS field WHERE field NOT IN ({no_numbers}) AND NOT is_number(field)
+        )"""
+
+# (where a measure has decimals)
+FIFTH_WITH_DECIMALS = r"""EXISTS (
+            SELECT FROM unnest(fields[{first}:{last}], ARRAY[{places}]) AS measure (field, places)
+            WHERE field NOT IN ({no_numbers}) AND NOT CASE WHEN places IS NULL THEN is_number(field) ELSE is_decimal(field, places) END
+        )"""
 
 SIXTH = r"""
         WHEN fields[1] = 'I' AND '\=' = ANY (fields[3:]) THEN 6"""
@@ -135,14 +155,15 @@ def statements(schema):
     keeps = schema.version == 2
     middle = 3 + len(schema.dimensions)
     width = middle - 1 + len(schema.measures)
-    changes = {
-        "width": width,
-        "measures": f"{middle}:{width}",
+    fifth = {
+        "first": middle,
+        "last": width,
         "no_numbers": r"'\N', '\='" if keeps else r"'\N'",
-        "sixth": SIXTH if keeps else "",
+        "places": ", ".join(str(schema.decimals.get(it, "NULL")) for it in schema.measures),
     }
+    form = FIFTH_WITH_DECIMALS if schema.decimals else FIFTH
     return {
-        "changes": CHANGES.format(**changes),
+        "changes": CHANGES.format(width=width, fifth=form.format(**fifth), sixth=SIXTH if keeps else ""),
         "judged": JUDGED,
         "refusals": REFUSALS.format(present=7 if keeps else 6, absent=8 if keeps else 7),
         "facts": FACTS.format(columns=",\n    ".join(fact_columns(schema))),
@@ -154,9 +175,20 @@ def fact_columns(schema):
     r"""A column of facts for each dimension and measure: the field that was put last, where `\=` puts none."""
     for at, name in enumerate(schema.dimensions + schema.measures, 3):
         put = rf" FILTER (WHERE fields[{at}] <> '\=')" if schema.version == 2 else ""
-        kind = "::bigint" if at >= 3 + len(schema.dimensions) else ""
+        kind = type_of(schema, name) if at >= 3 + len(schema.dimensions) else ""
         last = f"(array_agg(fields[{at}] ORDER BY record DESC){put})[1]"
         yield rf"nullif({last}, '\N'){kind} AS {name_of(name)}"
+
+
+def type_of(schema, name):
+    """The cast of a measure's field: a number of 64 bits, with its decimals where it has such."""
+    places = schema.decimals.get(name)
+    return "::bigint" if places is None else f"::numeric(19, {places})"
+
+
+def functions_of(schema):
+    """The functions that the SQL of a schema asks."""
+    return [IS_NUMBER, *([IS_DECIMAL] if schema.decimals else []), FRACTION]
 
 
 def cube(schema):
@@ -167,7 +199,9 @@ def cube(schema):
         columns.append(f"{f'grouping({name_of(it)})' if it in kept else '1'} AS {name_of(f'grouping({it})')}")
     for (kind, at), text in zip(schema.aggregates, schema.aggregate_texts()):
         measure = "*" if at is None else name_of(schema.measures[at])
-        call = f"fraction(sum({measure}), count({measure}))" if kind == "avg" else f"{kind}({measure})"
+        units = f" * {10 ** schema.places(at)}::numeric" if at is not None and schema.places(at) else ""
+        mean = f"fraction(sum({measure}){units}, count({measure}){units})"
+        call = mean if kind == "avg" else f"{kind}({measure})"
         columns.append(f"{call} AS {name_of(text)}")
     order = [f'grouping({name}), {name} COLLATE "C" NULLS LAST' for name in map(name_of, kept)]
     ordered = "\nORDER BY\n    " + ",\n    ".join(order) if order else ""
@@ -243,7 +277,7 @@ class Server:
         if made.returncode:
             sys.exit(f"initdb failed: {made.stderr.decode(errors='replace').strip()}")
         self.begin()
-        self.ask((IS_NUMBER + FRACTION).encode())
+        self.ask((IS_NUMBER + IS_DECIMAL + FRACTION).encode())
         return self
 
     def __exit__(self, *_):
@@ -297,7 +331,7 @@ def read_schema(path):
         sys.exit(f"{path}: with [feed] columns are known by name, and this script reads them in the order of the schema alone")
     aggregates = [(kind, table["measures"].index(rest[:-1]) if rest != "*)" else None)
                   for kind, rest in (it.split("(", 1) for it in table["aggregates"])]
-    rest = {it: table[it] for it in ("grouping", "version", "max_records") if it in table}
+    rest = {it: table[it] for it in ("grouping", "version", "max_records", "decimals") if it in table}
     return oracle.Schema(table["dimensions"], table["measures"], aggregates, **rest)
 
 
@@ -401,7 +435,7 @@ def examples(trials):
     trials.trial("examples/shop", f"{shop}/schema.toml", feeds)
     with open(f"{ROOT}/docs/SQL.md", encoding="utf-8") as file:
         page = file.read()
-    parts = [IS_NUMBER, FRACTION, RECORDS, *statements(read_schema(f"{shop}/schema.toml")).values()]
+    parts = [IS_NUMBER, IS_DECIMAL, FRACTION, RECORDS, *statements(read_schema(f"{shop}/schema.toml")).values()]
     missing = [it.strip() for it in parts if it.strip() not in page]
     trials.note("docs/SQL.md shows what is asked of the shop", f"it lacks {missing[0]!r}" if missing else None)
 
@@ -427,7 +461,7 @@ def show(program, path, files):
     filled = [copy_records(feeds)] if feeds else []
     ends = lambda text: text.strip().removesuffix(";") + ";\n"
     made = map(ends, statements(read_schema(path)).values())
-    print("\n".join([*map(ends, [IS_NUMBER, FRACTION, RECORDS]), *filled, *made]), end="")
+    print("\n".join([*map(ends, [*functions_of(read_schema(path)), RECORDS]), *filled, *made]), end="")
     left_out = sum(not is_held(it) for records in feeds for it in records)
     if left_out:
         print(f"{left_out} records left out, with a NUL or bytes that aren't UTF-8", file=sys.stderr)

@@ -8,6 +8,7 @@ import subprocess
 import sys
 import tempfile
 import unittest
+from decimal import Decimal
 from fractions import Fraction
 from typing import Any, Dict, Iterator, List, Sequence, Tuple
 from unittest import mock
@@ -63,6 +64,7 @@ def schema_like(schema: oracle.Schema) -> jackraisin.Schema:
     return jackraisin.Schema(
         schema.dimensions, schema.measures, schema.aggregate_texts(), grouping=grouping, version=schema.version,
         max_records=None if most == 2**32 - 1 else most, feed=None if schema.feed is None else feed_like(schema.feed),
+        decimals=schema.decimals,
     )
 
 
@@ -80,8 +82,13 @@ def coordinate(it: Any) -> Any:
 
 def row_like(schema: oracle.Schema, row: Tuple[Any, List[str]]) -> Tuple[Any, ...]:
     """The oracle's row as a key and answers with types."""
-    answers = [None if it == "\\N" else Fraction(it) if kind == "avg" else int(it) for (kind, _), it in zip(schema.aggregates, row[1])]
+    answers = [None if it == "\\N" else number_like(schema, *aggregate)(it) for aggregate, it in zip(schema.aggregates, row[1])]
     return tuple(map(coordinate, row[0])), tuple(answers)
+
+
+def number_like(schema: oracle.Schema, kind: str, at: Any) -> Any:
+    """The type of an aggregate's answers."""
+    return Fraction if kind == "avg" else Decimal if kind != "count" and schema.places(at) else int
 
 
 def rows_like(schema: oracle.Schema, rows: Sequence[Any]) -> List[Tuple[Any, ...]]:

@@ -119,7 +119,8 @@ class Private:
 
     def cube(self, facts: str, schema: jackraisin.Schema = SCHEMA) -> str:
         """The printed cube as GROUP BY CUBE gives it, over what a statement makes a view named facts of."""
-        like = oracle.Schema(list(schema.dimensions), list(schema.measures), [aggregate(schema, it) for it in schema.aggregates])
+        aggregates = [aggregate(schema, it) for it in schema.aggregates]
+        like = oracle.Schema(list(schema.dimensions), list(schema.measures), aggregates, decimals=schema.decimals)
         header = oracle.text_of(like, []).decode()
         out = tempfile.SpooledTemporaryFile(2**24)
         with self.connected() as cursor:

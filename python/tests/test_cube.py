@@ -9,6 +9,7 @@ import sys
 import tempfile
 import threading
 import unittest
+from decimal import Decimal
 from fractions import Fraction
 from unittest import mock
 
@@ -223,7 +224,7 @@ class Pandas(unittest.TestCase):
 
     def test_texts_that_are_no_cube(self):
         head = "a,grouping(a),sum(m),avg(m)\n"
-        for line in ("x,0,1\n", "x,0,1,1/1,1\n", "x,0,1,1/1\n\nx,0,1,1/1\n", "x,0,one,1/1\n", "x,0,1.5,1/1\n", "x,0,1,1/0\n", "x,0,1,a/b\n", "x,0,1,1/2/3\n", "x,0,\\N,1/1\ny,0,1.5,1/1\n"):
+        for line in ("x,0,1\n", "x,0,1,1/1,1\n", "x,0,1,1/1\n\nx,0,1,1/1\n", "x,0,one,1/1\n", "x,0,1.x,1/1\n", "x,0,1.5.0,1/1\n", "x,0,1,1/0\n", "x,0,1,a/b\n", "x,0,1,1/2/3\n", "x,0,\\N,1/1\ny,0,1.y,1/1\n"):
             with self.subTest(line):
                 self.assertRaises(jackraisin.Unreadable, jackraisin.Cube(head + line).to_pandas)
                 self.assertRaises(jackraisin.Unreadable, lambda: list(jackraisin.Cube(head + line)))
@@ -319,6 +320,83 @@ class Generated(unittest.TestCase):
                 self.assertEqual(jackraisin.Schema.read(path), given)
                 with open(path, "rb") as file:
                     self.assertEqual(vars(oracle.schema_of(file.read())), vars(schema))
+
+
+class Decimals(unittest.TestCase):
+    """Measures with decimals: a `Decimal` for a sum, a least and a greatest value, the value's own fraction for a mean."""
+
+    SCHEMA = jackraisin.Schema(
+        ["city"], ["price", "qty"], ["count(*)", "sum(price)", "min(price)", "max(price)", "avg(price)", "sum(qty)"],
+        feed={"null": [""], "delimiter": ";", "point": ","}, decimals={"price": 2},
+    )
+    FEED = "city;price;qty\nYork;19,2;3\nYork;5,30;1\nYork;0;\nLeeds;-0,05;2\nLeeds;1.50;2\n;;\n"
+
+    def cube(self, **options):
+        with tempfile.TemporaryDirectory() as folder:
+            path = os.path.join(folder, "prices.csv")
+            with open(path, "w", encoding="utf-8") as out:
+                out.write(self.FEED)
+            self.assertEqual(jackraisin.refusals(self.SCHEMA, path), [(1, 5, 5)])
+            return jackraisin.cube(self.SCHEMA, path, **options)
+
+    def test_rows(self):
+        cube = self.cube()
+        self.assertEqual(cube.at({"city": "York"}).answers, (3, Decimal("24.50"), Decimal("0.00"), Decimal("19.20"), Fraction(49, 6), 4))
+        kinds = [type(it) for it in cube.at({"city": "Leeds"}).answers]
+        self.assertEqual(kinds, [int, Decimal, Decimal, Decimal, Fraction, int])
+        self.assertEqual([str(row["sum(price)"]) for row in cube], ["-0.05", "24.50", "None", "24.45"])
+        self.assertEqual(str(cube.at({"city": "York"})["min(price)"]), "0.00")
+
+    def test_partial_cubes_are_merged(self):
+        part = self.cube(partial=True)
+        self.assertEqual(jackraisin.merge(self.SCHEMA, [part]).text, self.cube().text)
+        twice = jackraisin.merge(self.SCHEMA, [part, self.cube(partial=True)])
+        self.assertEqual(twice.at({})["sum(price)"], Decimal("48.90"))
+
+    def test_views(self):
+        cube = self.cube()
+        self.assertEqual([it["city"] for it in cube.top(2, "sum(price)")], ["York", "Leeds"])
+        self.assertEqual(cube.percent("sum(price)")[("York",)], Fraction(2450, 2445))
+        before = jackraisin.Cube("city,grouping(city),sum(price)\nHull,0,1.00\nYork,0,170141183460469231731687303715884105.72\n")
+        after = jackraisin.Cube("city,grouping(city),sum(price)\nLeeds,0,0.05\nYork,0,0.01\n")
+        changes = [it.change("sum(price)") for it in before.diff(after)]
+        self.assertEqual(list(map(str, changes)), ["-1.00", "0.05", "-170141183460469231731687303715884105.71"])
+
+    def test_a_notebook_has_all_decimals(self):
+        page = jackraisin.Cube("city,grouping(city),sum(price)\nYork,0,0.0000000\n")._repr_html_()
+        self.assertIn('<td style="text-align: right">0.0000000</td>', page)
+
+    def test_a_schema_comes_back(self):
+        with self.SCHEMA.file() as path, open(path, encoding="utf-8") as file:
+            self.assertEqual(file.read().splitlines()[-1], 'decimals = { "price" = 2 }')
+        self.assertEqual((jackraisin.Schema(["a"], ["m"], ["sum(m)"]).decimals, hash(self.SCHEMA)), ({}, hash(self.SCHEMA)))
+        self.assertNotEqual(self.SCHEMA, jackraisin.Schema(["city"], ["price", "qty"], self.SCHEMA.aggregates, feed=self.SCHEMA.feed))
+
+    def test_a_table_that_isnt_right(self):
+        for decimals in ({"city": 2}, {"price": 19}, {"price": "2"}, [2]):
+            with self.assertRaises(jackraisin.Failure) as caught:
+                jackraisin.Schema(["city"], ["price"], ["count(*)"], decimals=decimals).check()
+            self.assertEqual((caught.exception.code, caught.exception.status), ("S12", 3))
+
+    def test_frames(self):
+        try:
+            import pandas
+        except ImportError:
+            self.skipTest("there is no pandas")
+        frame = self.cube().to_pandas()
+        self.assertEqual([str(it) for it in frame.dtypes], ["Int64", "object", "object", "object", "object", "Int64"])
+        self.assertEqual(list(map(str, frame["sum(price)"])), ["-0.05", "24.50", "None", "24.45"])
+        self.assertEqual(frame["avg(price)"].iloc[1], Fraction(49, 6))
+        self.assertEqual(float(frame["max(price)"].astype(float).max()), 19.2)
+        # (numbers that are whole, behind null and beside texts with points)
+        text = "a,grouping(a),count(*),min(m),max(n),sum(m)\n1.5,0,1,\\N,\\N,\\N\n2.5,0,1,19.00,7,5.00\n\\N,1,2,19.00,7,5.00\n"
+        frame = jackraisin.Cube(text).to_pandas()
+        self.assertEqual([str(it) for it in frame.dtypes], ["Int64", "object", "Int64", "object"])
+        self.assertEqual([type(it) for it in frame["min(m)"]], [type(None), Decimal, Decimal])
+        for line in ("x,0,1.0,1.5\n", "x,0,1,.\n", "x,0,1,1.5x\n"):
+            self.assertRaises(jackraisin.Unreadable, jackraisin.Cube(f"a,grouping(a),count(*),sum(m)\n{line}").to_pandas)
+            self.assertRaises(jackraisin.Unreadable, lambda: list(jackraisin.Cube(f"a,grouping(a),count(*),sum(m)\n{line}")))
+        self.assertTrue(pandas.isna(frame["max(n)"].iloc[0]))
 
 
 class ByNames(unittest.TestCase):

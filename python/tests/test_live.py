@@ -6,6 +6,8 @@ import sys
 import tempfile
 import threading
 import unittest
+from decimal import Decimal
+from fractions import Fraction
 
 import beside
 import jackraisin
@@ -17,6 +19,10 @@ from jackraisin import ALL, ANY, KEEP, Live
 PLAIN = jackraisin.Schema(["region", "kind"], ["amount"], ["count(*)", "sum(amount)", "avg(amount)"])
 KEEPING = jackraisin.Schema(["region", "kind"], ["amount"], ["count(*)", "sum(amount)"], version=2)
 NAMED = jackraisin.Schema(["region"], ["amount"], ["count(*)", "sum(amount)"], feed={"null": ["", "NA", "-1"], "delimiter": ";"})
+CENTS = jackraisin.Schema(
+    ["region"], ["price", "pieces"], ["count(*)", "sum(price)", "avg(price)", "sum(pieces)"], version=2,
+    feed={"null": ["0.10"], "delimiter": ";", "point": ","}, decimals={"price": 2},
+)
 SHORT = jackraisin.Schema(["region"], ["amount"], ["count(*)"], max_records=2)
 TEXTS = [it.decode() for it in hostile.TEXTS]
 
@@ -31,13 +37,18 @@ class Player:
         keeps = [KEEP] if can_keep and self.schema.version == 2 else []
         says = [it for it in TEXTS if it != "\\N" and not (it == "\\=" and self.schema.version == 2)]
         dims = [self.rng.choice([None, *keeps, *says[:8]]) for _ in self.schema.dimensions]
-        numbers = [None, *keeps, 0, -1, 12, 2**63 - 1, -(2**63)]
-        return dims, [self.rng.choice(numbers) for _ in self.schema.measures]
+        return dims, [self.rng.choice([None, *keeps, *self.numbers(name)]) for name in self.schema.measures]
+
+    def numbers(self, name):
+        """Numbers of a measure: whole ones, and where it has decimals such too."""
+        places = self.schema.decimals.get(name, 0)
+        units = [0, -1, 12, 2**63 - 1, -(2**63)]
+        return [Decimal(it).scaleb(-places) for it in units] + [0, -7, Decimal("-0.0")] if places else units
 
     def change(self):
         source, name, op = self.rng.choice([1, 2, 3, 64]), f"id {self.rng.randrange(6)}", self.rng.choice("IIUUD")
         dims, measures = self.values(op == "U")
-        field = lambda it: b"\\N" if it is None else b"\\=" if it is KEEP else str(it).encode()
+        field = lambda it: b"\\N" if it is None else b"\\=" if it is KEEP else (f"{it:f}" if isinstance(it, Decimal) else str(it)).encode()
         fields = [] if op == "D" else list(map(field, [*dims, *measures]))
         self.played.reply([b"%d" % source, op.encode(), name.encode(), *fields])
         if op == "D":
@@ -166,6 +177,22 @@ class Says(unittest.TestCase):
             live.insert(1, "b", ["a;b"], [-2])
             live.insert(1, "c", {"region": "na"}, {"amount": 0})
             self.assertEqual(rows_of(live.cube()), [(("a;b",), (1, -2)), (("na",), (1, 0)), ((None,), (1, None)), ((ALL,), (3, -2))])
+
+    def test_decimals(self):
+        with Live(CENTS) as live:
+            live.insert(1, "a", ["w"], [Decimal("19.2"), 1])
+            live.insert_many(1, [("b", ["w"], [5, 1]), ("c", {"region": "w"}, {"price": Decimal("0.2500"), "pieces": None})])
+            live.update(1, "b", {}, {"price": Decimal("5.3E+0")})
+            self.assertEqual(live.cube().at({}).answers, (3, Decimal("24.75"), Fraction(33, 4), 2))
+            for price in (Decimal("0.005"), Decimal("0.10"), Decimal("92233720368547758.08"), 92233720368547759, Decimal("NaN"), Decimal("-Infinity"),
+                          Decimal("1E+99999"), Decimal("1E-99999")):
+                self.assertRaises(jackraisin.Unsayable, live.insert, 1, "d", ["w"], [price, 1])
+            for values in ([19.2, 1], ["19.2", 1], [Fraction(1, 2), 1], [1, Decimal(1)], [1, 1.0]):
+                self.assertRaises(TypeError, live.insert, 1, "d", ["w"], values)
+            live.insert(1, "d", [None], [Decimal("-92233720368547758.08"), None])
+            live.insert(1, "e", [None], [Decimal("-0.00"), None])
+            self.assertEqual(str(live.slice([None])[0]["sum(price)"]), "-92233720368547758.08")
+            self.assertEqual(live.refusals(), [])
 
     def test_texts_that_look_like_marks(self):
         with Live(PLAIN) as live:

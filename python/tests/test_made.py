@@ -3,6 +3,7 @@ import datetime
 import random
 import sys
 import unittest
+from decimal import Decimal
 from fractions import Fraction
 
 import beside
@@ -53,6 +54,21 @@ class ByHand(unittest.TestCase):
         for value in (0.5, 2.0**53, float("inf"), "5", Fraction(1, 2)):
             self.assertRaises(TypeError, exact, value)
         self.assertRaises(jackraisin.Unsayable, exact, 2**63)
+
+    def test_decimals(self):
+        rows = [{"a": "x", "m": Decimal("19.2")}, {"a": "x", "m": 5.3}, {"a": "y", "m": 3}, {"a": "y", "m": None}, {"a": "y", "m": -0.0}]
+        cube = cube_of(rows, by=["a"], of={"m": ["sum", "avg"]}, decimals={"m": 2})
+        self.assertEqual(cube.text, "a,grouping(a),count(*),sum(m),avg(m)\nx,0,2,24.50,49/4\ny,0,3,3.00,3/2\n\\N,1,5,27.50,55/8\n")
+        exact = lambda value: str(cube_of([{"a": "x", "m": value}], by=["a"], of={"m": "sum"}, decimals={"m": 2})[-1]["sum(m)"])
+        self.assertEqual([exact(it) for it in (0.1, -0.05, 1e3, 2**40 + 0.25, 7, Decimal("1.230"), Decimal("92233720368547758.07"))],
+                         ["0.10", "-0.05", "1000.00", "1099511627776.25", "7.00", "1.23", "92233720368547758.07"])
+        for value in (0.125, 0.1 + 0.2, Decimal("0.001"), Decimal("NaN"), 2**63, Decimal("92233720368547758.08")):
+            self.assertRaises(jackraisin.Unsayable, exact, value)
+        for value in (2.0**53, float("inf"), "5", Fraction(1, 2)):
+            self.assertRaises(TypeError, exact, value)
+        with self.assertRaises(jackraisin.Failure) as caught:
+            cube_of([{"a": "x", "m": 1}], by=["a"], of={"m": "sum"}, decimals={"a": 2})
+        self.assertEqual(caught.exception.code, "S12")
 
     def test_what_no_feed_says(self):
         for value in (1.5, True, b"x", datetime.datetime(2026, 2, 1), ALL):

@@ -736,6 +736,21 @@ class Rows(Base):
         self.run_sql("UPDATE {table} SET cents = 0.001 WHERE id = 3")
         self.stopped(follower, RowUnsayable, "key (id)=(3), column cents: 0.001, times 100, is no whole number")
 
+    def test_decimals_of_the_schema(self):
+        """Measures with decimals take numerics and whole numbers as they are, beside a scale too."""
+        self.run_sql("CREATE TABLE {table} (id int PRIMARY KEY, city text, price numeric(8,2), weight numeric, pieces int)",
+                     "INSERT INTO {table} VALUES (1, 'York', 19.20, 0.125, 3)")
+        asked = ["count(*)", "sum(price)", "min(price)", "avg(price)", "sum(weight)", "sum(pieces)", "avg(pieces)"]
+        schema = jackraisin.Schema(["city"], ["price", "weight", "pieces"], asked, decimals={"price": 2, "weight": 3, "pieces": 1})
+        follower = self.follower(schema, scale={"weight": 1})
+        self.run_sql("INSERT INTO {table} VALUES (2, 'York', 5.3, 1, 2), (3, NULL, -0.05, NULL, NULL)", "UPDATE {table} SET weight = 0.0005 WHERE id = 2")
+        follower.catch_up(SECONDS)
+        facts = f"SELECT city, price::numeric(19, 2), (weight * 10)::numeric(19, 3) AS weight, pieces::numeric(19, 1) FROM {self.table}"
+        self.assertEqual(follower.ask("print"), PRIVATE.cube(f"CREATE TEMP VIEW facts AS {facts}", schema))
+        self.assertEqual(str(follower.slice({"city": "York"})[0]["sum(price)"]), "24.50")
+        self.run_sql("UPDATE {table} SET weight = 0.00001 WHERE id = 1")
+        self.stopped(follower, RowUnsayable, "key (id)=(1), column weight: 0.00001, times 10, is no number with 3 decimals")
+
     def test_skipped_rows(self):
         self.sales((1, "York", "tea", 5), (2, "\\N", "tea", 5), (3, "\\=", "tea", 5))
         follower = self.follower(skip=True)

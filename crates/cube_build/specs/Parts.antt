@@ -36,6 +36,7 @@ no_ledger = record {
     version = 1;
     shard = whole_feed;
     columns = None;
+    decimals = [];
   };
   accounts = [];
 }

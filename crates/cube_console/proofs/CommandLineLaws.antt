@@ -10,7 +10,7 @@ use Rattle.cube_console.specs.CommandLine.{AsksToCheck, AsksToExplain, IsInBound
 use Rattle.cube_console.specs.CommandLine.{command_line}
 use Rattle.cube_console.specs.declared.request.Request.{Request}
 use Rattle.cube_console.specs.declared.request.Request.TheVariants.{Sample, Check, Explain, Print, Refusals, Slice, Drill}
-use Rattle.cube_console.specs.declared.request.Request.TheVariants.{RollUp, Live, Merge}
+use Rattle.cube_console.specs.declared.request.Request.TheVariants.{RollUp, Live, Merge, Schema, Table}
 
 command_line-is_simple : is_simple command_line ≡ true
 unfolding clap_on_literals
@@ -112,6 +112,9 @@ IsInBounds-IsRequest None (Live live) is =
     let bad : Sample ≡ Live live = sym (ap (λ (o : Option Request). unwrap_or o Sample) is) in cc
 IsInBounds-IsRequest None (Merge merge) is =
     let bad : Sample ≡ Merge merge = sym (ap (λ (o : Option Request). unwrap_or o Sample) is) in cc
+IsInBounds-IsRequest None (Schema words) is = tt
+IsInBounds-IsRequest None (Table table) is =
+    let bad : Sample ≡ Table table = sym (ap (λ (o : Option Request). unwrap_or o Sample) is) in cc
 IsInBounds-IsRequest (Some found) Sample is = tt
 IsInBounds-IsRequest (Some found) (Check schema) is = tt
 IsInBounds-IsRequest (Some found) (Explain code) is = tt
@@ -122,6 +125,8 @@ IsInBounds-IsRequest (Some found) (Drill run cell dimension) is = is.0.2
 IsInBounds-IsRequest (Some found) (RollUp run cell dimension) is = is.0.2
 IsInBounds-IsRequest (Some found) (Live live) is = is.2
 IsInBounds-IsRequest (Some found) (Merge merge) is = is.2
+IsInBounds-IsRequest (Some found) (Schema words) is = tt
+IsInBounds-IsRequest (Some found) (Table table) is = is.2
 
 -- a reference to a text
 abbrev reference : Text → Bor Text
@@ -191,6 +196,10 @@ AsksToCheck-with_word_of Q (Some found) path request result is_found is done = g
         name-slice_index found.0 (codes "check") (codes "live") named is.0 (λ same. absurd (omega arith))
     go (Some (Merge merge)) is done =
         name-slice_index found.0 (codes "check") (codes "merge") named is.0 (λ same. absurd (omega arith))
+    go (Some (Schema words)) is done =
+        name-slice_index found.0 (codes "check") (codes "schema") named is.0 (λ same. absurd (omega arith))
+    go (Some (Table table)) is done =
+        name-slice_index found.0 (codes "check") (codes "table") named is.0 (λ same. absurd (omega arith))
 
 -- a request that `explain` makes asks for the code that is its word, or for all
 AsksToExplain-with_word_of : (Q : Error → Type 0) (found : Option (Text × List Row)) (code : Option Text)
@@ -232,6 +241,10 @@ AsksToExplain-with_word_of Q (Some found) code request result is_found is done =
         name-slice_index found.0 (codes "explain") (codes "live") named is.0 (λ same. absurd (omega arith))
     go (Some (Merge merge)) is done =
         name-slice_index found.0 (codes "explain") (codes "merge") named is.0 (λ same. absurd (omega arith))
+    go (Some (Schema words)) is done =
+        name-slice_index found.0 (codes "explain") (codes "schema") named is.0 (λ same. absurd (omega arith))
+    go (Some (Table table)) is done =
+        name-slice_index found.0 (codes "explain") (codes "table") named is.0 (λ same. absurd (omega arith))
 
 -- so `check` with a word asks to check that file
 pub request-check : (Q : Error → Type 0) (name path : Text) (words : List Text) (m : ArgMatches)

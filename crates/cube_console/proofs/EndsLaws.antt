@@ -94,7 +94,7 @@ usual-start_record : (b : ℕ) → StaysUsual (start_record default_config b)
 usual-start_record b =
     usual-if (is_line_end b) (st.StartRecord, act.Skip) (start_field default_config b) tt (usual-start_field b)
 
-usual-step : (s : State) (b : ℕ) → IsUsual s → StaysUsual (step default_config s b)
+pub usual-step : (s : State) (b : ℕ) → IsUsual s → StaysUsual (step default_config s b)
 usual-step st.StartRecord b usual = usual-start_record b
 usual-step st.AfterCr b usual =
     usual-if (b == 10) (st.StartRecord, act.Skip) (start_record default_config b) tt (usual-start_record b)

@@ -1,3 +1,9 @@
 mod CommandLineLaws
 mod RequestLaws
 mod EndsLaws
+mod AppendLaws
+mod RecordsLaws
+mod JsonLaws
+mod JsonTextLaws
+mod MakesLaws
+mod WrittenLaws

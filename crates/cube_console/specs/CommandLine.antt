@@ -15,9 +15,12 @@ use Rattle.cube_console.specs.declared.commands.Word.{Word}
 use Rattle.cube_console.specs.declared.request.LiveWords.{LiveWords}
 use Rattle.cube_console.specs.declared.request.MergeWords.{MergeWords}
 use Rattle.cube_console.specs.declared.request.RunWords.{RunWords}
+use Rattle.cube_console.specs.declared.request.SchemaWords.{SchemaWords}
+use Rattle.cube_console.specs.declared.request.TableWords.{TableWords}
+use Rattle.cube_console.specs.declared.request.ViewWords.{ViewWords}
 use Rattle.cube_console.specs.declared.request.Request.{Request}
 use Rattle.cube_console.specs.declared.request.Request.TheVariants.{Sample, Check, Explain, Print, Refusals, Slice, Drill}
-use Rattle.cube_console.specs.declared.request.Request.TheVariants.{RollUp, Live, Merge}
+use Rattle.cube_console.specs.declared.request.Request.TheVariants.{RollUp, Live, Merge, Schema, Table}
 
 -- the program's own settings: `help` is no command, and `--version` is answered
 abbrev pub named_line : App
@@ -53,6 +56,13 @@ feed_words = some_words (codes "FEED")
 abbrev pub merged_words : Rule
 merged_words = record (some_words (codes "CUBE")) { required = true }
 
+-- the word that names one file of one's own, and the words that name some, which have to be there
+abbrev pub file_word : Rule
+file_word = needed_word (codes "FILE")
+
+abbrev pub file_words : Rule
+file_words = record (some_words (codes "FILE")) { required = true }
+
 -- the word that names a code; it may be left out
 abbrev pub code_word : Rule
 code_word = new_rule (codes "CODE")
@@ -64,6 +74,14 @@ number_option name most default = record (new_rule name) {
   value_names = 1;
   parser = Some (value_parser.Unsigned 1 most);
   defaults = default;
+}
+
+-- an option that has one number between two bounds, if any
+abbrev pub between_option : Text → ℕ → ℕ → Rule
+between_option name least most = record (new_rule name) {
+  long = Some name;
+  value_names = 1;
+  parser = Some (value_parser.Unsigned least most);
 }
 
 -- `--ring`, the capacity of each link
@@ -98,6 +116,13 @@ text_option name = record (new_rule name) { long = Some name; value_names = 1 }
 abbrev pub shard_option : Rule
 shard_option = text_option (codes "shard")
 
+-- `--by` and `--of`, the columns that are dimensions and those that are measures: any text, which is looked at later
+abbrev pub by_option : Rule
+by_option = text_option (codes "by")
+
+abbrev pub of_option : Rule
+of_option = text_option (codes "of")
+
 -- `--quiet`, which shows no progress
 abbrev pub quiet_option : Rule
 quiet_option = flag (codes "quiet")
@@ -114,6 +139,22 @@ wary_option = flag (codes "wary")
 abbrev pub commit_every_option : Rule
 commit_every_option = number_option (codes "commit-every") 1000000 (codes "10000" ∷ [])
 
+-- `--json`, which asks for lines of JSON
+abbrev pub json_option : Rule
+json_option = flag (codes "json")
+
+-- `--aligned`, which asks for aligned columns
+abbrev pub aligned_option : Rule
+aligned_option = flag (codes "aligned")
+
+-- `--width`, how many columns an aligned line takes at most
+abbrev pub width_option : Rule
+width_option = between_option (codes "width") 20 10000
+
+-- a command with the options for the form in which a cube is written behind its words
+abbrev pub with_view : App → App
+with_view line = with_rule (with_rule (with_rule line json_option) aligned_option) width_option
+
 -- a command with the two options of a store behind its words
 abbrev pub with_store : App → App
 with_store line = with_rule (with_rule line store_option) wary_option
@@ -129,21 +170,23 @@ abbrev pub check_line : App
 check_line = with_rule (new_app (codes "check")) schema_word
 
 abbrev pub print_line : App
-print_line = with_rule (with_feeds (with_rule (new_app (codes "print")) schema_word)) partial_option
+print_line = with_view (with_rule (with_feeds (with_rule (new_app (codes "print")) schema_word)) partial_option)
 
 abbrev pub refusals_line : App
 refusals_line = with_feeds (with_rule (new_app (codes "refusals")) schema_word)
 
 abbrev pub slice_line : App
-slice_line = with_feeds (with_rule (with_rule (new_app (codes "slice")) schema_word) cell_word)
+slice_line = with_view (with_feeds (with_rule (with_rule (new_app (codes "slice")) schema_word) cell_word))
 
 abbrev pub drill_line : App
 drill_line =
-    with_feeds (with_rule (with_rule (with_rule (new_app (codes "drill")) schema_word) cell_word) dimension_word)
+    with_view
+    (with_feeds (with_rule (with_rule (with_rule (new_app (codes "drill")) schema_word) cell_word) dimension_word))
 
 abbrev pub rollup_line : App
 rollup_line =
-    with_feeds (with_rule (with_rule (with_rule (new_app (codes "rollup")) schema_word) cell_word) dimension_word)
+    with_view
+    (with_feeds (with_rule (with_rule (with_rule (new_app (codes "rollup")) schema_word) cell_word) dimension_word))
 
 abbrev pub live_line : App
 live_line = with_rule
@@ -158,6 +201,19 @@ merge_line = with_rule
 
 abbrev pub explain_line : App
 explain_line = with_rule (new_app (codes "explain")) code_word
+
+abbrev pub table_line : App
+table_line = with_view (with_rule
+    (with_rule (with_rule (with_rule
+    (with_rule (with_rule (with_rule (with_rule (new_app (codes "table")) file_words) by_option) of_option) ring_option)
+    shard_option) builders_option) threads_option) quiet_option)
+
+abbrev pub schema_line : App
+schema_line = with_rule (with_rule (with_rule (new_app (codes "schema")) file_word) by_option) of_option
+
+-- a command line with the commands over files of people's own
+abbrev pub with_own_files : App → App
+with_own_files line = with_subcommand (with_subcommand line table_line.top) schema_line.top
 
 -- a command line with the commands that say whether a schema is right, what its cube is and what is refused
 abbrev pub with_prints : App → App
@@ -180,6 +236,7 @@ rule_in_form name form.Several = some_words name
 rule_in_form name form.Flag = flag name
 rule_in_form name (form.Text value) = text_option name
 rule_in_form name (form.Number most default) = number_option name most (map (λ text. text.now) default.now)
+rule_in_form name (form.Between least most) = between_option name least most
 
 -- the rule of a word or an option
 abbrev pub rule_of_word : Word → Rule
@@ -206,7 +263,7 @@ with_lines app (line ∷ lines) = with_lines (with_subcommand app (line_of line)
 
 -- no words, or one of the commands
 abbrev pub command_line : App
-command_line = with_sessions (with_views (with_prints named_line))
+command_line = with_sessions (with_views (with_prints (with_own_files named_line)))
 
 -- a word begins with a hyphen, as a flag does
 abbrev pub begins_as_flag : Text → Bool
@@ -244,6 +301,12 @@ is_given (Some text) = bytes_eq text (codes "true")
 abbrev pub words_of : Text → List Row → List Text
 words_of name rows = unwrap_or (all_of name rows) []
 
+-- the form in which a cube is written is as clap found it
+pub record AreViewWords (rows : List Row) (view : ViewWords) : Type 0 where
+  pub is_json : view.json ≡ is_given (one_of (codes "json") rows)
+  pub is_aligned : view.aligned ≡ is_given (one_of (codes "aligned") rows)
+  pub width : IsNumberOf (one_of (codes "width") rows) view.width
+
 -- the files and the options of a run are those that clap found, each under its name,
 -- and the feeds, if any, in their order
 pub record AreRunWords (rows : List Row) (run : RunWords) : Type 0 where
@@ -256,6 +319,15 @@ pub record AreRunWords (rows : List Row) (run : RunWords) : Type 0 where
   pub is_quiet : run.quiet ≡ is_given (one_of (codes "quiet") rows)
   pub store : option_map (λ text. text.now) run.store ≡ first_of (codes "store") rows
   pub is_wary : run.wary ≡ is_given (one_of (codes "wary") rows)
+  pub view : AreViewWords rows run.view
+
+-- a number is between two bounds
+abbrev pub IsBetween : ℕ → ℕ → ℕ → Type 0
+IsBetween least most number = (least ≤ number) × (number ≤ most)
+
+-- the columns of an aligned line, where they are bounded, are bounded by 20 to 10000
+abbrev pub ViewHasRoom : ViewWords → Type 0
+ViewHasRoom view = IfSome view.width (IsBetween 20 10000)
 
 -- a run has at least one feed, but that over a store it may have none, and its options,
 -- where they are given, are in their bounds
@@ -266,6 +338,7 @@ pub record RunHasRoom (run : RunWords) : Type 0 where
   pub least_builders : 1 ≤ run.builders
   pub most_builders : run.builders ≤ 8
   pub threads : IfSome run.threads (IsUpTo 16)
+  pub view : ViewHasRoom run.view
 
 -- the files and the options that `live` has and each command with feeds too are those that clap found,
 -- each under its name, and the feeds, if any, in their order
@@ -300,6 +373,34 @@ pub record AreMergeWords (rows : List Row) (merge : MergeWords) : Type 0 where
   pub is_checked : merge.check ≡ is_given (one_of (codes "check") rows)
   pub is_quiet : merge.quiet ≡ is_given (one_of (codes "quiet") rows)
 
+-- the file and the options of `schema` are those that clap found, each under its name
+pub record AreSchemaWords (rows : List Row) (words : SchemaWords) : Type 0 where
+  pub file : first_of (codes "FILE") rows ≡ Some words.file.now
+  pub by : option_map (λ text. text.now) words.by ≡ first_of (codes "by") rows
+  pub of : option_map (λ text. text.now) words.of ≡ first_of (codes "of") rows
+
+-- the files and the options of `table` are those that clap found, each under its name, and the files in their order
+pub record AreTableWords (rows : List Row) (table : TableWords) : Type 0 where
+  pub files : words_of (codes "FILE") rows ≡ map (λ path. path.now) table.files.items
+  pub by : option_map (λ text. text.now) table.by ≡ first_of (codes "by") rows
+  pub of : option_map (λ text. text.now) table.of ≡ first_of (codes "of") rows
+  pub ring : IsNumberOf (one_of (codes "ring") rows) (Some table.ring)
+  pub builders : IsNumberOf (one_of (codes "builders") rows) (Some table.builders)
+  pub threads : IsNumberOf (one_of (codes "threads") rows) table.threads
+  pub shard : option_map (λ text. text.now) table.shard ≡ first_of (codes "shard") rows
+  pub is_quiet : table.quiet ≡ is_given (one_of (codes "quiet") rows)
+  pub view : AreViewWords rows table.view
+
+-- `table` has at least one file, and its options, where they are given, are in their bounds
+pub record TableHasRoom (table : TableWords) : Type 0 where
+  pub files : 1 ≤ length table.files.items
+  pub least_ring : 1 ≤ table.ring
+  pub most_ring : table.ring ≤ 65536
+  pub least_builders : 1 ≤ table.builders
+  pub most_builders : table.builders ≤ 8
+  pub threads : IfSome table.threads (IsUpTo 16)
+  pub view : ViewHasRoom table.view
+
 -- a request to run has at least one feed, or a store, and one to merge at least one cube,
 -- and the options are in their bounds
 abbrev pub IsInBounds : Request → Type 0
@@ -310,6 +411,7 @@ IsInBounds (Drill run cell dimension) = RunHasRoom run
 IsInBounds (RollUp run cell dimension) = RunHasRoom run
 IsInBounds (Live live) = LiveHasRoom live
 IsInBounds (Merge merge) = 1 ≤ length merge.cubes.items
+IsInBounds (Table table) = TableHasRoom table
 IsInBounds _ = ⊤
 
 -- the run of a command with this name is had from what clap found
@@ -339,6 +441,8 @@ MakesRequest found (Live live) = (found.0 ≡ codes "live") × AreLiveWords foun
     × IsNumberOf (one_of (codes "commit-every") found.1) (Some live.commit_every)
 MakesRequest found (Merge merge) = (found.0 ≡ codes "merge") × AreMergeWords found.1 merge ×
     (1 ≤ length merge.cubes.items)
+MakesRequest found (Schema words) = (found.0 ≡ codes "schema") × AreSchemaWords found.1 words
+MakesRequest found (Table table) = (found.0 ≡ codes "table") × AreTableWords found.1 table × TableHasRoom table
 
 -- what clap found makes this request:
 -- the sample run where it found no command, and none only where the command makes none

@@ -1,3 +1,10 @@
 pub mod CommandLine
 pub mod Pace
 pub mod Ends
+pub mod Records
+pub mod RecordsRead
+pub mod Json
+pub mod JsonColumns
+pub mod JsonLines
+pub mod JsonLinesMade
+pub mod JsonWritten

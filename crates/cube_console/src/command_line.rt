@@ -2,10 +2,11 @@
 ghost use Rattle.std.specs.Prelude.{◌≡◌, IfOk, false};
 ghost use Rattle.clap.specs.Words.{app_of, new_app, rule_of, with_subcommand};
 ghost use Rattle.clap.specs.declared.builder.command.Command.TheViews.{out-Command as fields_of};
-ghost use Rattle.cube_console.specs.CommandLine.{command_line, line_of, named_line, rule_of_word, with_feeds_of, with_lines, with_prints, with_views, with_words};
+ghost use Rattle.cube_console.specs.CommandLine.{command_line, line_of, named_line, rule_of_word, with_feeds_of, with_lines, with_own_files, with_prints, with_views, with_words};
 
 use crate::commands::{
-    ABOUT, AFTER_HELP, Form, Line, PRINTS, RUN_WORDS, SESSIONS, USAGE, VERSION, VIEWS, Word,
+    ABOUT, AFTER_HELP, Form, Line, OWN_FILES, PRINTS, RUN_WORDS, SESSIONS, USAGE, VERSION, VIEWS,
+    Word,
 };
 use clap::builder::ValueParser;
 use clap::{Arg, ArgAction, Command};
@@ -20,16 +21,23 @@ pub(crate) fn program<'a>(alloc: Global) -> Result<Command<'a>, AllocError>
 
 // The command line with all commands before those for sessions.
 fn with_views<'a>(alloc: Global) -> Result<Command<'a>, AllocError>
-    ensures { IfOk result (λ command. app_of command ≡ with_views (with_prints named_line)) }
+    ensures { IfOk result (λ command. app_of command ≡ with_views (with_prints (with_own_files named_line))) }
 {
     with_commands(alloc, with_prints(alloc)?, &VIEWS)
 }
 
 // The command line with the commands that say whether a schema is right, what its cube is and what is refused.
 fn with_prints<'a>(alloc: Global) -> Result<Command<'a>, AllocError>
-    ensures { IfOk result (λ command. app_of command ≡ with_prints named_line) }
+    ensures { IfOk result (λ command. app_of command ≡ with_prints (with_own_files named_line)) }
 {
-    with_commands(alloc, named(alloc)?, &PRINTS)
+    with_commands(alloc, with_own_files(alloc)?, &PRINTS)
+}
+
+// The command line with the commands over files of people's own.
+fn with_own_files<'a>(alloc: Global) -> Result<Command<'a>, AllocError>
+    ensures { IfOk result (λ command. app_of command ≡ with_own_files named_line) }
+{
+    with_commands(alloc, named(alloc)?, &OWN_FILES)
 }
 
 // The program's own settings.
@@ -145,5 +153,9 @@ fn argument<'a>(alloc: Global, word: &Word<'a>) -> Arg<'a>
             .value_name("N")
             .value_parser(ValueParser::Unsigned(1, most))
             .default_values(default),
+        Form::Between(least, most) => argument
+            .long(word.name)
+            .value_name("N")
+            .value_parser(ValueParser::Unsigned(least, most)),
     }
 }

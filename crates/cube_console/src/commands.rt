@@ -7,10 +7,12 @@ dimensions. Each feed is a CSV file of inserts, updates and deletes; the cube is
 which are present in the end.";
 
 /// The program's version, by the rules of Semantic Versioning 2.0.0. It stands here alone.
-pub(crate) const VERSION: &str = "1.13.0";
+pub(crate) const VERSION: &str = "1.14.0";
 
 /// The forms of a command line.
 pub(crate) const USAGE: &str = "datacube < FEED
+       datacube table [OPTIONS] FILE...
+       datacube schema [OPTIONS] FILE
        datacube check SCHEMA
        datacube print [OPTIONS] SCHEMA FEED...
        datacube refusals [OPTIONS] SCHEMA FEED...
@@ -40,11 +42,49 @@ A failure prints one line on standard error, `datacube: CODE`, and `datacube exp
 says what the code means and how to mend it. Each command has its own `--help`.
 docs/FORMATS.md describes the formats of schemas, feeds, cells and cubes.";
 
+/// What the help of `table` says below its words.
+const AFTER_TABLE: &str = "\
+Each FILE is a CSV file with a header. The first one is looked at, its first 10,000 records or as
+many as end within 16 MiB, and a schema is made of it, that `datacube schema` writes; all are read
+by the names of its columns, each as a source of its own.
+
+COLUMNS is one CSV record of columns of the header. For --by a column may have `:` and a number
+behind it, for its first so many characters, and for --of `:` and its number of decimals:
+  datacube table sales.csv
+  datacube table --by city,when:7 --of price:2 sales.csv
+
+What isn't given is guessed: measures are columns of numbers that are added, dimensions are dates,
+by days and months, and columns of few different texts.
+
+Exit status: 0 done, 1 a run failed, 2 wrong words or `no columns`, 4 done, with lines refused.
+`datacube explain CODE` explains what a failure prints.";
+
+/// What the help of `schema` says below its words.
+const AFTER_SCHEMA: &str = "\
+The schema is made of the first 10,000 records of FILE, or of as many as end within 16 MiB, and of
+COLUMNS. It may be changed and kept, for `datacube print` and the other commands:
+  datacube schema sales.csv > sales.toml
+  datacube print sales.toml sales.csv
+
+COLUMNS is one CSV record of columns of the header. For --by a column may have `:` and a number
+behind it, for its first so many characters, and for --of `:` and its number of decimals:
+  datacube schema --by city,when:7 --of price:2 sales.csv
+
+What isn't given is guessed: measures are columns of numbers that are added, dimensions are dates,
+by days and months, and columns of few different texts. Each column that is left out stands in a
+comment, with why.
+
+Exit status: 0 done, 1 FILE couldn't be read, 2 wrong words or `no columns`.
+`datacube explain CODE` explains what a failure prints.";
+
 /// What the help of `print` says below its words.
 const AFTER_PRINT: &str = "\
 Each FEED is a source of its own, numbered from 1: the same id in two feeds names two facts.
 With --partial each mean has its sum and count beside it: `datacube merge` makes one cube of
 several that were printed so, each of other facts.
+
+With --json each line is one of JSON, and with --aligned the columns are aligned, for people;
+neither goes with the other or with --partial.
 
 With --store the changes that FILE keeps of `datacube live` come after the feeds, of which there
 may be none then; FILE stays as it is.
@@ -75,6 +115,9 @@ For the dimensions region and kind:
 
 Put CELL in single quotes, so that the shell leaves it as it is.
 
+With --json each line is one of JSON, and with --aligned the columns are aligned, for people;
+neither goes with the other.
+
 With --store the changes that FILE keeps of `datacube live` come after the feeds, of which there
 may be none then; FILE stays as it is.
 
@@ -94,6 +137,9 @@ For the dimensions region and kind:
   datacube drill shop.toml '\\A,\\A' region feed.csv     the grand total, region by region
 
 Put CELL in single quotes, so that the shell leaves it as it is.
+
+With --json each line is one of JSON, and with --aligned the columns are aligned, for people;
+neither goes with the other.
 
 With --store the changes that FILE keeps of `datacube live` come after the feeds, of which there
 may be none then; FILE stays as it is.
@@ -115,6 +161,9 @@ For the dimensions region and kind:
   datacube rollup shop.toml '=west,\\A' region feed.csv    the grand total
 
 Put CELL in single quotes, so that the shell leaves it as it is.
+
+With --json each line is one of JSON, and with --aligned the columns are aligned, for people;
+neither goes with the other.
 
 With --store the changes that FILE keeps of `datacube live` come after the feeds, of which there
 may be none then; FILE stays as it is.
@@ -187,6 +236,8 @@ pub(crate) enum Form<'a> {
     Text(&'a str),
     /// An option whose value is a number from 1 to this bound, and its default, if it has one.
     Number(u64, &'a [&'a str]),
+    /// An option whose value is a number from the first bound to the second.
+    Between(u64, u64),
 }
 
 /// A word or an option of a command.
@@ -223,6 +274,30 @@ const SCHEMA: Word = Word {
     form: Form::One,
     is_needed: true,
     help: "The schema file: TOML, at most 1048576 bytes",
+};
+
+// The columns that are dimensions.
+const BY: Word = Word {
+    name: "by",
+    form: Form::Text("COLUMNS"),
+    is_needed: false,
+    help: "The columns that are dimensions, 1 to 8, with `:` and a number the first so many characters; guessed where left out",
+};
+
+// The columns that are measures.
+const OF: Word = Word {
+    name: "of",
+    form: Form::Text("COLUMNS"),
+    is_needed: false,
+    help: "The columns that are measures, 1 to 4, with `:` and a number that many decimals; guessed where left out",
+};
+
+// The number of builders.
+const BUILDERS: Word = Word {
+    name: "builders",
+    form: Form::Number(8, &["1"]),
+    is_needed: false,
+    help: "How many threads build the cube, 1 to 8; what is printed is the same",
 };
 
 // The capacity of the rings.
@@ -265,6 +340,30 @@ const WARY: Word = Word {
     help: "Supposes nothing of what a torn write leaves of the store, and syncs twice a commit; does nothing without --store",
 };
 
+// For lines of JSON.
+const JSON: Word = Word {
+    name: "json",
+    form: Form::Flag,
+    is_needed: false,
+    help: "Writes a line of JSON for each line of the cube",
+};
+
+// For aligned columns.
+const ALIGNED: Word = Word {
+    name: "aligned",
+    form: Form::Flag,
+    is_needed: false,
+    help: "Writes columns that are aligned, to be read by people; means are rounded",
+};
+
+// The most columns that an aligned line takes.
+const WIDTH: Word = Word {
+    name: "width",
+    form: Form::Between(20, 10000),
+    is_needed: false,
+    help: "How many columns a line takes at most, 20 to 10000; where left out as many as COLUMNS says, on a terminal; does nothing without --aligned",
+};
+
 /// The feeds and the options of a run.
 pub(crate) const RUN_WORDS: [Word; 8] = [
     Word {
@@ -275,12 +374,7 @@ pub(crate) const RUN_WORDS: [Word; 8] = [
     },
     RING,
     SHARD,
-    Word {
-        name: "builders",
-        form: Form::Number(8, &["1"]),
-        is_needed: false,
-        help: "How many threads build the cube, 1 to 8; what is printed is the same",
-    },
+    BUILDERS,
     THREADS,
     QUIET,
     Word {
@@ -290,6 +384,49 @@ pub(crate) const RUN_WORDS: [Word; 8] = [
         help: "Takes the changes that this file keeps of `datacube live` after the feeds, and changes none",
     },
     WARY,
+];
+
+/// The commands over files of people's own, whose schema is made.
+pub(crate) const OWN_FILES: [Line; 2] = [
+    Line {
+        name: "table",
+        about: "Prints the whole cube of CSV files without a schema, by the names of their columns",
+        after: Some(AFTER_TABLE),
+        words: &[
+            Word {
+                name: "FILE",
+                form: Form::Several,
+                is_needed: true,
+                help: "The files: CSV with a header, 1 to 64",
+            },
+            BY,
+            OF,
+            RING,
+            SHARD,
+            BUILDERS,
+            THREADS,
+            QUIET,
+        ],
+        is_run: false,
+        options: &[JSON, ALIGNED, WIDTH],
+    },
+    Line {
+        name: "schema",
+        about: "Writes a schema that reads a CSV file by the names of its columns",
+        after: Some(AFTER_SCHEMA),
+        words: &[
+            Word {
+                name: "FILE",
+                form: Form::One,
+                is_needed: true,
+                help: "The file: CSV with a header",
+            },
+            BY,
+            OF,
+        ],
+        is_run: false,
+        options: &[],
+    },
 ];
 
 /// The commands that say whether a schema is right, what its cube is and what is refused.
@@ -308,12 +445,17 @@ pub(crate) const PRINTS: [Line; 3] = [
         after: Some(AFTER_PRINT),
         words: &[SCHEMA],
         is_run: true,
-        options: &[Word {
-            name: "partial",
-            form: Form::Flag,
-            is_needed: false,
-            help: "With each mean its sum and count too, so that cubes can be merged",
-        }],
+        options: &[
+            Word {
+                name: "partial",
+                form: Form::Flag,
+                is_needed: false,
+                help: "With each mean its sum and count too, so that cubes can be merged",
+            },
+            JSON,
+            ALIGNED,
+            WIDTH,
+        ],
     },
     Line {
         name: "refusals",
@@ -341,7 +483,7 @@ pub(crate) const VIEWS: [Line; 3] = [
             },
         ],
         is_run: true,
-        options: &[],
+        options: &[JSON, ALIGNED, WIDTH],
     },
     Line {
         name: "drill",
@@ -363,7 +505,7 @@ pub(crate) const VIEWS: [Line; 3] = [
             },
         ],
         is_run: true,
-        options: &[],
+        options: &[JSON, ALIGNED, WIDTH],
     },
     Line {
         name: "rollup",
@@ -385,7 +527,7 @@ pub(crate) const VIEWS: [Line; 3] = [
             },
         ],
         is_run: true,
-        options: &[],
+        options: &[JSON, ALIGNED, WIDTH],
     },
 ];
 

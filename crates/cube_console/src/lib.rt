@@ -23,6 +23,7 @@ mod post;
 mod progress;
 mod request;
 mod screen;
+mod views;
 mod words;
 
 pub use ahead::{Ahead, Pauses, read_ahead};
@@ -31,5 +32,6 @@ pub use input::{CubeReader, FeedReader};
 pub use output::Output;
 pub use phase::Phase;
 pub use progress::Progress;
-pub use request::{LiveWords, MergeWords, Request, RunWords};
-pub use words::{clashing_words, read_words, unlawful_shard, unreadable_words};
+pub use request::{LiveWords, MergeWords, Request, RunWords, SchemaWords, TableWords, ViewWords};
+pub use views::View;
+pub use words::{clashing_views, clashing_words, read_words, unlawful_shard, unreadable_words};

@@ -84,7 +84,7 @@ fn after_plain(byte: u8) -> (Place, bool)
 }
 
 // Whether a byte is one of a line's end.
-fn is_line_end(byte: u8) -> bool
+pub(crate) fn is_line_end(byte: u8) -> bool
     ensures { result ≡ is_line_end byte }
 {
     byte == b'\r' || byte == b'\n'

@@ -1,13 +1,31 @@
 //! What a command line asks for.
 ghost use Rattle.std.specs.Prelude.{◌≡◌, ◌≤◌, ℕ, Option, Some, None, IsOk, IfOk, IfSome, codes, length, map, option_map};
 ghost use Rattle.clap.specs.Words.{all_of, first_of, found_of, one_of, rows_of, subcommand_rows_of};
-ghost use Rattle.cube_console.specs.CommandLine.{AreLiveWords, AreMergeWords, AreRunWords, AreSharedWords, RunHasRoom, IsNumberOf, IsRequest, IsUpTo, LiveHasRoom, is_given, words_of};
+ghost use Rattle.cube_console.specs.CommandLine.{AreLiveWords, AreMergeWords, AreRunWords, AreSchemaWords, AreSharedWords, AreTableWords, AreViewWords, RunHasRoom, TableHasRoom, ViewHasRoom, IsNumberOf, IsRequest, IsUpTo, LiveHasRoom, is_given, words_of};
 
 use clap::ArgMatches;
 use std::alloc::{AllocError, Global};
 
 /// How many changes wait for a commit at most, however many the words say.
 const MOST_WAITING: usize = 1_000_000;
+
+/// The least number of columns that the words may bound an aligned line by.
+const LEAST_WIDTH: usize = 20;
+
+/// The most that they may.
+const MOST_WIDTH: usize = 10_000;
+
+/// The form in which a cube is written, as the words say it.
+#[derive(Clone, Copy, PartialEq, Eq, Debug)]
+pub struct ViewWords {
+    /// Whether each line is one of JSON.
+    pub json: bool,
+    /// Whether the columns are aligned.
+    pub aligned: bool,
+    /// How many columns an aligned line takes at most, 20 to 10000; none where the words leave it out. Without effect on
+    /// other forms.
+    pub width: Option<usize>,
+}
 
 /// The files and the options of a command with feeds.
 #[derive(Drop)]
@@ -30,6 +48,8 @@ pub struct RunWords<'a> {
     pub store: Option<&'a str>,
     /// Whether nothing is supposed of what a torn write left of the store; without effect where there is none.
     pub wary: bool,
+    /// The form in which the cube is written; of `refusals`, which has none of these options, as it is printed.
+    pub view: ViewWords,
 }
 
 /// The files and the options of `live`.
@@ -68,6 +88,40 @@ pub struct MergeWords<'a> {
     pub check: bool,
     /// Whether no progress is shown.
     pub quiet: bool,
+}
+
+/// The file and the options of `schema`.
+#[derive(Drop)]
+pub struct SchemaWords<'a> {
+    /// The path of the file.
+    pub file: &'a str,
+    /// The columns that are dimensions, one CSV record; none where the words leave them out.
+    pub by: Option<&'a str>,
+    /// The columns that are measures, one CSV record; none where the words leave them out.
+    pub of: Option<&'a str>,
+}
+
+/// The files and the options of `table`.
+#[derive(Drop)]
+pub struct TableWords<'a> {
+    /// The paths of the files, at least one, of which the first is source 1.
+    pub files: Vec<&'a str>,
+    /// The columns that are dimensions, one CSV record; none where the words leave them out.
+    pub by: Option<&'a str>,
+    /// The columns that are measures, one CSV record; none where the words leave them out.
+    pub of: Option<&'a str>,
+    /// The capacity of each link, 1 to 65536.
+    pub ring: usize,
+    /// The number of builders, 1 to 8.
+    pub builders: u32,
+    /// The number of threads, 1 to 16; none where the words leave it out.
+    pub threads: Option<usize>,
+    /// The share of the files that is read, as the words spell it; none where they leave it out.
+    pub shard: Option<&'a str>,
+    /// Whether no progress is shown.
+    pub quiet: bool,
+    /// The form in which the cube is written.
+    pub view: ViewWords,
 }
 
 /// What the words of a command line ask for.
@@ -117,6 +171,14 @@ pub enum Request<'a> {
     Merge {
         merge: MergeWords<'a>,
     },
+    /// `schema FILE`: the text of a schema that reads the file by the names of its columns.
+    Schema {
+        words: SchemaWords<'a>,
+    },
+    /// `table FILE...`: the cube of the files, under the schema of the first one.
+    Table {
+        table: TableWords<'a>,
+    },
 }
 
 /// The request that parsed words make; none where a command lacks a word. The only error is that memory ran out.
@@ -156,6 +218,12 @@ fn command_of<'a>(
     }
     if name == "merge" {
         return merge_request(alloc, words);
+    }
+    if name == "schema" {
+        return Ok(schema_request(words));
+    }
+    if name == "table" {
+        return table_request(alloc, words);
     }
     match run_words(alloc, words)? {
         Some(run) => Ok(run_request(name, run, words)),
@@ -205,6 +273,33 @@ fn merge_request<'a>(
     }
 }
 
+// The request that `schema` makes.
+fn schema_request<'a>(words: &ArgMatches<'a>) -> Option<Request<'a>>
+    ensures { IsRequest (Some (codes "schema", rows_of (found_of words.now))) result }
+{
+    let file = word_of(words, "FILE")?;
+    Some(Request::Schema {
+        words: SchemaWords {
+            file,
+            by: word_of(words, "by"),
+            of: word_of(words, "of"),
+        },
+    })
+}
+
+// The request that `table` makes.
+fn table_request<'a>(
+    alloc: Global,
+    words: &ArgMatches<'a>,
+) -> Result<Option<Request<'a>>, AllocError>
+    ensures { IfOk result (IsRequest (Some (codes "table", rows_of (found_of words.now)))) }
+{
+    match table_words(alloc, words)? {
+        Some(table) => Ok(Some(Request::Table { table })),
+        None => Ok(None),
+    }
+}
+
 // The request that a command with feeds makes.
 fn run_request<'a>(name: &str, run: RunWords<'a>, words: &ArgMatches<'a>) -> Option<Request<'a>>
     requires words { AreRunWords (rows_of (found_of words.now)) run }
@@ -213,6 +308,8 @@ fn run_request<'a>(name: &str, run: RunWords<'a>, words: &ArgMatches<'a>) -> Opt
     requires explain { ¬ (name.now ≡ codes "explain") }
     requires live { ¬ (name.now ≡ codes "live") }
     requires merge { ¬ (name.now ≡ codes "merge") }
+    requires schema { ¬ (name.now ≡ codes "schema") }
+    requires table { ¬ (name.now ≡ codes "table") }
     ensures { IsRequest (Some (name.now, rows_of (found_of words.now))) result }
 {
     match name {
@@ -255,9 +352,10 @@ fn run_words<'a>(alloc: Global, words: &ArgMatches<'a>) -> Result<Option<RunWord
     ensures none { (run : RunWords) → AreRunWords (rows_of (found_of words.now)) run → RunHasRoom run →
         IfOk result (λ found. ¬ (found ≡ None)) }
 {
-    let (Some(live), Ok(Some(builders))) = (
+    let (Some(live), Ok(Some(builders)), Some(view)) = (
         live_words(alloc, words)?,
         number_of(words, "builders", 8),
+        view_words(words),
     ) else {
         return Ok(None);
     };
@@ -274,7 +372,30 @@ fn run_words<'a>(alloc: Global, words: &ArgMatches<'a>) -> Result<Option<RunWord
         quiet: live.quiet,
         store: live.store,
         wary: live.wary,
+        view,
     }))
+}
+
+// The form in which a cube is written; none only where the number of columns is out of bounds.
+fn view_words(words: &ArgMatches) -> Option<ViewWords>
+    ensures words { IfSome result (AreViewWords (rows_of (found_of words.now))) }
+    ensures room { IfSome result ViewHasRoom }
+    ensures none { (view : ViewWords) → AreViewWords (rows_of (found_of words.now)) view → ViewHasRoom view →
+        ¬ (result ≡ None) }
+{
+    let Ok(width) = number_of(words, "width", MOST_WIDTH) else {
+        return None;
+    };
+    if let Some(columns) = width
+        && columns < LEAST_WIDTH
+    {
+        return None;
+    }
+    Some(ViewWords {
+        json: has_flag(words, "json"),
+        aligned: has_flag(words, "aligned"),
+        width,
+    })
 }
 
 // The files and the options of `live`; none only where the schema is missing or a number out of bounds.
@@ -355,6 +476,42 @@ fn merge_words<'a>(
         partial: has_flag(words, "partial"),
         check: has_flag(words, "check"),
         quiet: has_flag(words, "quiet"),
+    }))
+}
+
+// The files and the options of `table`; none only where a file is missing or a number out of bounds.
+fn table_words<'a>(
+    alloc: Global,
+    words: &ArgMatches<'a>,
+) -> Result<Option<TableWords<'a>>, AllocError>
+    ensures words { IfOk result
+        (λ table. IfSome table (AreTableWords (rows_of (found_of words.now)))) }
+    ensures room { IfOk result (λ table. IfSome table TableHasRoom) }
+    ensures none { (table : TableWords) → AreTableWords (rows_of (found_of words.now)) table → TableHasRoom table →
+        IfOk result (λ found. ¬ (found ≡ None)) }
+{
+    let (Ok(Some(ring)), Ok(Some(builders)), Ok(threads), Some(view)) = (
+        number_of(words, "ring", 65536),
+        number_of(words, "builders", 8),
+        number_of(words, "threads", 16),
+        view_words(words),
+    ) else {
+        return Ok(None);
+    };
+    let files = all_words(alloc, words, "FILE")?;
+    if files.is_empty() {
+        return Ok(None);
+    }
+    Ok(Some(TableWords {
+        files,
+        by: word_of(words, "by"),
+        of: word_of(words, "of"),
+        ring,
+        builders: builders as u32,
+        threads,
+        shard: word_of(words, "shard"),
+        quiet: has_flag(words, "quiet"),
+        view,
     }))
 }
 

@@ -99,6 +99,17 @@ pub fn clashing_words(alloc: Global) -> Error
     )
 }
 
+/// What there is to say of two forms of a cube, or of one and the partial form.
+pub fn clashing_views(alloc: Global) -> Error
+    ensures { (kind_of result ≡ kind.ArgumentConflict) ⊎ (kind_of result ≡ kind.OutOfMemory) }
+{
+    refusal(
+        alloc,
+        ErrorKind::ArgumentConflict,
+        "of the arguments '--json', '--aligned' and '--partial' at most one can be used",
+    )
+}
+
 /// What there is to say of words that are refused, or that there was no memory to say it.
 fn refusal(alloc: Global, why: ErrorKind, message: &str) -> Error
     ensures { (kind_of result ≡ why) ⊎ (kind_of result ≡ kind.OutOfMemory) }

@@ -3,6 +3,7 @@ pub mod ListLaws
 mod ValueLaws
 pub mod ArrivalLaws
 pub mod CommonDivisorLaws
+pub mod DecimalsDocumentLaws
 mod ReducedFractionLaws
 mod SchemaReadingLaws
 mod GroupingReadingLaws

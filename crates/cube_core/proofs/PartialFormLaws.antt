@@ -85,13 +85,15 @@ partial_form-IsSchema s is few = record {
   version_at_most = is.version_at_most;
   lawful_shard = is.lawful_shard;
   lawful_columns = is.lawful_columns;
+  few_digits = is.few_digits;
 }
 
 -- the same, of parts that were copied or made
 pub copied-IsSchema : (s : Layout) (dimensions measures texts : List (List ℕ)) (aggregates : List Agg) (sets : List ℕ)
-    (columns : Option FeedColumns) → IsSchema s
+    (columns : Option FeedColumns) (decimals : List (Option ℕ)) → IsSchema s
     → dimensions ≡ s.dimensions → measures ≡ s.measures → aggregates ≡ partial_aggregates s.aggregates
     → texts ≡ map (spelling_of measures) aggregates → sets ≡ s.grouping_sets → columns ≡ s.columns
+    → decimals ≡ s.decimals
     → length aggregates ≤ 24
     → IsSchema (record {
       dimensions = dimensions;
@@ -103,6 +105,7 @@ pub copied-IsSchema : (s : Layout) (dimensions measures texts : List (List ℕ))
       version = s.version;
       shard = s.shard;
       columns = columns;
+      decimals = decimals;
     })
-copied-IsSchema s dimensions measures texts aggregates sets columns is d m a t g c few =
-    rw (d, t, a, m, g, c) (partial_form-IsSchema s is (rw a at few))
+copied-IsSchema s dimensions measures texts aggregates sets columns decimals is d m a t g c e few =
+    rw (d, t, a, m, g, c, e) (partial_form-IsSchema s is (rw a at few))

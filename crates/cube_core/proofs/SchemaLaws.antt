@@ -17,10 +17,12 @@ use Rattle.toml.specs.Parse.{parse_document}
 use Rattle.cube_core.specs.declared.schema_fault.SchemaFault.{SchemaFault}
 use Rattle.cube_core.specs.declared.schema_fault.SchemaFault.TheVariants.{Memory, Toml, UnknownKey, Dimensions}
 use Rattle.cube_core.specs.declared.schema_fault.SchemaFault.TheVariants.{Measures, Name, Aggregates, MaxRecords}
-use Rattle.cube_core.specs.declared.schema_fault.SchemaFault.TheVariants.{Grouping, Version, Columns}
+use Rattle.cube_core.specs.declared.schema_fault.SchemaFault.TheVariants.{Grouping, Version, Columns, Decimals}
 use Rattle.cube_core.specs.Shard.{IsShard}
+use Rattle.cube_core.specs.DecimalsDocument.{decimals_of_value}
 use Rattle.cube_core.specs.FeedDocument.{columns_of_value}
 use Rattle.cube_core.specs.declared.feed_columns.FeedColumns.{FeedColumns}
+use Rattle.cube_core.proofs.DecimalsDocumentLaws.{decimals_of_value-few}
 use Rattle.cube_core.proofs.FeedDocumentLaws.{columns_of_value-some_measure, columns_of_value-lawful}
 use Rattle.cube_core.specs.declared.shard.Shard.{Shard}
 use Rattle.cube_core.specs.Layout.{Layout, IsSchema, spelling_of, is_aggregate_of, is_lawful_name, are_distinct}
@@ -184,12 +186,13 @@ least_measures_in-bound document least (Some feed) is none = tt
 -- parts that have none of the faults make a schema
 pub layout_of_parts-IsSchema : (dimensions measures texts : List (List ℕ)) (aggregates : List Agg) (least limit : ℕ)
     (grouping : Option Data) (sets : List ℕ) (version : ℕ) (shard : Shard) (feed : Option Data)
-    (columns : Option FeedColumns)
+    (columns : Option FeedColumns) (said : Option Data) (decimals : List (Option ℕ))
     → IsShard shard → is_some_up_to 8 dimensions ≡ true → is_number_of_measures least measures ≡ true
     → are_lawful_names (dimensions ++ measures) ≡ true → is_some_up_to 16 texts ≡ true
     → (aggregates ≡ filter_map (aggregate_spelled measures) texts) × (are_spellings measures texts ≡ true)
     → (1 ≤ limit) × (limit < 2 ^ 32) → Some sets ≡ sets_of_grouping dimensions grouping → (1 ≤ version) × (version ≤ 2)
     → IfNone feed (1 ≤ least) → Some columns ≡ columns_of_value dimensions measures feed
+    → Some decimals ≡ decimals_of_value measures said
     → IsSchema (record {
       dimensions = dimensions;
       measures = measures;
@@ -200,9 +203,10 @@ pub layout_of_parts-IsSchema : (dimensions measures texts : List (List ℕ)) (ag
       version = version;
       shard = shard;
       columns = columns;
+      decimals = decimals;
     })
-layout_of_parts-IsSchema dimensions measures texts aggregates least limit grouping sets version shard feed columns
-    lawful_shard d m names t spellings range sets_are versions some columns_are =
+layout_of_parts-IsSchema dimensions measures texts aggregates least limit grouping sets version shard feed columns said
+    decimals lawful_shard d m names t spellings range sets_are versions some columns_are decimals_are =
     let ds = is_some_up_to-length 8 dimensions d in
     let ms = is_number_of_measures-length least measures m in
     let ts = is_some_up_to-length 16 texts t in
@@ -230,6 +234,7 @@ layout_of_parts-IsSchema dimensions measures texts aggregates least limit groupi
       version_at_most = versions.1;
       lawful_shard = lawful_shard;
       lawful_columns = columns_of_value-lawful dimensions measures feed columns columns_are;
+      few_digits = decimals_of_value-few measures said decimals decimals_are;
     })
 
 -- what is answered to the parts of a document with known keys alone is answered to the document
@@ -247,15 +252,17 @@ document-answered document (Err MaxRecords) known answers = rw known answers
 document-answered document (Err Grouping) known answers = rw known answers
 document-answered document (Err Version) known answers = rw known answers
 document-answered document (Err Columns) known answers = rw known answers
+document-answered document (Err Decimals) known answers = rw known answers
 
 -- the same, of parts that were read one by one
 pub document-answered_by : (document : Members) (dimensions measures spellings : List (List ℕ)) (least : ℕ)
-    (limit : Option ℕ) (grouping : Option Data) (version : Option ℕ) (feed : Option Data)
+    (limit : Option ℕ) (grouping : Option Data) (version : Option ℕ) (feed decimals : Option Data)
     (answer : Result Layout SchemaFault)
     → has_known_keys document ≡ true → dimensions ≡ dimensions_in document → measures ≡ measures_in document
     → least ≡ least_measures_in document → spellings ≡ spellings_in document
     → limit ≡ max_records_in document → grouping ≡ get_member (codes "grouping") document
     → version ≡ version_in document → feed ≡ get_member (codes "feed") document
+    → decimals ≡ get_member (codes "decimals") document
     → AnswersParts (record {
       dimensions = dimensions;
       measures = measures;
@@ -265,10 +272,11 @@ pub document-answered_by : (document : Members) (dimensions measures spellings :
       grouping_sets = sets_of_grouping dimensions grouping;
       version = version;
       columns = columns_of_value dimensions measures feed;
+      decimals = decimals_of_value measures decimals;
     }) answer
     → AnswersDocument document answer
-document-answered_by document dimensions measures spellings least limit grouping version feed answer known d m n t l g v
-    f answers =
+document-answered_by document dimensions measures spellings least limit grouping version feed decimals answer known d m
+    n t l g v f e answers =
     document-answered document answer known (subst (λ (parts : SchemaParts). AnswersParts parts answer)
     (λ i. record {
       dimensions = d i;
@@ -279,6 +287,7 @@ document-answered_by document dimensions measures spellings least limit grouping
       grouping_sets = sets_of_grouping (d i) (g i);
       version = v i;
       columns = columns_of_value (d i) (m i) (f i);
+      decimals = decimals_of_value (m i) (e i);
     }) answers)
 
 -- what is answered to names, where nothing else is said, is answered to their parts
@@ -293,6 +302,7 @@ pub named_parts-answered : (dimensions measures spellings ds ms ts : List (List 
       grouping_sets = sets_of_grouping ds None;
       version = Some 1;
       columns = Some None;
+      decimals = Some [];
     }) answer
     → AnswersParts (named_parts dimensions measures spellings) answer
 named_parts-answered dimensions measures spellings ds ms ts answer d m t answers =
@@ -308,6 +318,7 @@ named_parts-answered dimensions measures spellings ds ms ts answer d m t answers
       grouping_sets = sets i;
       version = Some 1;
       columns = Some None;
+      decimals = Some [];
     }) answers
 
 -- a schema that is answered to parts is theirs
@@ -333,6 +344,7 @@ pub named_parts-layout : (dimensions measures spellings ds ms ts : List (List �
       grouping_sets = sets_of_grouping ds None;
       version = Some 1;
       columns = Some None;
+      decimals = Some [];
     }) answer
     → IfOk answer (λ layout. layout ≡ layout_of_parts (named_parts dimensions measures spellings))
 named_parts-layout dimensions measures spellings ds ms ts answer d m t answers =
@@ -363,3 +375,4 @@ bytes-answered bytes document (Err MaxRecords) utf8 parsed answers = (utf8, docu
 bytes-answered bytes document (Err Grouping) utf8 parsed answers = (utf8, document, parsed, answers)
 bytes-answered bytes document (Err Version) utf8 parsed answers = (utf8, document, parsed, answers)
 bytes-answered bytes document (Err Columns) utf8 parsed answers = (utf8, document, parsed, answers)
+bytes-answered bytes document (Err Decimals) utf8 parsed answers = (utf8, document, parsed, answers)

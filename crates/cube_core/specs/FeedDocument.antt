@@ -3,8 +3,8 @@ use Rattle.std.specs.Prelude.{◌==◌, ◌||◌, ◌&&◌, ℕ, pos, Bool, true
 use Rattle.std.specs.Prelude.{◌++◌, Option, Some, None, option_and_then, option_map, unwrap_or, if◌then◌else◌}
 use Rattle.std.specs.Option.{option_map_or}
 use Rattle.std.specs.List.{list_all, filter_map}
-use Rattle.toml.specs.Data.{Data, string, integer, table, as_array, as_str, as_table, Items, no_items, item, Members, no_members}
-use Rattle.toml.specs.Data.{member, get_member}
+use Rattle.toml.specs.Data.{Data, string, integer, table, as_array, as_str, as_table, Items, no_items, item, Members}
+use Rattle.toml.specs.Data.{no_members, member, get_member}
 use Rattle.cube_core.specs.Layout.{is_listed, is_delimiter}
 use Rattle.cube_core.specs.Takes.{null_text}
 use Rattle.cube_core.specs.declared.feed_columns.Column.{Column}
@@ -127,7 +127,8 @@ are_columns dimensions measures columns =
     && list_all (λ name. is_some (dimension_column columns name)) dimensions
     && list_all (λ name. is_some (measure_column columns name)) measures
 
--- whether a table `feed` is right: its plain keys are, null is spelled by texts, and the columns are those of the schema
+-- whether a table `feed` is right: its plain keys are, null is spelled by texts, and the columns are those of the
+-- schema
 abbrev pub is_feed_table : List (List ℕ) → List (List ℕ) → Members → Bool
 is_feed_table dimensions measures feed =
     are_plain_keys feed && is_some (nulls_in feed) && is_some (columns_value feed)

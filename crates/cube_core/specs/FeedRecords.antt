@@ -52,7 +52,8 @@ places_by columns header = record {
   op = option_map (place_in header) columns.op;
   id = option_map (place_in header) columns.id;
   dimensions =
-      map (λ (column : Column). record { place = place_in header column.name; first = column.first }) columns.dimensions;
+      map (λ (column : Column). record { place = place_in header column.name; first = column.first })
+      columns.dimensions;
   measures = map (place_in header) columns.measures;
 }
 
@@ -83,7 +84,8 @@ pub record RestOfFeed (End : Type 0) : Type 0 where
 abbrev pub item_then : {End : Type 0} → Item → RestOfFeed End → RestOfFeed End
 item_then item rest = record { items = item ∷ rest.items; end = rest.end }
 
--- whether a plain record is in the schema's shard: its id decides, whatever its faults, the empty text where it has none
+-- whether a plain record is in the schema's shard: its id decides, whatever its faults, the empty text where it has
+-- none
 abbrev pub is_read : Layout → List (List ℕ) → Bool
 is_read s fields = is_in_shard s.shard (field_at fields 1)
 
@@ -97,7 +99,8 @@ items_after s columns number [] = record { items = []; end = Good }
 items_after s columns number (fields ∷ records) = let plain = plain_of s columns (number + 1) fields in
     if nat_lt number s.max_records then (
     if is_read s plain
-    then item_then (record { number = number + 1; what = change_of s plain }) (items_after s columns (number + 1) records)
+    then item_then (record { number = number + 1; what = change_of s plain })
+    (items_after s columns (number + 1) records)
     else items_after s columns (number + 1) records
     )
     else record { items = []; end = TooManyRecords }

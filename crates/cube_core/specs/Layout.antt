@@ -14,7 +14,8 @@ use Rattle.cube_core.specs.declared.aggregate.Agg.TheVariants.{CountAll, Count, 
 
 -- a schema: the names of the dimensions and of the measures, the aggregates, each with its spelling,
 -- how many data records a feed may have, the masks of the grouping sets that are kept, the version of its feeds,
--- the shard of them that is read, and their columns, where they are known by name
+-- the shard of them that is read, their columns, where they are known by name, and how many digits each measure may
+-- have behind a point; one that doesn't stand in that list, or without a number, takes no point
 pub record Layout : Type 0 where
   pub dimensions : List (List ℕ)
   pub measures : List (List ℕ)
@@ -25,6 +26,11 @@ pub record Layout : Type 0 where
   pub version : ℕ
   pub shard : Shard
   pub columns : Option FeedColumns
+  pub decimals : List (Option ℕ)
+
+-- how many digits a measure may have behind a point; none where it takes no point
+abbrev pub decimals_of : Layout → ℕ → Option ℕ
+decimals_of s m = get_or s.decimals m None
 
 -- whether a text stands in a list of texts
 abbrev pub is_listed : List ℕ → List (List ℕ) → Bool
@@ -83,7 +89,8 @@ pub record AreColumnsOf (dimensions measures : ℕ) (columns : FeedColumns) : Ty
   pub operations : is_some columns.id || not (is_some columns.op) ≡ true
 
 -- what is true of every schema: the numbers of its parts, lawful names that differ, aggregates of its measures
--- in their spelling, and grouping sets of its dimensions, in ascending order, a lawful shard, and lawful columns
+-- in their spelling, and grouping sets of its dimensions, in ascending order, a lawful shard, lawful columns,
+-- and at most 18 digits behind a point
 pub record IsSchema (s : Layout) : Type 0 where
   pub some_dimension : 1 ≤ length s.dimensions
   pub dimensions_at_most : length s.dimensions ≤ 8
@@ -104,6 +111,7 @@ pub record IsSchema (s : Layout) : Type 0 where
   pub version_at_most : s.version ≤ 2
   pub lawful_shard : IsShard s.shard
   pub lawful_columns : IfSome s.columns (AreColumnsOf (length s.dimensions) (length s.measures))
+  pub few_digits : All (λ digits. IfSome digits (λ k. k ≤ 18)) s.decimals
 
 -- whether a schema keeps the grouping set of a key
 abbrev pub keeps : Layout → Key → Bool
@@ -122,4 +130,5 @@ sample_layout = record {
   version = 1;
   shard = whole_feed;
   columns = None;
+  decimals = [];
 }

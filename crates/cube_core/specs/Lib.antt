@@ -23,6 +23,7 @@ pub mod Order
 pub mod Referred
 pub mod GroupingSet
 pub mod Cube
+pub mod DecimalsDocument
 pub mod Merged
 pub mod Query
 pub mod Text

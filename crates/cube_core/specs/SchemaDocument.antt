@@ -11,6 +11,7 @@ use Rattle.toml.specs.Data.{get_member}
 use Rattle.toml.specs.Parse.{parse_document}
 use Rattle.cube_core.specs.Shard.{whole_feed}
 use Rattle.cube_core.specs.Layout.{Layout, is_listed, are_distinct, is_lawful_name, spelling_of}
+use Rattle.cube_core.specs.DecimalsDocument.{decimals_of_value}
 use Rattle.cube_core.specs.FeedDocument.{texts_of, has_only, columns_of_value}
 use Rattle.cube_core.specs.GroupingSet.{all_sets, is_among}
 use Rattle.cube_core.specs.declared.aggregate.Agg.{Agg}
@@ -19,12 +20,12 @@ use Rattle.cube_core.specs.declared.feed_columns.FeedColumns.{FeedColumns}
 use Rattle.cube_core.specs.declared.schema_fault.SchemaFault.{SchemaFault}
 use Rattle.cube_core.specs.declared.schema_fault.SchemaFault.TheVariants.{Memory, Toml, UnknownKey, Dimensions}
 use Rattle.cube_core.specs.declared.schema_fault.SchemaFault.TheVariants.{Measures, Name, Aggregates, MaxRecords}
-use Rattle.cube_core.specs.declared.schema_fault.SchemaFault.TheVariants.{Grouping, Version, Columns}
+use Rattle.cube_core.specs.declared.schema_fault.SchemaFault.TheVariants.{Grouping, Version, Columns, Decimals}
 
 -- the keys that a document may have
 abbrev pub known_keys : List (List ℕ)
 known_keys = codes "dimensions" ∷ codes "measures" ∷ codes "aggregates" ∷ codes "max_records" ∷ codes "grouping"
-    ∷ codes "version" ∷ codes "feed" ∷ []
+    ∷ codes "version" ∷ codes "feed" ∷ codes "decimals" ∷ []
 
 -- whether a document has no other key
 abbrev pub has_known_keys : Members → Bool
@@ -172,6 +173,10 @@ abbrev pub columns_in : Members → Option (Option FeedColumns)
 columns_in document =
     columns_of_value (dimensions_in document) (measures_in document) (get_member (codes "feed") document)
 
+-- the digits behind a point that the document says, where what it says of them is right
+abbrev pub decimals_in : Members → Option (List (Option ℕ))
+decimals_in document = decimals_of_value (measures_in document) (get_member (codes "decimals") document)
+
 -- the least number of measures: none under columns by name, where the document has an array of texts for them
 abbrev pub least_measures_in : Members → ℕ
 least_measures_in document =
@@ -179,7 +184,8 @@ least_measures_in document =
 
 -- what a schema is made of, as a document or a caller gives it: the names, the least number of measures,
 -- the spellings of the aggregates, and how many data records a feed may have, the grouping sets that are kept,
--- the version of the feeds, and their columns by name, each of the last four where what is said of it is right
+-- the version of the feeds, their columns by name, and the digits of measures behind a point, each of the last five
+-- where what is said of it is right
 pub record SchemaParts : Type 0 where
   pub dimensions : List (List ℕ)
   pub measures : List (List ℕ)
@@ -189,6 +195,7 @@ pub record SchemaParts : Type 0 where
   pub grouping_sets : Option (List ℕ)
   pub version : Option ℕ
   pub columns : Option (Option FeedColumns)
+  pub decimals : Option (List (Option ℕ))
 
 -- the parts that a document gives
 abbrev pub parts_in : Members → SchemaParts
@@ -201,10 +208,11 @@ parts_in document = record {
   grouping_sets = grouping_sets_in document;
   version = version_in document;
   columns = columns_in document;
+  decimals = decimals_in document;
 }
 
 -- the parts of a schema of which no more is said than its names and the spellings of its aggregates:
--- the most data records, all grouping sets, version 1, and columns in the order of the schema
+-- the most data records, all grouping sets, version 1, columns in the order of the schema, and no digits behind a point
 abbrev pub named_parts : List (List ℕ) → List (List ℕ) → List (List ℕ) → SchemaParts
 named_parts dimensions measures spellings = record {
   dimensions = dimensions;
@@ -215,11 +223,13 @@ named_parts dimensions measures spellings = record {
   grouping_sets = Some (all_sets (length dimensions));
   version = Some 1;
   columns = Some None;
+  decimals = Some [];
 }
 
 -- the faults of parts, in the order in which they are looked for
 abbrev pub parts_faults : List SchemaFault
-parts_faults = Dimensions ∷ Measures ∷ Name ∷ Aggregates ∷ MaxRecords ∷ Grouping ∷ Version ∷ Columns ∷ []
+parts_faults = Dimensions ∷ Measures ∷ Name ∷ Aggregates ∷ MaxRecords ∷ Grouping ∷ Version ∷ Columns
+    ∷ Decimals ∷ []
 
 -- whether parts have this fault
 abbrev pub is_fault_of_parts : SchemaParts → SchemaFault → Bool
@@ -235,6 +245,7 @@ is_fault_of_parts parts MaxRecords = not (is_some parts.max_records)
 is_fault_of_parts parts Grouping = not (is_some parts.grouping_sets)
 is_fault_of_parts parts Version = not (is_some parts.version)
 is_fault_of_parts parts Columns = not (is_some parts.columns)
+is_fault_of_parts parts Decimals = not (is_some parts.decimals)
 
 -- the schema of parts that have no fault
 abbrev pub layout_of_parts : SchemaParts → Layout
@@ -248,6 +259,7 @@ layout_of_parts parts = record {
   version = unwrap_or parts.version 1;
   shard = whole_feed;
   columns = unwrap_or parts.columns None;
+  decimals = unwrap_or parts.decimals [];
 }
 
 -- what parts say: their first fault, or their schema

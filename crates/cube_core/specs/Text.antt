@@ -1,11 +1,15 @@
 -- The text of rows and of refusals: a header line, then a line for each, as CSV (RFC 4180 with line ends of one LF;
 -- GROUPING columns as in SQL:1999).
-use Rattle.std.specs.Prelude.{ℕ, ◌-◌, List, [], ◌∷◌, ◌++◌, length, get_or, map, codes, decimal}
+use Rattle.std.specs.Prelude.{ℕ, zero, suc, ℤ, pos, negsuc, ◌+◌, ◌-◌, ◌*◌, ◌/◌, ◌%◌, ◌^◌, ◌==◌, List, [], ◌∷◌, ◌++◌}
+use Rattle.std.specs.Prelude.{length, get_or, map, take, drop, replicate, codes, decimal, int_div, unsigned_abs, unwrap_or}
+use Rattle.std.specs.Prelude.{if◌then◌else◌}
 use Rattle.std.specs.Fmt.{signed_decimal}
 use Rattle.std.specs.List.{flat_map, range_with_len}
 use Rattle.csv.specs.Writing.{row_text, default_writer}
-use Rattle.cube_core.specs.Layout.{Layout}
+use Rattle.cube_core.specs.Layout.{Layout, decimals_of}
 use Rattle.cube_core.specs.Takes.{null_text}
+use Rattle.cube_core.specs.declared.aggregate.Agg.{Agg}
+use Rattle.cube_core.specs.declared.aggregate.Agg.TheVariants.{CountAll, Count, Sum, Min, Max, Avg}
 use Rattle.cube_core.specs.declared.aggregate.Answer.{Answer}
 use Rattle.cube_core.specs.declared.aggregate.Answer.TheVariants as answer
 use Rattle.cube_core.specs.declared.change.Refusal.{Refusal}
@@ -38,24 +42,79 @@ grouping_text (coord.Text name) = codes "0"
 grouping_text coord.Null = codes "0"
 grouping_text coord.All = codes "1"
 
--- what a row shows of an answer: the null text, a decimal number, or a fraction p/q
-abbrev pub answer_text : Answer → List ℕ
-answer_text answer.Null = null_text
-answer_text (answer.Count n) = decimal n
-answer_text (answer.Whole z) = signed_decimal z
-answer_text (answer.Ratio p q) = signed_decimal p ++ codes "/" ++ decimal q
+-- how many digits stand behind the point in a measure's numbers: as many as it may have
+abbrev pub digits_of_measure : Layout → ℕ → ℕ
+digits_of_measure s m = unwrap_or (decimals_of s m) 0
 
--- the fields of a row's line: its dimensions, their GROUPING columns, its answers
-abbrev pub row_fields : Row → List (List ℕ)
-row_fields row = map coord_text row.key.coords ++ map grouping_text row.key.coords ++ map answer_text row.answers
+-- how many digits stand behind the point of an aggregate's answers: those of its measure, and none for a count
+abbrev pub digits_of : Layout → Agg → ℕ
+digits_of s CountAll = 0
+digits_of s (Count m) = 0
+digits_of s (Sum m) = digits_of_measure s m
+digits_of s (Min m) = digits_of_measure s m
+digits_of s (Max m) = digits_of_measure s m
+digits_of s (Avg m) = digits_of_measure s m
 
--- the line of a row
-abbrev pub row_line : Row → List ℕ
-row_line row = line (row_fields row)
+-- digits with zeros before them, so that there are at least so many
+abbrev pub padded : ℕ → List ℕ → List ℕ
+padded least digits = replicate (least - length digits) 48 ++ digits
+
+-- digits with a point before the last k of them
+abbrev pub pointed : ℕ → List ℕ → List ℕ
+pointed k digits = take (length digits - k) digits ++ codes "." ++ drop (length digits - k) digits
+
+-- so many units of 10^-k as a number: one digit or more, and where k isn't 0 a point and exactly k digits
+abbrev pub units_text : ℕ → ℕ → List ℕ
+units_text k n = if k == 0 then decimal n else pointed k (padded (k + 1) (decimal n))
+
+-- the same with a sign below zero
+abbrev pub signed_units_text : ℕ → ℤ → List ℕ
+signed_units_text k (pos n) = units_text k n
+signed_units_text k (negsuc n) = 45 ∷ units_text k (suc n)
+
+-- the greatest power of a number, up to the k-th, that divides another
+abbrev pub common_power : ℕ → ℕ → ℕ → ℕ
+common_power base zero n = 1
+common_power base (suc k) n = if n % base == 0 then base * common_power base k (n / base) else 1
+
+-- the greatest common divisor of 10^k and a number
+abbrev pub common_with_ten : ℕ → ℕ → ℕ
+common_with_ten k n = common_power 2 k n * common_power 5 k n
+
+-- p/q units of 10^-k as a fraction, in lowest terms where p/q is
+abbrev pub fraction_text : ℕ → ℤ → ℕ → List ℕ
+fraction_text k p q = let common = common_with_ten k (unsigned_abs p) in
+    signed_decimal (int_div p (pos common)) ++ codes "/" ++ decimal (q * (10 ^ k / common))
+
+-- what a row shows of an answer in units of 10^-k: the null text, a number, or a fraction
+abbrev pub answer_text : ℕ → Answer → List ℕ
+answer_text k answer.Null = null_text
+answer_text k (answer.Count n) = decimal n
+answer_text k (answer.Whole z) = signed_units_text k z
+answer_text k (answer.Ratio p q) = fraction_text k p q
+
+-- how many digits stand behind the point of the answers to each of a schema's aggregates
+abbrev pub digits_of_answers : Layout → List ℕ
+digits_of_answers s = map (digits_of s) s.aggregates
+
+-- what a row shows of answers, each with so many digits behind its point
+abbrev pub answer_texts : List ℕ → List Answer → List (List ℕ)
+answer_texts [] answers = []
+answer_texts (k ∷ digits) [] = []
+answer_texts (k ∷ digits) (answer ∷ answers) = answer_text k answer ∷ answer_texts digits answers
+
+-- the fields of a row's line under a schema: its dimensions, their GROUPING columns, its answers
+abbrev pub row_fields : Layout → Row → List (List ℕ)
+row_fields s row =
+    map coord_text row.key.coords ++ map grouping_text row.key.coords ++ answer_texts (digits_of_answers s) row.answers
+
+-- the line of a row under a schema
+abbrev pub row_line : Layout → Row → List ℕ
+row_line s row = line (row_fields s row)
 
 -- the text of rows under a schema: the header line, and the line of each row
 abbrev pub text_of_rows : Layout → List Row → List ℕ
-text_of_rows s rows = line (header_fields s) ++ flat_map row_line rows
+text_of_rows s rows = line (header_fields s) ++ flat_map (row_line s) rows
 
 -- the line of a refusal of a source: the numbers of the source and of the record, and the code
 abbrev pub refusal_line : ℕ → Refusal → List ℕ

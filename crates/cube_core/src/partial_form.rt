@@ -37,6 +37,7 @@ impl Schema {
             version: self.version,
             shard: self.shard,
             columns: copy_columns(alloc, &self.columns)?,
+            decimals: Vec::from_slice(alloc, &self.decimals)?,
             hash_key: self.hash_key,
         })
     }

@@ -1,7 +1,8 @@
 //! The schema of a cube.
-ghost use Rattle.std.specs.Prelude.{◌≡◌, ◌≤◌, ◌<◌, ◌+◌, ◌^◌, IfOk, length, map, option_map};
+ghost use Rattle.std.specs.Prelude.{◌≡◌, ◌≤◌, ◌<◌, ◌+◌, ◌^◌, IfOk, IfSome, length, map, option_map};
 ghost use Rattle.std.specs.List.{list_all};
-ghost use Rattle.cube_core.specs.Layout.{IsSchema, sample_layout, keeps};
+ghost use Rattle.cube_core.specs.Layout.{IsSchema, decimals_of, sample_layout, keeps};
+ghost use Rattle.cube_core.specs.Text.{digits_of};
 ghost use Rattle.cube_core.specs.SchemaDocument.{AnswersParts, layout_of_parts, named_parts};
 ghost use Rattle.cube_core.specs.Shard.{IsShard};
 ghost use Rattle.cube_core.specs.Takes.{fits, fits_part, takes, is_id, is_dimension_value, puts_dimension_value};
@@ -37,6 +38,7 @@ pub struct Schema {
     pub(crate) version: u32,
     pub(crate) shard: Shard,
     pub(crate) columns: Option<FeedColumns>,
+    pub(crate) decimals: Vec<Option<u8>>,
     pub(crate) hash_key: HashKey,
 }
 
@@ -55,6 +57,7 @@ impl Model for Schema {
       version = s.version;
       shard = s.shard;
       columns = s.columns;
+      decimals = s.decimals.items;
     } };
 
     ghost invariant = { λ s. IsSchema (record {
@@ -67,6 +70,7 @@ impl Model for Schema {
       version = s.version;
       shard = s.shard;
       columns = s.columns;
+      decimals = s.decimals.items;
     }) };
 }
 
@@ -103,7 +107,7 @@ impl Schema {
             max_records: Some(u32::MAX),
             version: Some(1),
         };
-        schema_of_parts(alloc, parts, None, None)
+        schema_of_parts(alloc, parts, None, None, None)
     }
 
     /// The sample schema: the dimensions `region` and `kind`, the measure `amount`, and `count(*)` with the sum,
@@ -121,6 +125,7 @@ impl Schema {
             version: 1,
             shard: Shard::whole(),
             columns: None,
+            decimals: Vec::new(alloc),
             hash_key: HashKey::Known,
         })
     }
@@ -139,6 +144,7 @@ impl Schema {
             version: self.version,
             shard: self.shard,
             columns: copy_columns(alloc, &self.columns)?,
+            decimals: Vec::from_slice(alloc, &self.decimals)?,
             hash_key: self.hash_key,
         })
     }
@@ -206,6 +212,40 @@ impl Schema {
         ensures schema { IsSchema self.now }
     {
         self.columns.as_ref()
+    }
+
+    /// How many digits each measure may have behind a point, 0 to 18, in the order of the measures; one that stands not
+    /// in this list, or without a number, takes no point.
+    pub fn decimals(&self) -> &[Option<u8>]
+        ensures value { result.now ≡ self.now.decimals }
+        ensures schema { IsSchema self.now }
+    {
+        self.decimals.as_slice()
+    }
+
+    /// How many digits a measure may have behind a point, 0 to 18; none where it takes no point. Measures count from 0.
+    pub fn decimals_of(&self, measure: usize) -> Option<u8>
+        ensures value { result ≡ decimals_of self.now measure }
+        ensures few { IfSome result (λ digits. digits ≤ 18) }
+    {
+        match self.decimals().get(measure) {
+            Some(digits) => *digits,
+            None => None,
+        }
+    }
+
+    /// How many digits stand behind the point of an aggregate's answers, 0 to 18: as many as its measure may have. A count
+    /// has none.
+    pub fn digits_of(&self, aggregate: &Agg) -> u8
+        ensures value { result ≡ digits_of self.now aggregate.now }
+        ensures few { result ≤ 18 }
+    {
+        match aggregate {
+            Agg::CountAll | Agg::Count(_) => 0,
+            Agg::Sum(measure) | Agg::Min(measure) | Agg::Max(measure) | Agg::Avg(measure) => {
+                self.decimals_of(*measure).unwrap_or(0)
+            }
+        }
     }
 
     /// The shard of each feed that is read: of the data records, those whose id is in it. A schema that was read is of

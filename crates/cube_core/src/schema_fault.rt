@@ -40,6 +40,9 @@ pub enum SchemaFault {
     /// The table `feed` has a key that it doesn't know, or one of a wrong kind.
     #[error("S11")]
     Columns,
+    /// The table `decimals` has a key that is no measure, or a value that is no whole number from 0 to 18.
+    #[error("S12")]
+    Decimals,
 }
 
 impl From<AllocError> for SchemaFault {

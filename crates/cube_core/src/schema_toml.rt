@@ -4,11 +4,13 @@ ghost use Rattle.std.specs.Str.{bytes_eq};
 ghost use Rattle.std.specs.List.{list_all, filter_map};
 ghost use Rattle.toml.specs.Data.{get_member};
 ghost use Rattle.toml.specs.View.{view, table_view, items_view};
+ghost use Rattle.cube_core.specs.DecimalsDocument.{decimals_of_value};
 ghost use Rattle.cube_core.specs.FeedDocument.{texts_of, columns_of_value};
 ghost use Rattle.cube_core.specs.Layout.{is_listed, are_distinct, is_lawful_name};
 ghost use Rattle.cube_core.specs.SchemaDocument.{AnswersBytes, AnswersDocument, AnswersParts, known_keys, has_known_keys, texts_at, texts_in, measures_in, least_measures_in, is_some_up_to, is_number_of_measures, are_lawful_names, aggregate_spelled, are_spellings, record_limit, max_records_in, feed_version, version_in, sets_of_grouping};
 ghost use Rattle.cube_core.specs.declared.feed_columns.FeedColumns.{FeedColumns};
 
+mod decimals_table;
 mod feed_table;
 mod grouping;
 
@@ -18,6 +20,7 @@ use crate::schema::Schema;
 use crate::schema_fault::SchemaFault;
 use crate::shard::Shard;
 use crate::text::Text;
+use decimals_table::decimals_of_value;
 use feed_table::columns_of_value;
 use grouping::sets_of_grouping;
 use std::alloc::{AllocError, Global};
@@ -26,8 +29,8 @@ use toml::{Table, Value};
 impl Schema {
     /// The schema that a TOML document writes: the arrays of texts `dimensions`, `measures` and `aggregates`, the
     /// whole number `max_records`, which is 4294967295 where the document doesn't give it, the `grouping`, the
-    /// `version` of the feeds, which is 1 where the document doesn't give it, and the table `feed`, which says the
-    /// columns of feeds by their names.
+    /// `version` of the feeds, which is 1 where the document doesn't give it, the table `feed`, which says the columns of
+    /// feeds by their names, and the table `decimals`, which says how many digits measures have behind a point.
     ///
     /// The grouping is `cube` for all grouping sets, as where the document doesn't give it, `rollup` for those of
     /// the first dimensions, from none to all, or an array of sets, each an array of names of dimensions in any
@@ -77,7 +80,8 @@ fn schema_of(alloc: Global, document: &Table) -> Result<Schema, SchemaFault>
     };
     let grouping = value_at(document, "grouping");
     let feed = value_at(document, "feed");
-    schema_of_parts(alloc, parts, grouping, feed)
+    let decimals = value_at(document, "decimals");
+    schema_of_parts(alloc, parts, grouping, feed, decimals)
 }
 
 /// The measures of a document, and how many there are at least.
@@ -97,13 +101,14 @@ fn has_feed(document: &Table) -> bool
     value_at(document, "feed").is_some()
 }
 
-/// The schema of its parts, or their first fault; the grouping is of all sets where there is none, and feeds have no
-/// columns by name where there is none of `feed`.
+/// The schema of its parts, or their first fault; the grouping is of all sets where there is none, feeds have no columns by
+/// name where there is none of `feed`, and no measure takes a point where there is none of `decimals`.
 pub(crate) fn schema_of_parts(
     alloc: Global,
     parts: GivenParts,
     grouping: Option<&Value>,
     feed: Option<&Value>,
+    decimals: Option<&Value>,
 ) -> Result<Schema, SchemaFault>
     requires records { IfSome parts.max_records (λ limit. 1 ≤ limit) }
     requires versions { IfSome parts.version (λ number. (1 ≤ number) × (number ≤ 2)) }
@@ -118,6 +123,7 @@ pub(crate) fn schema_of_parts(
       version = parts.version;
       columns = columns_of_value parts.dimensions.items parts.measures.items
           (option_map (λ value. view value.now) feed.entry);
+      decimals = decimals_of_value parts.measures.items (option_map (λ value. view value.now) decimals.entry);
     }) result }
 {
     let (aggregates, max_records) = lawful_aggregates(alloc, &parts)?;
@@ -130,6 +136,9 @@ pub(crate) fn schema_of_parts(
     let Some(columns) = columns_of_value(alloc, &parts.dimensions, &parts.measures, feed)? else {
         return Err(SchemaFault::Columns);
     };
+    let Some(decimals) = decimals_of_value(alloc, &parts.measures, decimals)? else {
+        return Err(SchemaFault::Decimals);
+    };
     Ok(Schema {
         dimensions: parts.dimensions,
         measures: parts.measures,
@@ -140,6 +149,7 @@ pub(crate) fn schema_of_parts(
         version,
         shard: Shard::whole(),
         columns,
+        decimals,
         hash_key: HashKey::Known,
     })
 }
@@ -147,7 +157,7 @@ pub(crate) fn schema_of_parts(
 /// The aggregates and the number of data records of a schema of such names, or the first fault of these parts.
 fn lawful_aggregates(alloc: Global, parts: &GivenParts) -> Result<(Vec<Agg>, u32), SchemaFault>
     ensures faults { (sets : Option (List ℕ)) (columns : Option (Option FeedColumns))
-        → IfErr result (λ fault. AnswersParts (record {
+        (decimals : Option (List (Option ℕ))) → IfErr result (λ fault. AnswersParts (record {
           dimensions = parts.now.dimensions.items;
           measures = parts.now.measures.items;
           least_measures = parts.now.least_measures;
@@ -156,6 +166,7 @@ fn lawful_aggregates(alloc: Global, parts: &GivenParts) -> Result<(Vec<Agg>, u32
           grouping_sets = sets;
           version = parts.now.version;
           columns = columns;
+          decimals = decimals;
         }) (Err fault)) }
     ensures numbers { IfOk result (λ _. (is_some_up_to 8 parts.now.dimensions.items ≡ true)
         × (is_number_of_measures parts.now.least_measures parts.now.measures.items ≡ true)
@@ -206,7 +217,14 @@ fn is_known_key(key: &str) -> bool
 {
     matches!(
         key,
-        "dimensions" | "measures" | "aggregates" | "max_records" | "grouping" | "version" | "feed"
+        "dimensions"
+            | "measures"
+            | "aggregates"
+            | "max_records"
+            | "grouping"
+            | "version"
+            | "feed"
+            | "decimals"
     )
 }
 

@@ -1,12 +1,19 @@
 -- The fields of a plain record, put one by one.
 use Rattle.std.proofs.Common.{◌≡◌, ◌<◌, ◌≤◌, ◌+◌, ◌-◌, ℕ, List, [], ◌∷◌, ◌++◌, length, map, get_or, take, drop}
 use Rattle.std.proofs.Common.{Some, None, refl, sym, ap, ◌∙◌, append_assoc, add-one, drop-cons, arith}
-use Rattle.std.specs.Prelude.{zero, suc, slice_range}
+use Rattle.std.specs.Prelude.{zero, suc, replicate, slice_range}
 use Rattle.std.proofs.Common.{take-suc, true, false}
+use Rattle.std.specs.Prelude.{◌&&◌}
+use Rattle.std.specs.Char.{is_ascii_digit}
 use Rattle.std.specs.Fmt.{is_char_start, take_chars}
+use Rattle.std.specs.List.{list_all}
+use Rattle.std.specs.Str.{all_ascii_digits}
 use Rattle.std.proofs.lemmas.Bool.{ne_eqb}
 use Rattle.std.proofs.lemmas.List.{append-nil, drop_all, take_all}
 use Rattle.csv.specs.Records as csv
+use Rattle.cube_core.specs.Items.{field_at}
+use Rattle.cube_core.specs.Layout.{Layout}
+use Rattle.cube_core.specs.Plain.{plain_measure, plain_measures}
 use Rattle.cube_core.proofs.QueryLaws.{field_at-Some, field_at-None}
 
 -- one item more, whose field is put
@@ -69,6 +76,66 @@ part-all f fields place end whole done past so_far =
   where
     zero-of : (n : ℕ) → n ≤ 0 → n ≡ 0
     zero-of n h = omega arith
+
+-- ---- the plain fields of measures
+-- one more, whose field is put
+measure-more : (s : Layout) (nulls : List (List ℕ)) (point m next : ℕ) (rest others : List (List ℕ))
+    (whole done new : List (List ℕ)) (field put partial : List ℕ)
+    → rest ≡ field ∷ others → next ≡ m + 1 → put ≡ plain_measure s nulls point m field → partial ≡ []
+    → new ≡ done ++ (partial ++ put) ∷ []
+    → done ++ plain_measures s nulls point m rest ≡ whole → new ++ plain_measures s nulls point next others ≡ whole
+measure-more s nulls point m next rest others whole done new field put partial begins after is none more so_far =
+    let all : done ++ plain_measure s nulls point m field ∷ plain_measures s nulls point (m + 1) others ≡ whole =
+    rw begins at so_far in
+    rw (more, none, after, append_assoc done (put ∷ []) (plain_measures s nulls point (m + 1) others), is) all
+
+-- of fields at places
+pub measure-at-more : (s : Layout) (nulls : List (List ℕ)) (point m d : ℕ) (fields : List (List ℕ)) (places : List ℕ)
+    (whole done new : List (List ℕ)) (put partial : List ℕ)
+    → m < length places → put ≡ plain_measure s nulls point m (field_at fields (get_or places m d)) → partial ≡ []
+    → new ≡ done ++ (partial ++ put) ∷ []
+    → done ++ plain_measures s nulls point m (map (field_at fields) (drop m places)) ≡ whole
+    → new ++ plain_measures s nulls point (m + 1) (map (field_at fields) (drop (m + 1) places)) ≡ whole
+measure-at-more s nulls point m d fields places whole done new put partial inside is none more so_far =
+    let next : drop m places ≡ get_or places m d ∷ drop (m + 1) places =
+    rw (add-one m) (drop-cons places m d inside) in
+    let begins : map (field_at fields) (drop m places)
+    ≡ field_at fields (get_or places m d) ∷ map (field_at fields) (drop (m + 1) places) = rw next refl in
+    measure-more s nulls point m (m + 1) (map (field_at fields) (drop m places))
+    (map (field_at fields) (drop (m + 1) places)) whole done new (field_at fields (get_or places m d)) put partial begins
+    refl is none more so_far
+
+-- of the fields of a record from a place on
+pub measure-from-more : (s : Layout) (nulls : List (List ℕ)) (point first place : ℕ) (fields : List (List ℕ))
+    (whole done new : List (List ℕ)) (field put partial : List ℕ)
+    → first ≤ place → Some field ≡ csv.field_at fields place
+    → put ≡ plain_measure s nulls point (place - first) field → partial ≡ []
+    → new ≡ done ++ (partial ++ put) ∷ []
+    → done ++ plain_measures s nulls point (place - first) (drop place fields) ≡ whole
+    → new ++ plain_measures s nulls point (place + 1 - first) (drop (place + 1) fields) ≡ whole
+measure-from-more s nulls point first place fields whole done new field put partial from found is none more so_far =
+    measure-more s nulls point (place - first) (place + 1 - first) (drop place fields) (drop (place + 1) fields) whole
+    done new field put partial (field_at-Some fields place field found) (omega arith) is none more so_far
+
+-- none is left
+pub measure-none : (s : Layout) (nulls : List (List ℕ)) (point m : ℕ) (rest whole done : List (List ℕ)) → rest ≡ []
+    → done ++ plain_measures s nulls point m rest ≡ whole → done ≡ whole
+measure-none s nulls point m rest whole done none so_far =
+    sym (append-nil done) ∙ ap (λ more. done ++ plain_measures s nulls point m more) (sym none) ∙ so_far
+
+-- ---- a number in units
+-- whether each byte is a digit
+pub list_all-digits : (text : List ℕ) → list_all is_ascii_digit text ≡ all_ascii_digits text
+list_all-digits [] = refl
+list_all-digits (byte ∷ text) = ap (λ others. is_ascii_digit byte && others) (list_all-digits text)
+
+-- one zero more, where zeros are put behind it
+pub zeros-more : (units new whole : List ℕ) (wanted done : ℕ) → done < wanted → new ≡ units ++ 48 ∷ []
+    → units ++ replicate (wanted - done) 48 ≡ whole → new ++ replicate (wanted - (done + 1)) 48 ≡ whole
+zeros-more units new whole wanted done below pushed so_far =
+    let count : wanted - done ≡ suc (wanted - (done + 1)) = omega arith in
+    let all : units ++ 48 ∷ replicate (wanted - (done + 1)) 48 ≡ whole = rw count at so_far in
+    rw (pushed, append_assoc units (48 ∷ []) (replicate (wanted - (done + 1)) 48)) all
 
 -- ---- the first characters of a text
 

@@ -9,9 +9,8 @@ ghost use Rattle.cube_feed.specs.Feed.{HasEnded, Gives, IsNumbered, IsTaken, Num
 
 use crate::columns::find_columns;
 use crate::fault::FeedFault;
-use crate::plain::{change_of_row, is_read_at};
+use crate::plain::{PlainRecord, change_of_row, is_read_at};
 use crate::record_reader::RecordReader;
-use csv::ByteRecord;
 use cube_core::{FoundColumns, Item, Schema};
 use std::alloc::Global;
 use std::io::Read;
@@ -33,7 +32,7 @@ enum Stage {
 struct Rows<R: Read> {
     records: RecordReader<R>,
     columns: FoundColumns,
-    plain: ByteRecord,
+    plain: PlainRecord,
 }
 
 /// A feed: the changes of one source, read from its bytes as they are asked for.
@@ -185,7 +184,7 @@ impl<'s, R: Read> Feed<'s, R> {
             rows: Rows {
                 records: RecordReader::new(alloc, reader, delimiter(schema)),
                 columns: FoundColumns::InOrder,
-                plain: ByteRecord::new(alloc),
+                plain: PlainRecord::new(alloc),
             },
             number: 0,
             stage: Stage::Start,

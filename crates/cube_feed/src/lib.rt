@@ -18,6 +18,7 @@ mod record_reader;
 mod rest;
 mod spelled_list;
 mod takes_items;
+mod units;
 
 pub use fault::FeedFault;
 pub use feed::Feed;

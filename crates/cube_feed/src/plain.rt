@@ -1,62 +1,90 @@
 //! The plain record that a record stands for: its operation, its id, and a field for each dimension and each measure.
-ghost use Rattle.std.specs.Prelude.{◌≡◌, ◌∷◌, [], codes, decimal, map, IfOk, OnOk, slice_range};
+ghost use Rattle.std.specs.Prelude.{◌≡◌, ◌∷◌, [], true, codes, decimal, drop, map, None, IfOk, OnOk, slice_range};
 ghost use Rattle.std.specs.Fmt.{is_char_start, take_chars};
 ghost use Rattle.std.specs.Option.{option_map_or};
 ghost use Rattle.std.specs.Str.{bytes_eq};
 ghost use Rattle.csv.specs.Records.{fields_of, partial_of};
-ghost use Rattle.cube_core.specs.FeedRecords.{is_read, plain_of};
+ghost use Rattle.cube_core.specs.FeedRecords.{change_in_order, is_read, plain_of};
 ghost use Rattle.cube_core.specs.Items.{change_of, field_at, is_keep};
 ghost use Rattle.cube_core.specs.Layout.{is_listed};
-ghost use Rattle.cube_core.specs.Plain.{first_of, nulls_of, plain_at, plain_by_name, plain_in_order};
+ghost use Rattle.cube_core.specs.Plain.{first_of, nulls_of, plain_at, plain_by_name, plain_in_order, plain_measures, point_of};
 ghost use Rattle.cube_core.specs.Takes.{null_text};
 ghost use Rattle.cube_feed.specs.Columns.{Puts};
-ghost use Rattle.cube_feed.specs.PlainFields.{dimension_from, measure_at, measure_from, plain_field};
+ghost use Rattle.cube_feed.specs.PlainFields.{dimension_from, measure_from, plain_field};
 
 use crate::field::{Fields, bytes_at, is_keep_text, is_text};
 use crate::line::change;
-use crate::rest::{change_of_record, is_read};
+use crate::rest::is_read;
+use crate::units::in_units;
 use csv::ByteRecord;
 use cube_core::{Change, ColumnPlaces, DimensionPlace, FoundColumns, LineFault, Schema, Text};
 use itoa::Buffer;
 use std::alloc::{AllocError, Global};
 
-/// What a field of a record in the order of the schema is of.
+/// A plain record in the making: its fields so far, and a buffer for a number.
+#[derive(Drop)]
+pub(crate) struct PlainRecord {
+    row: ByteRecord,
+    units: Vec<u8>,
+}
+
+impl PlainRecord {
+    /// A record without a field; it takes no memory.
+    pub(crate) fn new(alloc: Global) -> PlainRecord {
+        PlainRecord {
+            row: ByteRecord::new(alloc),
+            units: Vec::new(alloc),
+        }
+    }
+}
+
+/// What a field of a record in the order of the schema is of, before the measures.
 #[derive(Clone, Copy)]
 pub(crate) enum FieldKind {
     /// The operation or the id.
     Other,
     Dimension,
-    Measure,
 }
 
-/// Puts the plain record of one in the order of the schema in place of another record. The only error is that memory ran
-/// out.
-pub(crate) fn put_in_order(
+/// The change that a record in the order of the schema spells, or its first fault; its plain record is put in place of
+/// another, where it differs. The only error is that memory ran out.
+pub(crate) fn change_in_order(
+    alloc: Global,
     schema: &Schema,
     fields: &ByteRecord,
-    plain: &mut ByteRecord,
+    plain: &mut PlainRecord,
+) -> Result<Result<Change, LineFault>, AllocError>
+    ensures { IfOk result (λ what. what ≡ change_in_order schema.now (fields_of fields.now)) }
+{
+    if is_plain(schema) {
+        // Each field stays as it is.
+        return change(alloc, schema, &Fields::of(fields));
+    }
+    put_in_order(schema, fields, plain)?;
+    change(alloc, schema, &Fields::of(&plain.row))
+}
+
+// Whether each record in the order of the schema is its own plain one.
+fn is_plain(schema: &Schema) -> bool
+    ensures { result ≡ true → (schema.now.columns ≡ None) × (schema.now.decimals ≡ []) }
+{
+    schema.columns().is_none() && schema.decimals().is_empty()
+}
+
+// Puts the plain record of one in the order of the schema in place of another record.
+fn put_in_order(
+    schema: &Schema,
+    fields: &ByteRecord,
+    plain: &mut PlainRecord,
 ) -> Result<(), AllocError>
-    ensures { OnOk result (fields_of plain.new ≡ plain_in_order schema.now (fields_of fields.now)) }
+    ensures { OnOk result (fields_of plain.new.row ≡ plain_in_order schema.now (fields_of fields.now)) }
 {
     let first_measure = 2 + schema.dimensions().len();
-    plain.clear();
-    put_part(schema, FieldKind::Other, fields, 0, 2, plain)?;
-    put_part(
-        schema,
-        FieldKind::Dimension,
-        fields,
-        2,
-        first_measure,
-        plain,
-    )?;
-    put_part(
-        schema,
-        FieldKind::Measure,
-        fields,
-        first_measure,
-        fields.len(),
-        plain,
-    )
+    let row = &mut plain.row;
+    row.clear();
+    put_part(schema, FieldKind::Other, fields, 0, 2, row)?;
+    put_part(schema, FieldKind::Dimension, fields, 2, first_measure, row)?;
+    put_measures_from(schema, fields, first_measure, plain)
 }
 
 // Puts the plain fields of those from a place to another behind the fields of a record.
@@ -93,28 +121,52 @@ fn plain_field<'f>(schema: &Schema, kind: FieldKind, field: &'f [u8]) -> &'f [u8
             None,
             field,
         ),
-        FieldKind::Measure => measure_from(schema, is_null_in_order(schema, field), field),
     }
 }
 
-/// Puts the plain record of one that is read by the names of its columns, the data record of this number, in place of
-/// another record. The only error is that memory ran out.
-pub(crate) fn put_by_name(
+// Puts the plain fields of the measures of a record in the order of the schema, which begin at a place.
+fn put_measures_from(
+    schema: &Schema,
+    fields: &ByteRecord,
+    first: usize,
+    plain: &mut PlainRecord,
+) -> Result<(), AllocError>
+    requires { partial_of plain.old.row ≡ [] }
+    ensures { OnOk result (Puts plain.old.row
+        (plain_measures schema.now (null_text ∷ nulls_of schema.now) 46 0 (drop first (fields_of fields.now)))
+        plain.new.row) }
+{
+    for place in first..fields.len() {
+        let Some(field) = fields.get(place) else {
+            break;
+        };
+        let is_null = is_null_in_order(schema, field);
+        let units = &mut plain.units;
+        let value = measure_from(schema, place - first, is_null, b'.', field, units)?;
+        plain.row.push_field(value)?;
+    }
+    Ok(())
+}
+
+// Puts the plain record of one that is read by the names of its columns, the data record of this number, in place of
+// another record.
+fn put_by_name(
     schema: &Schema,
     at: &ColumnPlaces,
     number: u32,
     fields: &ByteRecord,
-    plain: &mut ByteRecord,
+    plain: &mut PlainRecord,
 ) -> Result<(), AllocError>
-    ensures { OnOk result (fields_of plain.new ≡ plain_by_name schema.now at.now number (fields_of fields.now)) }
+    ensures { OnOk result (fields_of plain.new.row ≡ plain_by_name schema.now at.now number (fields_of fields.now)) }
 {
-    plain.clear();
-    put_operation(at.op, fields, plain)?;
-    put_id(at.id, number, fields, plain)?;
-    put_dimensions(schema, at.dimensions.as_slice(), fields, plain)?;
+    let row = &mut plain.row;
+    row.clear();
+    put_operation(at.op, fields, row)?;
+    put_id(at.id, number, fields, row)?;
+    put_dimensions(schema, at.dimensions.as_slice(), fields, row)?;
     put_measures(schema, at.measures.as_slice(), fields, plain)?;
     if fields.len() != at.width {
-        plain.push_field(&[])?;
+        plain.row.push_field(&[])?;
     }
     Ok(())
 }
@@ -174,16 +226,32 @@ fn put_measures(
     schema: &Schema,
     places: &[usize],
     fields: &ByteRecord,
-    plain: &mut ByteRecord,
+    plain: &mut PlainRecord,
 ) -> Result<(), AllocError>
-    requires { partial_of plain.old ≡ [] }
-    ensures { OnOk result (Puts plain.old (map (measure_at schema.now (fields_of fields.now)) places.now) plain.new) }
+    requires { partial_of plain.old.row ≡ [] }
+    ensures { OnOk result (Puts plain.old.row
+        (plain_measures schema.now (nulls_of schema.now) (point_of schema.now) 0
+        (map (field_at (fields_of fields.now)) places.now)) plain.new.row) }
 {
-    for place in places {
-        let field = bytes_at(fields, *place);
-        plain.push_field(measure_from(schema, is_null(schema, field), field))?;
+    let point = point(schema);
+    for measure in 0..places.len() {
+        let field = bytes_at(fields, places[measure]);
+        let is_null = is_null(schema, field);
+        let units = &mut plain.units;
+        let value = measure_from(schema, measure, is_null, point, field, units)?;
+        plain.row.push_field(value)?;
     }
     Ok(())
+}
+
+// The byte before the decimals in a schema's feeds by names.
+fn point(schema: &Schema) -> u8
+    ensures { result ≡ point_of schema.now }
+{
+    match schema.columns() {
+        None => b'.',
+        Some(columns) => columns.point,
+    }
 }
 
 // The plain field of a dimension.
@@ -204,18 +272,26 @@ fn dimension_from<'f>(
     }
 }
 
-// The plain field of a measure: one that is `\N` and isn't null is left empty, which is no number.
-fn measure_from<'f>(schema: &Schema, is_null: bool, field: &'f [u8]) -> &'f [u8]
-    ensures { result.now ≡ measure_from schema.now is_null field.now }
+// The plain field of a measure of this number: one that is `\N` and isn't null is left empty, which is no number, and a
+// number is written in units, in the buffer where it lies not in the field.
+fn measure_from<'f>(
+    schema: &Schema,
+    measure: usize,
+    is_null: bool,
+    point: u8,
+    field: &'f [u8],
+    units: &'f mut Vec<u8>,
+) -> Result<&'f [u8], AllocError>
+    ensures { IfOk result (λ plain. plain.now ≡ measure_from schema.now measure is_null point field.now) }
 {
     if is_keep(schema, field) {
-        field
+        Ok(field)
     } else if is_null {
-        b"\\N".as_slice()
+        Ok(b"\\N".as_slice())
     } else if is_null_text(field) {
-        &[]
+        Ok(&[])
     } else {
-        field
+        in_units(schema.decimals_of(measure), point, field, units)
     }
 }
 
@@ -313,24 +389,24 @@ pub(crate) fn is_read_at(
     }
 }
 
-/// The change that the data record of a number stands for, or its first fault. A record that is read by the names of its
-/// columns has its plain record put in place of another. The only error is that memory ran out.
+/// The change that the data record of a number stands for, or its first fault. Its plain record is put in place of another,
+/// where it differs. The only error is that memory ran out.
 pub(crate) fn change_of_row(
     alloc: Global,
     schema: &Schema,
     columns: &FoundColumns,
     number: u32,
     fields: &ByteRecord,
-    plain: &mut ByteRecord,
+    plain: &mut PlainRecord,
 ) -> Result<Result<Change, LineFault>, AllocError>
     ensures { IfOk result (λ what. what
         ≡ change_of schema.now (plain_of schema.now columns.now number (fields_of fields.now))) }
 {
     match columns {
-        FoundColumns::InOrder => change_of_record(alloc, schema, fields),
+        FoundColumns::InOrder => change_in_order(alloc, schema, fields, plain),
         FoundColumns::ByName(at) => {
             put_by_name(schema, at, number, fields, plain)?;
-            change(alloc, schema, &Fields::of(plain))
+            change(alloc, schema, &Fields::of(&plain.row))
         }
     }
 }

@@ -3,9 +3,8 @@ ghost use Rattle.std.specs.Prelude.{◌≡◌, drop, IfOk, OnOk};
 ghost use Rattle.csv.specs.Records.{fields_of};
 ghost use Rattle.cube_core.specs.FeedRecords.{change_in_order, is_read};
 
-use crate::field::{Fields, bytes_at};
-use crate::line::change;
-use crate::plain::put_in_order;
+use crate::field::bytes_at;
+use crate::plain::{PlainRecord, change_in_order};
 use csv::ByteRecord;
 use cube_core::{Change, LineFault, Schema};
 use std::alloc::{AllocError, Global};
@@ -32,13 +31,8 @@ pub fn change_of_record(
 ) -> Result<Result<Change, LineFault>, AllocError>
     ensures { IfOk result (λ what. what ≡ change_in_order schema.now (fields_of fields.now)) }
 {
-    if schema.columns().is_none() {
-        // Each field stays as it is.
-        return change(alloc, schema, &Fields::of(fields));
-    }
-    let mut plain = ByteRecord::new(alloc);
-    put_in_order(schema, fields, &mut plain)?;
-    change(alloc, schema, &Fields::of(&plain))
+    let mut plain = PlainRecord::new(alloc);
+    change_in_order(alloc, schema, fields, &mut plain)
 }
 
 /// Whether a data record of a feed is in the schema's shard. Its id alone decides, whatever its faults: the empty text where

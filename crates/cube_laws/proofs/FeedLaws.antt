@@ -353,13 +353,14 @@ whole-is_read s fields whole =
 no_more : RestOfFeed FeedEnd
 no_more = record { items = []; end = TooManyRecords }
 
-items_after-record_for : (s : Layout) (changes : List Change) (number : ℕ) → s.columns ≡ None → s.shard ≡ whole_feed
+items_after-record_for : (s : Layout) (changes : List Change) (number : ℕ) → s.columns ≡ None → s.decimals ≡ []
+    → s.shard ≡ whole_feed
     → number + length changes ≤ s.max_records → AllByRecursion (CanBeSpelled s) changes
     → items_after s InOrder number (map record_for changes)
     ≡ record { items = numbered (number + 1) changes; end = Good }
 unfolding no_more
-items_after-record_for s [] number none whole few all = refl
-items_after-record_for s (change ∷ changes) number none whole few all =
+items_after-record_for s [] number none no_point whole few all = refl
+items_after-record_for s (change ∷ changes) number none no_point whole few all =
     let plain : List (List ℕ) = plain_in_order s (record_for change) in
     let item : Item = record { number = number + 1; what = change_of s plain } in
     let rest : RestOfFeed FeedEnd = items_after s InOrder (number + 1) (map record_for changes) in
@@ -368,8 +369,8 @@ items_after-record_for s (change ∷ changes) number none whole few all =
     ∙ ap (λ (b : Bool). if b then item_then item rest else rest) (whole-is_read s plain whole)
     ∙ ap₂ (λ (what : Result Change LineFault) (more : RestOfFeed FeedEnd).
     item_then (record { number = number + 1; what = what }) more)
-    (ap (change_of s) (plain_in_order-same s (record_for change) none) ∙ change_of-record_for s change all.0)
-    (items_after-record_for s changes (number + 1) none whole (omega (arith, few)) all.1)
+    (ap (change_of s) (plain_in_order-same s (record_for change) none no_point) ∙ change_of-record_for s change all.0)
+    (items_after-record_for s changes (number + 1) none no_point whole (omega (arith, few)) all.1)
 
 same_fields-itself : (fields : List (List ℕ)) → same_fields fields fields ≡ true
 same_fields-itself [] = refl
@@ -408,11 +409,12 @@ found_columns-in_order : (s : Layout) (header : List (List ℕ)) → s.columns �
     → found_columns s header ≡ (if is_header s header then Some InOrder else None)
 found_columns-in_order s header none = rw none refl
 
-pub items_of-record_for : (s : Layout) (changes : List Change) → s.columns ≡ None → s.shard ≡ whole_feed
+pub items_of-record_for : (s : Layout) (changes : List Change) → s.columns ≡ None → s.decimals ≡ []
+    → s.shard ≡ whole_feed
     → length changes ≤ s.max_records → AllByRecursion (CanBeSpelled s) changes
     → items_of s (feed_records s (flat_map line (header_for s ∷ map record_for changes)))
     ≡ record { items = numbered 1 changes; end = Good }
-items_of-record_for s changes none whole few all =
+items_of-record_for s changes none no_point whole few all =
     let lines : List (List (List ℕ)) = map record_for changes in
     let wrong : RestOfFeed FeedEnd = record { items = []; end = WrongHeader } in
     ap (items_of s) (feed_records-in_order s (flat_map line (header_for s ∷ lines)) none)
@@ -420,7 +422,7 @@ items_of-record_for s changes none whole few all =
     ∙ ap (λ (found : Option FoundColumns). option_map_or (λ columns. items_after s columns 0 lines) found wrong)
     (found_columns-in_order s (header_for s) none
     ∙ ap (λ (b : Bool). if b then Some InOrder else None) (is_header-header_for s))
-    ∙ items_after-record_for s changes 0 none whole (omega (arith, few)) all
+    ∙ items_after-record_for s changes 0 none no_point whole (omega (arith, few)) all
 
 -- ---- how much a feed gives
 items_after-at_most : (s : Layout) (columns : FoundColumns) (number : ℕ) (records : List (List (List ℕ)))

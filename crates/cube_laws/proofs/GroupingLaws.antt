@@ -21,7 +21,8 @@ use Rattle.cube_core.specs.SchemaDocument.{dimensions_in, measures_in, spellings
 use Rattle.cube_core.specs.SchemaDocument.{default_max_records, record_limit, mask_of_names, rollup_sets, kept_sets}
 use Rattle.cube_core.specs.SchemaDocument.{sets_of_grouping, grouping_sets_in, feed_version, version_in, parts_in}
 use Rattle.cube_core.specs.FeedDocument.{columns_of_value}
-use Rattle.cube_core.specs.SchemaDocument.{columns_in, least_measures_in, texts_at}
+use Rattle.cube_core.specs.DecimalsDocument.{decimals_of_value}
+use Rattle.cube_core.specs.SchemaDocument.{columns_in, decimals_in, least_measures_in, texts_at}
 use Rattle.cube_core.specs.SchemaDocument.{named_parts, schema_of_parts, first_fault, layout_of, schema_of}
 use Rattle.cube_core.specs.declared.fact.Fact.{Fact}
 use Rattle.cube_core.specs.declared.key.Row.{Row}
@@ -61,6 +62,7 @@ GivesNames-schema_of document dimensions measures spellings gives =
     let version : version_in document ≡ Some 1 = ap (λ o. option_map_or feed_version o (Some 1)) gives.version in
     let columns : columns_in document ≡ Some None =
     ap (columns_of_value (dimensions_in document) (measures_in document)) gives.feed in
+    let decimals : decimals_in document ≡ Some [] = ap (decimals_of_value (measures_in document)) gives.decimals in
     let least : least_measures_in document ≡ 1 =
     ap (λ feed. if is_some feed && is_some (texts_at (codes "measures") document) then 0 else 1) gives.feed in
     let parts : parts_in document ≡ named_parts dimensions measures spellings = λ i. record {
@@ -72,6 +74,7 @@ GivesNames-schema_of document dimensions measures spellings gives =
       grouping_sets = sets i;
       version = version i;
       columns = columns i;
+      decimals = decimals i;
     } in
     rw gives.known_keys (ap schema_of_parts parts)
 

@@ -13,7 +13,7 @@ use Rattle.cube_core.specs.Takes.{null_text, fits, is_dimension_value}
 use Rattle.cube_core.specs.Covers.{stands_for, all_stand_for, covers}
 use Rattle.cube_core.specs.GroupingSet.{is_all_coord}
 use Rattle.cube_core.specs.Cube.{is_total, is_cell, HasAnswers, key_of, AreRows}
-use Rattle.cube_core.specs.Text.{coord_text, grouping_text, answer_text}
+use Rattle.cube_core.specs.Text.{answer_texts, coord_text, digits_of_answers, grouping_text}
 use Rattle.cube_laws.specs.Keys.{LookAlike, key_columns}
 use Rattle.cube_merge.specs.Lawful.{is_no_null_text, has_no_null_text}
 use Rattle.cube_core.specs.declared.fact.Fact.{Fact}
@@ -146,7 +146,7 @@ key_columns-shown : (s : Layout) (row : Row) → length row.key.coords ≡ lengt
 key_columns-shown s row as_many =
     let n : 2 * length s.dimensions ≡ length (shown row.key) =
     sym (length-shown row.key ∙ ap (λ (k : ℕ). 2 * k) as_many) in
-    rw n (take-append_seam (shown row.key) (map answer_text row.answers))
+    rw n (take-append_seam (shown row.key) (answer_texts (digits_of_answers s) row.answers))
 
 -- what shows the same looks alike
 pub shown-LookAlike : (a b : Key) → length a.coords ≡ length b.coords → shown a ≡ shown b → LookAlike a b

@@ -1,4 +1,6 @@
 mod FractionLaws
+mod ScaledLaws
+mod UnitTextLaws
 mod LifeLaws
 mod FieldLaws
 mod SpellingLaws

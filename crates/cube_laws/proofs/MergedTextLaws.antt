@@ -13,6 +13,7 @@ use Rattle.cube_core.specs.Text.{text_of_rows}
 use Rattle.cube_merge.specs.Merging.{IsMergeOf}
 use Rattle.cube_laws.specs.Merging.{joined, IsTextOfRows, IsMergedText, PutsPrinted}
 use Rattle.cube_laws.specs.Told.{CanBePrinted}
+use Rattle.cube_laws.proofs.AnswerTextLaws.{HasFewDigits}
 use Rattle.cube_laws.proofs.MergedLaws.{AreRowsOver-AreMergedOf}
 use Rattle.cube_laws.proofs.RangeLaws.{AreRows-IsLawfulRow}
 use Rattle.cube_laws.proofs.RowLaws.{IsPrinted-unique}
@@ -32,12 +33,12 @@ AllZip-places R (x ∷ xs) (y ∷ ys) d e as_many each = (
 
 -- rows whose text is the printed cube are the cube's
 AreRows-IsTextOfRows : (s : Layout) (facts : List Fact) (text : List ℕ) (rows : List Row) → 1 ≤ length s.dimensions
-    → CanBePrinted s facts → IsPrinted s facts text → IsTextOfRows s text rows
+    → HasFewDigits s → CanBePrinted s facts → IsPrinted s facts text → IsTextOfRows s text rows
     → AreRows s facts rows
-AreRows-IsTextOfRows s facts text rows some printable printed read =
+AreRows-IsTextOfRows s facts text rows some few printable printed read =
     subst (AreRows s facts)
-    (text_of_rows-told s printed.rows rows some (AreRows-IsLawfulRow s facts printed.rows printable printed.are_rows)
-    read.of_schema (sym printed.text_is ∙ read.text_is))
+    (text_of_rows-told s printed.rows rows some few
+    (AreRows-IsLawfulRow s facts printed.rows printable printed.are_rows) read.of_schema (sym printed.text_is ∙ read.text_is))
     printed.are_rows
 
 -- facts that a schema can print, its partial form can
@@ -47,18 +48,18 @@ partial_form-CanBePrinted s facts printable = record { fit = printable.fit; coun
 
 -- the rows that are read of printed partial cubes are those of each part
 AllZip-AreRows : (s : Layout) (parts : List (List Fact)) (texts : List (List ℕ)) (cubes : List (List Row))
-    → 1 ≤ length s.dimensions → AllByRecursion (CanBePrinted s) parts
+    → 1 ≤ length s.dimensions → HasFewDigits s → AllByRecursion (CanBePrinted s) parts
     → AllZip (IsPrinted (partial_form s)) parts texts → AllZip (IsTextOfRows (partial_form s)) texts cubes
     → AllZip (AreRows (partial_form s)) parts cubes
-AllZip-AreRows s [] [] [] some printable printed read = tt
-AllZip-AreRows s [] [] (rows ∷ cubes) some printable printed read = absurd read
-AllZip-AreRows s [] (text ∷ texts) cubes some printable printed read = absurd printed
-AllZip-AreRows s (facts ∷ parts) [] cubes some printable printed read = absurd printed
-AllZip-AreRows s (facts ∷ parts) (text ∷ texts) [] some printable printed read = absurd read
-AllZip-AreRows s (facts ∷ parts) (text ∷ texts) (rows ∷ cubes) some printable printed read = (
-  AreRows-IsTextOfRows (partial_form s) facts text rows some
+AllZip-AreRows s [] [] [] some few printable printed read = tt
+AllZip-AreRows s [] [] (rows ∷ cubes) some few printable printed read = absurd read
+AllZip-AreRows s [] (text ∷ texts) cubes some few printable printed read = absurd printed
+AllZip-AreRows s (facts ∷ parts) [] cubes some few printable printed read = absurd printed
+AllZip-AreRows s (facts ∷ parts) (text ∷ texts) [] some few printable printed read = absurd read
+AllZip-AreRows s (facts ∷ parts) (text ∷ texts) (rows ∷ cubes) some few printable printed read = (
+  AreRows-IsTextOfRows (partial_form s) facts text rows some few
       (partial_form-CanBePrinted s facts printable.0) printed.0 read.0,
-  AllZip-AreRows s parts texts cubes some printable.1 printed.1 read.1,
+  AllZip-AreRows s parts texts cubes some few printable.1 printed.1 read.1,
 )
 
 -- so what is merged of them is printed
@@ -70,7 +71,7 @@ IsMergedText-IsPrinted s parts texts text schema some printable printed merged =
   rows = merged.rows;
   are_rows = AreRowsOver-AreMergedOf s.grouping_sets (length s.dimensions)
       (partial_aggregates s.aggregates) s.aggregates parts merged.cubes merged.rows some
-      (AllZip-AreRows s parts texts merged.cubes schema.some_dimension printable printed
+      (AllZip-AreRows s parts texts merged.cubes schema.some_dimension schema.few_digits printable printed
       (AllZip-places (IsTextOfRows (partial_form s)) texts merged.cubes [] [] merged.as_many merged.read))
       merged.merged;
   text_is = merged.text_is;
@@ -84,7 +85,7 @@ IsMergedText-partial s parts texts text schema some printable printed merged = r
   rows = merged.rows;
   are_rows = AreRowsOver-AreMergedOf s.grouping_sets (length s.dimensions) (partial_aggregates s.aggregates)
       (partial_aggregates s.aggregates) parts merged.cubes merged.rows some
-      (AllZip-AreRows s parts texts merged.cubes schema.some_dimension printable printed
+      (AllZip-AreRows s parts texts merged.cubes schema.some_dimension schema.few_digits printable printed
       (AllZip-places (IsTextOfRows (partial_form s)) texts merged.cubes [] [] merged.as_many merged.read))
       merged.merged;
   text_is = merged.text_is;

@@ -10,7 +10,8 @@ use Rattle.std.proofs.lemmas.Bool.{and_from, and_parts, cases_Bool, eq-eqb, eqb-
 use Rattle.std.proofs.lemmas.Bool.{not-true}
 use Rattle.std.proofs.lemmas.Iterator.Adapters.{position_from-zero}
 use Rattle.std.proofs.lemmas.List.{append-nil, ext_get_or, get_or-map, get_or_default, length-append, length-map}
-use Rattle.std.proofs.lemmas.List.{map-append}
+use Rattle.std.proofs.lemmas.List.{drop-drop, map-append}
+use Rattle.std.proofs.Math.Seq.{drop-append_seam, take-append_seam}
 use Rattle.std.proofs.lemmas.List.FromFn.{get_or-map-range_with_len, get_or-range_with_len, length-map-range_with_len}
 use Rattle.std.proofs.lemmas.List.FromFn.{length-range_with_len}
 use Rattle.std.proofs.lemmas.List.Sorted.{All-permutation, IsPermutation-map, length_permutation}
@@ -21,9 +22,10 @@ use Rattle.cube_core.specs.FeedDocument.{columns_of_feed, dimension_column, feed
 use Rattle.cube_core.specs.FeedRecords.{FeedEnd, RestOfFeed, TooManyRecords, WrongHeader, found_columns, is_read}
 use Rattle.cube_core.specs.FeedRecords.{item_then, items_after, items_of, names_read, place_in, places_by}
 use Rattle.cube_core.specs.FeedRecords.{stands_once}
-use Rattle.cube_core.specs.Items.{change_of, field_at, is_header, is_keep, width_of}
+use Rattle.cube_core.specs.Items.{change_of, dimension_fields, field_at, is_header, is_keep, measure_fields, width_of}
 use Rattle.cube_core.specs.Layout.{IsSchema, Layout, are_distinct, is_lawful_name, is_listed}
-use Rattle.cube_core.specs.Plain.{nulls_of, plain_at, plain_by_name, plain_dimension, plain_measure}
+use Rattle.cube_core.specs.Plain.{nulls_of, plain_at, plain_by_name, plain_dimension, plain_in_order}
+use Rattle.cube_core.specs.Plain.{plain_measure, plain_measures, point_of}
 use Rattle.cube_core.specs.Takes.{null_text}
 use Rattle.cube_core.specs.declared.feed_columns.Column.{Column}
 use Rattle.cube_core.specs.declared.feed_columns.FeedColumns.{FeedColumns}
@@ -31,7 +33,7 @@ use Rattle.cube_core.specs.declared.feed_columns.FoundColumns.{FoundColumns}
 use Rattle.cube_core.specs.declared.feed_columns.FoundColumns.TheVariants.{InOrder, ByName}
 use Rattle.cube_core.proofs.LifeLaws.{bytes_eq-itself}
 use Rattle.cube_core.proofs.ListLaws.{filter-failed, filter-passed}
-use Rattle.cube_core.proofs.PlainLaws.{plain_in_order-same}
+use Rattle.cube_core.proofs.PlainLaws.{map-same, plain_dimension-same}
 use Rattle.cube_laws.proofs.FeedLaws.{is_header-header_for}
 use Rattle.cube_laws.specs.Feeds.{header_for}
 use Rattle.cube_laws.specs.Named.{AreReadAlike, bare_columns, by_names, in_order, own_columns, picked, whole_column}
@@ -92,12 +94,11 @@ module _ (s : Layout) (columns : FeedColumns) (header other : List (List ℕ)) w
 
   same-measures : (fields others : List (List ℕ)) (measures : List (List ℕ))
       → AllByRecursion (SameAt fields others) measures
-      → map (λ place. plain_measure s (nulls_of s) (field_at fields place)) (map (place_in header) measures)
-      ≡ map (λ place. plain_measure s (nulls_of s) (field_at others place)) (map (place_in other) measures)
+      → map (field_at fields) (map (place_in header) measures) ≡ map (field_at others) (map (place_in other) measures)
   same-measures fields others [] same = refl
   same-measures fields others (name ∷ measures) same =
-      ap₂ (λ (field : List ℕ) (rest : List (List ℕ)). field ∷ rest)
-      (ap (plain_measure s (nulls_of s)) same.0) (same-measures fields others measures same.1)
+      ap₂ (λ (field : List ℕ) (rest : List (List ℕ)). field ∷ rest) same.0
+      (same-measures fields others measures same.1)
 
   plain_by_name-alike : (number : ℕ) (fields others : List (List ℕ))
       → AreReadAlike columns header other fields others
@@ -113,7 +114,8 @@ module _ (s : Layout) (columns : FeedColumns) (header other : List (List ℕ)) w
       let ops = same-name fields others columns.op (codes "I") op in
       let named = same-name fields others columns.id _ id in
       let of_dimensions = same-dimensions fields others columns.dimensions dimensions in
-      let of_measures = same-measures fields others columns.measures measures in
+      let of_measures = ap (plain_measures s (nulls_of s) (point_of s) 0)
+      (same-measures fields others columns.measures measures) in
       λ i. ops i ∷ named i ∷ of_dimensions i ++ of_measures i
       ++ (if (wide ∙ sym other_wide) i then [] else [] ∷ [])
 
@@ -247,8 +249,8 @@ header_for-distinct s is =
     rw (op, id) is.names_are_distinct
 
 -- ---- the columns of a schema's own order
-names_read-own : (point : ℕ) (s : Layout) → names_read (own_columns point s) ≡ header_for s
-names_read-own point s =
+names_read-own : (s : Layout) → names_read (own_columns s) ≡ header_for s
+names_read-own s =
     ap (λ (names : List (List ℕ)). codes "op" ∷ codes "id" ∷ names ++ s.measures) (same s.dimensions)
   where
     same : (names : List (List ℕ)) → map (λ (column : Column). column.name) (map whole_column names) ≡ names
@@ -283,18 +285,45 @@ plain_dimension-own s field = elim (cases_Bool (is_keep s field)) [
   ]
 ]
 
-plain_measure-own : (s : Layout) (field : List ℕ) → plain_measure s (null_text ∷ []) field ≡ field
-plain_measure-own s field = elim (cases_Bool (is_keep s field)) [
-  | inl keeps ↦ rw keeps refl
-  | inr puts ↦ elim (cases_Bool (bytes_eq field null_text)) [
-    | inl null ↦ rw (puts, null) (sym ((bytes_eq-Decides field null_text).0 null))
-    | inr text ↦ rw (puts, text) refl
-  ]
+-- that null is spelled `\N` need be said but once
+plain_measure-once : (s : Layout) (point m : ℕ) (field : List ℕ)
+    → plain_measure s (null_text ∷ []) point m field ≡ plain_measure s (null_text ∷ null_text ∷ []) point m field
+plain_measure-once s point m field = elim (cases_Bool (bytes_eq field null_text)) [
+  | inl null ↦ rw null refl
+  | inr text ↦ rw text refl
 ]
 
-module _ (point : ℕ) (s : Layout) (is : IsSchema s) where
+plain_measures-once : (s : Layout) (point m : ℕ) (fields : List (List ℕ))
+    → plain_measures s (null_text ∷ []) point m fields ≡ plain_measures s (null_text ∷ null_text ∷ []) point m fields
+plain_measures-once s point m [] = refl
+plain_measures-once s point m (field ∷ fields) =
+    ap₂ (λ (first : List ℕ) (rest : List (List ℕ)). first ∷ rest) (plain_measure-once s point m field)
+    (plain_measures-once s point (m + 1) fields)
+
+-- a plain record in the order of the schema, by its parts
+plain_in_order-parts : (s : Layout) (op id : List ℕ) (dimensions measures : List (List ℕ)) → s.columns ≡ None
+    → length dimensions ≡ length s.dimensions
+    → plain_in_order s (op ∷ id ∷ dimensions ++ measures)
+    ≡ op ∷ id ∷ dimensions ++ plain_measures s (null_text ∷ []) 46 0 measures
+plain_in_order-parts s op id dimensions measures none wide =
+    let nulls : nulls_of s ≡ null_text ∷ [] = rw none refl in
+    let fields = op ∷ id ∷ dimensions ++ measures in
+    let front : dimension_fields s fields ≡ dimensions = rw (← wide) (take-append_seam dimensions measures) in
+    let back : measure_fields s fields ≡ measures =
+    rw (← drop-drop (length s.dimensions) 2 fields, ← wide) (drop-append_seam dimensions measures) in
+    let plain = plain_dimension s (null_text ∷ null_text ∷ []) None in
+    let first : map (plain_dimension s (null_text ∷ nulls_of s) None) (dimension_fields s fields) ≡ dimensions
+    = ap (λ (texts : List (List ℕ)). map (plain_dimension s (null_text ∷ texts) None) (dimension_fields s fields)) nulls
+    ∙ ap (map plain) front ∙ map-same plain (plain_dimension-same s) dimensions in
+    let last : plain_measures s (null_text ∷ nulls_of s) 46 0 (measure_fields s fields)
+    ≡ plain_measures s (null_text ∷ []) 46 0 measures
+    = ap (λ (texts : List (List ℕ)). plain_measures s (null_text ∷ texts) 46 0 (measure_fields s fields)) nulls
+    ∙ ap (plain_measures s (null_text ∷ null_text ∷ []) 46 0) back ∙ sym (plain_measures-once s 46 0 measures) in
+    ap₂ (λ (a b : List (List ℕ)). op ∷ id ∷ a ++ b) first last
+
+module _ (s : Layout) (is : IsSchema s) where
   abbrev named : Layout
-  named = by_names (own_columns point s) s
+  named = by_names (own_columns s) s
 
   abbrev at : List (List ℕ) → List ℕ → List ℕ
   at fields name = field_at fields (place_in (header_for s) name)
@@ -308,30 +337,36 @@ module _ (point : ℕ) (s : Layout) (is : IsSchema s) where
       (plain_dimension-own named (at fields name)) (own-dimensions fields names)
 
   own-measures : (fields names : List (List ℕ))
-      → map (λ place. plain_measure named (nulls_of named) (field_at fields place))
-      (map (place_in (header_for s)) names)
-      ≡ map (at fields) names
+      → map (field_at fields) (map (place_in (header_for s)) names) ≡ map (at fields) names
   own-measures fields [] = refl
   own-measures fields (name ∷ names) =
-      ap₂ (λ (field : List ℕ) (rest : List (List ℕ)). field ∷ rest)
-      (plain_measure-own named (at fields name)) (own-measures fields names)
+      ap (λ (rest : List (List ℕ)). at fields name ∷ rest) (own-measures fields names)
+
+  own-fields : (fields : List (List ℕ)) → length fields ≡ length (header_for s)
+      → fields ≡ at fields (codes "op") ∷ at fields (codes "id") ∷ map (at fields) s.dimensions
+      ++ map (at fields) s.measures
+  own-fields fields wide =
+      sym (picked-all (header_for s) fields (header_for-distinct s is) wide)
+      ∙ ap (λ (rest : List (List ℕ)). at fields (codes "op") ∷ at fields (codes "id") ∷ rest)
+      (map-append (at fields) s.dimensions s.measures)
 
   plain_by_name-own : (number : ℕ) (fields : List (List ℕ)) → length fields ≡ length (header_for s)
-      → plain_by_name named (places_by (own_columns point s) (header_for s)) number fields ≡ fields
+      → plain_by_name named (places_by (own_columns s) (header_for s)) number fields
+      ≡ plain_in_order (in_order s) fields
   plain_by_name-own number fields wide =
       let right : (length fields == length (header_for s)) ≡ true = eq-eqb _ _ wide in
       let dimensions = own-dimensions fields s.dimensions in
-      let measures = own-measures fields s.measures in
+      let measures = ap (plain_measures named (null_text ∷ []) 46 0) (own-measures fields s.measures) in
       (λ i. at fields (codes "op") ∷ at fields (codes "id") ∷ dimensions i ++ measures i
       ++ (if right i then [] else [] ∷ []))
       ∙ append-nil _
-      ∙ ap (λ (rest : List (List ℕ)). at fields (codes "op") ∷ at fields (codes "id") ∷ rest)
-      (sym (map-append (at fields) s.dimensions s.measures))
-      ∙ picked-all (header_for s) fields (header_for-distinct s is) wide
+      ∙ sym (plain_in_order-parts (in_order s) (at fields (codes "op")) (at fields (codes "id"))
+      (map (at fields) s.dimensions) (map (at fields) s.measures) refl (length-map s.dimensions (at fields)))
+      ∙ sym (ap (plain_in_order (in_order s)) (own-fields fields wide))
 
   items_after-own : (number : ℕ) (records : List (List (List ℕ)))
       → AllByRecursion (λ fields. length fields ≡ length (header_for s)) records
-      → items_after named (ByName (places_by (own_columns point s) (header_for s))) number records
+      → items_after named (ByName (places_by (own_columns s) (header_for s))) number records
       ≡ items_after (in_order s) InOrder number records
   items_after-own number [] wide = refl
   items_after-own number (fields ∷ records) wide =
@@ -339,21 +374,20 @@ module _ (point : ℕ) (s : Layout) (is : IsSchema s) where
       ap₂ (λ (plain : List (List ℕ)) (rest : RestOfFeed FeedEnd). if nat_lt number s.max_records
       then (if is_read s plain then item_then (record { number = number + 1; what = change_of s plain }) rest else rest)
       else no_more)
-      (plain_by_name-own (number + 1) fields wide.0 ∙ sym (plain_in_order-same (in_order s) fields refl))
-      (items_after-own (number + 1) records wide.1)
+      (plain_by_name-own (number + 1) fields wide.0) (items_after-own (number + 1) records wide.1)
 
-pub items_of-own : (s : Layout) (point : ℕ) (records : List (List (List ℕ))) → IsSchema s
+pub items_of-own : (s : Layout) (records : List (List (List ℕ))) → IsSchema s
     → AllByRecursion (λ fields. length fields ≡ width_of s) records
-    → items_of (by_names (own_columns point s) s) (header_for s ∷ records)
+    → items_of (by_names (own_columns s) s) (header_for s ∷ records)
     ≡ items_of (in_order s) (header_for s ∷ records)
-items_of-own s point records is wide =
-    let columns = own_columns point s in
-    let once : list_all (stands_once (header_for s)) (names_read (own_columns point s)) ≡ true =
-    subst (λ names. list_all (stands_once (header_for s)) names ≡ true) (sym (names_read-own point s))
+items_of-own s records is wide =
+    let columns = own_columns s in
+    let once : list_all (stands_once (header_for s)) (names_read (own_columns s)) ≡ true =
+    subst (λ names. list_all (stands_once (header_for s)) names ≡ true) (sym (names_read-own s))
     (stands_once-own (header_for s) (header_for-distinct s is)) in
     items_of-found (by_names columns s) (header_for s) records (ByName (places_by columns (header_for s)))
     (found_columns-once (by_names columns s) columns (header_for s) refl once)
-    ∙ items_after-own point s is 0 records (each records wide)
+    ∙ items_after-own s is 0 records (each records wide)
     ∙ sym (items_of-found (in_order s) (header_for s) records InOrder
     (ap (λ (b : Bool). if b then Some InOrder else None) (is_header-header_for s)))
   where

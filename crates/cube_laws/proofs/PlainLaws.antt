@@ -7,12 +7,13 @@ use Rattle.std.specs.Fmt.{decimal}
 use Rattle.std.specs.Str.{all_ascii_digits}
 use Rattle.std.specs.Str.Parse.{digits_value}
 use Rattle.std.proofs.lemmas.Bool.{ne_eqb}
-use Rattle.std.proofs.lemmas.Fmt.{decimal-digits_value}
+use Rattle.std.proofs.lemmas.Fmt.{decimal-digits_value, decimal_digit}
 use Rattle.std.proofs.lemmas.Str.Parse.{numerals_by_value, tells_all_ascii_digits}
 use Rattle.csv.specs.Quoting.{needs_byte}
 use Rattle.csv.specs.Writing.{default_writer, field_text, fields_text, is_blank}
 use Rattle.cube_core.specs.Layout.{sample_layout}
-use Rattle.cube_core.specs.Text.{line, row_fields, text_of_rows}
+use Rattle.cube_core.specs.Text.{line, padded, pointed, row_fields, text_of_rows}
+use Rattle.cube_laws.specs.Decimals.{ArePrintedSo}
 use Rattle.cube_laws.specs.Lines.{IsPlain, IsPlainByte, sample_row}
 
 -- no byte of a plain field calls for quotes
@@ -84,7 +85,29 @@ decimal-61 = decimal-known (codes "61") refl (omega arith) (λ is. omega arith) 
 decimal-4 : decimal 4 ≡ codes "4"
 decimal-4 = decimal-known (codes "4") refl (omega arith) (λ is. omega arith) (omega arith)
 
-pub row_fields-sample : row_fields sample_row
+decimal-1920 : decimal 1920 ≡ codes "1920"
+decimal-1920 = decimal-known (codes "1920") refl (omega arith) (λ is. omega arith) (omega arith)
+
+decimal-5 : decimal 5 ≡ codes "5"
+decimal-5 = decimal-known (codes "5") refl (omega arith) (λ is. omega arith) (omega arith)
+
+decimal-49 : decimal 49 ≡ codes "49"
+decimal-49 = decimal-known (codes "49") refl (omega arith) (λ is. omega arith) (omega arith)
+
+decimal-6 : decimal 6 ≡ codes "6"
+decimal-6 = decimal-known (codes "6") refl (omega arith) (λ is. omega arith) (omega arith)
+
+-- numbers of hundredths
+pub decimals-printed : ArePrintedSo
+decimals-printed = record {
+  two = ap (λ digits. pointed 2 (padded 3 digits)) decimal-1920;
+  below_zero = ap (λ digits. 45 ∷ pointed 2 (padded 3 digits)) decimal-5;
+  zero_itself = ap (λ digits. pointed 2 (padded 3 digits)) (decimal_digit 0 (omega arith));
+  whole = decimal-1920;
+  mean = λ i. (decimal-49 i ++ codes "/") ++ decimal-6 i;
+}
+
+pub row_fields-sample : row_fields sample_layout sample_row
     ≡ codes "north" ∷ codes "\\N" ∷ codes "\\N" ∷ codes "0" ∷ codes "0" ∷ codes "1"
     ∷ codes "12" ∷ codes "-305" ∷ codes "\\N" ∷ codes "-61/4" ∷ []
 row_fields-sample = λ i. codes "north" ∷ codes "\\N" ∷ codes "\\N" ∷ codes "0" ∷ codes "0" ∷ codes "1"

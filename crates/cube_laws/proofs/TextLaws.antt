@@ -12,8 +12,9 @@ use Rattle.cube_core.specs.Layout.{Layout, IsSchema}
 use Rattle.cube_core.specs.Answer.{IsAnswer}
 use Rattle.cube_core.specs.Group.{group_of}
 use Rattle.cube_core.specs.Cube.{HasAnswers, AreRows}
-use Rattle.cube_core.specs.Text.{line, header_fields, row_fields, row_line, text_of_rows}
-use Rattle.cube_core.specs.declared.aggregate.Agg.{Agg}
+use Rattle.cube_core.specs.Text.{answer_texts, coord_text, digits_of, digits_of_answers, grouping_text, header_fields}
+use Rattle.cube_core.specs.Text.{line, row_fields, row_line, text_of_rows}
+use Rattle.cube_core.specs.declared.aggregate.Answer.{Answer}
 use Rattle.cube_core.specs.declared.fact.Fact.{Fact}
 use Rattle.cube_core.specs.declared.key.Row.{Row}
 use Rattle.cube_core.proofs.ListLaws.{AllZip-length}
@@ -52,22 +53,37 @@ records-line lines all =
     records_from-line lines (length (flat_map line lines) + 1) all (omega (arith, line-flat_map lines))
 
 -- the lines of rows are those of their fields
-row_line-row_fields : (rows : List Row) → flat_map row_line rows ≡ flat_map line (map row_fields rows)
-row_line-row_fields [] = refl
-row_line-row_fields (row ∷ rows) = ap (λ (text : List ℕ). row_line row ++ text) (row_line-row_fields rows)
+row_line-row_fields : (s : Layout) (rows : List Row)
+    → flat_map (row_line s) rows ≡ flat_map line (map (row_fields s) rows)
+row_line-row_fields s [] = refl
+row_line-row_fields s (row ∷ rows) = ap (λ (text : List ℕ). row_line s row ++ text) (row_line-row_fields s rows)
 
 -- a row of some answer has a field
-row_fields-length : (row : Row) → 1 ≤ length row.answers → 1 ≤ length (row_fields row)
-row_fields-length row some = simp (length-append, length-map) (omega arith)
+answer_texts-some : (digits : List ℕ) (answers : List Answer) → 1 ≤ length digits → 1 ≤ length answers
+    → 1 ≤ length (answer_texts digits answers)
+answer_texts-some [] answers some some' = absurd (omega (arith, some))
+answer_texts-some (k ∷ digits) [] some some' = absurd (omega (arith, some'))
+answer_texts-some (k ∷ digits) (a ∷ answers) some some' = omega arith
 
-row_fields-HasAnswers : (aggregates : List Agg) (facts : List Fact) (rows : List Row) → 1 ≤ length aggregates
-    → AllByRecursion (HasAnswers aggregates facts) rows
-    → AllByRecursion (λ fields. 1 ≤ length fields) (map row_fields rows)
-row_fields-HasAnswers aggregates facts [] some all = tt
-row_fields-HasAnswers aggregates facts (row ∷ rows) some all = (
-  row_fields-length row
-      (omega (arith, AllZip-length (IsAnswer (group_of row.key facts)) aggregates row.answers all.0)),
-  row_fields-HasAnswers aggregates facts rows some all.1,
+row_fields-length : (s : Layout) (row : Row) → 1 ≤ length s.aggregates → 1 ≤ length row.answers
+    → 1 ≤ length (row_fields s row)
+row_fields-length s row some some' =
+    let shown = map coord_text row.key.coords ++ map grouping_text row.key.coords in
+    let digits : 1 ≤ length (digits_of_answers s) = rw (length-map s.aggregates (digits_of s)) some in
+    omega (
+      arith,
+      length-append shown (answer_texts (digits_of_answers s) row.answers),
+      answer_texts-some (digits_of_answers s) row.answers digits some',
+    )
+
+row_fields-HasAnswers : (s : Layout) (facts : List Fact) (rows : List Row) → 1 ≤ length s.aggregates
+    → AllByRecursion (HasAnswers s.aggregates facts) rows
+    → AllByRecursion (λ fields. 1 ≤ length fields) (map (row_fields s) rows)
+row_fields-HasAnswers s facts [] some all = tt
+row_fields-HasAnswers s facts (row ∷ rows) some all = (
+  row_fields-length s row some
+      (omega (arith, AllZip-length (IsAnswer (group_of row.key facts)) s.aggregates row.answers all.0)),
+  row_fields-HasAnswers s facts rows some all.1,
 )
 
 -- the header has a field
@@ -76,15 +92,15 @@ header_fields-length s some = simp (length-append, length-map) (omega arith)
 
 -- rows of fields, printed with the header and read back
 pub records-fields : (s : Layout) (rows : List Row) → 1 ≤ length s.dimensions
-    → AllByRecursion (λ fields. 1 ≤ length fields) (map row_fields rows)
-    → records default_config (text_of_rows s rows) ≡ header_fields s ∷ map row_fields rows
+    → AllByRecursion (λ fields. 1 ≤ length fields) (map (row_fields s) rows)
+    → records default_config (text_of_rows s rows) ≡ header_fields s ∷ map (row_fields s) rows
 records-fields s rows some all =
-    ap (λ (text : List ℕ). records default_config (line (header_fields s) ++ text)) (row_line-row_fields rows)
-    ∙ records-line (header_fields s ∷ map row_fields rows) (header_fields-length s some, all)
+    ap (λ (text : List ℕ). records default_config (line (header_fields s) ++ text)) (row_line-row_fields s rows)
+    ∙ records-line (header_fields s ∷ map (row_fields s) rows) (header_fields-length s some, all)
 
 -- a printed cube, read back
 pub records-text_of_rows : (s : Layout) (facts : List Fact) (rows : List Row) → IsSchema s → AreRows s facts rows
-    → records default_config (text_of_rows s rows) ≡ header_fields s ∷ map row_fields rows
+    → records default_config (text_of_rows s rows) ≡ header_fields s ∷ map (row_fields s) rows
 records-text_of_rows s facts rows schema are =
     records-fields s rows schema.some_dimension
-    (row_fields-HasAnswers s.aggregates facts rows schema.some_aggregate are.answers)
+    (row_fields-HasAnswers s facts rows schema.some_aggregate are.answers)

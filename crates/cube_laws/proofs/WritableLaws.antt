@@ -168,9 +168,9 @@ document_of s sets =
     (member (codes "measures") (array (items_of_texts s.measures))
     (member (codes "version") (integer (pos s.version)) no_members)))))
 
-pub IsSchema-WritesSchema : (s : Layout) → IsSchema s → s.columns ≡ None
+pub IsSchema-WritesSchema : (s : Layout) → IsSchema s → s.columns ≡ None → s.decimals ≡ []
     → (document : Members) × WritesSchema document s
-IsSchema-WritesSchema s is none =
+IsSchema-WritesSchema s is none no_decimals =
     let dimensions = length s.dimensions in
     let below : AllByRecursion (λ set. set < 2 ^ dimensions) s.grouping_sets =
     recursion_from_All _ s.grouping_sets is.sets_are_of_dimensions in
@@ -202,5 +202,6 @@ IsSchema-WritesSchema s is none =
         version = ap (λ b. if b then Some s.version else None)
             (and_from _ _ (le-leb 1 s.version is.version_at_least) (le-leb s.version 2 is.version_at_most));
         columns = ap Some (sym none);
+        decimals = ap Some (sym no_decimals);
       },
     )

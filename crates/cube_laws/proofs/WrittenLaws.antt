@@ -11,7 +11,7 @@ use Rattle.cube_core.specs.FeedDocument.{columns_of_value}
 use Rattle.cube_core.specs.Layout.{Layout, IsSchema, spelling_of, is_aggregate_of}
 use Rattle.cube_core.specs.SchemaDocument.{is_some_up_to, aggregate_spelled, are_spellings, dimensions_in, measures_in}
 use Rattle.cube_core.specs.SchemaDocument.{spellings_in, max_records_in, default_max_records, grouping_sets_in}
-use Rattle.cube_core.specs.SchemaDocument.{columns_in, least_measures_in, texts_at}
+use Rattle.cube_core.specs.SchemaDocument.{columns_in, decimals_in, least_measures_in, texts_at}
 use Rattle.cube_core.specs.SchemaDocument.{version_in, document_faults, has_fault, first_fault, layout_of, schema_of}
 use Rattle.cube_core.specs.Shard.{whole_feed}
 use Rattle.cube_laws.specs.Written.{WritesSchema}
@@ -19,7 +19,7 @@ use Rattle.cube_core.specs.declared.aggregate.Agg.{Agg}
 use Rattle.cube_core.specs.declared.schema_fault.SchemaFault.{SchemaFault}
 use Rattle.cube_core.specs.declared.schema_fault.SchemaFault.TheVariants.{UnknownKey, Dimensions, Measures, Name}
 use Rattle.cube_core.specs.declared.schema_fault.SchemaFault.TheVariants.{Aggregates, MaxRecords, Grouping, Version}
-use Rattle.cube_core.specs.declared.schema_fault.SchemaFault.TheVariants.{Columns}
+use Rattle.cube_core.specs.declared.schema_fault.SchemaFault.TheVariants.{Columns, Decimals}
 use Rattle.cube_laws.proofs.SpellingLaws.{aggregate_spelled-IsSchema}
 
 -- the spellings of aggregates are read as these aggregates
@@ -50,8 +50,9 @@ is_some_up_to-length most texts least greatest = rw (le-leb 1 (length texts) lea
 -- no fault, where none of them holds
 find-document_faults : (holds : SchemaFault → Bool) → holds UnknownKey ≡ false → holds Dimensions ≡ false
     → holds Measures ≡ false → holds Name ≡ false → holds Aggregates ≡ false → holds MaxRecords ≡ false
-    → holds Grouping ≡ false → holds Version ≡ false → holds Columns ≡ false → find holds document_faults ≡ None
-find-document_faults holds a b c d e f g h k = rw (a, b, c, d, e, f, g, h, k)
+    → holds Grouping ≡ false → holds Version ≡ false → holds Columns ≡ false → holds Decimals ≡ false
+    → find holds document_faults ≡ None
+find-document_faults holds a b c d e f g h k l = rw (a, b, c, d, e, f, g, h, k, l)
 
 -- a document has as many measures as it has to have
 least_measures-WritesSchema : (document : Members) (s : Layout) → IsSchema s → WritesSchema document s
@@ -90,6 +91,7 @@ WritesSchema-schema_of document s is whole few writes =
     ap (λ o. unwrap_or o []) writes.grouping_sets in
     let version : unwrap_or (version_in document) 1 ≡ s.version = ap (λ o. unwrap_or o 1) writes.version in
     let columns : unwrap_or (columns_in document) None ≡ s.columns = ap (λ o. unwrap_or o None) writes.columns in
+    let decimals : unwrap_or (decimals_in document) [] ≡ s.decimals = ap (λ o. unwrap_or o []) writes.decimals in
     let spelled : spellings_in document ≡ map (spelling_of s.measures) s.aggregates =
     texts ∙ is.aggregates_are_spelled in
     let as_many : length s.aggregate_texts ≡ length s.aggregates =
@@ -112,7 +114,8 @@ WritesSchema-schema_of document s is whole few writes =
     (not_from_true _ (rw writes.max_records))
     (not_from_true _ (rw writes.grouping_sets))
     (not_from_true _ (rw writes.version))
-    (not_from_true _ (rw writes.columns)) in
+    (not_from_true _ (rw writes.columns))
+    (not_from_true _ (rw writes.decimals)) in
     let layout : layout_of document ≡ s = λ i. record {
       dimensions = dimensions i;
       measures = measures i;
@@ -123,5 +126,6 @@ WritesSchema-schema_of document s is whole few writes =
       version = version i;
       shard = sym whole i;
       columns = columns i;
+      decimals = decimals i;
     } in
     ap (λ fault. option_map_or Err fault (Ok (layout_of document))) no_fault ∙ ap Ok layout

@@ -12,4 +12,4 @@ pub record LookAlike (a b : Key) : Type 0 where
 
 -- the fields of a row's line that show its key: the dimensions, and their GROUPING columns
 abbrev pub key_columns : Layout → Row → List (List ℕ)
-key_columns s row = take (2 * length s.dimensions) (row_fields row)
+key_columns s row = take (2 * length s.dimensions) (row_fields s row)

@@ -12,5 +12,6 @@ pub mod KeyOrder
 pub mod Lines
 pub mod Single
 pub mod Asked
+pub mod Decimals
 pub mod Feeds
 pub mod Named

@@ -13,14 +13,14 @@ abbrev pub whole_column : List ℕ → Column
 whole_column name = record { name = name; first = None }
 
 -- the columns of a schema's own order, by their names: `op` and `id`, and each dimension and measure under its own
--- name, with `\N` alone for null, with commas, and with this point
-abbrev pub own_columns : ℕ → Layout → FeedColumns
-own_columns point s = record {
+-- name, with `\N` alone for null, with commas, and with the point
+abbrev pub own_columns : Layout → FeedColumns
+own_columns s = record {
   id = Some (codes "id");
   op = Some (codes "op");
   nulls = null_text ∷ [];
   delimiter = 44;
-  point = point;
+  point = 46;
   dimensions = map whole_column s.dimensions;
   measures = s.measures;
 }

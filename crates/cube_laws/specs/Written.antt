@@ -3,7 +3,7 @@ use Rattle.std.specs.Prelude.{◌≡◌, ◌<◌, ℕ, List, true, false, codes,
 use Rattle.toml.specs.Data.{Members, get_member}
 use Rattle.cube_core.specs.Layout.{Layout}
 use Rattle.cube_core.specs.SchemaDocument.{has_fault, has_known_keys, texts_at, max_records_in, grouping_sets_in}
-use Rattle.cube_core.specs.SchemaDocument.{version_in, columns_in}
+use Rattle.cube_core.specs.SchemaDocument.{version_in, columns_in, decimals_in}
 use Rattle.cube_core.specs.declared.schema_fault.SchemaFault.{SchemaFault}
 use Rattle.cube_core.specs.declared.schema_fault.SchemaFault.TheVariants as fault
 
@@ -17,6 +17,7 @@ pub record WritesSchema (document : Members) (s : Layout) : Type 0 where
   pub grouping_sets : grouping_sets_in document ≡ Some s.grouping_sets
   pub version : version_in document ≡ Some s.version
   pub columns : columns_in document ≡ Some s.columns
+  pub decimals : decimals_in document ≡ Some s.decimals
 
 -- the document has these arrays of texts, and no other key
 pub record GivesNames (document : Members) (dimensions measures spellings : List (List ℕ)) : Type 0 where
@@ -28,8 +29,9 @@ pub record GivesNames (document : Members) (dimensions measures spellings : List
   pub grouping : get_member (codes "grouping") document ≡ None
   pub version : get_member (codes "version") document ≡ None
   pub feed : get_member (codes "feed") document ≡ None
+  pub decimals : get_member (codes "decimals") document ≡ None
 
--- the numbers of the faults of a schema, as their codes S1 to S11 have them
+-- the numbers of the faults of a schema, as their codes S1 to S12 have them
 abbrev pub number_of_fault : SchemaFault → ℕ
 number_of_fault fault.Memory = 1
 number_of_fault fault.Toml = 2
@@ -42,6 +44,7 @@ number_of_fault fault.MaxRecords = 8
 number_of_fault fault.Grouping = 9
 number_of_fault fault.Version = 10
 number_of_fault fault.Columns = 11
+number_of_fault fault.Decimals = 12
 
 -- a document has this fault, and none with a smaller number
 pub record IsFirstFault (document : Members) (fault : SchemaFault) : Type 0 where

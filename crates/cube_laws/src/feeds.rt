@@ -14,11 +14,12 @@ ghost use Rattle.cube_core.specs.declared.change.Change.{Change};
 ghost use Rattle.cube_core.specs.declared.feed_columns.FeedColumns.{FeedColumns};
 
 /// A feed that writes changes which the schema takes, in the order of the schema, is read as these changes, in their order,
-/// numbered from 1, and is good: no change that can be written is refused or taken for another (this project's choice).
+/// numbered from 1, and is good: no change that can be written is refused or taken for another. No measure takes a point in it
+/// (this project's choice).
 pub fn written_feed_is_read()
     ensures change { (s : Layout) (change : Change) → CanBeSpelled s change → change_of s (record_for change) ≡ Ok change }
     ensures feed { (s : Layout) (changes : List Change) →
-        s.columns ≡ None → s.shard ≡ whole_feed → length changes ≤ s.max_records →
+        s.columns ≡ None → s.decimals ≡ [] → s.shard ≡ whole_feed → length changes ≤ s.max_records →
         AllByRecursion (CanBeSpelled s) changes →
         items_of s (feed_records s (flat_map line (header_for s ∷ map record_for changes)))
         ≡ record { items = numbered 1 changes; end = Good } }

@@ -4,6 +4,7 @@
 #![tactic(auto)]
 
 pub mod counts;
+pub mod decimals;
 pub mod feeds;
 pub mod fraction;
 pub mod keys;

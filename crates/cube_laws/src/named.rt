@@ -11,12 +11,12 @@ ghost use Rattle.cube_laws.specs.Named.{AreReadAlike, bare_columns, by_names, in
 ghost use Rattle.cube_core.specs.declared.feed_columns.FeedColumns.{FeedColumns};
 
 /// A feed in the order of the schema, each record as wide as the header, gives the same where its columns are read by their
-/// names: `op`, `id`, and each dimension and measure under its own name, with `\N` alone for null and with commas (this
-/// project's choice).
+/// names: `op`, `id`, and each dimension and measure under its own name, with `\N` alone for null, with commas, and with the
+/// point before decimals (this project's choice).
 pub fn own_columns_give_what_the_order_gives()
-    ensures { (s : Layout) (point : ℕ) (records : List (List (List ℕ))) →
+    ensures { (s : Layout) (records : List (List (List ℕ))) →
         IsSchema s → AllByRecursion (λ fields. length fields ≡ width_of s) records →
-        items_of (by_names (own_columns point s) s) (header_for s ∷ records)
+        items_of (by_names (own_columns s) s) (header_for s ∷ records)
         ≡ items_of (in_order s) (header_for s ∷ records) }
 {}
 

@@ -1,5 +1,5 @@
 //! What a schema file writes: each schema can be written, and each spelling is of one aggregate.
-ghost use Rattle.std.specs.Prelude.{◌≡◌, ◌≤◌, ◌+◌, ◌-◌, ◌^◌, Some, None, Ok, Err, ℕ, List, length, map, codes, true};
+ghost use Rattle.std.specs.Prelude.{◌≡◌, ◌≤◌, ◌+◌, ◌-◌, ◌^◌, Some, None, Ok, Err, ℕ, List, [], length, map, codes, true};
 ghost use Rattle.std.specs.List.{range_with_len};
 ghost use Rattle.toml.specs.Data.{Members, string, get_member};
 ghost use Rattle.cube_core.specs.Cube.{AreRows, AreRowsOver};
@@ -30,10 +30,10 @@ pub fn told_fault_is_the_first()
         IsFirstFault document fault → schema_of document ≡ Err fault }
 {}
 
-/// Each schema without columns by name is written by some document (of TOML's values; the text of a file isn't spoken of; that
-/// each with them is written too isn't proved).
+/// Each schema without columns by name and without decimals is written by some document (of TOML's values; the text of a file
+/// isn't spoken of; that each with them is written too isn't proved).
 pub fn each_schema_can_be_written()
-    ensures { (s : Layout) → IsSchema s → s.columns ≡ None → (document : Members) × WritesSchema document s }
+    ensures { (s : Layout) → IsSchema s → s.columns ≡ None → s.decimals ≡ [] → (document : Members) × WritesSchema document s }
 {}
 
 /// In a schema the spelling of an aggregate is read as that aggregate, so that no two share a spelling, whatever

@@ -65,19 +65,19 @@ IsLeastSoFar-none inputs none k = elim (cases_lt k (length inputs)) [
 
 -- one more row's line
 pub text_of_rows-push : (s : Layout) (rows : List Row) (row : Row) (sent old more left : List ℕ)
-    → sent ++ old ≡ text_of_rows s rows → old ++ row_line row ≡ more ++ left
+    → sent ++ old ≡ text_of_rows s rows → old ++ row_line s row ≡ more ++ left
     → (sent ++ more) ++ left ≡ text_of_rows s (rows ++ row ∷ [])
 text_of_rows-push s rows row sent old more left so_far parts =
     let header = line (header_fields s) in
-    append_assoc sent more left ∙ ap (λ t. sent ++ t) (sym parts) ∙ sym (append_assoc sent old (row_line row))
-    ∙ ap (λ t. t ++ row_line row) so_far
-    ∙ append_assoc header (flat_map row_line rows) (row_line row)
+    append_assoc sent more left ∙ ap (λ t. sent ++ t) (sym parts) ∙ sym (append_assoc sent old (row_line s row))
+    ∙ ap (λ t. t ++ row_line s row) so_far
+    ∙ append_assoc header (flat_map (row_line s) rows) (row_line s row)
     ∙ ap (λ t. header ++ t)
-    (sym (flat_map-append row_line rows (row ∷ []) ∙ ap (λ t. flat_map row_line rows ++ t) (append-nil (row_line row))))
+    (sym (flat_map-append (row_line s) rows (row ∷ []) ∙ ap (λ t. flat_map (row_line s) rows ++ t) (append-nil (row_line s row))))
 
 -- one more row's line, of which nothing was sent
 pub text_of_rows-more : (s : Layout) (rows : List Row) (row : Row) (sent old new : List ℕ)
-    → sent ++ old ≡ text_of_rows s rows → new ≡ old ++ row_line row → sent ++ new ≡ text_of_rows s (rows ++ row ∷ [])
+    → sent ++ old ≡ text_of_rows s rows → new ≡ old ++ row_line s row → sent ++ new ≡ text_of_rows s (rows ++ row ∷ [])
 text_of_rows-more s rows row sent old new so_far grown =
     ap (λ t. t ++ new) (sym (append-nil sent)) ∙ text_of_rows-push s rows row sent old [] new so_far (sym grown)
 
@@ -130,20 +130,20 @@ taken-TookHeaders remaining header readers inputs taken = record {
 
 -- what an input held that has ended
 text-of_ended : (s : Layout) (text start : Option (List ℕ)) (input : InputView) (rows : List Row)
-    → Consumes text start (line (header_fields s)) → Gave start input rows → IsEnded start input → input.row ≡ None
+    → Consumes text start (line (header_fields s)) → Gave s start input rows → IsEnded start input → input.row ≡ None
     → IsToldTextOf s text rows
 text-of_ended s None start input rows head gave ended none = tt
 text-of_ended s (Some t) None input rows head gave ended none = absurd head
 text-of_ended s (Some t) (Some x) input rows head gave ended none = by_left input.left given_rows (ended none) where
-  given_rows : Consumes (Some x) input.left (flat_map row_line rows)
-  given_rows = subst (λ rs. Consumes (Some x) input.left (flat_map row_line rs))
+  given_rows : Consumes (Some x) input.left (flat_map (row_line s) rows)
+  given_rows = subst (λ rs. Consumes (Some x) input.left (flat_map (row_line s) rs))
       (ap (λ o. rows ++ option_to_list o) none ∙ append-nil rows) gave
 
-  by_left : (left : Option (List ℕ)) → Consumes (Some x) left (flat_map row_line rows) → IsAtEnd left
+  by_left : (left : Option (List ℕ)) → Consumes (Some x) left (flat_map (row_line s) rows) → IsAtEnd left
       → t ≡ text_of_rows s rows
   by_left None c e = absurd c
   by_left (Some y) c e = head ∙ ap (λ l. line (header_fields s) ++ l)
-      (c ∙ ap (λ l. flat_map row_line rows ++ l) e ∙ append-nil (flat_map row_line rows))
+      (c ∙ ap (λ l. flat_map (row_line s) rows ++ l) e ∙ append-nil (flat_map (row_line s) rows))
 
 -- the merge of all texts
 pub IsMergeOf-ends : {R : Type 0} (remaining : R → Option (List ℕ)) (given wanted : Layout) (readers : List R)
@@ -181,10 +181,10 @@ IsMergeOf-ends remaining given wanted readers inputs old new taken merges =
     }
 
 -- an input without a row gave none yet
-pub Gave-none : (start : Option (List ℕ)) (input : InputView) → Consumes start input.left [] → input.row ≡ None
-    → Gave start input []
-Gave-none start input c none =
-    subst (λ o. Consumes start input.left (flat_map row_line ([] ++ option_to_list o))) (sym none) c
+pub Gave-none : (s : Layout) (start : Option (List ℕ)) (input : InputView) → Consumes start input.left [] → input.row ≡ None
+    → Gave s start input []
+Gave-none s start input c none =
+    subst (λ o. Consumes start input.left (flat_map (row_line s) ([] ++ option_to_list o))) (sym none) c
 
 -- past the inputs, of which each is used, nothing is left
 pub IsEnded-unused : (start : Option (List ℕ)) (us : List Bool) (inputs : List InputView) (k : ℕ)
@@ -206,6 +206,6 @@ pub IsMerging-begun : (given : Layout) (wanted : List Agg) (starts : List (Optio
     → AllMove given us olds news → IsMerging given wanted starts news []
 IsMerging-begun given wanted starts olds news us used fresh same moved =
     IsMerging-start given wanted starts olds news us
-    (λ k. Gave-none (get_or starts k None) (get_or olds k nothing_left) (fresh.left k) (fresh.row k))
+    (λ k. Gave-none given (get_or starts k None) (get_or olds k nothing_left) (fresh.left k) (fresh.row k))
     fresh.row fresh.lines
     (λ k unused. IsEnded-unused (get_or starts k None) us olds k used unused) used same moved

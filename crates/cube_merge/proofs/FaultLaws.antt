@@ -48,7 +48,7 @@ use Rattle.cube_merge.proofs.StepLaws.{AreInKeyOrder-none, AreOfSchema-none, bel
 
 -- a text behind the lines of rows
 stands-at : (s : Layout) (text start left : Option (List ℕ)) (rows : List Row) (number : ℕ)
-    → Consumes text start (line (header_fields s)) → Consumes start left (flat_map row_line rows)
+    → Consumes text start (line (header_fields s)) → Consumes start left (flat_map (row_line s) rows)
     → AllByRecursion (IsLawfulRow s) rows → IsStrictlySortedBy key_cmp (map key_of rows) → number ≡ length rows + 2
     → IfSome text (λ t. (rest : List ℕ) × (left ≡ Some rest) × SplitsAt s t rows rest number)
 stands-at s None start left rows number head gave are sorted is = tt
@@ -59,7 +59,7 @@ stands-at s (Some t) (Some x) (Some y) rows number head gave are sorted is = (
   refl,
   record {
     text_is = head ∙ ap (λ l. line (header_fields s) ++ l) gave
-        ∙ sym (append_assoc (line (header_fields s)) (flat_map row_line rows) y);
+        ∙ sym (append_assoc (line (header_fields s)) (flat_map (row_line s) rows) y);
     of_schema = are;
     ordered = sorted;
     number_is = is;
@@ -101,7 +101,7 @@ module _ (s : Layout) (input : InputView) (rows : List Row) where
     by_row None e = absurd (subst (λ (o : Option Row). IsAbove o low.row → ⊥) e low.below tt)
     by_row (Some before) e =
         let after =
-        rest-of rest low.left (row_line low.row) (subst (λ o. Consumes o low.left (row_line low.row)) is low.taken) in
+        rest-of rest low.left (row_line s low.row) (subst (λ o. Consumes o low.left (row_line s low.row)) is low.taken) in
         record {
           rows = rows;
           before = before;
@@ -128,7 +128,7 @@ module _ (s : Layout) (input : InputView) (rows : List Row) where
         ap (λ (r : Row). is_total (length s.dimensions) r.key) (sym (last-same rows before row last is)) ∙ other
 
   module _ (text start : Option (List ℕ)) (head : Consumes text start (line (header_fields s)))
-      (gave : Gave start input rows) (are : AreOfSchema s input rows) (sorted : AreInKeyOrder input rows) where
+      (gave : Gave s start input rows) (are : AreOfSchema s input rows) (sorted : AreInKeyOrder input rows) where
     -- an input that can't take its next line, by its text
     pub explains-move : (fault : InputFault) (number : ℕ) → input.lines ≡ length (rows ++ option_to_list input.row) + 1
         → (input.row ≡ None → rows ≡ []) → HasFault s input fault number
@@ -169,10 +169,10 @@ module _ (s : Layout) (input : InputView) (rows : List Row) where
         → IfSome text (HasRowAt s number)
     row-at row number is counted =
         let header = line (header_fields s) in
-        let lines = flat_map row_line rows in
-        let all : flat_map row_line (rows ++ option_to_list input.row) ≡ lines ++ row_line row
-        = ap (λ o. flat_map row_line (rows ++ option_to_list o)) is ∙ flat_map-append row_line rows (row ∷ [])
-        ∙ ap (λ t. lines ++ t) (append-nil (row_line row)) in
+        let lines = flat_map (row_line s) rows in
+        let all : flat_map (row_line s) (rows ++ option_to_list input.row) ≡ lines ++ row_line s row
+        = ap (λ o. flat_map (row_line s) (rows ++ option_to_list o)) is ∙ flat_map-append (row_line s) rows (row ∷ [])
+        ∙ ap (λ t. lines ++ t) (append-nil (row_line s row)) in
         IfSome_then text (stands-at s text start input.left (rows ++ option_to_list input.row)
         (length (rows ++ option_to_list input.row) + 2) head gave are sorted refl)
         (λ t at. record {
@@ -181,8 +181,8 @@ module _ (s : Layout) (input : InputView) (rows : List Row) where
           rest = at.0;
           stands = record {
             text_is = at.2.text_is ∙ ap (λ l. (header ++ l) ++ at.0) all
-                ∙ ap (λ l. l ++ at.0) (sym (append_assoc header lines (row_line row)))
-                ∙ append_assoc (header ++ lines) (row_line row) at.0;
+                ∙ ap (λ l. l ++ at.0) (sym (append_assoc header lines (row_line s row)))
+                ∙ append_assoc (header ++ lines) (row_line s row) at.0;
             of_schema = AllByRecursion-first (IsLawfulRow s) rows (option_to_list input.row) are;
             ordered = sorted-first (map key_of rows) (map key_of (option_to_list input.row))
                 (subst (IsStrictlySortedBy key_cmp) (map-append key_of rows (option_to_list input.row)) sorted);
@@ -587,7 +587,7 @@ module _ {R : Type 0} (remaining : R → Option (List ℕ)) (given wanted : Layo
                 (sym place_is)
                 (explains-move given there [] (get_or (map remaining readers) at.place None) start
                 (taken-header remaining header readers inputs taken at.place)
-                (Gave-none start there (lefts-at inputs at.place) none) (AreOfSchema-none given there none)
+                (Gave-none given start there (lefts-at inputs at.place) none) (AreOfSchema-none given there none)
                 (AreInKeyOrder-none there none) fault number lines_is (λ _. refl) at.has_fault);
             too_large = λ is. absurd (subst (λ f. HasFault given there f number) is at.has_fault);
           },

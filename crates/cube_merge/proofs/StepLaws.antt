@@ -37,22 +37,22 @@ use Rattle.cube_merge.proofs.MergedLaws.{AllByRecursion-append, AreInRange-push,
 
 -- one input that took a line, or stays
 TakesLine-line : (s : Layout) (old new : InputView) → TakesLine s old new
-    → Consumes old.left new.left (flat_map row_line (option_to_list new.row))
+    → Consumes old.left new.left (flat_map (row_line s) (option_to_list new.row))
 TakesLine-line s old new moved = by_row new.row moved where
   by_row : (row : Option Row) → TakesLine s old (record { left = new.left; row = row; lines = new.lines })
-      → Consumes old.left new.left (flat_map row_line (option_to_list row))
+      → Consumes old.left new.left (flat_map (row_line s) (option_to_list row))
   by_row None m = m.0
-  by_row (Some row) m = subst (Consumes old.left new.left) (sym (append-nil (row_line row))) m.0
+  by_row (Some row) m = subst (Consumes old.left new.left) (sym (append-nil (row_line s row))) m.0
 
 Gave-Moves : (s : Layout) (start : Option (List ℕ)) (used : Bool) (old new : InputView) (rows : List Row)
-    → Gave start old rows → Moves s used old new → Gave start new (rows ++ used_row used old)
+    → Gave s start old rows → Moves s used old new → Gave s start new (rows ++ used_row used old)
 Gave-Moves s start true old new rows gave moved =
     subst (Consumes start new.left)
-    (sym (flat_map-append row_line (rows ++ option_to_list old.row) (option_to_list new.row)))
+    (sym (flat_map-append (row_line s) (rows ++ option_to_list old.row) (option_to_list new.row)))
     (Consumes-trans start old.left new.left _ _ gave (TakesLine-line s old new moved))
 Gave-Moves s start false old new rows gave same =
-    subst (λ (input : InputView). Gave start input (rows ++ [])) (sym same)
-    (subst (λ rs. Gave start old rs) (sym (append-nil rows)) gave)
+    subst (λ (input : InputView). Gave s start input (rows ++ [])) (sym same)
+    (subst (λ rs. Gave s start old rs) (sym (append-nil rows)) gave)
 
 -- the last key is above those before it
 last-above : (keys : List Key) (last key : Key) → IsStrictlySortedBy key_cmp (keys ++ last ∷ []) → Contains keys key
@@ -315,7 +315,7 @@ told (Some x) None bs P c p = absurd c
 told (Some x) (Some y) bs P c p = p
 
 ended-Moves : (s : Layout) (start : Option (List ℕ)) (rows : List Row) (u : Bool) (old new : InputView)
-    → Gave start old rows → (u ≡ false → IsEnded start old) → Moves s u old new → IsEnded start new
+    → Gave s start old rows → (u ≡ false → IsEnded start old) → Moves s u old new → IsEnded start new
 ended-Moves s start rows false old new gave ended same = subst (IsEnded start) (sym same) (ended refl)
 ended-Moves s start rows true old new gave ended moved =
     by_row new.row moved where
@@ -341,7 +341,7 @@ IsMerging-step given wanted starts olds news rows us row m same same_news uses s
       cubes = join_each m.cubes gains;
       parts = m.parts ++ used_rows us olds;
       width = join_each-length m.cubes gains wide ∙ m.width ∙ sym same_news;
-      gave = λ k. subst (λ rs. Gave (get_or starts k None) (get_or news k nothing_left) rs)
+      gave = λ k. subst (λ rs. Gave given (get_or starts k None) (get_or news k nothing_left) rs)
           (sym (join_each-at m.cubes gains k wide
           ∙ ap (λ g. get_or m.cubes k [] ++ g) (used_of_each-at us olds k same)))
           (Gave-Moves given (get_or starts k None) (get_or us k false) (get_or olds k nothing_left)
@@ -421,7 +421,7 @@ AreMerged-none given wanted = record { cells = λ key. (λ h. h, λ h. h); order
 
 pub IsMerging-start : (given : Layout) (wanted : List Agg) (starts : List (Option (List ℕ)))
     (olds news : List InputView) (us : List Bool)
-    → ((k : ℕ) → Gave (get_or starts k None) (get_or olds k nothing_left) [])
+    → ((k : ℕ) → Gave given (get_or starts k None) (get_or olds k nothing_left) [])
     → ((k : ℕ) → (get_or olds k nothing_left).row ≡ None) → ((k : ℕ) → (get_or olds k nothing_left).lines ≡ 1)
     → ((k : ℕ) → get_or us k false ≡ false → IsEnded (get_or starts k None) (get_or olds k nothing_left))
     → ((k : ℕ) → k < length olds → get_or us k false ≡ true)
@@ -430,7 +430,7 @@ IsMerging-start given wanted starts olds news us gave rows ones ended used same 
   cubes = replicate_empty news;
   parts = [];
   width = replicate_empty-length news;
-  gave = λ k. subst (λ rs. Gave (get_or starts k None) (get_or news k nothing_left) rs)
+  gave = λ k. subst (λ rs. Gave given (get_or starts k None) (get_or news k nothing_left) rs)
       (none_used k ∙ sym (replicate_empty-at news k))
       (Gave-Moves given (get_or starts k None) (get_or us k false) (get_or olds k nothing_left)
       (get_or news k nothing_left) [] (gave k) (moved k));

@@ -43,7 +43,7 @@ IsReadFault _ = ⊥
 pub record HasRowBelow (s : Layout) (input : InputView) : Type 0 where
   pub row : Row
   pub left : Option (List ℕ)
-  pub taken : Consumes input.left left (row_line row)
+  pub taken : Consumes input.left left (row_line s row)
   pub of_schema : IsLawfulRow s row
   pub below : IsAbove input.row row → ⊥
 
@@ -170,7 +170,7 @@ pub record IsOutOfOrder (s : Layout) (number : ℕ) (text : List ℕ) : Type 0 w
   pub before : Row
   pub row : Row
   pub rest : List ℕ
-  pub stands : SplitsAt s text (rows ++ before ∷ []) (row_line row ++ rest) number
+  pub stands : SplitsAt s text (rows ++ before ∷ []) (row_line s row ++ rest) number
   pub of_schema : IsLawfulRow s row
   pub below : key_cmp before.key row.key ≢ Less
 
@@ -179,7 +179,7 @@ pub record HasRowAt (s : Layout) (number : ℕ) (text : List ℕ) : Type 0 where
   pub rows : List Row
   pub row : Row
   pub rest : List ℕ
-  pub stands : SplitsAt s text rows (row_line row ++ rest) number
+  pub stands : SplitsAt s text rows (row_line s row ++ rest) number
 
 -- the last of rows isn't the grand total
 abbrev pub EndsWithoutTotal : Layout → List Row → Type 0

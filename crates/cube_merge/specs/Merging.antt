@@ -53,7 +53,7 @@ TakesNone s old new =
 abbrev pub TakesLine : Layout → InputView → InputView → Type 0
 TakesLine s old new =
     MatchOption new.row (TakesNone s old new) (λ row.
-    Consumes old.left new.left (row_line row) × IsAbove old.row row × (new.lines ≡ old.lines + 1) × IsLawfulRow s row)
+    Consumes old.left new.left (row_line s row) × IsAbove old.row row × (new.lines ≡ old.lines + 1) × IsLawfulRow s row)
 
 -- an input whose line was used took the next one, and any other stays
 abbrev pub Moves : Layout → Bool → InputView → InputView → Type 0
@@ -104,9 +104,9 @@ all_rows cubes = flat_map (λ rows. rows) cubes
 abbrev pub used_rows : List Bool → List InputView → List Row
 used_rows used inputs = all_rows (used_of_each used inputs)
 
--- from what it had, an input gave these rows, and has taken the line of its row
-abbrev pub Gave : Option (List ℕ) → InputView → List Row → Type 0
-Gave start input rows = Consumes start input.left (flat_map row_line (rows ++ option_to_list input.row))
+-- from what it had, an input gave these rows of a schema, and has taken the line of its row
+abbrev pub Gave : Layout → Option (List ℕ) → InputView → List Row → Type 0
+Gave s start input rows = Consumes start input.left (flat_map (row_line s) (rows ++ option_to_list input.row))
 
 -- the rows that an input gave, and its row, are in key order, each key once
 abbrev pub AreInKeyOrder : InputView → List Row → Type 0
@@ -152,7 +152,7 @@ pub record IsMerging (given : Layout) (wanted : List Agg) (starts : List (Option
   pub cubes : List (List Row)
   pub parts : List Row
   pub width : length cubes ≡ length inputs
-  pub gave : (k : ℕ) → Gave (get_or starts k None) (get_or inputs k nothing_left) (get_or cubes k [])
+  pub gave : (k : ℕ) → Gave given (get_or starts k None) (get_or inputs k nothing_left) (get_or cubes k [])
   pub ordered : (k : ℕ) → AreInKeyOrder (get_or inputs k nothing_left) (get_or cubes k [])
   pub of_schema : (k : ℕ) → AreOfSchema given (get_or inputs k nothing_left) (get_or cubes k [])
   pub counted : (k : ℕ) → IsCounted (get_or inputs k nothing_left) (get_or cubes k [])
@@ -173,10 +173,10 @@ pub record IsNextRow (given : List Agg) (sources : List Source) (inputs : List I
   pub answers : (wanted : List Agg) → AllZip (IsSourceOf given) wanted sources
       → AllZip (IsMerged given (used_rows used inputs)) wanted row.answers
 
--- the line of the row of the next key was put at the end of a text
-abbrev pub PutsRow : List Agg → List Source → List InputView → List Bool → List ℕ → List ℕ → Type 0
-PutsRow given sources inputs used old new =
-    (row : Row) × (new ≡ old ++ row_line row) × IsNextRow given sources inputs used row
+-- the line of the row of the next key, as a row of the wanted schema, was put at the end of a text
+abbrev pub PutsRow : List Agg → Layout → List Source → List InputView → List Bool → List ℕ → List ℕ → Type 0
+PutsRow given wanted sources inputs used old new =
+    (row : Row) × (new ≡ old ++ row_line wanted row) × IsNextRow given sources inputs used row
 
 -- a row that merges of any inputs so far go on by
 abbrev pub GoesOnBy : Layout → List Agg → List InputView → List InputView → Row → Type 0
@@ -184,11 +184,11 @@ GoesOnBy given wanted olds news row = (starts : List (Option (List ℕ))) (rows 
     → IsMerging given wanted starts olds rows → IsMerging given wanted starts news (rows ++ row ∷ [])
 
 -- the line of the next merged row was put at the end of a text; or no input had a row
-abbrev pub PutsNext : Layout → List Source → List InputView → List InputView → List ℕ → List ℕ → Bool → Type 0
-PutsNext given sources olds news old new true =
-    (wanted : List Agg) → AllZip (IsSourceOf given.aggregates) wanted sources
-    → (row : Row) × (new ≡ old ++ row_line row) × GoesOnBy given wanted olds news row
-PutsNext given sources olds news old new false =
+abbrev pub PutsNext : Layout → Layout → List Source → List InputView → List InputView → List ℕ → List ℕ → Bool → Type 0
+PutsNext given wanted sources olds news old new true =
+    AllZip (IsSourceOf given.aggregates) wanted.aggregates sources
+    → (row : Row) × (new ≡ old ++ row_line wanted row) × GoesOnBy given wanted.aggregates olds news row
+PutsNext given wanted sources olds news old new false =
     (new ≡ old) × (news ≡ olds) × ((k : ℕ) → (get_or olds k nothing_left).row ≡ None)
 
 -- of what a reader had an input took the header alone, and has no row

@@ -31,7 +31,8 @@ struct Desk {
 }
 
 /// Merges printed cubes: reads the cubes, each printed under the given schema, side by side, and writes the cube of all
-/// their facts under the wanted one, which has the same dimensions and grouping sets.
+/// their facts under the wanted one, which has the same dimensions and grouping sets,
+/// and the same digits behind the point of each measure.
 ///
 /// Each aggregate of the wanted schema is one of the given schema's, or a mean whose sum and count are; else the fault is
 /// `Aggregates`. One line of each input is in memory.
@@ -172,7 +173,7 @@ fn merge_rows<R: Read, W: Write>(
     let mut front = Front::new(alloc);
     let mut sent = 0;
     for _ in 0..u64::MAX {
-        if !put_next(alloc, given, sources, inputs, &mut front, desk)? {
+        if !put_next(alloc, given, wanted, sources, inputs, &mut front, desk)? {
             send(w, desk.text.as_slice(), sent)?;
             return Ok(());
         }
@@ -189,6 +190,7 @@ fn merge_rows<R: Read, W: Write>(
 fn put_next<R: Read>(
     alloc: Global,
     given: &Schema,
+    wanted: &Schema,
     sources: &[Source],
     inputs: &mut [Input<R>],
     front: &mut Front,
@@ -196,14 +198,22 @@ fn put_next<R: Read>(
 ) -> Result<bool, MergeFault>
     requires { AreAbove front.old.bound front.old.behind.items inputs.old }
     ensures above { OnOk result (AreAbove front.new.bound front.new.behind.items inputs.new) }
-    ensures ok { IfOk result (PutsNext given.now sources.now inputs.old inputs.new
+    ensures ok { IfOk result (PutsNext given.now wanted.now sources.now inputs.old inputs.new
         desk.old.text.items desk.new.text.items) }
     ensures err { IfErr result (StepFails given.now inputs.old) }
 {
     let Some(place) = front.least_input(alloc, inputs)? else {
         return Ok(false);
     };
-    put_row(given, sources, inputs, front.behind.as_slice(), place, desk)?;
+    put_row(
+        given,
+        wanted,
+        sources,
+        inputs,
+        front.behind.as_slice(),
+        place,
+        desk,
+    )?;
     move_inputs(alloc, given, inputs, desk.joint.used.as_slice())?;
     front.put_moved(inputs, desk.joint.places.as_slice());
     Ok(true)
@@ -212,6 +222,7 @@ fn put_next<R: Read>(
 // Puts the line of the merged row with the key of the input at a place, which is the least.
 fn put_row<R: Read>(
     given: &Schema,
+    wanted: &Schema,
     sources: &[Source],
     inputs: &[Input<R>],
     behind: &[bool],
@@ -221,7 +232,7 @@ fn put_row<R: Read>(
     requires least { IsLeastSoFar inputs.now (Some place) (length inputs.now) }
     requires front { IsInFront inputs.now behind.now place }
     ensures unused { OnOk result (AreUnused behind.now desk.new.joint.used.items) }
-    ensures ok { OnOk result (PutsRow given.now.aggregates sources.now inputs.now desk.new.joint.used.items
+    ensures ok { OnOk result (PutsRow given.now.aggregates wanted.now sources.now inputs.now desk.new.joint.used.items
         desk.old.text.items desk.new.text.items) }
     ensures err { IfErr result (StepFails given.now inputs.now) }
 {
@@ -237,7 +248,12 @@ fn put_row<R: Read>(
         &mut desk.joint,
     )?;
     put_answers(sources, desk.joint.made.as_slice(), &mut desk.answers)?;
-    push_line(&mut desk.text, input.key_text(), desk.answers.as_slice())?;
+    push_line(
+        &mut desk.text,
+        wanted,
+        input.key_text(),
+        desk.answers.as_slice(),
+    )?;
     Ok(())
 }
 

@@ -25,7 +25,7 @@ pub(crate) fn read_row(
     line: &mut Vec<u8>,
     spare: Row,
 ) -> Result<Option<(Row, usize)>, AllocError>
-    ensures line { IfOk result (λ found. IfSome found (λ read. row_line read.0 ≡ line.old.items)) }
+    ensures line { IfOk result (λ found. IfSome found (λ read. row_line schema.now read.0 ≡ line.old.items)) }
     ensures of_schema { IfOk result (λ found. IfSome found (λ read. IsLawfulRow schema.now read.0)) }
     ensures key { IfOk result (λ found. IfSome found (λ read.
         take read.1 line.new.items ≡ key_parts read.0.key)) }

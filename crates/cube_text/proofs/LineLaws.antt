@@ -9,13 +9,17 @@ use Rattle.std.proofs.lemmas.Bool.Decides.{nat_tests}
 use Rattle.std.specs.List.{flat_map}
 use Rattle.std.proofs.lemmas.Grind.{flat_map-append}
 use Rattle.std.proofs.lemmas.List.Concat.{flat_map-cons}
-use Rattle.cube_core.specs.Text.{row_line}
+use Rattle.cube_core.specs.Text.{answer_text, answer_texts}
+use Rattle.cube_core.specs.declared.aggregate.Answer.{Answer}
+use Rattle.cube_core.specs.declared.aggregate.Answer.TheVariants as answer
 use Rattle.cube_core.specs.declared.key.Row.{Row}
+use Rattle.cube_units.proofs.AnswerTextsLaws.{answer_texts-more}
 use Rattle.csv.specs.Writing.{default_writer, field_text, fields_written, has_written, next_sep, row_body, row_text}
 use Rattle.csv.specs.Writing.{text_written, writer_setup, tail_text, is_blank, end_text}
 use Rattle.csv.specs.declared.writer.QuoteStyle.TheVariants as style
 use Rattle.csv.proofs.WriteFacts.{row-more, blank-more}
 use Rattle.cube_text.specs.Lines.{Lines, contents_of, HoldsLine, AddsFields, EndsLine, AddsText}
+use Rattle.cube_text.specs.Rows.{line_with}
 
 -- a count that stops at a large number is 0 where what it counts is none
 min-eq_zero : (n m : ℕ) → 2 ≤ m → (min n m == 0) ≡ (n == 0)
@@ -142,20 +146,34 @@ AddsText-row_text first second third a b c d e one two three end text h =
     end text (first ++ second ++ third)
     (AddsFields-both (first ++ second) third a c d (AddsFields-both first second a b c one two) three text [] h)
 
+-- the field of one answer more was added
+pub AddsFields-answer : (digits : List ℕ) (answers : List Answer) (i k : ℕ) (a : Answer) (field : List ℕ)
+    (old mid new : Lines) → i < length digits → i < length answers → k ≡ get_or digits i 0
+    → a ≡ get_or answers i answer.Null → field ≡ answer_text k a
+    → AddsFields (answer_texts (take i digits) (take i answers)) old mid → AddsFields (field ∷ []) mid new
+    → AddsFields (answer_texts (take (i + 1) digits) (take (i + 1) answers)) old new
+AddsFields-answer digits answers i k a field old mid new inside inside_too k_is a_is shown before added =
+    let so_far = answer_texts (take i digits) (take i answers) in
+    let more : answer_texts (take (i + 1) digits) (take (i + 1) answers) ≡ so_far ++ field ∷ []
+    = answer_texts-more digits answers i k a inside inside_too k_is a_is ∙ ap (λ y. so_far ++ y ∷ []) (sym shown) in
+    rw more (AddsFields-both so_far (field ∷ []) old mid new before added)
+
 -- the lines of rows were added, and then that of one row more
-pub AddsText-row_line : (rows : List Row) (row : Row) (old mid new : Lines) → AddsText (flat_map row_line rows) old mid
-    → AddsText (row_line row) mid new → AddsText (flat_map row_line (rows ++ row ∷ [])) old new
-AddsText-row_line rows row old mid new before line text h =
+pub AddsText-row_line : (digits : List ℕ) (rows : List Row) (row : Row) (old mid new : Lines)
+    → AddsText (flat_map (line_with digits) rows) old mid
+    → AddsText (line_with digits row) mid new → AddsText (flat_map (line_with digits) (rows ++ row ∷ [])) old new
+AddsText-row_line digits rows row old mid new before line text h =
     rw (
-      flat_map-append row_line rows (row ∷ []),
-      flat_map-cons row_line row [],
-      append-nil (row_line row),
-      ← append_assoc text (flat_map row_line rows) (row_line row),
-    ) (line (text ++ flat_map row_line rows) (before text h))
+      flat_map-append (line_with digits) rows (row ∷ []),
+      flat_map-cons (line_with digits) row [],
+      append-nil (line_with digits row),
+      ← append_assoc text (flat_map (line_with digits) rows) (line_with digits row),
+    ) (line (text ++ flat_map (line_with digits) rows) (before text h))
 
 -- the lines of the rows of a list were added, up to one row more
-pub AddsText-more : (rows : List Row) (i : ℕ) (row : Row) (old mid new : Lines) → i < length rows
-    → row ≡ get_or rows i row → AddsText (flat_map row_line (take i rows)) old mid → AddsText (row_line row) mid new
-    → AddsText (flat_map row_line (take (i + 1) rows)) old new
-AddsText-more rows i row old mid new inside is before line =
-    rw (take_more rows i row inside, ← is) (AddsText-row_line (take i rows) row old mid new before line)
+pub AddsText-more : (digits : List ℕ) (rows : List Row) (i : ℕ) (row : Row) (old mid new : Lines) → i < length rows
+    → row ≡ get_or rows i row → AddsText (flat_map (line_with digits) (take i rows)) old mid
+    → AddsText (line_with digits row) mid new
+    → AddsText (flat_map (line_with digits) (take (i + 1) rows)) old new
+AddsText-more digits rows i row old mid new inside is before line =
+    rw (take_more rows i row inside, ← is) (AddsText-row_line digits (take i rows) row old mid new before line)

@@ -7,7 +7,6 @@ use Rattle.std.specs.List.{AllZip, flat_map}
 use Rattle.std.proofs.lemmas.Grind.{flat_map-append}
 use Rattle.std.proofs.lemmas.List.{append-nil, take_more, take_all, take_min}
 use Rattle.std.proofs.Math.Nat.{mul-suc}
-use Rattle.cube_core.specs.Text.{row_line}
 use Rattle.cube_core.specs.declared.key.Key.{Key}
 use Rattle.cube_core.specs.declared.key.Row.{Row}
 use Rattle.cube_core.proofs.ListLaws.{AllZip-push}
@@ -15,7 +14,7 @@ use Rattle.cube_cells.specs.Rows.{CellsInOrder, IsRowOf}
 use Rattle.cube_cells.specs.Tally.{Tally}
 use Rattle.cube_text.specs.Lines.{Lines}
 use Rattle.cube_writing.specs.Pieces.{text_of_pieces}
-use Rattle.cube_text.specs.Rows.{AddsRow, GoesOn, IsTextOfPart, RowsGoOn}
+use Rattle.cube_text.specs.Rows.{AddsRow, GoesOn, IsTextOfPart, RowsGoOn, line_with}
 use Rattle.cube_text.proofs.LineLaws.{AddsText-row_line}
 
 -- no row of no cell
@@ -29,8 +28,9 @@ RowsGoOn-both o from mid to some more first second before are =
     rw (← append_assoc before some more) (second (before ++ some) (first before are))
 
 -- nothing was added for no cell
-pub GoesOn-none : (o : CellsInOrder) (from : ℕ) (lines : Lines) → GoesOn o from from lines lines
-GoesOn-none o from lines = record { rows = []; go_on = RowsGoOn-none o from; added = λ text h. rw (append-nil text) h }
+pub GoesOn-none : (digits : List ℕ) (o : CellsInOrder) (from : ℕ) (lines : Lines)
+    → GoesOn digits o from from lines lines
+GoesOn-none digits o from lines = record { rows = []; go_on = RowsGoOn-none o from; added = λ text h. rw (append-nil text) h }
 
 -- the row of the next cell goes on
 RowsGoOn-cell : (o : CellsInOrder) (at : ℕ) (unused : Key × Tally) (row : Row) → at < length o.cells
@@ -40,25 +40,26 @@ RowsGoOn-cell o at unused row inside is before are =
     (AllZip-push (IsRowOf o.aggregates) (take at o.cells) before (get_or o.cells at unused) row are is)
 
 -- the line of the next cell was added
-pub GoesOn-cell : (o : CellsInOrder) (from at : ℕ) (unused : Key × Tally) (old mid new : Lines) → at < length o.cells
-    → GoesOn o from at old mid → AddsRow o.aggregates (get_or o.cells at unused) mid new
-    → GoesOn o from (at + 1) old new
-GoesOn-cell o from at unused old mid new inside before line = record {
+pub GoesOn-cell : (digits : List ℕ) (o : CellsInOrder) (from at : ℕ) (unused : Key × Tally) (old mid new : Lines)
+    → at < length o.cells
+    → GoesOn digits o from at old mid → AddsRow digits o.aggregates (get_or o.cells at unused) mid new
+    → GoesOn digits o from (at + 1) old new
+GoesOn-cell digits o from at unused old mid new inside before line = record {
   rows = before.rows ++ line.row ∷ [];
   go_on = RowsGoOn-both o from at (at + 1) before.rows (line.row ∷ []) before.go_on
       (RowsGoOn-cell o at unused line.row inside line.is_row);
-  added = AddsText-row_line before.rows line.row _ _ _ before.added line.added;
+  added = AddsText-row_line digits before.rows line.row _ _ _ before.added line.added;
 }
 
 -- lines were added, and then more
-pub GoesOn-both : (o : CellsInOrder) (from at to : ℕ) (old mid new : Lines) → GoesOn o from at old mid
-    → GoesOn o at to mid new → GoesOn o from to old new
-GoesOn-both o from at to old mid new first second = record {
+pub GoesOn-both : (digits : List ℕ) (o : CellsInOrder) (from at to : ℕ) (old mid new : Lines)
+    → GoesOn digits o from at old mid → GoesOn digits o at to mid new → GoesOn digits o from to old new
+GoesOn-both digits o from at to old mid new first second = record {
   rows = first.rows ++ second.rows;
   go_on = RowsGoOn-both o from at to first.rows second.rows first.go_on second.go_on;
   added = λ text h. rw (
-    flat_map-append row_line first.rows second.rows,
-    ← append_assoc text (flat_map row_line first.rows) (flat_map row_line second.rows),
+    flat_map-append (line_with digits) first.rows second.rows,
+    ← append_assoc text (flat_map (line_with digits) first.rows) (flat_map (line_with digits) second.rows),
   ) (second.added _ (first.added text h));
 }
 
@@ -76,24 +77,24 @@ pub end_of_part : (size which n at : ℕ) → at ≡ min (size * which) n
 end_of_part size which n at start = omega (arith, mul-suc size which)
 
 -- the text of parts that stand one after the other, from the cells up to a place on
-pub text_of_parts : (o : CellsInOrder) (size from : ℕ) (before : List Row) (pieces : List (Vec ℕ))
+pub text_of_parts : (digits : List ℕ) (o : CellsInOrder) (size from : ℕ) (before : List Row) (pieces : List (Vec ℕ))
     → AllZip (IsRowOf o.aggregates) (take (size * from) o.cells) before
     → ((i at : ℕ) (unused : Vec ℕ) → at ≡ from + i → i < length pieces
-    → IsTextOfPart o (size * at) (size * (at + 1)) (get_or pieces i unused).items)
+    → IsTextOfPart digits o (size * at) (size * (at + 1)) (get_or pieces i unused).items)
     → (rows : List Row) × AllZip (IsRowOf o.aggregates) (take (size * (from + length pieces)) o.cells) (before ++ rows)
-    × (text_of_pieces pieces ≡ flat_map row_line rows)
-text_of_parts o size from before [] are each = ([], rw (append-nil before, add-zero from) are, refl)
-text_of_parts o size from before (piece ∷ pieces) are each =
+    × (text_of_pieces pieces ≡ flat_map (line_with digits) rows)
+text_of_parts digits o size from before [] are each = ([], rw (append-nil before, add-zero from) are, refl)
+text_of_parts digits o size from before (piece ∷ pieces) are each =
     let part = each 0 from piece (omega arith) (omega arith) in
     let next = part.go_on before are in
-    let rest = text_of_parts o size (from + 1) (before ++ part.rows) pieces next
+    let rest = text_of_parts digits o size (from + 1) (before ++ part.rows) pieces next
     (λ i at unused e inside. each (suc i) at unused (omega (arith, e)) (omega (arith, inside))) in
     let count : from + 1 + length pieces ≡ from + suc (length pieces) = omega arith in (
       part.rows ++ rest.0,
       rw (← append_assoc before part.rows rest.0, ← count) rest.1,
       ap (λ (l : List ℕ). l ++ text_of_pieces pieces) part.text_is
-          ∙ ap (λ (l : List ℕ). flat_map row_line part.rows ++ l) rest.2
-          ∙ sym (flat_map-append row_line part.rows rest.0),
+          ∙ ap (λ (l : List ℕ). flat_map (line_with digits) part.rows ++ l) rest.2
+          ∙ sym (flat_map-append (line_with digits) part.rows rest.0),
     )
 
 -- the rows of all cells

@@ -4,7 +4,7 @@ use Rattle.std.specs.Global.{Vec}
 use Rattle.std.specs.List.{AllZip, flat_map}
 use Rattle.cube_core.specs.Answer.{IsAnswer}
 use Rattle.cube_core.specs.Layout.{Layout}
-use Rattle.cube_core.specs.Text.{row_line, text_of_rows}
+use Rattle.cube_core.specs.Text.{answer_texts, coord_text, grouping_text, line, text_of_rows}
 use Rattle.cube_core.specs.declared.aggregate.Agg.{Agg}
 use Rattle.cube_core.specs.declared.aggregate.Answer.{Answer}
 use Rattle.cube_core.specs.declared.aggregate.Answer.TheVariants as answer
@@ -16,6 +16,11 @@ use Rattle.cube_cells.specs.Rows.{AreAnswersOf, AreRowsInOrder, CellsInOrder, Is
 use Rattle.cube_cells.specs.Tally.{Tally, IsTallyOf}
 use Rattle.cube_text.specs.Lines.{AddsText, Lines}
 
+-- the line of a row, each of whose answers has so many digits behind its point
+abbrev pub line_with : List ℕ → Row → List ℕ
+line_with digits row =
+    line (map coord_text row.key.coords ++ map grouping_text row.key.coords ++ answer_texts digits row.answers)
+
 -- this is the text of the rows of cells, in their order
 pub record IsTextOfCells (s : Layout) (o : CellsInOrder) (text : List ℕ) : Type 0 where
   pub rows : List Row
@@ -23,10 +28,10 @@ pub record IsTextOfCells (s : Layout) (o : CellsInOrder) (text : List ℕ) : Typ
   pub text_is : text ≡ text_of_rows s rows
 
 -- the line of the row of a cell was added
-pub record AddsRow (aggregates : List Agg) (cell : Key × Tally) (old new : Lines) : Type 0 where
+pub record AddsRow (digits : List ℕ) (aggregates : List Agg) (cell : Key × Tally) (old new : Lines) : Type 0 where
   pub row : Row
   pub is_row : IsRowOf aggregates cell row
-  pub added : AddsText (row_line row) old new
+  pub added : AddsText (line_with digits row) old new
 
 -- put behind the rows of the first cells up to a place, these rows are those of the first cells up to another
 abbrev pub RowsGoOn : CellsInOrder → ℕ → ℕ → List Row → Type 0
@@ -34,16 +39,16 @@ RowsGoOn o from to rows = (before : List Row) → AllZip (IsRowOf o.aggregates) 
     → AllZip (IsRowOf o.aggregates) (take to o.cells) (before ++ rows)
 
 -- the lines of the rows of the cells from a place to another were added
-pub record GoesOn (o : CellsInOrder) (from to : ℕ) (old new : Lines) : Type 0 where
+pub record GoesOn (digits : List ℕ) (o : CellsInOrder) (from to : ℕ) (old new : Lines) : Type 0 where
   pub rows : List Row
   pub go_on : RowsGoOn o from to rows
-  pub added : AddsText (flat_map row_line rows) old new
+  pub added : AddsText (flat_map (line_with digits) rows) old new
 
 -- this is the text of the lines of the rows of the cells from a place to another
-pub record IsTextOfPart (o : CellsInOrder) (from to : ℕ) (text : List ℕ) : Type 0 where
+pub record IsTextOfPart (digits : List ℕ) (o : CellsInOrder) (from to : ℕ) (text : List ℕ) : Type 0 where
   pub rows : List Row
   pub go_on : RowsGoOn o from to rows
-  pub text_is : text ≡ flat_map row_line rows
+  pub text_is : text ≡ flat_map (line_with digits) rows
 
 -- the answer of an aggregate over any facts that this is the tally of
 abbrev pub IsAnswerOf : Agg → Tally → Answer → Type 0

@@ -1,12 +1,11 @@
 //! The rows of a cube as text.
 
-ghost use Rattle.std.specs.Prelude.{◌≡◌, ℕ, ◌<◌, ◌≤◌, ◌+◌, ◌*◌, ◌++◌, min, length, get_or, map, codes, decimal, All, OnOk, IfOk};
+ghost use Rattle.std.specs.Prelude.{◌≡◌, ℕ, ◌<◌, ◌≤◌, ◌+◌, ◌*◌, ◌++◌, min, length, get_or, map, All, OnOk, IfOk};
 ghost use Rattle.std.specs.List.{flat_map};
-ghost use Rattle.std.specs.Fmt.{signed_decimal};
-ghost use Rattle.cube_core.specs.Text.{line, header_fields, grouping_name, coord_text, grouping_text, answer_text, row_line, text_of_rows};
+ghost use Rattle.cube_core.specs.Text.{line, header_fields, grouping_name, coord_text, grouping_text, answer_text, answer_texts, digits_of_answers, fraction_text, signed_units_text, text_of_rows};
 ghost use Rattle.cube_core.specs.Referred.{referred_coord};
 ghost use Rattle.cube_text.specs.Lines.{AddsFields, AddsText};
-ghost use Rattle.cube_text.specs.Rows.{AddsRow, AreColumns, GoesOn, IsColumn, IsTextOfCells, IsTextOfPart, answers_at};
+ghost use Rattle.cube_text.specs.Rows.{AddsRow, AreColumns, GoesOn, IsColumn, IsTextOfCells, IsTextOfPart, answers_at, line_with};
 ghost use Rattle.cube_core.specs.declared.key.Key.{Key};
 ghost use Rattle.cube_cells.specs.Rows.{AreAnswersOf};
 ghost use Rattle.cube_cells.specs.Tally.{Tally};
@@ -15,6 +14,7 @@ ghost use Rattle.cube_text.specs.Shape.{HasShapeOf};
 use crate::lines::{Lines, end_line, into_text, no_lines, put_field};
 use cube_cells::{CoordRef, KeyedCell, Numbers, OrderedCells, Summary};
 use cube_core::{Agg, Answer, Coord, Row, Schema, Text};
+use cube_units::{push_fraction, push_units};
 use cube_writing::Pieces;
 use itoa::Buffer;
 use std::alloc::{AllocError, Global};
@@ -30,9 +30,10 @@ pub fn print_rows(alloc: Global, schema: &Schema, rows: &[Row]) -> Result<Vec<u8
     requires { All (HasShapeOf schema.now) rows.now }
     ensures { IfOk result (λ text. text.items ≡ text_of_rows schema.now rows.now) }
 {
+    let digits = digits_of_answers(alloc, schema)?;
     let mut lines = no_lines(alloc);
     put_header(alloc, &mut lines, schema)?;
-    put_rows(alloc, &mut lines, rows)?;
+    put_rows(alloc, &mut lines, digits.as_slice(), rows)?;
     into_text(lines)
 }
 
@@ -46,9 +47,10 @@ pub fn print_cells<N: Numbers>(
 ) -> Result<Vec<u8>, AllocError>
     ensures { IfOk result (λ text. IsTextOfCells schema.now cells.now text.items) }
 {
+    let digits = digits_of_answers(alloc, schema)?;
     let mut lines = no_lines(alloc);
     put_header(alloc, &mut lines, schema)?;
-    put_cells(alloc, &mut lines, cells, 0, cells.len())?;
+    put_cells(alloc, &mut lines, digits.as_slice(), cells, 0, cells.len())?;
     into_text(lines)
 }
 
@@ -65,10 +67,11 @@ pub fn print_cells_in_pieces<T: Threads + Sync>(
 ) -> Result<Pieces, AllocError>
     ensures { IfOk result (IsTextOfCells schema.now cells.now) }
 {
+    let digits = digits_of_answers(alloc, schema)?;
     let header = text_of_header(alloc, schema)?;
     let parts = threads.max(1);
     let size = cells.len().div_ceil(parts);
-    let texts = texts_of_parts(rt, alloc, cells, size, parts)?;
+    let texts = texts_of_parts(rt, alloc, digits.as_slice(), cells, size, parts)?;
     Pieces::of(alloc, header, texts)
 }
 
@@ -76,21 +79,36 @@ pub fn print_cells_in_pieces<T: Threads + Sync>(
 fn texts_of_parts<T: Threads + Sync>(
     rt: &T,
     alloc: Global,
+    digits: &[u8],
     cells: &OrderedCells<'_, Summary>,
     size: usize,
     parts: usize,
 ) -> Result<Vec<Result<Vec<u8>, AllocError>>, AllocError>
+    requires { All (λ k. k ≤ 18) digits.now }
     ensures long { IfOk result (λ texts. length texts.items ≡ parts) }
     ensures each { IfOk result (λ texts. (i : ℕ) (unused : _) → i < parts →
         IfOk (get_or texts.items i unused) (λ text.
-        IsTextOfPart cells.now (size * i) (size * (i + 1)) text.items)) }
+        IsTextOfPart digits.now cells.now (size * i) (size * (i + 1)) text.items)) }
 {
     map_indices(
         rt,
         alloc,
         parts,
-        &|which| { text_of_part(alloc, cells, size, which) },
+        &|which| { text_of_part(alloc, digits, cells, size, which) },
     )
+}
+
+// How many digits stand behind the point of the answers to each of the schema's aggregates, at most 18.
+fn digits_of_answers(alloc: Global, schema: &Schema) -> Result<Vec<u8>, AllocError>
+    ensures value { IfOk result (λ digits. digits.items ≡ digits_of_answers schema.now) }
+    ensures few { IfOk result (λ digits. All (λ k. k ≤ 18) digits.items) }
+{
+    let aggregates = schema.aggregates();
+    let mut digits = Vec::with_capacity(alloc, aggregates.len())?;
+    for aggregate in aggregates {
+        digits.push(schema.digits_of(aggregate))?;
+    }
+    Ok(digits)
 }
 
 // The header line of the schema.
@@ -105,18 +123,21 @@ fn text_of_header(alloc: Global, schema: &Schema) -> Result<Vec<u8>, AllocError>
 // The lines of the cells of a part, where each part but the last has as many cells as the size says.
 fn text_of_part<N: Numbers>(
     alloc: Global,
+    digits: &[u8],
     cells: &OrderedCells<'_, N>,
     size: usize,
     which: usize,
 ) -> Result<Vec<u8>, AllocError>
+    requires { All (λ k. k ≤ 18) digits.now }
     ensures { IfOk result (λ text.
-        IsTextOfPart cells.now (size * which) (size * (which + 1)) text.items) }
+        IsTextOfPart digits.now cells.now (size * which) (size * (which + 1)) text.items) }
 {
     let from = place_within(cells, size, which);
     let mut lines = no_lines(alloc);
     put_cells(
         alloc,
         &mut lines,
+        digits,
         cells,
         from,
         from + (cells.len() - from).min(size),
@@ -175,12 +196,13 @@ fn write_grouping_name(name: &mut Vec<u8>, dimension: &Text) -> Result<(), Alloc
     Ok(())
 }
 
-fn put_rows(alloc: Global, lines: &mut Lines, rows: &[Row]) -> Result<(), AllocError>
-    ensures { OnOk result (AddsText (flat_map row_line rows.now) lines.old lines.new) }
+fn put_rows(alloc: Global, lines: &mut Lines, digits: &[u8], rows: &[Row]) -> Result<(), AllocError>
+    requires { All (λ k. k ≤ 18) digits.now }
+    ensures { OnOk result (AddsText (flat_map (line_with digits.now) rows.now) lines.old lines.new) }
 {
-    let mut fraction = Vec::new(alloc);
+    let mut buffer = Vec::new(alloc);
     for row in rows {
-        put_row(lines, &mut fraction, row)?;
+        put_row(lines, &mut buffer, digits, row)?;
     }
     Ok(())
 }
@@ -189,19 +211,21 @@ fn put_rows(alloc: Global, lines: &mut Lines, rows: &[Row]) -> Result<(), AllocE
 fn put_cells<N: Numbers>(
     alloc: Global,
     lines: &mut Lines,
+    digits: &[u8],
     cells: &OrderedCells<'_, N>,
     from: usize,
     to: usize,
 ) -> Result<(), AllocError>
+    requires few { All (λ k. k ≤ 18) digits.now }
     requires order { from ≤ to }
     requires within { to ≤ length cells.now.cells }
-    ensures { OnOk result (GoesOn cells.now from to lines.old lines.new) }
+    ensures { OnOk result (GoesOn digits.now cells.now from to lines.old lines.new) }
 {
-    let mut fraction = Vec::new(alloc);
+    let mut buffer = Vec::new(alloc);
     let mut done = from;
     while done < to {
         let end = done + (to - done).min(BLOCK);
-        put_block(alloc, lines, &mut fraction, cells, done, end)?;
+        put_block(alloc, lines, &mut buffer, digits, cells, done, end)?;
         done = end;
     }
     Ok(())
@@ -211,18 +235,20 @@ fn put_cells<N: Numbers>(
 fn put_block<N: Numbers>(
     alloc: Global,
     lines: &mut Lines,
-    fraction: &mut Vec<u8>,
+    buffer: &mut Vec<u8>,
+    digits: &[u8],
     cells: &OrderedCells<'_, N>,
     from: usize,
     to: usize,
 ) -> Result<(), AllocError>
+    requires few { All (λ k. k ≤ 18) digits.now }
     requires order { from ≤ to }
     requires within { to ≤ length cells.now.cells }
-    ensures { OnOk result (GoesOn cells.now from to lines.old lines.new) }
+    ensures { OnOk result (GoesOn digits.now cells.now from to lines.old lines.new) }
 {
     let columns = columns_of(alloc, cells, from, to)?;
     for place in from..to {
-        put_cell(lines, fraction, cells, place, &columns, place - from)?;
+        put_cell(lines, buffer, digits, cells, place, &columns, place - from)?;
     }
     Ok(())
 }
@@ -271,26 +297,28 @@ fn column_of<N: Numbers>(
 }
 
 // Puts the line of the cell at a place, whose answers the columns have at a place of theirs. The buffer is for
-// fractions, and what it holds doesn't matter.
+// fractions and numbers with a point, and what it holds doesn't matter.
 fn put_cell<N: Numbers>(
     lines: &mut Lines,
-    fraction: &mut Vec<u8>,
+    buffer: &mut Vec<u8>,
+    digits: &[u8],
     cells: &OrderedCells<'_, N>,
     place: usize,
     columns: &[Vec<Answer>],
     at: usize,
 ) -> Result<(), AllocError>
+    requires few { All (λ k. k ≤ 18) digits.now }
     requires within { place < length cells.now.cells }
     requires long { All (λ column. at < length column.items) columns.now }
     requires answers { (unused : Key × Tally) → AreAnswersOf cells.now.aggregates
         (get_or cells.now.cells place unused).1 (answers_at columns.now at) }
     ensures { OnOk result ((unused : Key × Tally) →
-        AddsRow cells.now.aggregates (get_or cells.now.cells place unused) lines.old lines.new) }
+        AddsRow digits.now cells.now.aggregates (get_or cells.now.cells place unused) lines.old lines.new) }
 {
     let cell = cells.cell_at(place);
     put_key(lines, &cell)?;
     put_key_groupings(lines, &cell)?;
-    put_answers_at(lines, fraction, columns, at)?;
+    put_answers_at(lines, buffer, digits, columns, at)?;
     end_line(lines)
 }
 
@@ -317,29 +345,37 @@ fn put_key_groupings<N: Numbers>(
 
 fn put_answers_at(
     lines: &mut Lines,
-    fraction: &mut Vec<u8>,
+    buffer: &mut Vec<u8>,
+    digits: &[u8],
     columns: &[Vec<Answer>],
     at: usize,
 ) -> Result<(), AllocError>
-    requires { All (λ column. at < length column.items) columns.now }
-    ensures { OnOk result
-        (AddsFields (map answer_text (answers_at columns.now at)) lines.old lines.new) }
+    requires few { All (λ k. k ≤ 18) digits.now }
+    requires long { All (λ column. at < length column.items) columns.now }
+    ensures { OnOk result (AddsFields (answer_texts digits.now (answers_at columns.now at)) lines.old lines.new) }
 {
     let mut number = Buffer::new();
-    for column in columns {
-        put_field(lines, answer_field(&mut number, fraction, &column[at])?)?;
+    for which in 0..digits.len().min(columns.len()) {
+        let field = answer_field(&mut number, buffer, digits[which], &columns[which][at])?;
+        put_field(lines, field)?;
     }
     Ok(())
 }
 
-// The buffer is for fractions, and what it holds doesn't matter.
-fn put_row(lines: &mut Lines, fraction: &mut Vec<u8>, row: &Row) -> Result<(), AllocError>
-    ensures { OnOk result (AddsText (row_line row.now) lines.old lines.new) }
+// The buffer is for fractions and numbers with a point, and what it holds doesn't matter.
+fn put_row(
+    lines: &mut Lines,
+    buffer: &mut Vec<u8>,
+    digits: &[u8],
+    row: &Row,
+) -> Result<(), AllocError>
+    requires { All (λ k. k ≤ 18) digits.now }
+    ensures { OnOk result (AddsText (line_with digits.now row.now) lines.old lines.new) }
 {
     let coords = row.key.coords.as_slice();
     put_coords(lines, coords)?;
     put_groupings(lines, coords)?;
-    put_answers(lines, fraction, row.answers.as_slice())?;
+    put_answers(lines, buffer, digits, row.answers.as_slice())?;
     end_line(lines)
 }
 
@@ -381,14 +417,17 @@ fn grouping_field(coord: CoordRef<'_>) -> &'static [u8]
 
 fn put_answers(
     lines: &mut Lines,
-    fraction: &mut Vec<u8>,
+    buffer: &mut Vec<u8>,
+    digits: &[u8],
     answers: &[Answer],
 ) -> Result<(), AllocError>
-    ensures { OnOk result (AddsFields (map answer_text answers.now) lines.old lines.new) }
+    requires { All (λ k. k ≤ 18) digits.now }
+    ensures { OnOk result (AddsFields (answer_texts digits.now answers.now) lines.old lines.new) }
 {
     let mut number = Buffer::new();
-    for answer in answers {
-        put_field(lines, answer_field(&mut number, fraction, answer)?)?;
+    for which in 0..digits.len().min(answers.len()) {
+        let field = answer_field(&mut number, buffer, digits[which], &answers[which])?;
+        put_field(lines, field)?;
     }
     Ok(())
 }
@@ -396,34 +435,54 @@ fn put_answers(
 // The field lies in one of the two buffers, unless it is null's.
 fn answer_field<'b>(
     number: &'b mut Buffer,
-    fraction: &'b mut Vec<u8>,
+    buffer: &'b mut Vec<u8>,
+    digits: u8,
     answer: &Answer,
 ) -> Result<&'b [u8], AllocError>
-    ensures { IfOk result (λ field. field.now ≡ answer_text answer.now) }
+    requires { digits ≤ 18 }
+    ensures { IfOk result (λ field. field.now ≡ answer_text digits answer.now) }
 {
     match *answer {
         Answer::Null => Ok(b"\\N"),
         Answer::Count(count) => Ok(number.format(count).as_bytes()),
-        Answer::Whole(value) => Ok(number.format(value).as_bytes()),
+        Answer::Whole(value) => {
+            if digits == 0 {
+                return Ok(number.format(value).as_bytes());
+            }
+            write_units(number, buffer, digits, value)?;
+            Ok(buffer.as_slice())
+        }
         Answer::Ratio { p, q } => {
-            write_fraction(number, fraction, p, q)?;
-            Ok(fraction.as_slice())
+            write_fraction(number, buffer, digits, p, q)?;
+            Ok(buffer.as_slice())
         }
     }
 }
 
-// Puts the fraction in place of what the buffer holds.
+// Puts so many units in place of what the buffer holds.
+fn write_units(
+    number: &mut Buffer,
+    buffer: &mut Vec<u8>,
+    digits: u8,
+    value: i128,
+) -> Result<(), AllocError>
+    ensures { OnOk result (buffer.new.items ≡ signed_units_text digits value) }
+{
+    buffer.clear();
+    push_units(buffer, number, digits, value)
+}
+
+// Puts the fraction of units in place of what the buffer holds.
 fn write_fraction(
     number: &mut Buffer,
-    fraction: &mut Vec<u8>,
+    buffer: &mut Vec<u8>,
+    digits: u8,
     p: i128,
     q: u64,
 ) -> Result<(), AllocError>
-    ensures { OnOk result (fraction.new.items ≡ signed_decimal p ++ codes "/" ++ decimal q) }
+    requires { digits ≤ 18 }
+    ensures { OnOk result (buffer.new.items ≡ fraction_text digits p q) }
 {
-    fraction.clear();
-    fraction.extend_from_slice(number.format(p).as_bytes())?;
-    fraction.extend_from_slice(b"/")?;
-    fraction.extend_from_slice(number.format(q).as_bytes())?;
-    Ok(())
+    buffer.clear();
+    push_fraction(buffer, number, digits, p, q)
 }

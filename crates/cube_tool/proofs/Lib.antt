@@ -5,3 +5,4 @@ mod MergingLaws
 mod QueryWordLaws
 mod AnsweringLaws
 mod SessionLaws
+mod SchemaFileLaws

@@ -4,9 +4,10 @@ ghost use Rattle.cube_tool.specs.Answering.{Fits};
 ghost use Rattle.cube_console.specs.CommandLine.{RunHasRoom, LiveHasRoom};
 
 use crate::pauses::SessionPauses;
+use crate::views::{stored_told_of, view_of};
 use crate::watch::Watch;
 use crate::{Asked, open_feed, open_schema, question_of, session_threads, settings_of};
-use cube_console::{Counts, FeedReader, LiveWords, Output, Phase, Progress, RunWords, read_ahead};
+use cube_console::{Counts, FeedReader, LiveWords, Phase, Progress, RunWords, read_ahead};
 use cube_core::Schema;
 use cube_live::{NeverRests, Rests};
 use cube_store::{
@@ -272,17 +273,17 @@ fn ask_over<T: Threads + Wait + Clock + Sync, S: Store>(
         feeds: feeds.readers.len(),
     });
     let watch = Watch { progress };
-    let out = &mut Output::new(rt.stdout(), progress);
-    ask_stored(
-        threads,
-        rt.alloc(),
-        schema,
-        feeds,
-        &settings,
-        question,
-        &watch,
-        out,
-    )
+    let out = &mut match view_of(rt, words.view, schema, progress) {
+        Ok(out) => out,
+        Err(failure) => return Err((StoredFailure::Failure(failure), feeds.store)),
+    };
+    let alloc = rt.alloc();
+    match ask_stored(
+        threads, alloc, schema, feeds, &settings, question, &watch, out,
+    ) {
+        Ok(ended) => Ok(ended),
+        Err((failure, store)) => Err((stored_told_of(failure, out), store)),
+    }
 }
 
 /// Copies a store's log into its file, and closes both.

@@ -9,11 +9,15 @@ ghost use Rattle.cube_console.specs.CommandLine.{RunHasRoom, IsInBounds, IsUpTo,
 
 mod kept;
 mod named;
+mod own_files;
 mod pauses;
+mod views;
 mod watch;
 
 use crate::kept::{ask_kept, serve_kept};
 use crate::named::named_cubes;
+use crate::own_files::{explain_own_file, print_table, write_schema};
+use crate::views::{mixes_views, refuse_views, told_of, view_of};
 use crate::watch::Watch;
 use cube_build::Settings;
 use cube_console::{
@@ -132,6 +136,7 @@ fn shows_progress(rt: &HostRuntime, request: &Request) -> bool {
         | Request::RollUp { run, .. } => run.quiet,
         Request::Live { live } => live.quiet,
         Request::Merge { merge } => merge.quiet,
+        Request::Table { table } => table.quiet,
         _ => true,
     };
     !is_quiet && rt.stderr().is_terminal() && can_write_over(rt)
@@ -159,6 +164,9 @@ fn obey<T: Threads + Wait + Clock + Copy + Send + Sync + 'static>(
     };
     if has_clash(request) {
         return told(refuse_clash(rt));
+    }
+    if mixes_views(request) {
+        return told(refuse_views(rt));
     }
     obey_words(rt, threads, request, shard, progress)
 }
@@ -211,6 +219,8 @@ fn obey_words<T: Threads + Wait + Clock + Copy + Send + Sync + 'static>(
         }
         Request::Live { live } => serve(rt, threads, live, shard, progress),
         Request::Merge { merge } => told(merge_files(rt, merge, progress)),
+        Request::Schema { words } => told(write_schema(rt, words)),
+        Request::Table { table } => told(print_table(rt, threads, table, shard, progress)),
     }
 }
 
@@ -253,6 +263,9 @@ fn explain_code(rt: &HostRuntime, code: Option<&str>) -> Result<Status, Failure>
     }
     if goes_on(&said, code) {
         said = explain_store(rt, code);
+    }
+    if goes_on(&said, code) {
+        said = explain_own_file(rt, code);
     }
     said
 }
@@ -340,6 +353,7 @@ fn shard_of(request: &Request) -> Option<Shard>
         | Request::Drill { run, .. }
         | Request::RollUp { run, .. } => run.shard,
         Request::Live { live } => live.shard,
+        Request::Table { table } => table.shard,
         _ => None,
     };
     match word {
@@ -392,13 +406,17 @@ fn answer_under<T: Threads + Wait + Clock + Sync>(
     let settings = settings_of(threads, words.ring, words.builders, words.threads);
     progress.begin(Phase::Reading { feeds: feeds.len() });
     let watch = Watch { progress };
-    let out = &mut Output::new(rt.stdout(), progress);
-    let (status, built) = ask(
+    let out = &mut view_of(rt, words.view, schema, progress)?;
+    match ask(
         threads, alloc, schema, feeds, &settings, &question, &watch, out,
-    )?;
-    // The process ends after this, so what was built isn't taken apart.
-    mem::forget(built);
-    Ok(status)
+    ) {
+        Ok((status, built)) => {
+            // The process ends after this, so what was built isn't taken apart.
+            mem::forget(built);
+            Ok(status)
+        }
+        Err(failure) => Err(told_of(failure, out)),
+    }
 }
 
 /// The question that words ask under a schema.

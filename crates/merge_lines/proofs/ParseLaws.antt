@@ -1,28 +1,25 @@
 -- How a line with a comma in place of its end is read, field by field.
-use Rattle.std.proofs.Common.{◌≡◌, ◌++◌, ◌+◌, ◌-◌, ◌*◌, ◌/◌, ◌%◌, ◌^◌, ◌<◌, ◌≤◌, ◌∷◌, [], ℕ, true, false, List, Option}
+use Rattle.std.proofs.Common.{◌≡◌, ◌++◌, ◌+◌, ◌-◌, ◌*◌, ◌^◌, ◌<◌, ◌≤◌, ◌∷◌, [], ℕ, true, false, List, Option}
 use Rattle.std.proofs.Common.{Some, None, IfSome, ◌⊎◌, inl, inr, length, map, take, drop, get_or, set, refl, sym, ap}
-use Rattle.std.proofs.Common.{◌∙◌, append_assoc, length-append, arith, decimal}
-use Rattle.std.proofs.lemmas.Fmt.{decimal_digit, decimal_step_wide}
+use Rattle.std.proofs.Common.{◌∙◌, append_assoc, codes, length-append, arith, decimal}
+use Rattle.std.proofs.lemmas.Fmt.{decimal_digit}
 use Rattle.std.proofs.lemmas.Grind.{flat_map-append}
-use Rattle.std.proofs.lemmas.List.{append-nil, drop_more, map-append, map-set, take-append-drop, take_more}
+use Rattle.std.proofs.lemmas.List.{append-nil, drop_more, length-take-le, map-append, map-set, take-append-drop, take_more}
 use Rattle.std.proofs.lemmas.List.{take_more_set, take_rest, set-get_or}
 use Rattle.std.proofs.lemmas.List.Folds.{list_any-append}
 use Rattle.std.proofs.Math.Seq.{take-append_seam}
 use Rattle.csv.specs.Writing.{default_writer, escaped, needs_byte, needs_quotes}
 use Rattle.csv.proofs.WriteFacts.{escaped-append, escaped-other}
-use Rattle.cube_core.specs.Text.{answer_text, coord_text, grouping_text, row_fields}
+use Rattle.cube_core.specs.Layout.{Layout}
+use Rattle.cube_core.specs.Text.{answer_text, answer_texts, coord_text, digits_of_answers, grouping_text, padded, pointed}
+use Rattle.cube_core.specs.Text.{row_fields}
+use Rattle.cube_core.specs.declared.aggregate.Answer.{Answer}
 use Rattle.cube_core.specs.declared.key.Coord.{Coord}
 use Rattle.cube_core.specs.declared.key.Row.{Row}
+use Rattle.cube_units.proofs.AnswerTextsLaws.{answer_texts-push}
+use Rattle.cube_units.proofs.UnitTextLaws.{decimal-more, padded-more, pointed-parts}
 use Rattle.merge_lines.specs.Parts.{key_parts, part, parts}
 use Rattle.merge_lines.proofs.TextLaws.{escaped-quote}
-
--- one more digit of a number that isn't 0
-pub decimal-more : (n d : ℕ) → 1 ≤ n → d < 10 → n * 10 + d < 10 ^ 64 → decimal (n * 10 + d) ≡ decimal n ++ (48 + d) ∷ []
-decimal-more n d some digit small =
-    let front : (n * 10 + d) / 10 ≡ n = omega (arith, digit) in
-    let last : (n * 10 + d) % 10 ≡ d = omega (arith, digit) in
-    decimal_step_wide (n * 10 + d) (omega (arith, some)) small
-    ∙ ap (λ m. decimal m ++ (48 + (n * 10 + d) % 10) ∷ []) front ∙ ap (λ m. decimal n ++ (48 + m) ∷ []) last
 
 -- digits and one more of them
 pub digits-more : (start text : List ℕ) (n d i b : ℕ) → i < length text → b ≡ get_or text i b → b ≡ 48 + d → d < 10
@@ -49,6 +46,47 @@ parts-push f xs x text rest after so_far one =
     ∙ ap (λ t. parts (map f xs) ++ t) (append-nil (part (f x))) in
     so_far ∙ ap (λ t. parts (map f xs) ++ t) one ∙ sym (append_assoc (parts (map f xs)) (part (f x)) after)
     ∙ ap (λ t. t ++ after) (sym more)
+
+-- one more answer
+pub parts-answer : (digits : List ℕ) (answers : List Answer) (k : ℕ) (a : Answer) (text rest after : List ℕ)
+    → length answers ≡ length digits
+    → text ≡ parts (answer_texts digits answers) ++ rest → rest ≡ part (answer_text k a) ++ after
+    → text ≡ parts (answer_texts (digits ++ k ∷ []) (answers ++ a ∷ [])) ++ after
+parts-answer digits answers k a text rest after same so_far one =
+    let before = answer_texts digits answers in
+    let field = answer_text k a in
+    let more : parts (answer_texts (digits ++ k ∷ []) (answers ++ a ∷ [])) ≡ parts before ++ part field
+    = ap parts (answer_texts-push digits answers k a same) ∙ flat_map-append part before (field ∷ [])
+    ∙ ap (λ t. parts before ++ t) (append-nil (part field)) in
+    so_far ∙ ap (λ t. parts before ++ t) one ∙ sym (append_assoc (parts before) (part field) after)
+    ∙ ap (λ t. t ++ after) (sym more)
+
+-- what a function gives of one more of the first of a list
+pub map-take-more : {X Y : Type 0} (f : X → Y) (xs : List X) (i : ℕ) (d : X) → i < length xs
+    → map f (take (i + 1) xs) ≡ map f (take i xs) ++ f (get_or xs i d) ∷ []
+map-take-more f xs i d inside = ap (map f) (take_more xs i d inside) ∙ map-append f (take i xs) (get_or xs i d ∷ [])
+
+-- digits behind those of a number, and one more of them
+pub behind-more : (front text : List ℕ) (n d i b : ℕ) → i < length text → b ≡ get_or text i b → b ≡ 48 + d → d < 10
+    → n * 10 + d < 10 ^ 64 → padded (i + 1) (decimal n) ≡ front ++ take i text
+    → padded (i + 1 + 1) (decimal (n * 10 + d)) ≡ front ++ take (i + 1) text
+behind-more front text n d i b inside b_is digit small fits so_far =
+    padded-more (i + 1) n d (omega arith) small fits ∙ ap (λ t. t ++ (48 + d) ∷ []) so_far
+    ∙ append_assoc front (take i text) ((48 + d) ∷ [])
+    ∙ ap (λ t. front ++ t)
+    (ap (λ x. take i text ++ x ∷ []) (sym digit ∙ b_is) ∙ sym (take_more text i b inside))
+
+-- a number with a point, and what follows it
+pub pointed-begins : (k : ℕ) (text front point fraction number rest : List ℕ) → text ≡ front ++ point
+    → point ≡ 46 ∷ fraction → k ≤ length fraction → padded (k + 1) number ≡ front ++ take k fraction
+    → rest ≡ drop k fraction → text ≡ pointed k (padded (k + 1) number) ++ rest
+pointed-begins k text front point fraction number rest one two long digits rest_is =
+    let shown : pointed k (padded (k + 1) number) ≡ front ++ codes "." ++ take k fraction
+    = ap (pointed k) digits ∙ pointed-parts k front (take k fraction) (length-take-le k fraction long) in
+    one ∙ ap (λ t. front ++ t) (two ∙ ap (λ t. 46 ∷ t) (sym (take-append-drop k fraction)))
+    ∙ sym (append_assoc front (46 ∷ []) (take k fraction ++ drop k fraction))
+    ∙ sym (append_assoc (front ++ 46 ∷ []) (take k fraction) (drop k fraction))
+    ∙ ap (λ t. t ++ drop k fraction) (sym shown) ∙ ap (λ t. pointed k (padded (k + 1) number) ++ t) (sym rest_is)
 
 -- a field without quotes, up to its comma
 pub plain-part : (text field : List ℕ) (end : ℕ) → end < length text → get_or text end 0 ≡ 44
@@ -125,13 +163,14 @@ pub from-place : (text : List ℕ) (n : ℕ) → take (length text - n) (drop n 
 from-place text n = take_rest text n
 
 -- all fields of a row
-pub row-parts : (row : Row) (start : List (List ℕ)) (text flags numbers : List ℕ) → text ≡ parts start ++ flags
+pub row-parts : (s : Layout) (row : Row) (start : List (List ℕ)) (text flags numbers : List ℕ)
+    → text ≡ parts start ++ flags
     → start ≡ map coord_text row.key.coords → flags ≡ parts (map grouping_text row.key.coords) ++ numbers
-    → numbers ≡ parts (map answer_text row.answers) → text ≡ parts (row_fields row)
-row-parts row start text flags numbers one start_is two three =
+    → numbers ≡ parts (answer_texts (digits_of_answers s) row.answers) → text ≡ parts (row_fields s row)
+row-parts s row start text flags numbers one start_is two three =
     let a = map coord_text row.key.coords in
     let b = map grouping_text row.key.coords in
-    let c = map answer_text row.answers in
+    let c = answer_texts (digits_of_answers s) row.answers in
     one ∙ ap (λ t. parts t ++ flags) start_is ∙ ap (λ t. parts a ++ t) (two ∙ ap (λ t. parts b ++ t) three)
     ∙ sym (append_assoc (parts a) (parts b) (parts c)) ∙ ap (λ t. t ++ parts c) (sym (flat_map-append part a b))
     ∙ sym (flat_map-append part (a ++ b) c)

@@ -1,20 +1,24 @@
 -- How a line grows in memory, field by field.
 use Rattle.std.proofs.Common.{◌≡◌, ◌++◌, ◌+◌, ◌^◌, ◌<◌, ◌≤◌, ◌%◌, ◌∷◌, [], ℕ, ℤ, pos, negsuc, suc, true, false, List}
 use Rattle.std.proofs.Common.{length, map, take, get_or, refl, sym, ap, ◌∙◌, append_assoc, length-append, arith}
-use Rattle.std.proofs.Common.{decimal, codes, FitsSigned}
+use Rattle.std.proofs.Common.{decimal, codes, FitsSigned, drop, inl, inr, int_div, neg_ℤ, replicate, unsigned_abs, zero}
+use Rattle.std.proofs.Common.{◌*◌, ◌-◌, ◌/◌, ◌==◌}
 use Rattle.std.specs.List.{list_any}
 use Rattle.std.specs.Int.{w128}
 use Rattle.std.specs.Fmt.{signed_decimal}
-use Rattle.std.proofs.lemmas.Bool.{ne_eqb}
+use Rattle.std.proofs.lemmas.Bool.{cases_Bool, ne_eqb, or_parts}
 use Rattle.std.proofs.lemmas.Fmt.{decimal_by_steps_wide}
 use Rattle.std.proofs.lemmas.Grind.{flat_map-append}
 use Rattle.std.proofs.lemmas.Int.{ints}
-use Rattle.std.proofs.lemmas.List.{append-nil, append_cancel_right, length-map, take_more, map-append}
+use Rattle.std.proofs.lemmas.List.{append-nil, append_cancel_right, length-map, take-append-drop, take_more, map-append}
 use Rattle.std.proofs.lemmas.List.Folds.{list_any-append}
+use Rattle.std.proofs.Math.Nat.{div-le_self, mul-le-mul, pow-le-pow_right}
 use Rattle.csv.specs.Writing.{default_writer, escaped, field_text, fields_text, is_blank, needs_byte, needs_quotes}
 use Rattle.csv.specs.Writing.{row_body, row_text}
 use Rattle.csv.proofs.WriteFacts.{escaped-append, escaped-other}
-use Rattle.cube_core.specs.Text.{answer_text, coord_text, grouping_text, line, row_fields, row_line}
+use Rattle.cube_core.specs.Layout.{Layout}
+use Rattle.cube_core.specs.Text.{answer_texts, common_with_ten, coord_text, digits_of_answers, fraction_text}
+use Rattle.cube_core.specs.Text.{grouping_text, line, padded, row_fields, row_line, signed_units_text, units_text}
 use Rattle.cube_core.specs.declared.key.Row.{Row}
 use Rattle.merge_lines.specs.Parts.{AddsParts, EndsLine, part, parts}
 
@@ -30,6 +34,13 @@ AddsParts-more f xs i x start old new inside is so_far adds =
     adds ∙ ap (λ t. t ++ parts (f x ∷ [])) so_far
     ∙ append_assoc start (parts (map f (take i xs))) (parts (f x ∷ []))
     ∙ ap (λ t. start ++ t) (sym (flat_map-append part (map f (take i xs)) (f x ∷ [])) ∙ ap parts (sym more))
+
+-- one more field behind others
+pub AddsParts-push : (fields : List (List ℕ)) (field : List ℕ) (start old new : List ℕ)
+    → old ≡ start ++ parts fields → AddsParts (field ∷ []) old new → new ≡ start ++ parts (fields ++ field ∷ [])
+AddsParts-push fields field start old new so_far adds =
+    adds ∙ ap (λ t. t ++ parts (field ∷ [])) so_far ∙ append_assoc start (parts fields) (parts (field ∷ []))
+    ∙ ap (λ t. start ++ t) (sym (flat_map-append part fields (field ∷ [])))
 
 map-id : (xs : List (List ℕ)) → map (λ x. x) xs ≡ xs
 map-id [] = refl
@@ -115,13 +126,13 @@ parts-body [] many = absurd (omega arith)
 parts-body (field ∷ fields) many = parts-row_body field fields
 
 -- a line whose last comma became its end, where the text of its row's fields ended with that comma
-pub EndsLine-row : (row : Row) (text : List ℕ) → text ≡ parts (row_fields row) → 1 ≤ length row.key.coords
-    → EndsLine text (row_line row)
-EndsLine-row row text shown some fields is =
+pub EndsLine-row : (s : Layout) (row : Row) (text : List ℕ) → text ≡ parts (row_fields s row)
+    → 1 ≤ length row.key.coords → EndsLine text (row_line s row)
+EndsLine-row s row text shown some fields is =
     let a = map coord_text row.key.coords in
     let b = map grouping_text row.key.coords in
-    let c = map answer_text row.answers in
-    let many : 2 ≤ length (row_fields row) = omega (
+    let c = answer_texts (digits_of_answers s) row.answers in
+    let many : 2 ≤ length (row_fields s row) = omega (
       arith,
       some,
       length-append (a ++ b) c,
@@ -129,9 +140,9 @@ EndsLine-row row text shown some fields is =
       length-map row.key.coords coord_text,
       length-map row.key.coords grouping_text,
     ) in
-    row_text-row_body (row_fields row) many
-    ∙ ap (λ t. t ++ 10 ∷ []) (append_cancel_right (row_body default_writer (row_fields row)) fields (44 ∷ [])
-    (sym (shown ∙ parts-body (row_fields row) many) ∙ is))
+    row_text-row_body (row_fields s row) many
+    ∙ ap (λ t. t ++ 10 ∷ []) (append_cancel_right (row_body default_writer (row_fields s row)) fields (44 ∷ [])
+    (sym (shown ∙ parts-body (row_fields s row) many) ∙ is))
 
 -- three runs of fields and the line's end
 pub EndsLine-line : (a b c : List (List ℕ)) (old first second third new : List ℕ) → 1 ≤ length a → 1 ≤ length b
@@ -184,13 +195,76 @@ plain-fraction z q fits small =
       plain-decimal q small,
     ) refl
 
--- a fraction, put down part by part
-pub fraction-parts : (old p q a b c d : List ℕ) → a ≡ old ++ p → b ≡ a ++ 47 ∷ [] → c ≡ b ++ q → d ≡ c ++ 44 ∷ []
-    → d ≡ (old ++ (p ++ codes "/" ++ q)) ++ 44 ∷ []
-fraction-parts old p q a b c d a_is b_is c_is d_is =
-    d_is ∙ ap (λ t. t ++ 44 ∷ [])
-    (c_is ∙ ap (λ t. t ++ q) (b_is ∙ ap (λ t. t ++ 47 ∷ []) a_is ∙ append_assoc old p (47 ∷ []))
-    ∙ append_assoc old (p ++ 47 ∷ []) q)
+-- nor does a number with digits behind a point
+plain-zeros : (n : ℕ) → needs_quotes default_writer (replicate n 48) ≡ false
+plain-zeros zero = refl
+plain-zeros (suc n) = plain-zeros n
+
+plain-point : (i : ℕ) (digits : List ℕ) → needs_quotes default_writer digits ≡ false
+    → needs_quotes default_writer (take i digits ++ codes "." ++ drop i digits) ≡ false
+plain-point i digits plain =
+    let both = or_parts (list_any (needs_byte default_writer) (take i digits))
+    (list_any (needs_byte default_writer) (drop i digits))
+    (sym (list_any-append (needs_byte default_writer) (take i digits) (drop i digits))
+    ∙ ap (list_any (needs_byte default_writer)) (take-append-drop i digits) ∙ plain) in
+    rw (
+      list_any-append (needs_byte default_writer) (take i digits ++ codes ".") (drop i digits),
+      list_any-append (needs_byte default_writer) (take i digits) (codes "."),
+      both.0,
+      both.1,
+    ) refl
+
+plain-units : (k n : ℕ) → n < 10 ^ 64 → needs_quotes default_writer (units_text k n) ≡ false
+plain-units k n small = elim (cases_Bool (k == 0)) [
+  | inl none ↦ rw none (plain-decimal n small)
+  | inr some ↦ rw some (plain-point (length (padded (k + 1) (decimal n)) - k) (padded (k + 1) (decimal n)) (rw (
+    list_any-append (needs_byte default_writer) (replicate (k + 1 - length (decimal n)) 48) (decimal n),
+    plain-zeros (k + 1 - length (decimal n)),
+    plain-decimal n small,
+  ) refl))
+]
+
+pub plain-signed_units : (k : ℕ) (z : ℤ) → FitsSigned w128 z
+    → needs_quotes default_writer (signed_units_text k z) ≡ false
+plain-signed_units k (pos n) fits = plain-units k n (omega (arith, ints))
+plain-signed_units k (negsuc n) fits = rw (plain-digit 45 (omega arith)) (plain-units k (suc n) (omega (arith, ints)))
+
+-- nor does a fraction of units
+plain-signed : (z : ℤ) → unsigned_abs z < 10 ^ 64 → needs_quotes default_writer (signed_decimal z) ≡ false
+plain-signed (pos n) small = plain-decimal n small
+plain-signed (negsuc n) small = rw (plain-digit 45 (omega arith)) (plain-decimal (suc n) small)
+
+unsigned_abs-neg : (n : ℕ) → unsigned_abs (neg_ℤ (pos n)) ≡ n
+unsigned_abs-neg zero = refl
+unsigned_abs-neg (suc n) = refl
+
+unsigned_abs-div : (z : ℤ) (n : ℕ) → unsigned_abs (int_div z (pos n)) ≤ unsigned_abs z
+unsigned_abs-div (pos m) n = div-le_self m n
+unsigned_abs-div (negsuc m) n = rw (unsigned_abs-neg (suc m / n)) (div-le_self (suc m) n)
+
+unsigned_abs-small : (z : ℤ) → FitsSigned w128 z → unsigned_abs z < 2 ^ 128
+unsigned_abs-small (pos n) fits = omega (arith, ints)
+unsigned_abs-small (negsuc n) fits = omega (arith, ints)
+
+pub plain-fraction_text : (k : ℕ) (p : ℤ) (q : ℕ) → FitsSigned w128 p → q < 2 ^ 64 → k ≤ 18
+    → needs_quotes default_writer (fraction_text k p q) ≡ false
+plain-fraction_text k p q fits small few =
+    let common = common_with_ten k (unsigned_abs p) in
+    let numerator = int_div p (pos common) in
+    let rest : 10 ^ k / common ≤ 10 ^ k = div-le_self (10 ^ k) common in
+    let power : 10 ^ k ≤ 10 ^ 18 = pow-le-pow_right (omega arith) few in
+    let product : q * (10 ^ k / common) ≤ 2 ^ 64 * 10 ^ 18
+    = mul-le-mul {n₁ = q} {m₁ = 10 ^ k / common} {n₂ = 2 ^ 64} {m₂ = 10 ^ 18} (omega (arith, small))
+    (omega (arith, rest, power)) in
+    let short : unsigned_abs numerator < 10 ^ 64
+    = omega (arith, unsigned_abs-div p common, unsigned_abs-small p fits) in
+    rw (
+      list_any-append (needs_byte default_writer) (signed_decimal numerator ++ codes "/")
+          (decimal (q * (10 ^ k / common))),
+      list_any-append (needs_byte default_writer) (signed_decimal numerator) (codes "/"),
+      plain-signed numerator short,
+      plain-decimal (q * (10 ^ k / common)) (omega (arith, product)),
+    ) refl
 
 -- what a row shows of its key, its answers, and the line's end
 pub EndsLine-keyed : (a b c : List (List ℕ)) (old key first second new : List ℕ) → 1 ≤ length a → 1 ≤ length b

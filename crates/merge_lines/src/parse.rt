@@ -2,15 +2,16 @@
 //! line.
 //!
 //! A line is read with a comma in place of its end, so that one follows each field.
-ghost use Rattle.std.specs.Prelude.{◌≡◌, ◌<◌, ◌≤◌, ◌+◌, ◌∷◌, [], ◌++◌, decimal, drop, get_or, length, map, take, true, false, if◌then◌else◌, IfOk, IfSome, FitsSigned};
+ghost use Rattle.std.specs.Prelude.{◌≡◌, ◌<◌, ◌≤◌, ◌+◌, ◌∷◌, [], ◌++◌, ℕ, codes, decimal, drop, get_or, length, map, take, true, false, if◌then◌else◌, IfOk, IfSome, FitsSigned};
 ghost use Rattle.std.specs.Fmt.{signed_decimal};
 ghost use Rattle.std.specs.Int.{w128};
 ghost use Rattle.csv.specs.Writing.{default_writer, escaped, needs_quotes};
-ghost use Rattle.cube_core.specs.Text.{answer_text, coord_text, grouping_text, row_fields, row_line};
+ghost use Rattle.cube_core.specs.Text.{answer_text, answer_texts, coord_text, digits_of_answers, fraction_text, grouping_text, padded, pointed, row_fields, row_line, signed_units_text, units_text};
 ghost use Rattle.merge_lines.specs.Parts.{EndsLine, key_parts, part, parts};
 
 use crate::text::{needs_byte, needs_quotes};
 use cube_core::{Agg, Answer, Coord, Key, Row, Schema, Sequence, Text};
+use cube_units::unscaled;
 use std::alloc::{AllocError, Global};
 
 /// A row of no coordinate and no answer; it takes no memory.
@@ -32,9 +33,9 @@ pub fn parse_row(
     spare: Row,
 ) -> Result<Option<(Row, usize)>, AllocError>
     ensures line { IfOk result (λ found. IfSome found (λ read.
-        text.now ≡ parts (row_fields read.0))) }
+        text.now ≡ parts (row_fields schema.now read.0))) }
     ensures ended { IfOk result (λ found. IfSome found (λ read.
-        1 ≤ length read.0.key.coords → EndsLine text.now (row_line read.0))) }
+        1 ≤ length read.0.key.coords → EndsLine text.now (row_line schema.now read.0))) }
     ensures key { IfOk result (λ found. IfSome found (λ read.
         take read.1 text.now ≡ key_parts read.0.key)) }
 {
@@ -48,7 +49,7 @@ pub fn parse_row(
     let Some(numbers) = parse_groupings(flags, coords.as_mut_slice()) else {
         return Ok(None);
     };
-    if !parse_answers(numbers, schema.aggregates(), &mut answers)? {
+    if !parse_answers(numbers, schema, &mut answers)? {
         return Ok(None);
     }
     let row = Row {
@@ -223,19 +224,21 @@ fn put_flag(coord: &mut Coord, is_all: bool) -> bool
     }
 }
 
-// Puts the answers to these aggregates in place of what the list holds; false where the text isn't theirs and no more.
+// Puts the answers to a schema's aggregates in place of what the list holds; false where the text isn't theirs and no more.
 fn parse_answers(
     text: &[u8],
-    aggregates: &[Agg],
+    schema: &Schema,
     answers: &mut Vec<Answer>,
 ) -> Result<bool, AllocError>
     ensures { IfOk result (λ is_read. is_read ≡ true →
-        text.now ≡ parts (map answer_text answers.new.items)) }
+        text.now ≡ parts (answer_texts (digits_of_answers schema.now) answers.new.items)) }
 {
     answers.clear();
+    let aggregates = schema.aggregates();
     let mut rest = text;
     for aggregate in aggregates {
-        let Some((answer, after)) = parse_answer(aggregate, rest) else {
+        let Some((answer, after)) = parse_answer(aggregate, schema.digits_of(aggregate), rest)
+        else {
             return Ok(false);
         };
         answers.push(answer)?;
@@ -244,39 +247,43 @@ fn parse_answers(
     Ok(rest.is_empty())
 }
 
-// The answer to an aggregate, and what follows its field.
-fn parse_answer<'t>(aggregate: &Agg, text: &'t [u8]) -> Option<(Answer, &'t [u8])>
-    ensures { IfSome result (λ read. text.now ≡ part (answer_text read.0) ++ read.1.now) }
+// The answer to an aggregate, with so many digits behind its point, and what follows its field.
+fn parse_answer<'t>(aggregate: &Agg, digits: u8, text: &'t [u8]) -> Option<(Answer, &'t [u8])>
+    requires { digits ≤ 18 }
+    ensures { IfSome result (λ read. text.now ≡ part (answer_text digits read.0) ++ read.1.now) }
 {
     if let [b'\\', b'N', b',', rest @ ..] = text {
         return Some((Answer::Null, rest));
     }
     match aggregate {
-        Agg::CountAll | Agg::Count(_) => count_answer(text),
-        Agg::Sum(_) | Agg::Min(_) | Agg::Max(_) => whole_answer(text),
-        Agg::Avg(_) => ratio_answer(text),
+        Agg::CountAll | Agg::Count(_) => count_answer(digits, text),
+        Agg::Sum(_) | Agg::Min(_) | Agg::Max(_) => whole_answer(digits, text),
+        Agg::Avg(_) => ratio_answer(digits, text),
     }
 }
 
-fn count_answer(text: &[u8]) -> Option<(Answer, &[u8])>
-    ensures { IfSome result (λ read. text.now ≡ part (answer_text read.0) ++ read.1.now) }
+// A count has no digits behind a point, whatever its measure has.
+fn count_answer(_digits: u8, text: &[u8]) -> Option<(Answer, &[u8])>
+    ensures { IfSome result (λ read. text.now ≡ part (answer_text _digits read.0) ++ read.1.now) }
 {
     let (count, end) = parse_count(text)?;
     Some((Answer::Count(count), after(end, b',')?))
 }
 
-fn whole_answer(text: &[u8]) -> Option<(Answer, &[u8])>
-    ensures { IfSome result (λ read. text.now ≡ part (answer_text read.0) ++ read.1.now) }
+fn whole_answer(digits: u8, text: &[u8]) -> Option<(Answer, &[u8])>
+    ensures { IfSome result (λ read. text.now ≡ part (answer_text digits read.0) ++ read.1.now) }
 {
-    let (number, end) = parse_number(text)?;
+    let (number, end) = parse_units(digits, text)?;
     Some((Answer::Whole(number), after(end, b',')?))
 }
 
-fn ratio_answer(text: &[u8]) -> Option<(Answer, &[u8])>
-    ensures { IfSome result (λ read. text.now ≡ part (answer_text read.0) ++ read.1.now) }
+fn ratio_answer(digits: u8, text: &[u8]) -> Option<(Answer, &[u8])>
+    requires { digits ≤ 18 }
+    ensures { IfSome result (λ read. text.now ≡ part (answer_text digits read.0) ++ read.1.now) }
 {
     let (p, slash) = parse_number(text)?;
-    let (q, end) = parse_count(after(slash, b'/')?)?;
+    let (q, end) = parse_size(after(slash, b'/')?)?;
+    let (p, q) = unscaled(digits, p, q)?;
     Some((Answer::Ratio { p, q }, after(end, b',')?))
 }
 
@@ -305,13 +312,65 @@ fn parse_number(text: &[u8]) -> Option<(i128, &[u8])>
     }
 }
 
+// The number of units that a text begins with as it is printed, with so many digits behind a point, and what follows it.
+fn parse_units(digits: u8, text: &[u8]) -> Option<(i128, &[u8])>
+    ensures text { IfSome result (λ read. text.now ≡ signed_units_text digits read.0 ++ read.1.now) }
+    ensures fits { IfSome result (λ read. FitsSigned w128 read.0) }
+{
+    if digits == 0 {
+        return parse_number(text);
+    }
+    match after(text, b'-') {
+        Some(unsigned) => {
+            let (size, rest) = parse_pointed(usize::from(digits), unsigned)?;
+            Some((below_zero(size)?, rest))
+        }
+        None => {
+            let (size, rest) = parse_pointed(usize::from(digits), text)?;
+            Some((i128::try_from(size).ok()?, rest))
+        }
+    }
+}
+
 // The number below zero of a size; None for 0.
 fn below_zero(size: u128) -> Option<i128>
     ensures text { IfSome result (λ number. 45 ∷ decimal size ≡ signed_decimal number) }
+    ensures units { IfSome result (λ number. (k : ℕ) → 45 ∷ units_text k size ≡ signed_units_text k number) }
     ensures fits { IfSome result (λ number. FitsSigned w128 number) }
 {
     let less = i128::try_from(size.checked_sub(1)?).ok()?;
     Some(-1 - less)
+}
+
+// The digits that a text begins with as a number without a sign is printed, with a point before the last k of them, and what
+// follows them.
+fn parse_pointed(digits: usize, text: &[u8]) -> Option<(u128, &[u8])>
+    requires { digits ≤ 255 }
+    ensures { IfSome result (λ read.
+        text.now ≡ pointed digits (padded (digits + 1) (decimal read.0)) ++ read.1.now) }
+{
+    let (front, point) = parse_size(text)?;
+    let fraction = after(point, b'.')?;
+    let number = number_behind(front, digits, fraction)?;
+    Some((number, &fraction[digits..]))
+}
+
+// The number that begins with the digits of another one and goes on with the first of a text, so many.
+fn number_behind(front: u128, count: usize, text: &[u8]) -> Option<u128>
+    requires { count ≤ 255 }
+    ensures long { IfSome result (λ number. count ≤ length text.now) }
+    ensures digits { IfSome result (λ number.
+        padded (count + 1) (decimal number) ≡ decimal front ++ take count text.now) }
+{
+    if text.len() < count {
+        return None;
+    }
+    let mut number = front;
+    for place in 0..count {
+        let digit = digit_of(text[place])?;
+        number = number.checked_mul(10)?.checked_add(u128::from(digit))?;
+    }
+    Some(number)
 }
 
 // The digits that a text begins with as a number without a sign is printed, and what follows them.

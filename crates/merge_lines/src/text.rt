@@ -2,26 +2,31 @@
 //!
 //! `cube_text` prints through a writer of `csv`, which gives its text once, at its end. A merge needs the text of one
 //! line again and again in the same memory, so this is printing to a plain vector.
-ghost use Rattle.std.specs.Prelude.{◌≡◌, ◌≤◌, ◌∷◌, [], ◌++◌, codes, decimal, length, map, true, false, ℕ, List, OnOk};
-ghost use Rattle.std.specs.Fmt.{signed_decimal};
+ghost use Rattle.std.specs.Prelude.{◌≡◌, ◌≤◌, ◌∷◌, [], ◌++◌, decimal, length, map, true, false, ℕ, List, OnOk};
 ghost use Rattle.csv.specs.Writing.{default_writer, escaped, needs_byte, needs_quotes};
-ghost use Rattle.cube_core.specs.Text.{answer_text, coord_text, grouping_text, header_fields, grouping_name, line};
+ghost use Rattle.cube_core.specs.Text.{answer_text, answer_texts, coord_text, digits_of_answers, fraction_text, grouping_text, header_fields, grouping_name, line, signed_units_text};
 ghost use Rattle.cube_core.specs.declared.key.Key.{Key};
 ghost use Rattle.merge_lines.specs.Parts.{AddsParts, EndsLine, key_parts};
 
 use cube_core::{Answer, Schema, Text};
+use cube_units::{push_fraction, push_units};
 use itoa::Buffer;
 use std::alloc::{AllocError, Global};
 
-/// Puts the line of a row at the end of the text, of what it shows of its key, each field with a comma, and of its
+/// Puts the line of a row of a schema at the end of the text, of what it shows of its key, each field with a comma, and of its
 /// answers. The only error is that memory ran out, and then a part of the line may stand there.
-pub fn push_line(text: &mut Vec<u8>, key: &[u8], answers: &[Answer]) -> Result<(), AllocError>
+pub fn push_line(
+    text: &mut Vec<u8>,
+    schema: &Schema,
+    key: &[u8],
+    answers: &[Answer],
+) -> Result<(), AllocError>
     ensures { OnOk result ((of : Key) → 1 ≤ length of.coords → key.now ≡ key_parts of →
-        text.new.items ≡ text.old.items ++ line
-        (map coord_text of.coords ++ map grouping_text of.coords ++ map answer_text answers.now)) }
+        text.new.items ≡ text.old.items ++ line (map coord_text of.coords ++ map grouping_text of.coords
+        ++ answer_texts (digits_of_answers schema.now) answers.now)) }
 {
     text.extend_from_slice(key)?;
-    push_answers(text, answers)?;
+    push_answers(text, schema, answers)?;
     end_line(text)
 }
 
@@ -54,25 +59,34 @@ fn push_texts(text: &mut Vec<u8>, texts: &[Text]) -> Result<(), AllocError>
     Ok(())
 }
 
-fn push_answers(text: &mut Vec<u8>, answers: &[Answer]) -> Result<(), AllocError>
-    ensures { OnOk result (AddsParts (map answer_text answers.now) text.old.items text.new.items) }
+fn push_answers(text: &mut Vec<u8>, schema: &Schema, answers: &[Answer]) -> Result<(), AllocError>
+    ensures { OnOk result (AddsParts (answer_texts (digits_of_answers schema.now) answers.now)
+        text.old.items text.new.items) }
 {
+    let aggregates = schema.aggregates();
     let mut number = Buffer::new();
-    for answer in answers {
-        push_answer(text, &mut number, answer)?;
+    for place in 0..aggregates.len().min(answers.len()) {
+        let digits = schema.digits_of(&aggregates[place]);
+        push_answer(text, &mut number, digits, &answers[place])?;
     }
     Ok(())
 }
 
-fn push_answer(text: &mut Vec<u8>, number: &mut Buffer, answer: &Answer) -> Result<(), AllocError>
+fn push_answer(
+    text: &mut Vec<u8>,
+    number: &mut Buffer,
+    digits: u8,
+    answer: &Answer,
+) -> Result<(), AllocError>
+    requires { digits ≤ 18 }
     ensures { OnOk result
-        (AddsParts (answer_text answer.now ∷ []) text.old.items text.new.items) }
+        (AddsParts (answer_text digits answer.now ∷ []) text.old.items text.new.items) }
 {
     match *answer {
         Answer::Null => text.extend_from_slice(b"\\N,"),
         Answer::Count(count) => push_count(text, number, count),
-        Answer::Whole(value) => push_number(text, number, value),
-        Answer::Ratio { p, q } => push_fraction(text, number, p, q),
+        Answer::Whole(value) => push_number(text, number, digits, value),
+        Answer::Ratio { p, q } => push_mean(text, number, digits, p, q),
     }
 }
 
@@ -82,19 +96,30 @@ fn push_count(text: &mut Vec<u8>, number: &mut Buffer, count: u64) -> Result<(),
     push_plain(text, number.format(count).as_bytes())
 }
 
-fn push_number(text: &mut Vec<u8>, number: &mut Buffer, value: i128) -> Result<(), AllocError>
-    ensures { OnOk result (AddsParts (signed_decimal value ∷ []) text.old.items text.new.items) }
+fn push_number(
+    text: &mut Vec<u8>,
+    number: &mut Buffer,
+    digits: u8,
+    value: i128,
+) -> Result<(), AllocError>
+    ensures { OnOk result (AddsParts (signed_units_text digits value ∷ []) text.old.items text.new.items) }
 {
-    push_plain(text, number.format(value).as_bytes())
+    push_units(text, number, digits, value)?;
+    text.push(b',')?;
+    Ok(())
 }
 
-fn push_fraction(text: &mut Vec<u8>, number: &mut Buffer, p: i128, q: u64) -> Result<(), AllocError>
-    ensures { OnOk result (AddsParts ((signed_decimal p ++ codes "/" ++ decimal q) ∷ [])
-        text.old.items text.new.items) }
+fn push_mean(
+    text: &mut Vec<u8>,
+    number: &mut Buffer,
+    digits: u8,
+    p: i128,
+    q: u64,
+) -> Result<(), AllocError>
+    requires { digits ≤ 18 }
+    ensures { OnOk result (AddsParts (fraction_text digits p q ∷ []) text.old.items text.new.items) }
 {
-    text.extend_from_slice(number.format(p).as_bytes())?;
-    text.push(b'/')?;
-    text.extend_from_slice(number.format(q).as_bytes())?;
+    push_fraction(text, number, digits, p, q)?;
     text.push(b',')?;
     Ok(())
 }

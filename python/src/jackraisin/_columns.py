@@ -3,12 +3,14 @@ from __future__ import annotations
 
 import io
 from collections import deque
+from decimal import Decimal
 from fractions import Fraction
 from itertools import repeat
 from math import gcd
-from typing import TYPE_CHECKING, Any, Dict, List, Optional, Sequence
+from typing import TYPE_CHECKING, Any, Callable, Dict, List, Optional, Sequence, Union
 
 from ._cells import ALL
+from ._numbers import Number, number_of, whole_of
 from ._records import GREATEST, LEAST, NULL, Columns, head_of, records_of, unreadable
 
 if TYPE_CHECKING:
@@ -27,11 +29,12 @@ def texts_of(text: str, columns: Columns) -> List[Sequence[str]]:
     return list(zip(*lines)) if lines else [()] * columns.width
 
 
-def wholes_of(texts: Sequence[str]) -> List[Optional[int]]:
-    """The whole numbers that fields say."""
+def numbers_of(aggregate: str, texts: Sequence[str]) -> List[Optional[Number]]:
+    """The numbers that fields say, of an aggregate other than a mean."""
+    read = whole_of if is_count(aggregate) else number_of
     try:
-        return [None if it == NULL else int(it) for it in texts]
-    except ValueError as why:
+        return [None if it == NULL else read(it) for it in texts]
+    except (ValueError, ArithmeticError) as why:
         raise unreadable(why) from None
 
 
@@ -68,9 +71,35 @@ def is_mean(aggregate: str) -> bool:
     return aggregate.startswith("avg(")
 
 
-def fit(answers: Sequence[Optional[int]]) -> bool:
-    """Whether whole numbers fit 64 bits."""
-    return all(it is None or LEAST <= it <= GREATEST for it in answers)
+def is_count(aggregate: str) -> bool:
+    return aggregate.startswith("count(")
+
+
+def reader_of(aggregate: str) -> Callable[[str], Union[Number, Fraction]]:
+    """What reads an aggregate's answers: means, whole numbers, or those that may have decimals."""
+    if is_mean(aggregate):
+        return Fraction
+    return whole_of if is_count(aggregate) else number_of
+
+
+def fit(answers: Sequence[Optional[Number]]) -> bool:
+    """Whether numbers are whole, and fit 64 bits."""
+    return all(it is None or not isinstance(it, Decimal) and LEAST <= it <= GREATEST for it in answers)
+
+
+def with_decimals(text: str, columns: Columns) -> List[bool]:
+    """Which aggregates are printed with decimals: those whose first number that isn't null has a point."""
+    found: List[Optional[bool]] = [False if is_mean(it) or is_count(it) else None for it in columns.aggregates]
+    if "." not in text:
+        return [False] * len(found)
+    with records_of(text) as records:
+        next(records, None)
+        for record in records:
+            if None not in found:
+                break
+            answers = columns.checked(record)[2 * len(columns.dimensions) :]
+            found = ["." in it if was is None and it != NULL else was for was, it in zip(found, answers)]
+    return [bool(it) for it in found]
 
 
 def frame_of(text: str, columns: Columns) -> "pandas.DataFrame":
@@ -92,7 +121,8 @@ def fields_of(text: str, columns: Columns) -> List[Any]:
     import pandas
 
     count = 2 * len(columns.dimensions)
-    kinds: List[Any] = ["category"] * count + [str if is_mean(it) else None for it in columns.aggregates]
+    are_texts = [is_mean(it) or has_point for it, has_point in zip(columns.aggregates, with_decimals(text, columns))]
+    kinds: List[Any] = ["category"] * count + [str if it else None for it in are_texts]
     if not any(it in text for it in NOT_FOR_PANDAS):
         for at_once in (kinds, [it or str for it in kinds]):
             try:
@@ -126,7 +156,7 @@ def wholes_in(column: Any) -> Any:
     if column.dtype == "int64":
         return pandas.arrays.IntegerArray(column.to_numpy(), numpy.zeros(len(column), dtype=bool))
     is_null = column.isna().to_numpy()
-    if column.dtype != "float64":
+    if column.dtype != "float64" or not is_null.any():
         raise ValueError("not whole numbers of 64 bits alone")
     floats = numpy.where(is_null, 0, column.to_numpy())
     if not (numpy.abs(floats) < 2**53).all() or (floats % 1).any():
@@ -149,14 +179,14 @@ def level_of(texts: Any, marks: Any) -> Any:
 
 
 def answers_of(aggregate: str, column: Any) -> Any:
-    """The answers of an aggregate: whole numbers of 64 bits where they fit, else objects, as means are."""
+    """The answers of an aggregate: whole numbers of 64 bits where they fit, else objects, as means and numbers with decimals are."""
     import pandas
 
     if column.dtype == "Int64":
         return column
     if is_mean(aggregate):
         return objects(means_of(column.tolist()))
-    answers = wholes_of(column.tolist())
+    answers = numbers_of(aggregate, column.tolist())
     return pandas.array(answers, dtype="Int64") if fit(answers) else objects(answers)
 
 

@@ -8,10 +8,11 @@ import os
 import pathlib
 import webbrowser
 from dataclasses import dataclass, field
+from decimal import Decimal
 from fractions import Fraction
 from typing import TYPE_CHECKING, Any, Dict, Iterable, List, NamedTuple, Optional, Sequence, Tuple, Union, overload
 
-from . import _columns, _show, _views
+from . import _columns, _numbers, _show, _views
 from ._cells import ALL, Cell, Coordinate, Key, Pattern, in_order
 from ._program import Path
 from ._records import NULL, Columns, head_of, lines_of, records_of, unreadable
@@ -19,7 +20,7 @@ from ._records import NULL, Columns, head_of, lines_of, records_of, unreadable
 if TYPE_CHECKING:
     import pandas
 
-Answer = Union[int, Fraction, None]
+Answer = Union[int, Decimal, Fraction, None]
 
 SHOWN = 10
 
@@ -165,7 +166,8 @@ class Cube(Sequence[Row]):
 
     def to_pandas(self) -> "pandas.DataFrame":
         """A frame with the answers, over the cells as its index: each level is ordered, ALL is its last category, and null
-        is missing. Whole numbers are `Int64` where they fit, else objects; a mean is a `Fraction`."""
+        is missing. Whole numbers are `Int64` where they fit, else objects; a number with decimals is a `Decimal`, and a mean a
+        `Fraction`."""
         return _columns.frame_of(self.text, self._columns)
 
 
@@ -173,7 +175,9 @@ def cell_html(value: Union[Coordinate, Answer]) -> str:
     """A cell of a table: numbers to the right, texts as they are, ALL and null in italics."""
     if value is None or value is ALL:
         return f"<td><i>{'null' if value is None else value}</i></td>"
-    return f"<td>{html.escape(value)}</td>" if isinstance(value, str) else f'<td style="text-align: right">{value}</td>'
+    if isinstance(value, str):
+        return f"<td>{html.escape(value)}</td>"
+    return f'<td style="text-align: right">{_numbers.shown(value)}</td>'
 
 
 def row_of(columns: Columns, record: List[str]) -> Row:
@@ -193,8 +197,8 @@ def answer_of(aggregate: str, text: str) -> Answer:
     if text == NULL:
         return None
     try:
-        return Fraction(text) if _columns.is_mean(aggregate) else int(text)
-    except (ValueError, ZeroDivisionError) as why:
+        return _columns.reader_of(aggregate)(text)
+    except (ValueError, ArithmeticError) as why:
         raise unreadable(why) from None
 
 

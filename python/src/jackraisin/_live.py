@@ -10,6 +10,7 @@ import shutil
 import subprocess
 import tempfile
 import threading
+from decimal import Decimal
 from types import TracebackType
 from typing import IO, Callable, Iterable, Iterator, List, Literal, Optional, Sequence, Tuple, Type, Union
 
@@ -17,14 +18,17 @@ from ._ask import Given, Shard, options_of
 from ._cells import KEEP, Mark, Named, in_order, text_of
 from ._cube import Refusal, refusals_of
 from ._errors import Ended, Failure, ProgramNotFound, Unsayable
+from ._numbers import measure_text
 from ._program import DONE, Limits, Path, Paths, line_of, meaning_of, paths_of, words_of
 from ._questions import Questions
-from ._records import GREATEST, LEAST, NULL
+from ._records import GREATEST, NULL
 from ._schema import schema_of
 
 Keep = Literal[Mark.KEEP]
 Texts = Named[Union[str, None, Keep]]
-Numbers = Named[Union[int, None, Keep]]
+# (a measure with decimals takes whole numbers and decimal ones, any other whole numbers alone)
+Measure = Union[int, Decimal, None]
+Numbers = Named[Union[int, Decimal, None, Keep]]
 SOURCES = 64
 
 
@@ -98,12 +102,12 @@ class Live(Questions):
             if kind is None:
                 raise
 
-    def insert(self, source: int, id: str, dims: Named[Optional[str]], measures: Named[Optional[int]]) -> None:
+    def insert(self, source: int, id: str, dims: Named[Optional[str]], measures: Named[Measure]) -> None:
         """Puts a fact under an id that is absent in its source."""
         dimensions, numbers = self.schema.dimensions, self.schema.measures
         self._change(source, "I", id, in_order(dimensions, dims, (), "dimension"), in_order(numbers, measures, (), "measure"))
 
-    def insert_many(self, source: int, facts: Iterable[Tuple[str, Named[Optional[str]], Named[Optional[int]]]]) -> int:
+    def insert_many(self, source: int, facts: Iterable[Tuple[str, Named[Optional[str]], Named[Measure]]]) -> int:
         """Puts many facts, each with its id, dimensions and measures, one behind the other. Where one can't be said, none is
         sent. Gives how many they are."""
         records = []
@@ -118,7 +122,7 @@ class Live(Questions):
         value that it has, where the schema has version 2."""
         rest: List[Keep] = [KEEP] if self.schema.version == 2 else []
         texts: List[Union[str, None, Keep]] = in_order(self.schema.dimensions, dims, rest, "dimension")
-        numbers: List[Union[int, None, Keep]] = in_order(self.schema.measures, measures, rest, "measure")
+        numbers: List[Union[Measure, Keep]] = in_order(self.schema.measures, measures, rest, "measure")
         self._change(source, "U", id, texts, numbers)
 
     def delete(self, source: int, id: str) -> None:
@@ -126,12 +130,12 @@ class Live(Questions):
         self._change(source, "D", id, [], [])
 
     def _change(
-        self, source: int, op: str, id: str, dims: Sequence[Union[str, None, Keep]], measures: Sequence[Union[int, None, Keep]]
+        self, source: int, op: str, id: str, dims: Sequence[Union[str, None, Keep]], measures: Sequence[Union[Measure, Keep]]
     ) -> None:
         self._send([self._record(source, op, id, dims, measures)], False)
 
     def _record(
-        self, source: int, op: str, id: str, dims: Sequence[Union[str, None, Keep]], measures: Sequence[Union[int, None, Keep]]
+        self, source: int, op: str, id: str, dims: Sequence[Union[str, None, Keep]], measures: Sequence[Union[Measure, Keep]]
     ) -> List[str]:
         if not 1 <= operator.index(source) <= SOURCES:
             raise Unsayable(f"a source is a number from 1 to {SOURCES}, and {source} isn't")
@@ -152,8 +156,8 @@ class Live(Questions):
             raise Unsayable(f"dimension {name}: a feed can't say the text {text}, which means null")
         return text
 
-    def _number(self, name: str, value: Union[int, None, Keep], can_keep: bool) -> str:
-        text = number(name, value, can_keep)
+    def _number(self, name: str, value: Union[Measure, Keep], can_keep: bool) -> str:
+        text = number(name, value, can_keep, self.schema.decimals.get(name, 0))
         if not isinstance(value, (Mark, type(None))) and text in self.schema.nulls():
             raise Unsayable(f"measure {name}: a feed of this schema can't say the number {text}, which means null")
         return text
@@ -276,14 +280,8 @@ def mark(what: str, value: Union[None, Mark], can_keep: bool) -> str:
     return "\\="
 
 
-def number(name: str, value: Union[int, None, Keep], can_keep: bool) -> str:
-    """The field of a measure."""
+def number(name: str, value: Union[Measure, Keep], can_keep: bool, places: int = 0) -> str:
+    """The field of a measure with so many decimals."""
     if value is None or isinstance(value, Mark):
         return mark(f"measure {name}", value, can_keep)
-    try:
-        whole = operator.index(value)
-    except TypeError:
-        raise TypeError(f"measure {name}: {value!r} is no whole number") from None
-    if not LEAST <= whole <= GREATEST:
-        raise Unsayable(f"measure {name}: {whole} doesn't fit 64 bits")
-    return str(int(whole))
+    return measure_text(name, value, places)

@@ -6,6 +6,7 @@ import datetime
 import operator
 import os
 import tempfile
+from decimal import Decimal
 from typing import TYPE_CHECKING, Any, Iterable, Iterator, List, Mapping, Optional, Sequence, Tuple, Union
 
 from ._ask import cube
@@ -29,34 +30,36 @@ def cube_of(
     *,
     by: Sequence[str],
     of: Mapping[str, Union[str, Sequence[str]]] = {},
+    decimals: Mapping[str, int] = {},
     timeout: Optional[float] = None,
     max_memory: Optional[int] = None,
 ) -> Cube:
     """The whole cube of a frame, or of rows that are mappings: by its dimensions, `count(*)`, and of each measure the aggregates
     that are named, as in `of={"cents": ["sum", "avg"]}`. A dimension is a text, a whole number or a date, which become texts; a
-    measure is a whole number of 64 bits, also as a float below 2^53. What is missing (None, NaN, NA) is null."""
+    measure is a whole number of 64 bits, also as a float below 2^53. One that `decimals` names takes a `Decimal` too, with so many
+    decimals at most, and a float is then the number that Python shows of it. What is missing (None, NaN, NA) is null."""
     if isinstance(by, str):
         raise TypeError(f"the dimensions are a sequence of names, and {by!r} is a text")
-    for name in [*by, *of]:
+    for name in [*by, *of, *decimals]:
         text_of(name, "a name")
     measures = list(of) or [next(it for it in ("measure", *(f"measure {at}" for at in range(9))) if it not in by)]
     kinds = {name: [it] if isinstance(it, str) else it for name, it in of.items()}
     aggregates = [f"{kind}({name})" for name, each in kinds.items() for kind in each]
-    schema = Schema(by, measures, ["count(*)", *aggregates])
+    schema = Schema(by, measures, ["count(*)", *aggregates], decimals=decimals)
     with tempfile.TemporaryDirectory(prefix="datacube-") as folder:
         path = os.path.join(folder, "facts.csv")
         with open(path, "w", encoding="utf-8", newline="") as file:
             out = csv.writer(file)
             out.writerow(["op", "id", *by, *measures])
-            out.writerows(inserts_of(facts, by, list(of), len(measures) - len(of)))
+            out.writerows(inserts_of(facts, by, list(of), len(measures) - len(of), decimals))
         return cube(schema, path, timeout=timeout, max_memory=max_memory)
 
 
-def inserts_of(facts: Facts, by: Sequence[str], measures: Sequence[str], unused: int) -> Iterator[List[str]]:
+def inserts_of(facts: Facts, by: Sequence[str], measures: Sequence[str], unused: int, decimals: Mapping[str, int]) -> Iterator[List[str]]:
     """A record for each fact, with null for a measure that nobody asks for."""
     for at, values in enumerate(values_of(facts, [*by, *measures])):
         texts = [coordinate_text(name, it) for name, it in zip(by, values)]
-        numbers = [measure_text(name, it) for name, it in zip(measures, values[len(by) :])]
+        numbers = [measure_text(name, it, decimals.get(name, 0)) for name, it in zip(measures, values[len(by) :])]
         yield ["I", str(at), *texts, *numbers, *[NULL] * unused]
 
 
@@ -90,9 +93,13 @@ def coordinate_text(name: str, value: object) -> str:
     return text
 
 
-def measure_text(name: str, value: object) -> str:
-    """The field of a measure."""
+def measure_text(name: str, value: object, places: int) -> str:
+    """The field of a measure with so many decimals."""
     if is_missing(value):
         return NULL
-    is_whole = isinstance(value, float) and value.is_integer() and abs(value) < EXACT
-    return number(name, int(value) if is_whole else value, False)  # type: ignore[call-overload, arg-type]
+    if isinstance(value, float) and abs(value) * 10**places < EXACT:
+        if places:
+            value = Decimal(repr(float(value)))
+        elif value.is_integer():
+            value = int(value)
+    return number(name, value, False, places)  # type: ignore[arg-type]

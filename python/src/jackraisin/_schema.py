@@ -13,13 +13,15 @@ from ._program import Path, run, words_of
 from ._records import NULL
 
 Grouping = Union[str, Sequence[Sequence[str]]]
+NAMES = "dimensions", "measures", "aggregates", "grouping", "version", "max_records", "feed", "decimals"
 
 
 @dataclass(frozen=True, init=False)
 class Schema:
     """The names of dimensions and measures, the aggregates as `sum(amount)`, and as the schema file has them the kept
-    grouping sets, the version of feeds, the most records of a feed, and the table `feed`, by which feeds are read by the names
-    of their columns. The program checks it where it is used, or `check`."""
+    grouping sets, the version of feeds, the most records of a feed, the table `feed`, by which feeds are read by the names
+    of their columns, and the table `decimals`, which says how many decimals a measure has. The program checks it where it is
+    used, or `check`."""
 
     dimensions: Tuple[str, ...]
     measures: Tuple[str, ...]
@@ -28,6 +30,7 @@ class Schema:
     version: int
     max_records: Optional[int]
     feed: Optional[Mapping[str, Any]] = field(hash=False)
+    decimals: Mapping[str, int] = field(hash=False)
 
     def __init__(
         self,
@@ -39,10 +42,11 @@ class Schema:
         version: int = 1,
         max_records: Optional[int] = None,
         feed: Optional[Mapping[str, Any]] = None,
+        decimals: Mapping[str, int] = {},
     ) -> None:
         sets = grouping if isinstance(grouping, str) else tuple(tuple(it) for it in grouping)
-        values = (tuple(dimensions), tuple(measures), tuple(aggregates), sets, version, max_records, copied(feed))
-        for name, value in zip(("dimensions", "measures", "aggregates", "grouping", "version", "max_records", "feed"), values):
+        values = (tuple(dimensions), tuple(measures), tuple(aggregates), sets, version, max_records, copied(feed), copied(decimals))
+        for name, value in zip(NAMES, values):
             object.__setattr__(self, name, value)
 
     def nulls(self) -> List[str]:
@@ -70,6 +74,8 @@ class Schema:
             lines.append(f"max_records = {self.max_records}")
         if self.feed is not None:
             lines.append(f"feed = {quoted(self.feed)}")
+        if self.decimals:
+            lines.append(f"decimals = {quoted(self.decimals)}")
         return "\n".join(lines) + "\n"
 
     @contextlib.contextmanager

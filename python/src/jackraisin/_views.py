@@ -7,6 +7,7 @@ from typing import TYPE_CHECKING, Dict, Iterable, List, NamedTuple, Optional, Se
 
 from ._cells import ALL, Cell, Coordinate, Key, Pattern, field_of, fields_of, in_order
 from ._errors import Unsayable
+from ._numbers import difference
 
 if TYPE_CHECKING:
     from ._cube import Answer, Cube, Row
@@ -54,7 +55,7 @@ def shares(cube: "Cube", aggregate: str, of: Optional[Cell]) -> Dict[Key, Option
     key = whole_of(list(cube)) if of is None else tuple(in_order(cube.dimensions, of, others, "dimension"))
     found = {row.key: row.answers[at] for row in cube}
     whole = found.get(key)
-    return {it: Fraction(answer, whole) if answer is not None and whole else None for it, answer in found.items()}
+    return {it: Fraction(answer) / Fraction(whole) if answer is not None and whole else None for it, answer in found.items()}
 
 
 def whole_of(rows: Sequence["Row"]) -> Key:
@@ -88,7 +89,7 @@ class Difference(NamedTuple):
         """What came to an answer: that after less that before. In a cube that doesn't have the cell a count or a sum is 0;
         None where either is null, or a least, a greatest or a mean that isn't there."""
         before, after = (answer_in(it, aggregate) for it in (self.before, self.after))
-        return None if before is None or after is None else after - before
+        return None if before is None or after is None else difference(after, before)
 
 
 def answer_in(row: Optional["Row"], aggregate: str) -> "Answer":

@@ -217,8 +217,8 @@ fn columns_value<'d>(feed: &'d Table, none: &'d Table) -> Option<&'d Table>
     }
 }
 
-/// Whether `columns` has no other keys than the names of a schema.
-fn are_names(columns: &Table, dimensions: &[Text], measures: &[Text]) -> bool
+/// Whether a table has no other keys than the names of a schema.
+pub(super) fn are_names(columns: &Table, dimensions: &[Text], measures: &[Text]) -> bool
     ensures { result ≡ has_only (dimensions.now ++ measures.now) (table_view columns.now) }
 {
     for key in columns.keys() {

@@ -16,7 +16,7 @@ pub struct Note {
 }
 
 /// The codes of schemas.
-pub const SCHEMA_NOTES: [Note; 11] = [
+pub const SCHEMA_NOTES: [Note; 12] = [
     Note {
         code: "S1",
         about: "schema",
@@ -34,8 +34,8 @@ pub const SCHEMA_NOTES: [Note; 11] = [
     Note {
         code: "S3",
         about: "schema",
-        means: "The schema has a key other than `dimensions`, `measures`, `aggregates`, `max_records`, `grouping`, `version` and `feed`.",
-        mend: "Look for a misspelled key, and take what isn't one of the seven out. The keys of `[feed]` stand under it.",
+        means: "The schema has a key other than `dimensions`, `measures`, `aggregates`, `max_records`, `grouping`, `version`, `feed` and `decimals`.",
+        mend: "Look for a misspelled key, and take what isn't one of the eight out. The keys of `[feed]` stand under it.",
         example: "",
     },
     Note {
@@ -94,6 +94,13 @@ pub const SCHEMA_NOTES: [Note; 11] = [
         mend: "Write the names of columns in quotes, `null` as an array of texts, `delimiter` as one ASCII character, `point` as \".\" or \",\". The first characters of a column, 1 to 255, are for a dimension alone.",
         example: "feed = { id = \"no\", null = [\"\", \"NA\"], columns = { kind = { column = \"code\", first = 2 } } }",
     },
+    Note {
+        code: "S12",
+        about: "schema",
+        means: "`[decimals]` isn't a table, has a key that is no measure, or a value that isn't a whole number from 0 to 18.",
+        mend: "Name measures of the schema, each with the number of its digits behind the point, without quotes.",
+        example: "decimals = { price = 2 }",
+    },
 ];
 
 /// The codes of lines, feeds, patterns and cells.
@@ -129,8 +136,8 @@ pub const FEED_NOTES: [Note; 17] = [
     Note {
         code: "L5",
         about: "line of a feed",
-        means: "A measure of an `I` or a `U` is neither null nor a number; in a `U` of feed version 2 it may also be `\\=`.",
-        mend: "Write a whole number from -9223372036854775808 to 9223372036854775807 in digits alone, or null where there is no value: `\\N`, or with `[feed]` what its `null` has.",
+        means: "A measure of an `I` or a `U` is neither null nor a number; in a `U` of feed version 2 it may also be `\\=`. Only a measure of `[decimals]` takes a point, with digits behind it, and no more than that says but for zeros.",
+        mend: "Write a whole number from -9223372036854775808 to 9223372036854775807 in digits alone (of a measure with decimals: so many units of its last digit), or null where there is no value: `\\N`, or with `[feed]` what its `null` has.",
         example: "I,1,west,a,\\N",
     },
     Note {

@@ -2,7 +2,7 @@
 ghost use Rattle.std.specs.Prelude.{◌≡◌, ◌≢◌, ◌≤◌, ◌<◌, length, Ok, Err, IfOk, IfErr, IfSome};
 ghost use Rattle.std.specs.Io.KnownBytes.{Appends};
 ghost use Rattle.std.specs.IoError.{error_kind};
-ghost use Rattle.cube_tool.specs.Command.{AnswersFile, CheckLeaves, IsReadFailure, IsRightFile, IsSchemaFailure, schema_ok_line};
+ghost use Rattle.cube_tool.specs.Command.{AnswersFile, CheckLeaves, IsReadFailure, IsRightFile, IsSchemaFailure, schema_limit, schema_ok_line};
 
 use crate::command::failure::Failure;
 use crate::command::status::Status;
@@ -39,7 +39,20 @@ pub fn read_schema<R: Read + Drop>(alloc: Global, file: R) -> Result<Schema, Fai
     ensures err { IfErr result IsSchemaFailure }
 {
     let bytes = read_limited(alloc, file, SCHEMA_LIMIT)?;
-    Ok(Schema::from_toml(alloc, &bytes)?)
+    schema_in(alloc, &bytes)
+}
+
+/// The schema in the bytes of a file, which aren't too many.
+#[tactic(auto, using(crate::proofs::SchemaFileLaws::schema_fault_answered))]
+fn schema_in(alloc: Global, bytes: &[u8]) -> Result<Schema, Failure>
+    requires { length bytes.now ≤ schema_limit }
+    ensures answer { AnswersFile bytes.now result }
+    ensures err { IfErr result IsSchemaFailure }
+{
+    match Schema::from_toml(alloc, bytes) {
+        Ok(schema) => Ok(schema),
+        Err(fault) => Err(Failure::Schema(fault)),
+    }
 }
 
 /// All bytes of a file that has at most so many.

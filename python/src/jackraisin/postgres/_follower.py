@@ -78,9 +78,9 @@ class Follower(Questions, Running):
     on from its place; the answers meanwhile are those of the last commit that it has.
 
     `dimensions` and `measures` are the columns for those of the schema, where their names differ. `scale` says of a column
-    how many decimals are taken: by 2 the numeric 3.50 is 350. With `skip` rows that can't be said are left out and counted.
-    `slot` names the slot, and the publication with it; `publication` one that is there, and names the table, where the role may
-    make none.
+    how many decimals are taken: by 2 the numeric 3.50 is 350. A measure that the schema gives decimals takes a numeric as it is.
+    With `skip` rows that can't be said are left out and counted. `slot` names the slot, and the publication with it; `publication`
+    one that is there, and names the table, where the role may make none.
     The schema's `version` and `max_records` are of feeds, and don't matter here."""
 
     def __init__(
@@ -98,7 +98,8 @@ class Follower(Questions, Running):
     ) -> None:
         given = schema_of(schema)
         # (version 2 can say that a value is kept)
-        self.schema = Schema(given.dimensions, given.measures, given.aggregates, grouping=given.grouping, version=2)
+        names = given.dimensions, given.measures, given.aggregates
+        self.schema = Schema(*names, grouping=given.grouping, version=2, decimals=given.decimals)
         self.dsn, self.name, self.slot, self.publication, self.skip = dsn, table, slot, publication, skip
         self._columns = dimensions, measures, scale or {}
         self._lock = threading.RLock()

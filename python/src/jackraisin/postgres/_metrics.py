@@ -2,11 +2,13 @@
 from __future__ import annotations
 
 import re
+from decimal import Decimal
 from fractions import Fraction
 from typing import Dict, Iterable, Iterator, List, Mapping, Optional, Sequence, Tuple, Union
 
 from .._cells import ALL
 from .._cube import Answer, Cube, Row
+from .._numbers import shown
 from .._records import NULL
 from ._follower import State
 
@@ -60,8 +62,8 @@ def metric(name: str, kind: str, text: str, samples: Iterable[Tuple[Mapping[str,
             yield f"{name}{{{said}}} {number(value)}\n"
 
 
-def number(value: Union[int, Fraction]) -> str:
-    return str(value) if isinstance(value, int) else repr(float(value))
+def number(value: Union[int, Decimal, Fraction]) -> str:
+    return repr(float(value)) if isinstance(value, Fraction) else shown(value)
 
 
 def metric_name(aggregate: str) -> str:

@@ -6,6 +6,7 @@ import re
 from fractions import Fraction
 from typing import Dict, Final, List, Mapping, Optional, Sequence, Union
 
+from .._numbers import spelled
 from .._records import GREATEST, LEAST, NULL
 from .._schema import Schema
 from ._errors import CantFollow, RowUnsayable
@@ -23,8 +24,8 @@ ESCAPES: Final = {"b": "\b", "f": "\f", "n": "\n", "r": "\r", "t": "\t", "v": "\
 
 
 class Rows:
-    """How the rows of a table are said: which columns are the dimensions and measures of a schema, in its order, and by
-    which power of ten a measure is taken."""
+    """How the rows of a table are said: which columns are the dimensions and measures of a schema, in its order, by
+    which power of ten a measure is taken, and how many decimals it has."""
 
     def __init__(
         self, table: Table, schema: Schema, dimensions: Optional[Sequence[str]], measures: Optional[Sequence[str]], scale: Mapping[str, int]
@@ -33,6 +34,7 @@ class Rows:
         self.dimensions = columns_of(table, "dimension", schema.dimensions, dimensions)
         self.measures = columns_of(table, "measure", schema.measures, measures)
         self.factors = factors_of(self.measures, scale)
+        self.places = [schema.decimals.get(it, 0) for it in schema.measures]
         for column in self.dimensions:
             check_dimension(table, column)
         for column in self.measures:
@@ -68,7 +70,7 @@ class Rows:
         """The fields of a row's dimensions and measures as a feed has them, KEPT where the row doesn't tell one; raises
         `RowUnsayable` where no feed can say it."""
         fields = [self._text(it, values) for it in self.dimensions]
-        return fields + [self._number(*it, values) for it in zip(self.measures, self.factors)]
+        return fields + [self._number(*it, values) for it in zip(self.measures, self.factors, self.places)]
 
     def _text(self, column: Column, values: Values) -> str:
         if column.name not in values:
@@ -80,25 +82,31 @@ class Rows:
             raise self._unsayable(column, values, f"the text {text} can't be said, since it means {SPECIAL[text]} in a feed")
         return text
 
-    def _number(self, column: Column, factor: int, values: Values) -> str:
+    def _number(self, column: Column, factor: int, places: int, values: Values) -> str:
         if column.name not in values:
             return KEPT
         value = values[column.name]
         if value is None and column.is_not_null:
-            raise self._unsayable(column, values, "NaN or an infinity is no whole number")
+            raise self._unsayable(column, values, f"NaN or an infinity is no {kind_of(places)}")
         if value is None:
             return NULL
         try:
-            number = int(value) if factor == 1 and column.is_whole else whole(str(value), factor)
+            units = int(value) * 10**places if factor == 1 and column.is_whole else whole(str(value), factor * 10**places)
         except ValueError:
             scaled = f", times {factor}," if factor != 1 else ""
-            raise self._unsayable(column, values, f"{value}{scaled} is no whole number") from None
-        if not LEAST <= number <= GREATEST:
+            raise self._unsayable(column, values, f"{value}{scaled} is no {kind_of(places)}") from None
+        number = spelled(units, places)
+        if not LEAST <= units <= GREATEST:
             raise self._unsayable(column, values, f"{number} doesn't fit 64 bits")
-        return str(number)
+        return number
 
     def _unsayable(self, column: Column, values: Values, why: str) -> RowUnsayable:
         return RowUnsayable(str(self.table), self.key_of(values), column.name, why)
+
+
+def kind_of(places: int) -> str:
+    """What numbers a measure with so many decimals takes."""
+    return f"number with {places} decimals" if places else "whole number"
 
 
 def columns_of(table: Table, what: str, wanted: Sequence[str], given: Optional[Sequence[str]]) -> List[Column]:

@@ -9,4 +9,5 @@ returns-in_default-clause-none c run are room =
     let live = c.live_words.ensures.none (live_of run)
     (AreLiveWords-AreRunWords (rows_of (found_of c.args.words.now)) run are) (LiveHasRoom-RunHasRoom run room) in
     let built = c.number_of.ensures.err (Some run.builders) are.builders (room.least_builders, room.most_builders) in
+    let seen = c.view_words.ensures.none run.view are.view room.view in
     grind (arith, common_steps)

@@ -25,5 +25,6 @@ returns c =
     let measures : c.in_ok-measures.measures.items ≡ measures_in document = search rules in
     let least : c.in_ok-measures.least_measures ≡ least_measures_in document = search rules in
     let texts : c.in_ok-aggregate_texts.aggregate_texts.items ≡ spellings_in document = search rules in
-    document-answered_by document _ _ _ _ _ _ _ _ _ known dimensions measures least texts c.max_records_in.ensures
-    c.value_at-grouping.ensures c.version_in.ensures c.value_at-feed.ensures c.schema_of_parts.ensures
+    document-answered_by document _ _ _ _ _ _ _ _ _ _ known dimensions measures least texts c.max_records_in.ensures
+    c.value_at-grouping.ensures c.version_in.ensures c.value_at-feed.ensures
+    c.value_at-decimals.ensures c.schema_of_parts.ensures

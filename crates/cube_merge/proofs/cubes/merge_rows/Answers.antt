@@ -21,7 +21,7 @@ returns-in_err-put_next-clause-err g c =
 pub returns-in_err-send-clause-err : goal.returns-in_err-send-clause-err
 returns-in_err-send-clause-err g c =
     let off : c.in_ok-put_next.field-0 ≡ false = search rules in
-    let put = subst (λ b. PutsNext c.args.given.now c.args.sources.now c.loop.inputs c.put_next.new.inputs
+    let put = subst (λ b. PutsNext c.args.given.now c.args.wanted.now c.args.sources.now c.loop.inputs c.put_next.new.inputs
     c.loop.desk.text.items c.put_next.new.desk.text.items b) off (c.in_ok-put_next.ensures.ok) in
     let p = err_from_is_err_and c.from_residual-in_err-send.result c.from_residual-in_err-send.ensures.1 in
     rw (p.1, p.2) (λ starts m.
@@ -33,7 +33,7 @@ returns-in_err-send-clause-err g c =
 pub returns-then-not-branch-clause-ok : goal.returns-then-not-branch-clause-ok
 returns-then-not-branch-clause-ok g c starts m =
     let off : c.in_ok-put_next.field-0 ≡ false = search rules in
-    let put = subst (λ b. PutsNext c.args.given.now c.args.sources.now c.loop.inputs c.put_next.new.inputs
+    let put = subst (λ b. PutsNext c.args.given.now c.args.wanted.now c.args.sources.now c.loop.inputs c.put_next.new.inputs
     c.loop.desk.text.items c.put_next.new.desk.text.items b) off (c.in_ok-put_next.ensures.ok) in
     let so_far = c.loop.invariant.merging starts m in
     let sent = c.in_ok-send.ensures.ok in
@@ -52,8 +52,8 @@ pub returns-in-Err-clause-err : goal.returns-in-Err-clause-err
 returns-in-Err-clause-err g c starts m =
     let on : c.in_ok-put_next.field-0 ≡ true = search rules in
     let put = subst
-    (λ b. PutsNext c.args.given.now c.args.sources.now c.loop.inputs c.put_next.new.inputs c.loop.desk.text.items
-    c.put_next.new.desk.text.items b) on (c.in_ok-put_next.ensures.ok) c.args.wanted.now.aggregates c.requires.sources in
+    (λ b. PutsNext c.args.given.now c.args.wanted.now c.args.sources.now c.loop.inputs c.put_next.new.inputs c.loop.desk.text.items
+    c.put_next.new.desk.text.items b) on (c.in_ok-put_next.ensures.ok) c.requires.sources in
     let so_far = c.loop.invariant.merging starts m in
     Stops-sending c.args.given.now c.args.wanted.now starts (length c.args.inputs.now) c.put_next.new.inputs
     (so_far.0 ++ put.0 ∷ []) so_far.1 c.put_next.new.desk.text.items
@@ -69,8 +69,8 @@ loop-preserved g c =
       above = c.in_ok-put_next.ensures.above;
       merging = λ starts m.
           let put = subst
-          (λ b. PutsNext c.args.given.now c.args.sources.now c.loop.inputs c.put_next.new.inputs c.loop.desk.text.items
-          c.put_next.new.desk.text.items b) on (c.in_ok-put_next.ensures.ok) c.args.wanted.now.aggregates c.requires.sources in
+          (λ b. PutsNext c.args.given.now c.args.wanted.now c.args.sources.now c.loop.inputs c.put_next.new.inputs c.loop.desk.text.items
+          c.put_next.new.desk.text.items b) on (c.in_ok-put_next.ensures.ok) c.requires.sources in
           let so_far = c.loop.invariant.merging starts m in
           let sent = c.in-Ok.ensures.ok in (
             so_far.0 ++ put.0 ∷ [],

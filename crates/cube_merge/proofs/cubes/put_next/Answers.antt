@@ -9,15 +9,15 @@ use Rattle.cube_merge.proofs.StepLaws.{IsMerging-step}
 use Rattle.cube_merge.proofs.cubes.put_next.Goals as goal
 
 pub returns-clause-ok : goal.returns-clause-ok
-returns-clause-ok g c wanted sources =
+returns-clause-ok g c sources =
     let put = c.in_ok-put_row.ensures.ok in
     let next = put.2 in (
       put.0,
       put.1,
       λ starts rows m.
-          IsMerging-step c.args.given.now wanted starts c.args.inputs.now c.move_inputs.new.inputs rows
+          IsMerging-step c.args.given.now c.args.wanted.now.aggregates starts c.args.inputs.now c.move_inputs.new.inputs rows
           c.put_row.new.desk.joint.used.items put.0 m next.wide c.move_inputs.auto.inputs next.uses next.some
-          (next.answers wanted sources) next.fit
+          (next.answers c.args.wanted.now.aggregates sources) next.fit
           (rw c.as_slice-2.ensures.value at (c.in_ok-move_inputs.ensures.ok)),
     )
 

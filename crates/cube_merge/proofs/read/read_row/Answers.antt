@@ -12,5 +12,5 @@ returns-clause-line c =
     let of_schema : IsLawfulRow c.args.schema.now row = search rules in
     let some : 1 ≤ length row.key.coords =
     omega (arith, of_schema.coords, c.dimensions.ensures.schema.some_dimension) in
-    let told : 1 ≤ length row.key.coords → EndsLine c.end_by_comma.new.line.items (row_line row) = search rules in
+    let told : 1 ≤ length row.key.coords → EndsLine c.end_by_comma.new.line.items (row_line c.args.schema.now row) = search rules in
     told some ended.0 ended.2 ∙ sym ended.1

@@ -6,7 +6,7 @@ use Rattle.std.specs.declared.alloc.AllocError.{AllocError}
 use Rattle.std.proofs.lemmas.Result.{IfOk-weaker}
 use Rattle.std.proofs.lemmas.List.{take_all, get_or-map, length-map}
 use Rattle.std.proofs.lemmas.Grind.{div_ceil_times}
-use Rattle.cube_core.specs.Text.{line, header_fields}
+use Rattle.cube_core.specs.Text.{digits_of_answers, line, header_fields}
 use Rattle.cube_writing.specs.Pieces.{text_of_pieces}
 use Rattle.cube_text.proofs.PartLaws.{text_of_parts}
 use Rattle.cube_text.proofs.print.print_cells_in_pieces.Goals as goal
@@ -19,12 +19,13 @@ returns g c =
     let some : 0 < parts = search rules in
     IfOk-weaker c.of.result _ _ (λ text gathers.
     let results = c.in_ok-texts.texts.items in
+    let each = rw (c.as_slice.ensures.value, c.in_ok-digits.ensures.value) at c.in_ok-texts.ensures.each in
     let count : length gathers.pieces ≡ parts = sym (length-map gathers.pieces Ok)
     ∙ ap (λ (l : List (Result (Vec ℕ) AllocError)). length l) gathers.are ∙ c.in_ok-texts.ensures.long in
-    let made = text_of_parts o size 0 [] gathers.pieces (rw (mul-zero size) tt) (λ i at unused e inside.
+    let made = text_of_parts (digits_of_answers c.args.schema.now) o size 0 [] gathers.pieces (rw (mul-zero size) tt) (λ i at unused e inside.
     let one : get_or results i (Ok unused) ≡ Ok (get_or gathers.pieces i unused) =
     rw (← gathers.are) (get_or-map Ok gathers.pieces i unused (Ok unused) inside) in
-    rw (e, zero-add i) (rw one at (c.in_ok-texts.ensures.each i (Ok unused) (omega (arith, inside, count))))) in
+    rw (e, zero-add i) (rw one at (each i (Ok unused) (omega (arith, inside, count))))) in
     let covers : length o.cells ≤ size * (0 + length gathers.pieces) =
     rw (count, zero-add parts, ← c.len.ensures, c.div_ceil-size.ensures) (div_ceil_times c.len.result parts some).0 in
     record {

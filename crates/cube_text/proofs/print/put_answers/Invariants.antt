@@ -1,7 +1,8 @@
-use Rattle.std.proofs.Common.{map, take}
-use Rattle.cube_core.specs.Text.{answer_text}
+use Rattle.std.proofs.Common.{take}
+use Rattle.cube_core.specs.Text.{answer_texts}
 use Rattle.cube_text.specs.Lines.{AddsFields}
 use Rattle.cube_text.proofs.print.put_answers.Given as goal
 
-abbrev pub invariant-loop-answer : goal.invariant-loop-answer
-invariant-loop-answer l = AddsFields (map answer_text (take l.answer-index l.answers)) l.initial.lines l.lines
+abbrev pub invariant-loop-which : goal.invariant-loop-which
+invariant-loop-which l =
+    AddsFields (answer_texts (take l.which l.digits) (take l.which l.answers)) l.initial.lines l.lines

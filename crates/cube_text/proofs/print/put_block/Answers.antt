@@ -5,7 +5,7 @@ use Rattle.cube_text.proofs.PartLaws.{GoesOn-none, GoesOn-cell}
 use Rattle.cube_text.proofs.print.put_block.Goals as goal
 
 pub loop-place-init : goal.loop-place-init
-loop-place-init g c = GoesOn-none c.args.cells.now c.args.from c.args.lines.now
+loop-place-init g c = GoesOn-none c.args.digits.now c.args.cells.now c.args.from c.args.lines.now
 
 pub loop-place-preserved : goal.loop-place-preserved
 loop-place-preserved g c =
@@ -13,4 +13,4 @@ loop-place-preserved g c =
     let o = c.args.cells.now in
     let inside : i < length o.cells = omega arith in
     let unused : Key × Tally = (record { coords = [] }, record { facts = 0; bags = [] }) in
-    GoesOn-cell o c.args.from i unused _ _ _ inside c.loop-place.invariant (c.in_ok-put_cell.ensures unused)
+    GoesOn-cell c.args.digits.now o c.args.from i unused _ _ _ inside c.loop-place.invariant (c.in_ok-put_cell.ensures unused)

@@ -1,6 +1,6 @@
 use Rattle.std.proofs.Common.{map, ap}
 use Rattle.std.proofs.lemmas.Result.{on_ok_weaker}
-use Rattle.cube_core.specs.Text.{coord_text, grouping_text, answer_text}
+use Rattle.cube_core.specs.Text.{coord_text, grouping_text, answer_texts}
 use Rattle.cube_core.specs.declared.key.Key.{Key}
 use Rattle.cube_cells.specs.Tally.{Tally}
 use Rattle.cube_text.specs.Rows.{answers_at}
@@ -11,8 +11,9 @@ pub returns : goal.returns
 returns g c =
     let key = c.cell_at-cell.result.0 in
     let answers = answers_at c.args.columns.now c.args.at in
+    let texts = answer_texts c.args.digits.now answers in
     let line =
-    AddsText-row_text (map coord_text key.coords) (map grouping_text key.coords) (map answer_text answers) _ _ _ _
+    AddsText-row_text (map coord_text key.coords) (map grouping_text key.coords) texts _ _ _ _
     c.end_line.new.lines c.in_ok-put_key.ensures c.in_ok-put_key_groupings.ensures c.in_ok-put_answers_at.ensures in
     on_ok_weaker c.end_line.result (λ ended unused. record {
       row = record { key = key; answers = answers };

@@ -3,5 +3,5 @@ use Rattle.cube_text.proofs.print.put_rows.Goals as goal
 
 pub loop-row-preserved : goal.loop-row-preserved
 loop-row-preserved c =
-    AddsText-more c.args.rows.now c.loop-row.row-index c.row-item.result _ _ c.put_row.new.lines
+    AddsText-more c.args.digits.now c.args.rows.now c.loop-row.row-index c.row-item.result _ _ c.put_row.new.lines
     c.loop-row-test.true c.row-item.is c.loop-row.invariant c.in_ok-put_row.ensures

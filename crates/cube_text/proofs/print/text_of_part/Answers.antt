@@ -2,7 +2,7 @@ use Rattle.std.proofs.Common.{◌≡◌, ◌+◌, ◌*◌, [], length}
 use Rattle.std.specs.Prelude.{min}
 use Rattle.std.proofs.lemmas.Result.{IfOk-weaker}
 use Rattle.std.specs.List.{flat_map}
-use Rattle.cube_core.specs.Text.{row_line}
+use Rattle.cube_text.specs.Rows.{line_with}
 use Rattle.cube_text.proofs.PartLaws.{RowsGoOn-within, end_of_part}
 use Rattle.cube_text.proofs.print.text_of_part.Goals as goal
 
@@ -22,5 +22,5 @@ returns g c =
     (λ bytes holds. record {
       rows = part.rows;
       go_on = on;
-      text_is = holds (flat_map row_line part.rows) all;
+      text_is = holds (flat_map (line_with c.args.digits.now) part.rows) all;
     }) c.into_text.ensures

@@ -1,5 +1,5 @@
 use Rattle.std.proofs.Common.{◌≡◌, ◌++◌, ◌∙◌, ap, refl, sym, rules, map}
-use Rattle.cube_core.specs.Text.{answer_text, coord_text, grouping_text, row_fields}
+use Rattle.cube_core.specs.Text.{answer_texts, coord_text, digits_of_answers, grouping_text, row_fields}
 use Rattle.cube_core.specs.declared.key.Row.{Row}
 use Rattle.merge_lines.specs.Parts.{parts}
 use Rattle.merge_lines.proofs.ParseLaws.{first-part, key-part, row-parts}
@@ -19,12 +19,13 @@ returns c =
     let one : text ≡ parts (map coord_text read) ++ flags = search rules in
     let same : map coord_text coords ≡ map coord_text read = search rules in
     let two : flags ≡ parts (map grouping_text coords) ++ numbers = search rules in
-    let three : numbers ≡ parts (map answer_text row.answers) = search rules in
+    let s = c.args.schema.now in
+    let three : numbers ≡ parts (answer_texts (digits_of_answers s) row.answers) = search rules in
     let shown_same = sym same ∙ ap (map coord_text) (sym made) in
-    let shown : text ≡ parts (row_fields row) =
-    row-parts row (map coord_text read) text flags numbers one shown_same (rw made two) three in
+    let shown : text ≡ parts (row_fields s row) =
+    row-parts s row (map coord_text read) text flags numbers one shown_same (rw made two) three in
     record {
       line = shown;
-      ended = EndsLine-row row text shown;
+      ended = EndsLine-row s row text shown;
       key = key-part row (map coord_text read) text flags numbers _ one shown_same (rw made two) refl;
     }

@@ -16,6 +16,7 @@ invariant_of-result c =
       version = c.self.inside.version;
       shard = c.self.inside.shard;
       columns = c.self.inside.columns;
+      decimals = c.self.inside.decimals.items;
     } in
     let dimensions : c.in_ok-copy_texts.field-0.items ≡ s.dimensions = search rules in
     let measures : c.in_ok-copy_texts-2.field-0.items ≡ s.measures = search rules in
@@ -25,5 +26,6 @@ invariant_of-result c =
     search (rules, measures) in
     let sets : c.in_ok-from_slice.field-0.items ≡ s.grouping_sets = search rules in
     let columns : c.in_ok-copy_columns.field-0 ≡ s.columns = search rules in
+    let decimals : c.in_ok-from_slice-2.field-0.items ≡ s.decimals = search rules in
     let few : length c.in_ok-aggregates.aggregates.items ≤ 24 = search rules in
-    copied-IsSchema s _ _ _ _ _ _ c.self.invariant dimensions measures aggregates texts sets columns few
+    copied-IsSchema s _ _ _ _ _ _ _ c.self.invariant dimensions measures aggregates texts sets columns decimals few

@@ -11,7 +11,8 @@ use Rattle.cube_core.proofs.schema_toml.feed_table.dimension_columns.Goals as go
 pub loop-name-preserved : goal.loop-name-preserved
 loop-name-preserved c =
     let h = dimension_column (table_view c.args.columns.now) in
-    let here : Some c.in-Some.column ≡ dimension_column (table_view c.args.columns.now) c.name-item.result = search rules in
+    let here : Some c.in-Some.column ≡ dimension_column (table_view c.args.columns.now) c.name-item.result =
+    search rules in
     let is : Some c.in-Some.column ≡ h (get_or c.args.names.now c.loop-name.name-index c.name-item.result) =
     here ∙ ap h c.name-item.is in
     let pushed : c.push.new.self.items ≡ c.loop-name.read.items ++ c.in-Some.column ∷ [] = search rules in

@@ -11,13 +11,14 @@ use Rattle.cube_core.proofs.schema_toml.feed_table.measure_columns.Goals as goal
 pub loop-name-preserved : goal.loop-name-preserved
 loop-name-preserved c =
     let h = measure_column (table_view c.args.columns.now) in
-    let here : Some c.in-Some.column.now ≡ measure_column (table_view c.args.columns.now) c.name-item.result = search rules in
+    let here : Some c.in-Some.column.now ≡ measure_column (table_view c.args.columns.now) c.name-item.result =
+    search rules in
     let is : Some c.in-Some.column.now ≡ h (get_or c.args.names.now c.loop-name.name-index c.name-item.result) =
     here ∙ ap h c.name-item.is in
     let pushed : c.push.new.self.items ≡ c.loop-name.read.items ++ c.in-Some.column.now ∷ [] = search rules in
     record {
-      found = rw pushed (filter_map-more h c.args.names.now c.loop-name.name-index c.name-item.result c.in-Some.column.now
-          c.loop-name.read.items c.loop-name-test.true is ∙ c.loop-name.invariant.found);
+      found = rw pushed (filter_map-more h c.args.names.now c.loop-name.name-index c.name-item.result
+          c.in-Some.column.now c.loop-name.read.items c.loop-name-test.true is ∙ c.loop-name.invariant.found);
       right = list_all-more (λ name. is_some (h name)) c.args.names.now c.loop-name.name-index c.name-item.result
           c.loop-name-test.true (sym (ap is_some is)) ∙ c.loop-name.invariant.right;
     }

@@ -18,7 +18,7 @@ returns-in_default-2-clause-err g c =
 
 pub returns-then-not-is_after-clause-err : goal.returns-then-not-is_after-clause-err
 returns-then-not-is_after-clause-err g c =
-    let is : row_line c.in-Some-2.row ≡ c.read_line.new.line.items = search rules in (
+    let is : row_line c.args.schema.now c.in-Some-2.row ≡ c.read_line.new.line.items = search rules in (
       search rules,
       subst (λ (i : InputView). HasRowBelow c.args.schema.now
           (record { left = i.left; row = c.args.before.now; lines = i.lines })) c.self.view_is

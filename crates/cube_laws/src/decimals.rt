@@ -1,0 +1,23 @@
+//! What numbers with digits behind a point say.
+ghost use Rattle.std.specs.Prelude.{◌≡◌, ℕ, List, [], None};
+ghost use Rattle.cube_core.specs.Layout.{Layout};
+ghost use Rattle.cube_core.specs.Plain.{plain_in_order};
+ghost use Rattle.cube_laws.specs.Decimals.{ArePrintedSo, AreReadSo};
+
+/// How numbers with digits behind a point are read, and which fields are none (this project's choice): nothing is rounded.
+pub fn decimals_are_read_so()
+    ensures { AreReadSo }
+{}
+
+/// How they are printed: with exactly as many digits as their measure may have, and a mean as the fraction of the value itself
+/// (this project's choice).
+pub fn decimals_are_printed_so()
+    ensures { ArePrintedSo }
+{}
+
+/// Where no measure takes a point, and columns aren't known by name, each record is its own plain one: what feeds without
+/// decimals say is as if there were none (this project's choice).
+pub fn without_decimals_nothing_changes()
+    ensures { (s : Layout) (fields : List (List ℕ)) →
+        s.columns ≡ None → s.decimals ≡ [] → plain_in_order s fields ≡ fields }
+{}

@@ -1,0 +1,3 @@
+pub mod AnswerTextsLaws
+pub mod ScaleLaws
+pub mod UnitTextLaws
